@@ -1,0 +1,42 @@
+-- What a cluster file says.
+use Rattle.std.specs.Prelude.{ℕ, Bool, true, false, not, ◌&&◌, List, [], ◌∷◌, map, length, nat_le, nat_eq}
+use Rattle.std.specs.List.{list_all, list_any}
+use Rattle.std.specs.Ordering.{nat_cmp, is_lt, is_eq}
+use Rattle.std.specs.Cmp.Lexicographic.{slice_cmp}
+use Rattle.fr_base.specs.declared.params.RawParams.{RawParams}
+use Rattle.fr_base.specs.declared.config.Supplier.{Supplier}
+use Rattle.fr_base.specs.declared.key.Key.{Key}
+
+-- the parameters, the integrator's key, and the suppliers with theirs
+pub record Cluster : Type 0 where
+  pub params : RawParams
+  pub integrator : Key
+  pub suppliers : List Supplier
+
+-- whether the text is before the names of the list
+abbrev pub is_before : List ℕ → List Supplier → Bool
+is_before name [] = true
+is_before name (s ∷ _) = is_lt (slice_cmp nat_cmp name s.name)
+
+-- the names rise in byte order, so that none stands twice
+abbrev pub names_rise : List Supplier → Bool
+names_rise [] = true
+names_rise (s ∷ rest) = is_before s.name rest && names_rise rest
+
+-- whether the two texts are the same
+abbrev pub same_text : List ℕ → List ℕ → Bool
+same_text a b = is_eq (slice_cmp nat_cmp a b)
+
+-- no two of the keys are the same
+abbrev pub keys_differ : List Key → Bool
+keys_differ [] = true
+keys_differ (k ∷ rest) = not (list_any (same_text k) rest) && keys_differ rest
+
+-- the integrator's key, and those of the suppliers
+abbrev pub keys_of : Key → List Supplier → List Key
+keys_of integrator suppliers = integrator ∷ map (λ s. s.key) suppliers
+
+-- at most 64 suppliers, in byte order of their names, no name twice, and no key twice
+unfoldable pub is_cluster : Key → List Supplier → Bool
+is_cluster integrator suppliers =
+    (nat_le (length suppliers) 64 && names_rise suppliers) && keys_differ (keys_of integrator suppliers)

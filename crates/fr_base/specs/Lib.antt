@@ -1,0 +1,6 @@
+pub mod Refusing
+pub mod Numbers
+pub mod Names
+pub mod Cycles
+pub mod Parameters
+pub mod Cluster

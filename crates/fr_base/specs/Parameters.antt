@@ -1,0 +1,19 @@
+-- Which parameters make a cluster, and why others do not.
+use Rattle.std.specs.Prelude.{ℕ, ◌+◌, ◌*◌, ◌==◌, Bool, ◌&&◌, ◌||◌, not, nat_lt, nat_le, Result, Ok, Err}
+use Rattle.fr_base.specs.Refusing.{◌>>=◌, ◌>>◌, refuse◌when◌}
+use Rattle.fr_base.specs.declared.params.RawParams.{RawParams}
+use Rattle.fr_base.specs.declared.params.ParamFault.{ParamFault}
+use Rattle.fr_base.specs.declared.params.ParamFault.TheVariants.{BadSlots, BadPayload, BadMacroticks, BadSum}
+
+-- the macroticks of a cycle's segments: static, dynamic, symbol window, network idle time
+abbrev pub segments : RawParams → ℕ
+segments p = p.static_slots * p.slot_macroticks + p.dynamic_macroticks + p.symbol_macroticks + p.idle_macroticks
+
+-- the parameters, or the first fault
+unfoldable pub check_params : RawParams → Result RawParams ParamFault
+check_params p = do
+  refuse BadSlots when (nat_lt p.static_slots 2 || nat_lt 1023 p.static_slots)
+  refuse BadPayload when (nat_lt 127 p.payload_words)
+  refuse BadMacroticks when ((p.slot_macroticks == 0) || (p.idle_macroticks == 0) || nat_lt 16000 p.macroticks_per_cycle)
+  refuse BadSum when (not (segments p == p.macroticks_per_cycle))
+  Ok p

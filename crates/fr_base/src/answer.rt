@@ -1,0 +1,45 @@
+use crate::channel::Channel;
+use crate::name::Name;
+use crate::refusal::Refusal;
+use crate::slot::Slot;
+use std::marker::Model;
+
+/// What a request is answered.
+#[derive(Drop)]
+pub enum Answer {
+    /// The command was carried out.
+    Done,
+    /// The frames that are sent, by cycle, slot and channel; `all` is true where the integrator asked,
+    /// who sees the frames of all suppliers.
+    Schedule { all: bool, rows: Sendings },
+    /// Nothing was changed.
+    Refused(Refusal),
+}
+
+/// One cell of the schedule: a frame is sent in this cycle, slot and channel.
+#[derive(Clone, Copy)]
+pub struct Sending {
+    /// The communication cycle, 0 to 63.
+    pub cycle: u8,
+    pub slot: Slot,
+    pub channel: Channel,
+    pub frame: Name,
+    /// The node that sends it.
+    pub node: Name,
+    pub supplier: Name,
+}
+
+/// A list of sendings.
+#[derive(Drop)]
+pub struct Sendings {
+    rows: Vec<Sending>,
+}
+
+impl Model for Sendings {
+    ghost use Rattle.std.specs.Prelude.{List};
+    ghost use Rattle.fr_base.specs.declared.answer.Sending.{Sending};
+
+    ghost Value = { List Sending };
+
+    ghost view = { λ s. s.rows.items };
+}

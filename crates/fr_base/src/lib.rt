@@ -1,0 +1,31 @@
+//! The words of the register: the parameters of a FlexRay cluster's static segment, names, slots,
+//! channels, cycle sets and placements; the requests and their answers; and, in `specs/`, the
+//! definitions that every crate above speaks of.
+#![tactic(auto)]
+
+mod answer;
+mod channel;
+mod config;
+mod cycles;
+mod fixed_text;
+mod key;
+mod name;
+mod params;
+mod placement;
+mod refusal;
+mod request;
+mod slot;
+mod text;
+
+pub use answer::{Answer, Sending, Sendings};
+pub use channel::{Channel, Channels};
+pub use config::{Config, Supplier, Suppliers};
+pub use cycles::{BadCycles, CYCLE_COUNT, CycleSet};
+pub use key::Key;
+pub use name::Name;
+pub use params::{ParamFault, Params, RawParams};
+pub use placement::Placement;
+pub use refusal::Refusal;
+pub use request::{Actor, Ask, Checked, Command, Query, Request};
+pub use slot::Slot;
+pub use text::Text;

@@ -1,0 +1,15 @@
+use crate::channel::Channels;
+use crate::cycles::CycleSet;
+use crate::slot::Slot;
+
+/// Where and when a frame is sent: in one static slot, on one or both channels, in the cycles of a
+/// base and a repetition.
+#[derive(Clone, Copy, Debug, PartialEq, Eq, PartialOrd, Ord, Hash)]
+pub struct Placement {
+    /// The slot, which is the frame ID.
+    pub slot: Slot,
+    /// The channels.
+    pub channels: Channels,
+    /// The cycles.
+    pub cycles: CycleSet,
+}

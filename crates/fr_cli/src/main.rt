@@ -1,0 +1,4 @@
+//! The program `slotplan`.
+#![tactic(auto)]
+
+fn main() {}
