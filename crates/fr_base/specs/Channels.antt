@@ -1,0 +1,64 @@
+-- The two channels, their texts, and which of them a cluster has or a frame is sent on.
+use Rattle.std.specs.Prelude.{ℕ, Bool, true, false, List, [], ◌∷◌, codes, Option, Some, None, if◌then◌else◌}
+use Rattle.std.specs.declared.cmp.Ordering.{Ordering}
+use Rattle.std.specs.declared.cmp.Ordering.TheVariants.{Less, Equal, Greater}
+use Rattle.std.specs.Str.{bytes_eq}
+use Rattle.fr_base.specs.declared.channel.Channel.{Channel}
+use Rattle.fr_base.specs.declared.channel.Channel.TheVariants as channel
+use Rattle.fr_base.specs.declared.channel.Channels.{Channels}
+use Rattle.fr_base.specs.declared.channel.Channels.TheVariants as channels
+
+-- the channels that are meant, A before B
+abbrev pub channels_in : Channels → List Channel
+channels_in channels.A = channel.A ∷ []
+channels_in channels.AB = channel.A ∷ channel.B ∷ []
+channels_in channels.B = channel.B ∷ []
+
+-- whether the channel is one of them
+abbrev pub has_channel : Channels → Channel → Bool
+has_channel channels.A channel.A = true
+has_channel channels.A channel.B = false
+has_channel channels.AB _ = true
+has_channel channels.B channel.A = false
+has_channel channels.B channel.B = true
+
+-- A before B
+abbrev pub channel_cmp : Channel → Channel → Ordering
+channel_cmp channel.A channel.A = Equal
+channel_cmp channel.A channel.B = Less
+channel_cmp channel.B channel.A = Greater
+channel_cmp channel.B channel.B = Equal
+
+-- A, then AB, then B
+abbrev pub channels_cmp : Channels → Channels → Ordering
+channels_cmp channels.A channels.A = Equal
+channels_cmp channels.A _ = Less
+channels_cmp channels.AB channels.A = Greater
+channels_cmp channels.AB channels.AB = Equal
+channels_cmp channels.AB channels.B = Less
+channels_cmp channels.B channels.B = Equal
+channels_cmp channels.B _ = Greater
+
+abbrev pub text_of_channel : Channel → List ℕ
+text_of_channel channel.A = codes "A"
+text_of_channel channel.B = codes "B"
+
+abbrev pub text_of_channels : Channels → List ℕ
+text_of_channels channels.A = codes "A"
+text_of_channels channels.AB = codes "AB"
+text_of_channels channels.B = codes "B"
+
+-- the channel of this text
+abbrev pub channel_of_text : List ℕ → Option Channel
+channel_of_text text =
+    if bytes_eq text (codes "A") then Some channel.A
+    else if bytes_eq text (codes "B") then Some channel.B
+    else None
+
+-- the channels of this text
+abbrev pub channels_of_text : List ℕ → Option Channels
+channels_of_text text =
+    if bytes_eq text (codes "A") then Some channels.A
+    else if bytes_eq text (codes "AB") then Some channels.AB
+    else if bytes_eq text (codes "B") then Some channels.B
+    else None
