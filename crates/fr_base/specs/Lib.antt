@@ -1,4 +1,5 @@
 pub mod Refusing
+pub mod Refusals
 pub mod Tables
 pub mod Numbers
 pub mod Names

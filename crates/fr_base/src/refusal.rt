@@ -1,5 +1,6 @@
 use crate::channel::Channel;
 use crate::name::Name;
+use std::fmt;
 
 /// Why a request was refused. A refusal changes nothing. Where several apply, the first by number is
 /// answered. (Number 29, `BadRow`, is that of an import's row, and wraps the row's own refusal.)
@@ -73,4 +74,93 @@ pub enum Refusal {
     },
     /// The store or memory refused. It changes nothing, and may come at any point.
     Unavailable,
+}
+
+impl Refusal {
+    ghost use Rattle.std.specs.Prelude.{◌≡◌};
+    ghost use Rattle.fr_base.specs.Refusals.{number_of, name_of, status_of};
+
+    /// The refusal's number, 1 to 28: its place in the order in which refusals are tried.
+    pub fn number(&self) -> u8
+        ensures { result ≡ number_of self.now }
+    {
+        self.row().0
+    }
+
+    /// The refusal's name, as answers spell it.
+    pub fn name(&self) -> &'static str
+        ensures { result.now ≡ name_of self.now }
+    {
+        self.row().1
+    }
+
+    /// The HTTP status of a reply that gives this refusal.
+    pub fn status(&self) -> u16
+        ensures { result ≡ status_of self.now }
+    {
+        self.row().2
+    }
+
+    // Number, name and HTTP status.
+    fn row(&self) -> (u8, &'static str, u16)
+        ensures number { result.0 ≡ number_of self.now }
+        ensures name { result.1.now ≡ name_of self.now }
+        ensures status { result.2 ≡ status_of self.now }
+    {
+        match self {
+            Refusal::BadText => (1, "BadText", 400),
+            Refusal::UnknownKey => (2, "UnknownKey", 401),
+            Refusal::NotYours => (3, "NotYours", 403),
+            Refusal::BadName => (4, "BadName", 422),
+            Refusal::BadCycles => (5, "BadCycles", 422),
+            Refusal::BadSlot => (6, "BadSlot", 422),
+            Refusal::BadChannel => (7, "BadChannel", 422),
+            Refusal::BadSignal => (8, "BadSignal", 422),
+            Refusal::LabelUsed => (9, "LabelUsed", 409),
+            Refusal::NoVariant => (10, "NoVariant", 404),
+            Refusal::Released => (11, "Released", 409),
+            Refusal::NotReleased => (12, "NotReleased", 409),
+            Refusal::TooDeep => (13, "TooDeep", 409),
+            Refusal::NoSupplier => (14, "NoSupplier", 404),
+            Refusal::NoNode => (15, "NoNode", 404),
+            Refusal::NoFrame => (16, "NoFrame", 404),
+            Refusal::NoSignal => (17, "NoSignal", 404),
+            Refusal::NoPlacement => (18, "NoPlacement", 404),
+            Refusal::Exists => (19, "Exists", 409),
+            Refusal::NodeDiffers => (20, "NodeDiffers", 409),
+            Refusal::NotGranted => (21, "NotGranted", 409),
+            Refusal::InUse => (22, "InUse", 409),
+            Refusal::Limit => (23, "Limit", 409),
+            Refusal::Taken => (24, "Taken", 409),
+            Refusal::CellTaken { .. } => (25, "CellTaken", 409),
+            Refusal::OutOfPayload => (26, "OutOfPayload", 422),
+            Refusal::BitTaken { .. } => (27, "BitTaken", 409),
+            Refusal::Unavailable => (28, "Unavailable", 503),
+        }
+    }
+}
+
+impl fmt::Display for Refusal {
+    ghost use Rattle.std.specs.Prelude.{Some};
+    ghost use Rattle.fr_base.specs.Refusals.{name_of};
+
+    ghost output = { λ refusal. Some (name_of refusal) };
+
+    /// Writes the refusal's name.
+    fn fmt<W: fmt::Write>(&self, f: &mut fmt::Formatter<W>) -> fmt::Result {
+        f.write_str(self.name())
+    }
+}
+
+#[cfg(test)]
+mod tests {
+    use super::*;
+    use std::test::Fail;
+
+    #[test]
+    fn shows_its_name(rt: HostRuntime) -> Result<(), Fail> {
+        let text = format!(in rt.alloc(); "{}", Refusal::Limit)?;
+        assert!(rt; text.as_str() == "Limit");
+        Ok(())
+    }
 }
