@@ -1,7 +1,5 @@
 -- The two channels, their texts, and which of them a cluster has or a frame is sent on.
 use Rattle.std.specs.Prelude.{ℕ, Bool, true, false, List, [], ◌∷◌, codes, Option, Some, None, if◌then◌else◌}
-use Rattle.std.specs.declared.cmp.Ordering.{Ordering}
-use Rattle.std.specs.declared.cmp.Ordering.TheVariants.{Less, Equal, Greater}
 use Rattle.std.specs.Str.{bytes_eq}
 use Rattle.fr_base.specs.declared.channel.Channel.{Channel}
 use Rattle.fr_base.specs.declared.channel.Channel.TheVariants as channel
@@ -23,21 +21,15 @@ has_channel channels.B channel.A = false
 has_channel channels.B channel.B = true
 
 -- A before B
-abbrev pub channel_cmp : Channel → Channel → Ordering
-channel_cmp channel.A channel.A = Equal
-channel_cmp channel.A channel.B = Less
-channel_cmp channel.B channel.A = Greater
-channel_cmp channel.B channel.B = Equal
+abbrev pub channel_number : Channel → ℕ
+channel_number channel.A = 0
+channel_number channel.B = 1
 
 -- A, then AB, then B
-abbrev pub channels_cmp : Channels → Channels → Ordering
-channels_cmp channels.A channels.A = Equal
-channels_cmp channels.A _ = Less
-channels_cmp channels.AB channels.A = Greater
-channels_cmp channels.AB channels.AB = Equal
-channels_cmp channels.AB channels.B = Less
-channels_cmp channels.B channels.B = Equal
-channels_cmp channels.B _ = Greater
+abbrev pub channels_number : Channels → ℕ
+channels_number channels.A = 0
+channels_number channels.AB = 1
+channels_number channels.B = 2
 
 abbrev pub text_of_channel : Channel → List ℕ
 text_of_channel channel.A = codes "A"

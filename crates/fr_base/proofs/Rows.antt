@@ -1,0 +1,150 @@
+-- The definitions computed on small registers.
+use Rattle.std.proofs.Common.{◌≡◌, ℕ, List, [], ◌∷◌, ◌++◌, false, true, Option, Some, None, refl, codes}
+use Rattle.std.specs.Prelude.{find}
+use Rattle.std.specs.List.{list_any}
+use Rattle.std.specs.Prelude.{◌==◌}
+use Rattle.fr_base.specs.Refusing.{◌>>=◌, ◌>>◌, ◌or◌, refuse◌when◌}
+use Rattle.fr_base.specs.Tables.{empty, get, len, insert, only, from_rows, becomes}
+use Rattle.fr_base.specs.Keys.{numbers, names, channel_order, channels_order, owned, places, placement_order}
+use Rattle.fr_base.specs.Names.{is_name, is_key}
+use Rattle.fr_base.specs.Cycles.{Cycles, cycle_count, all_cycles, cycles_of}
+use Rattle.fr_base.specs.Checks.{name, cycles, slot, channel, channels, check}
+use Rattle.fr_base.specs.Cells.{cells_of, has_cell, cluster_cells}
+use Rattle.fr_base.specs.Schedule.{fill, first_taken, entries}
+use Rattle.fr_base.specs.Cluster.{Cluster}
+use Rattle.fr_base.specs.Book.{Book, empty_variant, opening, granted, placements_of, schedule_of}
+use Rattle.fr_base.specs.Step.{open_variant, add_node, grant, page_of, cell_taken, add_frame, place, on_frame, change, sendings_of, reply, act, outcome, step}
+use Rattle.fr_base.specs.declared.answer.Answer.{Answer}
+use Rattle.fr_base.specs.declared.answer.Answer.TheVariants.{Done, Refused, Schedule as Sent}
+use Rattle.fr_base.specs.declared.channel.Channel.TheVariants as ch
+use Rattle.fr_base.specs.declared.channel.Channels.TheVariants as chs
+use Rattle.fr_base.specs.declared.refusal.Refusal.TheVariants.{NotYours, BadName, BadSlot, BadChannel, NoVariant, NotGranted, Exists, NodeDiffers, Taken, CellTaken}
+use Rattle.fr_base.specs.declared.params.RawParams.{RawParams}
+use Rattle.fr_base.specs.declared.request.Actor.TheVariants.{Integrator, Supplier}
+use Rattle.fr_base.specs.declared.request.Ask.{Ask}
+use Rattle.fr_base.specs.declared.request.Request.{Request}
+use Rattle.fr_base.specs.declared.request.Request.TheVariants.{OpenVariant, AddNode, Grant, AddFrame, Place, Schedule}
+
+-- two channels, four slots of ten macroticks, two suppliers
+unfoldable pub cluster : Cluster
+cluster = record {
+  params = record { channels = chs.AB; static_slots = 4; slot_macroticks = 10; dynamic_macroticks = 40; symbol_macroticks = 10; idle_macroticks = 10; macroticks_per_cycle = 100; payload_words = 1 };
+  integrator = codes "integrator1";
+  suppliers = record { name = codes "s1"; key = codes "supplier01" } ∷ record { name = codes "s2"; key = codes "supplier02" } ∷ [];
+}
+
+-- the answers to some requests in turn, from this book
+unfoldable pub answers_from : RawParams → Book → List Ask → List Answer
+answers_from p b [] = []
+answers_from p b (ask ∷ asks) = let o = step p b ask.actor ask.request in o.answer ∷ answers_from p o.book asks
+
+-- the answers of a new register
+unfoldable pub answers : List Ask → List Answer
+unfolding cluster
+answers asks = answers_from cluster.params (opening cluster) asks
+
+abbrev pub integrator : Request → Ask
+integrator r = record { actor = Integrator; request = r }
+
+abbrev pub s1 : Request → Ask
+s1 r = record { actor = Supplier (codes "s1"); request = r }
+
+abbrev pub s2 : Request → Ask
+s2 r = record { actor = Supplier (codes "s2"); request = r }
+
+-- a variant, a node of `s1`, a grant to it, a frame, its placement in the first cycle, and the schedule
+pub the_first_script :
+    answers (
+      integrator (OpenVariant (codes "v1"))
+      ∷ integrator (AddNode (codes "s1") (codes "n1"))
+      ∷ integrator (Grant (codes "v1") 1 (codes "A") (codes "s1") (codes "n1"))
+      ∷ s1 (AddFrame (codes "v1") (codes "f1") (codes "n1"))
+      ∷ s1 (Place (codes "v1") (codes "f1") 1 (codes "A") 0 64)
+      ∷ s1 (Schedule (codes "v1"))
+      ∷ integrator (Schedule (codes "v1"))
+      ∷ s2 (Schedule (codes "v1"))
+      ∷ [])
+    ≡ Done ∷ Done ∷ Done ∷ Done ∷ Done
+      ∷ Sent false (record { cycle = 0; slot = 1; channel = ch.A; frame = codes "f1"; node = codes "n1"; supplier = codes "s1" } ∷ [])
+      ∷ Sent true (record { cycle = 0; slot = 1; channel = ch.A; frame = codes "f1"; node = codes "n1"; supplier = codes "s1" } ∷ [])
+      ∷ Sent false []
+      ∷ []
+unfolding cluster answers answers_from ◌>>=◌ ◌>>◌ ◌or◌ refuse◌when◌ empty get len insert only from_rows becomes numbers names channel_order channels_order owned places placement_order is_name is_key cycle_count all_cycles cycles_of name cycles slot channel channels check cells_of has_cell cluster_cells fill first_taken entries empty_variant opening granted placements_of schedule_of open_variant add_node grant page_of cell_taken add_frame place on_frame change sendings_of reply act outcome step
+the_first_script = refl
+
+-- the cell of least cycle is named, A before B
+pub cells_taken :
+    answers (
+      integrator (OpenVariant (codes "v1"))
+      ∷ integrator (AddNode (codes "s1") (codes "n1"))
+      ∷ integrator (Grant (codes "v1") 1 (codes "A") (codes "s1") (codes "n1"))
+      ∷ integrator (Grant (codes "v1") 1 (codes "B") (codes "s1") (codes "n1"))
+      ∷ s1 (AddFrame (codes "v1") (codes "e") (codes "n1"))
+      ∷ s1 (AddFrame (codes "v1") (codes "f") (codes "n1"))
+      ∷ s1 (AddFrame (codes "v1") (codes "g") (codes "n1"))
+      ∷ s1 (AddFrame (codes "v1") (codes "h") (codes "n1"))
+      ∷ s1 (Place (codes "v1") (codes "f") 1 (codes "AB") 0 2)
+      ∷ s1 (Place (codes "v1") (codes "g") 1 (codes "B") 2 4)
+      ∷ s1 (Place (codes "v1") (codes "g") 1 (codes "AB") 2 4)
+      ∷ s1 (Place (codes "v1") (codes "g") 1 (codes "B") 1 2)
+      ∷ s1 (Place (codes "v1") (codes "e") 1 (codes "A") 3 4)
+      ∷ s1 (Place (codes "v1") (codes "h") 1 (codes "A") 0 1)
+      ∷ [])
+    ≡ Done ∷ Done ∷ Done ∷ Done ∷ Done ∷ Done ∷ Done ∷ Done ∷ Done
+      ∷ Refused (CellTaken 2 ch.B (codes "f"))
+      ∷ Refused (CellTaken 2 ch.A (codes "f"))
+      ∷ Done
+      ∷ Done
+      ∷ Refused (CellTaken 0 ch.A (codes "f"))
+      ∷ []
+unfolding cluster answers answers_from ◌>>=◌ ◌>>◌ ◌or◌ refuse◌when◌ empty get len insert only from_rows becomes numbers names channel_order channels_order owned places placement_order is_name is_key cycle_count all_cycles cycles_of name cycles slot channel channels check cells_of has_cell cluster_cells fill first_taken entries empty_variant opening granted placements_of schedule_of open_variant add_node grant page_of cell_taken add_frame place on_frame change sendings_of reply act outcome step
+cells_taken = refl
+
+-- one holder for a slot and channel
+pub two_suppliers_one_slot :
+    answers (
+      integrator (OpenVariant (codes "v1"))
+      ∷ integrator (AddNode (codes "s1") (codes "n1"))
+      ∷ integrator (Grant (codes "v1") 1 (codes "A") (codes "s1") (codes "n1"))
+      ∷ integrator (AddNode (codes "s2") (codes "n2"))
+      ∷ integrator (AddNode (codes "s1") (codes "n3"))
+      ∷ integrator (Grant (codes "v1") 1 (codes "A") (codes "s2") (codes "n2"))
+      ∷ integrator (Grant (codes "v1") 1 (codes "A") (codes "s1") (codes "n1"))
+      ∷ integrator (Grant (codes "v1") 1 (codes "A") (codes "s1") (codes "n3"))
+      ∷ integrator (Grant (codes "v1") 1 (codes "B") (codes "s2") (codes "n2"))
+      ∷ [])
+    ≡ Done ∷ Done ∷ Done ∷ Done ∷ Done ∷ Refused Taken ∷ Refused Exists ∷ Refused NodeDiffers ∷ Done ∷ []
+unfolding cluster answers answers_from ◌>>=◌ ◌>>◌ ◌or◌ refuse◌when◌ empty get len insert only from_rows becomes numbers names channel_order channels_order owned places placement_order is_name is_key cycle_count all_cycles cycles_of name cycles slot channel channels check cells_of has_cell cluster_cells fill first_taken entries empty_variant opening granted placements_of schedule_of open_variant add_node grant page_of cell_taken add_frame place on_frame change sendings_of reply act outcome step
+two_suppliers_one_slot = refl
+
+-- a frame lies in grants to its own node
+pub two_nodes_of_one_supplier :
+    answers (
+      integrator (OpenVariant (codes "v1"))
+      ∷ integrator (AddNode (codes "s1") (codes "n1"))
+      ∷ integrator (AddNode (codes "s1") (codes "n2"))
+      ∷ integrator (Grant (codes "v1") 1 (codes "A") (codes "s1") (codes "n1"))
+      ∷ integrator (Grant (codes "v1") 2 (codes "A") (codes "s1") (codes "n2"))
+      ∷ s1 (AddFrame (codes "v1") (codes "f") (codes "n1"))
+      ∷ s1 (Place (codes "v1") (codes "f") 1 (codes "AB") 0 1)
+      ∷ s1 (Place (codes "v1") (codes "f") 2 (codes "A") 0 1)
+      ∷ [])
+    ≡ Done ∷ Done ∷ Done ∷ Done ∷ Done ∷ Done ∷ Refused NotGranted ∷ Refused NotGranted ∷ []
+unfolding cluster answers answers_from ◌>>=◌ ◌>>◌ ◌or◌ refuse◌when◌ empty get len insert only from_rows becomes numbers names channel_order channels_order owned places placement_order is_name is_key cycle_count all_cycles cycles_of name cycles slot channel channels check cells_of has_cell cluster_cells fill first_taken entries empty_variant opening granted placements_of schedule_of open_variant add_node grant page_of cell_taken add_frame place on_frame change sendings_of reply act outcome step
+two_nodes_of_one_supplier = refl
+
+-- refusals by the request alone, and of a variant that is not there
+pub refused_lines :
+    answers (
+      integrator (OpenVariant (codes "v1"))
+      ∷ s1 (OpenVariant (codes "v2"))
+      ∷ integrator (AddFrame (codes "v1") (codes "f1") (codes "n1"))
+      ∷ s1 (Place (codes "1v") (codes "f1") 1 (codes "A") 0 64)
+      ∷ s1 (Place (codes "v1") (codes "f1") 0 (codes "A") 0 64)
+      ∷ s1 (Place (codes "v1") (codes "f1") 5 (codes "A") 0 64)
+      ∷ s1 (Place (codes "v1") (codes "f1") 1 (codes "AA") 0 64)
+      ∷ s1 (Schedule (codes "v9"))
+      ∷ [])
+    ≡ Done ∷ Refused NotYours ∷ Refused NotYours ∷ Refused BadName ∷ Refused BadSlot ∷ Refused BadSlot ∷ Refused BadChannel ∷ Refused NoVariant ∷ []
+unfolding cluster answers answers_from ◌>>=◌ ◌>>◌ ◌or◌ refuse◌when◌ empty get len insert only from_rows becomes numbers names channel_order channels_order owned places placement_order is_name is_key cycle_count all_cycles cycles_of name cycles slot channel channels check cells_of has_cell cluster_cells fill first_taken entries empty_variant opening granted placements_of schedule_of open_variant add_node grant page_of cell_taken add_frame place on_frame change sendings_of reply act outcome step
+refused_lines = refl

@@ -1,0 +1,80 @@
+-- The register's rows, over all suppliers.
+use Rattle.std.specs.Prelude.{ℕ, Bool, true, false, ◌&&◌, List, ◌∷◌, map, Option, Some, None, is_some, ⊤}
+use Rattle.std.specs.List.{flat_map, list_all}
+use Rattle.std.specs.Ordering.{nat_cmp, is_eq}
+use Rattle.std.specs.Cmp.Lexicographic.{slice_cmp}
+use Rattle.fr_base.specs.Tables.{Table, empty, get, contains, from_rows}
+use Rattle.fr_base.specs.Keys.{names, owned, places, placement_order}
+use Rattle.fr_base.specs.Cells.{Cell}
+use Rattle.fr_base.specs.Channels.{channels_in}
+use Rattle.fr_base.specs.Schedule.{fill}
+use Rattle.fr_base.specs.Cluster.{Cluster}
+use Rattle.fr_base.specs.declared.channel.Channel.{Channel}
+use Rattle.fr_base.specs.declared.key.Key.{Key}
+use Rattle.fr_base.specs.declared.name.Name.{Name}
+use Rattle.fr_base.specs.declared.placement.Placement.{Placement}
+
+-- who holds a slot and channel: a supplier, with one of its nodes
+pub record Holder : Type 0 where
+  pub supplier : Name
+  pub node : Name
+
+-- the node that sends a frame, and where it is placed
+pub record Frame : Type 0 where
+  pub node : Name
+  pub placements : Table placement_order ⊤
+
+-- a plan of the static segment: who holds which slot and channel, and each supplier's frames.
+-- Its parent is the variant that it was opened from; a variant that was opened empty has depth 1.
+pub record Variant : Type 0 where
+  pub parent : Option Name
+  pub depth : ℕ
+  pub released : Bool
+  pub grants : Table places Holder
+  pub frames : Table owned Frame
+
+-- the suppliers with their keys, their nodes, and the variants
+pub record Book : Type 0 where
+  pub suppliers : Table names Key
+  pub nodes : Table owned ⊤
+  pub variants : Table names Variant
+
+-- a variant that was opened empty
+unfoldable pub empty_variant : Variant
+empty_variant = record { parent = None; depth = 1; released = false; grants = empty; frames = empty }
+
+-- the book of a register that was just made: the cluster file's suppliers, and nothing else
+unfoldable pub opening : Cluster → Book
+opening c = record { suppliers = from_rows (map (λ s. (s.name, s.key)) c.suppliers); nodes = empty; variants = empty }
+
+-- whether two texts are the same
+abbrev pub same_name : Name → Name → Bool
+same_name a b = is_eq (slice_cmp nat_cmp a b)
+
+-- whether slot and channel are held, by this supplier, and with this node
+abbrev pub held_by : Name → Option Holder → Bool
+held_by s None = false
+held_by s (Some h) = same_name h.supplier s
+
+abbrev pub held_by_node : Name → Name → Option Holder → Bool
+held_by_node s n None = false
+held_by_node s n (Some h) = same_name h.supplier s && same_name h.node n
+
+-- whether the supplier's node holds the placement's slot on each of its channels
+unfoldable pub granted : Table places Holder → Name → Name → Placement → Bool
+granted grants s n q = list_all (λ c. held_by_node s n (get grants (q.slot, c))) (channels_in q.channels)
+
+-- whose a frame in a cell is
+pub record Owner : Type 0 where
+  pub supplier : Name
+  pub frame : Name
+  pub node : Name
+
+-- each placement with its owner, frame by frame
+unfoldable pub placements_of : Table owned Frame → List (Owner × Placement)
+placements_of frames =
+    flat_map (λ row. map (λ q. (record { supplier = row.0.0; frame = row.0.1; node = row.1.node }, q.0)) row.1.placements.rows) frames.rows
+
+-- who sends in which cell
+unfoldable pub schedule_of : Table owned Frame → Cell → Option Owner
+schedule_of frames = fill (placements_of frames)

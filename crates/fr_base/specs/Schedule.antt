@@ -1,0 +1,24 @@
+-- Who sends in which cell: the schedule by filling, and the first taken cell.
+use Rattle.std.specs.Prelude.{ℕ, Bool, List, [], ◌∷◌, Option, Some, None, option_map, if◌then◌else◌}
+use Rattle.std.specs.List.{filter_map}
+use Rattle.fr_base.specs.Cells.{Cell, has_cell}
+use Rattle.fr_base.specs.declared.placement.Placement.{Placement}
+
+-- Owners and their placements fill cells: each in turn fills those of its cells that are still empty.
+-- So in a cell is the first owner whose placement has it.
+unfoldable pub fill : {O : Type 0} → List (O × Placement) → Cell → Option O
+fill [] c = None
+fill (e ∷ es) c = if has_cell e.1 c then Some e.0 else fill es c
+
+-- the first of the cells that is filled, with its owner
+unfoldable pub first_taken : {O : Type 0} → (Cell → Option O) → List Cell → Option (Cell × O)
+first_taken filled [] = None
+first_taken filled (c ∷ cs) = found c (filled c) (first_taken filled cs)
+  where
+    found : {O : Type 0} → Cell → Option O → Option (Cell × O) → Option (Cell × O)
+    found c (Some o) later = Some (c, o)
+    found c None later = later
+
+-- the filled ones of the cells, with their owners
+unfoldable pub entries : {O : Type 0} → (Cell → Option O) → List Cell → List (Cell × O)
+entries filled cells = filter_map (λ c. option_map (λ o. (c, o)) (filled c)) cells
