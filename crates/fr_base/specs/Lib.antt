@@ -2,6 +2,7 @@ pub mod Refusing
 pub mod TableRows
 pub mod Tables
 pub mod Numbers
+pub mod FixedText
 pub mod Names
 pub mod Channels
 pub mod Cycles

@@ -1,5 +1,5 @@
 -- What is a name, and what is a key.
-use Rattle.std.specs.Prelude.{ℕ, Bool, true, false, ◌&&◌, ◌||◌, ◌==◌, List, [], ◌∷◌, length, nat_le}
+use Rattle.std.specs.Prelude.{ℕ, Bool, false, ◌&&◌, ◌||◌, ◌==◌, List, [], ◌∷◌, length, nat_le}
 use Rattle.std.specs.List.{list_all}
 
 -- `A` to `Z` and `a` to `z`
@@ -12,7 +12,7 @@ is_digit c = nat_le 48 c && nat_le c 57
 
 -- a letter, a digit or `_`
 abbrev pub is_name_byte : ℕ → Bool
-is_name_byte c = (is_letter c || is_digit c) || (c == 95)
+is_name_byte c = is_letter c || is_digit c || (c == 95)
 
 abbrev pub starts_with_letter : List ℕ → Bool
 starts_with_letter [] = false
@@ -22,6 +22,10 @@ starts_with_letter (c ∷ _) = is_letter c
 unfoldable pub is_name : List ℕ → Bool
 is_name text = (starts_with_letter text && nat_le (length text) 32) && list_all is_name_byte text
 
+-- a letter or a digit
+abbrev pub is_key_byte : ℕ → Bool
+is_key_byte c = is_letter c || is_digit c
+
 -- 8 to 64 ASCII letters and digits
 unfoldable pub is_key : List ℕ → Bool
-is_key text = (nat_le 8 (length text) && nat_le (length text) 64) && list_all (λ c. is_letter c || is_digit c) text
+is_key text = (nat_le 8 (length text) && nat_le (length text) 64) && list_all is_key_byte text
