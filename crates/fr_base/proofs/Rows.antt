@@ -1,8 +1,6 @@
 -- The definitions computed on small registers.
 use Rattle.std.proofs.Common.{◌≡◌, ℕ, List, [], ◌∷◌, ◌++◌, false, true, Option, Some, None, refl, codes}
-use Rattle.std.specs.Prelude.{find}
-use Rattle.std.specs.List.{list_any}
-use Rattle.std.specs.Prelude.{◌==◌}
+use Rattle.std.specs.Prelude.{⊤}
 use Rattle.fr_base.specs.Refusing.{◌>>=◌, ◌>>◌, ◌or◌, refuse◌when◌}
 use Rattle.fr_base.specs.Tables.{empty, get, len, insert, only, from_rows, becomes}
 use Rattle.fr_base.specs.Keys.{numbers, names, channel_order, channels_order, owned, places, placement_order}
@@ -43,6 +41,11 @@ unfoldable pub answers : List Ask → List Answer
 unfolding cluster
 answers asks = answers_from cluster.params (opening cluster) asks
 
+-- what the rows below unfold
+unfoldable pub a_small_register : ⊤
+unfolding cluster answers answers_from ◌>>=◌ ◌>>◌ ◌or◌ refuse◌when◌ empty get len insert only from_rows becomes numbers names channel_order channels_order owned places placement_order is_name is_key cycle_count all_cycles cycles_of name cycles slot channel channels check cells_of has_cell cluster_cells fill first_taken entries empty_variant opening granted placements_of schedule_of open_variant add_node grant page_of cell_taken add_frame place on_frame change sendings_of reply act outcome step
+a_small_register = tt
+
 abbrev pub integrator : Request → Ask
 integrator r = record { actor = Integrator; request = r }
 
@@ -69,7 +72,7 @@ pub the_first_script :
       ∷ Sent true (record { cycle = 0; slot = 1; channel = ch.A; frame = codes "f1"; node = codes "n1"; supplier = codes "s1" } ∷ [])
       ∷ Sent false []
       ∷ []
-unfolding cluster answers answers_from ◌>>=◌ ◌>>◌ ◌or◌ refuse◌when◌ empty get len insert only from_rows becomes numbers names channel_order channels_order owned places placement_order is_name is_key cycle_count all_cycles cycles_of name cycles slot channel channels check cells_of has_cell cluster_cells fill first_taken entries empty_variant opening granted placements_of schedule_of open_variant add_node grant page_of cell_taken add_frame place on_frame change sendings_of reply act outcome step
+unfolding a_small_register
 the_first_script = refl
 
 -- the cell of least cycle is named, A before B
@@ -97,7 +100,7 @@ pub cells_taken :
       ∷ Done
       ∷ Refused (CellTaken 0 ch.A (codes "f"))
       ∷ []
-unfolding cluster answers answers_from ◌>>=◌ ◌>>◌ ◌or◌ refuse◌when◌ empty get len insert only from_rows becomes numbers names channel_order channels_order owned places placement_order is_name is_key cycle_count all_cycles cycles_of name cycles slot channel channels check cells_of has_cell cluster_cells fill first_taken entries empty_variant opening granted placements_of schedule_of open_variant add_node grant page_of cell_taken add_frame place on_frame change sendings_of reply act outcome step
+unfolding a_small_register
 cells_taken = refl
 
 -- one holder for a slot and channel
@@ -114,7 +117,7 @@ pub two_suppliers_one_slot :
       ∷ integrator (Grant (codes "v1") 1 (codes "B") (codes "s2") (codes "n2"))
       ∷ [])
     ≡ Done ∷ Done ∷ Done ∷ Done ∷ Done ∷ Refused Taken ∷ Refused Exists ∷ Refused NodeDiffers ∷ Done ∷ []
-unfolding cluster answers answers_from ◌>>=◌ ◌>>◌ ◌or◌ refuse◌when◌ empty get len insert only from_rows becomes numbers names channel_order channels_order owned places placement_order is_name is_key cycle_count all_cycles cycles_of name cycles slot channel channels check cells_of has_cell cluster_cells fill first_taken entries empty_variant opening granted placements_of schedule_of open_variant add_node grant page_of cell_taken add_frame place on_frame change sendings_of reply act outcome step
+unfolding a_small_register
 two_suppliers_one_slot = refl
 
 -- a frame lies in grants to its own node
@@ -130,7 +133,7 @@ pub two_nodes_of_one_supplier :
       ∷ s1 (Place (codes "v1") (codes "f") 2 (codes "A") 0 1)
       ∷ [])
     ≡ Done ∷ Done ∷ Done ∷ Done ∷ Done ∷ Done ∷ Refused NotGranted ∷ Refused NotGranted ∷ []
-unfolding cluster answers answers_from ◌>>=◌ ◌>>◌ ◌or◌ refuse◌when◌ empty get len insert only from_rows becomes numbers names channel_order channels_order owned places placement_order is_name is_key cycle_count all_cycles cycles_of name cycles slot channel channels check cells_of has_cell cluster_cells fill first_taken entries empty_variant opening granted placements_of schedule_of open_variant add_node grant page_of cell_taken add_frame place on_frame change sendings_of reply act outcome step
+unfolding a_small_register
 two_nodes_of_one_supplier = refl
 
 -- refusals by the request alone, and of a variant that is not there
@@ -146,5 +149,5 @@ pub refused_lines :
       ∷ s1 (Schedule (codes "v9"))
       ∷ [])
     ≡ Done ∷ Refused NotYours ∷ Refused NotYours ∷ Refused BadName ∷ Refused BadSlot ∷ Refused BadSlot ∷ Refused BadChannel ∷ Refused NoVariant ∷ []
-unfolding cluster answers answers_from ◌>>=◌ ◌>>◌ ◌or◌ refuse◌when◌ empty get len insert only from_rows becomes numbers names channel_order channels_order owned places placement_order is_name is_key cycle_count all_cycles cycles_of name cycles slot channel channels check cells_of has_cell cluster_cells fill first_taken entries empty_variant opening granted placements_of schedule_of open_variant add_node grant page_of cell_taken add_frame place on_frame change sendings_of reply act outcome step
+unfolding a_small_register
 refused_lines = refl
