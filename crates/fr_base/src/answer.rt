@@ -18,7 +18,7 @@ pub enum Answer {
 }
 
 /// One cell of the schedule: a frame is sent in this cycle, slot and channel.
-#[derive(Clone, Copy)]
+#[derive(Clone, Copy, Debug, PartialEq, Eq)]
 pub struct Sending {
     /// The communication cycle, 0 to 63.
     pub cycle: u8,

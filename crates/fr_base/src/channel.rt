@@ -1,14 +1,82 @@
-/// One of the two channels of a FlexRay cluster (FlexRay Protocol Specification 2.1 Rev. A, 1.2).
+ghost use Rattle.std.specs.Prelude.{◌≡◌};
+ghost use Rattle.fr_base.specs.Channels.{channel_of_text, channels_of_text, text_of_channel, text_of_channels, has_channel};
+
+/// One of the two channels of a FlexRay cluster (FlexRay Protocol Specification 2.1 Rev. A, 1.2). In
+/// one slot a node may send the same or different data on A and B.
 #[derive(Clone, Copy, Debug, PartialEq, Eq, PartialOrd, Ord, Hash)]
 pub enum Channel {
+    /// Channel A.
     A,
+    /// Channel B.
     B,
 }
 
 /// The channels that a cluster has, or on which a frame is sent: one of them, or both.
 #[derive(Clone, Copy, Debug, PartialEq, Eq, PartialOrd, Ord, Hash)]
 pub enum Channels {
+    /// Channel A alone.
     A,
+    /// Both channels.
     AB,
+    /// Channel B alone.
     B,
+}
+
+impl Channel {
+    /// The channel that is written so: `A` or `B`.
+    pub fn read(text: &str) -> Option<Channel>
+        ensures { result ≡ channel_of_text text.now }
+    {
+        match text {
+            "A" => Some(Channel::A),
+            "B" => Some(Channel::B),
+            _ => None,
+        }
+    }
+
+    /// How the channel is written: `A` or `B`.
+    pub fn as_str(self) -> &'static str
+        ensures { result.now ≡ text_of_channel self }
+    {
+        match self {
+            Channel::A => "A",
+            Channel::B => "B",
+        }
+    }
+}
+
+impl Channels {
+    /// The channels that are written so: `A`, `B` or `AB`.
+    pub fn read(text: &str) -> Option<Channels>
+        ensures { result ≡ channels_of_text text.now }
+    {
+        match text {
+            "A" => Some(Channels::A),
+            "AB" => Some(Channels::AB),
+            "B" => Some(Channels::B),
+            _ => None,
+        }
+    }
+
+    /// How the channels are written: `A`, `B` or `AB`.
+    pub fn as_str(self) -> &'static str
+        ensures { result.now ≡ text_of_channels self }
+    {
+        match self {
+            Channels::A => "A",
+            Channels::AB => "AB",
+            Channels::B => "B",
+        }
+    }
+
+    /// Whether the channel is one of them.
+    pub fn has(self, channel: Channel) -> bool
+        ensures { result ≡ has_channel self channel }
+    {
+        match self {
+            Channels::A => channel == Channel::A,
+            Channels::AB => true,
+            Channels::B => channel == Channel::B,
+        }
+    }
 }

@@ -4,7 +4,7 @@ use std::fmt;
 
 /// Why a request was refused. A refusal changes nothing. Where several apply, the first by number is
 /// answered. (Number 29, `BadRow`, is that of an import's row, and wraps the row's own refusal.)
-#[derive(Clone, Copy)]
+#[derive(Clone, Copy, Debug, PartialEq, Eq)]
 pub enum Refusal {
     /// The request's text has not the form of a request.
     BadText,

@@ -5,7 +5,7 @@ use crate::slot::Slot;
 use crate::text::Text;
 
 /// Who asks: the vehicle's integrator, or one of its suppliers.
-#[derive(Clone, Copy)]
+#[derive(Clone, Copy, Debug, PartialEq, Eq)]
 pub enum Actor {
     /// The integrator, who opens variants, adds nodes and grants slots.
     Integrator,
@@ -14,7 +14,7 @@ pub enum Actor {
 }
 
 /// What is asked, with its texts and numbers as they were sent.
-#[derive(Drop)]
+#[derive(Debug, Drop)]
 pub enum Request {
     /// The integrator opens an empty variant.
     OpenVariant {
@@ -55,14 +55,14 @@ pub enum Request {
 }
 
 /// A request and who asks it.
-#[derive(Drop)]
+#[derive(Debug, Drop)]
 pub struct Ask {
     pub actor: Actor,
     pub request: Request,
 }
 
 /// A request that changes the register, with checked values.
-#[derive(Clone, Copy)]
+#[derive(Clone, Copy, Debug, PartialEq, Eq)]
 pub enum Command {
     OpenVariant {
         variant: Name,
@@ -91,13 +91,13 @@ pub enum Command {
 }
 
 /// A request that only reads, with checked values.
-#[derive(Clone, Copy)]
+#[derive(Clone, Copy, Debug, PartialEq, Eq)]
 pub enum Query {
     Schedule { variant: Name },
 }
 
 /// A request whose own texts and numbers are in order.
-#[derive(Clone, Copy)]
+#[derive(Clone, Copy, Debug, PartialEq, Eq)]
 pub enum Checked {
     Command(Command),
     Query(Query),
