@@ -1,5 +1,5 @@
 -- Which parameters make a cluster, and why others do not.
-use Rattle.std.specs.Prelude.{ℕ, ◌+◌, ◌*◌, ◌==◌, Bool, ◌&&◌, ◌||◌, not, nat_lt, nat_le, Result, Ok, Err}
+use Rattle.std.specs.Prelude.{ℕ, ◌+◌, ◌*◌, ◌==◌, Bool, ◌||◌, not, nat_lt, Result, Ok, Err}
 use Rattle.fr_base.specs.Refusing.{◌>>=◌, ◌>>◌, refuse◌when◌}
 use Rattle.fr_base.specs.declared.params.RawParams.{RawParams}
 use Rattle.fr_base.specs.declared.params.ParamFault.{ParamFault}

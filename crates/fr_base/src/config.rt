@@ -1,16 +1,22 @@
+ghost use Rattle.std.specs.Prelude.{◌≡◌, ◌==◌, [], ◌∷◌, ◌++◌, length, IsTrue, OnOk, OnErr};
+ghost use Rattle.fr_base.specs.Cluster.{is_cluster};
+
 use crate::key::Key;
 use crate::name::Name;
 use crate::params::Params;
+use std::alloc::{AllocError, Global};
 use std::marker::Model;
 
 /// A supplier and its key.
 #[derive(Clone, Copy)]
 pub struct Supplier {
+    /// The supplier's name.
     pub name: Name,
+    /// The key by which the supplier's requests are known.
     pub key: Key,
 }
 
-/// A list of suppliers.
+/// A list of suppliers, in any order.
 #[derive(Drop)]
 pub struct Suppliers {
     list: Vec<Supplier>,
@@ -25,9 +31,50 @@ impl Model for Suppliers {
     ghost view = { λ s. s.list.items };
 }
 
-/// A cluster file: the cluster's parameters, the integrator's key, and the suppliers with their keys,
-/// in byte order of their names. There are at most 64, no name stands twice, and all keys differ,
-/// the integrator's too.
+impl Suppliers {
+    /// An empty list.
+    pub fn new(alloc: Global) -> Suppliers
+        ensures { result ≡ [] }
+    {
+        Suppliers {
+            list: Vec::new(alloc),
+        }
+    }
+
+    /// One more supplier at the end. The list stays as it was where memory runs out.
+    pub fn push(&mut self, supplier: Supplier) -> Result<(), AllocError>
+        ensures ok { OnOk result (self.new ≡ self.old ++ supplier ∷ []) }
+        ensures err { OnErr result (self.new ≡ self.old) }
+    {
+        self.list.push(supplier)?;
+        Ok(())
+    }
+
+    /// How many suppliers there are.
+    pub fn len(&self) -> usize
+        ensures { result ≡ length self.now }
+    {
+        self.list.len()
+    }
+
+    /// Whether there is none.
+    pub fn is_empty(&self) -> bool
+        ensures { result ≡ (length self.now == 0) }
+    {
+        self.list.is_empty()
+    }
+
+    /// The suppliers in their order.
+    pub fn as_slice(&self) -> &[Supplier]
+        ensures { result.now ≡ self.now }
+    {
+        self.list.as_slice()
+    }
+}
+
+/// What a cluster file says: the cluster's parameters, the integrator's key, and the suppliers with
+/// their keys, in byte order of their names. There are at most 64, no name stands twice, and all keys
+/// differ, the integrator's too.
 #[derive(Drop)]
 pub struct Config {
     params: Params,
@@ -44,4 +91,41 @@ impl Model for Config {
     ghost view = { λ c. record { params = c.params; integrator = c.integrator; suppliers = c.suppliers } };
 
     ghost invariant = { λ c. IsTrue (is_cluster c.integrator c.suppliers) };
+}
+
+impl Config {
+    /// A cluster of these parameters, this integrator and these suppliers.
+    pub fn new(params: Params, integrator: Key, suppliers: Suppliers) -> Config
+        requires { IsTrue (is_cluster integrator suppliers) }
+        ensures { result ≡ record { params = params; integrator = integrator; suppliers = suppliers } }
+    {
+        Config {
+            params,
+            integrator,
+            suppliers,
+        }
+    }
+
+    /// The cluster's parameters.
+    pub fn params(&self) -> Params
+        ensures { result ≡ self.now.params }
+    {
+        self.params
+    }
+
+    /// The integrator's key.
+    pub fn integrator(&self) -> Key
+        ensures { result ≡ self.now.integrator }
+    {
+        self.integrator
+    }
+
+    /// The suppliers in byte order of their names: at most 64, no name twice, and no key that another
+    /// supplier or the integrator has.
+    pub fn suppliers(&self) -> &[Supplier]
+        ensures value { result.now ≡ self.now.suppliers }
+        ensures cluster { IsTrue (is_cluster self.now.integrator self.now.suppliers) }
+    {
+        self.suppliers.as_slice()
+    }
 }

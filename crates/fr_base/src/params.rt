@@ -1,35 +1,39 @@
+ghost use Rattle.std.specs.Prelude.{◌≡◌, ◌≤◌, Ok};
+ghost use Rattle.fr_base.specs.Parameters.{check_params, segments};
+
 use crate::channel::Channels;
 use std::marker::Model;
 
 /// The parameters of a cluster's static segment as they stand in a cluster file, not checked.
+///
+/// A communication cycle consists of the static segment, the dynamic segment, the symbol window and
+/// the network idle time, in this order (FlexRay Protocol Specification 2.1 Rev. A, 5.1; the names in
+/// brackets are those of its appendix B). The ranges below are those that [`Params::check`] asks for;
+/// of macroticks and payload the standard allows less.
 #[derive(Clone, Copy, Debug, PartialEq, Eq)]
 pub struct RawParams {
-    /// The channels that the cluster has.
+    /// The channels that the cluster has (`gChannels`).
     pub channels: Channels,
-    /// How many static slots a cycle has.
+    /// How many static slots a cycle has, 2 to 1023 (`gNumberOfStaticSlots`).
     pub static_slots: u32,
-    /// The length of a static slot, in macroticks.
+    /// The length of each static slot in macroticks, at least 1 (`gdStaticSlot`).
     pub slot_macroticks: u32,
-    /// All between the static segment and the symbol window, in macroticks.
+    /// All between the static segment and the symbol window in macroticks, 0 where the cycle has no
+    /// dynamic segment.
     pub dynamic_macroticks: u32,
-    /// The length of the symbol window, in macroticks.
+    /// The length of the symbol window in macroticks, 0 where there is none (`gdSymbolWindow`).
     pub symbol_macroticks: u32,
-    /// The length of the network idle time, in macroticks.
+    /// The length of the network idle time in macroticks, at least 1 (`gdNIT`).
     pub idle_macroticks: u32,
-    /// The length of a cycle, in macroticks.
+    /// The length of a communication cycle in macroticks, at most 16000 (`gMacroPerCycle`).
     pub macroticks_per_cycle: u32,
-    /// The payload length of every static frame, in words of two bytes.
+    /// The payload length of every static frame in words of two bytes, at most 127
+    /// (`gPayloadLengthStatic`).
     pub payload_words: u32,
 }
 
-/// The parameters of a cluster's static segment.
-#[derive(Clone, Copy, Debug, PartialEq, Eq)]
-pub struct Params {
-    raw: RawParams,
-}
-
-/// Why parameters make no cluster.
-#[derive(Clone, Copy, Debug, PartialEq, Eq)]
+/// Why parameters make no cluster. Where several apply, the first of this list is answered.
+#[derive(Clone, Copy, Debug, PartialEq, Eq, Hash)]
 pub enum ParamFault {
     /// There are not 2 to 1023 static slots.
     BadSlots,
@@ -41,8 +45,15 @@ pub enum ParamFault {
     BadSum,
 }
 
+/// The parameters of a cluster's static segment, within their ranges and with segments that are
+/// together as long as the cycle. [`RawParams`] says what each field means.
+#[derive(Clone, Copy, Debug, PartialEq, Eq)]
+pub struct Params {
+    raw: RawParams,
+}
+
 impl Model for Params {
-    ghost use Rattle.std.specs.Prelude.{IsTrue, Ok, ◌≡◌};
+    ghost use Rattle.std.specs.Prelude.{Ok, ◌≡◌};
     ghost use Rattle.fr_base.specs.declared.params.RawParams.{RawParams};
     ghost use Rattle.fr_base.specs.Parameters.{check_params};
 
@@ -53,4 +64,118 @@ impl Model for Params {
     ghost invariant = { λ p. check_params p.raw ≡ Ok p.raw };
 
     ghost inverse = { λ raw. record { raw = raw } };
+}
+
+impl Params {
+    /// These parameters, if they make a cluster, or else the first fault. The segments' lengths are
+    /// added without wrapping.
+    #[tactic(auto, unfolding(crate::proofs::ParametersLemmas::parameters_open))]
+    pub fn check(raw: RawParams) -> Result<Params, ParamFault>
+        ensures { result ≡ check_params raw }
+    {
+        if raw.static_slots < 2 || raw.static_slots > 1023 {
+            return Err(ParamFault::BadSlots);
+        }
+        if raw.payload_words > 127 {
+            return Err(ParamFault::BadPayload);
+        }
+        if raw.slot_macroticks == 0
+            || raw.idle_macroticks == 0
+            || raw.macroticks_per_cycle > 16000
+        {
+            return Err(ParamFault::BadMacroticks);
+        }
+        if raw.segments() != u64::from(raw.macroticks_per_cycle) {
+            return Err(ParamFault::BadSum);
+        }
+        Ok(Params { raw })
+    }
+
+    /// The parameters as they would stand in a cluster file. They pass `check`.
+    pub fn raw(&self) -> RawParams
+        ensures value { result ≡ self.now }
+        ensures checked { check_params self.now ≡ Ok self.now }
+    {
+        self.raw
+    }
+
+    /// The channels that the cluster has.
+    pub fn channels(&self) -> Channels
+        ensures { result ≡ self.now.channels }
+    {
+        self.raw.channels
+    }
+
+    /// How many static slots a cycle has, 2 to 1023.
+    #[tactic(auto, unfolding(crate::proofs::ParametersLemmas::parameters_open))]
+    pub fn static_slots(&self) -> u32
+        ensures value { result ≡ self.now.static_slots }
+        ensures range { (2 ≤ result) × (result ≤ 1023) }
+    {
+        self.raw.static_slots
+    }
+
+    /// The length of a static slot in macroticks, at least 1.
+    #[tactic(auto, unfolding(crate::proofs::ParametersLemmas::parameters_open))]
+    pub fn slot_macroticks(&self) -> u32
+        ensures value { result ≡ self.now.slot_macroticks }
+        ensures range { 1 ≤ result }
+    {
+        self.raw.slot_macroticks
+    }
+
+    /// All between the static segment and the symbol window in macroticks.
+    pub fn dynamic_macroticks(&self) -> u32
+        ensures { result ≡ self.now.dynamic_macroticks }
+    {
+        self.raw.dynamic_macroticks
+    }
+
+    /// The length of the symbol window in macroticks.
+    pub fn symbol_macroticks(&self) -> u32
+        ensures { result ≡ self.now.symbol_macroticks }
+    {
+        self.raw.symbol_macroticks
+    }
+
+    /// The length of the network idle time in macroticks, at least 1.
+    #[tactic(auto, unfolding(crate::proofs::ParametersLemmas::parameters_open))]
+    pub fn idle_macroticks(&self) -> u32
+        ensures value { result ≡ self.now.idle_macroticks }
+        ensures range { 1 ≤ result }
+    {
+        self.raw.idle_macroticks
+    }
+
+    /// The length of a communication cycle in macroticks, at most 16000.
+    #[tactic(auto, unfolding(crate::proofs::ParametersLemmas::parameters_open))]
+    pub fn macroticks_per_cycle(&self) -> u32
+        ensures value { result ≡ self.now.macroticks_per_cycle }
+        ensures range { result ≤ 16000 }
+        ensures sum { segments self.now ≡ result }
+    {
+        self.raw.macroticks_per_cycle
+    }
+
+    /// The payload length of every static frame in words of two bytes, at most 127.
+    #[tactic(auto, unfolding(crate::proofs::ParametersLemmas::parameters_open))]
+    pub fn payload_words(&self) -> u32
+        ensures value { result ≡ self.now.payload_words }
+        ensures range { result ≤ 127 }
+    {
+        self.raw.payload_words
+    }
+}
+
+impl RawParams {
+    /// The macroticks of a cycle's segments together.
+    fn segments(&self) -> u64
+        requires { self.now.static_slots ≤ 1023 }
+        ensures { result ≡ segments self.now }
+    {
+        u64::from(self.static_slots) * u64::from(self.slot_macroticks)
+            + u64::from(self.dynamic_macroticks)
+            + u64::from(self.symbol_macroticks)
+            + u64::from(self.idle_macroticks)
+    }
 }
