@@ -1,0 +1,43 @@
+# make run      proves and builds the program where that is still to be done, and runs a script
+# make test     the gate: every proof from nothing, the must-fail edits, the tests, the stored run
+# make install  puts the proved program at $(PREFIX)/bin/slotplan
+# make examples runs every script of examples/ and compares its answers with those beside it
+# make bench    prints the program's speed and memory beside those of a plain reader; no test
+
+SCRIPT ?= examples/first.script
+PREFIX ?= /usr/local
+
+program := crates/fr_cli/out/fr_cli
+build_log := out/build.log
+
+.PHONY: run test install examples bench build toolchain
+
+run: build
+	@$(program) run < $(SCRIPT)
+
+test: toolchain
+	@rt ci
+
+install: build
+	install -D -m 755 $(program) $(DESTDIR)$(PREFIX)/bin/slotplan
+
+examples: build
+	@for script in examples/*.script; do \
+	  $(program) run < $$script | diff - $${script%.script}.answers || exit 1; \
+	  echo "$$script is answered as $${script%.script}.answers has it" || exit 1; \
+	done
+
+bench: build
+	@python3 bench/run.py
+
+# `rt run` proves what has changed, compiles it, and runs the program once on its stored script. What
+# it says goes to a file, so that `make run` prints the answers alone.
+build: toolchain
+	@mkdir -p out
+	@test -x $(program) || echo "proving and building $(program): minutes, the first time" >&2
+	@(cd crates/fr_cli && rt run -- run < stdin) > $(build_log) 2>&1 \
+	  || { tail -n 40 $(build_log) >&2; echo "make: the program was not built; $(build_log) says why" >&2; exit 1; }
+
+toolchain:
+	@command -v rt > /dev/null || { \
+	  echo "make: there is no command rt on PATH. It is that of the Rattle kit: add the kit's folder bin to PATH." >&2; exit 1; }
