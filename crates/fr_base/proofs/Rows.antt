@@ -58,64 +58,64 @@ s2 r = record { actor = Supplier (codes "s2"); request = r }
 -- a variant, a node of `s1`, a grant to it, a frame, its placement in the first cycle, and the schedule
 pub the_first_script :
     answers (
-      integrator (OpenVariant (codes "v1"))
-      ∷ integrator (AddNode (codes "s1") (codes "n1"))
-      ∷ integrator (Grant (codes "v1") 1 (codes "A") (codes "s1") (codes "n1"))
-      ∷ s1 (AddFrame (codes "v1") (codes "f1") (codes "n1"))
-      ∷ s1 (Place (codes "v1") (codes "f1") 1 (codes "A") 0 64)
-      ∷ s1 (Schedule (codes "v1"))
-      ∷ integrator (Schedule (codes "v1"))
-      ∷ s2 (Schedule (codes "v1"))
-      ∷ [])
+    integrator (OpenVariant (codes "v1"))
+    ∷ integrator (AddNode (codes "s1") (codes "n1"))
+    ∷ integrator (Grant (codes "v1") 1 (codes "A") (codes "s1") (codes "n1"))
+    ∷ s1 (AddFrame (codes "v1") (codes "f1") (codes "n1"))
+    ∷ s1 (Place (codes "v1") (codes "f1") 1 (codes "A") 0 64)
+    ∷ s1 (Schedule (codes "v1"))
+    ∷ integrator (Schedule (codes "v1"))
+    ∷ s2 (Schedule (codes "v1"))
+    ∷ [])
     ≡ Done ∷ Done ∷ Done ∷ Done ∷ Done
-      ∷ Sent false (record { cycle = 0; slot = 1; channel = ch.A; frame = codes "f1"; node = codes "n1"; supplier = codes "s1" } ∷ [])
-      ∷ Sent true (record { cycle = 0; slot = 1; channel = ch.A; frame = codes "f1"; node = codes "n1"; supplier = codes "s1" } ∷ [])
-      ∷ Sent false []
-      ∷ []
+    ∷ Sent false (record { cycle = 0; slot = 1; channel = ch.A; frame = codes "f1"; node = codes "n1"; supplier = codes "s1" } ∷ [])
+    ∷ Sent true (record { cycle = 0; slot = 1; channel = ch.A; frame = codes "f1"; node = codes "n1"; supplier = codes "s1" } ∷ [])
+    ∷ Sent false []
+    ∷ []
 unfolding a_small_register
 the_first_script = refl
 
 -- the cell of least cycle is named, A before B
 pub cells_taken :
     answers (
-      integrator (OpenVariant (codes "v1"))
-      ∷ integrator (AddNode (codes "s1") (codes "n1"))
-      ∷ integrator (Grant (codes "v1") 1 (codes "A") (codes "s1") (codes "n1"))
-      ∷ integrator (Grant (codes "v1") 1 (codes "B") (codes "s1") (codes "n1"))
-      ∷ s1 (AddFrame (codes "v1") (codes "e") (codes "n1"))
-      ∷ s1 (AddFrame (codes "v1") (codes "f") (codes "n1"))
-      ∷ s1 (AddFrame (codes "v1") (codes "g") (codes "n1"))
-      ∷ s1 (AddFrame (codes "v1") (codes "h") (codes "n1"))
-      ∷ s1 (Place (codes "v1") (codes "f") 1 (codes "AB") 0 2)
-      ∷ s1 (Place (codes "v1") (codes "g") 1 (codes "B") 2 4)
-      ∷ s1 (Place (codes "v1") (codes "g") 1 (codes "AB") 2 4)
-      ∷ s1 (Place (codes "v1") (codes "g") 1 (codes "B") 1 2)
-      ∷ s1 (Place (codes "v1") (codes "e") 1 (codes "A") 3 4)
-      ∷ s1 (Place (codes "v1") (codes "h") 1 (codes "A") 0 1)
-      ∷ [])
+    integrator (OpenVariant (codes "v1"))
+    ∷ integrator (AddNode (codes "s1") (codes "n1"))
+    ∷ integrator (Grant (codes "v1") 1 (codes "A") (codes "s1") (codes "n1"))
+    ∷ integrator (Grant (codes "v1") 1 (codes "B") (codes "s1") (codes "n1"))
+    ∷ s1 (AddFrame (codes "v1") (codes "e") (codes "n1"))
+    ∷ s1 (AddFrame (codes "v1") (codes "f") (codes "n1"))
+    ∷ s1 (AddFrame (codes "v1") (codes "g") (codes "n1"))
+    ∷ s1 (AddFrame (codes "v1") (codes "h") (codes "n1"))
+    ∷ s1 (Place (codes "v1") (codes "f") 1 (codes "AB") 0 2)
+    ∷ s1 (Place (codes "v1") (codes "g") 1 (codes "B") 2 4)
+    ∷ s1 (Place (codes "v1") (codes "g") 1 (codes "AB") 2 4)
+    ∷ s1 (Place (codes "v1") (codes "g") 1 (codes "B") 1 2)
+    ∷ s1 (Place (codes "v1") (codes "e") 1 (codes "A") 3 4)
+    ∷ s1 (Place (codes "v1") (codes "h") 1 (codes "A") 0 1)
+    ∷ [])
     ≡ Done ∷ Done ∷ Done ∷ Done ∷ Done ∷ Done ∷ Done ∷ Done ∷ Done
-      ∷ Refused (CellTaken 2 ch.B (codes "f"))
-      ∷ Refused (CellTaken 2 ch.A (codes "f"))
-      ∷ Done
-      ∷ Done
-      ∷ Refused (CellTaken 0 ch.A (codes "f"))
-      ∷ []
+    ∷ Refused (CellTaken 2 ch.B (codes "f"))
+    ∷ Refused (CellTaken 2 ch.A (codes "f"))
+    ∷ Done
+    ∷ Done
+    ∷ Refused (CellTaken 0 ch.A (codes "f"))
+    ∷ []
 unfolding a_small_register
 cells_taken = refl
 
 -- one holder for a slot and channel
 pub two_suppliers_one_slot :
     answers (
-      integrator (OpenVariant (codes "v1"))
-      ∷ integrator (AddNode (codes "s1") (codes "n1"))
-      ∷ integrator (Grant (codes "v1") 1 (codes "A") (codes "s1") (codes "n1"))
-      ∷ integrator (AddNode (codes "s2") (codes "n2"))
-      ∷ integrator (AddNode (codes "s1") (codes "n3"))
-      ∷ integrator (Grant (codes "v1") 1 (codes "A") (codes "s2") (codes "n2"))
-      ∷ integrator (Grant (codes "v1") 1 (codes "A") (codes "s1") (codes "n1"))
-      ∷ integrator (Grant (codes "v1") 1 (codes "A") (codes "s1") (codes "n3"))
-      ∷ integrator (Grant (codes "v1") 1 (codes "B") (codes "s2") (codes "n2"))
-      ∷ [])
+    integrator (OpenVariant (codes "v1"))
+    ∷ integrator (AddNode (codes "s1") (codes "n1"))
+    ∷ integrator (Grant (codes "v1") 1 (codes "A") (codes "s1") (codes "n1"))
+    ∷ integrator (AddNode (codes "s2") (codes "n2"))
+    ∷ integrator (AddNode (codes "s1") (codes "n3"))
+    ∷ integrator (Grant (codes "v1") 1 (codes "A") (codes "s2") (codes "n2"))
+    ∷ integrator (Grant (codes "v1") 1 (codes "A") (codes "s1") (codes "n1"))
+    ∷ integrator (Grant (codes "v1") 1 (codes "A") (codes "s1") (codes "n3"))
+    ∷ integrator (Grant (codes "v1") 1 (codes "B") (codes "s2") (codes "n2"))
+    ∷ [])
     ≡ Done ∷ Done ∷ Done ∷ Done ∷ Done ∷ Refused Taken ∷ Refused Exists ∷ Refused NodeDiffers ∷ Done ∷ []
 unfolding a_small_register
 two_suppliers_one_slot = refl
@@ -123,15 +123,15 @@ two_suppliers_one_slot = refl
 -- a frame lies in grants to its own node
 pub two_nodes_of_one_supplier :
     answers (
-      integrator (OpenVariant (codes "v1"))
-      ∷ integrator (AddNode (codes "s1") (codes "n1"))
-      ∷ integrator (AddNode (codes "s1") (codes "n2"))
-      ∷ integrator (Grant (codes "v1") 1 (codes "A") (codes "s1") (codes "n1"))
-      ∷ integrator (Grant (codes "v1") 2 (codes "A") (codes "s1") (codes "n2"))
-      ∷ s1 (AddFrame (codes "v1") (codes "f") (codes "n1"))
-      ∷ s1 (Place (codes "v1") (codes "f") 1 (codes "AB") 0 1)
-      ∷ s1 (Place (codes "v1") (codes "f") 2 (codes "A") 0 1)
-      ∷ [])
+    integrator (OpenVariant (codes "v1"))
+    ∷ integrator (AddNode (codes "s1") (codes "n1"))
+    ∷ integrator (AddNode (codes "s1") (codes "n2"))
+    ∷ integrator (Grant (codes "v1") 1 (codes "A") (codes "s1") (codes "n1"))
+    ∷ integrator (Grant (codes "v1") 2 (codes "A") (codes "s1") (codes "n2"))
+    ∷ s1 (AddFrame (codes "v1") (codes "f") (codes "n1"))
+    ∷ s1 (Place (codes "v1") (codes "f") 1 (codes "AB") 0 1)
+    ∷ s1 (Place (codes "v1") (codes "f") 2 (codes "A") 0 1)
+    ∷ [])
     ≡ Done ∷ Done ∷ Done ∷ Done ∷ Done ∷ Done ∷ Refused NotGranted ∷ Refused NotGranted ∷ []
 unfolding a_small_register
 two_nodes_of_one_supplier = refl
@@ -139,15 +139,15 @@ two_nodes_of_one_supplier = refl
 -- refusals by the request alone, and of a variant that is not there
 pub refused_lines :
     answers (
-      integrator (OpenVariant (codes "v1"))
-      ∷ s1 (OpenVariant (codes "v2"))
-      ∷ integrator (AddFrame (codes "v1") (codes "f1") (codes "n1"))
-      ∷ s1 (Place (codes "1v") (codes "f1") 1 (codes "A") 0 64)
-      ∷ s1 (Place (codes "v1") (codes "f1") 0 (codes "A") 0 64)
-      ∷ s1 (Place (codes "v1") (codes "f1") 5 (codes "A") 0 64)
-      ∷ s1 (Place (codes "v1") (codes "f1") 1 (codes "AA") 0 64)
-      ∷ s1 (Schedule (codes "v9"))
-      ∷ [])
+    integrator (OpenVariant (codes "v1"))
+    ∷ s1 (OpenVariant (codes "v2"))
+    ∷ integrator (AddFrame (codes "v1") (codes "f1") (codes "n1"))
+    ∷ s1 (Place (codes "1v") (codes "f1") 1 (codes "A") 0 64)
+    ∷ s1 (Place (codes "v1") (codes "f1") 0 (codes "A") 0 64)
+    ∷ s1 (Place (codes "v1") (codes "f1") 5 (codes "A") 0 64)
+    ∷ s1 (Place (codes "v1") (codes "f1") 1 (codes "AA") 0 64)
+    ∷ s1 (Schedule (codes "v9"))
+    ∷ [])
     ≡ Done ∷ Refused NotYours ∷ Refused NotYours ∷ Refused BadName ∷ Refused BadSlot ∷ Refused BadSlot ∷ Refused BadChannel ∷ Refused NoVariant ∷ []
 unfolding a_small_register
 refused_lines = refl

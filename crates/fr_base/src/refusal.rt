@@ -1,5 +1,6 @@
 use crate::channel::Channel;
 use crate::name::Name;
+use std::alloc::AllocError;
 use std::fmt;
 
 /// Why a request was refused. A refusal changes nothing. Where several apply, the first by number is
@@ -149,6 +150,18 @@ impl fmt::Display for Refusal {
     /// Writes the refusal's name.
     fn fmt<W: fmt::Write>(&self, f: &mut fmt::Formatter<W>) -> fmt::Result {
         f.write_str(self.name())
+    }
+}
+
+/// Want of memory refuses a request as `Unavailable`.
+impl From<AllocError> for Refusal {
+    ghost use Rattle.std.specs.Prelude.{◌≡◌};
+    ghost use Rattle.fr_base.specs.declared.refusal.Refusal.TheVariants.{Unavailable};
+
+    ghost from_gives = { λ _ refusal. refusal ≡ Unavailable };
+
+    fn from(_refused: AllocError) -> Refusal {
+        Refusal::Unavailable
     }
 }
 
