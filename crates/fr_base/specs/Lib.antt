@@ -17,3 +17,6 @@ pub mod Book
 pub mod Step
 pub mod Run
 pub mod Sound
+pub mod Signals
+pub mod Bits
+pub mod Layouts

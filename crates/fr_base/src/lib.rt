@@ -14,6 +14,7 @@ mod params;
 mod placement;
 mod refusal;
 mod request;
+mod signal;
 mod slot;
 mod text;
 
@@ -27,5 +28,6 @@ pub use params::{ParamFault, Params, RawParams};
 pub use placement::Placement;
 pub use refusal::Refusal;
 pub use request::{Actor, Ask, Checked, Command, Query, Request};
+pub use signal::{BadSignal, Order, Signal};
 pub use slot::Slot;
 pub use text::Text;
