@@ -20,7 +20,7 @@ pub enum Order {
 pub struct BadSignal;
 
 /// A named run of 1 to 64 payload bits that holds one unsigned number.
-#[derive(Clone, Copy)]
+#[derive(Clone, Copy, Debug, PartialEq, Eq, Hash)]
 pub struct Signal {
     name: Name,
     start: u32,
