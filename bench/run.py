@@ -4,7 +4,6 @@
 The plain reader is python3, which reads the same lines with its json and answers nothing. Both run in turn, and the
 best of three runs counts. Ratios are those of one run on one machine: they promise nothing."""
 import argparse
-import os
 import subprocess
 import sys
 import tempfile
@@ -29,21 +28,33 @@ for line in lines:
 """
 
 
+def peak_of(process):
+    """The most memory that a process has had so far, in bytes; 0 where it has ended."""
+    try:
+        lines = Path(f"/proc/{process}/status").read_text().splitlines()
+    except OSError:
+        return 0
+    return next((int(line.split()[1]) * 1024 for line in lines if line.startswith("VmHWM:")), 0)
+
+
 def measured(words, script, answers):
-    """Seconds and bytes of peak memory of one run."""
+    """Seconds and bytes of peak memory of one run. The peak is asked for every few milliseconds: what the
+    system tells of an ended process counts in the memory of the one that started it."""
     with open(script, "rb") as given, open(answers, "wb") as taken:
         began = time.monotonic()
         child = subprocess.Popen(words, stdin=given, stdout=taken)
-        _, status, used = os.wait4(child.pid, 0)
+        peak = 0
+        while child.poll() is None:
+            peak = max(peak, peak_of(child.pid))
+            time.sleep(0.002)
         seconds = time.monotonic() - began
-    child.returncode = os.waitstatus_to_exitcode(status)
     if child.returncode:
         sys.exit(f"{words[0]} ended with status {child.returncode}")
-    return seconds, used.ru_maxrss * 1024
+    return seconds, peak
 
 
 def best(runs):
-    return min(seconds for seconds, _ in runs), min(memory for _, memory in runs)
+    return min(seconds for seconds, _ in runs), max(memory for _, memory in runs)
 
 
 def tally(answers):
