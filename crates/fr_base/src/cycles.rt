@@ -1,4 +1,4 @@
-ghost use Rattle.std.specs.Prelude.{◌≡◌, ℕ, ◌^◌, Bool, Option, Ok, Err, if◌then◌else◌};
+ghost use Rattle.std.specs.Prelude.{◌≡◌, Ok, Err, if◌then◌else◌};
 
 use std::marker::Model;
 
@@ -11,7 +11,9 @@ pub const CYCLE_COUNT: u32 = 64;
 #[derive(Clone, Copy, Debug, PartialEq, Eq, Hash)]
 pub struct BadCycles;
 
-/// The cycles `c` of 0 to 63 with `c mod repetition = base`: base cycle and cycle repetition.
+/// The cycles `c` of 0 to 63 with `c mod repetition = base`: a base cycle and a cycle repetition, which
+/// is a power of two, as in the cycle filtering of FlexRay controllers. The cycle counter itself is that
+/// of FlexRay Protocol Specification 2.1 Rev. A, 5.1. Sets are ordered by base and then repetition.
 #[derive(Clone, Copy, Debug, PartialEq, Eq, PartialOrd, Ord, Hash)]
 pub struct CycleSet {
     base: u8,
@@ -29,4 +31,61 @@ impl Model for CycleSet {
     ghost invariant = { λ s. IsTrue (is_cycle_set s.base s.repetition) };
 
     ghost inverse = { λ s. record { base = s.base; repetition = s.repetition } };
+}
+
+impl CycleSet {
+    ghost use Rattle.fr_base.specs.Cycles.{is_cycle_set, has_cycle, first_common};
+
+    /// The cycles of this base and repetition, if they select any.
+    pub fn new(base: u32, repetition: u32) -> Result<CycleSet, BadCycles>
+        ensures { result ≡ (if is_cycle_set base repetition then Ok (record { base = base; repetition = repetition }) else Err (record {})) }
+    {
+        if matches!(repetition, 1 | 2 | 4 | 8 | 16 | 32 | 64) && base < repetition {
+            Ok(CycleSet {
+                base: base as u8,
+                repetition: repetition as u8,
+            })
+        } else {
+            Err(BadCycles)
+        }
+    }
+
+    /// The least cycle of the set.
+    pub fn base(&self) -> u8
+        ensures { result ≡ self.now.base }
+    {
+        self.base
+    }
+
+    /// Every how many cycles one is in the set.
+    pub fn repetition(&self) -> u8
+        ensures { result ≡ self.now.repetition }
+    {
+        self.repetition
+    }
+
+    /// Whether the cycle is in the set. No cycle above 63 is.
+    pub fn contains(&self, cycle: u8) -> bool
+        ensures { result ≡ has_cycle self.now cycle }
+    {
+        u32::from(cycle) < CYCLE_COUNT && cycle % self.repetition == self.base
+    }
+
+    /// The least cycle that is in both sets.
+    pub fn first_common(&self, other: &CycleSet) -> Option<u8>
+        ensures { result ≡ first_common self.now other.now }
+    {
+        // The smaller repetition divides the larger one, so the cycles of `sparse` all leave the
+        // same remainder by the repetition of `dense`.
+        let (dense, sparse) = if self.repetition <= other.repetition {
+            (self, other)
+        } else {
+            (other, self)
+        };
+        if sparse.base % dense.repetition == dense.base {
+            Some(sparse.base)
+        } else {
+            None
+        }
+    }
 }

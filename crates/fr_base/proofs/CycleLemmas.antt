@@ -1,0 +1,181 @@
+-- Lemmas on cycle sets.
+use Rattle.std.proofs.Common.{◌≡◌, ◌≢◌, ℕ, zero, suc, ◌+◌, ◌%◌, ◌<◌, ◌≤◌, Bool, true, false, ◌&&◌, eqb, ltb, cond, List, [], ◌∷◌, Option, Some, None, refl, sym, ◌∙◌, ap, subst, ◌⊎◌, inl, inr, arith, IsTrue}
+use Rattle.std.proofs.Math.Nat.{mod-mod_of_dvd, mod-eq_of_lt}
+use Rattle.std.proofs.lemmas.Nat.Gcd.{dvd_of_mod-eq-zero}
+use Rattle.std.proofs.lemmas.Bool.{eqb-true, eqb-false, eq-eqb, ne_eqb, ltb-true, and_parts, and_from, and_left, and_right, or_cases, cases_Bool, cases_eq, cases_lt, true≢false}
+use Rattle.std.specs.List.{filter, find, list_any, range_with_len}
+use Rattle.fr_base.specs.Cycles.{Cycles, is_repetition, is_cycle_set, selects, cycle_count, all_cycles, cycles_of, has_cycle, first_common}
+
+-- what holds of 1, 2, 4, 8, 16, 32 and 64 holds of a repetition
+pub by_repetition : (P : ℕ → Type 0) → P 1 → P 2 → P 4 → P 8 → P 16 → P 32 → P 64 → (r : ℕ) → is_repetition r ≡ true → P r
+by_repetition P p1 p2 p4 p8 p16 p32 p64 r h =
+    let at : (n : ℕ) → P n → eqb r n ≡ true → P r = λ n p e. subst P (sym (eqb-true r n e)) p in
+    elim (or_cases _ _ h) [
+      | inr e ↦ at 64 p64 e
+      | inl h ↦ elim (or_cases _ _ h) [
+        | inr e ↦ at 32 p32 e
+        | inl h ↦ elim (or_cases _ _ h) [
+          | inr e ↦ at 16 p16 e
+          | inl h ↦ elim (or_cases _ _ h) [
+            | inr e ↦ at 8 p8 e
+            | inl h ↦ elim (or_cases _ _ h) [
+              | inr e ↦ at 4 p4 e
+              | inl h ↦ elim (or_cases _ _ h) [
+                | inr e ↦ at 2 p2 e
+                | inl e ↦ at 1 p1 e
+              ]
+            ]
+          ]
+        ]
+      ]
+    ]
+
+-- a repetition is at most the number of cycles
+pub repetition-small : (r : ℕ) → is_repetition r ≡ true → r ≤ cycle_count
+unfolding cycle_count
+repetition-small r h = by_repetition (λ r. r ≤ 64) (omega arith) (omega arith) (omega arith) (omega arith) (omega arith) (omega arith) (omega arith) r h
+
+-- whether the first number divides the second one, where it is not above it
+abbrev divides : ℕ → ℕ → Type 0
+divides a b = a ≤ b → b % a ≡ 0
+
+-- of two repetitions the smaller one divides the larger one
+pub repetition-divides : (a b : ℕ) → is_repetition a ≡ true → is_repetition b ≡ true → a ≤ b → b % a ≡ 0
+repetition-divides a b ra rb =
+    let each : (a : ℕ) → divides a 1 → divides a 2 → divides a 4 → divides a 8 → divides a 16 → divides a 32 → divides a 64 → divides a b =
+    λ a d1 d2 d4 d8 d16 d32 d64. by_repetition (divides a) d1 d2 d4 d8 d16 d32 d64 b rb in
+    by_repetition (λ a. divides a b)
+    (each 1 (λ l. refl) (λ l. refl) (λ l. refl) (λ l. refl) (λ l. refl) (λ l. refl) (λ l. refl))
+    (each 2 (λ l. omega arith) (λ l. refl) (λ l. refl) (λ l. refl) (λ l. refl) (λ l. refl) (λ l. refl))
+    (each 4 (λ l. omega arith) (λ l. omega arith) (λ l. refl) (λ l. refl) (λ l. refl) (λ l. refl) (λ l. refl))
+    (each 8 (λ l. omega arith) (λ l. omega arith) (λ l. omega arith) (λ l. refl) (λ l. refl) (λ l. refl) (λ l. refl))
+    (each 16 (λ l. omega arith) (λ l. omega arith) (λ l. omega arith) (λ l. omega arith) (λ l. refl) (λ l. refl) (λ l. refl))
+    (each 32 (λ l. omega arith) (λ l. omega arith) (λ l. omega arith) (λ l. omega arith) (λ l. omega arith) (λ l. refl) (λ l. refl))
+    (each 64 (λ l. omega arith) (λ l. omega arith) (λ l. omega arith) (λ l. omega arith) (λ l. omega arith) (λ l. omega arith) (λ l. refl))
+    a ra
+
+-- a search of a range gives a number that passes where none before it does
+find-range_Some : (p : ℕ → Bool) (a n k : ℕ) → a ≤ k → k < a + n → p k ≡ true → ((j : ℕ) → j < k → p j ≡ false) → find p (range_with_len a n) ≡ Some k
+find-range_Some p a zero k l h t below = absurd (omega arith)
+find-range_Some p a (suc n) k l h t below = elim (cases_eq a k) [
+  | inl e ↦ rw e (rw t refl)
+  | inr ne ↦ rw (below a (omega (arith, ne))) (find-range_Some p (a + 1) n k (omega (arith, ne)) (omega arith) t below)
+]
+
+-- and nothing where none passes
+find-range_None : (p : ℕ → Bool) (a n : ℕ) → ((j : ℕ) → j < a + n → p j ≡ false) → find p (range_with_len a n) ≡ None
+find-range_None p a zero none = refl
+find-range_None p a (suc n) none = rw (none a (omega arith)) (find-range_None p (a + 1) n (λ j h. none j (omega arith)))
+
+-- a search of what a test keeps
+find-filter : {X : Type 0} (p q : X → Bool) (xs : List X) → find p (filter q xs) ≡ find (λ x. q x && p x) xs
+find-filter p q [] = refl
+find-filter p q (x ∷ xs) = elim (cases_Bool (q x)) [
+  | inl e ↦ rw e (rw (find-filter p q xs) refl)
+  | inr e ↦ rw e (find-filter p q xs)
+]
+
+-- a number that is not in the range is not among those that a test keeps of it
+any-filter_range_out : (q : ℕ → Bool) (c a n : ℕ) → (c < a) ⊎ (a + n ≤ c) → list_any (eqb c) (filter q (range_with_len a n)) ≡ false
+any-filter_range_out q c a zero out = refl
+any-filter_range_out q c a (suc n) out =
+    let ne : eqb c a ≡ false = ne_eqb c a (λ e. elim out [ inl l ↦ omega arith | inr l ↦ omega arith ]) in
+    let rest = any-filter_range_out q c (a + 1) n (elim out [ inl l ↦ inl (omega arith) | inr l ↦ inr (omega arith) ]) in
+    elim (cases_Bool (q a)) [ inl e ↦ rw e (rw (ne, rest) refl) | inr e ↦ rw e rest ]
+
+-- a number of the range is among them where it passes
+any-filter_range_in : (q : ℕ → Bool) (c a n : ℕ) → a ≤ c → c < a + n → list_any (eqb c) (filter q (range_with_len a n)) ≡ q c
+any-filter_range_in q c a zero l h = absurd (omega arith)
+any-filter_range_in q c a (suc n) l h = elim (cases_eq c a) [
+  | inl here ↦ elim (cases_Bool (q a)) [
+    | inl e ↦ rw (here, e) (rw (eq-eqb a a refl) refl)
+    | inr e ↦ rw (here, e) (any-filter_range_out q a (a + 1) n (inl (omega arith)))
+  ]
+  | inr ne ↦
+      let rest = any-filter_range_in q c (a + 1) n (omega (arith, ne)) (omega arith) in
+      elim (cases_Bool (q a)) [ inl e ↦ rw e (rw (ne_eqb c a ne, rest) refl) | inr e ↦ rw e rest ]
+]
+
+-- a cycle is in a set where the set selects it
+pub has_cycle-in : (s : Cycles) (c : ℕ) → c < cycle_count → has_cycle s c ≡ selects s c
+unfolding has_cycle cycles_of all_cycles
+has_cycle-in s c h = any-filter_range_in (selects s) c 0 cycle_count (omega arith) (omega arith)
+
+-- no set has a cycle past the last one
+pub has_cycle-out : (s : Cycles) (c : ℕ) → cycle_count ≤ c → has_cycle s c ≡ false
+unfolding has_cycle cycles_of all_cycles
+has_cycle-out s c h = any-filter_range_out (selects s) c 0 cycle_count (inr (omega arith))
+
+-- a set has no cycle past the last one
+pub below-has_cycle : (s : Cycles) (c : ℕ) → has_cycle s c ≡ true → c < cycle_count
+below-has_cycle s c h = elim (cases_lt c cycle_count) [ inl l ↦ l | inr l ↦ absurd (true≢false (sym h ∙ has_cycle-out s c l)) ]
+
+-- a search, in what one test keeps of a range, of what another test keeps of it
+find-both_Some : (p q : ℕ → Bool) (n k : ℕ) → k < n → p k ≡ true → q k ≡ true → ((j : ℕ) → j < k → (p j && q j) ≡ false) → find (λ c. list_any (eqb c) (filter q (range_with_len 0 n))) (filter p (range_with_len 0 n)) ≡ Some k
+find-both_Some p q n k h pk qk below =
+    let kept : (j : ℕ) → j < n → list_any (eqb j) (filter q (range_with_len 0 n)) ≡ q j = λ j l. any-filter_range_in q j 0 n (omega arith) (omega arith) in
+    find-filter _ p (range_with_len 0 n)
+    ∙ find-range_Some _ 0 n k (omega arith) (omega arith) (and_from _ _ pk (kept k h ∙ qk)) (λ j l. ap (λ b. p j && b) (kept j (omega arith)) ∙ below j l)
+
+find-both_None : (p q : ℕ → Bool) (n : ℕ) → ((j : ℕ) → j < n → (p j && q j) ≡ false) → find (λ c. list_any (eqb c) (filter q (range_with_len 0 n))) (filter p (range_with_len 0 n)) ≡ None
+find-both_None p q n none =
+    let kept : (j : ℕ) → j < n → list_any (eqb j) (filter q (range_with_len 0 n)) ≡ q j = λ j l. any-filter_range_in q j 0 n (omega arith) (omega arith) in
+    find-filter _ p (range_with_len 0 n)
+    ∙ find-range_None _ 0 n (λ j l. let low : j < n = omega arith in ap (λ b. p j && b) (kept j low) ∙ none j low)
+
+-- a cycle that both select, below which they select none together, is the first common one
+first_common-Some : (s t : Cycles) (k : ℕ) → k < cycle_count → selects s k ≡ true → selects t k ≡ true → ((j : ℕ) → j < k → (selects s j && selects t j) ≡ false) → first_common s t ≡ Some k
+unfolding first_common has_cycle cycles_of all_cycles
+first_common-Some s t k h sk tk below = find-both_Some (selects s) (selects t) cycle_count k h sk tk below
+
+first_common-None : (s t : Cycles) → ((j : ℕ) → (selects s j && selects t j) ≡ false) → first_common s t ≡ None
+unfolding first_common has_cycle cycles_of all_cycles
+first_common-None s t none = find-both_None (selects s) (selects t) cycle_count (λ j l. none j)
+
+-- a cycle set, as a fact
+abbrev pub IsCycleSet : Cycles → Type 0
+IsCycleSet s = IsTrue (is_cycle_set s.base s.repetition)
+
+-- the larger repetition's cycles leave, by the smaller one, the remainder that its base leaves
+remainder : (d p : Cycles) → IsCycleSet d → IsCycleSet p → d.repetition ≤ p.repetition → (c : ℕ) → selects p c ≡ true → c % d.repetition ≡ p.base % d.repetition
+remainder d p hd hp l c h =
+    let divides = dvd_of_mod-eq-zero d.repetition (repetition-divides _ _ (and_parts _ _ hd).0 (and_parts _ _ hp).0 l) in
+    sym (mod-mod_of_dvd d.repetition c divides) ∙ ap (λ n. n % d.repetition) (eqb-true _ _ h)
+
+-- the base of the larger repetition, if it leaves the other base by the smaller one
+pub record Meet (d p : Cycles) : Type 0 where
+  pub here : p.base < cycle_count
+  pub dense : selects d p.base ≡ true
+  pub sparse : selects p p.base ≡ true
+  pub below : (j : ℕ) → j < p.base → selects p j ≡ false
+
+meet : (d p : Cycles) → IsCycleSet d → IsCycleSet p → p.base % d.repetition ≡ d.base → Meet d p
+meet d p hd hp e =
+    let within : p.base < p.repetition = ltb-true p.base p.repetition (and_parts (is_repetition p.repetition) _ hp).1 in
+    let small : p.repetition ≤ cycle_count = repetition-small p.repetition (and_parts (is_repetition p.repetition) _ hp).0 in
+    record {
+      here = omega arith;
+      dense = eq-eqb _ _ e;
+      sparse = eq-eqb _ _ (mod-eq_of_lt within);
+      below = λ j l. ne_eqb _ _ (λ q. let low : j < p.repetition = omega arith in omega (arith, mod-eq_of_lt low, q));
+    }
+
+-- the bases agree by the smaller repetition: the first common cycle is the base of the larger one
+pub first_common-met : (d p : Cycles) → IsCycleSet d → IsCycleSet p → p.base % d.repetition ≡ d.base → (first_common d p ≡ Some p.base) × (first_common p d ≡ Some p.base)
+first_common-met d p hd hp e =
+    let m = meet d p hd hp e in (
+      first_common-Some d p p.base m.here m.dense m.sparse (λ j l. and_right _ _ (m.below j l)),
+      first_common-Some p d p.base m.here m.sparse m.dense (λ j l. and_left _ _ (m.below j l)),
+    )
+
+-- they do not: no cycle is in both
+apart : (d p : Cycles) → IsCycleSet d → IsCycleSet p → d.repetition ≤ p.repetition → p.base % d.repetition ≢ d.base → (j : ℕ) → selects p j ≡ true → selects d j ≡ false
+apart d p hd hp l ne j h = ne_eqb _ _ (λ e. ne (sym (remainder d p hd hp l j h) ∙ e))
+
+pub first_common-missed : (d p : Cycles) → IsCycleSet d → IsCycleSet p → d.repetition ≤ p.repetition → p.base % d.repetition ≢ d.base → (first_common d p ≡ None) × (first_common p d ≡ None)
+first_common-missed d p hd hp l ne =
+    let none : (j : ℕ) → (selects d j && selects p j) ≡ false =
+    λ j. elim (cases_Bool (selects p j)) [ inl t ↦ and_left _ _ (apart d p hd hp l ne j t) | inr f ↦ and_right _ _ f ] in
+    let none_back : (j : ℕ) → (selects p j && selects d j) ≡ false =
+    λ j. elim (cases_Bool (selects p j)) [ inl t ↦ and_right _ _ (apart d p hd hp l ne j t) | inr f ↦ and_left _ _ f ] in
+    (first_common-None d p none, first_common-None p d none_back)
