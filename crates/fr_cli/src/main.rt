@@ -1,4 +1,6 @@
 //! The program `slotplan`.
 #![tactic(auto)]
 
+mod book;
+
 fn main() {}

@@ -1,0 +1,53 @@
+-- What stands in a table after it was made, changed or filtered.
+use Rattle.std.proofs.Common.{◌≡◌, ℕ, Bool, true, false, not, ◌&&◌, cond, List, [], ◌∷◌, map, length, Option, Some, None, is_some, refl, sym, ap, subst, ◌∙◌, arith, Ordering, Less, Equal, Greater}
+use Rattle.std.specs.Prelude.{T}
+use mathlib.Core.HLevel.{Σ_prop_path}
+use lib.Dec.{T_prop}
+use Rattle.std.specs.Ordering.{is_lt, is_eq, eq_by_cmp}
+use Rattle.std.specs.FinMap.Entries.{put, find, find-put, same_entries, is_sorted, below_all, by_order}
+use Rattle.fr_base.specs.TableRows.{first, second}
+use Rattle.fr_base.specs.Tables.{Order, Table, empty, get, contains, len, insert, only, from_rows}
+
+less : (r : Ordering) → T (is_lt r) → r ≡ Less
+less Less h = refl
+less Equal h = absurd h
+less Greater h = absurd h
+
+-- a key below all goes to the front
+pub put_front : {K V : Type 0} (R : K → K → Ordering) (k : K) (v : V) (es : List (K × V)) → T (below_all R k es) → put R k v es ≡ (k, v) ∷ es
+put_front R k v [] h = refl
+put_front R k v (e ∷ es) h = ap (λ r. by_order r ((k, v) ∷ e ∷ es) ((e.0, v) ∷ es) (e ∷ put R k v es)) (less (R k e.0) (first _ _ h))
+
+module _ {K V : Type 0} {o : Order K} where
+  -- tables with the same rows are the same
+  pub same_rows : (s t : Table o V) → s.rows ≡ t.rows → s ≡ t
+  same_rows s t e =
+      let pairs : ◌≡◌ {A = (es : List (K × V)) × T (is_sorted o.compare es)} (s.rows, s.sorted) (t.rows, t.sorted) = Σ_prop_path (λ es. T_prop _) e in
+      λ i. record { rows = (pairs i).0; sorted = (pairs i).1 }
+
+  -- tables that answer every look-up alike are the same
+  pub same_table : (s t : Table o V) → ((k : K) → get s k ≡ get t k) → s ≡ t
+  unfolding get
+  same_table s t alike = same_rows s t (same_entries o.compare o.total o.exact s.rows t.rows s.sorted t.sorted alike)
+
+  pub get-insert : (t : Table o V) (k : K) (v : V) (q : K) → get (insert t k v) q ≡ cond (eq_by_cmp o.compare q k) (Some v) (get t q)
+  unfolding get insert
+  get-insert t k v q = find-put o.compare o.total q k v t.rows
+
+module _ {K V : Type 0} (o : Order K) where
+  pub get-empty : (k : K) → get (empty {V = V} {o = o}) k ≡ None
+  unfolding get empty
+  get-empty k = refl
+
+  -- the table of rows in order has these rows
+  pub rows-from_rows : (es : List (K × V)) → T (is_sorted o.compare es) → (from_rows {o = o} es).rows ≡ es
+  unfolding from_rows insert empty
+  rows-from_rows [] h = refl
+  rows-from_rows (e ∷ es) h =
+      ap (put o.compare e.0 e.1) (rows-from_rows es (second _ _ h)) ∙ put_front o.compare e.0 e.1 es (first _ _ h)
+
+  -- a look-up finds the first row of its key
+  pub get-from_rows : (es : List (K × V)) (k : K) → get (from_rows {o = o} es) k ≡ find o.compare k es
+  unfolding from_rows
+  get-from_rows [] k = get-empty k
+  get-from_rows (e ∷ es) k = get-insert (from_rows es) e.0 e.1 k ∙ ap (cond (eq_by_cmp o.compare k e.0) (Some e.1)) (get-from_rows es k)
