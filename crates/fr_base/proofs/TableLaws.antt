@@ -1,5 +1,5 @@
 -- What stands in a table after it was made, changed or filtered.
-use Rattle.std.proofs.Common.{◌≡◌, ℕ, Bool, true, false, not, ◌&&◌, cond, List, [], ◌∷◌, map, length, Option, Some, None, is_some, refl, sym, ap, subst, ◌∙◌, arith, Ordering, Less, Equal, Greater}
+use Rattle.std.proofs.Common.{◌≡◌, ℕ, Bool, true, false, not, ◌&&◌, cond, List, [], ◌∷◌, map, filter, length, Option, Some, None, is_some, refl, sym, ap, subst, ◌∙◌, arith, Ordering, Less, Equal, Greater}
 use Rattle.std.specs.Prelude.{T}
 use mathlib.Core.HLevel.{Σ_prop_path}
 use lib.Dec.{T_prop}
@@ -12,6 +12,11 @@ less : (r : Ordering) → T (is_lt r) → r ≡ Less
 less Less h = refl
 less Equal h = absurd h
 less Greater h = absurd h
+
+pub equal : (r : Ordering) → is_eq r ≡ true → r ≡ Equal
+equal Less h = cc
+equal Equal h = refl
+equal Greater h = cc
 
 -- a key below all goes to the front
 pub put_front : {K V : Type 0} (R : K → K → Ordering) (k : K) (v : V) (es : List (K × V)) → T (below_all R k es) → put R k v es ≡ (k, v) ∷ es
@@ -51,3 +56,40 @@ module _ {K V : Type 0} (o : Order K) where
   unfolding from_rows
   get-from_rows [] k = get-empty k
   get-from_rows (e ∷ es) k = get-insert (from_rows es) e.0 e.1 k ∙ ap (cond (eq_by_cmp o.compare k e.0) (Some e.1)) (get-from_rows es k)
+
+-- a value that passes the test
+abbrev pub kept : {K V : Type 0} → (K → V → Bool) → K → Option V → Option V
+kept p k None = None
+kept p k (Some v) = cond (p k v) (Some v) None
+
+module _ {K V : Type 0} (o : Order K) (p : K → V → Bool) where
+  none_above : (k j : K) (es : List (K × V)) → o.compare k j ≡ Equal → T (below_all o.compare j es) → find o.compare k es ≡ None
+  none_above k j [] tie h = refl
+  none_above k j (e ∷ es) tie h =
+      let step : o.compare k e.0 ≡ Less = o.total.congr k j e.0 tie ∙ less (o.compare j e.0) (first _ _ h) in
+      ap (λ r. cond (is_eq r) (Some e.1) (find o.compare k es)) step ∙ none_above k j es tie (second _ _ h)
+
+  find-filter : (k : K) (es : List (K × V)) → T (is_sorted o.compare es) → find o.compare k (filter (λ e. p e.0 e.1) es) ≡ kept p k (find o.compare k es)
+  find-filter k [] h = refl
+  find-filter k (e ∷ es) h =
+      let rest = find-filter k es (second _ _ h) in
+      elim (is_eq (o.compare k e.0)) as (λ t. is_eq (o.compare k e.0) ≡ t → find o.compare k (cond (p e.0 e.1) (e ∷ filter (λ e. p e.0 e.1) es) (filter (λ e. p e.0 e.1) es)) ≡ kept p k (cond t (Some e.1) (find o.compare k es))) [
+        | true ↦ λ t.
+            let tie : o.compare k e.0 ≡ Equal = equal (o.compare k e.0) t in
+            let same : k ≡ e.0 = o.exact k e.0 tie in
+            let none = none_above k e.0 es tie (first _ _ h) in
+            elim (p e.0 e.1) as (λ b. p e.0 e.1 ≡ b → find o.compare k (cond b (e ∷ filter (λ e. p e.0 e.1) es) (filter (λ e. p e.0 e.1) es)) ≡ cond (p k e.1) (Some e.1) None) [
+              | true ↦ λ b. ap (λ r. cond r (Some e.1) (find o.compare k (filter (λ e. p e.0 e.1) es))) t ∙ sym (ap (λ r. cond r (Some e.1) None) (ap (λ j. p j e.1) same ∙ b))
+              | false ↦ λ b. rest ∙ ap (kept p k) none ∙ sym (ap (λ r. cond r (Some e.1) None) (ap (λ j. p j e.1) same ∙ b))
+            ] refl
+        | false ↦ λ t.
+            elim (p e.0 e.1) as (λ b. find o.compare k (cond b (e ∷ filter (λ e. p e.0 e.1) es) (filter (λ e. p e.0 e.1) es)) ≡ kept p k (find o.compare k es)) [
+              | true ↦ ap (λ r. cond r (Some e.1) (find o.compare k (filter (λ e. p e.0 e.1) es))) t ∙ rest
+              | false ↦ rest
+            ]
+      ] refl
+
+  -- a look-up in the rows that pass a test
+  pub get-only : (t : Table o V) (k : K) → get (only p t) k ≡ kept p k (get t k)
+  unfolding get only
+  get-only t k = find-filter k t.rows t.sorted
