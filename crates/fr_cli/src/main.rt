@@ -2,5 +2,9 @@
 #![tactic(auto)]
 
 mod book;
+mod input;
+mod lines;
+mod output;
+mod script_fault;
 
 fn main() {}

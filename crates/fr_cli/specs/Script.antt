@@ -1,0 +1,38 @@
+-- A script: the cluster file, the line `---`, and a line for each request.
+use Rattle.std.specs.Prelude.{ℕ, ◌==◌, nat_lt, Bool, if◌then◌else◌, Option, Some, None, List, [], ◌∷◌, length, filter, codes}
+use Rattle.std.specs.List.{list_any, concat, before_first, after_first}
+use Rattle.std.specs.Str.{bytes_eq}
+use Rattle.std.specs.Str.Lines.{lines}
+
+-- a byte at the front of the first line: a line feed there is a line of its own
+abbrev pub onto_first_line : ℕ → List (List ℕ) → List (List ℕ)
+onto_first_line b [] = (b ∷ []) ∷ []
+onto_first_line b (line ∷ more) = if b == 10 then (b ∷ []) ∷ line ∷ more else (b ∷ line) ∷ more
+
+-- the lines, each with the line feed at its end, which the last may lack
+abbrev pub ended_lines : List ℕ → List (List ℕ)
+ended_lines [] = []
+ended_lines (b ∷ bytes) = onto_first_line b (ended_lines bytes)
+
+-- whether the line, without its end, is `---`
+abbrev pub is_separator : List ℕ → Bool
+is_separator line = list_any (λ text. bytes_eq text (codes "---")) (lines line)
+
+-- the cluster file, which is all before the first line that is `---`, and all after that line
+unfoldable pub parts_of : List ℕ → Option (List ℕ × List ℕ)
+parts_of bytes =
+    let all = ended_lines bytes in
+    if list_any is_separator all then Some (concat (before_first is_separator all), concat (after_first is_separator all)) else None
+
+-- the requests after the separator's line: the lines that are not empty, without their ends
+unfoldable pub request_lines : List ℕ → List (List ℕ)
+request_lines bytes = filter (λ line. nat_lt 0 (length line)) (lines bytes)
+
+-- what stands before the first such byte and after it, if there is one
+abbrev pub parts_around : ℕ → List ℕ → Option (List ℕ × List ℕ)
+parts_around byte bytes =
+    if list_any (λ b. b == byte) bytes then Some (before_first (λ b. b == byte) bytes, after_first (λ b. b == byte) bytes) else None
+
+-- the key is all before the first space of a request's line, and the request's text all after it
+unfoldable pub key_and_text : List ℕ → Option (List ℕ × List ℕ)
+key_and_text line = parts_around 32 line

@@ -1,0 +1,122 @@
+ghost use Rattle.std.specs.Prelude.{◌≡◌, ◌↔◌, ℕ, List, ◌+◌, ◌<◌, ◌≤◌, ◌++◌, length, vec_len, IfSome, IfOk, IfErr, OnOk, IsErrOf};
+ghost use Rattle.std.specs.Io.KnownBytes.{Consumes, IsAtEnd};
+ghost use Rattle.fr_cli.specs.ScriptFault.{script_fault_of};
+ghost use Rattle.fr_cli.specs.declared.input.InputFault.{InputFault};
+
+use crate::script_fault::ScriptFault;
+use std::alloc::{AllocError, Global};
+use std::io::{ErrorKind, Read};
+
+/// The most bytes that a script may have.
+pub const SCRIPT_BYTES: usize = 16_777_216;
+
+/// The most reads in which a script is read, interrupted ones and the one that meets its end included.
+pub const SCRIPT_READS: u32 = 20_000_000;
+
+/// How many bytes one read asks for.
+const PIECE_BYTES: usize = 8192;
+
+/// How much of an input is read.
+#[derive(Clone, Copy, Debug, PartialEq, Eq)]
+pub struct ReadBounds {
+    /// The most bytes that the input may have.
+    pub bytes: usize,
+    /// The most reads, interrupted ones and the one that meets the end included.
+    pub reads: u32,
+}
+
+/// Why an input was not read to its end.
+#[derive(Clone, Copy, Debug, PartialEq, Eq)]
+pub enum InputFault {
+    /// The input has more bytes than the bound.
+    TooLong,
+    /// The input's end was not reached in as many reads as the bound.
+    TooManyReads,
+    /// A read failed, other than by an interruption.
+    ReadFailed,
+    /// There was no memory for the input.
+    NoMemory,
+}
+
+impl From<AllocError> for InputFault {
+    ghost use Rattle.fr_cli.specs.declared.input.InputFault.TheVariants.{NoMemory};
+
+    ghost from_gives = { λ _ fault. fault ≡ NoMemory };
+
+    fn from(_error: AllocError) -> InputFault {
+        InputFault::NoMemory
+    }
+}
+
+impl From<InputFault> for ScriptFault {
+    ghost use Rattle.fr_cli.specs.ScriptFault.{script_fault_of};
+
+    ghost from_gives = { λ fault script_fault. script_fault ≡ script_fault_of fault };
+
+    fn from(fault: InputFault) -> ScriptFault {
+        match fault {
+            InputFault::TooLong => ScriptFault::TooLong,
+            InputFault::TooManyReads => ScriptFault::TooManyReads,
+            InputFault::ReadFailed => ScriptFault::ReadFailed,
+            InputFault::NoMemory => ScriptFault::NoMemory,
+        }
+    }
+}
+
+/// Reads a whole script: at most [`SCRIPT_BYTES`] bytes, in at most [`SCRIPT_READS`] reads. The
+/// faults are those of [`read_within`].
+pub fn read_all<R: Read>(alloc: Global, reader: &mut R) -> Result<Vec<u8>, ScriptFault>
+    ensures whole { IfOk result (λ script. IfSome (R.remaining reader.old) (λ all. script.items ≡ all)) }
+    ensures bound { IfOk result (λ script. vec_len script ≤ SCRIPT_BYTES) }
+    ensures end { OnOk result (IsAtEnd (R.remaining reader.new)) }
+    ensures too_long { IsErrOf result ScriptFault.TooLong → IfSome (R.remaining reader.old) (λ all. SCRIPT_BYTES < length all) }
+    ensures taken { (front : List ℕ) × Consumes (R.remaining reader.old) (R.remaining reader.new) front }
+    ensures fault { IfErr result (λ fault. (input : InputFault) × (fault ≡ script_fault_of input)) }
+{
+    let bounds = ReadBounds {
+        bytes: SCRIPT_BYTES,
+        reads: SCRIPT_READS,
+    };
+    Ok(read_within(alloc, reader, bounds)?)
+}
+
+/// Reads an input to its end. A read that is interrupted is tried again. Faults: `TooLong` once
+/// more bytes came than the bound, `TooManyReads` where the end was not met in as many reads as
+/// the bound, `ReadFailed` where a read failed otherwise, and `NoMemory`.
+pub fn read_within<R: Read>(
+    alloc: Global,
+    reader: &mut R,
+    bounds: ReadBounds,
+) -> Result<Vec<u8>, InputFault>
+    ensures whole { IfOk result (λ input. IfSome (R.remaining reader.old) (λ all. input.items ≡ all)) }
+    ensures bound { IfOk result (λ input. vec_len input ≤ bounds.bytes) }
+    ensures end { OnOk result (IsAtEnd (R.remaining reader.new)) }
+    ensures too_long { IsErrOf result InputFault.TooLong → IfSome (R.remaining reader.old) (λ all. bounds.bytes < length all) }
+    ensures taken { (front : List ℕ) × Consumes (R.remaining reader.old) (R.remaining reader.new) front }
+{
+    let mut input = Vec::new(alloc);
+    let mut piece = [0u8; PIECE_BYTES];
+    for _ in 0..bounds.reads {
+        match reader.read(&mut piece) {
+            Ok(0) => return Ok(input),
+            Ok(n) => append(&mut input, &piece[..n], bounds.bytes)?,
+            Err(error) if error.kind() == ErrorKind::Interrupted => {}
+            Err(_) => return Err(InputFault::ReadFailed),
+        }
+    }
+    Err(InputFault::TooManyReads)
+}
+
+/// Adds a piece to the input's end, unless the input were then longer than the bound.
+fn append(input: &mut Vec<u8>, piece: &[u8], bound: usize) -> Result<(), InputFault>
+    requires { vec_len input.old ≤ bound }
+    ensures ok { OnOk result (input.new.items ≡ input.old.items ++ piece.now) }
+    ensures within { vec_len input.new ≤ bound }
+    ensures too_long { IsErrOf result InputFault.TooLong ↔ (bound < vec_len input.old + length piece.now) }
+{
+    if bound - input.len() < piece.len() {
+        return Err(InputFault::TooLong);
+    }
+    input.extend_from_slice(piece)?;
+    Ok(())
+}

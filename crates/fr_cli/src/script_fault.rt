@@ -1,0 +1,48 @@
+ghost use Rattle.std.specs.Prelude.{◌≡◌, Some};
+ghost use Rattle.fr_cli.specs.ScriptFault.{script_fault_word};
+
+use std::fmt;
+
+/// Why the run of a script ended before all its lines were answered.
+#[derive(Clone, Copy, Debug, PartialEq, Eq)]
+pub enum ScriptFault {
+    /// The script has more than 16,777,216 bytes.
+    TooLong,
+    /// The script's end was not reached in 20,000,000 reads.
+    TooManyReads,
+    /// A read failed, other than by an interruption.
+    ReadFailed,
+    /// No line is `---`.
+    NoSeparator,
+    /// The register in memory could not be made.
+    Unavailable,
+    /// There was no memory for the script or for a line's request or answer.
+    NoMemory,
+    /// An answer could not be written.
+    WriteFailed,
+}
+
+impl ScriptFault {
+    /// The fault's name, which is printed on standard error.
+    pub fn word(&self) -> &'static str
+        ensures { result.now ≡ script_fault_word self.now }
+    {
+        match self {
+            ScriptFault::TooLong => "TooLong",
+            ScriptFault::TooManyReads => "TooManyReads",
+            ScriptFault::ReadFailed => "ReadFailed",
+            ScriptFault::NoSeparator => "NoSeparator",
+            ScriptFault::Unavailable => "Unavailable",
+            ScriptFault::NoMemory => "NoMemory",
+            ScriptFault::WriteFailed => "WriteFailed",
+        }
+    }
+}
+
+impl fmt::Display for ScriptFault {
+    ghost output = { λ fault. Some (script_fault_word fault) };
+
+    fn fmt<W: fmt::Write>(&self, f: &mut fmt::Formatter<W>) -> fmt::Result {
+        f.write_str(self.word())
+    }
+}
