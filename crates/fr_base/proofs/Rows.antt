@@ -3,7 +3,7 @@ use Rattle.std.proofs.Common.{◌≡◌, ℕ, List, [], ◌∷◌, ◌++◌, fal
 use Rattle.std.specs.Prelude.{⊤}
 use Rattle.fr_base.specs.Refusing.{◌>>=◌, ◌>>◌, ◌or◌, refuse◌when◌}
 use Rattle.fr_base.specs.Tables.{empty, get, len, insert, only, from_rows, becomes}
-use Rattle.fr_base.specs.Keys.{numbers, names, channel_order, channels_order, owned, places, placement_order}
+use Rattle.fr_base.specs.Keys.{numbers, names, channel_order, channels_order, owned, channel_slots, placement_order}
 use Rattle.fr_base.specs.Names.{is_name, is_key}
 use Rattle.fr_base.specs.Cycles.{Cycles, cycle_count, all_cycles, cycles_of}
 use Rattle.fr_base.specs.Checks.{name, cycles, slot, channel, channels, check}
@@ -16,8 +16,7 @@ use Rattle.fr_base.specs.declared.answer.Answer.{Answer}
 use Rattle.fr_base.specs.declared.answer.Answer.TheVariants.{Done, Refused, Schedule as Sent}
 use Rattle.fr_base.specs.declared.channel.Channel.TheVariants as ch
 use Rattle.fr_base.specs.declared.channel.Channels.TheVariants as chs
-use Rattle.fr_base.specs.declared.refusal.Refusal.TheVariants.{NotYours, BadName, BadSlot, BadChannel, NoVariant, NotGranted, Exists, NodeDiffers, Taken, CellTaken}
-use Rattle.fr_base.specs.declared.params.RawParams.{RawParams}
+use Rattle.fr_base.specs.declared.refusal.Refusal.TheVariants.{UnknownKey, NotYours, BadName, BadCycles, BadSlot, BadChannel, NoVariant, NoSupplier, NoNode, NoFrame, NotGranted, Exists, NodeDiffers, Limit, Taken, CellTaken}
 use Rattle.fr_base.specs.declared.request.Actor.TheVariants.{Integrator, Supplier}
 use Rattle.fr_base.specs.declared.request.Ask.{Ask}
 use Rattle.fr_base.specs.declared.request.Request.{Request}
@@ -32,18 +31,18 @@ cluster = record {
 }
 
 -- the answers to some requests in turn, from this book
-unfoldable pub answers_from : RawParams → Book → List Ask → List Answer
-answers_from p b [] = []
-answers_from p b (ask ∷ asks) = let o = step p b ask.actor ask.request in o.answer ∷ answers_from p o.book asks
+unfoldable pub answers_from : Cluster → Book → List Ask → List Answer
+answers_from c b [] = []
+answers_from c b (ask ∷ asks) = let o = step c b ask.actor ask.request in o.answer ∷ answers_from c o.book asks
 
 -- the answers of a new register
 unfoldable pub answers : List Ask → List Answer
 unfolding cluster
-answers asks = answers_from cluster.params (opening cluster) asks
+answers asks = answers_from cluster (opening cluster) asks
 
 -- what the rows below unfold
 unfoldable pub a_small_register : ⊤
-unfolding cluster answers answers_from ◌>>=◌ ◌>>◌ ◌or◌ refuse◌when◌ empty get len insert only from_rows becomes numbers names channel_order channels_order owned places placement_order is_name is_key cycle_count all_cycles cycles_of name cycles slot channel channels check cells_of has_cell cluster_cells fill first_taken entries empty_variant opening granted placements_of schedule_of open_variant add_node grant page_of cell_taken add_frame place on_frame change sendings_of reply act outcome step
+unfolding cluster answers answers_from ◌>>=◌ ◌>>◌ ◌or◌ refuse◌when◌ empty get len insert only from_rows becomes numbers names channel_order channels_order owned channel_slots placement_order is_name is_key cycle_count all_cycles cycles_of name cycles slot channel channels check cells_of has_cell cluster_cells fill first_taken entries empty_variant opening granted placements_of schedule_of open_variant add_node grant page_of cell_taken add_frame place on_frame change sendings_of reply act outcome step
 a_small_register = tt
 
 abbrev pub integrator : Request → Ask
@@ -151,3 +150,47 @@ pub refused_lines :
     ≡ Done ∷ Refused NotYours ∷ Refused NotYours ∷ Refused BadName ∷ Refused BadSlot ∷ Refused BadSlot ∷ Refused BadChannel ∷ Refused NoVariant ∷ []
 unfolding a_small_register
 refused_lines = refl
+
+-- of several refusals the first by number
+pub first_refusals :
+    answers (
+      integrator (OpenVariant (codes "v1"))
+      ∷ integrator (AddNode (codes "s1") (codes "n1"))
+      ∷ integrator (Grant (codes "v1") 1 (codes "A") (codes "s1") (codes "n1"))
+      ∷ s1 (AddFrame (codes "v1") (codes "f") (codes "n1"))
+      ∷ s1 (Place (codes "1v") (codes "f") 0 (codes "C") 5 3)
+      ∷ s1 (Place (codes "v9") (codes "f") 0 (codes "C") 5 3)
+      ∷ s1 (Place (codes "v9") (codes "f") 5 (codes "C") 0 1)
+      ∷ s1 (Place (codes "v9") (codes "f") 4 (codes "C") 0 1)
+      ∷ s1 (Place (codes "v9") (codes "g") 4 (codes "AB") 0 1)
+      ∷ s1 (Place (codes "v1") (codes "g") 4 (codes "AB") 0 1)
+      ∷ s1 (Place (codes "v1") (codes "f") 1 (codes "A") 0 8)
+      ∷ s1 (Place (codes "v1") (codes "f") 1 (codes "A") 1 8)
+      ∷ s1 (Place (codes "v1") (codes "f") 1 (codes "A") 2 8)
+      ∷ s1 (Place (codes "v1") (codes "f") 1 (codes "A") 3 8)
+      ∷ s1 (Place (codes "v1") (codes "f") 1 (codes "A") 4 8)
+      ∷ s1 (Place (codes "v1") (codes "f") 1 (codes "A") 5 8)
+      ∷ s1 (Place (codes "v1") (codes "f") 1 (codes "A") 6 8)
+      ∷ s1 (Place (codes "v1") (codes "f") 1 (codes "A") 7 8)
+      ∷ s1 (Place (codes "v1") (codes "f") 3 (codes "A") 7 8)
+      ∷ s1 (Place (codes "v1") (codes "f") 1 (codes "A") 7 8)
+      ∷ s1 (AddFrame (codes "v1") (codes "f") (codes "n9"))
+      ∷ s1 (AddFrame (codes "v1") (codes "f") (codes "n1"))
+      ∷ integrator (Grant (codes "v9") 1 (codes "A") (codes "s9") (codes "n9"))
+      ∷ integrator (Grant (codes "v1") 1 (codes "A") (codes "s9") (codes "n9"))
+      ∷ integrator (Grant (codes "v1") 1 (codes "A") (codes "s2") (codes "n1"))
+      ∷ integrator (AddNode (codes "s9") (codes "n1"))
+      ∷ integrator (AddNode (codes "s1") (codes "n1"))
+      ∷ integrator (OpenVariant (codes "v1"))
+      ∷ record { actor = Supplier (codes "s3"); request = OpenVariant (codes "1v") }
+      ∷ [])
+    ≡ Done ∷ Done ∷ Done ∷ Done
+      ∷ Refused BadName ∷ Refused BadCycles ∷ Refused BadSlot ∷ Refused BadChannel ∷ Refused NoVariant ∷ Refused NoFrame
+      ∷ Done ∷ Done ∷ Done ∷ Done ∷ Done ∷ Done ∷ Done ∷ Done
+      ∷ Refused NotGranted ∷ Refused Limit
+      ∷ Refused NoNode ∷ Refused Exists
+      ∷ Refused NoVariant ∷ Refused NoSupplier ∷ Refused NoNode
+      ∷ Refused NoSupplier ∷ Refused Exists ∷ Refused Exists
+      ∷ Refused UnknownKey ∷ []
+unfolding a_small_register
+first_refusals = refl

@@ -1,14 +1,12 @@
 -- The register's rows, over all suppliers.
 use Rattle.std.specs.Prelude.{ℕ, Bool, true, false, ◌&&◌, List, ◌∷◌, map, Option, Some, None, is_some, ⊤}
 use Rattle.std.specs.List.{flat_map, list_all}
-use Rattle.std.specs.Ordering.{nat_cmp, is_eq}
-use Rattle.std.specs.Cmp.Lexicographic.{slice_cmp}
 use Rattle.fr_base.specs.Tables.{Table, empty, get, contains, from_rows}
-use Rattle.fr_base.specs.Keys.{names, owned, places, placement_order}
+use Rattle.fr_base.specs.Keys.{names, owned, channel_slots, placement_order}
 use Rattle.fr_base.specs.Cells.{Cell}
 use Rattle.fr_base.specs.Channels.{channels_in}
 use Rattle.fr_base.specs.Schedule.{fill}
-use Rattle.fr_base.specs.Cluster.{Cluster}
+use Rattle.fr_base.specs.Cluster.{Cluster, same_text}
 use Rattle.fr_base.specs.declared.channel.Channel.{Channel}
 use Rattle.fr_base.specs.declared.key.Key.{Key}
 use Rattle.fr_base.specs.declared.name.Name.{Name}
@@ -30,7 +28,7 @@ pub record Variant : Type 0 where
   pub parent : Option Name
   pub depth : ℕ
   pub released : Bool
-  pub grants : Table places Holder
+  pub grants : Table channel_slots Holder
   pub frames : Table owned Frame
 
 -- the suppliers with their keys, their nodes, and the variants
@@ -47,24 +45,21 @@ empty_variant = record { parent = None; depth = 1; released = false; grants = em
 unfoldable pub opening : Cluster → Book
 opening c = record { suppliers = from_rows (map (λ s. (s.name, s.key)) c.suppliers); nodes = empty; variants = empty }
 
--- whether two texts are the same
-abbrev pub same_name : Name → Name → Bool
-same_name a b = is_eq (slice_cmp nat_cmp a b)
-
--- whether slot and channel are held, by this supplier, and with this node
+-- whether slot and channel are held by this supplier
 abbrev pub held_by : Name → Option Holder → Bool
 held_by s None = false
-held_by s (Some h) = same_name h.supplier s
+held_by s (Some h) = same_text h.supplier s
 
+-- whether slot and channel are held by this supplier with this node
 abbrev pub held_by_node : Name → Name → Option Holder → Bool
 held_by_node s n None = false
-held_by_node s n (Some h) = same_name h.supplier s && same_name h.node n
+held_by_node s n (Some h) = same_text h.supplier s && same_text h.node n
 
 -- whether the supplier's node holds the placement's slot on each of its channels
-unfoldable pub granted : Table places Holder → Name → Name → Placement → Bool
+unfoldable pub granted : Table channel_slots Holder → Name → Name → Placement → Bool
 granted grants s n q = list_all (λ c. held_by_node s n (get grants (q.slot, c))) (channels_in q.channels)
 
--- whose a frame in a cell is
+-- the frame that is sent in a cell: its supplier, its name, and its node
 pub record Owner : Type 0 where
   pub supplier : Name
   pub frame : Name

@@ -6,10 +6,10 @@ use Rattle.std.specs.List.{flat_map, list_any, range_with_len}
 use Rattle.fr_base.specs.Cycles.{all_cycles, cycles_of}
 use Rattle.fr_base.specs.Channels.{channel_number, channels_in}
 use Rattle.fr_base.specs.declared.channel.Channel.{Channel}
-use Rattle.fr_base.specs.declared.params.RawParams.{RawParams}
+use Rattle.fr_base.specs.declared.params.Params.{Params}
 use Rattle.fr_base.specs.declared.placement.Placement.{Placement}
 
--- what one frame fills: a cycle, a static slot and a channel
+-- what at most one frame may fill: a cycle, a static slot and a channel
 pub record Cell : Type 0 where
   pub cycle : ℕ
   pub slot : ℕ
@@ -36,9 +36,9 @@ unfoldable pub has_cell : Placement → Cell → Bool
 has_cell q c = list_any (same_cell c) (cells_of q)
 
 -- the static slots of a cluster, numbered from 1
-abbrev pub slots_of : RawParams → List ℕ
+abbrev pub slots_of : Params → List ℕ
 slots_of p = range_with_len 1 p.static_slots
 
 -- all cells of a cluster
-unfoldable pub cluster_cells : RawParams → List Cell
+unfoldable pub cluster_cells : Params → List Cell
 cluster_cells p = cells_in all_cycles (slots_of p) (channels_in p.channels)

@@ -8,7 +8,7 @@ use Rattle.fr_base.specs.Channels.{channels_in, has_channel, channel_of_text, ch
 use Rattle.fr_base.specs.declared.channel.Channel.{Channel}
 use Rattle.fr_base.specs.declared.channel.Channels.{Channels}
 use Rattle.fr_base.specs.declared.name.Name.{Name}
-use Rattle.fr_base.specs.declared.params.RawParams.{RawParams}
+use Rattle.fr_base.specs.declared.params.Params.{Params}
 use Rattle.fr_base.specs.declared.refusal.Refusal.{Refusal}
 use Rattle.fr_base.specs.declared.refusal.Refusal.TheVariants.{NotYours, BadName, BadCycles, BadSlot, BadChannel}
 use Rattle.fr_base.specs.declared.request.Actor.{Actor}
@@ -35,25 +35,25 @@ cycles base repetition =
     if is_cycle_set base repetition then Ok (record { base = base; repetition = repetition }) else Err BadCycles
 
 -- a static slot of the cluster
-unfoldable pub slot : RawParams → ℕ → Result ℕ Refusal
+unfoldable pub slot : Params → ℕ → Result ℕ Refusal
 slot p n = if nat_le 1 n && nat_le n p.static_slots then Ok n else Err BadSlot
 
 -- a channel that the cluster has
-unfoldable pub channel : RawParams → List ℕ → Result Channel Refusal
+unfoldable pub channel : Params → List ℕ → Result Channel Refusal
 channel p text = do
   c ← channel_of_text text or BadChannel
   refuse BadChannel when not (has_channel p.channels c)
   Ok c
 
 -- channels that the cluster has
-unfoldable pub channels : RawParams → List ℕ → Result Channels Refusal
+unfoldable pub channels : Params → List ℕ → Result Channels Refusal
 channels p text = do
   cs ← channels_of_text text or BadChannel
   refuse BadChannel when not (list_all (has_channel p.channels) (channels_in cs))
   Ok cs
 
 -- the request with checked values
-unfoldable pub check : RawParams → Actor → Request → Result Checked Refusal
+unfoldable pub check : Params → Actor → Request → Result Checked Refusal
 check p actor (request.OpenVariant variant) = do
   refuse NotYours when not (is_integrator actor)
   v ← name variant
@@ -63,13 +63,13 @@ check p actor (request.AddNode supplier node) = do
   s ← name supplier
   n ← name node
   Ok (checked.Command (AddNode s n))
-check p actor (request.Grant variant number on supplier node) = do
+check p actor (request.Grant variant number text supplier node) = do
   refuse NotYours when not (is_integrator actor)
   v ← name variant
   s ← name supplier
   n ← name node
   k ← slot p number
-  c ← channel p on
+  c ← channel p text
   Ok (checked.Command (Grant v k c s n))
 check p actor (request.AddFrame variant frame node) = do
   refuse NotYours when is_integrator actor
@@ -77,13 +77,13 @@ check p actor (request.AddFrame variant frame node) = do
   f ← name frame
   n ← name node
   Ok (checked.Command (AddFrame v f n))
-check p actor (request.Place variant frame number on base repetition) = do
+check p actor (request.Place variant frame number text base repetition) = do
   refuse NotYours when is_integrator actor
   v ← name variant
   f ← name frame
   r ← cycles base repetition
   k ← slot p number
-  cs ← channels p on
+  cs ← channels p text
   Ok (checked.Command (Place v f (record { slot = k; channels = cs; cycles = r })))
 check p actor (request.Schedule variant) = do
   v ← name variant

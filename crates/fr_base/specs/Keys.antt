@@ -73,8 +73,8 @@ unfoldable pub owned : Order (Name × Name)
 owned = pairs_by names names
 
 -- a slot, and then a channel
-unfoldable pub places : Order (ℕ × Channel)
-places = pairs_by numbers channel_order
+unfoldable pub channel_slots : Order (ℕ × Channel)
+channel_slots = pairs_by numbers channel_order
 
 -- placements by slot, channels, base and repetition
 abbrev pub placement_key : Placement → (ℕ × Channels) × (ℕ × ℕ)

@@ -73,7 +73,8 @@ pub enum Refusal {
         /// The signal that uses it.
         signal: Name,
     },
-    /// The store or memory refused. It changes nothing, and may come at any point.
+    /// The store or memory refused. It changes nothing, and may come at any point, but never in place
+    /// of a refusal by the request itself, numbers 3 to 8.
     Unavailable,
 }
 
@@ -81,7 +82,7 @@ impl Refusal {
     ghost use Rattle.std.specs.Prelude.{◌≡◌};
     ghost use Rattle.fr_base.specs.Refusals.{number_of, name_of, status_of};
 
-    /// The refusal's number, 1 to 28: its place in the order in which refusals are tried.
+    /// The refusal's number, 1 to 28: its place in the table of refusals.
     pub fn number(&self) -> u8
         ensures { result ≡ number_of self.now }
     {
