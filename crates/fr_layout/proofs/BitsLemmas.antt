@@ -1,22 +1,20 @@
 -- Laws of the payload bits of signals.
-use Rattle.std.proofs.Common.{◌≡◌, ℕ, zero, suc, ◌+◌, ◌-◌, ◌*◌, ◌/◌, ◌%◌, ◌^◌, ◌<◌, Bool, true, false, ◌&&◌, ◌||◌, List, [], ◌∷◌, take, length, get_or, IsTrue, AllPairs, ◌⊎◌, inl, inr, reverse, Option, Some, None, refl, sym, ◌∙◌, ap, arith, pow-suc, eqb, ltb, leb, cond}
-use Rattle.std.specs.List.{range_with_len, list_any}
+use Rattle.std.proofs.Common.{◌≡◌, ℕ, zero, suc, ◌+◌, ◌-◌, ◌*◌, ◌/◌, ◌%◌, ◌^◌, ◌<◌, ◌≤◌, Bool, true, false, ◌&&◌, ◌||◌, List, [], ◌∷◌, take, length, get_or, IsTrue, AllPairs, ◌⊎◌, inl, inr, reverse, Option, Some, None, refl, sym, ◌∙◌, ap, arith, pow-suc, eqb, ltb, leb, cond}
+use Rattle.std.specs.List.{range_with_len, list_any, list_all}
 use Rattle.std.specs.Option.{option_map, option_map_or}
 use Rattle.std.specs.Int.{bit_at}
 use Rattle.std.proofs.lemmas.Bool.Decides.{nat_tests, Decides-eqb}
-use Rattle.std.proofs.lemmas.List.{get_or-reverse, length-reverse}
+use Rattle.std.proofs.lemmas.List.{get_or-reverse, length-reverse, reverse-append}
 use Rattle.std.proofs.lemmas.List.FromFn.{get_or-range_with_len, length-range_with_len}
+use Rattle.std.proofs.lemmas.List.Folds.{list_all-append}
 use Rattle.std.proofs.lemmas.Nat.Bits.{bit_at-suc, bit_at-zero, bit_at_lowest}
 use Rattle.std.proofs.lemmas.List.Sorted.{list_any-IsPermutation, IsPermutation-sym, IsPermutation-reverse}
+use Rattle.fr_layout.specs.Along.{mirror, along}
 use Rattle.fr_base.specs.Signals.{SignalData}
 use Rattle.fr_base.specs.declared.signal.Order.{Order}
 use Rattle.fr_base.specs.declared.signal.Order.TheVariants.{Little, Big}
-use Rattle.fr_base.specs.Layouts.{AreApart}
+use Rattle.fr_base.specs.Layouts.{AreApart, lies_inside}
 use Rattle.fr_base.specs.Bits.{bits_of, run_of, run_big, after_big, entry_of, uses, from_bits, image_bit}
-
--- the position with the bits of its byte counted from the other end
-abbrev pub mirror : ℕ → ℕ
-mirror p = p / 8 * 8 + (7 - p % 8)
 
 pub mirror-mirror : (p : ℕ) → mirror (mirror p) ≡ p
 mirror-mirror p = omega arith
@@ -65,11 +63,6 @@ place-same Big start n i j hi hj e =
     let same : mirror start + (n - 1 - i) ≡ mirror start + (n - 1 - j) = mirror-same (mirror start + (n - 1 - i)) (mirror start + (n - 1 - j)) e in
     omega arith
 
--- along a run the positions, or those with each byte's bits counted from the other end, rise by one
-abbrev pub along : Order → ℕ → ℕ
-along Little p = p
-along Big p = mirror p
-
 pub along_below : (o : Order) (p n : ℕ) → p < 8 * n → along o p < 8 * n
 along_below Little p n h = h
 along_below Big p n h = mirror_below p n h
@@ -106,9 +99,9 @@ list_any-run_of Big p start n =
     ∙ list_any-run_big p start n
 
 -- a signal's bits are the positions from its start on, along its order
-pub uses-along : (s : SignalData) (p : ℕ) → uses s p ≡ (leb (along s.order s.start) (along s.order p) && ltb (along s.order p) (along s.order s.start + s.length))
+pub uses_along : (s : SignalData) (p : ℕ) → uses s p ≡ (leb (along s.order s.start) (along s.order p) && ltb (along s.order p) (along s.order s.start + s.length))
 unfolding bits_of
-uses-along s p = list_any-run_of s.order p s.start s.length
+uses_along s p = list_any-run_of s.order p s.start s.length
 
 pub length-bits_of : (s : SignalData) → length (bits_of s) ≡ s.length
 unfolding bits_of
@@ -242,3 +235,50 @@ from_bits_all (b ∷ bs) v below each =
     let lowest : b ≡ v % 2 = each 0 (omega arith) ∙ bit_at_lowest v in
     let rest : from_bits bs ≡ v / 2 = from_bits_all bs (v / 2) (omega (arith, pow-suc 2 (length bs))) (λ i h. each (suc i) (omega arith) ∙ bit_at-suc v i) in
     omega (arith, lowest, rest)
+
+-- the signal's bits lie inside a payload where its last one along its order does
+list_all-range : (a m n : ℕ) → list_all (λ p. ltb p m) (range_with_len a (suc n)) ≡ leb (a + suc n) m
+list_all-range a m zero = grind (arith, nat_tests)
+list_all-range a m (suc n) = ap (λ b. ltb a m && b) (list_all-range (a + 1) m n) ∙ range_more a m n
+  where
+    range_more : (a m n : ℕ) → (ltb a m && leb (a + 1 + suc n) m) ≡ leb (a + suc (suc n)) m
+    range_more a m n = grind (arith, nat_tests)
+
+list_all-reverse : (p : ℕ → Bool) (xs : List ℕ) → list_all p (reverse xs) ≡ list_all p xs
+list_all-reverse p [] = refl
+list_all-reverse p (x ∷ xs) =
+    ap (list_all p) (reverse-append (x ∷ []) xs)
+    ∙ (list_all-append p (reverse xs) (x ∷ [])
+    ∙ (ap (λ b. b && (p x && true)) (list_all-reverse p xs) ∙ turned (list_all p xs) (p x)))
+  where
+    turned : (a b : Bool) → (a && (b && true)) ≡ (b && a)
+    turned true true = refl
+    turned true false = refl
+    turned false true = refl
+    turned false false = refl
+
+mirror_within : (p m : ℕ) → ltb p (16 * m) ≡ ltb (mirror p) (16 * m)
+mirror_within p m =
+    let there : p < 16 * m → mirror p < 16 * m = λ h. omega arith in
+    let back : mirror p < 16 * m → p < 16 * m = λ h. omega arith in
+    grind (arith, nat_tests, there, back)
+
+list_all-run_big : (s m n : ℕ) → list_all (λ p. ltb p (16 * m)) (run_big s (suc n)) ≡ leb (mirror s + suc n) (16 * m)
+list_all-run_big s m zero = ap (λ b. b && true) (mirror_within s m) ∙ grind (arith, nat_tests)
+list_all-run_big s m (suc n) =
+    ap (λ b. ltb s (16 * m) && b) (list_all-run_big (after_big s) m n)
+    ∙ (ap (λ b. b && leb (mirror (after_big s) + suc n) (16 * m)) (mirror_within s m)
+    ∙ (ap (λ r. ltb (mirror s) (16 * m) && leb (r + suc n) (16 * m)) (mirror-after_big s)
+    ∙ run_further (mirror s) (16 * m) n))
+  where
+    run_further : (a m n : ℕ) → (ltb a m && leb (a + 1 + suc n) m) ≡ leb (a + suc (suc n)) m
+    run_further a m n = grind (arith, nat_tests)
+
+list_all-run_of : (o : Order) (start m n : ℕ) → 1 ≤ n → list_all (λ p. ltb p (16 * m)) (run_of o start n) ≡ leb (along o start + n) (16 * m)
+list_all-run_of o start m zero h = absurd (omega arith)
+list_all-run_of Little start m (suc n) h = list_all-range start (16 * m) n
+list_all-run_of Big start m (suc n) h = list_all-reverse (λ p. ltb p (16 * m)) (run_big start (suc n)) ∙ list_all-run_big start m n
+
+pub lies_inside_along : (s : SignalData) (words : ℕ) → 1 ≤ s.length → lies_inside words s ≡ leb (along s.order s.start + s.length) (16 * words)
+unfolding bits_of
+lies_inside_along s words h = list_all-run_of s.order s.start words s.length h
