@@ -1,2 +1,3 @@
 mod LineLemmas
 mod StreamLemmas
+pub mod RequestTextLemmas

@@ -6,5 +6,6 @@ mod input;
 mod lines;
 mod output;
 mod script_fault;
+mod request_text;
 
 fn main() {}
