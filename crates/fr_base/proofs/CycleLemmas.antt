@@ -3,6 +3,7 @@ use Rattle.std.proofs.Common.{◌≡◌, ◌≢◌, ℕ, zero, suc, ◌+◌, ◌
 use Rattle.std.proofs.Math.Nat.{mod-mod_of_dvd, mod-eq_of_lt}
 use Rattle.std.proofs.lemmas.Nat.Gcd.{dvd_of_mod-eq-zero}
 use Rattle.std.proofs.lemmas.Bool.{eqb-true, eqb-false, eq-eqb, ne_eqb, ltb-true, and_parts, and_from, and_left, and_right, or_cases, cases_Bool, cases_eq, cases_lt, true≢false}
+use Rattle.std.proofs.Math.Bool.{and_comm}
 use Rattle.std.specs.List.{filter, find, list_any, range_with_len}
 use Rattle.fr_base.specs.Cycles.{Cycles, is_repetition, is_cycle_set, selects, cycle_count, all_cycles, cycles_of, has_cycle, first_common}
 
@@ -128,9 +129,9 @@ first_common-Some : (s t : Cycles) (k : ℕ) → k < cycle_count → selects s k
 unfolding first_common has_cycle cycles_of all_cycles
 first_common-Some s t k h sk tk below = find-both_Some (selects s) (selects t) cycle_count k h sk tk below
 
-first_common-None : (s t : Cycles) → ((j : ℕ) → (selects s j && selects t j) ≡ false) → first_common s t ≡ None
+first_common-None : (s t : Cycles) → ((j : ℕ) → j < cycle_count → (selects s j && selects t j) ≡ false) → first_common s t ≡ None
 unfolding first_common has_cycle cycles_of all_cycles
-first_common-None s t none = find-both_None (selects s) (selects t) cycle_count (λ j l. none j)
+first_common-None s t none = find-both_None (selects s) (selects t) cycle_count none
 
 -- a cycle set, as a fact
 abbrev pub IsCycleSet : Cycles → Type 0
@@ -178,4 +179,74 @@ first_common-missed d p hd hp l ne =
     λ j. elim (cases_Bool (selects p j)) [ inl t ↦ and_left _ _ (apart d p hd hp l ne j t) | inr f ↦ and_right _ _ f ] in
     let none_back : (j : ℕ) → (selects p j && selects d j) ≡ false =
     λ j. elim (cases_Bool (selects p j)) [ inl t ↦ and_right _ _ (apart d p hd hp l ne j t) | inr f ↦ and_left _ _ f ] in
-    (first_common-None d p none, first_common-None p d none_back)
+    (first_common-None d p (λ j l. none j), first_common-None p d (λ j l. none_back j))
+
+-- whether both sets have the cycle
+abbrev pub both_have : Cycles → Cycles → ℕ → Bool
+both_have s t c = has_cycle s c && has_cycle t c
+
+-- a cycle that is first among those of both sets
+pub record IsFirstCommon (s t : Cycles) (c : ℕ) : Type 0 where
+  pub first : has_cycle s c ≡ true
+  pub second : has_cycle t c ≡ true
+  pub below : (j : ℕ) → j < c → both_have s t j ≡ false
+
+-- below a bound a test passes at a least number, or nowhere
+least : (p : ℕ → Bool) (n : ℕ) → ((k : ℕ) × (p k ≡ true) × ((j : ℕ) → j < k → p j ≡ false)) ⊎ ((j : ℕ) → j < n → p j ≡ false)
+least p zero = inr (λ j h. absurd (omega arith))
+least p (suc n) = elim (least p n) [
+  | inl found ↦ inl found
+  | inr none ↦ elim (cases_Bool (p n)) [
+    | inl t ↦ inl (n, t, none)
+    | inr f ↦ inr (λ j h. elim (cases_eq j n) [ inl e ↦ rw e f | inr ne ↦ none j (omega (arith, ne)) ])
+  ]
+]
+
+-- there is a first common cycle, or no common one
+pub first_or_none : (s t : Cycles) → ((c : ℕ) × IsFirstCommon s t c) ⊎ ((j : ℕ) → both_have s t j ≡ false)
+first_or_none s t = elim (least (both_have s t) cycle_count) [
+  | inl found ↦ let has = and_parts _ _ found.1 in inl (found.0, record { first = has.0; second = has.1; below = found.2 })
+  | inr none ↦ inr (λ j. elim (cases_lt j cycle_count) [ inl l ↦ none j l | inr l ↦ and_left _ _ (has_cycle-out s j l) ])
+]
+
+-- the sets select together what they have together
+selects-both : (s t : Cycles) (j : ℕ) → j < cycle_count → both_have s t j ≡ false → (selects s j && selects t j) ≡ false
+selects-both s t j l h = rw (has_cycle-in s j l, has_cycle-in t j l) at h
+
+-- the first common cycle is the answer
+pub first_common_is : (s t : Cycles) (c : ℕ) → IsFirstCommon s t c → first_common s t ≡ Some c
+first_common_is s t c h =
+    let l = below-has_cycle s c h.first in
+    first_common-Some s t c l (sym (has_cycle-in s c l) ∙ h.first) (sym (has_cycle-in t c l) ∙ h.second) (λ j m. let low : j < cycle_count = omega arith in selects-both s t j low (h.below j m))
+
+-- where no cycle is in both, there is no answer
+pub first_common_nowhere : (s t : Cycles) → ((j : ℕ) → both_have s t j ≡ false) → first_common s t ≡ None
+first_common_nowhere s t none = first_common-None s t (λ j l. selects-both s t j l (none j))
+
+None≢Some : (c : ℕ) → (let none : Option ℕ = None in none ≢ Some c)
+None≢Some c e = cc
+
+-- what is answered is the first common cycle
+pub IsFirstCommon-answered : (s t : Cycles) (c : ℕ) → first_common s t ≡ Some c → IsFirstCommon s t c
+IsFirstCommon-answered s t c e = elim (first_or_none s t) [
+  | inl found ↦ let answers : Some found.0 ≡ Some c = sym (first_common_is s t found.0 found.1) ∙ e in
+      let same : found.0 ≡ c = cc in
+      subst (λ k. IsFirstCommon s t k) same found.1
+  | inr none ↦ absurd (None≢Some c (sym (first_common_nowhere s t none) ∙ e))
+]
+
+-- where nothing is answered, no cycle is in both
+pub none_common : (s t : Cycles) → first_common s t ≡ None → (j : ℕ) → both_have s t j ≡ false
+none_common s t e = elim (first_or_none s t) [
+  | inl found ↦ absurd (None≢Some found.0 (sym e ∙ first_common_is s t found.0 found.1))
+  | inr none ↦ none
+]
+
+-- the order of the two sets does not matter
+pub first_common_comm : (s t : Cycles) → first_common s t ≡ first_common t s
+first_common_comm s t = elim (first_or_none s t) [
+  | inl found ↦
+      let back : IsFirstCommon t s found.0 = record { first = found.1.second; second = found.1.first; below = λ j l. and_comm (has_cycle t j) (has_cycle s j) ∙ found.1.below j l } in
+      first_common_is s t _ found.1 ∙ sym (first_common_is t s _ back)
+  | inr none ↦ first_common_nowhere s t none ∙ sym (first_common_nowhere t s (λ j. and_comm (has_cycle t j) (has_cycle s j) ∙ none j))
+]

@@ -80,3 +80,44 @@ impl Channels {
         }
     }
 }
+
+#[cfg(test)]
+mod tests {
+    use super::{Channel, Channels};
+
+    #[test]
+    fn reads_and_writes(rt: HostRuntime) {
+        assert_eq!(rt; Channel::read("A"), Some(Channel::A));
+        assert_eq!(rt; Channel::read("B"), Some(Channel::B));
+        assert_eq!(rt; Channel::A.as_str(), "A");
+        assert_eq!(rt; Channel::B.as_str(), "B");
+        for text in ["", "a", "AB", "C", "A "] {
+            assert_eq!(rt; Channel::read(text), None, "{text}");
+        }
+        for (text, channels) in [("A", Channels::A), ("AB", Channels::AB), ("B", Channels::B)] {
+            assert_eq!(rt; Channels::read(text), Some(channels));
+            assert_eq!(rt; channels.as_str(), text);
+        }
+        for text in ["", "ab", "BA", "AA", "AB\n"] {
+            assert_eq!(rt; Channels::read(text), None, "{text}");
+        }
+    }
+
+    #[test]
+    fn has(rt: HostRuntime) {
+        for (channels, a, b) in [
+            (Channels::A, true, false),
+            (Channels::AB, true, true),
+            (Channels::B, false, true),
+        ] {
+            assert_eq!(rt; channels.has(Channel::A), a);
+            assert_eq!(rt; channels.has(Channel::B), b);
+        }
+    }
+
+    #[test]
+    fn orders(rt: HostRuntime) {
+        assert!(rt; Channel::A < Channel::B);
+        assert!(rt; Channels::A < Channels::AB && Channels::AB < Channels::B);
+    }
+}

@@ -42,3 +42,15 @@ impl Slot {
         self.number
     }
 }
+
+#[cfg(test)]
+mod tests {
+    use super::Slot;
+
+    #[test]
+    fn bounds(rt: HostRuntime) {
+        for (number, want) in [(0, None), (1, Some(1)), (1023, Some(1023)), (1024, None)] {
+            assert_eq!(rt; Slot::new(number).map(|slot| slot.get()), want, "{number}");
+        }
+    }
+}
