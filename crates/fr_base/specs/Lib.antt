@@ -15,6 +15,7 @@ pub mod Cells
 pub mod Schedule
 pub mod Book
 pub mod Step
+pub mod Actors
 pub mod Run
 pub mod Sound
 pub mod Signals

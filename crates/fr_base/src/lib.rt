@@ -3,8 +3,10 @@
 //! definitions that every crate above speaks of.
 #![tactic(auto)]
 
+mod actor;
 mod answer;
 mod channel;
+mod checks;
 mod config;
 mod cycles;
 mod fixed_text;
@@ -20,6 +22,7 @@ mod text;
 
 pub use answer::{Answer, Sending, Sendings};
 pub use channel::{Channel, Channels};
+pub use checks::check;
 pub use config::{Config, Supplier, Suppliers};
 pub use cycles::{BadCycles, CYCLE_COUNT, CycleSet};
 pub use key::Key;
