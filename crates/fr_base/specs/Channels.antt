@@ -31,10 +31,12 @@ channels_number channels.A = 0
 channels_number channels.AB = 1
 channels_number channels.B = 2
 
+-- how a channel is written
 abbrev pub text_of_channel : Channel → List ℕ
 text_of_channel channel.A = codes "A"
 text_of_channel channel.B = codes "B"
 
+-- how channels are written
 abbrev pub text_of_channels : Channels → List ℕ
 text_of_channels channels.A = codes "A"
 text_of_channels channels.AB = codes "AB"

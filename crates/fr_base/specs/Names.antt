@@ -14,6 +14,7 @@ is_digit c = nat_le 48 c && nat_le c 57
 abbrev pub is_name_byte : ℕ → Bool
 is_name_byte c = is_letter c || is_digit c || (c == 95)
 
+-- whether the first byte is a letter
 abbrev pub starts_with_letter : List ℕ → Bool
 starts_with_letter [] = false
 starts_with_letter (c ∷ _) = is_letter c

@@ -6,7 +6,7 @@ use std::alloc::{AllocError, Global};
 use std::marker::Model;
 
 /// What a request is answered.
-#[derive(Drop)]
+#[derive(Debug, Drop)]
 pub enum Answer {
     /// The command was carried out.
     Done,
@@ -31,7 +31,7 @@ pub struct Sending {
 }
 
 /// A list of sendings.
-#[derive(Drop)]
+#[derive(Debug, Drop)]
 pub struct Sendings {
     rows: Vec<Sending>,
 }

@@ -1,8 +1,8 @@
 ghost use Rattle.std.specs.Prelude.{◌≡◌};
 ghost use Rattle.fr_base.specs.Channels.{channel_of_text, channels_of_text, text_of_channel, text_of_channels, has_channel};
 
-/// One of the two channels of a FlexRay cluster (FlexRay Protocol Specification 2.1 Rev. A, 1.2). In
-/// one slot a node may send the same or different data on A and B.
+/// One of the two channels of a FlexRay cluster. In one slot a node may send the same or different data
+/// on A and B (FlexRay Protocol Specification 2.1 Rev. A, chapter 5, media access control).
 #[derive(Clone, Copy, Debug, PartialEq, Eq, PartialOrd, Ord, Hash)]
 pub enum Channel {
     /// Channel A.
@@ -11,7 +11,8 @@ pub enum Channel {
     B,
 }
 
-/// The channels that a cluster has, or on which a frame is sent: one of them, or both.
+/// The channels that a cluster has, or on which a frame is sent: one of them, or both. Their order is
+/// A, AB, B.
 #[derive(Clone, Copy, Debug, PartialEq, Eq, PartialOrd, Ord, Hash)]
 pub enum Channels {
     /// Channel A alone.

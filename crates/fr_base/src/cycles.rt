@@ -2,8 +2,8 @@ ghost use Rattle.std.specs.Prelude.{◌≡◌, Ok, Err, if◌then◌else◌};
 
 use std::marker::Model;
 
-/// How many communication cycles the cycle counter goes through before it starts at 0 again
-/// (FlexRay Protocol Specification 2.1 Rev. A, 5.1).
+/// How many communication cycles the cycle counter goes through before it starts at 0 again: it runs
+/// from 0 to 63 (FlexRay Protocol Specification 2.1 Rev. A, chapter 5, media access control).
 pub const CYCLE_COUNT: u32 = 64;
 
 /// Base and repetition select no set of cycles: the repetition is none of 1, 2, 4, 8, 16, 32 and 64,
@@ -11,9 +11,9 @@ pub const CYCLE_COUNT: u32 = 64;
 #[derive(Clone, Copy, Debug, PartialEq, Eq, Hash)]
 pub struct BadCycles;
 
-/// The cycles `c` of 0 to 63 with `c mod repetition = base`: a base cycle and a cycle repetition, which
-/// is a power of two, as in the cycle filtering of FlexRay controllers. The cycle counter itself is that
-/// of FlexRay Protocol Specification 2.1 Rev. A, 5.1. Sets are ordered by base and then repetition.
+/// The communication cycles `c` of 0 to 63 with `c mod repetition = base`. The repetition is 1, 2, 4, 8,
+/// 16, 32 or 64, and the base below it. This is the register's form of cycle filtering, by which
+/// several frames share a slot and channel. Sets are ordered by base, and then by repetition.
 #[derive(Clone, Copy, Debug, PartialEq, Eq, PartialOrd, Ord, Hash)]
 pub struct CycleSet {
     base: u8,

@@ -3,7 +3,9 @@ use crate::cycles::CycleSet;
 use crate::slot::Slot;
 
 /// Where and when a frame is sent: in one static slot, on one or both channels, in the cycles of a
-/// base and a repetition.
+/// base and a repetition. A frame ID is used at most once on a channel in one cycle (FlexRay Protocol
+/// Specification 2.1 Rev. A, chapter 5, media access control). Placements are ordered by slot,
+/// channels, base and repetition.
 #[derive(Clone, Copy, Debug, PartialEq, Eq, PartialOrd, Ord, Hash)]
 pub struct Placement {
     /// The slot, which is the frame ID.
