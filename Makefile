@@ -22,6 +22,7 @@ install: build
 	install -D -m 755 $(program) $(DESTDIR)$(PREFIX)/bin/slotplan
 
 examples: build
+	@cmp examples/first.script crates/fr_cli/stdin && cmp examples/first.answers crates/fr_cli/stdout
 	@for script in examples/*.script; do \
 	  $(program) run < $$script | diff - $${script%.script}.answers || exit 1; \
 	  echo "$$script is answered as $${script%.script}.answers has it" || exit 1; \
