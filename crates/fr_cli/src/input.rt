@@ -120,3 +120,6 @@ fn append(input: &mut Vec<u8>, piece: &[u8], bound: usize) -> Result<(), InputFa
     input.extend_from_slice(piece)?;
     Ok(())
 }
+
+#[cfg(test)]
+mod tests;

@@ -95,3 +95,6 @@ pub fn flush<W: Write>(writer: &mut W) -> Result<(), WriteFailed>
 {
     writer.flush().map_err(|_| WriteFailed)
 }
+
+#[cfg(test)]
+mod tests;

@@ -46,3 +46,27 @@ impl fmt::Display for ScriptFault {
         f.write_str(self.word())
     }
 }
+
+#[cfg(test)]
+mod tests {
+    use super::ScriptFault;
+    use std::test::Fail;
+
+    #[test]
+    fn a_fault_prints_its_word(rt: HostRuntime) -> Result<(), Fail> {
+        let words = [
+            (ScriptFault::TooLong, "TooLong"),
+            (ScriptFault::TooManyReads, "TooManyReads"),
+            (ScriptFault::ReadFailed, "ReadFailed"),
+            (ScriptFault::NoSeparator, "NoSeparator"),
+            (ScriptFault::Unavailable, "Unavailable"),
+            (ScriptFault::NoMemory, "NoMemory"),
+            (ScriptFault::WriteFailed, "WriteFailed"),
+        ];
+        for (fault, word) in words {
+            let printed = format!(in rt.alloc(); "{fault}")?;
+            assert_eq!(rt; printed.as_str(), word);
+        }
+        Ok(())
+    }
+}
