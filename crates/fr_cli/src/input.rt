@@ -43,8 +43,8 @@ impl From<AllocError> for InputFault {
 
     ghost from_gives = { λ _ fault. fault ≡ NoMemory };
 
-    fn from(_error: AllocError) -> InputFault {
-        InputFault::NoMemory
+    fn from(_error: AllocError) -> Self {
+        Self::NoMemory
     }
 }
 
@@ -53,12 +53,12 @@ impl From<InputFault> for ScriptFault {
 
     ghost from_gives = { λ fault script_fault. script_fault ≡ script_fault_of fault };
 
-    fn from(fault: InputFault) -> ScriptFault {
+    fn from(fault: InputFault) -> Self {
         match fault {
-            InputFault::TooLong => ScriptFault::TooLong,
-            InputFault::TooManyReads => ScriptFault::TooManyReads,
-            InputFault::ReadFailed => ScriptFault::ReadFailed,
-            InputFault::NoMemory => ScriptFault::NoMemory,
+            InputFault::TooLong => Self::TooLong,
+            InputFault::TooManyReads => Self::TooManyReads,
+            InputFault::ReadFailed => Self::ReadFailed,
+            InputFault::NoMemory => Self::NoMemory,
         }
     }
 }

@@ -5,7 +5,7 @@ mod book;
 mod input;
 mod lines;
 mod output;
-mod script_fault;
 mod request_text;
+mod script_fault;
 
 fn main() {}

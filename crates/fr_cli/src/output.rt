@@ -18,8 +18,8 @@ impl From<WriteFailed> for ScriptFault {
 
     ghost from_gives = { λ _ fault. fault ≡ Failed };
 
-    fn from(_failed: WriteFailed) -> ScriptFault {
-        ScriptFault::WriteFailed
+    fn from(_failed: WriteFailed) -> Self {
+        Self::WriteFailed
     }
 }
 
