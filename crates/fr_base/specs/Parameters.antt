@@ -1,5 +1,5 @@
 -- Which parameters make a cluster, and why others do not.
-use Rattle.std.specs.Prelude.{ℕ, ◌+◌, ◌*◌, ◌==◌, Bool, ◌||◌, not, nat_lt, Result, Ok, Err}
+use Rattle.std.specs.Prelude.{ℕ, ◌+◌, ◌*◌, ◌==◌, Bool, ◌||◌, not, nat_lt, List, codes, Result, Ok, Err}
 use Rattle.fr_base.specs.Refusing.{◌>>=◌, ◌>>◌, refuse◌when◌}
 use Rattle.fr_base.specs.declared.params.RawParams.{RawParams}
 use Rattle.fr_base.specs.declared.params.ParamFault.{ParamFault}
@@ -17,3 +17,10 @@ check_params p = do
   refuse BadMacroticks when ((p.slot_macroticks == 0) || (p.idle_macroticks == 0) || nat_lt 16000 p.macroticks_per_cycle)
   refuse BadSum when (not (segments p == p.macroticks_per_cycle))
   Ok p
+
+-- the fault's word
+abbrev pub word_of : ParamFault → List ℕ
+word_of BadSlots = codes "BadSlots"
+word_of BadPayload = codes "BadPayload"
+word_of BadMacroticks = codes "BadMacroticks"
+word_of BadSum = codes "BadSum"

@@ -7,8 +7,11 @@ use crate::params::Params;
 use std::alloc::{AllocError, Global};
 use std::marker::Model;
 
+/// How many suppliers a cluster has at most.
+pub const MAX_SUPPLIERS: usize = 64;
+
 /// A supplier and its key.
-#[derive(Clone, Copy)]
+#[derive(Clone, Copy, Debug, PartialEq, Eq)]
 pub struct Supplier {
     /// The supplier's name.
     pub name: Name,
@@ -17,7 +20,7 @@ pub struct Supplier {
 }
 
 /// A list of suppliers, in any order.
-#[derive(Drop)]
+#[derive(Debug, Drop)]
 pub struct Suppliers {
     list: Vec<Supplier>,
 }
@@ -75,7 +78,7 @@ impl Suppliers {
 /// What a cluster file says: the cluster's parameters, the integrator's key, and the suppliers with
 /// their keys, in byte order of their names. There are at most 64, no name stands twice, and all keys
 /// differ, the integrator's too.
-#[derive(Drop)]
+#[derive(Debug, Drop)]
 pub struct Config {
     params: Params,
     integrator: Key,

@@ -23,7 +23,7 @@ mod text;
 pub use answer::{Answer, Sending, Sendings};
 pub use channel::{Channel, Channels};
 pub use checks::check;
-pub use config::{Config, Supplier, Suppliers};
+pub use config::{Config, MAX_SUPPLIERS, Supplier, Suppliers};
 pub use cycles::{BadCycles, CYCLE_COUNT, CycleSet};
 pub use key::Key;
 pub use name::Name;

@@ -1,7 +1,8 @@
 ghost use Rattle.std.specs.Prelude.{◌≡◌, ◌≤◌, Ok};
-ghost use Rattle.fr_base.specs.Parameters.{check_params, segments};
+ghost use Rattle.fr_base.specs.Parameters.{check_params, segments, word_of};
 
 use crate::channel::Channels;
+use std::fmt::{self, Display, Formatter};
 use std::marker::Model;
 
 /// The parameters of a cluster's static segment as they stand in a cluster file, not checked.
@@ -50,6 +51,31 @@ pub enum ParamFault {
 #[derive(Clone, Copy, Debug, PartialEq, Eq)]
 pub struct Params {
     raw: RawParams,
+}
+
+impl ParamFault {
+    /// The fault's word, as the program prints it.
+    pub fn word(self) -> &'static str
+        ensures { result.now ≡ word_of self }
+    {
+        match self {
+            ParamFault::BadSlots => "BadSlots",
+            ParamFault::BadPayload => "BadPayload",
+            ParamFault::BadMacroticks => "BadMacroticks",
+            ParamFault::BadSum => "BadSum",
+        }
+    }
+}
+
+impl Display for ParamFault {
+    ghost use Rattle.std.specs.Prelude.{Some};
+    ghost use Rattle.fr_base.specs.Parameters.{word_of};
+
+    ghost output = { λ fault. Some (word_of fault) };
+
+    fn fmt<W: fmt::Write>(&self, f: &mut Formatter<W>) -> fmt::Result {
+        f.pad(self.word())
+    }
 }
 
 impl Model for Params {
