@@ -39,3 +39,6 @@ fn is_text_of(key: &Key, bytes: &[u8]) -> bool
 {
     key.as_str().as_bytes() == bytes
 }
+
+#[cfg(test)]
+mod tests;

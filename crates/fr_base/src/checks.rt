@@ -206,3 +206,6 @@ fn has_all(cluster: Channels, wanted: Channels) -> bool
 {
     cluster == Channels::AB || cluster == wanted
 }
+
+#[cfg(test)]
+mod tests;
