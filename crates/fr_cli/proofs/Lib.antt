@@ -1,3 +1,5 @@
 mod LineLemmas
 mod StreamLemmas
 pub mod RequestTextLemmas
+pub mod MapLaws
+pub mod KeyLaws

@@ -1,3 +1,5 @@
 pub mod Script
 pub mod ScriptFault
 pub mod RequestText
+pub mod Rows
+pub mod Variants

@@ -1,11 +1,11 @@
 //! The program `slotplan`.
 #![tactic(auto)]
 
-mod book;
 mod input;
 mod lines;
 mod output;
 mod request_text;
 mod script_fault;
+mod variant;
 
 fn main() {}

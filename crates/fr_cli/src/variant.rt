@@ -1,0 +1,137 @@
+ghost use Rattle.std.specs.Prelude.{◌≡◌, true, OnOk, OnErr, option_map, is_some};
+ghost use Rattle.fr_base.specs.Tables.{empty, get, insert, len, only};
+ghost use Rattle.fr_base.specs.Book.{empty_variant, granted, held_by_node};
+ghost use Rattle.fr_base.specs.Step.{is_of};
+ghost use Rattle.fr_cli.specs.Variants.{variant_of, holder_of, frame_of};
+
+use fr_base::{Channel, Channels, Name, Placement, Slot};
+use std::alloc::{AllocError, Global};
+use std::collections::{BTreeMap, BTreeSet};
+
+/// A supplier, and a name of its own: of a node or of a frame.
+#[derive(Clone, Copy, Debug, PartialEq, Eq, PartialOrd, Ord)]
+pub(crate) struct Owned {
+    pub(crate) supplier: Name,
+    pub(crate) name: Name,
+}
+
+/// A slot on a channel.
+#[derive(Clone, Copy, Debug, PartialEq, Eq, PartialOrd, Ord)]
+pub(crate) struct ChannelSlot {
+    pub(crate) slot: Slot,
+    pub(crate) channel: Channel,
+}
+
+/// A supplier's node that holds a slot on a channel.
+#[derive(Clone, Copy, Debug, PartialEq, Eq)]
+pub(crate) struct Holder {
+    pub(crate) supplier: Name,
+    pub(crate) node: Name,
+}
+
+/// The node that sends a frame, and where it is placed.
+#[derive(Drop)]
+pub(crate) struct Frame {
+    pub(crate) node: Name,
+    pub(crate) placements: BTreeSet<Placement>,
+}
+
+/// The rows of a variant: who holds which slot on which channel, and the frames.
+#[derive(Drop)]
+pub(crate) struct Variant {
+    pub(crate) grants: BTreeMap<ChannelSlot, Holder>,
+    pub(crate) frames: BTreeMap<Owned, Frame>,
+}
+
+impl Variant {
+    /// A variant without rows.
+    pub(crate) fn new(alloc: Global) -> Variant
+        ensures { variant_of result ≡ empty_variant }
+    {
+        Variant {
+            grants: BTreeMap::new(alloc),
+            frames: BTreeMap::new(alloc),
+        }
+    }
+
+    /// Who holds the slot on the channel.
+    pub(crate) fn holder(&self, at: ChannelSlot) -> Option<Holder>
+        ensures { option_map holder_of result ≡ get (variant_of self.now).grants (at.slot, at.channel) }
+    {
+        self.grants.get(&at).copied()
+    }
+
+    /// From now on the holder has the slot on the channel.
+    pub(crate) fn grant(&mut self, at: ChannelSlot, holder: Holder) -> Result<(), AllocError>
+        ensures ok { OnOk result (variant_of self.new ≡ record (variant_of self.old) { grants = insert (variant_of self.old).grants (at.slot, at.channel) (holder_of holder) }) }
+        ensures err { OnErr result (variant_of self.new ≡ variant_of self.old) }
+    {
+        self.grants.insert(at, holder)?;
+        Ok(())
+    }
+
+    /// The frame of this name.
+    pub(crate) fn frame(&self, key: Owned) -> Option<&Frame>
+        ensures { option_map (λ f. frame_of f.now) result ≡ get (variant_of self.now).frames (key.supplier, key.name) }
+    {
+        self.frames.get(&key)
+    }
+
+    /// How many frames the supplier has.
+    pub(crate) fn frame_count(&self, supplier: Name) -> usize
+        ensures { result ≡ len (only (λ k _. is_of supplier k) (variant_of self.now).frames) }
+    {
+        self.frames
+            .keys()
+            .filter(|key| key.supplier == supplier)
+            .count()
+    }
+
+    /// A frame of this name, with no placement, that the node sends.
+    pub(crate) fn add_frame(
+        &mut self,
+        alloc: Global,
+        key: Owned,
+        node: Name,
+    ) -> Result<(), AllocError>
+        ensures ok { OnOk result (variant_of self.new ≡ record (variant_of self.old) { frames = insert (variant_of self.old).frames (key.supplier, key.name) (record { node = node; placements = empty }) }) }
+        ensures err { OnErr result (variant_of self.new ≡ variant_of self.old) }
+    {
+        let frame = Frame {
+            node,
+            placements: BTreeSet::new(alloc),
+        };
+        self.frames.insert(key, frame)?;
+        Ok(())
+    }
+
+    /// Whether the supplier's node holds the slot on the channel.
+    pub(crate) fn is_held(&self, at: ChannelSlot, supplier: Name, node: Name) -> bool
+        ensures { result ≡ held_by_node supplier node (get (variant_of self.now).grants (at.slot, at.channel)) }
+    {
+        self.holder(at) == Some(Holder { supplier, node })
+    }
+
+    /// Whether the supplier's node holds the placement's slot on each of its channels.
+    #[tactic(auto, unfolding(fr_base::specs::Book::granted))]
+    pub(crate) fn is_granted(&self, supplier: Name, node: Name, placement: &Placement) -> bool
+        ensures { result ≡ granted (variant_of self.now).grants supplier node placement.now }
+    {
+        let slot = placement.slot;
+        let on_a = ChannelSlot {
+            slot,
+            channel: Channel::A,
+        };
+        let on_b = ChannelSlot {
+            slot,
+            channel: Channel::B,
+        };
+        match placement.channels {
+            Channels::A => self.is_held(on_a, supplier, node),
+            Channels::AB => {
+                self.is_held(on_a, supplier, node) && self.is_held(on_b, supplier, node)
+            }
+            Channels::B => self.is_held(on_b, supplier, node),
+        }
+    }
+}
