@@ -1,5 +1,11 @@
 -- The runner's keys compare as the register's.
-use Rattle.std.proofs.Common.{◌≡◌, ℕ, Ordering, refl}
+use Rattle.std.proofs.Common.{◌≡◌, ℕ, Ordering, refl, Bool, ◌&&◌, Option, Some, None, option_map}
+use Rattle.std.specs.Option.{option_eq}
+use Rattle.fr_base.specs.Book.{held_by_node}
+use Rattle.fr_base.proofs.ActorsLemmas.{same_bytes}
+use Rattle.fr_cli.specs.Variants.{holder_of}
+use Rattle.fr_cli.specs.declared.variant.Holder.{Holder}
+use Rattle.fr_cli.specs.contracts.variant.HolderPartialEq.TheImpl as by_parts
 use Rattle.std.specs.Ordering.{nat_cmp}
 use Rattle.fr_base.specs.Tables.{Order}
 use Rattle.fr_base.specs.Keys.{numbers, names, channel_order, channels_order, owned, channel_slots, placement_order}
@@ -30,3 +36,8 @@ slots_alike x y = slots_alike_parts x.slot y.slot x.channel y.channel
 pub owned_alike : (x y : Owned) → owned_cmp x y ≡ owned.compare (x.supplier, x.name) (y.supplier, y.name)
 unfolding owned names
 owned_alike x y = refl
+
+-- to be held by a supplier's node is to have this holder
+pub held-eq : (r : Option Holder) (s n : Name) → option_eq by_parts.eq-value.it r (Some (record { supplier = s; node = n })) ≡ held_by_node s n (option_map holder_of r)
+held-eq None s n = refl
+held-eq (Some h) s n = λ i. same_bytes h.supplier s i && same_bytes h.node n i

@@ -1,6 +1,7 @@
 -- A `BTreeMap`'s entries beside the table that they stand for.
-use Rattle.std.proofs.Common.{◌≡◌, ℕ, Bool, true, false, not, ◌&&◌, ◌||◌, cond, List, [], ◌∷◌, map, length, Option, Some, None, is_some, option_map, refl, sym, ap, subst, ◌∙◌, arith, Ordering, Less, Equal, Greater}
+use Rattle.std.proofs.Common.{◌≡◌, ℕ, suc, count_by, Bor, Bool, true, false, not, ◌&&◌, ◌||◌, cond, List, [], ◌∷◌, map, filter, length, Option, Some, None, is_some, option_map, refl, sym, ap, subst, ◌∙◌, arith, Ordering, Less, Equal, Greater}
 use Rattle.std.specs.Prelude.{T, ⊤}
+use Rattle.std.specs.Option.{option_copied}
 use Rattle.std.specs.Ordering.{is_lt, is_eq, eq_by_cmp, match_ordering}
 use Rattle.std.specs.FinMap.Entries.{put, find, is_sorted, is_sorted-put, below_all, by_order}
 use Rattle.std.specs.Map.{keys_of, lookup, set_value}
@@ -9,8 +10,9 @@ use Rattle.std.specs.BTreeSet.{insert_key}
 use Rattle.std.specs.List.{AllByRecursion, list_any}
 use Rattle.std.specs.List.Sorted.{IsStrictlySortedBy}
 use Rattle.std.proofs.lemmas.List.{length-map}
+use Rattle.std.proofs.lemmas.List.Sums.{length-filter}
 use Rattle.fr_base.specs.TableRows.{both, first, second}
-use Rattle.fr_base.specs.Tables.{Order, Table, get, contains, len, insert, from_rows}
+use Rattle.fr_base.specs.Tables.{Order, Table, get, contains, len, insert, only, from_rows}
 use Rattle.fr_base.proofs.TableLaws.{same_rows, rows-from_rows, get-from_rows}
 use Rattle.fr_cli.specs.Rows.{table_of, set_of}
 
@@ -155,3 +157,37 @@ module _ {J K : Type 0} (cmp : J → J → Ordering) (o : Order K) (key : J → 
   pub len-set_of : (ks : List J) → IsStrictlySortedBy cmp ks → len (set_of o key ks) ≡ length ks
   unfolding len
   len-set_of ks h = ap length (rows-set_of ks h) ∙ length-map ks (λ k. (key k, tt))
+
+-- what a reference in an option points to, under a function
+pub copied_map : {X Y : Type 0} (f : X → Y) (r : Option (Bor X)) → option_map (λ b. f b.now) r ≡ option_map f (option_copied r)
+copied_map f None = refl
+copied_map f (Some b) = refl
+
+-- the rows whose key passes a test are as many as the keys that do
+filtered_rows : {J K U V : Type 0} (key : J → K) (value : U → V) (p : K → Bool) (es : List (J × U)) → length {A = K × V} (filter (λ e. p e.0) (map (λ e. (key e.0, value e.1)) es)) ≡ length (filter (λ k. p (key k)) (keys_of es))
+filtered_rows key value p [] = refl
+filtered_rows {K = K} {V = V} key value p (e ∷ es) =
+    elim (p (key e.0)) as (λ b. length {A = K × V} (cond b ((key e.0, value e.1) ∷ filter (λ e. p e.0) (map (λ e. (key e.0, value e.1)) es)) (filter (λ e. p e.0) (map (λ e. (key e.0, value e.1)) es)))
+        ≡ length (cond b (e.0 ∷ filter (λ k. p (key k)) (keys_of es)) (filter (λ k. p (key k)) (keys_of es)))) [
+      | true ↦ ap suc (filtered_rows key value p es)
+      | false ↦ filtered_rows key value p es
+    ]
+
+filtered_set_rows : {J K : Type 0} (key : J → K) (p : K → Bool) (ks : List J) → length {A = K × ⊤} (filter (λ e. p e.0) (map (λ k. (key k, tt)) ks)) ≡ length (filter (λ k. p (key k)) ks)
+filtered_set_rows key p [] = refl
+filtered_set_rows {K = K} key p (k ∷ ks) =
+    elim (p (key k)) as (λ b. length {A = K × ⊤} (cond b ((key k, tt) ∷ filter (λ e. p e.0) (map (λ k. (key k, tt)) ks)) (filter (λ e. p e.0) (map (λ k. (key k, tt)) ks)))
+        ≡ length (cond b (k ∷ filter (λ k. p (key k)) ks) (filter (λ k. p (key k)) ks))) [
+      | true ↦ ap suc (filtered_set_rows key p ks)
+      | false ↦ filtered_set_rows key p ks
+    ]
+
+module _ {J K U V : Type 0} (cmp : J → J → Ordering) (o : Order K) (key : J → K) (value : U → V) (alike : (x y : J) → cmp x y ≡ o.compare (key x) (key y)) where
+  pub len-only-table_of : (p : K → Bool) (es : List (J × U)) → IsStrictlySortedBy cmp (keys_of es) → len (only (λ k _. p k) (table_of o key value es)) ≡ count_by (λ k. p (key k)) (keys_of es)
+  unfolding len only
+  len-only-table_of p es h = ap (λ rs. length {A = K × V} (filter (λ e. p e.0) rs)) (rows-table_of cmp o key value alike es h) ∙ filtered_rows key value p es ∙ length-filter (λ k. p (key k)) (keys_of es)
+
+module _ {J K : Type 0} (cmp : J → J → Ordering) (o : Order K) (key : J → K) (alike : (x y : J) → cmp x y ≡ o.compare (key x) (key y)) where
+  pub len-only-set_of : (p : K → Bool) (ks : List J) → IsStrictlySortedBy cmp ks → len (only (λ k _. p k) (set_of o key ks)) ≡ count_by (λ k. p (key k)) ks
+  unfolding len only
+  len-only-set_of p ks h = ap (λ rs. length {A = K × ⊤} (filter (λ e. p e.0) rs)) (rows-set_of cmp o key alike ks h) ∙ filtered_set_rows key p ks ∙ length-filter (λ k. p (key k)) ks

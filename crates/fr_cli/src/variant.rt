@@ -1,11 +1,13 @@
-ghost use Rattle.std.specs.Prelude.{◌≡◌, true, OnOk, OnErr, option_map, is_some};
+ghost use Rattle.std.specs.Prelude.{◌≡◌, OnOk, OnErr, option_map, count_by};
 ghost use Rattle.fr_base.specs.Tables.{empty, get, insert, len, only};
 ghost use Rattle.fr_base.specs.Book.{empty_variant, granted, held_by_node};
+ghost use Rattle.fr_base.specs.Cluster.{same_text};
 ghost use Rattle.fr_base.specs.Step.{is_of};
 ghost use Rattle.fr_cli.specs.Variants.{variant_of, holder_of, frame_of};
 
 use fr_base::{Channel, Channels, Name, Placement, Slot};
 use std::alloc::{AllocError, Global};
+use std::collections::btree_map::Keys;
 use std::collections::{BTreeMap, BTreeSet};
 
 /// A supplier, and a name of its own: of a node or of a frame.
@@ -13,6 +15,15 @@ use std::collections::{BTreeMap, BTreeSet};
 pub(crate) struct Owned {
     pub(crate) supplier: Name,
     pub(crate) name: Name,
+}
+
+impl Owned {
+    /// Whether it is this supplier's.
+    pub(crate) fn belongs_to(&self, supplier: Name) -> bool
+        ensures { result ≡ same_text self.now.supplier supplier }
+    {
+        self.supplier == supplier
+    }
 }
 
 /// A slot on a channel.
@@ -81,10 +92,7 @@ impl Variant {
     pub(crate) fn frame_count(&self, supplier: Name) -> usize
         ensures { result ≡ len (only (λ k _. is_of supplier k) (variant_of self.now).frames) }
     {
-        self.frames
-            .keys()
-            .filter(|key| key.supplier == supplier)
-            .count()
+        count_of(self.frames.keys(), supplier)
     }
 
     /// A frame of this name, with no placement, that the node sends.
@@ -134,4 +142,11 @@ impl Variant {
             Channels::B => self.is_held(on_b, supplier, node),
         }
     }
+}
+
+// How many of the names are the supplier's.
+fn count_of(names: Keys<'_, Owned, Frame>, supplier: Name) -> usize
+    ensures { result ≡ count_by (λ k. same_text k.supplier supplier) names.entry }
+{
+    names.filter(|name| name.belongs_to(supplier)).count()
 }

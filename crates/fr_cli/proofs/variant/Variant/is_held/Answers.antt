@@ -1,0 +1,13 @@
+use Rattle.std.proofs.Common.{◌∙◌, ap, sym, subst, refl, rules, ◌≡◌, option_map, ◌&&◌, nat_eq, Option, Some, None, false}
+use Rattle.fr_base.specs.Tables.{empty, get, insert, len, only, from_rows}
+use Rattle.fr_base.specs.Keys.{channel_slots, owned, placement_order}
+use Rattle.fr_base.specs.Book as book
+use Rattle.fr_base.specs.Book.{empty_variant}
+use Rattle.fr_cli.specs.Rows.{table_of, set_of}
+use Rattle.fr_cli.specs.Variants.{variant_of, holder_of, frame_of}
+use Rattle.fr_cli.proofs.KeyLaws.{slots_alike, slot_cmp, owned_cmp, owned_alike, held-eq}
+use Rattle.fr_cli.proofs.MapLaws.{get-table_of, table_of-insert_entry, rows-table_of, copied_map}
+use Rattle.fr_cli.proofs.variant.Variant.is_held.Goals as goal
+
+pub returns : goal.returns
+returns c = c.eq.ensures ∙ held-eq c.holder.result c.args.supplier c.args.node ∙ ap (book.held_by_node c.args.supplier c.args.node) c.holder.ensures
