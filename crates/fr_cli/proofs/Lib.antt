@@ -3,3 +3,5 @@ mod StreamLemmas
 pub mod RequestTextLemmas
 pub mod MapLaws
 pub mod KeyLaws
+pub mod ReportLemmas
+pub mod AnswerTextLemmas

@@ -3,3 +3,5 @@ pub mod ScriptFault
 pub mod RequestText
 pub mod Rows
 pub mod Variants
+pub mod Report
+pub mod AnswerText

@@ -1,9 +1,11 @@
 //! The program `slotplan`.
 #![tactic(auto)]
 
+mod answer_text;
 mod input;
 mod lines;
 mod output;
+mod report;
 mod request_text;
 mod script_fault;
 mod variant;
