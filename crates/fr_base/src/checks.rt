@@ -15,8 +15,8 @@ use crate::request::{Actor, Checked, Command, Query, Request};
 use crate::slot::Slot;
 use crate::text::Text;
 
-/// The request with checked values, or its first refusal that needs no register: `NotYours`,
-/// `BadName`, `BadCycles`, `BadSlot`, `BadChannel`, in this order.
+/// The request with checked values, or the first refusal that it meets by itself, whatever the
+/// register holds: `NotYours`, `BadName`, `BadCycles`, `BadSlot`, `BadChannel`, in this order.
 pub fn check(params: &Params, actor: &Actor, request: &Request) -> Result<Checked, Refusal>
     ensures { result ≡ check params.now actor.now request.now }
 {
@@ -26,6 +26,7 @@ pub fn check(params: &Params, actor: &Actor, request: &Request) -> Result<Checke
     }
 }
 
+// The integrator's request.
 fn check_from_integrator(params: &Params, request: &Request) -> Result<Checked, Refusal>
     ensures { result ≡ check params.now Actor.Integrator request.now }
 {
@@ -44,6 +45,7 @@ fn check_from_integrator(params: &Params, request: &Request) -> Result<Checked, 
     }
 }
 
+// A supplier's request.
 fn check_from_supplier(params: &Params, request: &Request) -> Result<Checked, Refusal>
     ensures { (s : Name) → result ≡ check params.now (Actor.Supplier s) request.now }
 {
@@ -79,7 +81,8 @@ fn open_variant(variant: &Text) -> Result<Checked, Refusal>
 
 #[tactic(auto, unfolding(crate::proofs::ChecksLemmas::checks_open))]
 fn add_node(supplier: &Text, node: &Text) -> Result<Checked, Refusal>
-    ensures { (p : Params) → result ≡ check p Actor.Integrator (Request.AddNode supplier.now node.now) }
+    ensures { (p : Params) → result ≡ check p Actor.Integrator
+        (Request.AddNode supplier.now node.now) }
 {
     Ok(Checked::Command(Command::AddNode {
         supplier: name(supplier)?,
@@ -96,7 +99,8 @@ fn grant(
     supplier: &Text,
     node: &Text,
 ) -> Result<Checked, Refusal>
-    ensures { result ≡ check params.now Actor.Integrator (Request.Grant variant.now number text.now supplier.now node.now) }
+    ensures { result ≡ check params.now Actor.Integrator
+        (Request.Grant variant.now number text.now supplier.now node.now) }
 {
     Ok(Checked::Command(Command::Grant {
         variant: name(variant)?,
@@ -109,7 +113,8 @@ fn grant(
 
 #[tactic(auto, unfolding(crate::proofs::ChecksLemmas::checks_open))]
 fn add_frame(variant: &Text, frame: &Text, node: &Text) -> Result<Checked, Refusal>
-    ensures { (p : Params) (s : Name) → result ≡ check p (Actor.Supplier s) (Request.AddFrame variant.now frame.now node.now) }
+    ensures { (p : Params) (s : Name) → result ≡ check p (Actor.Supplier s)
+        (Request.AddFrame variant.now frame.now node.now) }
 {
     Ok(Checked::Command(Command::AddFrame {
         variant: name(variant)?,
@@ -128,7 +133,8 @@ fn place(
     base: u32,
     repetition: u32,
 ) -> Result<Checked, Refusal>
-    ensures { (s : Name) → result ≡ check params.now (Actor.Supplier s) (Request.Place variant.now frame.now number text.now base repetition) }
+    ensures { (s : Name) → result ≡ check params.now (Actor.Supplier s)
+        (Request.Place variant.now frame.now number text.now base repetition) }
 {
     Ok(Checked::Command(Command::Place {
         variant: name(variant)?,
