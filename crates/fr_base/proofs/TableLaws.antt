@@ -93,3 +93,12 @@ module _ {K V : Type 0} (o : Order K) (p : K → V → Bool) where
   pub get-only : (t : Table o V) (k : K) → get (only p t) k ≡ kept p k (get t k)
   unfolding get only
   get-only t k = find-filter k t.rows t.sorted
+
+module _ {K V : Type 0} {o : Order K} where
+  same_if : (t : Table o V) (k : K) (v : V) (q : K) (b : Bool) → eq_by_cmp o.compare q k ≡ b → get t k ≡ Some v → cond b (Some v) (get t q) ≡ get t q
+  same_if t k v q true e found = sym found ∙ ap (get t) (sym (o.exact q k (equal (o.compare q k) e)))
+  same_if t k v q false e found = refl
+
+  -- what stands at a key already, put there again
+  pub insert-same : (t : Table o V) (k : K) (v : V) → get t k ≡ Some v → insert t k v ≡ t
+  insert-same t k v found = same_table (insert t k v) t (λ q. get-insert t k v q ∙ same_if t k v q (eq_by_cmp o.compare q k) refl found)

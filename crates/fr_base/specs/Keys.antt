@@ -77,13 +77,14 @@ unfoldable pub channel_slots : Order (ℕ × Channel)
 channel_slots = pairs_by numbers channel_order
 
 -- placements by slot, channels, base and repetition
-abbrev pub placement_key : Placement → (ℕ × Channels) × (ℕ × ℕ)
-placement_key q = ((q.slot, q.channels), (q.cycles.base, q.cycles.repetition))
+abbrev pub placement_key : Placement → ℕ × (Channels × (ℕ × ℕ))
+placement_key q = (q.slot, (q.channels, (q.cycles.base, q.cycles.repetition)))
 
 pub same_placement : (x y : Placement) → placement_key x ≡ placement_key y → x ≡ y
-same_placement x y e i = record { slot = (e i).0.0; channels = (e i).0.1; cycles = record { base = (e i).1.0; repetition = (e i).1.1 } }
+same_placement x y e i = record { slot = (e i).0; channels = (e i).1.0; cycles = record { base = (e i).1.1.0; repetition = (e i).1.1.1 } }
 
 unfoldable pub placement_order : Order Placement
+unfolding numbers channels_order
 placement_order =
-    let o = pairs_by (pairs_by numbers channels_order) (pairs_by numbers numbers) in
+    let o = pairs_by numbers (pairs_by channels_order (pairs_by numbers numbers)) in
     record { compare = on placement_key o.compare; total = on_total placement_key o.total; exact = λ x y e. same_placement x y (o.exact (placement_key x) (placement_key y) e) }

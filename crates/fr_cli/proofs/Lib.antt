@@ -5,3 +5,5 @@ pub mod MapLaws
 pub mod KeyLaws
 pub mod ReportLemmas
 pub mod AnswerTextLemmas
+pub mod StepOpen
+pub mod PageLaws

@@ -1,9 +1,9 @@
 -- A `BTreeMap`'s entries beside the table that they stand for.
-use Rattle.std.proofs.Common.{◌≡◌, ℕ, suc, count_by, Bor, Bool, true, false, not, ◌&&◌, ◌||◌, cond, List, [], ◌∷◌, map, filter, length, Option, Some, None, is_some, option_map, refl, sym, ap, subst, ◌∙◌, arith, Ordering, Less, Equal, Greater}
+use Rattle.std.proofs.Common.{◌≡◌, ℕ, suc, count_by, Bor, Bool, true, false, not, ◌&&◌, ◌||◌, cond, List, [], ◌∷◌, map, filter, length, Option, Some, None, Result, Ok, Err, OnErr, is_some, option_map, refl, sym, ap, subst, ◌∙◌, arith, Ordering, Less, Equal, Greater}
 use Rattle.std.specs.Prelude.{T, ⊤}
 use Rattle.std.specs.Option.{option_copied}
 use Rattle.std.specs.Ordering.{is_lt, is_eq, eq_by_cmp, match_ordering}
-use Rattle.std.specs.FinMap.Entries.{put, find, is_sorted, is_sorted-put, below_all, by_order}
+use Rattle.std.specs.FinMap.Entries.{put, find, find-put, is_sorted, is_sorted-put, below_all, by_order}
 use Rattle.std.specs.Map.{keys_of, lookup, set_value}
 use Rattle.std.specs.BTreeMap.{insert_entry, is_at}
 use Rattle.std.specs.BTreeSet.{insert_key}
@@ -13,7 +13,7 @@ use Rattle.std.proofs.lemmas.List.{length-map}
 use Rattle.std.proofs.lemmas.List.Sums.{length-filter}
 use Rattle.fr_base.specs.TableRows.{both, first, second}
 use Rattle.fr_base.specs.Tables.{Order, Table, get, contains, len, insert, only, from_rows}
-use Rattle.fr_base.proofs.TableLaws.{same_rows, rows-from_rows, get-from_rows}
+use Rattle.fr_base.proofs.TableLaws.{insert-same, same_rows, same_table, get-insert, rows-from_rows, get-from_rows}
 use Rattle.fr_cli.specs.Rows.{table_of, set_of}
 
 module _ {J K U V : Type 0} (cmp : J → J → Ordering) (o : Order K) (key : J → K) (value : U → V) (alike : (x y : J) → cmp x y ≡ o.compare (key x) (key y)) where
@@ -98,6 +98,16 @@ module _ {J K U V : Type 0} (cmp : J → J → Ordering) (o : Order K) (key : J 
   pub table_of-set_value : (es : List (J × U)) (k : J) (u : U) → IsStrictlySortedBy cmp (keys_of es) → is_some (lookup (is_at (cmp k)) es) ≡ true → table_of o key value (set_value (is_at (cmp k)) es u) ≡ insert (table_of o key value es) (key k) (value u)
   table_of-set_value es k u h found = same_put es (set_value (is_at (cmp k)) es u) k u h (rows-set_value es k u h found)
 
+  -- after a value was written through what a look-up lent
+  pub table_of-lent : (es fs : List (J × U)) (k : J) (u v : U) → IsStrictlySortedBy cmp (keys_of es) → Some v ≡ lookup (is_at (cmp k)) es → fs ≡ set_value (is_at (cmp k)) es u → table_of o key value fs ≡ insert (table_of o key value es) (key k) (value u)
+  table_of-lent es fs k u v h found e = ap (table_of o key value) e ∙ table_of-set_value es k u h (ap is_some (sym found))
+
+  -- and where it stands for the same as before
+  pub table_of-lent_same : (es fs : List (J × U)) (k : J) (u v : U) → IsStrictlySortedBy cmp (keys_of es) → Some v ≡ lookup (is_at (cmp k)) es → fs ≡ set_value (is_at (cmp k)) es u → value u ≡ value v → table_of o key value fs ≡ table_of o key value es
+  table_of-lent_same es fs k u v h found e same =
+      table_of-lent es fs k u v h found e
+      ∙ insert-same (table_of o key value es) (key k) (value u) (get-table_of es k ∙ ap (option_map value) (sym found) ∙ ap Some (sym same))
+
   pub len-table_of : (es : List (J × U)) → IsStrictlySortedBy cmp (keys_of es) → len (table_of o key value es) ≡ length es
   unfolding len
   len-table_of es h = ap length (rows-table_of es h) ∙ length-map es (λ e. (key e.0, value e.1))
@@ -147,16 +157,20 @@ module _ {J K : Type 0} (cmp : J → J → Ordering) (o : Order K) (key : J → 
   unfolding set_of
   rows-set_of ks h = rows-from_rows o (set_rows ks) (sorted_keys ks h)
 
-  pub set_of-insert_key : (ks : List J) (k : J) → IsStrictlySortedBy cmp ks → set_of o key (insert_key cmp ks k) ≡ insert (set_of o key ks) (key k) tt
-  unfolding set_of insert
-  set_of-insert_key ks k h =
-      let e = set_rows-insert_key ks k in
-      same_rows _ _ (rows-from_rows o (set_rows (insert_key cmp ks k)) (subst (λ rs. T (is_sorted o.compare rs)) (sym e) (is_sorted-put o.compare o.total (key k) tt (set_rows ks) (sorted_keys ks h)))
-      ∙ e ∙ ap (put o.compare (key k) tt) (sym (rows-from_rows o (set_rows ks) (sorted_keys ks h))))
+  pub set_of-insert_key : (ks : List J) (k : J) → set_of o key (insert_key cmp ks k) ≡ insert (set_of o key ks) (key k) tt
+  unfolding set_of
+  set_of-insert_key ks k =
+      same_table _ _ (λ q. get-from_rows o (set_rows (insert_key cmp ks k)) q ∙ ap (find o.compare q) (set_rows-insert_key ks k) ∙ find-put o.compare o.total q (key k) tt (set_rows ks)
+      ∙ sym (get-insert (from_rows (set_rows ks)) (key k) tt q ∙ ap (cond (eq_by_cmp o.compare q (key k)) (Some tt)) (get-from_rows o (set_rows ks) q)))
 
   pub len-set_of : (ks : List J) → IsStrictlySortedBy cmp ks → len (set_of o key ks) ≡ length ks
   unfolding len
   len-set_of ks h = ap length (rows-set_of ks h) ∙ length-map ks (λ k. (key k, tt))
+
+-- a function leaves a value there
+pub is_some-map : {X Y : Type 0} (f : X → Y) (r : Option X) → is_some (option_map f r) ≡ is_some r
+is_some-map f None = refl
+is_some-map f (Some x) = refl
 
 -- what a reference in an option points to, under a function
 pub copied_map : {X Y : Type 0} (f : X → Y) (r : Option (Bor X)) → option_map (λ b. f b.now) r ≡ option_map f (option_copied r)
@@ -168,7 +182,7 @@ filtered_rows : {J K U V : Type 0} (key : J → K) (value : U → V) (p : K → 
 filtered_rows key value p [] = refl
 filtered_rows {K = K} {V = V} key value p (e ∷ es) =
     elim (p (key e.0)) as (λ b. length {A = K × V} (cond b ((key e.0, value e.1) ∷ filter (λ e. p e.0) (map (λ e. (key e.0, value e.1)) es)) (filter (λ e. p e.0) (map (λ e. (key e.0, value e.1)) es)))
-        ≡ length (cond b (e.0 ∷ filter (λ k. p (key k)) (keys_of es)) (filter (λ k. p (key k)) (keys_of es)))) [
+    ≡ length (cond b (e.0 ∷ filter (λ k. p (key k)) (keys_of es)) (filter (λ k. p (key k)) (keys_of es)))) [
       | true ↦ ap suc (filtered_rows key value p es)
       | false ↦ filtered_rows key value p es
     ]
@@ -177,7 +191,7 @@ filtered_set_rows : {J K : Type 0} (key : J → K) (p : K → Bool) (ks : List J
 filtered_set_rows key p [] = refl
 filtered_set_rows {K = K} key p (k ∷ ks) =
     elim (p (key k)) as (λ b. length {A = K × ⊤} (cond b ((key k, tt) ∷ filter (λ e. p e.0) (map (λ k. (key k, tt)) ks)) (filter (λ e. p e.0) (map (λ k. (key k, tt)) ks)))
-        ≡ length (cond b (k ∷ filter (λ k. p (key k)) ks) (filter (λ k. p (key k)) ks))) [
+    ≡ length (cond b (k ∷ filter (λ k. p (key k)) ks) (filter (λ k. p (key k)) ks))) [
       | true ↦ ap suc (filtered_set_rows key p ks)
       | false ↦ filtered_set_rows key p ks
     ]
@@ -191,3 +205,8 @@ module _ {J K : Type 0} (cmp : J → J → Ordering) (o : Order K) (key : J → 
   pub len-only-set_of : (p : K → Bool) (ks : List J) → IsStrictlySortedBy cmp ks → len (only (λ k _. p k) (set_of o key ks)) ≡ count_by (λ k. p (key k)) ks
   unfolding len only
   len-only-set_of p ks h = ap (λ rs. length {A = K × ⊤} (filter (λ e. p e.0) rs)) (rows-set_of cmp o key alike ks h) ∙ filtered_set_rows key p ks ∙ length-filter (λ k. p (key k)) ks
+
+-- what holds, holds where a call failed
+pub on_err_holds : {A E : Type 0} (r : Result A E) (P : Type 0) → P → OnErr r P
+on_err_holds (Ok x) P h = tt
+on_err_holds (Err e) P h = h

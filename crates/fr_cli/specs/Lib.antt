@@ -5,3 +5,4 @@ pub mod Rows
 pub mod Variants
 pub mod Report
 pub mod AnswerText
+pub mod Books

@@ -2,6 +2,7 @@
 #![tactic(auto)]
 
 mod answer_text;
+mod book;
 mod input;
 mod lines;
 mod output;

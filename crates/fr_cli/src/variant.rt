@@ -1,6 +1,6 @@
-ghost use Rattle.std.specs.Prelude.{◌≡◌, OnOk, OnErr, option_map, count_by};
-ghost use Rattle.fr_base.specs.Tables.{empty, get, insert, len, only};
-ghost use Rattle.fr_base.specs.Book.{empty_variant, granted, held_by_node};
+ghost use Rattle.std.specs.Prelude.{◌≡◌, OnOk, OnErr, IfSome, option_map, count_by};
+ghost use Rattle.fr_base.specs.Tables.{contains, empty, get, insert, len, only};
+ghost use Rattle.fr_base.specs.Book.{empty_variant, granted, held_by, held_by_node};
 ghost use Rattle.fr_base.specs.Cluster.{same_text};
 ghost use Rattle.fr_base.specs.Step.{is_of};
 ghost use Rattle.fr_cli.specs.Variants.{variant_of, holder_of, frame_of};
@@ -47,6 +47,24 @@ pub(crate) struct Frame {
     pub(crate) placements: BTreeSet<Placement>,
 }
 
+impl Frame {
+    /// How many placements the frame has.
+    pub(crate) fn placement_count(&self) -> usize
+        ensures { result ≡ len (frame_of self.now).placements }
+    {
+        self.placements.len()
+    }
+
+    /// The frame is sent in the placement's cells too from now on.
+    pub(crate) fn place(&mut self, placement: Placement) -> Result<(), AllocError>
+        ensures ok { OnOk result (frame_of self.new ≡ record (frame_of self.old) { placements = insert (frame_of self.old).placements placement tt }) }
+        ensures err { OnErr result (frame_of self.new ≡ frame_of self.old) }
+    {
+        self.placements.insert(placement)?;
+        Ok(())
+    }
+}
+
 /// The rows of a variant: who holds which slot on which channel, and the frames.
 #[derive(Drop)]
 pub(crate) struct Variant {
@@ -81,6 +99,13 @@ impl Variant {
         Ok(())
     }
 
+    /// Whether there is a frame of this name.
+    pub(crate) fn has_frame(&self, key: Owned) -> bool
+        ensures { result ≡ contains (variant_of self.now).frames (key.supplier, key.name) }
+    {
+        self.frame(key).is_some()
+    }
+
     /// The frame of this name.
     pub(crate) fn frame(&self, key: Owned) -> Option<&Frame>
         ensures { option_map (λ f. frame_of f.now) result ≡ get (variant_of self.now).frames (key.supplier, key.name) }
@@ -113,11 +138,39 @@ impl Variant {
         Ok(())
     }
 
+    /// The frame is sent in the placement's cells too from now on, if there is a frame of this name.
+    pub(crate) fn place(&mut self, key: Owned, placement: Placement) -> Result<(), AllocError>
+        ensures ok { OnOk result (IfSome (get (variant_of self.old).frames (key.supplier, key.name)) (λ f. variant_of self.new ≡ record (variant_of self.old) { frames = insert (variant_of self.old).frames (key.supplier, key.name) (record f { placements = insert f.placements placement tt }) })) }
+        ensures err { OnErr result (variant_of self.new ≡ variant_of self.old) }
+    {
+        if let Some(frame) = self.frames.get_mut(&key) {
+            frame.place(placement)?;
+        }
+        Ok(())
+    }
+
     /// Whether the supplier's node holds the slot on the channel.
     pub(crate) fn is_held(&self, at: ChannelSlot, supplier: Name, node: Name) -> bool
         ensures { result ≡ held_by_node supplier node (get (variant_of self.now).grants (at.slot, at.channel)) }
     {
         self.holder(at) == Some(Holder { supplier, node })
+    }
+
+    /// Whether the supplier holds the slot on the channel.
+    pub(crate) fn is_held_by(&self, at: ChannelSlot, supplier: Name) -> bool
+        ensures { result ≡ held_by supplier (get (variant_of self.now).grants (at.slot, at.channel)) }
+    {
+        match self.holder(at) {
+            Some(holder) => holder.supplier == supplier,
+            None => false,
+        }
+    }
+
+    /// Whether somebody holds the slot on the channel.
+    pub(crate) fn is_taken(&self, at: ChannelSlot) -> bool
+        ensures { result ≡ contains (variant_of self.now).grants (at.slot, at.channel) }
+    {
+        self.holder(at).is_some()
     }
 
     /// Whether the supplier's node holds the placement's slot on each of its channels.
