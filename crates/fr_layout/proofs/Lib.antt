@@ -1,2 +1,5 @@
 pub mod BitsLemmas
 pub mod PayloadLemmas
+pub mod SignalsLemmas
+pub mod LayoutLemmas
+pub mod ImageLemmas

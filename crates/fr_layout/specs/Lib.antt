@@ -1,1 +1,4 @@
 pub mod Along
+pub mod Packing
+pub mod Laws
+pub mod Kept

@@ -3,4 +3,12 @@
 #![tactic(auto)]
 
 mod bits;
+mod laws;
+mod layout;
+mod pack_fault;
 mod payload;
+mod signals;
+
+pub use laws::unpack_undoes_pack;
+pub use layout::Layout;
+pub use pack_fault::PackFault;

@@ -15,7 +15,7 @@ loop-index-preserved c =
     λ p. write_more c.args.signal c.args.value c.loop-index.index p (payload_bit c.args.bytes.now p) c.position.result (payload_bit c.loop-index.bytes p) (payload_bit c.put_bit.new.bytes p) _
     (omega arith) c.position.ensures refl (c.loop-index.invariant p) (c.put_bit.ensures p)
 
-pub returns : goal.returns
-returns c =
+pub returns-clause-bits : goal.returns-clause-bits
+returns-clause-bits c =
     λ p. c.loop-index.invariant p
     ∙ ap (λ qs. put_over qs c.args.value p (payload_bit c.args.bytes.now p)) (take_all c.loop-index.index (bits_of c.args.signal) (omega (arith, length-bits_of c.args.signal)))

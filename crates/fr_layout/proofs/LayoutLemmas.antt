@@ -1,0 +1,601 @@
+-- Laws of layouts: what adding and removing a signal keeps.
+use Rattle.std.proofs.Common.{◌≡◌, ◌≢◌, ℕ, suc, zero, ◌+◌, ◌-◌, ◌*◌, ◌/◌, ◌^◌, ◌<◌, ◌≤◌, Bool, true, false, not, ◌&&◌, ◌||◌, List, [], ◌∷◌, ◌++◌, take, drop, length, map, filter, get_or, Option, Some, None, is_some, Result, Ok, Err, refl, sym, ◌∙◌, ap, arith, eqb, ltb, leb, cond, inl, inr, ◌⊎◌, All, AllPairs, IsTrue, IsOk, is_ok, MatchResult, position, insert, remove, unwrap_or, replicate, subst, ◌%◌}
+use Rattle.std.specs.List.{list_any, list_all, range_with_len, find, position_or_len}
+use Rattle.std.specs.Option.{option_map, option_map_or, option_and_then}
+use Rattle.std.specs.Int.{bit_at}
+use Rattle.std.specs.Str.{bytes_eq}
+use Rattle.std.proofs.lemmas.Bool.{ltb-true, lt-ltb}
+use Rattle.std.proofs.lemmas.Bool.Decides.{nat_tests, Decides-eqb, eqb_tells, leb_tells}
+use Rattle.std.proofs.lemmas.Nat.{le-div, div_below}
+use Rattle.std.proofs.lemmas.Grind.{common_steps}
+use Rattle.std.proofs.lemmas.List.Sums.{AllPass-from_list_all, prefix_len-le-length, length-filter}
+use Rattle.std.proofs.lemmas.List.Elements.{All-cons, All-head, All-tail, All-filter, All-weaker}
+use Rattle.std.proofs.lemmas.List.{length-replicate}
+use Rattle.std.proofs.lemmas.List.Edits.{length-remove}
+use Rattle.std.proofs.lemmas.List.Folds.{list_any_at, list_any_none}
+use Rattle.std.proofs.lemmas.Nat.Bits.{bit_at_ones, bit_at-zero}
+use Rattle.std.proofs.lemmas.List.Kept.{AllPairs-cons, AllPairs-filter}
+use Rattle.std.proofs.lemmas.Slice.Eq.{bytes_eq-Decides}
+use Rattle.fr_base.specs.Refusing.{◌>>=◌, ◌>>◌, refuse◌when◌}
+use Rattle.fr_base.specs.Signals.{SignalData, is_signal_length}
+use Rattle.fr_base.specs.Bits.{bits_of, uses, entry_of, payload_bit}
+use Rattle.fr_base.specs.Layouts.{LayoutData, IsLayout, AreApart, lies_inside, has_signal, user_of, taken_at, first_taken, bit_taken, with_signal, add_signal, remove_signal}
+use Rattle.fr_base.specs.declared.refusal.Refusal.{Refusal}
+use Rattle.fr_base.specs.declared.refusal.Refusal.TheVariants.{Exists, Limit, NoSignal, OutOfPayload, BitTaken}
+use Rattle.fr_layout.specs.Kept.{IsKept}
+use Rattle.fr_layout.proofs.BitsLemmas.{put_over, entry_of_none, length-bits_of, uses_along, not_true}
+
+pub either : (b : Bool) → (b ≡ true) ⊎ (b ≡ false)
+either true = inl refl
+either false = inr refl
+
+-- ---- where bits lie
+
+pub inside_below : (s : SignalData) (words n : ℕ) → IsTrue (lies_inside words s) → 16 * words ≤ n → All (λ p. p < n) (bits_of s)
+inside_below s words n inside room k d h =
+    let below : get_or (bits_of s) k d < 16 * words = ltb-true (get_or (bits_of s) k d) (16 * words) (AllPass-from_list_all (λ p. ltb p (16 * words)) (bits_of s) inside k d h) in
+    omega arith
+
+-- a position that a list has stands somewhere in it
+abbrev pub StandsIn : List ℕ → ℕ → Type 0
+StandsIn qs p = (i : ℕ) × (i < length qs) × (get_or qs i 0 ≡ p) × (entry_of qs p ≡ Some i)
+
+pub any_at : (qs : List ℕ) (p : ℕ) → list_any (λ q. eqb q p) qs ≡ true → StandsIn qs p
+any_at [] p h = cc
+any_at (q ∷ qs) p h = head_or_tail (eqb q p) (Decides-eqb q p).0 refl h (any_at qs p)
+  where
+    head_or_tail : (b : Bool) → (eqb q p ≡ true → q ≡ p) → eqb q p ≡ b → (b || list_any (λ q. eqb q p) qs) ≡ true → (list_any (λ q. eqb q p) qs ≡ true → StandsIn qs p) → StandsIn (q ∷ qs) p
+    head_or_tail true same e h later = (0, omega arith, same e, ap (λ b. cond b (Some 0) (option_map suc (entry_of qs p))) e)
+    head_or_tail false same e h later =
+        let found = later h in
+        (suc found.0, omega (arith, found.1), found.2, ap (λ b. cond b (Some 0) (option_map suc (entry_of qs p))) e ∙ ap (option_map suc) found.3)
+
+pub uses_entry : (s : SignalData) (p : ℕ) → uses s p ≡ true → (i : ℕ) × (i < s.length) × (get_or (bits_of s) i 0 ≡ p) × (entry_of (bits_of s) p ≡ Some i)
+uses_entry s p h =
+    let found = any_at (bits_of s) p h in
+    (found.0, omega (arith, length-bits_of s, found.1), found.2, found.3)
+
+-- a value whose bits are all alike
+pub put_over_alike : (s : SignalData) (v b p old : ℕ) → ((i : ℕ) → i < s.length → bit_at v i ≡ b) → put_over (bits_of s) v p old ≡ cond (uses s p) b old
+put_over_alike s v b p old alike =
+    elim (either (uses s p)) [
+      | inl used ↦
+          let found = uses_entry s p used in
+          ap (λ o. option_map_or (bit_at v) o old) found.3 ∙ (alike found.0 found.1 ∙ sym (ap (λ t. cond t b old) used))
+      | inr free ↦ ap (λ o. option_map_or (bit_at v) o old) (entry_of_none (bits_of s) p free) ∙ sym (ap (λ t. cond t b old) free)
+    ]
+
+-- a signal has its start
+pub uses_start : (s : SignalData) → 1 ≤ s.length → uses s s.start ≡ true
+uses_start s h = uses_along s s.start ∙ grind (arith, nat_tests)
+
+-- ---- who uses a bit
+
+pub is_some-find : {X : Type 0} (p : X → Bool) (xs : List X) → is_some (find p xs) ≡ list_any p xs
+is_some-find p [] = refl
+is_some-find p (x ∷ xs) = by_test (p x) (is_some-find p xs)
+  where
+    by_test : (b : Bool) → is_some (find p xs) ≡ list_any p xs → is_some (cond b (Some x) (find p xs)) ≡ (b || list_any p xs)
+    by_test true e = refl
+    by_test false e = e
+
+pub is_some-user_of : (signals : List SignalData) (p : ℕ) → is_some (user_of signals p) ≡ list_any (λ s. uses s p) signals
+is_some-user_of signals p = is_some-find (λ s. uses s p) signals
+
+pub none_of : {X : Type 0} (p : X → Bool) (xs : List X) → list_any p xs ≡ false → All (λ x. p x ≡ false) xs
+none_of p [] h k d within = absurd (omega arith)
+none_of p (x ∷ xs) h zero d within = first (p x) (list_any p xs) h
+  where
+    first : (a b : Bool) → (a || b) ≡ false → a ≡ false
+    first true b h = h
+    first false b h = refl
+none_of p (x ∷ xs) h (suc k) d within = none_of p xs (rest (p x) (list_any p xs) h) k d (omega arith)
+  where
+    rest : (a b : Bool) → (a || b) ≡ false → b ≡ false
+    rest true b h = cc
+    rest false b h = h
+
+-- the least number that passes
+find_from : (f : ℕ → Bool) (p a n : ℕ) → f p ≡ true → ((q : ℕ) → q < p → f q ≡ false) → a ≤ p → p < a + n → find f (range_with_len a n) ≡ Some p
+find_from f p a zero here before low high = absurd (omega arith)
+find_from f p a (suc n) here before low high = by_test (eqb_tells a p) (λ less. find_from f p (a + 1) n here before (omega arith) (omega arith))
+  where
+    by_test : ((eqb a p ≡ true) × (a ≡ p)) ⊎ ((eqb a p ≡ false) × (a ≢ p)) → (a < p → find f (range_with_len (a + 1) n) ≡ Some p) → find f (range_with_len a (suc n)) ≡ Some p
+    by_test (inl same) later = ap (λ b. cond b (Some a) (find f (range_with_len (a + 1) n))) (ap f same.1 ∙ here) ∙ ap Some same.1
+    by_test (inr other) later =
+        let less : a < p = omega (arith, other.1) in
+        ap (λ b. cond b (Some a) (find f (range_with_len (a + 1) n))) (before a less) ∙ later less
+
+pub find_least : (f : ℕ → Bool) (p n : ℕ) → p < n → f p ≡ true → ((q : ℕ) → q < p → f q ≡ false) → find f (range_with_len 0 n) ≡ Some p
+find_least f p n h here before = find_from f p 0 n here before (omega arith) (omega arith)
+
+pub find_nothing : (f : ℕ → Bool) (a n : ℕ) → ((q : ℕ) → f q ≡ false) → find f (range_with_len a n) ≡ None
+find_nothing f a zero never = refl
+find_nothing f a (suc n) never = ap (λ b. cond b (Some a) (find f (range_with_len (a + 1) n))) (never a) ∙ find_nothing f (a + 1) n never
+
+-- ---- what adding a signal keeps
+
+pub All-with : (P : SignalData → Type 0) (s : SignalData) (xs : List SignalData) → P s → All P xs → All P (with_signal s xs)
+All-with P s [] here all = All-cons P s [] here all
+All-with P s (t ∷ xs) here all = by_test (ltb s.start t.start) (All-with P s xs here (All-tail P t xs all))
+  where
+    by_test : (b : Bool) → All P (with_signal s xs) → All P (cond b (s ∷ t ∷ xs) (t ∷ with_signal s xs))
+    by_test true later = All-cons P s (t ∷ xs) here all
+    by_test false later = All-cons P t (with_signal s xs) (All-head P t xs all) later
+
+pub AllPairs-tail : {X : Type 0} (R : X → X → Type 0) (x : X) (xs : List X) → AllPairs R (x ∷ xs) → AllPairs R xs
+AllPairs-tail R x xs pairs i j d low high = pairs (suc i) (suc j) d (omega arith) (omega arith)
+
+pub AllPairs-head : {X : Type 0} (R : X → X → Type 0) (x : X) (xs : List X) → AllPairs R (x ∷ xs) → All (R x) xs
+AllPairs-head R x xs pairs k d h = pairs 0 (suc k) d (omega arith) (omega arith)
+
+pub AllPairs-with : (R : SignalData → SignalData → Type 0) (s : SignalData) (xs : List SignalData) → All (R s) xs → All (λ t. R t s) xs → AllPairs R xs → AllPairs R (with_signal s xs)
+AllPairs-with R s [] after before pairs = AllPairs-cons R s [] after pairs
+AllPairs-with R s (t ∷ xs) after before pairs =
+    by_test (ltb s.start t.start) (AllPairs-with R s xs (All-tail (R s) t xs after) (All-tail (λ u. R u s) t xs before) (AllPairs-tail R t xs pairs))
+  where
+    by_test : (b : Bool) → AllPairs R (with_signal s xs) → AllPairs R (cond b (s ∷ t ∷ xs) (t ∷ with_signal s xs))
+    by_test true later = AllPairs-cons R s (t ∷ xs) after pairs
+    by_test false later = AllPairs-cons R t (with_signal s xs) (All-with (R t) s xs (All-head (λ u. R u s) t xs before) (AllPairs-head R t xs pairs)) later
+
+abbrev pub Rises : SignalData → SignalData → Type 0
+Rises s t = s.start < t.start
+
+rises_later : (a b : ℕ) → ltb a b ≡ false → a ≢ b → b < a
+rises_later a b e n = grind (arith, nat_tests)
+
+pub rising-with : (s : SignalData) (xs : List SignalData) → All (λ t. s.start ≢ t.start) xs → AllPairs Rises xs → AllPairs Rises (with_signal s xs)
+rising-with s [] other pairs = AllPairs-cons Rises s [] (λ k d h. absurd (omega arith)) pairs
+rising-with s (t ∷ xs) other pairs =
+    by_test (ltb s.start t.start) refl (rising-with s xs (All-tail (λ u. s.start ≢ u.start) t xs other) (AllPairs-tail Rises t xs pairs))
+  where
+    by_test : (b : Bool) → ltb s.start t.start ≡ b → AllPairs Rises (with_signal s xs) → AllPairs Rises (cond b (s ∷ t ∷ xs) (t ∷ with_signal s xs))
+    by_test true e later =
+        let below : s.start < t.start = ltb-true s.start t.start e in
+        AllPairs-cons Rises s (t ∷ xs) (All-cons (Rises s) t xs below (All-weaker (Rises t) (Rises s) (λ u h. omega arith) xs (AllPairs-head Rises t xs pairs))) pairs
+    by_test false e later =
+        let below : t.start < s.start = rises_later s.start t.start e (All-head (λ u. s.start ≢ u.start) t xs other) in
+        AllPairs-cons Rises t (with_signal s xs) (All-with (Rises t) s xs below (AllPairs-head Rises t xs pairs)) later
+
+pub length-with_signal : (s : SignalData) (xs : List SignalData) → length (with_signal s xs) ≡ length xs + 1
+length-with_signal s [] = refl
+length-with_signal s (t ∷ xs) = by_test (ltb s.start t.start) (length-with_signal s xs)
+  where
+    by_test : (b : Bool) → length (with_signal s xs) ≡ length xs + 1 → length (cond b (s ∷ t ∷ xs) (t ∷ with_signal s xs)) ≡ length (t ∷ xs) + 1
+    by_test true later = omega arith
+    by_test false later = omega (arith, later)
+
+or_turned : (a b c : Bool) → (b || (a || c)) ≡ (a || (b || c))
+or_turned true true c = refl
+or_turned true false c = refl
+or_turned false b c = refl
+
+pub list_any-with_signal : (f : SignalData → Bool) (s : SignalData) (xs : List SignalData) → list_any f (with_signal s xs) ≡ (f s || list_any f xs)
+list_any-with_signal f s [] = refl
+list_any-with_signal f s (t ∷ xs) = by_test (ltb s.start t.start) (list_any-with_signal f s xs)
+  where
+    by_test : (b : Bool) → list_any f (with_signal s xs) ≡ (f s || list_any f xs) → list_any f (cond b (s ∷ t ∷ xs) (t ∷ with_signal s xs)) ≡ (f s || (f t || list_any f xs))
+    by_test true later = refl
+    by_test false later = ap (λ b. f t || b) later ∙ or_turned (f s) (f t) (list_any f xs)
+
+-- the place at which the signal is inserted
+pub with_signal_at : (s : SignalData) (xs : List SignalData) → insert xs (position_or_len (λ t. ltb s.start t.start) xs) s ≡ with_signal s xs
+with_signal_at s [] = refl
+with_signal_at s (t ∷ xs) = by_test (ltb s.start t.start) (with_signal_at s xs)
+  where
+    place : ℕ
+    place = position_or_len (λ t. ltb s.start t.start) xs
+
+    by_test : (b : Bool) → insert xs place s ≡ with_signal s xs → insert (t ∷ xs) (cond (not b) (1 + place) 0) s ≡ cond b (s ∷ t ∷ xs) (t ∷ with_signal s xs)
+    by_test true later = refl
+    by_test false later =
+        let next : 1 + place ≡ suc place = omega arith in
+        ap (λ n. insert (t ∷ xs) n s) next ∙ ap (λ l. t ∷ l) later
+
+pub place_of_position : {X : Type 0} (p : X → Bool) (xs : List X) → unwrap_or (position p xs) (length xs) ≡ position_or_len p xs
+place_of_position p xs = by_test (ltb (position_or_len p xs) (length xs)) refl (prefix_len-le-length (λ x. not (p x)) xs)
+  where
+    by_test : (b : Bool) → ltb (position_or_len p xs) (length xs) ≡ b → position_or_len p xs ≤ length xs → unwrap_or (cond b (Some (position_or_len p xs)) None) (length xs) ≡ position_or_len p xs
+    by_test true e within = refl
+    by_test false e within = grind (arith, nat_tests)
+
+-- a value above a power of two
+pub above_power : (v k : ℕ) → 0 < k → ltb 0 (v / k) ≡ leb k v
+above_power v k h = by_test (leb_tells k v)
+  where
+    by_test : ((leb k v ≡ true) × (k ≤ v)) ⊎ ((leb k v ≡ false) × (v < k)) → ltb 0 (v / k) ≡ leb k v
+    by_test (inl above) = lt-ltb 0 (v / k) (omega (arith, le-div 1 v k h (omega (arith, above.1)))) ∙ sym above.0
+    by_test (inr below) =
+        let none : v / k ≡ 0 = omega (arith, div_below v k 1 h (omega (arith, below.1))) in
+        ap (ltb 0) none ∙ sym below.0
+
+-- ---- the refusals, one after the other
+
+abbrev adding : Bool → Bool → Bool → Option (ℕ × List ℕ) → LayoutData → Result LayoutData Refusal
+adding exists full inside taken layout = do
+  refuse Exists when exists
+  refuse Limit when full
+  refuse OutOfPayload when (not inside)
+  bit_taken taken
+  Ok layout
+
+-- the layout with the signal
+abbrev pub extended : LayoutData → SignalData → LayoutData
+extended l s = record l { signals = with_signal s l.signals }
+
+adding_is : (l : LayoutData) (s : SignalData) → add_signal l s ≡ adding (has_signal l.signals s.name) (leb 64 (length l.signals)) (lies_inside l.words s) (first_taken l s) (extended l s)
+unfolding add_signal
+adding_is l s = refl
+
+-- what an accepted signal has passed
+pub record Admitted (l : LayoutData) (s : SignalData) : Type 0 where
+  pub fresh : has_signal l.signals s.name ≡ false
+  pub room : leb 64 (length l.signals) ≡ false
+  pub inside : lies_inside l.words s ≡ true
+  pub free : first_taken l s ≡ None
+  pub done : add_signal l s ≡ Ok (extended l s)
+
+pub add_exists : (l : LayoutData) (s : SignalData) → has_signal l.signals s.name ≡ true → add_signal l s ≡ Err Exists
+unfolding ◌>>=◌ ◌>>◌ refuse◌when◌
+add_exists l s exists = adding_is l s ∙ ap (λ a. adding a (leb 64 (length l.signals)) (lies_inside l.words s) (first_taken l s) (extended l s)) exists
+
+pub add_limit : (l : LayoutData) (s : SignalData) → has_signal l.signals s.name ≡ false → leb 64 (length l.signals) ≡ true → add_signal l s ≡ Err Limit
+unfolding ◌>>=◌ ◌>>◌ refuse◌when◌
+add_limit l s fresh full =
+    adding_is l s
+    ∙ (ap (λ a. adding a (leb 64 (length l.signals)) (lies_inside l.words s) (first_taken l s) (extended l s)) fresh
+    ∙ ap (λ b. adding false b (lies_inside l.words s) (first_taken l s) (extended l s)) full)
+
+pub add_outside : (l : LayoutData) (s : SignalData) → has_signal l.signals s.name ≡ false → leb 64 (length l.signals) ≡ false → lies_inside l.words s ≡ false → add_signal l s ≡ Err OutOfPayload
+unfolding ◌>>=◌ ◌>>◌ refuse◌when◌
+add_outside l s fresh room outside =
+    adding_is l s
+    ∙ (ap (λ a. adding a (leb 64 (length l.signals)) (lies_inside l.words s) (first_taken l s) (extended l s)) fresh
+    ∙ (ap (λ b. adding false b (lies_inside l.words s) (first_taken l s) (extended l s)) room
+    ∙ ap (λ c. adding false false c (first_taken l s) (extended l s)) outside))
+
+adding_bits : (l : LayoutData) (s : SignalData) → has_signal l.signals s.name ≡ false → leb 64 (length l.signals) ≡ false → lies_inside l.words s ≡ true → add_signal l s ≡ adding false false true (first_taken l s) (extended l s)
+adding_bits l s fresh room inside =
+    adding_is l s
+    ∙ (ap (λ a. adding a (leb 64 (length l.signals)) (lies_inside l.words s) (first_taken l s) (extended l s)) fresh
+    ∙ (ap (λ b. adding false b (lies_inside l.words s) (first_taken l s) (extended l s)) room
+    ∙ ap (λ c. adding false false c (first_taken l s) (extended l s)) inside))
+
+adding_none : (o : Option (ℕ × List ℕ)) (l : LayoutData) → o ≡ None → adding false false true o l ≡ Ok l
+unfolding ◌>>=◌ ◌>>◌ refuse◌when◌
+adding_none o l e = ap (λ o. adding false false true o l) e
+
+adding_some : (o : Option (ℕ × List ℕ)) (l : LayoutData) (e : Refusal) → bit_taken o ≡ Err e → adding false false true o l ≡ Err e
+unfolding ◌>>=◌ ◌>>◌ refuse◌when◌
+adding_some None l e h = cc
+adding_some (Some taken) l e h = cc
+
+-- the last question: is a bit taken?
+pub add_last : {U : Type 0} (l : LayoutData) (s : SignalData) (r : Result U Refusal) → has_signal l.signals s.name ≡ false → leb 64 (length l.signals) ≡ false → lies_inside l.words s ≡ true →
+    MatchResult r (λ _. first_taken l s ≡ None) (λ e. bit_taken (first_taken l s) ≡ Err e) → MatchResult r (λ _. IsOk (add_signal l s)) (λ e. add_signal l s ≡ Err e)
+add_last l s (Ok x) fresh room inside free = ap is_ok (adding_bits l s fresh room inside ∙ adding_none (first_taken l s) (extended l s) free)
+add_last l s (Err e) fresh room inside taken = adding_bits l s fresh room inside ∙ adding_some (first_taken l s) (extended l s) e taken
+
+passed : (a b c : Bool) (o : Option (ℕ × List ℕ)) (l : LayoutData) → is_ok (adding a b c o l) ≡ true → (a ≡ false) × (b ≡ false) × (c ≡ true) × (o ≡ None)
+unfolding ◌>>=◌ ◌>>◌ refuse◌when◌
+passed true b c o l h = cc
+passed false true c o l h = cc
+passed false false false o l h = cc
+passed false false true (Some taken) l h = cc
+passed false false true None l h = (refl, refl, refl, refl)
+
+pub admitted : (l : LayoutData) (s : SignalData) → IsOk (add_signal l s) → Admitted l s
+admitted l s h =
+    let facts = passed (has_signal l.signals s.name) (leb 64 (length l.signals)) (lies_inside l.words s) (first_taken l s) (extended l s) (sym (ap is_ok (adding_is l s)) ∙ h) in
+    record {
+      fresh = facts.0;
+      room = facts.1;
+      inside = facts.2;
+      free = facts.3;
+      done = adding_bits l s facts.0 facts.1 facts.2 ∙ adding_none (first_taken l s) (extended l s) facts.3;
+    }
+
+-- ---- the least bit that is taken
+
+taken_test : LayoutData → SignalData → ℕ → Bool
+taken_test l s p = uses s p && is_some (user_of l.signals p)
+
+first_taken_is : (l : LayoutData) (s : SignalData) → first_taken l s ≡ option_and_then (taken_at l.signals) (find (taken_test l s) (range_with_len 0 (16 * l.words)))
+unfolding first_taken taken_test
+first_taken_is l s = refl
+
+abbrev number : Bool → ℕ
+number b = cond b 1 0
+
+-- a bit is 1 in the kept payload where a signal uses it
+kept_bit : (l : LayoutData) (used : List ℕ) (p : ℕ) → IsKept l used → (payload_bit used p ≡ 1) → is_some (user_of l.signals p) ≡ true
+kept_bit l used p kept bit = by_test (is_some (user_of l.signals p)) (sym (kept.bits p) ∙ bit)
+  where
+    by_test : (b : Bool) → number b ≡ 1 → b ≡ true
+    by_test true e = refl
+    by_test false e = absurd (omega arith)
+
+test_false : (l : LayoutData) (used : List ℕ) (s : SignalData) (q : ℕ) → IsKept l used → (IsTrue (uses s q) → payload_bit used q ≢ 1) → taken_test l s q ≡ false
+unfolding taken_test
+test_false l used s q kept free = by_tests (uses s q) (is_some (user_of l.signals q)) refl refl
+  where
+    by_tests : (a b : Bool) → uses s q ≡ a → is_some (user_of l.signals q) ≡ b → (a && b) ≡ false
+    by_tests false b e f = refl
+    by_tests true false e f = refl
+    by_tests true true e f = absurd (free e (kept.bits q ∙ ap number f))
+
+pub taken_none : (l : LayoutData) (used : List ℕ) (s : SignalData) → IsKept l used → ((p : ℕ) → IsTrue (uses s p) → payload_bit used p ≡ 0) → first_taken l s ≡ None
+taken_none l used s kept free =
+    first_taken_is l s
+    ∙ ap (option_and_then (taken_at l.signals))
+    (find_nothing (taken_test l s) 0 (16 * l.words) (λ q. test_false l used s q kept (λ u e. absurd (omega (arith, free q u, e)))))
+
+pub taken_some : (l : LayoutData) (used : List ℕ) (s t : SignalData) (p : ℕ) → IsKept l used → IsTrue (lies_inside l.words s) → IsTrue (uses s p) → payload_bit used p ≡ 1 →
+    ((q : ℕ) → IsTrue (uses s q) → payload_bit used q ≡ 1 → p ≤ q) → user_of l.signals p ≡ Some t → bit_taken (first_taken l s) ≡ Err (BitTaken p t.name)
+unfolding taken_test
+taken_some l used s t p kept inside here bit least user =
+    let entry = uses_entry s p here in
+    let below : p < 16 * l.words = omega (arith, entry.2, inside_below s l.words (16 * l.words) inside (omega arith) entry.0 0 (omega (arith, entry.1, length-bits_of s))) in
+    let both : taken_test l s p ≡ true = ap (λ b. b && is_some (user_of l.signals p)) here ∙ kept_bit l used p kept bit in
+    let found : find (taken_test l s) (range_with_len 0 (16 * l.words)) ≡ Some p =
+    find_least (taken_test l s) p (16 * l.words) below both (λ q less. test_false l used s q kept (λ u e. absurd (omega (arith, least q u e)))) in
+    ap bit_taken (first_taken_is l s ∙ (ap (option_and_then (taken_at l.signals)) found ∙ ap (option_map (λ s. (p, s.name))) user))
+
+-- a used bit has a user
+pub has_user : (l : LayoutData) (used : List ℕ) (p : ℕ) → IsKept l used → payload_bit used p ≡ 1 → user_of l.signals p ≡ None → ⊥
+has_user l used p kept bit none = same (sym (kept_bit l used p kept bit) ∙ ap is_some none)
+  where
+    same : true ≡ false → ⊥
+    same e = cc
+
+-- ---- a layout with one signal more
+
+find_passes : (f : ℕ → Bool) (xs : List ℕ) (q : ℕ) → find f xs ≡ Some q → f q ≡ true
+find_passes f [] q e = cc
+find_passes f (x ∷ xs) q e = by_test (f x) refl e (find_passes f xs q)
+  where
+    by_test : (b : Bool) → f x ≡ b → cond b (Some x) (find f xs) ≡ Some q → (find f xs ≡ Some q → f q ≡ true) → f q ≡ true
+    by_test true h e later = let same : x ≡ q = cc in ap f (sym same) ∙ h
+    by_test false h e later = later e
+
+find_none_all : (f : ℕ → Bool) (a n p : ℕ) → find f (range_with_len a n) ≡ None → a ≤ p → p < a + n → f p ≡ false
+find_none_all f a zero p e low high = absurd (omega arith)
+find_none_all f a (suc n) p e low high = by_test (f a) refl e (λ none less. find_none_all f (a + 1) n p none less (omega arith)) (eqb_tells a p)
+  where
+    by_test : (b : Bool) → f a ≡ b → cond b (Some a) (find f (range_with_len (a + 1) n)) ≡ None → (find f (range_with_len (a + 1) n) ≡ None → a + 1 ≤ p → f p ≡ false) →
+        ((eqb a p ≡ true) × (a ≡ p)) ⊎ ((eqb a p ≡ false) × (a ≢ p)) → f p ≡ false
+    by_test true h e later either = cc
+    by_test false h e later (inl same) = ap f (sym same.1) ∙ h
+    by_test false h e later (inr other) = later e (omega (arith, other.1))
+
+none_taken : (l : LayoutData) (s : SignalData) (o : Option ℕ) → ((q : ℕ) → o ≡ Some q → taken_test l s q ≡ true) → option_and_then (taken_at l.signals) o ≡ None → o ≡ None
+unfolding taken_test
+none_taken l s None passes e = refl
+none_taken l s (Some q) passes e = absurd (no_user (user_of l.signals q) (uses s q) (passes q refl) e)
+  where
+    named : SignalData → ℕ × List ℕ
+    named t = (q, t.name)
+
+    no_user : (u : Option SignalData) (b : Bool) → (b && is_some u) ≡ true → option_map named u ≡ None → ⊥
+    no_user None true h e = cc
+    no_user None false h e = cc
+    no_user (Some t) b h e = cc
+
+free_tests : (l : LayoutData) (s : SignalData) (p : ℕ) → first_taken l s ≡ None → p < 16 * l.words → taken_test l s p ≡ false
+free_tests l s p free below =
+    find_none_all (taken_test l s) 0 (16 * l.words) p
+    (none_taken l s (find (taken_test l s) (range_with_len 0 (16 * l.words))) (find_passes (taken_test l s) (range_with_len 0 (16 * l.words))) (sym (first_taken_is l s) ∙ free))
+    (omega arith) (omega arith)
+
+true-false : true ≡ false → ⊥
+true-false e = cc
+
+-- a free signal shares no bit with the others
+free_apart : (l : LayoutData) (s : SignalData) → IsTrue (lies_inside l.words s) → first_taken l s ≡ None → All (AreApart s) l.signals
+unfolding taken_test
+free_apart l s inside free k d within p here there =
+    let entry = uses_entry s p here in
+    let below : p < 16 * l.words = omega (arith, entry.2, inside_below s l.words (16 * l.words) inside (omega arith) entry.0 0 (omega (arith, entry.1, length-bits_of s))) in
+    let user : is_some (user_of l.signals p) ≡ true = is_some-user_of l.signals p ∙ list_any_at (λ t. uses t p) l.signals k d within there in
+    true-false (sym (ap (λ b. b && is_some (user_of l.signals p)) here ∙ user) ∙ free_tests l s p free below)
+
+pub length_bounds : (n : ℕ) → IsTrue (is_signal_length n) → (1 ≤ n) × (n ≤ 64)
+length_bounds n h = (grind (arith, nat_tests), grind (arith, nat_tests))
+
+other_names : (l : LayoutData) (s : SignalData) → has_signal l.signals s.name ≡ false → All (λ t. t.name ≢ s.name) l.signals
+other_names l s fresh k d within e =
+    true-false (sym ((bytes_eq-Decides (get_or l.signals k d).name s.name).1 e) ∙ none_of (λ t. bytes_eq t.name s.name) l.signals fresh k d within)
+
+other_starts : (l : LayoutData) (s : SignalData) → IsLayout l → 1 ≤ s.length → All (AreApart s) l.signals → All (λ t. s.start ≢ t.start) l.signals
+other_starts l s sound long apart k d within same =
+    apart k d within s.start (uses_start s long)
+    (ap (uses (get_or l.signals k d)) same ∙ uses_start (get_or l.signals k d) (length_bounds (get_or l.signals k d).length (sound.lengths k d within)).0)
+
+ones_or : (a b : Bool) → cond a 1 (number b) ≡ number (a || b)
+ones_or true b = refl
+ones_or false b = refl
+
+pub kept_with : (l : LayoutData) (used new : List ℕ) (s : SignalData) → IsKept l used → Admitted l s → IsTrue (is_signal_length s.length) →
+    ((p : ℕ) → payload_bit new p ≡ put_over (bits_of s) (2 ^ 64 - 1) p (payload_bit used p)) → length new ≡ length used → IsKept (extended l s) new
+kept_with l used new s kept passed long bits same =
+    let bounds = length_bounds s.length long in
+    let apart : All (AreApart s) l.signals = free_apart l s passed.inside passed.free in
+    let names : All (λ t. t.name ≢ s.name) l.signals = other_names l s passed.fresh in
+    let room : length l.signals < 64 = grind (arith, nat_tests, passed.room) in
+    record {
+      sound = record {
+        words = kept.sound.words;
+        count = omega (arith, length-with_signal s l.signals, room);
+        lengths = All-with (λ t. IsTrue (is_signal_length t.length)) s l.signals long kept.sound.lengths;
+        inside = All-with (λ t. IsTrue (lies_inside l.words t)) s l.signals passed.inside kept.sound.inside;
+        apart = AllPairs-with AreApart s l.signals apart (λ k d within p there here. apart k d within p here there) kept.sound.apart;
+        names = AllPairs-with (λ t u. t.name ≢ u.name) s l.signals (λ k d within e. names k d within (sym e)) names kept.sound.names;
+        rising = rising-with s l.signals (other_starts l s kept.sound bounds.0 apart) kept.sound.rising;
+      };
+      size = same ∙ kept.size;
+      bits = λ p.
+          bits p
+          ∙ (put_over_alike s (2 ^ 64 - 1) 1 p (payload_bit used p) (λ i within. bit_at_ones 64 i (omega (arith, bounds.1)))
+          ∙ (ap (cond (uses s p) 1) (kept.bits p)
+          ∙ (ones_or (uses s p) (is_some (user_of l.signals p))
+          ∙ ap number
+          (ap (λ b. uses s p || b) (is_some-user_of l.signals p) ∙ (sym (list_any-with_signal (λ t. uses t p) s l.signals) ∙ sym (is_some-user_of (with_signal s l.signals) p))))));
+    }
+
+-- ---- a layout with one signal less
+
+abbrev pub is_named : List ℕ → SignalData → Bool
+is_named name s = bytes_eq s.name name
+
+filter_all : {X : Type 0} (p : X → Bool) (xs : List X) → All (λ x. p x ≡ true) xs → filter p xs ≡ xs
+filter_all p [] all = refl
+filter_all p (x ∷ xs) all =
+    ap (λ b. cond b (x ∷ filter p xs) (filter p xs)) (All-head (λ x. p x ≡ true) x xs all) ∙ ap (λ l. x ∷ l) (filter_all p xs (All-tail (λ x. p x ≡ true) x xs all))
+
+differ : (a b : List ℕ) → a ≢ b → not (bytes_eq a b) ≡ true
+differ a b n = by_test (bytes_eq a b) (bytes_eq-Decides a b).0
+  where
+    by_test : (t : Bool) → (t ≡ true → a ≡ b) → not t ≡ true
+    by_test true h = absurd (n (h refl))
+    by_test false h = refl
+
+-- the one of that name is taken out
+pub without_is : (xs : List SignalData) (i : ℕ) (name : List ℕ) (d : SignalData) → AllPairs (λ s t. s.name ≢ t.name) xs → i < length xs → (get_or xs i d).name ≡ name →
+    filter (λ s. not (bytes_eq s.name name)) xs ≡ remove xs i
+without_is [] i name d names within same = absurd (omega arith)
+without_is (t ∷ xs) zero name d names within same =
+    ap (λ b. cond (not b) (t ∷ filter (λ s. not (bytes_eq s.name name)) xs) (filter (λ s. not (bytes_eq s.name name)) xs)) ((bytes_eq-Decides t.name name).1 same)
+    ∙ filter_all (λ s. not (bytes_eq s.name name)) xs (λ k e below. differ (get_or xs k e).name name (λ h. AllPairs-head (λ s t. s.name ≢ t.name) t xs names k e below (same ∙ sym h)))
+without_is (t ∷ xs) (suc i) name d names within same =
+    ap (λ b. cond b (t ∷ filter (λ s. not (bytes_eq s.name name)) xs) (filter (λ s. not (bytes_eq s.name name)) xs))
+    (differ t.name name (λ h. AllPairs-head (λ s t. s.name ≢ t.name) t xs names i d (omega arith) (h ∙ sym same)))
+    ∙ ap (λ l. t ∷ l) (without_is xs i name d (AllPairs-tail (λ s t. s.name ≢ t.name) t xs names) (omega arith) same)
+
+-- the bits of the one that is taken out are free
+any_without : (xs : List SignalData) (i p : ℕ) (d : SignalData) → AllPairs AreApart xs → i < length xs →
+    list_any (λ s. uses s p) (remove xs i) ≡ cond (uses (get_or xs i d) p) false (list_any (λ s. uses s p) xs)
+any_without [] i p d apart within = absurd (omega arith)
+any_without (t ∷ xs) zero p d apart within = by_test (uses t p) refl
+  where
+    by_test : (b : Bool) → uses t p ≡ b → list_any (λ s. uses s p) xs ≡ cond b false (b || list_any (λ s. uses s p) xs)
+    by_test true e = list_any_none (λ s. uses s p) xs (λ k d below. not_true (uses (get_or xs k d) p) (AllPairs-head AreApart t xs apart k d below p e))
+    by_test false e = refl
+any_without (t ∷ xs) (suc i) p d apart within =
+    ap (λ b. uses t p || b) (any_without xs i p d (AllPairs-tail AreApart t xs apart) (omega arith))
+    ∙ by_tests (uses t p) (uses (get_or xs i d) p) (list_any (λ s. uses s p) xs) (AllPairs-head AreApart t xs apart i d (omega arith) p)
+  where
+    by_tests : (a b c : Bool) → (a ≡ true → b ≡ true → ⊥) → (a || cond b false c) ≡ cond b false (a || c)
+    by_tests true true c n = absurd (n refl refl)
+    by_tests false true c n = refl
+    by_tests a false c n = refl
+
+zero_unless : (a b : Bool) → cond a 0 (number b) ≡ number (cond a false b)
+zero_unless true b = refl
+zero_unless false b = refl
+
+pub kept_without : (l : LayoutData) (used new : List ℕ) (i : ℕ) (t : SignalData) → IsKept l used → i < length l.signals → t ≡ get_or l.signals i t →
+    ((p : ℕ) → payload_bit new p ≡ put_over (bits_of t) 0 p (payload_bit used p)) → length new ≡ length used → IsKept (record l { signals = remove l.signals i }) new
+kept_without l used new i t kept within at bits same =
+    let taken_out : filter (λ s. not (bytes_eq s.name t.name)) l.signals ≡ remove l.signals i = without_is l.signals i t.name t kept.sound.names within (ap (λ (s : SignalData). s.name) (sym at)) in
+    let Sound : List SignalData → Type 0 = λ xs. IsLayout (record l { signals = xs }) in
+    let fewer : length (filter (λ s. not (bytes_eq s.name t.name)) l.signals) ≤ 64 = omega (arith, ap length taken_out, length-remove l.signals i within, kept.sound.count) in
+    record {
+      sound = subst Sound taken_out (record {
+        words = kept.sound.words;
+        count = fewer;
+        lengths = All-filter (λ s. not (bytes_eq s.name t.name)) (λ s. IsTrue (is_signal_length s.length)) l.signals kept.sound.lengths;
+        inside = All-filter (λ s. not (bytes_eq s.name t.name)) (λ s. IsTrue (lies_inside l.words s)) l.signals kept.sound.inside;
+        apart = AllPairs-filter AreApart (λ s. not (bytes_eq s.name t.name)) l.signals kept.sound.apart;
+        names = AllPairs-filter (λ s u. s.name ≢ u.name) (λ s. not (bytes_eq s.name t.name)) l.signals kept.sound.names;
+        rising = AllPairs-filter Rises (λ s. not (bytes_eq s.name t.name)) l.signals kept.sound.rising;
+      });
+      size = same ∙ kept.size;
+      bits = λ p.
+          bits p
+          ∙ (put_over_alike t 0 0 p (payload_bit used p) (λ i within. bit_at-zero i)
+          ∙ (ap (cond (uses t p) 0) (kept.bits p)
+          ∙ (zero_unless (uses t p) (is_some (user_of l.signals p))
+          ∙ ap number
+          (ap (cond (uses t p) false) (is_some-user_of l.signals p)
+          ∙ (ap (λ s. cond (uses s p) false (list_any (λ s. uses s p) l.signals)) at
+          ∙ (sym (any_without l.signals i p t kept.sound.apart within) ∙ sym (is_some-user_of (remove l.signals i) p)))))));
+    }
+
+-- a search by position
+position_ends : {X : Type 0} (p : X → Bool) (xs : List X) → length xs ≤ position_or_len p xs → list_any p xs ≡ false
+position_ends p [] h = refl
+position_ends p (x ∷ xs) h = by_test (p x) h (position_ends p xs)
+  where
+    by_test : (b : Bool) → length (x ∷ xs) ≤ cond (not b) (1 + position_or_len p xs) 0 → (length xs ≤ position_or_len p xs → list_any p xs ≡ false) → (b || list_any p xs) ≡ false
+    by_test true h later = absurd (omega arith)
+    by_test false h later = later (omega arith)
+
+pub position_none : {X : Type 0} (p : X → Bool) (xs : List X) → None ≡ position p xs → list_any p xs ≡ false
+position_none p xs e = position_ends p xs (by_test (ltb (position_or_len p xs) (length xs)) refl e)
+  where
+    by_test : (b : Bool) → ltb (position_or_len p xs) (length xs) ≡ b → None ≡ cond b (Some (position_or_len p xs)) None → length xs ≤ position_or_len p xs
+    by_test true h e = cc
+    by_test false h e = grind (arith, nat_tests)
+
+-- the refusal of a removal
+removing : Bool → LayoutData → Result LayoutData Refusal
+removing found layout = do
+  refuse NoSignal when (not found)
+  Ok layout
+
+removing_is : (l : LayoutData) (name : List ℕ) → remove_signal l name ≡ removing (has_signal l.signals name) (record l { signals = filter (λ s. not (bytes_eq s.name name)) l.signals })
+unfolding remove_signal removing
+removing_is l name = refl
+
+pub remove_none : (l : LayoutData) (name : List ℕ) → has_signal l.signals name ≡ false → remove_signal l name ≡ Err NoSignal
+unfolding removing ◌>>=◌ ◌>>◌ refuse◌when◌
+remove_none l name none = removing_is l name ∙ ap (λ b. removing b (record l { signals = filter (λ s. not (bytes_eq s.name name)) l.signals })) none
+
+pub remove_some : (l : LayoutData) (name : List ℕ) (i : ℕ) (t : SignalData) → IsLayout l → i < length l.signals → t ≡ get_or l.signals i t → t.name ≡ name → remove_signal l name ≡ Ok (record l { signals = remove l.signals i })
+unfolding removing ◌>>=◌ ◌>>◌ refuse◌when◌
+remove_some l name i t sound within at same =
+    let named : (get_or l.signals i t).name ≡ name = ap (λ (s : SignalData). s.name) (sym at) ∙ same in
+    removing_is l name
+    ∙ (ap (λ b. removing b (record l { signals = filter (λ s. not (bytes_eq s.name name)) l.signals }))
+    (list_any_at (λ s. bytes_eq s.name name) l.signals i t within ((bytes_eq-Decides (get_or l.signals i t).name name).1 named))
+    ∙ ap (λ xs. Ok (record l { signals = xs })) (without_is l.signals i name t sound.names within named))
+
+-- ---- the layout of no signals
+
+abbrev zeros : ℕ → List ℕ
+zeros n = replicate n 0
+
+get_or-zeros : (n k : ℕ) → get_or (zeros n) k 0 ≡ 0
+get_or-zeros zero k = refl
+get_or-zeros (suc n) zero = refl
+get_or-zeros (suc n) (suc k) = get_or-zeros n k
+
+pub payload_bit-zeros : (n p : ℕ) → payload_bit (replicate n 0) p ≡ 0
+payload_bit-zeros n p = ap (λ b. bit_at b (p % 8)) (get_or-zeros n (p / 8)) ∙ bit_at-zero (p % 8)
+
+pub kept_empty : (words : ℕ) (items : List SignalData) (used : List ℕ) → words ≤ 127 → items ≡ [] → used ≡ replicate 254 0 → IsKept (record { words = words; signals = items }) used
+kept_empty words items used small none all_zero =
+    let Kept : List SignalData → List ℕ → Type 0 = λ xs bytes. IsKept (record { words = words; signals = xs }) bytes in
+    subst (λ xs. Kept xs used) (sym none) (subst (Kept []) (sym all_zero) (record {
+      sound = record {
+        words = small;
+        count = omega arith;
+        lengths = λ k d h. absurd (omega arith);
+        inside = λ k d h. absurd (omega arith);
+        apart = λ i j d h below. absurd (omega arith);
+        names = λ i j d h below. absurd (omega arith);
+        rising = λ i j d h below. absurd (omega arith);
+      };
+      size = length-replicate {A = ℕ} 254 0;
+      bits = payload_bit-zeros 254;
+    }))
+
+-- the signal is inserted at its place
+pub inserted : (items seen new : List SignalData) (s : SignalData) (start len index : ℕ) (o : Option ℕ) (done : Bool) → seen ≡ items → start ≡ s.start →
+    o ≡ position (λ t. ltb start t.start) seen → len ≡ length items → index ≡ unwrap_or o len → new ≡ cond done (insert items index s) items → done ≡ true → new ≡ with_signal s items
+inserted items seen new s start len index o done same starts found size at is worked =
+    let place : index ≡ position_or_len (λ t. ltb s.start t.start) items =
+    at
+    ∙ (ap (λ o. unwrap_or o len) (found ∙ (ap (λ n. position (λ (t : SignalData). ltb n t.start) seen) starts ∙ ap (position (λ (t : SignalData). ltb s.start t.start)) same))
+    ∙ (ap (unwrap_or (position (λ (t : SignalData). ltb s.start t.start) items)) size ∙ place_of_position (λ (t : SignalData). ltb s.start t.start) items)) in
+    is ∙ (ap (λ b. cond b (insert items index s) items) worked ∙ (ap (λ n. insert items n s) place ∙ with_signal_at s items))

@@ -1,0 +1,136 @@
+ghost use Rattle.std.specs.Prelude.{◌≡◌, ◌==◌, ◌<◌, ◌≤◌, ◌*◌, ◌^◌, ℕ, length, All, AllPairs, IsTrue, IfNone, IfSome, map, IfOk, Some, min, nat_le, nat_lt, position, unwrap_or};
+ghost use Rattle.std.specs.Option.{option_map_or};
+ghost use Rattle.std.specs.Str.{bytes_eq};
+ghost use Rattle.fr_base.specs.Bits.{bits_of, image, payload_bit, uses, value_in};
+ghost use Rattle.fr_base.specs.Layouts.{AreApart, has_signal, lies_inside, user_of};
+ghost use Rattle.fr_layout.specs.Packing.{first_too_large};
+
+use crate::bits::{position, uses};
+use crate::payload::{has_bit, read, write};
+use fr_base::{Name, Signal};
+use std::alloc::{AllocError, Global};
+
+/// Whether a signal has this name.
+pub(crate) fn has_signal(signals: &[Signal], name: Name) -> bool
+    ensures { result ≡ has_signal signals.now name }
+{
+    signals.iter().any(|signal| signal.name() == name)
+}
+
+/// The signal that uses the payload bit.
+pub(crate) fn user_of(signals: &[Signal], position: usize) -> Option<Signal>
+    ensures { result ≡ user_of signals.now position }
+{
+    signals
+        .iter()
+        .copied()
+        .find(|signal| uses(*signal, position))
+}
+
+/// The index of the first signal that starts after this bit.
+pub(crate) fn first_after(signals: &[Signal], start: u32) -> Option<usize>
+    ensures { result ≡ position (λ s. nat_lt start s.start) signals.now }
+{
+    signals.iter().position(|signal| start < signal.start())
+}
+
+/// The index of the signal of this name.
+pub(crate) fn index_of(signals: &[Signal], name: Name) -> Option<usize>
+    ensures { result ≡ position (λ s. bytes_eq s.name name) signals.now }
+{
+    signals.iter().position(|signal| signal.name() == name)
+}
+
+/// The least of the signal's bits that are 1 in the payload.
+pub(crate) fn least_used(used: &[u8], signal: Signal) -> Option<usize>
+    requires { All (λ p. p < 8 * length used.now) (bits_of signal) }
+    ensures none { IfNone result ((p : ℕ) → IsTrue (uses signal p) → payload_bit used.now p ≡ 0) }
+    ensures found { IfSome result (λ p. IsTrue (uses signal p) × (payload_bit used.now p ≡ 1)) }
+    ensures least { IfSome result (λ p. (q : ℕ) → IsTrue (uses signal q) → payload_bit used.now q ≡ 1 → p ≤ q) }
+{
+    let mut least: Option<usize> = None;
+    for index in 0..signal.length() {
+        let at = position(signal, index);
+        if has_bit(used, at) {
+            least = Some(lesser(least, at));
+        }
+    }
+    least
+}
+
+/// The lesser of the two, where there are two.
+fn lesser(least: Option<usize>, at: usize) -> usize
+    ensures { result ≡ option_map_or (λ before. min before at) least at }
+{
+    match least {
+        Some(before) => before.min(at),
+        None => at,
+    }
+}
+
+/// The least index of a value that has more bits than its signal.
+pub(crate) fn first_too_large(signals: &[Signal], values: &[u64]) -> Option<usize>
+    ensures { result ≡ first_too_large signals.now values.now }
+{
+    signals
+        .iter()
+        .zip(values)
+        .position(|(signal, value)| is_too_large(*value, signal.length()))
+}
+
+/// Whether the value has more bits than that.
+fn is_too_large(value: u64, length: u32) -> bool
+    requires { length ≤ 64 }
+    ensures { result ≡ nat_le (2 ^ length) value }
+{
+    length < 64 && value >> length > 0
+}
+
+/// Puts the values into a payload of zeros of so many words.
+fn put_all(bytes: &mut [u8], words: u32, signals: &[Signal], values: &[u64])
+    requires zeros { (p : ℕ) → payload_bit bytes.old p ≡ 0 }
+    requires size { length bytes.old ≡ 2 * words }
+    requires inside { All (λ s. IsTrue (lies_inside words s)) signals.now }
+    requires apart { AllPairs AreApart signals.now }
+    requires count { length values.now ≡ length signals.now }
+    ensures { bytes.new ≡ image words signals.now values.now }
+{
+    for (index, signal) in signals.iter().enumerate() {
+        write(bytes, *signal, values[index]);
+    }
+}
+
+/// The payload of so many words that the values make.
+pub(crate) fn image(
+    alloc: Global,
+    words: u32,
+    signals: &[Signal],
+    values: &[u64],
+) -> Result<Vec<u8>, AllocError>
+    requires inside { All (λ s. IsTrue (lies_inside words s)) signals.now }
+    requires apart { AllPairs AreApart signals.now }
+    requires count { length values.now ≡ length signals.now }
+    ensures { IfOk result (λ bytes. bytes.items ≡ image words signals.now values.now) }
+{
+    let mut bytes = vec![in alloc; 0; 2 * words as usize]?;
+    put_all(&mut bytes, words, signals, values);
+    Ok(bytes)
+}
+
+/// The values of the signals in a payload.
+pub(crate) fn values_in(
+    alloc: Global,
+    words: u32,
+    signals: &[Signal],
+    bytes: &[u8],
+) -> Result<Vec<u64>, AllocError>
+    requires size { length bytes.now ≡ 2 * words }
+    requires inside { All (λ s. IsTrue (lies_inside words s)) signals.now }
+    ensures { IfOk result (λ values. values.items ≡ map (value_in bytes.now) signals.now) }
+{
+    let mut values = Vec::with_capacity(alloc, signals.len())?;
+    for signal in signals {
+        values.push(read(bytes, *signal))?;
+    }
+    Ok(values)
+}
