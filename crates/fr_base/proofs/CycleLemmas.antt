@@ -1,9 +1,10 @@
 -- Lemmas on cycle sets.
-use Rattle.std.proofs.Common.{◌≡◌, ◌≢◌, ℕ, zero, suc, ◌+◌, ◌%◌, ◌<◌, ◌≤◌, Bool, true, false, ◌&&◌, eqb, ltb, cond, List, [], ◌∷◌, Option, Some, None, refl, sym, ◌∙◌, ap, subst, ◌⊎◌, inl, inr, arith, IsTrue}
+use Rattle.std.proofs.Common.{◌≡◌, ◌≢◌, ℕ, zero, suc, ◌+◌, ◌%◌, ◌<◌, ◌≤◌, Bool, true, false, ◌&&◌, eqb, List, [], ◌∷◌, Option, Some, None, refl, sym, ◌∙◌, ap, subst, ◌⊎◌, inl, inr, arith, IsTrue}
 use Rattle.std.proofs.Math.Nat.{mod-mod_of_dvd, mod-eq_of_lt}
 use Rattle.std.proofs.lemmas.Nat.Gcd.{dvd_of_mod-eq-zero}
 use Rattle.std.proofs.lemmas.Bool.{eqb-true, eqb-false, eq-eqb, ne_eqb, ltb-true, and_parts, and_from, and_left, and_right, or_cases, cases_Bool, cases_eq, cases_lt, true≢false}
 use Rattle.std.proofs.Math.Bool.{and_comm}
+use Rattle.std.specs.Bool.{then_some}
 use Rattle.std.specs.List.{filter, find, list_any, range_with_len}
 use Rattle.fr_base.specs.Cycles.{Cycles, is_repetition, is_cycle_set, selects, cycle_count, all_cycles, cycles_of, has_cycle, first_common}
 
@@ -162,8 +163,8 @@ meet d p hd hp e =
     }
 
 -- the bases agree by the smaller repetition: the first common cycle is the base of the larger one
-pub first_common-met : (d p : Cycles) → IsCycleSet d → IsCycleSet p → p.base % d.repetition ≡ d.base → (first_common d p ≡ Some p.base) × (first_common p d ≡ Some p.base)
-first_common-met d p hd hp e =
+met : (d p : Cycles) → IsCycleSet d → IsCycleSet p → p.base % d.repetition ≡ d.base → (first_common d p ≡ Some p.base) × (first_common p d ≡ Some p.base)
+met d p hd hp e =
     let m = meet d p hd hp e in (
       first_common-Some d p p.base m.here m.dense m.sparse (λ j l. and_right _ _ (m.below j l)),
       first_common-Some p d p.base m.here m.sparse m.dense (λ j l. and_left _ _ (m.below j l)),
@@ -173,13 +174,20 @@ first_common-met d p hd hp e =
 apart : (d p : Cycles) → IsCycleSet d → IsCycleSet p → d.repetition ≤ p.repetition → p.base % d.repetition ≢ d.base → (j : ℕ) → selects p j ≡ true → selects d j ≡ false
 apart d p hd hp l ne j h = ne_eqb _ _ (λ e. ne (sym (remainder d p hd hp l j h) ∙ e))
 
-pub first_common-missed : (d p : Cycles) → IsCycleSet d → IsCycleSet p → d.repetition ≤ p.repetition → p.base % d.repetition ≢ d.base → (first_common d p ≡ None) × (first_common p d ≡ None)
-first_common-missed d p hd hp l ne =
+missed : (d p : Cycles) → IsCycleSet d → IsCycleSet p → d.repetition ≤ p.repetition → p.base % d.repetition ≢ d.base → (first_common d p ≡ None) × (first_common p d ≡ None)
+missed d p hd hp l ne =
     let none : (j : ℕ) → (selects d j && selects p j) ≡ false =
     λ j. elim (cases_Bool (selects p j)) [ inl t ↦ and_left _ _ (apart d p hd hp l ne j t) | inr f ↦ and_right _ _ f ] in
     let none_back : (j : ℕ) → (selects p j && selects d j) ≡ false =
     λ j. elim (cases_Bool (selects p j)) [ inl t ↦ and_right _ _ (apart d p hd hp l ne j t) | inr f ↦ and_left _ _ f ] in
     (first_common-None d p (λ j l. none j), first_common-None p d (λ j l. none_back j))
+
+-- the first common cycle of two sets, by the bases and the smaller repetition, in either order
+pub first_common_by_bases : (d p : Cycles) → IsCycleSet d → IsCycleSet p → d.repetition ≤ p.repetition → let least : Option ℕ = then_some (eqb (p.base % d.repetition) d.base) p.base in (first_common d p ≡ least) × (first_common p d ≡ least)
+first_common_by_bases d p hd hp l = elim (cases_Bool (eqb (p.base % d.repetition) d.base)) [
+  | inl t ↦ rw t (met d p hd hp (eqb-true _ _ t))
+  | inr f ↦ rw f (missed d p hd hp l (eqb-false _ _ f))
+]
 
 -- whether both sets have the cycle
 abbrev pub both_have : Cycles → Cycles → ℕ → Bool

@@ -82,11 +82,7 @@ impl CycleSet {
         } else {
             (other, self)
         };
-        if sparse.base % dense.repetition == dense.base {
-            Some(sparse.base)
-        } else {
-            None
-        }
+        (sparse.base % dense.repetition == dense.base).then_some(sparse.base)
     }
 }
 

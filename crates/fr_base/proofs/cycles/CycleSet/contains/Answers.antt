@@ -1,5 +1,5 @@
-use Rattle.std.proofs.Common.{◌<◌, ◌≤◌, arith, refl, lt-ltb, le-ltb}
-use Rattle.fr_base.specs.Cycles.{cycle_count, has_cycle}
+use Rattle.std.proofs.Common.{◌<◌, ◌≤◌, arith, refl, le-ltb}
+use Rattle.fr_base.specs.Cycles.{cycle_count}
 use Rattle.fr_base.proofs.CycleLemmas.{has_cycle-in, has_cycle-out}
 use Rattle.fr_base.proofs.cycles.CycleSet.contains.Goals as goal
 
