@@ -8,6 +8,7 @@ mod lines;
 mod output;
 mod report;
 mod request_text;
+mod schedule;
 mod script_fault;
 mod variant;
 
