@@ -1,9 +1,9 @@
 -- Laws of the image of values.
-use Rattle.std.proofs.Common.{◌≡◌, ◌≢◌, ℕ, suc, zero, ◌+◌, ◌-◌, ◌*◌, ◌/◌, ◌%◌, ◌^◌, ◌<◌, ◌≤◌, Bool, true, false, not, List, [], ◌∷◌, take, length, map, get_or, Option, Some, None, Result, Ok, Err, refl, sym, ◌∙◌, ap, arith, eqb, ltb, leb, cond, All, AllPairs, IsTrue, position, subst}
-use Rattle.std.specs.List.{range_with_len, zip, list_any}
+use Rattle.std.proofs.Common.{◌≡◌, ◌≢◌, ℕ, ◌+◌, ◌*◌, ◌/◌, ◌%◌, ◌^◌, ◌<◌, ◌≤◌, Bool, true, false, not, List, [], ◌∷◌, length, map, get_or, Option, Some, None, Result, Ok, Err, refl, sym, ◌∙◌, ap, arith, eqb, ltb, leb, subst}
+use Rattle.std.specs.List.{range_with_len, zip}
 use Rattle.std.specs.Option.{option_map_or}
 use Rattle.std.specs.Int.{bit_at}
-use Rattle.std.proofs.lemmas.Bool.Decides.{nat_tests, Decides-eqb, leb_tells}
+use Rattle.std.proofs.lemmas.Bool.Decides.{nat_tests, Decides-eqb}
 use Rattle.std.proofs.lemmas.Nat.Bits.{bit_at-lt}
 use Rattle.std.proofs.lemmas.List.{get_or-map, get_or_past, ext_get_or, length-map}
 use Rattle.std.proofs.lemmas.List.FromFn.{get_or-map-range_with_len, length-map-range_with_len, fill_by_all}
@@ -11,12 +11,12 @@ use Rattle.std.proofs.lemmas.Slice.Zip.{length-zip, get_or-zip}
 use Rattle.fr_base.specs.declared.signal.Order.TheVariants.{Little}
 use Rattle.fr_base.specs.Refusing.{◌>>=◌, ◌>>◌, refuse◌when◌}
 use Rattle.fr_base.specs.Signals.{SignalData}
-use Rattle.fr_base.specs.Bits.{bits_of, entry_of, payload_bit, from_bits, value_in, image_bit, image_byte, image}
-use Rattle.fr_base.specs.Layouts.{LayoutData, IsLayout, AreApart, lies_inside}
+use Rattle.fr_base.specs.Bits.{bits_of, entry_of, payload_bit, value_in, image_bit, image_byte, image}
+use Rattle.fr_base.specs.Layouts.{LayoutData, IsLayout}
 use Rattle.fr_layout.specs.Packing.{first_too_large, too_large, packed, unpacked, FailsAs}
 use Rattle.fr_layout.specs.Laws.{UnpackUndoesPack}
 use Rattle.fr_layout.specs.declared.pack_fault.PackFault.{PackFault}
-use Rattle.fr_layout.specs.declared.pack_fault.PackFault.TheVariants.{WrongCount, WrongLength, TooLarge, NoMemory}
+use Rattle.fr_layout.specs.declared.pack_fault.PackFault.TheVariants.{WrongCount, WrongLength, TooLarge}
 use Rattle.fr_layout.proofs.BitsLemmas.{image_bit_at, bit_at-from_bits, from_bits_all, length-bits_of}
 use Rattle.fr_layout.proofs.LayoutLemmas.{inside_below, position_none, none_of}
 

@@ -1,13 +1,12 @@
 -- Laws of the loops over signals.
-use Rattle.std.proofs.Common.{◌≡◌, ◌≢◌, ℕ, suc, zero, ◌+◌, ◌-◌, ◌*◌, ◌<◌, ◌≤◌, min, Bool, true, false, List, [], ◌∷◌, take, length, map, get_or, Option, Some, None, refl, sym, ◌∙◌, ap, arith, eqb, leb, cond, below_more, add-one, AllPairs, IsTrue, IfNone, IfSome, inl, inr, ◌⊎◌}
+use Rattle.std.proofs.Common.{◌≡◌, ◌≢◌, ℕ, ◌+◌, ◌<◌, ◌≤◌, min, Bool, true, false, List, take, length, get_or, Option, Some, None, refl, sym, ◌∙◌, ap, arith, leb, below_more, add-one, AllPairs, IsTrue, IfNone, IfSome, inl, inr, ◌⊎◌}
 use Rattle.fr_base.specs.Signals.{SignalData}
 use Rattle.fr_base.specs.Bits.{bits_of, image_bit, uses}
 use Rattle.fr_base.specs.Layouts.{AreApart}
 use Rattle.fr_layout.proofs.BitsLemmas.{put_over, image_bit-take, uses_at}
 use Rattle.fr_layout.proofs.LayoutLemmas.{uses_entry}
 use Rattle.std.specs.Option.{option_map_or}
-use Rattle.std.proofs.lemmas.Bool.Decides.{nat_tests, Decides-eqb}
-use Rattle.std.proofs.lemmas.Grind.{common_steps}
+use Rattle.std.proofs.lemmas.Bool.Decides.{nat_tests}
 
 -- the least of the first n positions whose bit is 1
 abbrev pub LeastBelow : (ℕ → ℕ) → List ℕ → ℕ → Option ℕ → Type 0

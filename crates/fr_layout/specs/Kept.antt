@@ -1,6 +1,5 @@
 -- How a layout is kept.
 use Rattle.std.specs.Prelude.{◌≡◌, ℕ, List, length, is_some, if◌then◌else◌}
-use Rattle.fr_base.specs.Signals.{SignalData}
 use Rattle.fr_base.specs.Bits.{payload_bit}
 use Rattle.fr_base.specs.Layouts.{LayoutData, IsLayout, user_of}
 

@@ -1,7 +1,7 @@
 -- The values of a layout's signals packed into a payload, and unpacked from it.
 use Rattle.std.specs.Prelude.{◌≡◌, ℕ, ◌*◌, ◌^◌, ◌==◌, not, List, length, map, position, Option, Some, None, Result, Ok, Err, ⊤, nat_le}
 use Rattle.std.specs.List.{zip}
-use Rattle.fr_base.specs.Refusing.{◌>>=◌, ◌>>◌, refuse◌when◌}
+use Rattle.fr_base.specs.Refusing.{◌>>◌, refuse◌when◌}
 use Rattle.fr_base.specs.Signals.{SignalData}
 use Rattle.fr_base.specs.Bits.{image, value_in}
 use Rattle.fr_base.specs.Layouts.{LayoutData}

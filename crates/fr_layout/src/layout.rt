@@ -21,7 +21,7 @@ const MAX_SIGNALS: usize = 64;
 const MAX_BYTES: usize = 254;
 
 /// The signals of a frame in a payload of up to 127 words of two bytes (FlexRay Protocol Specification
-/// 2.1 Rev. A, 4.2.5): at most 64, each inside the payload, no two of one name, and no bit in two of
+/// 2.1 Rev. A, 4.2.2): at most 64, each inside the payload, no two of one name, and no bit in two of
 /// them. They are listed in the order of their starts.
 #[derive(Drop)]
 pub struct Layout {
@@ -60,7 +60,7 @@ impl Layout {
         ensures value { result.now ≡ self.now.signals }
         ensures sound { IsLayout self.now }
     {
-        &self.signals
+        self.signals.as_slice()
     }
 
     /// Whether `add` would take the signal. If not: `Exists` where a signal has its name, `Limit` where
@@ -157,3 +157,8 @@ impl Layout {
         }
     }
 }
+
+#[cfg(test)]
+mod table;
+#[cfg(test)]
+mod tests;

@@ -1,4 +1,4 @@
-use Rattle.std.proofs.Common.{◌≡◌, ◌<◌, ℕ, List, length, get_or, take, arith, refl, ap, ◌∙◌}
+use Rattle.std.proofs.Common.{get_or, take, arith, refl, ap, ◌∙◌}
 use Rattle.std.proofs.lemmas.List.{take_all}
 use Rattle.fr_base.specs.Bits.{image_bit, payload_bit}
 use Rattle.fr_layout.proofs.ImageLemmas.{image_of_bits}

@@ -1,4 +1,4 @@
-use Rattle.std.proofs.Common.{◌≡◌, ◌∙◌, ◌*◌, ◌≤◌, ap, sym, subst, arith, not, is_ok, true, length, List, Ok}
+use Rattle.std.proofs.Common.{◌≡◌, ◌∙◌, ◌*◌, ap, sym, subst, arith, not, is_ok, length, List, Ok}
 use Rattle.fr_base.specs.Signals.{SignalData}
 use Rattle.fr_base.specs.Layouts.{LayoutData, add_signal, with_signal}
 use Rattle.fr_layout.specs.Kept.{IsKept}

@@ -1,4 +1,4 @@
-use Rattle.std.proofs.Common.{◌≡◌, ◌∙◌, ◌≤◌, ◌<◌, ap, sym, subst, arith, true, false, length, leb}
+use Rattle.std.proofs.Common.{◌≡◌, ◌∙◌, ◌≤◌, ◌<◌, ap, sym, arith, true, false, length, leb}
 use Rattle.std.proofs.lemmas.Bool.Decides.{nat_tests}
 use Rattle.fr_base.specs.Layouts.{LayoutData, has_signal, lies_inside}
 use Rattle.fr_layout.proofs.LayoutLemmas.{add_exists, add_limit, add_outside, add_last}

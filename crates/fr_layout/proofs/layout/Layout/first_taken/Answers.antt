@@ -1,4 +1,4 @@
-use Rattle.std.proofs.Common.{◌≡◌, ◌∙◌, ap, sym, subst, Err}
+use Rattle.std.proofs.Common.{◌∙◌, ap, sym, subst, Err}
 use Rattle.fr_base.specs.Layouts.{LayoutData, user_of}
 use Rattle.fr_base.specs.declared.refusal.Refusal.TheVariants.{BitTaken}
 use Rattle.fr_layout.specs.Kept.{IsKept}

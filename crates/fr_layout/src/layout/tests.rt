@@ -1,0 +1,213 @@
+use super::table::ROWS;
+use super::*;
+use crate::laws::unpack_undoes_pack;
+use fr_base::Order;
+use std::test::Fail;
+
+fn signal(name: &str, start: u32, length: u32, order: Order) -> Result<Signal, Fail> {
+    let name = Name::read(name).ok_or("no name")?;
+    Ok(Signal::new(name, start, length, order)?)
+}
+
+/// One word with `y`, big, and `x`, little, which together have all its bits.
+fn both(alloc: Global) -> Result<Layout, Fail> {
+    let mut layout = Layout::new(alloc, 1);
+    layout.add(signal("x", 4, 8, Order::Little)?)?;
+    layout.add(signal("y", 3, 8, Order::Big)?)?;
+    Ok(layout)
+}
+
+#[test]
+fn layout_and_text_calls_succeed(rt: HostRuntime) -> Result<(), Fail> {
+    let mut layout = Layout::new(rt.alloc(), 127);
+    let last = signal("last", 2031, 1, Order::Little)?;
+    assert_eq!(rt; layout.admits(&last), Ok(()));
+    layout.add(last)?;
+    assert_eq!(rt; layout.signals(), [last].as_slice());
+    let bytes = layout.pack(rt.alloc(), &[1])?;
+    assert_eq!(rt; bytes.len(), 254);
+    assert_eq!(rt; bytes.last(), Some(&0x80));
+    assert_eq!(rt;
+        layout.unpack(rt.alloc(), &bytes)?.as_slice(),
+        [1].as_slice()
+    );
+    layout.remove(last.name())?;
+    assert_eq!(rt; layout.signals().len(), 0);
+    unpack_undoes_pack();
+    Ok(())
+}
+
+#[test]
+fn both_orders_packed(rt: HostRuntime) -> Result<(), Fail> {
+    let alone = [
+        (signal("y", 3, 8, Order::Big)?, [0x0a, 0xb0]),
+        (signal("x", 4, 8, Order::Little)?, [0xb0, 0x0a]),
+    ];
+    for (signal, bytes) in alone {
+        let mut layout = Layout::new(rt.alloc(), 1);
+        layout.add(signal)?;
+        assert_eq!(rt;
+            layout.pack(rt.alloc(), &[171])?.as_slice(),
+            bytes.as_slice()
+        );
+    }
+    let layout = both(rt.alloc())?;
+    assert_eq!(rt;
+        layout.pack(rt.alloc(), &[171, 171])?.as_slice(),
+        [0xba, 0xba].as_slice()
+    );
+    assert_eq!(rt;
+        layout.unpack(rt.alloc(), &[0xba, 0xba])?.as_slice(),
+        [171, 171].as_slice()
+    );
+    assert_eq!(rt;
+        layout.pack(rt.alloc(), &[256, 0]).err(),
+        Some(PackFault::TooLarge { index: 0 })
+    );
+    assert_eq!(rt;
+        layout.pack(rt.alloc(), &[0, 256]).err(),
+        Some(PackFault::TooLarge { index: 1 })
+    );
+    assert_eq!(rt;
+        layout.pack(rt.alloc(), &[171]).err(),
+        Some(PackFault::WrongCount)
+    );
+    assert_eq!(rt;
+        layout.unpack(rt.alloc(), &[0, 0, 0]).err(),
+        Some(PackFault::WrongLength)
+    );
+    Ok(())
+}
+
+#[test]
+fn signals_refused(rt: HostRuntime) -> Result<(), Fail> {
+    let word = Layout::new(rt.alloc(), 1);
+    assert_eq!(rt; word.admits(&signal("z", 15, 1, Order::Little)?), Ok(()));
+    assert_eq!(rt;
+        word.admits(&signal("z", 15, 2, Order::Little)?),
+        Err(Refusal::OutOfPayload)
+    );
+    assert_eq!(rt;
+        word.admits(&signal("z", 8, 2, Order::Big)?),
+        Err(Refusal::OutOfPayload)
+    );
+    assert_eq!(rt;
+        word.admits(&signal("z", u32::MAX, 64, Order::Little)?),
+        Err(Refusal::OutOfPayload)
+    );
+    assert_eq!(rt;
+        word.admits(&signal("z", u32::MAX, 64, Order::Big)?),
+        Err(Refusal::OutOfPayload)
+    );
+    let nothing = Layout::new(rt.alloc(), 0);
+    for order in [Order::Little, Order::Big] {
+        assert_eq!(rt;
+            nothing.admits(&signal("z", 0, 1, order)?),
+            Err(Refusal::OutOfPayload)
+        );
+    }
+
+    let mut layout = both(rt.alloc())?;
+    let x = Name::read("x").ok_or("no name")?;
+    let y = Name::read("y").ok_or("no name")?;
+    let refusals = [
+        (
+            signal("z", 11, 1, Order::Little)?,
+            Refusal::BitTaken { bit: 11, signal: x },
+        ),
+        (
+            signal("z", 0, 16, Order::Little)?,
+            Refusal::BitTaken { bit: 0, signal: y },
+        ),
+        (
+            signal("z", 7, 16, Order::Big)?,
+            Refusal::BitTaken { bit: 0, signal: y },
+        ),
+        (signal("x", 0, 1, Order::Little)?, Refusal::Exists),
+    ];
+    for (signal, refusal) in refusals {
+        assert_eq!(rt; layout.add(signal), Err(refusal));
+    }
+    assert_eq!(rt;
+        layout.remove(Name::read("w").ok_or("no name")?),
+        Err(Refusal::NoSignal)
+    );
+    assert_eq!(rt; layout.signals().len(), 2);
+    layout.remove(y)?;
+    layout.add(signal("z", 3, 4, Order::Big)?)?;
+    Ok(())
+}
+
+#[test]
+fn packs_the_whole_payload_as_one_number(rt: HostRuntime) -> Result<(), Fail> {
+    for (order, start, length, value, first, last) in &ROWS {
+        let mut layout = Layout::new(rt.alloc(), 5);
+        layout.add(signal("s", *start, *length, *order)?)?;
+        let bytes = layout.pack(rt.alloc(), &[*value])?;
+        assert_eq!(rt; bytes.len(), 10);
+        assert_eq!(rt; &bytes[..8], first.to_be_bytes().as_slice());
+        assert_eq!(rt; &bytes[8..], last.to_be_bytes().as_slice());
+        assert_eq!(rt;
+            layout.unpack(rt.alloc(), &bytes)?.as_slice(),
+            [*value].as_slice()
+        );
+    }
+    Ok(())
+}
+
+/// With any one allocation refused, what a call refuses leaves the layout as it was.
+#[test]
+fn refused_memory_changes_nothing(rt: HostRuntime) -> Result<(), Fail> {
+    let mut layout = Layout::new(rt.alloc(), 1);
+    for (start, name) in (0..16).zip("abcdefghijklmnop".bytes()) {
+        let text = [name];
+        let text = std::str::from_utf8(&text).ok().ok_or("no text")?;
+        let added = signal(text, start, 1, Order::Little)?;
+        let before = layout.signals().len();
+        if let Err(refusal) = layout.add(added) {
+            assert_eq!(rt; refusal, Refusal::Unavailable);
+            assert_eq!(rt; layout.signals().len(), before);
+            layout.add(added)?;
+        }
+    }
+    let values = [1, 0, 1, 1, 0, 0, 0, 1, 0, 1, 1, 1, 0, 0, 1, 0];
+    let bytes = match layout.pack(rt.alloc(), &values) {
+        Ok(bytes) => bytes,
+        Err(fault) => {
+            assert_eq!(rt; fault, PackFault::NoMemory);
+            layout.pack(rt.alloc(), &values)?
+        }
+    };
+    assert_eq!(rt; bytes.as_slice(), [0x8d, 0x4e].as_slice());
+    let again = match layout.unpack(rt.alloc(), &bytes) {
+        Ok(again) => again,
+        Err(fault) => {
+            assert_eq!(rt; fault, PackFault::NoMemory);
+            layout.unpack(rt.alloc(), &bytes)?
+        }
+    };
+    assert_eq!(rt; again.as_slice(), values.as_slice());
+    Ok(())
+}
+
+#[test]
+fn sixty_four_signals_are_the_limit(rt: HostRuntime) -> Result<(), Fail> {
+    let mut layout = Layout::new(rt.alloc(), 5);
+    for start in 0..64 {
+        let text = format!(in rt.alloc(); "s{start}")?;
+        layout.add(signal(&text, start, 1, Order::Little)?)?;
+    }
+    assert_eq!(rt;
+        layout.add(signal("s64", 64, 1, Order::Little)?),
+        Err(Refusal::Limit)
+    );
+    assert_eq!(rt;
+        layout.add(signal("s0", 64, 1, Order::Little)?),
+        Err(Refusal::Exists)
+    );
+    assert_eq!(rt;
+        layout.add(signal("s65", 80, 1, Order::Little)?),
+        Err(Refusal::Limit)
+    );
+    Ok(())
+}
