@@ -154,43 +154,43 @@ refused_lines = refl
 -- of several refusals the first by number
 pub first_refusals :
     answers (
-      integrator (OpenVariant (codes "v1"))
-      ∷ integrator (AddNode (codes "s1") (codes "n1"))
-      ∷ integrator (Grant (codes "v1") 1 (codes "A") (codes "s1") (codes "n1"))
-      ∷ s1 (AddFrame (codes "v1") (codes "f") (codes "n1"))
-      ∷ s1 (Place (codes "1v") (codes "f") 0 (codes "C") 5 3)
-      ∷ s1 (Place (codes "v9") (codes "f") 0 (codes "C") 5 3)
-      ∷ s1 (Place (codes "v9") (codes "f") 5 (codes "C") 0 1)
-      ∷ s1 (Place (codes "v9") (codes "f") 4 (codes "C") 0 1)
-      ∷ s1 (Place (codes "v9") (codes "g") 4 (codes "AB") 0 1)
-      ∷ s1 (Place (codes "v1") (codes "g") 4 (codes "AB") 0 1)
-      ∷ s1 (Place (codes "v1") (codes "f") 1 (codes "A") 0 8)
-      ∷ s1 (Place (codes "v1") (codes "f") 1 (codes "A") 1 8)
-      ∷ s1 (Place (codes "v1") (codes "f") 1 (codes "A") 2 8)
-      ∷ s1 (Place (codes "v1") (codes "f") 1 (codes "A") 3 8)
-      ∷ s1 (Place (codes "v1") (codes "f") 1 (codes "A") 4 8)
-      ∷ s1 (Place (codes "v1") (codes "f") 1 (codes "A") 5 8)
-      ∷ s1 (Place (codes "v1") (codes "f") 1 (codes "A") 6 8)
-      ∷ s1 (Place (codes "v1") (codes "f") 1 (codes "A") 7 8)
-      ∷ s1 (Place (codes "v1") (codes "f") 3 (codes "A") 7 8)
-      ∷ s1 (Place (codes "v1") (codes "f") 1 (codes "A") 7 8)
-      ∷ s1 (AddFrame (codes "v1") (codes "f") (codes "n9"))
-      ∷ s1 (AddFrame (codes "v1") (codes "f") (codes "n1"))
-      ∷ integrator (Grant (codes "v9") 1 (codes "A") (codes "s9") (codes "n9"))
-      ∷ integrator (Grant (codes "v1") 1 (codes "A") (codes "s9") (codes "n9"))
-      ∷ integrator (Grant (codes "v1") 1 (codes "A") (codes "s2") (codes "n1"))
-      ∷ integrator (AddNode (codes "s9") (codes "n1"))
-      ∷ integrator (AddNode (codes "s1") (codes "n1"))
-      ∷ integrator (OpenVariant (codes "v1"))
-      ∷ record { actor = Supplier (codes "s3"); request = OpenVariant (codes "1v") }
-      ∷ [])
+    integrator (OpenVariant (codes "v1"))
+    ∷ integrator (AddNode (codes "s1") (codes "n1"))
+    ∷ integrator (Grant (codes "v1") 1 (codes "A") (codes "s1") (codes "n1"))
+    ∷ s1 (AddFrame (codes "v1") (codes "f") (codes "n1"))
+    ∷ s1 (Place (codes "1v") (codes "f") 0 (codes "C") 5 3)
+    ∷ s1 (Place (codes "v9") (codes "f") 0 (codes "C") 5 3)
+    ∷ s1 (Place (codes "v9") (codes "f") 5 (codes "C") 0 1)
+    ∷ s1 (Place (codes "v9") (codes "f") 4 (codes "C") 0 1)
+    ∷ s1 (Place (codes "v9") (codes "g") 4 (codes "AB") 0 1)
+    ∷ s1 (Place (codes "v1") (codes "g") 4 (codes "AB") 0 1)
+    ∷ s1 (Place (codes "v1") (codes "f") 1 (codes "A") 0 8)
+    ∷ s1 (Place (codes "v1") (codes "f") 1 (codes "A") 1 8)
+    ∷ s1 (Place (codes "v1") (codes "f") 1 (codes "A") 2 8)
+    ∷ s1 (Place (codes "v1") (codes "f") 1 (codes "A") 3 8)
+    ∷ s1 (Place (codes "v1") (codes "f") 1 (codes "A") 4 8)
+    ∷ s1 (Place (codes "v1") (codes "f") 1 (codes "A") 5 8)
+    ∷ s1 (Place (codes "v1") (codes "f") 1 (codes "A") 6 8)
+    ∷ s1 (Place (codes "v1") (codes "f") 1 (codes "A") 7 8)
+    ∷ s1 (Place (codes "v1") (codes "f") 3 (codes "A") 7 8)
+    ∷ s1 (Place (codes "v1") (codes "f") 1 (codes "A") 7 8)
+    ∷ s1 (AddFrame (codes "v1") (codes "f") (codes "n9"))
+    ∷ s1 (AddFrame (codes "v1") (codes "f") (codes "n1"))
+    ∷ integrator (Grant (codes "v9") 1 (codes "A") (codes "s9") (codes "n9"))
+    ∷ integrator (Grant (codes "v1") 1 (codes "A") (codes "s9") (codes "n9"))
+    ∷ integrator (Grant (codes "v1") 1 (codes "A") (codes "s2") (codes "n1"))
+    ∷ integrator (AddNode (codes "s9") (codes "n1"))
+    ∷ integrator (AddNode (codes "s1") (codes "n1"))
+    ∷ integrator (OpenVariant (codes "v1"))
+    ∷ record { actor = Supplier (codes "s3"); request = OpenVariant (codes "1v") }
+    ∷ [])
     ≡ Done ∷ Done ∷ Done ∷ Done
-      ∷ Refused BadName ∷ Refused BadCycles ∷ Refused BadSlot ∷ Refused BadChannel ∷ Refused NoVariant ∷ Refused NoFrame
-      ∷ Done ∷ Done ∷ Done ∷ Done ∷ Done ∷ Done ∷ Done ∷ Done
-      ∷ Refused NotGranted ∷ Refused Limit
-      ∷ Refused NoNode ∷ Refused Exists
-      ∷ Refused NoVariant ∷ Refused NoSupplier ∷ Refused NoNode
-      ∷ Refused NoSupplier ∷ Refused Exists ∷ Refused Exists
-      ∷ Refused UnknownKey ∷ []
+    ∷ Refused BadName ∷ Refused BadCycles ∷ Refused BadSlot ∷ Refused BadChannel ∷ Refused NoVariant ∷ Refused NoFrame
+    ∷ Done ∷ Done ∷ Done ∷ Done ∷ Done ∷ Done ∷ Done ∷ Done
+    ∷ Refused NotGranted ∷ Refused Limit
+    ∷ Refused NoNode ∷ Refused Exists
+    ∷ Refused NoVariant ∷ Refused NoSupplier ∷ Refused NoNode
+    ∷ Refused NoSupplier ∷ Refused Exists ∷ Refused Exists
+    ∷ Refused UnknownKey ∷ []
 unfolding a_small_register
 first_refusals = refl
