@@ -7,3 +7,7 @@ pub mod ReportLemmas
 pub mod AnswerTextLemmas
 pub mod StepOpen
 pub mod PageLaws
+pub mod CommandLaws
+pub mod AnswerLaws
+pub mod SharedLaws
+pub mod TakenLaws

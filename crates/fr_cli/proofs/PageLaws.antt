@@ -4,7 +4,7 @@ use Rattle.std.specs.Ordering.{nat_cmp, is_eq}
 use Rattle.std.specs.Cmp.{tied_itself}
 use Rattle.std.specs.Cmp.Lexicographic.{nat_list_cmp_total}
 use Rattle.std.specs.List.{list_all}
-use Rattle.fr_base.specs.Tables.{get, contains, only}
+use Rattle.fr_base.specs.Tables.{get, contains, len, only}
 use Rattle.fr_base.specs.Keys.{owned, channel_slots}
 use Rattle.fr_base.specs.Cluster.{same_text}
 use Rattle.fr_base.specs.Channels.{channels_in}
@@ -50,6 +50,12 @@ module _ (p : Params) (b : Book) (s : Name) (v : Variant) where
   unfolding page_of
   page-frame f = get-only owned (λ k _. is_of s k) v.frames (s, f) ∙ kept_own s f (get v.frames (s, f))
 
+  pub page-count : len (page_of p b s v).frames ≡ len (only (λ k _. is_of s k) v.frames)
+  unfolding page_of
+  page-count = refl
+
   pub page-granted : (n : Name) (q : Placement) → granted (page_of p b s v).grants s n q ≡ granted v.grants s n q
   unfolding page_of granted
   page-granted n q = all_alike _ _ (channels_in q.channels) (λ c. ap (held_by_node s n) (get-only channel_slots (λ _ h. held_by s (Some h)) v.grants (q.slot, c)) ∙ held_kept s n (q.slot, c) (get v.grants (q.slot, c)))
+
+pub ruleset pages = (page-supplier, page-node, page-frame, page-count, page-granted)

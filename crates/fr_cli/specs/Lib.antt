@@ -6,3 +6,4 @@ pub mod Variants
 pub mod Report
 pub mod AnswerText
 pub mod Books
+pub mod Taken

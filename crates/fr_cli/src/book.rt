@@ -1,14 +1,14 @@
-ghost use Rattle.std.specs.Prelude.{◌≡◌, count_by, OnOk, OnErr, IfSome, option_map};
+ghost use Rattle.std.specs.Prelude.{◌≡◌, count_by, OnOk, OnErr, option_map};
 ghost use Rattle.std.specs.List.{list_any};
 ghost use Rattle.fr_base.specs.Book.{opening, empty_variant};
 ghost use Rattle.fr_base.specs.Cluster.{same_text};
 ghost use Rattle.fr_base.specs.Tables.{contains, empty, get, insert, len, only};
 ghost use Rattle.fr_base.specs.Step.{is_of, with_variant};
-ghost use Rattle.fr_cli.specs.Books.{book_of};
+ghost use Rattle.fr_cli.specs.Books.{book_of, Granted, Framed, Placed};
 ghost use Rattle.fr_cli.specs.Variants.{variant_of, holder_of};
 
-use crate::variant::{ChannelSlot, Holder, Owned, Variant};
-use fr_base::{Config, Name, Placement, Refusal, Supplier};
+use crate::variant::{Holder, Owned, Variant};
+use fr_base::{Channel, Config, Name, Placement, Refusal, Slot, Supplier};
 use std::alloc::Global;
 use std::collections::btree_set::Iter;
 use std::collections::{BTreeMap, BTreeSet};
@@ -56,6 +56,7 @@ impl Book {
 
     /// The supplier has the node from now on.
     pub(crate) fn put_node(&mut self, supplier: Name, name: Name) -> Result<(), Refusal>
+        ensures config { self.new.config ≡ self.old.config }
         ensures ok { OnOk result (book_of self.new ≡ record (book_of self.old) { nodes = insert (book_of self.old).nodes (supplier, name) tt }) }
         ensures err { OnErr result ((book_of self.new ≡ book_of self.old) × (result ≡ Err Refusal.Unavailable)) }
     {
@@ -88,6 +89,7 @@ impl Book {
 
     /// The book has an empty variant of this name from now on.
     pub(crate) fn put_variant(&mut self, alloc: Global, variant: Name) -> Result<(), Refusal>
+        ensures config { self.new.config ≡ self.old.config }
         ensures ok { OnOk result (book_of self.new ≡ with_variant (book_of self.old) variant empty_variant) }
         ensures err { OnErr result ((book_of self.new ≡ book_of self.old) × (result ≡ Err Refusal.Unavailable)) }
     {
@@ -101,16 +103,18 @@ impl Book {
     pub(crate) fn put_grant(
         &mut self,
         variant: Name,
-        at: ChannelSlot,
+        slot: Slot,
+        channel: Channel,
         holder: Holder,
     ) -> Result<(), Refusal>
-        ensures ok { OnOk result (IfSome (get (book_of self.old).variants variant) (λ v. book_of self.new ≡ with_variant (book_of self.old) variant (record v { grants = insert v.grants (at.slot, at.channel) (holder_of holder) }))) }
+        ensures config { self.new.config ≡ self.old.config }
+        ensures ok { OnOk result (Granted (book_of self.old) variant (slot, channel) (holder_of holder) (book_of self.new)) }
         ensures err { OnErr result ((book_of self.new ≡ book_of self.old) × (result ≡ Err Refusal.Unavailable)) }
     {
         let Some(rows) = self.variants.get_mut(&variant) else {
             return Ok(());
         };
-        match rows.grant(at, holder) {
+        match rows.grant(slot, channel, holder) {
             Ok(()) => Ok(()),
             Err(_) => Err(Refusal::Unavailable),
         }
@@ -121,16 +125,18 @@ impl Book {
         &mut self,
         alloc: Global,
         variant: Name,
-        key: Owned,
+        supplier: Name,
+        name: Name,
         node: Name,
     ) -> Result<(), Refusal>
-        ensures ok { OnOk result (IfSome (get (book_of self.old).variants variant) (λ v. book_of self.new ≡ with_variant (book_of self.old) variant (record v { frames = insert v.frames (key.supplier, key.name) (record { node = node; placements = empty }) }))) }
+        ensures config { self.new.config ≡ self.old.config }
+        ensures ok { OnOk result (Framed (book_of self.old) variant (supplier, name) (record { node = node; placements = empty }) (book_of self.new)) }
         ensures err { OnErr result ((book_of self.new ≡ book_of self.old) × (result ≡ Err Refusal.Unavailable)) }
     {
         let Some(rows) = self.variants.get_mut(&variant) else {
             return Ok(());
         };
-        match rows.add_frame(alloc, key, node) {
+        match rows.add_frame(alloc, supplier, name, node) {
             Ok(()) => Ok(()),
             Err(_) => Err(Refusal::Unavailable),
         }
@@ -141,16 +147,18 @@ impl Book {
     pub(crate) fn put_placement(
         &mut self,
         variant: Name,
-        key: Owned,
-        placement: Placement,
+        supplier: Name,
+        name: Name,
+        placement: &Placement,
     ) -> Result<(), Refusal>
-        ensures ok { OnOk result (IfSome (get (book_of self.old).variants variant) (λ v. IfSome (get v.frames (key.supplier, key.name)) (λ f. book_of self.new ≡ with_variant (book_of self.old) variant (record v { frames = insert v.frames (key.supplier, key.name) (record f { placements = insert f.placements placement tt }) })))) }
+        ensures config { self.new.config ≡ self.old.config }
+        ensures ok { OnOk result (Placed (book_of self.old) variant (supplier, name) placement.now (book_of self.new)) }
         ensures err { OnErr result ((book_of self.new ≡ book_of self.old) × (result ≡ Err Refusal.Unavailable)) }
     {
         let Some(rows) = self.variants.get_mut(&variant) else {
             return Ok(());
         };
-        match rows.place(key, placement) {
+        match rows.place(supplier, name, placement) {
             Ok(()) => Ok(()),
             Err(_) => Err(Refusal::Unavailable),
         }

@@ -10,6 +10,7 @@ mod report;
 mod request_text;
 mod schedule;
 mod script_fault;
+mod taken;
 mod variant;
 
 fn main() {}

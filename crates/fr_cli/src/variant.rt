@@ -56,11 +56,11 @@ impl Frame {
     }
 
     /// The frame is sent in the placement's cells too from now on.
-    pub(crate) fn place(&mut self, placement: Placement) -> Result<(), AllocError>
-        ensures ok { OnOk result (frame_of self.new ≡ record (frame_of self.old) { placements = insert (frame_of self.old).placements placement tt }) }
+    pub(crate) fn place(&mut self, placement: &Placement) -> Result<(), AllocError>
+        ensures ok { OnOk result (frame_of self.new ≡ record (frame_of self.old) { placements = insert (frame_of self.old).placements placement.now tt }) }
         ensures err { OnErr result (frame_of self.new ≡ frame_of self.old) }
     {
-        self.placements.insert(placement)?;
+        self.placements.insert(*placement)?;
         Ok(())
     }
 }
@@ -84,33 +84,38 @@ impl Variant {
     }
 
     /// Who holds the slot on the channel.
-    pub(crate) fn holder(&self, at: ChannelSlot) -> Option<Holder>
-        ensures { option_map holder_of result ≡ get (variant_of self.now).grants (at.slot, at.channel) }
+    pub(crate) fn holder(&self, slot: Slot, channel: Channel) -> Option<Holder>
+        ensures { option_map holder_of result ≡ get (variant_of self.now).grants (slot, channel) }
     {
-        self.grants.get(&at).copied()
+        self.grants.get(&ChannelSlot { slot, channel }).copied()
     }
 
     /// From now on the holder has the slot on the channel.
-    pub(crate) fn grant(&mut self, at: ChannelSlot, holder: Holder) -> Result<(), AllocError>
-        ensures ok { OnOk result (variant_of self.new ≡ record (variant_of self.old) { grants = insert (variant_of self.old).grants (at.slot, at.channel) (holder_of holder) }) }
+    pub(crate) fn grant(
+        &mut self,
+        slot: Slot,
+        channel: Channel,
+        holder: Holder,
+    ) -> Result<(), AllocError>
+        ensures ok { OnOk result (variant_of self.new ≡ record (variant_of self.old) { grants = insert (variant_of self.old).grants (slot, channel) (holder_of holder) }) }
         ensures err { OnErr result (variant_of self.new ≡ variant_of self.old) }
     {
-        self.grants.insert(at, holder)?;
+        self.grants.insert(ChannelSlot { slot, channel }, holder)?;
         Ok(())
     }
 
     /// Whether there is a frame of this name.
-    pub(crate) fn has_frame(&self, key: Owned) -> bool
-        ensures { result ≡ contains (variant_of self.now).frames (key.supplier, key.name) }
+    pub(crate) fn has_frame(&self, supplier: Name, name: Name) -> bool
+        ensures { result ≡ contains (variant_of self.now).frames (supplier, name) }
     {
-        self.frame(key).is_some()
+        self.frame(supplier, name).is_some()
     }
 
     /// The frame of this name.
-    pub(crate) fn frame(&self, key: Owned) -> Option<&Frame>
-        ensures { option_map (λ f. frame_of f.now) result ≡ get (variant_of self.now).frames (key.supplier, key.name) }
+    pub(crate) fn frame(&self, supplier: Name, name: Name) -> Option<&Frame>
+        ensures { option_map (λ f. frame_of f.now) result ≡ get (variant_of self.now).frames (supplier, name) }
     {
-        self.frames.get(&key)
+        self.frames.get(&Owned { supplier, name })
     }
 
     /// How many frames the supplier has.
@@ -124,53 +129,59 @@ impl Variant {
     pub(crate) fn add_frame(
         &mut self,
         alloc: Global,
-        key: Owned,
+        supplier: Name,
+        name: Name,
         node: Name,
     ) -> Result<(), AllocError>
-        ensures ok { OnOk result (variant_of self.new ≡ record (variant_of self.old) { frames = insert (variant_of self.old).frames (key.supplier, key.name) (record { node = node; placements = empty }) }) }
+        ensures ok { OnOk result (variant_of self.new ≡ record (variant_of self.old) { frames = insert (variant_of self.old).frames (supplier, name) (record { node = node; placements = empty }) }) }
         ensures err { OnErr result (variant_of self.new ≡ variant_of self.old) }
     {
         let frame = Frame {
             node,
             placements: BTreeSet::new(alloc),
         };
-        self.frames.insert(key, frame)?;
+        self.frames.insert(Owned { supplier, name }, frame)?;
         Ok(())
     }
 
     /// The frame is sent in the placement's cells too from now on, if there is a frame of this name.
-    pub(crate) fn place(&mut self, key: Owned, placement: Placement) -> Result<(), AllocError>
-        ensures ok { OnOk result (IfSome (get (variant_of self.old).frames (key.supplier, key.name)) (λ f. variant_of self.new ≡ record (variant_of self.old) { frames = insert (variant_of self.old).frames (key.supplier, key.name) (record f { placements = insert f.placements placement tt }) })) }
+    pub(crate) fn place(
+        &mut self,
+        supplier: Name,
+        name: Name,
+        placement: &Placement,
+    ) -> Result<(), AllocError>
+        ensures ok { OnOk result (IfSome (get (variant_of self.old).frames (supplier, name)) (λ f. variant_of self.new ≡ record (variant_of self.old) { frames = insert (variant_of self.old).frames (supplier, name) (record f { placements = insert f.placements placement.now tt }) })) }
         ensures err { OnErr result (variant_of self.new ≡ variant_of self.old) }
     {
-        if let Some(frame) = self.frames.get_mut(&key) {
+        if let Some(frame) = self.frames.get_mut(&Owned { supplier, name }) {
             frame.place(placement)?;
         }
         Ok(())
     }
 
     /// Whether the supplier's node holds the slot on the channel.
-    pub(crate) fn is_held(&self, at: ChannelSlot, supplier: Name, node: Name) -> bool
-        ensures { result ≡ held_by_node supplier node (get (variant_of self.now).grants (at.slot, at.channel)) }
+    pub(crate) fn is_held(&self, slot: Slot, channel: Channel, supplier: Name, node: Name) -> bool
+        ensures { result ≡ held_by_node supplier node (get (variant_of self.now).grants (slot, channel)) }
     {
-        self.holder(at) == Some(Holder { supplier, node })
+        self.holder(slot, channel) == Some(Holder { supplier, node })
     }
 
     /// Whether the supplier holds the slot on the channel.
-    pub(crate) fn is_held_by(&self, at: ChannelSlot, supplier: Name) -> bool
-        ensures { result ≡ held_by supplier (get (variant_of self.now).grants (at.slot, at.channel)) }
+    pub(crate) fn is_held_by(&self, slot: Slot, channel: Channel, supplier: Name) -> bool
+        ensures { result ≡ held_by supplier (get (variant_of self.now).grants (slot, channel)) }
     {
-        match self.holder(at) {
+        match self.holder(slot, channel) {
             Some(holder) => holder.supplier == supplier,
             None => false,
         }
     }
 
     /// Whether somebody holds the slot on the channel.
-    pub(crate) fn is_taken(&self, at: ChannelSlot) -> bool
-        ensures { result ≡ contains (variant_of self.now).grants (at.slot, at.channel) }
+    pub(crate) fn is_taken(&self, slot: Slot, channel: Channel) -> bool
+        ensures { result ≡ contains (variant_of self.now).grants (slot, channel) }
     {
-        self.holder(at).is_some()
+        self.holder(slot, channel).is_some()
     }
 
     /// Whether the supplier's node holds the placement's slot on each of its channels.
@@ -179,20 +190,13 @@ impl Variant {
         ensures { result ≡ granted (variant_of self.now).grants supplier node placement.now }
     {
         let slot = placement.slot;
-        let on_a = ChannelSlot {
-            slot,
-            channel: Channel::A,
-        };
-        let on_b = ChannelSlot {
-            slot,
-            channel: Channel::B,
-        };
         match placement.channels {
-            Channels::A => self.is_held(on_a, supplier, node),
+            Channels::A => self.is_held(slot, Channel::A, supplier, node),
             Channels::AB => {
-                self.is_held(on_a, supplier, node) && self.is_held(on_b, supplier, node)
+                self.is_held(slot, Channel::A, supplier, node)
+                    && self.is_held(slot, Channel::B, supplier, node)
             }
-            Channels::B => self.is_held(on_b, supplier, node),
+            Channels::B => self.is_held(slot, Channel::B, supplier, node),
         }
     }
 }

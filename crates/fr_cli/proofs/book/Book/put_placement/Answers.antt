@@ -36,11 +36,11 @@ returns-in-Ok-clause-ok c =
     let w = c.place.new.self in
     let new = c.get_mut.follows.lender w in
     let old = c.args.self.now in
-    let k = c.args.key in
+    let k : Owned = record { supplier = c.args.supplier; name = c.args.name } in
     let v = variant_of c.in-Some.rows.now in
-    subst (λ (o : Option register.Variant). IfSome o (Placed old (record old { variants = new }) c.args.variant k c.args.placement))
+    subst (λ (o : Option register.Variant). IfSome o (Placed old (record old { variants = new }) c.args.variant k c.args.placement.now))
     (ap (option_map variant_of) c.in-Some.ensures.value ∙ sym (get-table_of name_cmp names (λ v. v) variant_of names_alike es c.args.variant))
-    (lifted old (record old { variants = new }) c.args.variant k c.args.placement v w
+    (lifted old (record old { variants = new }) c.args.variant k c.args.placement.now v w
     (λ u e. ap (λ t. record (book_of old) { variants = t })
     (table_of-lent name_cmp names (λ v. v) variant_of names_alike es new.entries c.args.variant w c.in-Some.rows.now c.get_mut.ensures.ordered c.in-Some.ensures.value (c.get_mut.follows.holds w).0
     ∙ ap (insert (table_of names (λ v. v) variant_of es) c.args.variant) e))
@@ -49,7 +49,7 @@ returns-in-Ok-clause-ok c =
 pub returns-in_default-clause-ok : goal.returns-in_default-clause-ok
 returns-in_default-clause-ok c =
     let old = c.args.self.now in
-    subst (λ (o : Option register.Variant). IfSome o (Placed old (record old { variants = c.get_mut.follows.lender-at-none }) c.args.variant c.args.key c.args.placement))
+    subst (λ (o : Option register.Variant). IfSome o (Placed old (record old { variants = c.get_mut.follows.lender-at-none }) c.args.variant (record { supplier = c.args.supplier; name = c.args.name }) c.args.placement.now))
     (ap (option_map variant_of) c.in_default.ensures.value ∙ sym (get-table_of name_cmp names (λ v. v) variant_of names_alike old.variants.entries c.args.variant))
     tt
 

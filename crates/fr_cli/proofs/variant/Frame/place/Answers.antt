@@ -10,4 +10,4 @@ pub returns-clause-ok : goal.returns-clause-ok
 returns-clause-ok c =
     ap (λ t. record (frame_of c.args.self.now) { placements = t })
     (ap (set_of placement_order (λ q. q)) c.in_ok-insert.ensures.keys
-    ∙ set_of-insert_key placement_cmp placement_order (λ q. q) placements_alike c.args.self.now.placements.keys c.args.placement)
+    ∙ set_of-insert_key placement_cmp placement_order (λ q. q) placements_alike c.args.self.now.placements.keys c.args.placement.now)

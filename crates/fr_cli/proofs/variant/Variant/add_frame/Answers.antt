@@ -15,5 +15,5 @@ returns-clause-ok c =
     let es = c.args.self.now.frames.entries in
     ap (λ t. record (variant_of c.args.self.now) { frames = t })
     (ap (table_of owned _ frame_of) c.in_ok-insert.ensures.entries
-    ∙ table_of-insert_entry owned_cmp owned _ frame_of owned_alike es c.args.key (record { node = c.args.node; placements = c.new.result }) c.in_ok-insert.ensures.was_ordered
-    ∙ ap (λ ps. insert (table_of owned (λ k. (k.supplier, k.name)) frame_of es) (c.args.key.supplier, c.args.key.name) (record { node = c.args.node; placements = set_of placement_order (λ q. q) ps })) c.new.ensures.empty)
+    ∙ table_of-insert_entry owned_cmp owned _ frame_of owned_alike es (record { supplier = c.args.supplier; name = c.args.name }) (record { node = c.args.node; placements = c.new.result }) c.in_ok-insert.ensures.was_ordered
+    ∙ ap (λ ps. insert (table_of owned (λ k. (k.supplier, k.name)) frame_of es) (c.args.supplier, c.args.name) (record { node = c.args.node; placements = set_of placement_order (λ q. q) ps })) c.new.ensures.empty)

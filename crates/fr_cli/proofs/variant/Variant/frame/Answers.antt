@@ -9,4 +9,4 @@ use Rattle.fr_cli.proofs.MapLaws.{get-table_of, table_of-insert_entry, rows-tabl
 use Rattle.fr_cli.proofs.variant.Variant.frame.Goals as goal
 
 pub returns : goal.returns
-returns c = copied_map frame_of c.get.result ∙ ap (option_map frame_of) c.get.ensures.value ∙ sym (get-table_of owned_cmp owned _ frame_of owned_alike c.args.self.now.frames.entries c.args.key)
+returns c = copied_map frame_of c.get.result ∙ ap (option_map frame_of) c.get.ensures.value ∙ sym (get-table_of owned_cmp owned _ frame_of owned_alike c.args.self.now.frames.entries (record { supplier = c.args.supplier; name = c.args.name }))

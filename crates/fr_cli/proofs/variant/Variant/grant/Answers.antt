@@ -12,4 +12,4 @@ pub returns-clause-ok : goal.returns-clause-ok
 returns-clause-ok c =
     ap (λ t. record (variant_of c.args.self.now) { grants = t })
     (ap (table_of channel_slots _ holder_of) c.in_ok-insert.ensures.entries
-    ∙ table_of-insert_entry slot_cmp channel_slots _ holder_of slots_alike c.args.self.now.grants.entries c.args.at c.args.holder c.in_ok-insert.ensures.was_ordered)
+    ∙ table_of-insert_entry slot_cmp channel_slots _ holder_of slots_alike c.args.self.now.grants.entries (record { slot = c.args.slot; channel = c.args.channel }) c.args.holder c.in_ok-insert.ensures.was_ordered)

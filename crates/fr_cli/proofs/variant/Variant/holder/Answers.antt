@@ -7,4 +7,4 @@ use Rattle.fr_cli.proofs.MapLaws.{get-table_of}
 use Rattle.fr_cli.proofs.variant.Variant.holder.Goals as goal
 
 pub returns : goal.returns
-returns c = ap (option_map holder_of) (c.copied.ensures ∙ c.get.ensures.value) ∙ sym (get-table_of slot_cmp channel_slots _ holder_of slots_alike c.args.self.now.grants.entries c.args.at)
+returns c = ap (option_map holder_of) (c.copied.ensures ∙ c.get.ensures.value) ∙ sym (get-table_of slot_cmp channel_slots _ holder_of slots_alike c.args.self.now.grants.entries (record { slot = c.args.slot; channel = c.args.channel }))

@@ -18,10 +18,10 @@ Placed old new key q f = variant_of new ≡ record (variant_of old) { frames = i
 pub returns-in_ok-place-clause-ok : goal.returns-in_ok-place-clause-ok
 returns-in_ok-place-clause-ok c =
     let es = c.args.self.now.frames.entries in
-    let k = c.args.key in
+    let k : Owned = record { supplier = c.args.supplier; name = c.args.name } in
     let w = c.place.new.self in
     let new = c.get_mut.follows.lender w in
-    subst (λ (o : Option book.Frame). IfSome o (Placed c.args.self.now (record { grants = c.args.self.now.grants; frames = new }) k c.args.placement))
+    subst (λ (o : Option book.Frame). IfSome o (Placed c.args.self.now (record { grants = c.args.self.now.grants; frames = new }) k c.args.placement.now))
     (ap (option_map frame_of) c.in-Some.ensures.value ∙ sym (get-table_of owned_cmp owned (λ k. (k.supplier, k.name)) frame_of owned_alike es k))
     (ap (λ t. record (variant_of c.args.self.now) { frames = t })
     (table_of-lent owned_cmp owned (λ k. (k.supplier, k.name)) frame_of owned_alike es new.entries k w c.in-Some.frame.now c.get_mut.ensures.ordered c.in-Some.ensures.value (c.get_mut.follows.holds w).0
@@ -34,10 +34,10 @@ returns-in_err-place-clause-err c =
     let new = c.get_mut.follows.lender w in
     on_err_holds c.from_residual.result _
     (ap (λ t. record (variant_of c.args.self.now) { frames = t })
-    (table_of-lent_same owned_cmp owned (λ k. (k.supplier, k.name)) frame_of owned_alike es new.entries c.args.key w c.in-Some.frame.now c.get_mut.ensures.ordered c.in-Some.ensures.value (c.get_mut.follows.holds w).0 c.in_err-place.ensures.err))
+    (table_of-lent_same owned_cmp owned (λ k. (k.supplier, k.name)) frame_of owned_alike es new.entries (record { supplier = c.args.supplier; name = c.args.name }) w c.in-Some.frame.now c.get_mut.ensures.ordered c.in-Some.ensures.value (c.get_mut.follows.holds w).0 c.in_err-place.ensures.err))
 
 pub returns-in_default-clause-ok : goal.returns-in_default-clause-ok
 returns-in_default-clause-ok c =
-    subst (λ (o : Option book.Frame). IfSome o (Placed c.args.self.now (record { grants = c.args.self.now.grants; frames = c.get_mut.follows.lender-at-none }) c.args.key c.args.placement))
-    (ap (option_map frame_of) c.in_default.ensures.value ∙ sym (get-table_of owned_cmp owned (λ k. (k.supplier, k.name)) frame_of owned_alike c.args.self.now.frames.entries c.args.key))
+    subst (λ (o : Option book.Frame). IfSome o (Placed c.args.self.now (record { grants = c.args.self.now.grants; frames = c.get_mut.follows.lender-at-none }) (record { supplier = c.args.supplier; name = c.args.name }) c.args.placement.now))
+    (ap (option_map frame_of) c.in_default.ensures.value ∙ sym (get-table_of owned_cmp owned (λ k. (k.supplier, k.name)) frame_of owned_alike c.args.self.now.frames.entries (record { supplier = c.args.supplier; name = c.args.name })))
     tt

@@ -1,0 +1,36 @@
+-- Where a cell of a placement lies, and which of two lies first.
+use Rattle.std.specs.Prelude.{Bool, Option, Some, None}
+use Rattle.std.specs.declared.cmp.Ordering.{Ordering}
+use Rattle.std.specs.Ordering.{min_by_ordering}
+use Rattle.std.specs.List.{list_any}
+use Rattle.fr_base.specs.Book as book
+use Rattle.fr_base.specs.Cells.{Cell, has_cell}
+use Rattle.fr_base.specs.Keys.{channel_slots}
+use Rattle.fr_cli.specs.declared.taken.Spot.{Spot}
+use Rattle.fr_cli.specs.declared.taken.Taken.{Taken}
+
+-- a cell's cycle and channel
+abbrev pub spot_of : Cell → Spot
+spot_of c = record { cycle = c.cycle; channel = c.channel }
+
+-- a filled cell, with the name of the frame that is sent there
+abbrev pub taken_of : Cell × book.Owner → Taken
+taken_of e = record { at = spot_of e.0; frame = e.1.frame }
+
+-- whether the frame is sent in the cell
+abbrev pub frame_has : book.Frame → Cell → Bool
+frame_has f c = list_any (λ row. has_cell row.0 c) f.placements.rows
+
+-- by cycle, then A before B
+abbrev pub compare_spots : Spot → Spot → Ordering
+compare_spots x y = channel_slots.compare (x.cycle, x.channel) (y.cycle, y.channel)
+
+-- the one that is there, or the lesser of both; the former at a tie
+abbrev pub lesser : {X : Type 0} → (X → X → Ordering) → Option X → Option X → Option X
+lesser cmp None y = y
+lesser cmp (Some x) None = Some x
+lesser cmp (Some x) (Some y) = Some (min_by_ordering (cmp x y) x y)
+
+-- the one of the lesser spot
+abbrev pub earlier : Option Taken → Option Taken → Option Taken
+earlier = lesser (λ x y. compare_spots x.at y.at)
