@@ -11,3 +11,4 @@ pub mod CommandLaws
 pub mod AnswerLaws
 pub mod SharedLaws
 pub mod TakenLaws
+pub mod ScheduleLaws

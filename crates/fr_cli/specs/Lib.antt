@@ -7,3 +7,4 @@ pub mod Report
 pub mod AnswerText
 pub mod Books
 pub mod Taken
+pub mod Sendings

@@ -1,3 +1,11 @@
+ghost use Rattle.std.specs.Prelude.{◌≡◌, [], ◌∷◌, ◌++◌, OnOk, option_map};
+ghost use Rattle.fr_base.specs.Book.{schedule_of};
+ghost use Rattle.fr_base.specs.Cells.{Cell, cells_in, has_cell};
+ghost use Rattle.fr_base.specs.Channels.{channels_in};
+ghost use Rattle.fr_base.specs.Step.{sees, sending};
+ghost use Rattle.fr_cli.specs.Sendings.{is_sent, seen, sent_in};
+ghost use Rattle.fr_cli.specs.Variants.{frame_of, variant_of};
+
 use crate::variant::{Frame, Variant};
 use fr_base::{
     Actor, CYCLE_COUNT, Channel, Channels, Name, Params, Placement, Sending, Sendings, Slot,
@@ -44,14 +52,17 @@ impl Variant {
         cycle: u8,
         slot: Slot,
         rows: &mut Sendings,
-    ) -> Result<(), AllocError> {
-        if channels.has(Channel::A) {
-            self.push_cell(actor, cycle, slot, Channel::A, rows)?;
+    ) -> Result<(), AllocError>
+        ensures { OnOk result (rows.new ≡ rows.old ++ sent_in (seen actor.now (variant_of self.now).frames) (cells_in (cycle ∷ []) (slot ∷ []) (channels_in channels))) }
+    {
+        match channels {
+            Channels::A => self.push_cell(actor, cycle, slot, Channel::A, rows),
+            Channels::AB => {
+                self.push_cell(actor, cycle, slot, Channel::A, rows)?;
+                self.push_cell(actor, cycle, slot, Channel::B, rows)
+            }
+            Channels::B => self.push_cell(actor, cycle, slot, Channel::B, rows),
         }
-        if channels.has(Channel::B) {
-            self.push_cell(actor, cycle, slot, Channel::B, rows)?;
-        }
-        Ok(())
     }
 
     // Appends what is sent in the cell.
@@ -62,16 +73,20 @@ impl Variant {
         slot: Slot,
         channel: Channel,
         rows: &mut Sendings,
-    ) -> Result<(), AllocError> {
-        if let Some(sending) = self.sending(actor, cycle, slot, channel) {
-            rows.push(sending)?;
+    ) -> Result<(), AllocError>
+        ensures { OnOk result (rows.new ≡ rows.old ++ sent_in (seen actor.now (variant_of self.now).frames) (record { cycle = cycle; slot = slot; channel = channel } ∷ [])) }
+    {
+        match self.sending(actor, cycle, slot, channel) {
+            Some(sending) => rows.push(sending),
+            None => Ok(()),
         }
-        Ok(())
     }
 
     // What is sent in the cell, of the frames that the actor sees.
-    fn sending(&self, actor: &Actor, cycle: u8, slot: Slot, channel: Channel) -> Option<Sending> {
-        for (key, frame) in &self.frames {
+    fn sending(&self, actor: &Actor, cycle: u8, slot: Slot, channel: Channel) -> Option<Sending>
+        ensures { let cell : Cell = record { cycle = cycle; slot = slot; channel = channel } in result ≡ option_map (λ owner. sending (cell, owner)) (schedule_of (seen actor.now (variant_of self.now).frames) cell) }
+    {
+        for (key, frame) in self.frames.iter() {
             if sees(actor, &key.supplier) && is_sent(frame, cycle, slot, channel) {
                 return Some(Sending {
                     cycle,
@@ -88,7 +103,9 @@ impl Variant {
 }
 
 // Whether the actor sees the supplier's frames.
-fn sees(actor: &Actor, supplier: &Name) -> bool {
+fn sees(actor: &Actor, supplier: &Name) -> bool
+    ensures { result ≡ sees actor.now supplier.now }
+{
     match actor {
         Actor::Integrator => true,
         Actor::Supplier(name) => supplier == name,
@@ -96,7 +113,9 @@ fn sees(actor: &Actor, supplier: &Name) -> bool {
 }
 
 // Whether the frame is sent in the cell.
-fn is_sent(frame: &Frame, cycle: u8, slot: Slot, channel: Channel) -> bool {
+fn is_sent(frame: &Frame, cycle: u8, slot: Slot, channel: Channel) -> bool
+    ensures { result ≡ is_sent (frame_of frame.now) (record { cycle = cycle; slot = slot; channel = channel }) }
+{
     frame
         .placements
         .iter()
@@ -104,6 +123,11 @@ fn is_sent(frame: &Frame, cycle: u8, slot: Slot, channel: Channel) -> bool {
 }
 
 // Whether the placement has the cell.
-fn has_cell(placement: &Placement, cycle: u8, slot: Slot, channel: Channel) -> bool {
-    placement.slot == slot && placement.channels.has(channel) && placement.cycles.contains(cycle)
+#[tactic(auto, using(crate::proofs::ScheduleLaws::has_cell_parts))]
+fn has_cell(placement: &Placement, cycle: u8, slot: Slot, channel: Channel) -> bool
+    ensures { result ≡ has_cell placement.now (record { cycle = cycle; slot = slot; channel = channel }) }
+{
+    slot == placement.slot
+        && placement.channels.has(channel)
+        && placement.cycles.contains(cycle)
 }
