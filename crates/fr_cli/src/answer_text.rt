@@ -130,3 +130,6 @@ fn push(text: &str, out: &mut Vec<u8>) -> Result<(), AllocError>
 {
     out.extend_from_slice(text.as_bytes())
 }
+
+#[cfg(test)]
+mod tests;

@@ -56,3 +56,6 @@ fn digit_at(place: u32, number: u32) -> u8
 {
     b'0' + (number / place % 10) as u8
 }
+
+#[cfg(test)]
+mod tests;

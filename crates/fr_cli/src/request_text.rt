@@ -204,3 +204,6 @@ fn is_among(names: &[&str], name: &str) -> bool
 {
     names.contains(&name)
 }
+
+#[cfg(test)]
+mod tests;

@@ -1,4 +1,3 @@
-use Rattle.std.proofs.Common.{◌≡◌}
 use Rattle.std.proofs.lemmas.Result.{on_ok_weaker}
 use Rattle.fr_cli.specs.AnswerText.{text_of}
 use Rattle.fr_cli.proofs.ReportLemmas.{adds}

@@ -1,4 +1,3 @@
-use Rattle.std.proofs.Common.{rules, append_assoc}
 use Rattle.std.proofs.lemmas.Result.{err_from_is_err_and}
 use Rattle.fr_cli.proofs.ReportLemmas.{Extends-trans, Extends-later}
 use Rattle.fr_cli.proofs.answer_text.push_lines.Goals as goal
