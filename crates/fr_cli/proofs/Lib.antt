@@ -1,3 +1,4 @@
+pub mod ClusterFileLemmas
 mod LineLemmas
 mod StreamLemmas
 pub mod RequestTextLemmas

@@ -1,3 +1,5 @@
+pub mod ClusterFile
+pub mod SupplierTexts
 pub mod Script
 pub mod ScriptFault
 pub mod RequestText

@@ -3,6 +3,7 @@
 
 mod answer_text;
 mod book;
+mod cluster_file;
 mod input;
 mod lines;
 mod output;
