@@ -259,3 +259,16 @@ sent-cycle frames slots chs mid new k n f h g =
 pub sent-all : (p : Params) (frames : Table owned book.Frame) (rows : List Sending) (n : ℕ) → n ≡ 64 → rows ≡ sent_in frames (cells_in (range_with_len 0 n) (slots_of p) (channels_in p.channels)) → rows ≡ sendings_of p frames
 unfolding sent_in sendings_of cluster_cells all_cycles cycle_count
 sent-all p frames rows n e h = h ∙ ap (λ n. map sending (entries (book.schedule_of frames) (cells_in (range_with_len 0 n) (slots_of p) (channels_in p.channels)))) e
+
+is_slot-within : (number : ℕ) → 1 ≤ number → number ≤ 1023 → is_slot number ≡ true
+is_slot-within number l h = and_from (nat_le 1 number) (nat_le number 1023) (grind (arith, nat_tests)) (grind (arith, nat_tests))
+
+-- a number within the bounds is a slot's
+pub slot-within : (number : ℕ) (r : Option ℕ) → 1 ≤ number → number ≤ 1023 → r ≡ cond (is_slot number) (Some number) None → r ≡ Some number
+slot-within number r l h e = e ∙ ap (λ b. cond b (Some number) None) (is_slot-within number l h)
+
+pub same_slot : (slot number : ℕ) → Some slot ≡ Some number → slot ≡ number
+same_slot slot number e = cc
+
+pub some_slot : (r : Option ℕ) (number : ℕ) → r ≡ Some number → r ≡ None → ⊥
+some_slot r number e f = cc

@@ -10,3 +10,5 @@ pub mod AnswerText
 pub mod Books
 pub mod Taken
 pub mod Sendings
+pub mod Asked
+pub mod Words

@@ -1,7 +1,8 @@
 -- The words of the faults that end a script's run.
 use Rattle.std.specs.Prelude.{ℕ, List, codes}
+use Rattle.fr_cli.specs.ClusterFile.{config_fault_word}
 use Rattle.fr_cli.specs.declared.script_fault.ScriptFault.{ScriptFault}
-use Rattle.fr_cli.specs.declared.script_fault.ScriptFault.TheVariants.{TooLong, TooManyReads, ReadFailed, NoSeparator, Unavailable, NoMemory, WriteFailed}
+use Rattle.fr_cli.specs.declared.script_fault.ScriptFault.TheVariants.{TooLong, TooManyReads, ReadFailed, NoSeparator, Config, Unavailable, NoMemory, WriteFailed}
 use Rattle.fr_cli.specs.declared.input.InputFault.{InputFault}
 use Rattle.fr_cli.specs.declared.input.InputFault.TheVariants as input
 
@@ -11,6 +12,7 @@ script_fault_word TooLong = codes "TooLong"
 script_fault_word TooManyReads = codes "TooManyReads"
 script_fault_word ReadFailed = codes "ReadFailed"
 script_fault_word NoSeparator = codes "NoSeparator"
+script_fault_word (Config fault) = config_fault_word fault
 script_fault_word Unavailable = codes "Unavailable"
 script_fault_word NoMemory = codes "NoMemory"
 script_fault_word WriteFailed = codes "WriteFailed"

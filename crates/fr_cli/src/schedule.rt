@@ -1,8 +1,9 @@
-ghost use Rattle.std.specs.Prelude.{◌≡◌, [], ◌∷◌, ◌++◌, OnOk, option_map};
+ghost use Rattle.std.specs.Prelude.{◌≡◌, [], ◌∷◌, ◌++◌, IfOk, OnOk, option_map};
 ghost use Rattle.fr_base.specs.Book.{schedule_of};
-ghost use Rattle.fr_base.specs.Cells.{Cell, cells_in, has_cell};
+ghost use Rattle.fr_base.specs.Cells.{Cell, cells_in, has_cell, slots_of};
 ghost use Rattle.fr_base.specs.Channels.{channels_in};
-ghost use Rattle.fr_base.specs.Step.{sees, sending};
+ghost use Rattle.fr_base.specs.Step.{sees, sending, sendings_of};
+ghost use Rattle.fr_base.specs.Tables.{only};
 ghost use Rattle.fr_cli.specs.Sendings.{is_sent, seen, sent_in};
 ghost use Rattle.fr_cli.specs.Variants.{frame_of, variant_of};
 
@@ -20,7 +21,9 @@ impl Variant {
         alloc: Global,
         params: &Params,
         actor: &Actor,
-    ) -> Result<Sendings, AllocError> {
+    ) -> Result<Sendings, AllocError>
+        ensures { IfOk result (λ rows. rows ≡ sendings_of params.now (only (λ k _. sees actor.now k.0) (variant_of self.now).frames)) }
+    {
         let mut rows = Sendings::new(alloc);
         for cycle in 0..CYCLE_COUNT as u8 {
             self.push_cycle(params, actor, cycle, &mut rows)?;
@@ -35,10 +38,13 @@ impl Variant {
         actor: &Actor,
         cycle: u8,
         rows: &mut Sendings,
-    ) -> Result<(), AllocError> {
+    ) -> Result<(), AllocError>
+        ensures { OnOk result (rows.new ≡ rows.old ++ sent_in (seen actor.now (variant_of self.now).frames) (cells_in (cycle ∷ []) (slots_of params.now) (channels_in params.now.channels))) }
+    {
         for number in 1..=params.static_slots() {
-            if let Some(slot) = Slot::new(number) {
-                self.push_slot(params.channels(), actor, cycle, slot, rows)?;
+            match Slot::new(number) {
+                Some(slot) => self.push_slot(params.channels(), actor, cycle, slot, rows)?,
+                None => {}
             }
         }
         Ok(())
@@ -127,7 +133,5 @@ fn is_sent(frame: &Frame, cycle: u8, slot: Slot, channel: Channel) -> bool
 fn has_cell(placement: &Placement, cycle: u8, slot: Slot, channel: Channel) -> bool
     ensures { result ≡ has_cell placement.now (record { cycle = cycle; slot = slot; channel = channel }) }
 {
-    slot == placement.slot
-        && placement.channels.has(channel)
-        && placement.cycles.contains(cycle)
+    slot == placement.slot && placement.channels.has(channel) && placement.cycles.contains(cycle)
 }

@@ -1,6 +1,8 @@
 ghost use Rattle.std.specs.Prelude.{◌≡◌, Some};
 ghost use Rattle.fr_cli.specs.ScriptFault.{script_fault_word};
 
+use crate::cluster_file::ConfigFault;
+use std::alloc::AllocError;
 use std::fmt;
 
 /// Why the run of a script ended before all its lines were answered.
@@ -14,6 +16,8 @@ pub enum ScriptFault {
     ReadFailed,
     /// No line is `---`.
     NoSeparator,
+    /// The cluster file is none.
+    Config(ConfigFault),
     /// The register in memory could not be made.
     Unavailable,
     /// There was no memory for the script or for a line's request or answer.
@@ -32,10 +36,31 @@ impl ScriptFault {
             ScriptFault::TooManyReads => "TooManyReads",
             ScriptFault::ReadFailed => "ReadFailed",
             ScriptFault::NoSeparator => "NoSeparator",
+            ScriptFault::Config(fault) => fault.word(),
             ScriptFault::Unavailable => "Unavailable",
             ScriptFault::NoMemory => "NoMemory",
             ScriptFault::WriteFailed => "WriteFailed",
         }
+    }
+}
+
+impl From<ConfigFault> for ScriptFault {
+    ghost use Rattle.fr_cli.specs.declared.script_fault.ScriptFault.TheVariants.{Config};
+
+    ghost from_gives = { λ fault script_fault. script_fault ≡ Config fault };
+
+    fn from(fault: ConfigFault) -> Self {
+        Self::Config(fault)
+    }
+}
+
+impl From<AllocError> for ScriptFault {
+    ghost use Rattle.fr_cli.specs.declared.script_fault.ScriptFault.TheVariants.{NoMemory};
+
+    ghost from_gives = { λ _ fault. fault ≡ NoMemory };
+
+    fn from(_error: AllocError) -> Self {
+        Self::NoMemory
     }
 }
 
@@ -49,7 +74,7 @@ impl fmt::Display for ScriptFault {
 
 #[cfg(test)]
 mod tests {
-    use super::ScriptFault;
+    use super::{ConfigFault, ScriptFault};
     use std::test::Fail;
 
     #[test]
@@ -59,6 +84,7 @@ mod tests {
             (ScriptFault::TooManyReads, "TooManyReads"),
             (ScriptFault::ReadFailed, "ReadFailed"),
             (ScriptFault::NoSeparator, "NoSeparator"),
+            (ScriptFault::Config(ConfigFault::KeyTwice), "KeyTwice"),
             (ScriptFault::Unavailable, "Unavailable"),
             (ScriptFault::NoMemory, "NoMemory"),
             (ScriptFault::WriteFailed, "WriteFailed"),

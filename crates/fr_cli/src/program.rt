@@ -1,0 +1,100 @@
+//! The words of the command line, and what the program does for them.
+ghost use Rattle.std.specs.Prelude.{◌≡◌, ◌⊎◌, map, string_bytes, IsOk, IsErr};
+ghost use Rattle.std.specs.Io.KnownBytes.{Keeps};
+ghost use Rattle.fr_cli.specs.Words.{is_help, job_of};
+
+use crate::output::{Retries, WriteFailed, write_all};
+use crate::script::run_script;
+use crate::script_fault::ScriptFault;
+use std::alloc::Global;
+use std::io::{Read, Write};
+
+/// How the program is called.
+pub const USAGE: &str = "\
+Usage: slotplan run
+       slotplan --help
+
+run     reads a script from standard input: a cluster file, the line ---, and a
+        request on each line after it; writes the answers to standard output
+--help  prints this text
+
+Status 0: every request was answered, refused or not. Status 1: a fault ended
+the run; standard error has its word. Status 2: the program was called otherwise.
+";
+
+/// What the program is to do.
+#[derive(Clone, Copy, Debug, PartialEq, Eq)]
+pub enum Job {
+    /// Answer the script on standard input.
+    Run,
+    /// Print the usage, as was asked.
+    Help,
+    /// Print the usage, since the words name no job.
+    Usage,
+}
+
+/// The job that the words after the program's name ask for.
+pub fn read_words(words: &[String]) -> Job
+    ensures { result ≡ job_of (map string_bytes words.now) }
+{
+    match words {
+        [word] if word.as_str() == "run" => Job::Run,
+        [word] if is_help(word) => Job::Help,
+        [word, help] if word.as_str() == "run" && is_help(help) => Job::Help,
+        _ => Job::Usage,
+    }
+}
+
+fn is_help(word: &str) -> bool
+    ensures { result ≡ is_help word.now }
+{
+    word == "--help" || word == "-h"
+}
+
+/// Does the job, and gives the status that the process ends with: 0 where it was done, 1 where a
+/// fault ended it, 2 where the words named none. What cannot be written to `err` is lost.
+pub fn perform<R: Read, O: Write, E: Write>(
+    alloc: Global,
+    job: Job,
+    input: &mut R,
+    out: &mut O,
+    err: &mut E,
+) -> u8
+    ensures help { job ≡ Job.Help → Keeps (E.contents err.old) (E.contents err.new) ⊎ (result ≡ 1) }
+    ensures usage { job ≡ Job.Usage → (result ≡ 2) × Keeps (O.contents out.old) (O.contents out.new) }
+{
+    match job {
+        Job::Run => status_of(run_script(alloc, input, out), err),
+        Job::Help => status_of(print(&[USAGE], out).map_err(ScriptFault::from), err),
+        Job::Usage => {
+            let _ = print(&[USAGE], err);
+            2
+        }
+    }
+}
+
+/// The status of a job that ended so. The fault's word is printed.
+pub fn status_of<E: Write>(done: Result<(), ScriptFault>, err: &mut E) -> u8
+    ensures done { IsOk done → (result ≡ 0) × Keeps (E.contents err.old) (E.contents err.new) }
+    ensures fault { IsErr done → result ≡ 1 }
+{
+    match done {
+        Ok(()) => 0,
+        Err(fault) => {
+            let _ = print(&["slotplan: ", fault.word(), "\n"], err);
+            1
+        }
+    }
+}
+
+// Writes the texts one after the other.
+fn print<W: Write>(texts: &[&str], out: &mut W) -> Result<(), WriteFailed> {
+    let mut retries = Retries::new();
+    for text in texts {
+        write_all(out, &mut retries, text.as_bytes())?;
+    }
+    Ok(())
+}
+
+#[cfg(test)]
+mod tests;
