@@ -1,60 +1,52 @@
 -- Lemmas on cycle sets.
-use Rattle.std.proofs.Common.{◌≡◌, ◌≢◌, ℕ, zero, suc, ◌+◌, ◌%◌, ◌<◌, ◌≤◌, Bool, true, false, ◌&&◌, eqb, List, [], ◌∷◌, Option, Some, None, refl, sym, ◌∙◌, ap, subst, ◌⊎◌, inl, inr, arith, IsTrue}
+use Rattle.std.proofs.Common.{◌≡◌, ◌≢◌, ℕ, zero, suc, ◌+◌, ◌%◌, ◌<◌, ◌≤◌, Bool, true, false, ◌&&◌, ◌||◌, not, eqb, leb, List, [], ◌∷◌, Option, Some, None, refl, sym, ◌∙◌, ap, subst, ◌⊎◌, inl, inr, arith, IsTrue}
 use Rattle.std.proofs.Math.Nat.{mod-mod_of_dvd, mod-eq_of_lt}
-use Rattle.std.proofs.lemmas.Nat.Gcd.{dvd_of_mod-eq-zero}
-use Rattle.std.proofs.lemmas.Bool.{eqb-true, eqb-false, eq-eqb, ne_eqb, ltb-true, and_parts, and_from, and_left, and_right, or_cases, cases_Bool, cases_eq, cases_lt, true≢false}
+use Rattle.std.proofs.lemmas.Nat.Gcd.{dvd_of_mod-eq-zero, le_of_dvd}
+use Rattle.std.proofs.lemmas.Bool.{eqb-true, eqb-false, eq-eqb, ne_eqb, ltb-true, leb-true, le-leb, and_parts, and_from, and_left, and_right, cases_Bool, cases_eq, cases_lt, true≢false}
 use Rattle.std.proofs.Math.Bool.{and_comm}
 use Rattle.std.specs.Bool.{then_some}
-use Rattle.std.specs.List.{filter, find, list_any, range_with_len}
+use Rattle.std.specs.List.{filter, find, list_all, list_any, range_with_len}
 use Rattle.fr_base.specs.Cycles.{Cycles, is_repetition, is_cycle_set, selects, cycle_count, all_cycles, cycles_of, has_cycle, first_common}
 
--- what holds of 1, 2, 4, 8, 16, 32 and 64 holds of a repetition
-pub by_repetition : (P : ℕ → Type 0) → P 1 → P 2 → P 4 → P 8 → P 16 → P 32 → P 64 → (r : ℕ) → is_repetition r ≡ true → P r
-by_repetition P p1 p2 p4 p8 p16 p32 p64 r h =
-    let at : (n : ℕ) → P n → eqb r n ≡ true → P r = λ n p e. subst P (sym (eqb-true r n e)) p in
-    elim (or_cases _ _ h) [
-      | inr e ↦ at 64 p64 e
-      | inl h ↦ elim (or_cases _ _ h) [
-        | inr e ↦ at 32 p32 e
-        | inl h ↦ elim (or_cases _ _ h) [
-          | inr e ↦ at 16 p16 e
-          | inl h ↦ elim (or_cases _ _ h) [
-            | inr e ↦ at 8 p8 e
-            | inl h ↦ elim (or_cases _ _ h) [
-              | inr e ↦ at 4 p4 e
-              | inl h ↦ elim (or_cases _ _ h) [
-                | inr e ↦ at 2 p2 e
-                | inl e ↦ at 1 p1 e
-              ]
-            ]
-          ]
-        ]
-      ]
-    ]
+-- a divisor is at most the number
+pub divisor_within : (n r : ℕ) → 0 < n → n % r ≡ 0 → r ≤ n
+divisor_within n r some e = le_of_dvd some (dvd_of_mod-eq-zero r e)
 
--- a repetition is at most the number of cycles
-pub repetition-small : (r : ℕ) → is_repetition r ≡ true → r ≤ cycle_count
+-- a number of a range passes a test that all of the range pass
+all-range : (p : ℕ → Bool) (a n k : ℕ) → a ≤ k → k < a + n → list_all p (range_with_len a n) ≡ true → p k ≡ true
+all-range p a zero k l h all = absurd (omega arith)
+all-range p a (suc n) k l h all =
+    let parts = and_parts (p a) _ all in
+    elim (cases_eq a k) [ inl e ↦ rw (← e) parts.0 | inr ne ↦ all-range p (a + 1) n k (omega (arith, ne)) (omega arith) parts.1 ]
+
+-- of two repetitions the smaller one divides the larger one: a test of them all
+abbrev divides : ℕ → ℕ → Bool
+divides a b = not (is_repetition cycle_count b && leb a b) || eqb (b % a) 0
+
+abbrev divides_each : ℕ → Bool
+divides_each a = not (is_repetition cycle_count a) || list_all (divides a) (range_with_len 1 cycle_count)
+
+divides_all : list_all divides_each (range_with_len 1 cycle_count) ≡ true
 unfolding cycle_count
-repetition-small r h = by_repetition (λ r. r ≤ 64) (omega arith) (omega arith) (omega arith) (omega arith) (omega arith) (omega arith) (omega arith) r h
+divides_all = refl
 
--- whether the first number divides the second one, where it is not above it
-abbrev divides : ℕ → ℕ → Type 0
-divides a b = a ≤ b → b % a ≡ 0
+-- where a repetition stands among the numbers from 1
+in_range : (r : ℕ) → is_repetition cycle_count r ≡ true → (1 ≤ r) × (r < 1 + cycle_count)
+unfolding cycle_count
+in_range r h =
+    let parts = and_parts (leb 1 r) _ h in
+    let above = leb-true 1 r parts.0 in
+    let below = divisor_within cycle_count r (omega arith) (eqb-true _ _ parts.1) in
+    (above, omega arith)
 
--- of two repetitions the smaller one divides the larger one
-pub repetition-divides : (a b : ℕ) → is_repetition a ≡ true → is_repetition b ≡ true → a ≤ b → b % a ≡ 0
-repetition-divides a b ra rb =
-    let each : (a : ℕ) → divides a 1 → divides a 2 → divides a 4 → divides a 8 → divides a 16 → divides a 32 → divides a 64 → divides a b =
-    λ a d1 d2 d4 d8 d16 d32 d64. by_repetition (divides a) d1 d2 d4 d8 d16 d32 d64 b rb in
-    by_repetition (λ a. divides a b)
-    (each 1 (λ l. refl) (λ l. refl) (λ l. refl) (λ l. refl) (λ l. refl) (λ l. refl) (λ l. refl))
-    (each 2 (λ l. omega arith) (λ l. refl) (λ l. refl) (λ l. refl) (λ l. refl) (λ l. refl) (λ l. refl))
-    (each 4 (λ l. omega arith) (λ l. omega arith) (λ l. refl) (λ l. refl) (λ l. refl) (λ l. refl) (λ l. refl))
-    (each 8 (λ l. omega arith) (λ l. omega arith) (λ l. omega arith) (λ l. refl) (λ l. refl) (λ l. refl) (λ l. refl))
-    (each 16 (λ l. omega arith) (λ l. omega arith) (λ l. omega arith) (λ l. omega arith) (λ l. refl) (λ l. refl) (λ l. refl))
-    (each 32 (λ l. omega arith) (λ l. omega arith) (λ l. omega arith) (λ l. omega arith) (λ l. omega arith) (λ l. refl) (λ l. refl))
-    (each 64 (λ l. omega arith) (λ l. omega arith) (λ l. omega arith) (λ l. omega arith) (λ l. omega arith) (λ l. omega arith) (λ l. refl))
-    a ra
+pub repetition-divides : (a b : ℕ) → is_repetition cycle_count a ≡ true → is_repetition cycle_count b ≡ true → a ≤ b → b % a ≡ 0
+repetition-divides a b ra rb l =
+    let at_a = in_range a ra in
+    let at_b = in_range b rb in
+    let each : divides_each a ≡ true = all-range divides_each 1 cycle_count a at_a.0 at_a.1 divides_all in
+    let all : list_all (divides a) (range_with_len 1 cycle_count) ≡ true = rw ra at each in
+    let this : divides a b ≡ true = all-range (divides a) 1 cycle_count b at_b.0 at_b.1 all in
+    eqb-true _ _ (rw (rb, le-leb a b l) at this)
 
 -- a search of a range gives a number that passes where none before it does
 find-range_Some : (p : ℕ → Bool) (a n k : ℕ) → a ≤ k → k < a + n → p k ≡ true → ((j : ℕ) → j < k → p j ≡ false) → find p (range_with_len a n) ≡ Some k
@@ -136,7 +128,7 @@ first_common-None s t none = find-both_None (selects s) (selects t) cycle_count 
 
 -- a cycle set, as a fact
 abbrev pub IsCycleSet : Cycles → Type 0
-IsCycleSet s = IsTrue (is_cycle_set s.base s.repetition)
+IsCycleSet s = IsTrue (is_cycle_set cycle_count s.base s.repetition)
 
 -- the larger repetition's cycles leave, by the smaller one, the remainder that its base leaves
 remainder : (d p : Cycles) → IsCycleSet d → IsCycleSet p → d.repetition ≤ p.repetition → (c : ℕ) → selects p c ≡ true → c % d.repetition ≡ p.base % d.repetition
@@ -153,8 +145,8 @@ pub record Meet (d p : Cycles) : Type 0 where
 
 meet : (d p : Cycles) → IsCycleSet d → IsCycleSet p → p.base % d.repetition ≡ d.base → Meet d p
 meet d p hd hp e =
-    let within : p.base < p.repetition = ltb-true p.base p.repetition (and_parts (is_repetition p.repetition) _ hp).1 in
-    let small : p.repetition ≤ cycle_count = repetition-small p.repetition (and_parts (is_repetition p.repetition) _ hp).0 in
+    let within : p.base < p.repetition = ltb-true p.base p.repetition (and_parts (is_repetition cycle_count p.repetition) _ hp).1 in
+    let small = (in_range p.repetition (and_parts (is_repetition cycle_count p.repetition) _ hp).0).1 in
     record {
       here = omega arith;
       dense = eq-eqb _ _ e;

@@ -1,11 +1,11 @@
 -- The definitions computed on small registers.
-use Rattle.std.proofs.Common.{◌≡◌, ℕ, List, [], ◌∷◌, ◌++◌, false, true, Option, Some, None, refl, codes}
+use Rattle.std.proofs.Common.{◌≡◌, ℕ, List, [], ◌∷◌, false, true, Some, None, map, filter, refl, codes}
 use Rattle.std.specs.Prelude.{⊤}
 use Rattle.fr_base.specs.Refusing.{◌>>=◌, ◌>>◌, ◌or◌, refuse◌when◌}
 use Rattle.fr_base.specs.Tables.{empty, get, len, insert, only, from_rows, becomes}
 use Rattle.fr_base.specs.Keys.{numbers, names, channel_order, channels_order, owned, channel_slots, placement_order}
 use Rattle.fr_base.specs.Names.{is_name, is_key}
-use Rattle.fr_base.specs.Cycles.{Cycles, cycle_count, all_cycles, cycles_of}
+use Rattle.fr_base.specs.Cycles.{Cycles, is_repetition, is_cycle_set, cycle_count, all_cycles, cycles_of, has_cycle, first_common}
 use Rattle.fr_base.specs.Checks.{name, cycles, slot, channel, channels, check}
 use Rattle.fr_base.specs.Cells.{cells_of, has_cell, cluster_cells}
 use Rattle.fr_base.specs.Schedule.{fill, first_taken, entries}
@@ -21,6 +21,32 @@ use Rattle.fr_base.specs.declared.request.Actor.TheVariants.{Integrator, Supplie
 use Rattle.fr_base.specs.declared.request.Ask.{Ask}
 use Rattle.fr_base.specs.declared.request.Request.{Request}
 use Rattle.fr_base.specs.declared.request.Request.TheVariants.{OpenVariant, AddNode, Grant, AddFrame, Place, Schedule}
+
+-- the cycles of a base and a repetition
+abbrev cycle_set : ℕ → ℕ → Cycles
+cycle_set base repetition = record { base = base; repetition = repetition }
+
+-- the least cycle of both sets
+pub least_common_cycle :
+    first_common (cycle_set 1 2) (cycle_set 3 4)
+    ∷ first_common (cycle_set 0 2) (cycle_set 1 4)
+    ∷ first_common (cycle_set 0 1) (cycle_set 63 64)
+    ∷ []
+    ≡ Some 3 ∷ None ∷ Some 63 ∷ []
+unfolding first_common has_cycle cycles_of all_cycles cycle_count
+least_common_cycle = refl
+
+-- which sets of cycles there are: the base below the repetition, the repetition a divisor of the count
+pub sets_of_cycles :
+    map (λ s. is_cycle_set cycle_count s.base s.repetition) (cycle_set 0 1 ∷ cycle_set 63 64 ∷ cycle_set 2 2 ∷ cycle_set 0 3 ∷ cycle_set 0 128 ∷ cycle_set 0 0 ∷ [])
+    ≡ true ∷ true ∷ false ∷ false ∷ false ∷ false ∷ []
+unfolding cycle_count
+sets_of_cycles = refl
+
+-- the repetitions of 64 cycles
+pub repetitions : filter (is_repetition cycle_count) (all_cycles 100) ≡ 1 ∷ 2 ∷ 4 ∷ 8 ∷ 16 ∷ 32 ∷ 64 ∷ []
+unfolding all_cycles cycle_count
+repetitions = refl
 
 -- two channels, four slots of ten macroticks, two suppliers
 unfoldable pub cluster : Cluster

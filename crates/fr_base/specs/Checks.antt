@@ -1,9 +1,9 @@
 -- What a request says by itself: its texts and numbers checked, or the first refusal that needs no register.
-use Rattle.std.specs.Prelude.{ℕ, Bool, true, false, not, ◌&&◌, List, nat_le, Option, Some, None, Result, Ok, Err, if◌then◌else◌}
+use Rattle.std.specs.Prelude.{ℕ, Bool, true, false, not, ◌&&◌, List, nat_le, Result, Ok, Err, if◌then◌else◌}
 use Rattle.std.specs.List.{list_all}
 use Rattle.fr_base.specs.Refusing.{◌>>=◌, ◌>>◌, ◌or◌, refuse◌when◌}
 use Rattle.fr_base.specs.Names.{is_name}
-use Rattle.fr_base.specs.Cycles.{Cycles, is_cycle_set}
+use Rattle.fr_base.specs.Cycles.{Cycles, cycle_count, is_cycle_set}
 use Rattle.fr_base.specs.Channels.{channels_in, has_channel, channel_of_text, channels_of_text}
 use Rattle.fr_base.specs.declared.channel.Channel.{Channel}
 use Rattle.fr_base.specs.declared.channel.Channels.{Channels}
@@ -15,7 +15,6 @@ use Rattle.fr_base.specs.declared.request.Actor.{Actor}
 use Rattle.fr_base.specs.declared.request.Actor.TheVariants.{Integrator, Supplier}
 use Rattle.fr_base.specs.declared.request.Request.{Request}
 use Rattle.fr_base.specs.declared.request.Request.TheVariants as request
-use Rattle.fr_base.specs.declared.request.Command.{Command}
 use Rattle.fr_base.specs.declared.request.Command.TheVariants.{OpenVariant, AddNode, Grant, AddFrame, Place}
 use Rattle.fr_base.specs.declared.request.Query.TheVariants.{Schedule}
 use Rattle.fr_base.specs.declared.request.Checked.{Checked}
@@ -32,7 +31,7 @@ name text = if is_name text then Ok text else Err BadName
 -- a base and a repetition that select cycles
 unfoldable pub cycles : ℕ → ℕ → Result Cycles Refusal
 cycles base repetition =
-    if is_cycle_set base repetition then Ok (record { base = base; repetition = repetition }) else Err BadCycles
+    if is_cycle_set cycle_count base repetition then Ok (record { base = base; repetition = repetition }) else Err BadCycles
 
 -- a static slot of the cluster
 unfoldable pub slot : Params → ℕ → Result ℕ Refusal

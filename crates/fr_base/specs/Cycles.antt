@@ -1,5 +1,5 @@
 -- Cycle filtering: the cycles that a base and a repetition select.
-use Rattle.std.specs.Prelude.{ℕ, ◌%◌, ◌==◌, Bool, ◌&&◌, ◌||◌, List, filter, find, nat_lt, nat_eq, Option}
+use Rattle.std.specs.Prelude.{ℕ, ◌%◌, ◌==◌, Bool, ◌&&◌, List, filter, find, nat_le, nat_lt, nat_eq, Option}
 use Rattle.std.specs.List.{list_any, range_with_len}
 
 -- a base cycle and a cycle repetition
@@ -7,29 +7,29 @@ pub record Cycles : Type 0 where
   pub base : ℕ
   pub repetition : ℕ
 
--- a power of two up to 64
-abbrev pub is_repetition : ℕ → Bool
-is_repetition r = (r == 1) || (r == 2) || (r == 4) || (r == 8) || (r == 16) || (r == 32) || (r == 64)
+-- how many cycles the cycle counter goes through
+unfoldable pub cycle_count : ℕ
+cycle_count = 64
 
--- the base is below the repetition
-abbrev pub is_cycle_set : ℕ → ℕ → Bool
-is_cycle_set base repetition = is_repetition repetition && nat_lt base repetition
+-- a repetition divides the count of cycles
+abbrev pub is_repetition : ℕ → ℕ → Bool
+is_repetition count r = nat_le 1 r && ((count % r) == 0)
+
+-- and a base is below it
+abbrev pub is_cycle_set : ℕ → ℕ → ℕ → Bool
+is_cycle_set count base repetition = is_repetition count repetition && nat_lt base repetition
 
 -- whether the cycle is selected
 abbrev pub selects : Cycles → ℕ → Bool
 selects s c = (c % s.repetition) == s.base
 
--- how many cycles the cycle counter goes through
-unfoldable pub cycle_count : ℕ
-cycle_count = 64
-
--- the numbers of the cycles, 0 to 63
-unfoldable pub all_cycles : List ℕ
-all_cycles = range_with_len 0 cycle_count
+-- the numbers of so many cycles, from 0
+unfoldable pub all_cycles : ℕ → List ℕ
+all_cycles count = range_with_len 0 count
 
 -- the cycles that are selected, in order
 unfoldable pub cycles_of : Cycles → List ℕ
-cycles_of s = filter (selects s) all_cycles
+cycles_of s = filter (selects s) (all_cycles cycle_count)
 
 -- whether the cycle is one of them
 unfoldable pub has_cycle : Cycles → ℕ → Bool

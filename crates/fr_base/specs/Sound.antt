@@ -3,7 +3,7 @@ use Rattle.std.specs.Prelude.{◌≡◌, ℕ, ◌≤◌, Option, Some, IsTrue, I
 use Rattle.fr_base.specs.Tables.{Table, get, contains, len, only}
 use Rattle.fr_base.specs.Keys.{names, owned, channel_slots}
 use Rattle.fr_base.specs.Cells.{Cell, has_cell}
-use Rattle.fr_base.specs.Cycles.{is_cycle_set}
+use Rattle.fr_base.specs.Cycles.{cycle_count, is_cycle_set}
 use Rattle.fr_base.specs.Channels.{channels_in, has_channel}
 use Rattle.fr_base.specs.Cluster.{Cluster}
 use Rattle.fr_base.specs.Names.{is_name, is_key}
@@ -27,7 +27,7 @@ pub record FitsCluster (p : Params) (q : Placement) : Type 0 where
   pub from_one : 1 ≤ q.slot
   pub to_last : q.slot ≤ p.static_slots
   pub channels : IsTrue (list_all (has_channel p.channels) (channels_in q.channels))
-  pub cycles : IsTrue (is_cycle_set q.cycles.base q.cycles.repetition)
+  pub cycles : IsTrue (is_cycle_set cycle_count q.cycles.base q.cycles.repetition)
 
 -- a frame has a name, and its node is its supplier's; each of its placements fits the cluster and lies in grants to that node; there are at most 8
 pub record IsSoundFrame (p : Params) (nodes : Table owned ⊤) (grants : Table channel_slots Holder) (k : Name × Name) (f : Frame) : Type 0 where

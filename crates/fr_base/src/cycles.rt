@@ -12,8 +12,9 @@ pub const CYCLE_COUNT: u32 = 64;
 pub struct BadCycles;
 
 /// The communication cycles `c` of 0 to 63 with `c mod repetition = base`. The repetition is 1, 2, 4, 8,
-/// 16, 32 or 64, and the base below it. This is the register's form of cycle filtering, by which
-/// several frames share a slot and channel. Sets are ordered by base, and then by repetition.
+/// 16, 32 or 64, a divisor of [`CYCLE_COUNT`], and the base is below it. This is the register's form of
+/// cycle filtering, by which several frames share a slot and channel. Sets are ordered by base, and
+/// then by repetition.
 #[derive(Clone, Copy, Debug, PartialEq, Eq, PartialOrd, Ord, Hash)]
 pub struct CycleSet {
     base: u8,
@@ -22,25 +23,26 @@ pub struct CycleSet {
 
 impl Model for CycleSet {
     ghost use Rattle.std.specs.Prelude.{IsTrue};
-    ghost use Rattle.fr_base.specs.Cycles.{Cycles, is_cycle_set};
+    ghost use Rattle.fr_base.specs.Cycles.{Cycles, cycle_count, is_cycle_set};
 
     ghost Value = { Cycles };
 
     ghost view = { λ s. record { base = s.base; repetition = s.repetition } };
 
-    ghost invariant = { λ s. IsTrue (is_cycle_set s.base s.repetition) };
+    ghost invariant = { λ s. IsTrue (is_cycle_set cycle_count s.base s.repetition) };
 
     ghost inverse = { λ s. record { base = s.base; repetition = s.repetition } };
 }
 
 impl CycleSet {
-    ghost use Rattle.fr_base.specs.Cycles.{is_cycle_set, has_cycle, first_common};
+    ghost use Rattle.fr_base.specs.Cycles.{cycle_count, is_cycle_set, has_cycle, first_common};
 
     /// The cycles of this base and repetition, if they select any.
+    #[tactic(auto, using(crate::proofs::CycleLemmas::divisor_within), unfolding(crate::specs::Cycles::cycle_count))]
     pub fn new(base: u32, repetition: u32) -> Result<CycleSet, BadCycles>
-        ensures { result ≡ (if is_cycle_set base repetition then Ok (record { base = base; repetition = repetition }) else Err (record {})) }
+        ensures { result ≡ (if is_cycle_set cycle_count base repetition then Ok (record { base = base; repetition = repetition }) else Err (record {})) }
     {
-        if matches!(repetition, 1 | 2 | 4 | 8 | 16 | 32 | 64) && base < repetition {
+        if repetition != 0 && CYCLE_COUNT % repetition == 0 && base < repetition {
             Ok(CycleSet {
                 base: base as u8,
                 repetition: repetition as u8,
