@@ -13,3 +13,4 @@ pub mod AnswerLaws
 pub mod SharedLaws
 pub mod TakenLaws
 pub mod ScheduleLaws
+pub mod OutputLaws

@@ -62,3 +62,9 @@ abbrev pub Answers : Cluster → register.Book → Ask → Answer → register.B
 Answers c old ask answer new =
     (MayLack c old ask × (answer ≡ Refused Unavailable) × (new ≡ old))
     ⊎ ((answer ≡ (step c old ask.actor ask.request).answer) × (new ≡ (step c old ask.actor ask.request).book))
+
+-- From the old book a line that reads so may be answered so, and then the book is the new one: what it asks is answered;
+-- a line that asks nothing is refused, and changes nothing.
+abbrev pub Replied : Cluster → register.Book → Result Ask Refusal → Answer → register.Book → Type 0
+Replied c old (Ok ask) answer new = Answers c old ask answer new
+Replied c old (Err refusal) answer new = (answer ≡ Refused refusal) × (new ≡ old)

@@ -11,4 +11,5 @@ pub mod Books
 pub mod Taken
 pub mod Sendings
 pub mod Asked
+pub mod Output
 pub mod Words

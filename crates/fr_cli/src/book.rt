@@ -24,7 +24,8 @@ pub(crate) struct Book {
 impl Book {
     /// The book of a register that was just made.
     pub(crate) fn new(alloc: Global, config: Config) -> Book
-        ensures { book_of result ≡ opening config }
+        ensures config { result.config ≡ config }
+        ensures opening { book_of result ≡ opening config }
     {
         Book {
             config,

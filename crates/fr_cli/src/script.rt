@@ -1,15 +1,18 @@
 //! Runs a script: reads it, and writes the answer to each of its requests.
-ghost use Rattle.std.specs.Prelude.{◌≡◌, ◌⊎◌, Err, IfErr, IfOk, IsErrOf, IsTrue};
+ghost use Rattle.std.specs.Prelude.{◌≡◌, ◌⊎◌, ◌<◌, ◌++◌, ◌∷◌, ℕ, List, [], length, Some, None, Ok, Err, IfErr, IfOk, IfSome, IsErrOf, IsTrue, OnOk};
+ghost use Rattle.std.specs.Io.KnownBytes.{Appends, IsAtEnd, Keeps};
 ghost use Rattle.fr_base.specs.Book.{opening};
 ghost use Rattle.fr_base.specs.Step.{knows};
-ghost use Rattle.std.specs.Io.KnownBytes.{Keeps};
 ghost use Rattle.fr_cli.specs.Asked.{ask_in};
+ghost use Rattle.fr_cli.specs.Books.{book_of, Replied};
+ghost use Rattle.fr_cli.specs.Output.{IsAnsweredTo, IsCutShort, IsOutput, LacksMemory, cluster_in};
+ghost use Rattle.fr_cli.specs.Script.{request_lines};
 ghost use Rattle.fr_cli.specs.declared.cluster_file.ConfigFault.{ConfigFault};
 
 use crate::answer_text::write_answer;
 use crate::book::Book;
-use crate::cluster_file::read_config;
-use crate::input::read_all;
+use crate::cluster_file::{ConfigFault, read_config};
+use crate::input::{SCRIPT_BYTES, read_all};
 use crate::lines::{RequestLines, key_and_text, split_script};
 use crate::output::{Retries, flush, write_all};
 use crate::request_text::read_command;
@@ -18,36 +21,61 @@ use fr_base::{Answer, Ask, Config, Refusal};
 use std::alloc::Global;
 use std::io::{Read, Write};
 
-/// Reads a whole script, and answers its requests in order, each on a line of its own. A fault of
-/// reading, a missing separator and a fault of the cluster file come before anything is written.
+/// Reads a whole script, and answers its requests in order, each on a line of its own. What it
+/// writes is the output of the script. A fault of reading, a missing separator and a fault of the
+/// cluster file come before anything is written; want of memory for a request comes after whole
+/// answers to all before it, and a failed write may cut an answer short.
 pub fn run_script<R: Read, W: Write>(
     alloc: Global,
     reader: &mut R,
     writer: &mut W,
 ) -> Result<(), ScriptFault>
-    ensures no_separator { IsErrOf result ScriptFault.NoSeparator → Keeps (W.contents writer.old) (W.contents writer.new) }
-    ensures config { (fault : ConfigFault) → IsErrOf result (ScriptFault.Config fault) → Keeps (W.contents writer.old) (W.contents writer.new) }
+    ensures output { OnOk result (IfSome (R.remaining reader.old) (λ script. (written : List ℕ)
+        × Appends (W.contents writer.old) (W.contents writer.new) written × IsOutput script written)) }
+    ensures whole_script { OnOk result (IsAtEnd (R.remaining reader.new)) }
+    ensures too_long { IsErrOf result ScriptFault.TooLong → Keeps (W.contents writer.old) (W.contents writer.new)
+        × IfSome (R.remaining reader.old) (λ script. SCRIPT_BYTES < length script) }
+    ensures too_many_reads { IsErrOf result ScriptFault.TooManyReads → Keeps (W.contents writer.old) (W.contents writer.new) }
+    ensures read_failed { IsErrOf result ScriptFault.ReadFailed → Keeps (W.contents writer.old) (W.contents writer.new) }
+    ensures no_separator { IsErrOf result ScriptFault.NoSeparator → Keeps (W.contents writer.old) (W.contents writer.new)
+        × IsAtEnd (R.remaining reader.new) × IfSome (R.remaining reader.old) (λ script. cluster_in script ≡ None) }
+    ensures config { (fault : ConfigFault) → IsErrOf result (ScriptFault.Config fault) → Keeps (W.contents writer.old) (W.contents writer.new)
+        × IfSome (R.remaining reader.old) (λ script. (cluster_in script ≡ Some (Err fault)) ⊎ (fault ≡ ConfigFault.NoMemory)) }
+    ensures no_memory { IsErrOf result ScriptFault.NoMemory → Keeps (W.contents writer.old) (W.contents writer.new)
+        ⊎ IfSome (R.remaining reader.old) (λ script. (written : List ℕ)
+        × Appends (W.contents writer.old) (W.contents writer.new) written × LacksMemory script written) }
+    ensures write_failed { IsErrOf result ScriptFault.WriteFailed → IfSome (R.remaining reader.old) (λ script. (written : List ℕ)
+        × Appends (W.contents writer.old) (W.contents writer.new) written × IsCutShort script written) }
+    ensures available { IsErrOf result ScriptFault.Unavailable → ⊥ }
 {
     let script = read_all(alloc, reader)?;
     let (cluster, requests) = split_script(&script).ok_or(ScriptFault::NoSeparator)?;
-    let mut book = Book::new(alloc, read_config(alloc, cluster)?);
-    answer_requests(alloc, &mut book, requests, writer)
+    let config = read_config(alloc, cluster)?;
+    answer_requests(alloc, config, requests, writer)
 }
 
 // Writes the answer to each request, before the next one is read.
 fn answer_requests<W: Write>(
     alloc: Global,
-    book: &mut Book,
+    config: Config,
     requests: &[u8],
     writer: &mut W,
 ) -> Result<(), ScriptFault>
-    ensures no_separator { IsErrOf result ScriptFault.NoSeparator → ⊥ }
-    ensures config { (fault : ConfigFault) → IsErrOf result (ScriptFault.Config fault) → ⊥ }
+    ensures all { OnOk result ((written : List ℕ) × Appends (W.contents writer.old) (W.contents writer.new) written
+        × IsAnsweredTo config (request_lines requests.now) [] written) }
+    ensures no_memory { IsErrOf result ScriptFault.NoMemory → (line : List ℕ) × (left : List (List ℕ)) × (written : List ℕ)
+        × Appends (W.contents writer.old) (W.contents writer.new) written
+        × IsAnsweredTo config (request_lines requests.now) (line ∷ left) written }
+    ensures write_failed { IsErrOf result ScriptFault.WriteFailed → (left : List (List ℕ)) × (missing : List ℕ) × (written : List ℕ)
+        × Appends (W.contents writer.old) (W.contents writer.new) written
+        × IsAnsweredTo config (request_lines requests.now) left (written ++ missing) }
+    ensures faults { IfErr result (λ fault. (fault ≡ ScriptFault.NoMemory) ⊎ (fault ≡ ScriptFault.WriteFailed)) }
 {
+    let mut book = Book::new(alloc, config);
     let mut retries = Retries::new();
     let mut text = Vec::new(alloc);
     for line in RequestLines::new(requests) {
-        let answer = answer_line(alloc, book, line)?;
+        let answer = answer_line(alloc, &mut book, line)?;
         text.clear();
         write_answer(&answer, &mut text)?;
         text.extend_from_slice(b"\n")?;
@@ -58,7 +86,10 @@ fn answer_requests<W: Write>(
 
 // The answer to a request's line, which may change the book.
 fn answer_line(alloc: Global, book: &mut Book, line: &[u8]) -> Result<Answer, ScriptFault>
-    ensures { IfErr result (λ fault. fault ≡ ScriptFault.NoMemory) }
+    ensures config { book.new.config ≡ book.old.config }
+    ensures replied { IfOk result (λ answer.
+        Replied book.old.config (book_of book.old) (ask_in book.old.config line.now) answer (book_of book.new)) }
+    ensures fault { IfErr result (λ fault. fault ≡ ScriptFault.NoMemory) }
 {
     match read_ask(alloc, &book.config, line) {
         Ok(ask) => Ok(book.answer(alloc, &ask)),

@@ -6,9 +6,9 @@ use Rattle.fr_cli.specs.Rows.{table_of, set_of}
 use Rattle.fr_cli.specs.Variants.{variant_of}
 use Rattle.fr_cli.proofs.book.Book.new.Goals as goal
 
-pub returns : goal.returns
+pub returns-clause-opening : goal.returns-clause-opening
 unfolding opening table_of set_of from_rows
-returns c = λ i. record {
+returns-clause-opening c = λ i. record {
   suppliers = from_rows (map (λ s. (s.name, s.key)) c.args.config.suppliers);
   nodes = set_of owned (λ k. (k.supplier, k.name)) (c.new.ensures.empty i);
   variants = table_of names (λ v. v) variant_of (c.new-2.ensures.empty i);

@@ -1,0 +1,78 @@
+-- What the run of a script writes.
+use Rattle.std.specs.Prelude.{◌≡◌, ℕ, List, [], ◌∷◌, ◌++◌, map, codes, Option, Some, Result, Ok, Err, option_map, ⊤}
+use Rattle.std.specs.List.{flat_map}
+use Rattle.fr_base.specs.Book.{Book, opening}
+use Rattle.fr_base.specs.Cluster.{Cluster}
+use Rattle.fr_base.specs.Run.{IsRun}
+use Rattle.fr_base.specs.declared.answer.Answer.{Answer}
+use Rattle.fr_base.specs.declared.answer.Answer.TheVariants.{Refused}
+use Rattle.fr_base.specs.declared.refusal.Refusal.{Refusal}
+use Rattle.fr_base.specs.declared.request.Ask.{Ask}
+use Rattle.fr_cli.specs.AnswerText.{text_of}
+use Rattle.fr_cli.specs.Asked.{ask_in}
+use Rattle.fr_cli.specs.ClusterFile.{config_of}
+use Rattle.fr_cli.specs.Script.{parts_of, request_lines}
+use Rattle.fr_cli.specs.declared.cluster_file.ConfigFault.{ConfigFault}
+
+-- what each of the lines asks, or the refusal of a line that asks nothing
+abbrev pub read_lines : Cluster → List (List ℕ) → List (Result Ask Refusal)
+read_lines c lines = map (ask_in c) lines
+
+-- the asks among them
+abbrev pub asks_of : List (Result Ask Refusal) → List Ask
+asks_of [] = []
+asks_of (Ok ask ∷ read) = ask ∷ asks_of read
+asks_of (Err refusal ∷ read) = asks_of read
+
+-- one answer for each line: an ask has the next of these answers, and a line that asks nothing is refused in its place
+abbrev pub answers_of : List (Result Ask Refusal) → List Answer → List Answer
+answers_of [] answers = []
+answers_of (Err refusal ∷ read) answers = Refused refusal ∷ answers_of read answers
+answers_of (Ok ask ∷ read) (answer ∷ answers) = answer ∷ answers_of read answers
+answers_of (Ok ask ∷ read) [] = []
+
+-- each answer on a line of its own
+abbrev pub text_of_answers : List Answer → List ℕ
+text_of_answers answers = flat_map (λ answer. text_of answer ++ codes "\n") answers
+
+-- The bytes answer the lines: from the register that was just made the asks among them may be answered so, one after
+-- another, and the bytes are the text of one answer for each line.
+pub record IsAnswered (c : Cluster) (lines : List (List ℕ)) (written : List ℕ) : Type 0 where
+  pub answers : List Answer
+  pub last : Book
+  pub run : IsRun c (opening c) (asks_of (read_lines c lines)) answers last
+  pub bytes : written ≡ text_of_answers (answers_of (read_lines c lines) answers)
+
+-- The bytes answer the lines up to those that are left.
+pub record IsAnsweredTo (c : Cluster) (lines left : List (List ℕ)) (written : List ℕ) : Type 0 where
+  pub front : List (List ℕ)
+  pub all : lines ≡ front ++ left
+  pub answered : IsAnswered c front written
+
+-- what the script's cluster file says, if a line ends it
+abbrev pub cluster_in : List ℕ → Option (Result Cluster ConfigFault)
+cluster_in script = option_map (λ parts. config_of parts.0) (parts_of script)
+
+-- the lines of the script's requests, if a line ends its cluster file
+abbrev pub lines_in : List ℕ → Option (List (List ℕ))
+lines_in script = option_map (λ parts. request_lines parts.1) (parts_of script)
+
+-- The bytes answer the script's requests up to those that are left.
+pub record IsOutputTo (script : List ℕ) (left : List (List ℕ)) (written : List ℕ) : Type 0 where
+  pub cluster : Cluster
+  pub lines : List (List ℕ)
+  pub file : cluster_in script ≡ Some (Ok cluster)
+  pub requests : lines_in script ≡ Some lines
+  pub answered : IsAnsweredTo cluster lines left written
+
+-- The bytes are the output of the script.
+abbrev pub IsOutput : List ℕ → List ℕ → Type 0
+IsOutput script written = IsOutputTo script [] written
+
+-- The bytes answer the script's requests up to one for which there was no memory.
+abbrev pub LacksMemory : List ℕ → List ℕ → Type 0
+LacksMemory script written = (line : List ℕ) × (left : List (List ℕ)) × IsOutputTo script (line ∷ left) written
+
+-- The bytes are the front of some requests' answers.
+abbrev pub IsCutShort : List ℕ → List ℕ → Type 0
+IsCutShort script written = (left : List (List ℕ)) × (missing : List ℕ) × IsOutputTo script left (written ++ missing)
