@@ -7,6 +7,7 @@ use Rattle.fr_base.specs.Cells.{Cell}
 use Rattle.fr_base.specs.Channels.{channels_in}
 use Rattle.fr_base.specs.Schedule.{fill}
 use Rattle.fr_base.specs.Cluster.{Cluster, same_text}
+use Rattle.fr_base.specs.Signals.{SignalData}
 use Rattle.fr_base.specs.declared.channel.Channel.{Channel}
 use Rattle.fr_base.specs.declared.key.Key.{Key}
 use Rattle.fr_base.specs.declared.name.Name.{Name}
@@ -17,10 +18,11 @@ pub record Holder : Type 0 where
   pub supplier : Name
   pub node : Name
 
--- the node that sends a frame, and where it is placed
+-- the node that sends a frame, where it is placed, and the signals in its payload, in the order of their starts
 pub record Frame : Type 0 where
   pub node : Name
   pub placements : Table placement_order ⊤
+  pub signals : List SignalData
 
 -- a plan of the static segment: who holds which slot and channel, and each supplier's frames.
 -- Its parent is the variant that it was opened from; a variant that was opened empty has depth 1.

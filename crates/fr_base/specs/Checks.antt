@@ -1,22 +1,24 @@
 -- What a request says by itself: its texts and numbers checked, or the first refusal that needs no register.
-use Rattle.std.specs.Prelude.{ℕ, Bool, true, false, not, ◌&&◌, List, nat_le, Result, Ok, Err, if◌then◌else◌}
+use Rattle.std.specs.Prelude.{ℕ, Bool, true, false, not, ◌&&◌, List, nat_le, Option, Some, None, Result, Ok, Err, if◌then◌else◌}
 use Rattle.std.specs.List.{list_all}
 use Rattle.fr_base.specs.Refusing.{◌>>=◌, ◌>>◌, ◌or◌, refuse◌when◌}
 use Rattle.fr_base.specs.Names.{is_name}
 use Rattle.fr_base.specs.Cycles.{Cycles, cycle_count, is_cycle_set}
+use Rattle.fr_base.specs.Signals.{SignalData, is_signal_length, order_of_text}
 use Rattle.fr_base.specs.Channels.{channels_in, has_channel, channel_of_text, channels_of_text}
 use Rattle.fr_base.specs.declared.channel.Channel.{Channel}
 use Rattle.fr_base.specs.declared.channel.Channels.{Channels}
 use Rattle.fr_base.specs.declared.name.Name.{Name}
 use Rattle.fr_base.specs.declared.params.Params.{Params}
+use Rattle.fr_base.specs.declared.placement.Placement.{Placement}
 use Rattle.fr_base.specs.declared.refusal.Refusal.{Refusal}
-use Rattle.fr_base.specs.declared.refusal.Refusal.TheVariants.{NotYours, BadName, BadCycles, BadSlot, BadChannel}
+use Rattle.fr_base.specs.declared.refusal.Refusal.TheVariants.{NotYours, BadName, BadCycles, BadSlot, BadChannel, BadSignal}
 use Rattle.fr_base.specs.declared.request.Actor.{Actor}
 use Rattle.fr_base.specs.declared.request.Actor.TheVariants.{Integrator, Supplier}
 use Rattle.fr_base.specs.declared.request.Request.{Request}
 use Rattle.fr_base.specs.declared.request.Request.TheVariants as request
-use Rattle.fr_base.specs.declared.request.Command.TheVariants.{OpenVariant, AddNode, Grant, AddFrame, Place}
-use Rattle.fr_base.specs.declared.request.Query.TheVariants.{Schedule}
+use Rattle.fr_base.specs.declared.request.Command.TheVariants.{OpenVariant, Release, AddNode, Grant, Revoke, AddFrame, DropFrame, Place, Unplace, AddSignal, DropSignal}
+use Rattle.fr_base.specs.declared.request.Query.TheVariants.{Grants, Frames, Schedule, Gaps, Layout}
 use Rattle.fr_base.specs.declared.request.Checked.{Checked}
 use Rattle.fr_base.specs.declared.request.Checked.TheVariants as checked
 
@@ -51,12 +53,39 @@ channels p text = do
   refuse BadChannel when not (list_all (has_channel p.channels) (channels_in cs))
   Ok cs
 
+-- a placement: its cycles are asked first, then its slot, then its channels
+unfoldable pub placement : Params → ℕ → List ℕ → ℕ → ℕ → Result Placement Refusal
+placement p number text base repetition = do
+  r ← cycles base repetition
+  k ← slot p number
+  cs ← channels p text
+  Ok (record { slot = k; channels = cs; cycles = r })
+
+-- a signal of 1 to 64 bits in one of the two orders
+unfoldable pub signal : Name → ℕ → ℕ → List ℕ → Result SignalData Refusal
+signal n start length text = do
+  order ← order_of_text text or BadSignal
+  refuse BadSignal when not (is_signal_length length)
+  Ok (record { name = n; start = start; length = length; order = order })
+
+-- the name of a parent, if there is to be one
+unfoldable pub parent_name : Option (List ℕ) → Result (Option Name) Refusal
+parent_name None = Ok None
+parent_name (Some text) = do
+  parent ← name text
+  Ok (Some parent)
+
 -- the request with checked values
 unfoldable pub check : Params → Actor → Request → Result Checked Refusal
-check p actor (request.OpenVariant variant) = do
+check p actor (request.OpenVariant variant parent) = do
   refuse NotYours when not (is_integrator actor)
   v ← name variant
-  Ok (checked.Command (OpenVariant v))
+  from ← parent_name parent
+  Ok (checked.Command (OpenVariant v from))
+check p actor (request.Release variant) = do
+  refuse NotYours when not (is_integrator actor)
+  v ← name variant
+  Ok (checked.Command (Release v))
 check p actor (request.AddNode supplier node) = do
   refuse NotYours when not (is_integrator actor)
   s ← name supplier
@@ -70,20 +99,62 @@ check p actor (request.Grant variant number text supplier node) = do
   k ← slot p number
   c ← channel p text
   Ok (checked.Command (Grant v k c s n))
+check p actor (request.Revoke variant number text supplier) = do
+  refuse NotYours when not (is_integrator actor)
+  v ← name variant
+  s ← name supplier
+  k ← slot p number
+  c ← channel p text
+  Ok (checked.Command (Revoke v k c s))
 check p actor (request.AddFrame variant frame node) = do
   refuse NotYours when is_integrator actor
   v ← name variant
   f ← name frame
   n ← name node
   Ok (checked.Command (AddFrame v f n))
+check p actor (request.DropFrame variant frame) = do
+  refuse NotYours when is_integrator actor
+  v ← name variant
+  f ← name frame
+  Ok (checked.Command (DropFrame v f))
 check p actor (request.Place variant frame number text base repetition) = do
   refuse NotYours when is_integrator actor
   v ← name variant
   f ← name frame
-  r ← cycles base repetition
-  k ← slot p number
-  cs ← channels p text
-  Ok (checked.Command (Place v f (record { slot = k; channels = cs; cycles = r })))
+  q ← placement p number text base repetition
+  Ok (checked.Command (Place v f q))
+check p actor (request.Unplace variant frame number text base repetition) = do
+  refuse NotYours when is_integrator actor
+  v ← name variant
+  f ← name frame
+  q ← placement p number text base repetition
+  Ok (checked.Command (Unplace v f q))
+check p actor (request.AddSignal variant frame named start length text) = do
+  refuse NotYours when is_integrator actor
+  v ← name variant
+  f ← name frame
+  n ← name named
+  s ← signal n start length text
+  Ok (checked.Command (AddSignal v f s))
+check p actor (request.DropSignal variant frame named) = do
+  refuse NotYours when is_integrator actor
+  v ← name variant
+  f ← name frame
+  n ← name named
+  Ok (checked.Command (DropSignal v f n))
+check p actor (request.Grants variant) = do
+  v ← name variant
+  Ok (checked.Query (Grants v))
+check p actor (request.Frames variant) = do
+  v ← name variant
+  Ok (checked.Query (Frames v))
 check p actor (request.Schedule variant) = do
   v ← name variant
   Ok (checked.Query (Schedule v))
+check p actor (request.Gaps variant) = do
+  v ← name variant
+  Ok (checked.Query (Gaps v))
+check p actor (request.Layout variant frame) = do
+  v ← name variant
+  f ← name frame
+  Ok (checked.Query (Layout v f))

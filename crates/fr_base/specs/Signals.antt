@@ -1,6 +1,8 @@
 -- Signals: named runs of payload bits.
-use Rattle.std.specs.Prelude.{ℕ, Bool, ◌&&◌, List, nat_le}
+use Rattle.std.specs.Prelude.{ℕ, Bool, ◌&&◌, List, codes, nat_le, Option, Some, None, if◌then◌else◌}
+use Rattle.std.specs.Str.{bytes_eq}
 use Rattle.fr_base.specs.declared.signal.Order.{Order}
+use Rattle.fr_base.specs.declared.signal.Order.TheVariants.{Little, Big}
 
 -- a signal's name, the payload bit at which it starts, its length in bits, and the order of its bits
 pub record SignalData : Type 0 where
@@ -12,3 +14,15 @@ pub record SignalData : Type 0 where
 -- a signal has 1 to 64 bits
 abbrev pub is_signal_length : ℕ → Bool
 is_signal_length n = nat_le 1 n && nat_le n 64
+
+-- how an order is written
+abbrev pub text_of_order : Order → List ℕ
+text_of_order Little = codes "little"
+text_of_order Big = codes "big"
+
+-- the order of this text
+abbrev pub order_of_text : List ℕ → Option Order
+order_of_text text =
+    if bytes_eq text (codes "little") then Some Little
+    else if bytes_eq text (codes "big") then Some Big
+    else None

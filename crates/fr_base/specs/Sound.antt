@@ -8,7 +8,8 @@ use Rattle.fr_base.specs.Channels.{channels_in, has_channel}
 use Rattle.fr_base.specs.Cluster.{Cluster}
 use Rattle.fr_base.specs.Names.{is_name, is_key}
 use Rattle.fr_base.specs.Book.{Holder, Frame, Variant, Book, granted}
-use Rattle.fr_base.specs.Step.{is_of}
+use Rattle.fr_base.specs.Layouts.{IsLayout}
+use Rattle.fr_base.specs.Step.{is_of, layout_of}
 use Rattle.std.specs.List.{list_all}
 use Rattle.fr_base.specs.declared.channel.Channel.{Channel}
 use Rattle.fr_base.specs.declared.key.Key.{Key}
@@ -29,13 +30,15 @@ pub record FitsCluster (p : Params) (q : Placement) : Type 0 where
   pub channels : IsTrue (list_all (has_channel p.channels) (channels_in q.channels))
   pub cycles : IsTrue (is_cycle_set cycle_count q.cycles.base q.cycles.repetition)
 
--- a frame has a name, and its node is its supplier's; each of its placements fits the cluster and lies in grants to that node; there are at most 8
+-- a frame has a name, and its node is its supplier's; each of its placements fits the cluster and lies in grants to that node; there are at most 8;
+-- and its signals make a layout of the payload
 pub record IsSoundFrame (p : Params) (nodes : Table owned ⊤) (grants : Table channel_slots Holder) (k : Name × Name) (f : Frame) : Type 0 where
   pub name : IsTrue (is_name k.1)
   pub node : IsTrue (contains nodes (k.0, f.node))
   pub fits : (q : Placement) → IsTrue (contains f.placements q) → FitsCluster p q
   pub in_grants : (q : Placement) → IsTrue (contains f.placements q) → IsTrue (granted grants k.0 f.node q)
   pub limit : len f.placements ≤ 8
+  pub layout : IsLayout (layout_of p f)
 
 -- a variant: each grant fits the cluster and names a node that is there; its frames are sound; no cell lies in two placements; the limits
 pub record IsSoundVariant (p : Params) (nodes : Table owned ⊤) (v : Variant) : Type 0 where

@@ -1,12 +1,18 @@
 -- What a request does: the book after it, and the answer.
-use Rattle.std.specs.Prelude.{ℕ, Bool, true, false, not, List, map, nat_le, Option, Some, None, is_some, Result, Ok, Err, ⊤}
+use Rattle.std.specs.Prelude.{ℕ, suc, ◌==◌, Bool, true, false, not, ◌&&◌, List, [], nat_le, Option, Some, None, is_some, Result, Ok, Err, ⊤}
+use Rattle.std.specs.List.{list_any}
 use Rattle.fr_base.specs.Refusing.{◌>>=◌, ◌>>◌, ◌or◌, refuse◌when◌}
-use Rattle.fr_base.specs.Tables.{Table, empty, get, contains, len, insert, only, becomes}
+use Rattle.fr_base.specs.Tables.{Table, empty, get, contains, len, insert, only, remove, becomes}
 use Rattle.fr_base.specs.Keys.{names, owned, channel_slots}
-use Rattle.fr_base.specs.Cells.{Cell, cells_of, cluster_cells}
-use Rattle.fr_base.specs.Schedule.{first_taken, entries}
-use Rattle.fr_base.specs.Checks.{is_integrator, check}
+use Rattle.fr_base.specs.Cells.{Cell, cells_of}
+use Rattle.fr_base.specs.Schedule.{first_taken}
+use Rattle.fr_base.specs.Checks.{check}
+use Rattle.fr_base.specs.Channels.{has_channel}
 use Rattle.fr_base.specs.Cluster.{Cluster, same_text}
+use Rattle.fr_base.specs.Signals.{SignalData}
+use Rattle.fr_base.specs.Layouts as layouts
+use Rattle.fr_base.specs.Layouts.{LayoutData}
+use Rattle.fr_base.specs.Queries.{reply}
 use Rattle.fr_base.specs.Book.{Holder, Frame, Variant, Book, Owner, empty_variant, held_by, held_by_node, granted, schedule_of}
 use Rattle.fr_base.specs.declared.channel.Channel.{Channel}
 use Rattle.fr_base.specs.declared.name.Name.{Name}
@@ -14,16 +20,13 @@ use Rattle.fr_base.specs.declared.params.Params.{Params}
 use Rattle.fr_base.specs.declared.placement.Placement.{Placement}
 use Rattle.fr_base.specs.declared.answer.Answer.{Answer}
 use Rattle.fr_base.specs.declared.answer.Answer.TheVariants as answer
-use Rattle.fr_base.specs.declared.answer.Sending.{Sending}
 use Rattle.fr_base.specs.declared.refusal.Refusal.{Refusal}
-use Rattle.fr_base.specs.declared.refusal.Refusal.TheVariants.{UnknownKey, NotYours, NoVariant, Released, NoSupplier, NoNode, NoFrame, Exists, NodeDiffers, NotGranted, Limit, Taken, CellTaken}
+use Rattle.fr_base.specs.declared.refusal.Refusal.TheVariants.{UnknownKey, NotYours, NoVariant, Released, NotReleased, TooDeep, NoSupplier, NoNode, NoFrame, NoPlacement, Exists, NodeDiffers, NotGranted, InUse, Limit, Taken, CellTaken}
 use Rattle.fr_base.specs.declared.request.Actor.{Actor}
 use Rattle.fr_base.specs.declared.request.Actor.TheVariants.{Integrator, Supplier}
 use Rattle.fr_base.specs.declared.request.Request.{Request}
 use Rattle.fr_base.specs.declared.request.Command.{Command}
-use Rattle.fr_base.specs.declared.request.Command.TheVariants.{OpenVariant, AddNode, Grant, AddFrame, Place}
-use Rattle.fr_base.specs.declared.request.Query.{Query}
-use Rattle.fr_base.specs.declared.request.Query.TheVariants.{Schedule}
+use Rattle.fr_base.specs.declared.request.Command.TheVariants.{OpenVariant, Release, AddNode, Grant, Revoke, AddFrame, DropFrame, Place, Unplace, AddSignal, DropSignal}
 use Rattle.fr_base.specs.declared.request.Checked.{Checked}
 use Rattle.fr_base.specs.declared.request.Checked.TheVariants as checked
 
@@ -42,12 +45,29 @@ with_variant b v variant = record b { variants = insert b.variants v variant }
 
 -- ---- the integrator's commands
 
--- OpenVariant: an empty variant
-unfoldable pub open_variant : Book → Name → Result Book Refusal
-open_variant b v = do
+-- the variant that a new one begins as: an empty one, or one with all rows of a released parent, and one deeper
+unfoldable pub begun : Book → Option Name → Result Variant Refusal
+begun b None = Ok empty_variant
+begun b (Some parent) = do
+  variant ← get b.variants parent or NoVariant
+  refuse NotReleased when not variant.released
+  refuse TooDeep when nat_le 16 variant.depth
+  Ok (record variant { parent = Some parent; depth = suc variant.depth; released = false })
+
+-- OpenVariant: an open variant
+unfoldable pub open_variant : Book → Name → Option Name → Result Book Refusal
+open_variant b v parent = do
+  variant ← begun b parent
   refuse Exists when contains b.variants v
   refuse Limit when nat_le 64 (len b.variants)
-  Ok (with_variant b v empty_variant)
+  Ok (with_variant b v variant)
+
+-- Release: the variant is frozen
+unfoldable pub release : Book → Name → Result Book Refusal
+release b v = do
+  variant ← get b.variants v or NoVariant
+  refuse Released when variant.released
+  Ok (with_variant b v (record variant { released = true }))
 
 -- AddNode: the supplier has the node, in all variants
 unfoldable pub add_node : Book → Name → Name → Result Book Refusal
@@ -68,6 +88,24 @@ grant b v at s n = do
   refuse NodeDiffers when held_by s (get variant.grants at)
   refuse Taken when contains variant.grants at
   Ok (with_variant b v (record variant { grants = insert variant.grants at (record { supplier = s; node = n }) }))
+
+-- whether the placement uses the slot on the channel
+abbrev pub uses : ℕ × Channel → Placement → Bool
+uses at q = (q.slot == at.0) && has_channel q.channels at.1
+
+-- whether a placement of the supplier uses the slot on the channel
+unfoldable pub in_use : Name → ℕ × Channel → Table owned Frame → Bool
+in_use s at frames = list_any (λ row. is_of s row.0 && list_any (λ q. uses at q.0) row.1.placements.rows) frames.rows
+
+-- Revoke: the supplier's grant is gone
+unfoldable pub revoke : Book → Name → ℕ × Channel → Name → Result Book Refusal
+revoke b v at s = do
+  variant ← get b.variants v or NoVariant
+  refuse Released when variant.released
+  refuse NoSupplier when not (contains b.suppliers s)
+  refuse NotGranted when not (held_by s (get variant.grants at))
+  refuse InUse when in_use s at variant.frames
+  Ok (with_variant b v (record variant { grants = remove variant.grants at }))
 
 -- ---- a supplier's commands
 
@@ -106,7 +144,7 @@ add_frame page f n = do
   refuse NoNode when not (contains page.nodes (page.supplier, n))
   refuse Exists when contains page.frames (page.supplier, f)
   refuse Limit when nat_le 256 (len page.frames)
-  Ok (Some (record { node = n; placements = empty }))
+  Ok (Some (record { node = n; placements = empty; signals = [] }))
 
 -- Place: the frame is sent in the placement's cells
 unfoldable pub place : Page → Filled → Name → Placement → Result (Option Frame) Refusal
@@ -116,6 +154,37 @@ place page filled f q = do
   refuse Limit when nat_le 8 (len frame.placements)
   cell_taken (first_taken filled (cells_of q))
   Ok (Some (record frame { placements = insert frame.placements q tt }))
+
+-- DropFrame: the frame is gone, with its placements and signals
+unfoldable pub drop_frame : Page → Name → Result (Option Frame) Refusal
+drop_frame page f = do
+  get page.frames (page.supplier, f) or NoFrame
+  Ok None
+
+-- Unplace: that placement is gone
+unfoldable pub unplace : Page → Name → Placement → Result (Option Frame) Refusal
+unplace page f q = do
+  frame ← get page.frames (page.supplier, f) or NoFrame
+  refuse NoPlacement when not (contains frame.placements q)
+  Ok (Some (record frame { placements = remove frame.placements q }))
+
+-- the layout of a frame's payload
+abbrev pub layout_of : Params → Frame → LayoutData
+layout_of p frame = record { words = p.payload_words; signals = frame.signals }
+
+-- AddSignal: the frame has the signal
+unfoldable pub add_signal : Page → Name → SignalData → Result (Option Frame) Refusal
+add_signal page f s = do
+  frame ← get page.frames (page.supplier, f) or NoFrame
+  layout ← layouts.add_signal (layout_of page.params frame) s
+  Ok (Some (record frame { signals = layout.signals }))
+
+-- DropSignal: the signal is gone
+unfoldable pub drop_signal : Page → Name → Name → Result (Option Frame) Refusal
+drop_signal page f s = do
+  frame ← get page.frames (page.supplier, f) or NoFrame
+  layout ← layouts.remove_signal (layout_of page.params frame) s
+  Ok (Some (record frame { signals = layout.signals }))
 
 -- what a supplier's command on one of its frames makes of the book
 unfoldable pub on_frame : Params → Book → Name → Name → Name → (Page → Filled → Result (Option Frame) Refusal) → Result Book Refusal
@@ -127,38 +196,29 @@ on_frame p b s v f command = do
 
 -- ---- all commands
 
--- the book after a command; what is not the actor's to ask was refused before
+-- the book after the integrator's command; what is not the integrator's to ask was refused before
+unfoldable pub by_integrator : Params → Book → Command → Result Book Refusal
+by_integrator p b (OpenVariant v parent) = open_variant b v parent
+by_integrator p b (Release v) = release b v
+by_integrator p b (AddNode s n) = add_node b s n
+by_integrator p b (Grant v k c s n) = grant b v (k, c) s n
+by_integrator p b (Revoke v k c s) = revoke b v (k, c) s
+by_integrator p b _ = Err NotYours
+
+-- the book after a supplier's command; what is not a supplier's to ask was refused before
+unfoldable pub by_supplier : Params → Book → Name → Command → Result Book Refusal
+by_supplier p b s (AddFrame v f n) = on_frame p b s v f (λ page filled. add_frame page f n)
+by_supplier p b s (DropFrame v f) = on_frame p b s v f (λ page filled. drop_frame page f)
+by_supplier p b s (Place v f q) = on_frame p b s v f (λ page filled. place page filled f q)
+by_supplier p b s (Unplace v f q) = on_frame p b s v f (λ page filled. unplace page f q)
+by_supplier p b s (AddSignal v f x) = on_frame p b s v f (λ page filled. add_signal page f x)
+by_supplier p b s (DropSignal v f x) = on_frame p b s v f (λ page filled. drop_signal page f x)
+by_supplier p b s _ = Err NotYours
+
+-- the book after a command
 unfoldable pub change : Params → Book → Actor → Command → Result Book Refusal
-change p b Integrator (OpenVariant v) = open_variant b v
-change p b Integrator (AddNode s n) = add_node b s n
-change p b Integrator (Grant v k c s n) = grant b v (k, c) s n
-change p b Integrator (AddFrame v f n) = Err NotYours
-change p b Integrator (Place v f q) = Err NotYours
-change p b (Supplier s) (OpenVariant v) = Err NotYours
-change p b (Supplier s) (AddNode t n) = Err NotYours
-change p b (Supplier s) (Grant v k c t n) = Err NotYours
-change p b (Supplier s) (AddFrame v f n) = on_frame p b s v f (λ page filled. add_frame page f n)
-change p b (Supplier s) (Place v f q) = on_frame p b s v f (λ page filled. place page filled f q)
-
--- ---- queries
-
--- whether the actor sees the rows of this supplier: its own, and the integrator those of all
-abbrev pub sees : Actor → Name → Bool
-sees Integrator t = true
-sees (Supplier s) t = same_text t s
-
-abbrev pub sending : Cell × Owner → Sending
-sending e = record { cycle = e.0.cycle; slot = e.0.slot; channel = e.0.channel; frame = e.1.frame; node = e.1.node; supplier = e.1.supplier }
-
--- the schedule's rows, by cycle, slot and channel
-unfoldable pub sendings_of : Params → Table owned Frame → List Sending
-sendings_of p frames = map sending (entries (schedule_of frames) (cluster_cells p))
-
--- the answer to a query
-unfoldable pub reply : Params → Book → Actor → Query → Result Answer Refusal
-reply p b actor (Schedule v) = do
-  variant ← get b.variants v or NoVariant
-  Ok (answer.Schedule (is_integrator actor) (sendings_of p (only (λ k _. sees actor k.0) variant.frames)))
+change p b Integrator command = by_integrator p b command
+change p b (Supplier s) command = by_supplier p b s command
 
 -- ---- the step
 

@@ -1,20 +1,47 @@
 use crate::channel::Channel;
 use crate::name::Name;
+use crate::placement::Placement;
 use crate::refusal::Refusal;
+use crate::rows::Rows;
+use crate::signal::Signal;
 use crate::slot::Slot;
-use std::alloc::{AllocError, Global};
-use std::marker::Model;
 
-/// What a request is answered.
+/// What a request is answered. `all` is true where the integrator asked, who sees the rows of all
+/// suppliers.
 #[derive(Debug, Drop)]
 pub enum Answer {
     /// The command was carried out.
     Done,
-    /// The frames that are sent, by cycle, slot and channel; `all` is true where the integrator asked,
-    /// who sees the frames of all suppliers.
-    Schedule { all: bool, rows: Sendings },
+    /// Who holds which slot and channel, by slot and channel.
+    Grants { all: bool, rows: Rows<GrantRow> },
+    /// The frames, by supplier and name.
+    Frames { all: bool, rows: Rows<FrameRow> },
+    /// The frames that are sent, by cycle, slot and channel.
+    Schedule { all: bool, rows: Rows<Sending> },
+    /// The frames' greatest gaps, by supplier and name.
+    Gaps { all: bool, rows: Rows<GapRow> },
+    /// A frame's signals, by supplier and start.
+    Layout { all: bool, rows: Rows<SignalRow> },
     /// Nothing was changed.
     Refused(Refusal),
+}
+
+/// A node holds this slot and channel, in all cycles.
+#[derive(Clone, Copy, Debug, PartialEq, Eq)]
+pub struct GrantRow {
+    pub slot: Slot,
+    pub channel: Channel,
+    pub node: Name,
+    pub supplier: Name,
+}
+
+/// A frame, the node that sends it, and its placements by slot, channels, base and repetition.
+#[derive(Debug, Drop)]
+pub struct FrameRow {
+    pub frame: Name,
+    pub node: Name,
+    pub supplier: Name,
+    pub placements: Rows<Placement>,
 }
 
 /// One cell of the schedule: a frame is sent in this cycle, slot and channel.
@@ -30,60 +57,18 @@ pub struct Sending {
     pub supplier: Name,
 }
 
-/// A list of sendings.
-#[derive(Debug, Drop)]
-pub struct Sendings {
-    rows: Vec<Sending>,
+/// A frame's greatest gap: the most macroticks from the start of one of its slots to the next, round
+/// the ring of all cycles. A frame without a placement has none.
+#[derive(Clone, Copy, Debug, PartialEq, Eq)]
+pub struct GapRow {
+    pub frame: Name,
+    pub supplier: Name,
+    pub gap: Option<u32>,
 }
 
-impl Model for Sendings {
-    ghost use Rattle.std.specs.Prelude.{List};
-    ghost use Rattle.fr_base.specs.declared.answer.Sending.{Sending};
-
-    ghost Value = { List Sending };
-
-    ghost view = { λ s. s.rows.items };
-}
-
-impl Sendings {
-    ghost use Rattle.std.specs.Prelude.{◌≡◌, [], ◌∷◌, ◌++◌, length, IsTrue, ◌↔◌, OnOk, OnErr};
-
-    /// The empty list.
-    pub fn new(alloc: Global) -> Sendings
-        ensures { result ≡ [] }
-    {
-        Sendings {
-            rows: Vec::new(alloc),
-        }
-    }
-
-    /// Adds a sending at the end. An error leaves the list as it was.
-    pub fn push(&mut self, sending: Sending) -> Result<(), AllocError>
-        ensures ok { OnOk result (self.new ≡ self.old ++ sending ∷ []) }
-        ensures err { OnErr result (self.new ≡ self.old) }
-    {
-        self.rows.push(sending)?;
-        Ok(())
-    }
-
-    /// The sendings, in order.
-    pub fn as_slice(&self) -> &[Sending]
-        ensures { result.now ≡ self.now }
-    {
-        self.rows.as_slice()
-    }
-
-    /// How many sendings there are.
-    pub fn len(&self) -> usize
-        ensures { result ≡ length self.now }
-    {
-        self.rows.len()
-    }
-
-    /// Whether there is no sending.
-    pub fn is_empty(&self) -> bool
-        ensures { IsTrue result ↔ (self.now ≡ []) }
-    {
-        self.rows.is_empty()
-    }
+/// A signal of a supplier's frame.
+#[derive(Clone, Copy, Debug, PartialEq, Eq)]
+pub struct SignalRow {
+    pub supplier: Name,
+    pub signal: Signal,
 }

@@ -15,6 +15,32 @@ pub enum Order {
     Big,
 }
 
+impl Order {
+    ghost use Rattle.std.specs.Prelude.{◌≡◌};
+    ghost use Rattle.fr_base.specs.Signals.{order_of_text, text_of_order};
+
+    /// The order of this text, `little` or `big`.
+    pub fn read(text: &str) -> Option<Order>
+        ensures { result ≡ order_of_text text.now }
+    {
+        match text {
+            "little" => Some(Order::Little),
+            "big" => Some(Order::Big),
+            _ => None,
+        }
+    }
+
+    /// The order as requests and reports have it.
+    pub fn as_str(self) -> &'static str
+        ensures { result.now ≡ text_of_order self }
+    {
+        match self {
+            Order::Little => "little",
+            Order::Big => "big",
+        }
+    }
+}
+
 /// The length is no signal's: 0, or above 64 bits.
 #[derive(Clone, Copy, Debug, PartialEq, Eq, Hash)]
 pub struct BadSignal;

@@ -1,0 +1,523 @@
+-- The definitions computed on small registers.
+use Rattle.std.proofs.Common.{◌≡◌, ℕ, List, [], ◌∷◌, false, true, Some, None, map, filter, refl, codes}
+use Rattle.std.specs.Prelude.{⊤}
+use Rattle.fr_base.specs.Refusing.{◌>>=◌, ◌>>◌, ◌or◌, refuse◌when◌}
+use Rattle.fr_base.specs.Tables.{empty, get, len, insert, only, remove, from_rows, becomes}
+use Rattle.fr_base.specs.Keys.{numbers, names, channel_order, channels_order, owned, channel_slots, placement_order}
+use Rattle.fr_base.specs.Names.{is_name, is_key}
+use Rattle.fr_base.specs.Cycles.{Cycles, is_repetition, is_cycle_set, cycle_count, all_cycles, cycles_of, has_cycle, first_common}
+use Rattle.fr_base.specs.Checks.{name, cycles, slot, channel, channels, placement, signal, parent_name, check}
+use Rattle.fr_base.specs.Cells.{cells_of, has_cell, cluster_cells}
+use Rattle.fr_base.specs.Schedule.{fill, first_taken, entries}
+use Rattle.fr_base.specs.Cluster.{Cluster}
+use Rattle.fr_base.specs.Book.{Book, empty_variant, opening, granted, placements_of, schedule_of}
+use Rattle.fr_base.specs.Step.{begun, open_variant, release, add_node, grant, in_use, revoke, page_of, cell_taken, add_frame, drop_frame, place, unplace, add_signal, drop_signal, on_frame, by_integrator, by_supplier, change, act, outcome, step}
+use Rattle.fr_base.specs.Queries.{grants_of, frames_of, sendings_of, gaps_of, named, signals_of, shown, reply}
+use Rattle.fr_base.specs.Moments.{ring, moment, moments, gap_after, greatest_gap}
+use Rattle.fr_base.specs.Bits.{bits_of}
+use Rattle.fr_base.specs.Layouts as layouts
+use Rattle.fr_base.specs.declared.answer.Answer.{Answer}
+use Rattle.fr_base.specs.declared.answer.Answer.TheVariants.{Done, Refused, Grants as Holds, Frames as Framed, Schedule as Sent, Gaps as Longest, Layout as Laid}
+use Rattle.fr_base.specs.declared.channel.Channel.TheVariants as ch
+use Rattle.fr_base.specs.declared.channel.Channels.TheVariants as chs
+use Rattle.fr_base.specs.declared.refusal.Refusal.TheVariants.{UnknownKey, NotYours, BadName, BadCycles, BadSlot, BadChannel, BadSignal, NoVariant, Released, NotReleased, TooDeep, NoSupplier, NoNode, NoFrame, NoSignal, NoPlacement, NotGranted, InUse, Exists, NodeDiffers, Limit, Taken, CellTaken, OutOfPayload, BitTaken}
+use Rattle.fr_base.specs.declared.request.Actor.TheVariants.{Integrator, Supplier}
+use Rattle.fr_base.specs.declared.request.Ask.{Ask}
+use Rattle.fr_base.specs.declared.request.Request.{Request}
+use Rattle.fr_base.specs.declared.request.Request.TheVariants.{OpenVariant, Release, AddNode, Grant, Revoke, AddFrame, DropFrame, Place, Unplace, AddSignal, DropSignal, Grants, Frames, Schedule, Gaps, Layout}
+use Rattle.fr_base.specs.declared.signal.Order.TheVariants as order
+
+-- the cycles of a base and a repetition
+abbrev cycle_set : ℕ → ℕ → Cycles
+cycle_set base repetition = record { base = base; repetition = repetition }
+
+-- the least cycle of both sets
+pub least_common_cycle :
+    first_common (cycle_set 1 2) (cycle_set 3 4)
+    ∷ first_common (cycle_set 0 2) (cycle_set 1 4)
+    ∷ first_common (cycle_set 0 1) (cycle_set 63 64)
+    ∷ []
+    ≡ Some 3 ∷ None ∷ Some 63 ∷ []
+unfolding first_common has_cycle cycles_of all_cycles cycle_count
+least_common_cycle = refl
+
+-- which sets of cycles there are: the base below the repetition, the repetition a divisor of the count
+pub sets_of_cycles :
+    map (λ s. is_cycle_set cycle_count s.base s.repetition) (cycle_set 0 1 ∷ cycle_set 63 64 ∷ cycle_set 2 2 ∷ cycle_set 0 3 ∷ cycle_set 0 128 ∷ cycle_set 0 0 ∷ [])
+    ≡ true ∷ true ∷ false ∷ false ∷ false ∷ false ∷ []
+unfolding cycle_count
+sets_of_cycles = refl
+
+-- the repetitions of 64 cycles
+pub repetitions : filter (is_repetition cycle_count) (all_cycles 100) ≡ 1 ∷ 2 ∷ 4 ∷ 8 ∷ 16 ∷ 32 ∷ 64 ∷ []
+unfolding all_cycles cycle_count
+repetitions = refl
+
+-- two channels, four slots of ten macroticks, two suppliers
+unfoldable pub cluster : Cluster
+cluster = record {
+  params = record { channels = chs.AB; static_slots = 4; slot_macroticks = 10; dynamic_macroticks = 40; symbol_macroticks = 10; idle_macroticks = 10; macroticks_per_cycle = 100; payload_words = 1 };
+  integrator = codes "integrator1";
+  suppliers = record { name = codes "s1"; key = codes "supplier01" } ∷ record { name = codes "s2"; key = codes "supplier02" } ∷ [];
+}
+
+-- the answers to some requests in turn, from this book
+unfoldable pub answers_from : Cluster → Book → List Ask → List Answer
+answers_from c b [] = []
+answers_from c b (ask ∷ asks) = let o = step c b ask.actor ask.request in o.answer ∷ answers_from c o.book asks
+
+-- the answers of a new register
+unfoldable pub answers : List Ask → List Answer
+unfolding cluster
+answers asks = answers_from cluster (opening cluster) asks
+
+-- what the rows below unfold
+unfoldable pub a_small_register : ⊤
+unfolding cluster answers answers_from ◌>>=◌ ◌>>◌ ◌or◌ refuse◌when◌ empty get len insert only remove from_rows becomes numbers names channel_order channels_order owned channel_slots placement_order is_name is_key cycle_count all_cycles cycles_of name cycles slot channel channels placement signal parent_name check cells_of has_cell cluster_cells fill first_taken entries empty_variant opening granted placements_of schedule_of begun open_variant release add_node grant in_use revoke page_of cell_taken add_frame drop_frame place unplace add_signal drop_signal on_frame by_integrator by_supplier change grants_of frames_of sendings_of gaps_of named signals_of shown reply ring moment moments gap_after greatest_gap bits_of layouts.first_taken layouts.add_signal layouts.remove_signal act outcome step
+a_small_register = tt
+
+abbrev pub integrator : Request → Ask
+integrator r = record { actor = Integrator; request = r }
+
+abbrev pub s1 : Request → Ask
+s1 r = record { actor = Supplier (codes "s1"); request = r }
+
+abbrev pub s2 : Request → Ask
+s2 r = record { actor = Supplier (codes "s2"); request = r }
+
+-- a variant, a node of `s1`, a grant to it, a frame, its placement in the first cycle, and the schedule
+pub the_first_script :
+    answers (
+    integrator (OpenVariant (codes "v1") None)
+    ∷ integrator (AddNode (codes "s1") (codes "n1"))
+    ∷ integrator (Grant (codes "v1") 1 (codes "A") (codes "s1") (codes "n1"))
+    ∷ s1 (AddFrame (codes "v1") (codes "f1") (codes "n1"))
+    ∷ s1 (Place (codes "v1") (codes "f1") 1 (codes "A") 0 64)
+    ∷ s1 (Schedule (codes "v1"))
+    ∷ integrator (Schedule (codes "v1"))
+    ∷ s2 (Schedule (codes "v1"))
+    ∷ [])
+    ≡ Done ∷ Done ∷ Done ∷ Done ∷ Done
+    ∷ Sent false (record { cycle = 0; slot = 1; channel = ch.A; frame = codes "f1"; node = codes "n1"; supplier = codes "s1" } ∷ [])
+    ∷ Sent true (record { cycle = 0; slot = 1; channel = ch.A; frame = codes "f1"; node = codes "n1"; supplier = codes "s1" } ∷ [])
+    ∷ Sent false []
+    ∷ []
+unfolding a_small_register
+the_first_script = refl
+
+-- the cell of least cycle is named, A before B
+pub cells_taken :
+    answers (
+    integrator (OpenVariant (codes "v1") None)
+    ∷ integrator (AddNode (codes "s1") (codes "n1"))
+    ∷ integrator (Grant (codes "v1") 1 (codes "A") (codes "s1") (codes "n1"))
+    ∷ integrator (Grant (codes "v1") 1 (codes "B") (codes "s1") (codes "n1"))
+    ∷ s1 (AddFrame (codes "v1") (codes "e") (codes "n1"))
+    ∷ s1 (AddFrame (codes "v1") (codes "f") (codes "n1"))
+    ∷ s1 (AddFrame (codes "v1") (codes "g") (codes "n1"))
+    ∷ s1 (AddFrame (codes "v1") (codes "h") (codes "n1"))
+    ∷ s1 (Place (codes "v1") (codes "f") 1 (codes "AB") 0 2)
+    ∷ s1 (Place (codes "v1") (codes "g") 1 (codes "B") 2 4)
+    ∷ s1 (Place (codes "v1") (codes "g") 1 (codes "AB") 2 4)
+    ∷ s1 (Place (codes "v1") (codes "g") 1 (codes "B") 1 2)
+    ∷ s1 (Place (codes "v1") (codes "e") 1 (codes "A") 3 4)
+    ∷ s1 (Place (codes "v1") (codes "h") 1 (codes "A") 0 1)
+    ∷ [])
+    ≡ Done ∷ Done ∷ Done ∷ Done ∷ Done ∷ Done ∷ Done ∷ Done ∷ Done
+    ∷ Refused (CellTaken 2 ch.B (codes "f"))
+    ∷ Refused (CellTaken 2 ch.A (codes "f"))
+    ∷ Done
+    ∷ Done
+    ∷ Refused (CellTaken 0 ch.A (codes "f"))
+    ∷ []
+unfolding a_small_register
+cells_taken = refl
+
+-- one holder for a slot and channel
+pub two_suppliers_one_slot :
+    answers (
+    integrator (OpenVariant (codes "v1") None)
+    ∷ integrator (AddNode (codes "s1") (codes "n1"))
+    ∷ integrator (Grant (codes "v1") 1 (codes "A") (codes "s1") (codes "n1"))
+    ∷ integrator (AddNode (codes "s2") (codes "n2"))
+    ∷ integrator (AddNode (codes "s1") (codes "n3"))
+    ∷ integrator (Grant (codes "v1") 1 (codes "A") (codes "s2") (codes "n2"))
+    ∷ integrator (Grant (codes "v1") 1 (codes "A") (codes "s1") (codes "n1"))
+    ∷ integrator (Grant (codes "v1") 1 (codes "A") (codes "s1") (codes "n3"))
+    ∷ integrator (Grant (codes "v1") 1 (codes "B") (codes "s2") (codes "n2"))
+    ∷ [])
+    ≡ Done ∷ Done ∷ Done ∷ Done ∷ Done ∷ Refused Taken ∷ Refused Exists ∷ Refused NodeDiffers ∷ Done ∷ []
+unfolding a_small_register
+two_suppliers_one_slot = refl
+
+-- a frame lies in grants to its own node
+pub two_nodes_of_one_supplier :
+    answers (
+    integrator (OpenVariant (codes "v1") None)
+    ∷ integrator (AddNode (codes "s1") (codes "n1"))
+    ∷ integrator (AddNode (codes "s1") (codes "n2"))
+    ∷ integrator (Grant (codes "v1") 1 (codes "A") (codes "s1") (codes "n1"))
+    ∷ integrator (Grant (codes "v1") 2 (codes "A") (codes "s1") (codes "n2"))
+    ∷ s1 (AddFrame (codes "v1") (codes "f") (codes "n1"))
+    ∷ s1 (Place (codes "v1") (codes "f") 1 (codes "AB") 0 1)
+    ∷ s1 (Place (codes "v1") (codes "f") 2 (codes "A") 0 1)
+    ∷ [])
+    ≡ Done ∷ Done ∷ Done ∷ Done ∷ Done ∷ Done ∷ Refused NotGranted ∷ Refused NotGranted ∷ []
+unfolding a_small_register
+two_nodes_of_one_supplier = refl
+
+-- refusals by the request alone, and of a variant that is not there
+pub refused_lines :
+    answers (
+    integrator (OpenVariant (codes "v1") None)
+    ∷ s1 (OpenVariant (codes "v2") None)
+    ∷ integrator (AddFrame (codes "v1") (codes "f1") (codes "n1"))
+    ∷ s1 (Place (codes "1v") (codes "f1") 1 (codes "A") 0 64)
+    ∷ s1 (Place (codes "v1") (codes "f1") 0 (codes "A") 0 64)
+    ∷ s1 (Place (codes "v1") (codes "f1") 5 (codes "A") 0 64)
+    ∷ s1 (Place (codes "v1") (codes "f1") 1 (codes "AA") 0 64)
+    ∷ s1 (Schedule (codes "v9"))
+    ∷ [])
+    ≡ Done ∷ Refused NotYours ∷ Refused NotYours ∷ Refused BadName ∷ Refused BadSlot ∷ Refused BadSlot ∷ Refused BadChannel ∷ Refused NoVariant ∷ []
+unfolding a_small_register
+refused_lines = refl
+
+-- of several refusals the first by number
+pub first_refusals :
+    answers (
+    integrator (OpenVariant (codes "v1") None)
+    ∷ integrator (AddNode (codes "s1") (codes "n1"))
+    ∷ integrator (Grant (codes "v1") 1 (codes "A") (codes "s1") (codes "n1"))
+    ∷ s1 (AddFrame (codes "v1") (codes "f") (codes "n1"))
+    ∷ s1 (Place (codes "1v") (codes "f") 0 (codes "C") 5 3)
+    ∷ s1 (Place (codes "v9") (codes "f") 0 (codes "C") 5 3)
+    ∷ s1 (Place (codes "v9") (codes "f") 5 (codes "C") 0 1)
+    ∷ s1 (Place (codes "v9") (codes "f") 4 (codes "C") 0 1)
+    ∷ s1 (Place (codes "v9") (codes "g") 4 (codes "AB") 0 1)
+    ∷ s1 (Place (codes "v1") (codes "g") 4 (codes "AB") 0 1)
+    ∷ s1 (Place (codes "v1") (codes "f") 1 (codes "A") 0 8)
+    ∷ s1 (Place (codes "v1") (codes "f") 1 (codes "A") 1 8)
+    ∷ s1 (Place (codes "v1") (codes "f") 1 (codes "A") 2 8)
+    ∷ s1 (Place (codes "v1") (codes "f") 1 (codes "A") 3 8)
+    ∷ s1 (Place (codes "v1") (codes "f") 1 (codes "A") 4 8)
+    ∷ s1 (Place (codes "v1") (codes "f") 1 (codes "A") 5 8)
+    ∷ s1 (Place (codes "v1") (codes "f") 1 (codes "A") 6 8)
+    ∷ s1 (Place (codes "v1") (codes "f") 1 (codes "A") 7 8)
+    ∷ s1 (Place (codes "v1") (codes "f") 3 (codes "A") 7 8)
+    ∷ s1 (Place (codes "v1") (codes "f") 1 (codes "A") 7 8)
+    ∷ s1 (AddFrame (codes "v1") (codes "f") (codes "n9"))
+    ∷ s1 (AddFrame (codes "v1") (codes "f") (codes "n1"))
+    ∷ integrator (Grant (codes "v9") 1 (codes "A") (codes "s9") (codes "n9"))
+    ∷ integrator (Grant (codes "v1") 1 (codes "A") (codes "s9") (codes "n9"))
+    ∷ integrator (Grant (codes "v1") 1 (codes "A") (codes "s2") (codes "n1"))
+    ∷ integrator (AddNode (codes "s9") (codes "n1"))
+    ∷ integrator (AddNode (codes "s1") (codes "n1"))
+    ∷ integrator (OpenVariant (codes "v1") None)
+    ∷ record { actor = Supplier (codes "s3"); request = OpenVariant (codes "1v") None }
+    ∷ [])
+    ≡ Done ∷ Done ∷ Done ∷ Done
+    ∷ Refused BadName ∷ Refused BadCycles ∷ Refused BadSlot ∷ Refused BadChannel ∷ Refused NoVariant ∷ Refused NoFrame
+    ∷ Done ∷ Done ∷ Done ∷ Done ∷ Done ∷ Done ∷ Done ∷ Done
+    ∷ Refused NotGranted ∷ Refused Limit
+    ∷ Refused NoNode ∷ Refused Exists
+    ∷ Refused NoVariant ∷ Refused NoSupplier ∷ Refused NoNode
+    ∷ Refused NoSupplier ∷ Refused Exists ∷ Refused Exists
+    ∷ Refused UnknownKey ∷ []
+unfolding a_small_register
+first_refusals = refl
+
+-- slot 1 in cycles 0, 4, .. and slot 3 in cycles 2, 6, ..: moments 0, 220, 400, 620, ..
+pub gap_of_two_slots :
+    answers (
+    integrator (OpenVariant (codes "v1") None)
+    ∷ integrator (AddNode (codes "s1") (codes "n1"))
+    ∷ integrator (Grant (codes "v1") 1 (codes "A") (codes "s1") (codes "n1"))
+    ∷ integrator (Grant (codes "v1") 3 (codes "A") (codes "s1") (codes "n1"))
+    ∷ s1 (AddFrame (codes "v1") (codes "f") (codes "n1"))
+    ∷ s1 (Place (codes "v1") (codes "f") 1 (codes "A") 0 4)
+    ∷ s1 (Place (codes "v1") (codes "f") 3 (codes "A") 2 4)
+    ∷ s1 (Gaps (codes "v1"))
+    ∷ [])
+    ≡ Done
+    ∷ Done
+    ∷ Done
+    ∷ Done
+    ∷ Done
+    ∷ Done
+    ∷ Done
+    ∷ Longest false (record { frame = codes "f"; supplier = codes "s1"; gap = Some 220 } ∷ [])
+    ∷ []
+unfolding a_small_register
+gap_of_two_slots = refl
+
+-- a lone moment, two slots, and none
+pub gaps_alone_mixed_never :
+    answers (
+    integrator (OpenVariant (codes "v1") None)
+    ∷ integrator (AddNode (codes "s1") (codes "n1"))
+    ∷ integrator (Grant (codes "v1") 1 (codes "A") (codes "s1") (codes "n1"))
+    ∷ integrator (Grant (codes "v1") 2 (codes "A") (codes "s1") (codes "n1"))
+    ∷ integrator (Grant (codes "v1") 4 (codes "A") (codes "s1") (codes "n1"))
+    ∷ s1 (AddFrame (codes "v1") (codes "f") (codes "n1"))
+    ∷ s1 (AddFrame (codes "v1") (codes "g") (codes "n1"))
+    ∷ s1 (AddFrame (codes "v1") (codes "h") (codes "n1"))
+    ∷ s1 (Place (codes "v1") (codes "f") 1 (codes "A") 1 64)
+    ∷ s1 (Place (codes "v1") (codes "g") 2 (codes "A") 0 2)
+    ∷ s1 (Place (codes "v1") (codes "g") 4 (codes "A") 1 64)
+    ∷ s1 (Gaps (codes "v1"))
+    ∷ [])
+    ≡ Done
+    ∷ Done
+    ∷ Done
+    ∷ Done
+    ∷ Done
+    ∷ Done
+    ∷ Done
+    ∷ Done
+    ∷ Done
+    ∷ Done
+    ∷ Done
+    ∷ Longest false (record { frame = codes "f"; supplier = codes "s1"; gap = Some 6400 } ∷ record { frame = codes "g"; supplier = codes "s1"; gap = Some 200 } ∷ record { frame = codes "h"; supplier = codes "s1"; gap = None } ∷ [])
+    ∷ []
+unfolding a_small_register
+gaps_alone_mixed_never = refl
+
+-- a grant under a placement stays; after the placement is gone, the grant goes once
+pub a_grant_revoked :
+    answers (
+    integrator (OpenVariant (codes "v1") None)
+    ∷ integrator (AddNode (codes "s1") (codes "n1"))
+    ∷ integrator (AddNode (codes "s2") (codes "n2"))
+    ∷ integrator (Grant (codes "v1") 1 (codes "A") (codes "s1") (codes "n1"))
+    ∷ integrator (Grant (codes "v1") 2 (codes "A") (codes "s2") (codes "n2"))
+    ∷ s1 (AddFrame (codes "v1") (codes "f1") (codes "n1"))
+    ∷ s1 (Place (codes "v1") (codes "f1") 1 (codes "A") 0 64)
+    ∷ integrator (Revoke (codes "v1") 1 (codes "A") (codes "s1"))
+    ∷ s1 (Unplace (codes "v1") (codes "f1") 1 (codes "A") 0 64)
+    ∷ integrator (Revoke (codes "v1") 1 (codes "A") (codes "s1"))
+    ∷ integrator (Revoke (codes "v1") 1 (codes "A") (codes "s1"))
+    ∷ integrator (Revoke (codes "v1") 2 (codes "A") (codes "s1"))
+    ∷ integrator (Revoke (codes "v1") 2 (codes "B") (codes "s1"))
+    ∷ integrator (Revoke (codes "v1") 5 (codes "A") (codes "s9"))
+    ∷ integrator (Revoke (codes "v1") 2 (codes "A") (codes "s9"))
+    ∷ integrator (Grants (codes "v1"))
+    ∷ [])
+    ≡ Done
+    ∷ Done
+    ∷ Done
+    ∷ Done
+    ∷ Done
+    ∷ Done
+    ∷ Done
+    ∷ Refused InUse
+    ∷ Done
+    ∷ Done
+    ∷ Refused NotGranted
+    ∷ Refused NotGranted
+    ∷ Refused NotGranted
+    ∷ Refused BadSlot
+    ∷ Refused NoSupplier
+    ∷ Holds true (record { slot = 2; channel = ch.A; node = codes "n2"; supplier = codes "s2" } ∷ [])
+    ∷ []
+unfolding a_small_register
+a_grant_revoked = refl
+
+-- a dropped frame is not sent; a placement is that of its four fields
+pub a_frame_dropped :
+    answers (
+    integrator (OpenVariant (codes "v1") None)
+    ∷ integrator (AddNode (codes "s1") (codes "n1"))
+    ∷ integrator (Grant (codes "v1") 1 (codes "A") (codes "s1") (codes "n1"))
+    ∷ s1 (AddFrame (codes "v1") (codes "f1") (codes "n1"))
+    ∷ s1 (Place (codes "v1") (codes "f1") 1 (codes "A") 0 64)
+    ∷ s1 (Frames (codes "v1"))
+    ∷ s1 (Unplace (codes "v1") (codes "f1") 1 (codes "A") 0 32)
+    ∷ s1 (DropFrame (codes "v1") (codes "f1"))
+    ∷ s1 (Schedule (codes "v1"))
+    ∷ s1 (DropFrame (codes "v1") (codes "f1"))
+    ∷ s1 (Unplace (codes "v1") (codes "f1") 1 (codes "A") 0 64)
+    ∷ [])
+    ≡ Done
+    ∷ Done
+    ∷ Done
+    ∷ Done
+    ∷ Done
+    ∷ Framed false (record { frame = codes "f1"; node = codes "n1"; supplier = codes "s1"; placements = record { slot = 1; channels = chs.A; cycles = cycle_set 0 64 } ∷ [] } ∷ [])
+    ∷ Refused NoPlacement
+    ∷ Done
+    ∷ Sent false []
+    ∷ Refused NoFrame
+    ∷ Refused NoFrame
+    ∷ []
+unfolding a_small_register
+a_frame_dropped = refl
+
+-- a released variant stays; one that was opened from it goes on by itself
+pub a_variant_released :
+    answers (
+    integrator (OpenVariant (codes "v1") None)
+    ∷ integrator (AddNode (codes "s1") (codes "n1"))
+    ∷ integrator (Grant (codes "v1") 1 (codes "A") (codes "s1") (codes "n1"))
+    ∷ s1 (AddFrame (codes "v1") (codes "f1") (codes "n1"))
+    ∷ s1 (Place (codes "v1") (codes "f1") 1 (codes "A") 0 64)
+    ∷ integrator (Release (codes "v1"))
+    ∷ s1 (Place (codes "v1") (codes "f1") 1 (codes "A") 1 64)
+    ∷ integrator (Revoke (codes "v1") 1 (codes "A") (codes "s1"))
+    ∷ integrator (Release (codes "v1"))
+    ∷ integrator (OpenVariant (codes "v2") (Some (codes "v1")))
+    ∷ s1 (DropFrame (codes "v2") (codes "f1"))
+    ∷ s1 (Schedule (codes "v1"))
+    ∷ s1 (Schedule (codes "v2"))
+    ∷ integrator (OpenVariant (codes "v3") (Some (codes "v2")))
+    ∷ integrator (OpenVariant (codes "v3") (Some (codes "v9")))
+    ∷ integrator (OpenVariant (codes "v2") (Some (codes "v1")))
+    ∷ s1 (AddFrame (codes "v2") (codes "f2") (codes "n1"))
+    ∷ s1 (Place (codes "v2") (codes "f2") 1 (codes "A") 0 64)
+    ∷ s1 (Schedule (codes "v2"))
+    ∷ [])
+    ≡ Done
+    ∷ Done
+    ∷ Done
+    ∷ Done
+    ∷ Done
+    ∷ Done
+    ∷ Refused Released
+    ∷ Refused Released
+    ∷ Refused Released
+    ∷ Done
+    ∷ Done
+    ∷ Sent false (record { cycle = 0; slot = 1; channel = ch.A; frame = codes "f1"; node = codes "n1"; supplier = codes "s1" } ∷ [])
+    ∷ Sent false []
+    ∷ Refused NotReleased
+    ∷ Refused NoVariant
+    ∷ Refused Exists
+    ∷ Done
+    ∷ Done
+    ∷ Sent false (record { cycle = 0; slot = 1; channel = ch.A; frame = codes "f2"; node = codes "n1"; supplier = codes "s1" } ∷ [])
+    ∷ []
+unfolding a_small_register
+a_variant_released = refl
+
+-- sixteen variants, each opened from the one before
+pub depth_of_sixteen :
+    answers (
+    integrator (OpenVariant (codes "v1") None)
+    ∷ integrator (Release (codes "v1"))
+    ∷ integrator (OpenVariant (codes "v2") (Some (codes "v1")))
+    ∷ integrator (Release (codes "v2"))
+    ∷ integrator (OpenVariant (codes "v3") (Some (codes "v2")))
+    ∷ integrator (Release (codes "v3"))
+    ∷ integrator (OpenVariant (codes "v4") (Some (codes "v3")))
+    ∷ integrator (Release (codes "v4"))
+    ∷ integrator (OpenVariant (codes "v5") (Some (codes "v4")))
+    ∷ integrator (Release (codes "v5"))
+    ∷ integrator (OpenVariant (codes "v6") (Some (codes "v5")))
+    ∷ integrator (Release (codes "v6"))
+    ∷ integrator (OpenVariant (codes "v7") (Some (codes "v6")))
+    ∷ integrator (Release (codes "v7"))
+    ∷ integrator (OpenVariant (codes "v8") (Some (codes "v7")))
+    ∷ integrator (Release (codes "v8"))
+    ∷ integrator (OpenVariant (codes "v9") (Some (codes "v8")))
+    ∷ integrator (Release (codes "v9"))
+    ∷ integrator (OpenVariant (codes "v10") (Some (codes "v9")))
+    ∷ integrator (Release (codes "v10"))
+    ∷ integrator (OpenVariant (codes "v11") (Some (codes "v10")))
+    ∷ integrator (Release (codes "v11"))
+    ∷ integrator (OpenVariant (codes "v12") (Some (codes "v11")))
+    ∷ integrator (Release (codes "v12"))
+    ∷ integrator (OpenVariant (codes "v13") (Some (codes "v12")))
+    ∷ integrator (Release (codes "v13"))
+    ∷ integrator (OpenVariant (codes "v14") (Some (codes "v13")))
+    ∷ integrator (Release (codes "v14"))
+    ∷ integrator (OpenVariant (codes "v15") (Some (codes "v14")))
+    ∷ integrator (Release (codes "v15"))
+    ∷ integrator (OpenVariant (codes "v16") (Some (codes "v15")))
+    ∷ integrator (Release (codes "v16"))
+    ∷ integrator (OpenVariant (codes "v17") (Some (codes "v16")))
+    ∷ integrator (OpenVariant (codes "v17") None)
+    ∷ [])
+    ≡ Done
+    ∷ Done
+    ∷ Done
+    ∷ Done
+    ∷ Done
+    ∷ Done
+    ∷ Done
+    ∷ Done
+    ∷ Done
+    ∷ Done
+    ∷ Done
+    ∷ Done
+    ∷ Done
+    ∷ Done
+    ∷ Done
+    ∷ Done
+    ∷ Done
+    ∷ Done
+    ∷ Done
+    ∷ Done
+    ∷ Done
+    ∷ Done
+    ∷ Done
+    ∷ Done
+    ∷ Done
+    ∷ Done
+    ∷ Done
+    ∷ Done
+    ∷ Done
+    ∷ Done
+    ∷ Done
+    ∷ Done
+    ∷ Refused TooDeep
+    ∷ Done
+    ∷ []
+unfolding a_small_register
+depth_of_sixteen = refl
+
+-- signals of a payload of one word
+pub signals_refused :
+    answers (
+    integrator (OpenVariant (codes "v1") None)
+    ∷ integrator (AddNode (codes "s1") (codes "n1"))
+    ∷ s1 (AddFrame (codes "v1") (codes "f") (codes "n1"))
+    ∷ s1 (AddSignal (codes "v1") (codes "f") (codes "y") 3 8 (codes "big"))
+    ∷ s1 (AddSignal (codes "v1") (codes "f") (codes "x") 4 8 (codes "little"))
+    ∷ s1 (Layout (codes "v1") (codes "f"))
+    ∷ s1 (AddSignal (codes "v1") (codes "f") (codes "z") 11 1 (codes "little"))
+    ∷ s1 (AddSignal (codes "v1") (codes "f") (codes "z") 0 16 (codes "little"))
+    ∷ s1 (AddSignal (codes "v1") (codes "f") (codes "x") 0 1 (codes "little"))
+    ∷ s1 (DropSignal (codes "v1") (codes "f") (codes "w"))
+    ∷ s1 (AddSignal (codes "v1") (codes "f") (codes "z") 15 2 (codes "little"))
+    ∷ s1 (AddSignal (codes "v1") (codes "f") (codes "z") 8 2 (codes "big"))
+    ∷ s1 (AddSignal (codes "v1") (codes "f") (codes "z") 0 0 (codes "little"))
+    ∷ s1 (AddSignal (codes "v1") (codes "f") (codes "z") 0 65 (codes "little"))
+    ∷ s1 (AddSignal (codes "v1") (codes "f") (codes "z") 0 1 (codes "middle"))
+    ∷ s1 (AddSignal (codes "v1") (codes "g") (codes "z") 0 1 (codes "little"))
+    ∷ s1 (DropSignal (codes "v1") (codes "f") (codes "y"))
+    ∷ s1 (Layout (codes "v1") (codes "f"))
+    ∷ s1 (AddSignal (codes "v1") (codes "f") (codes "z") 15 1 (codes "little"))
+    ∷ s1 (Layout (codes "v1") (codes "g"))
+    ∷ [])
+    ≡ Done
+    ∷ Done
+    ∷ Done
+    ∷ Done
+    ∷ Done
+    ∷ Laid false (record { supplier = codes "s1"; signal = record { name = codes "y"; start = 3; length = 8; order = order.Big } } ∷ record { supplier = codes "s1"; signal = record { name = codes "x"; start = 4; length = 8; order = order.Little } } ∷ [])
+    ∷ Refused (BitTaken 11 (codes "x"))
+    ∷ Refused (BitTaken 0 (codes "y"))
+    ∷ Refused Exists
+    ∷ Refused NoSignal
+    ∷ Refused OutOfPayload
+    ∷ Refused OutOfPayload
+    ∷ Refused BadSignal
+    ∷ Refused BadSignal
+    ∷ Refused BadSignal
+    ∷ Refused NoFrame
+    ∷ Done
+    ∷ Laid false (record { supplier = codes "s1"; signal = record { name = codes "x"; start = 4; length = 8; order = order.Little } } ∷ [])
+    ∷ Done
+    ∷ Refused NoFrame
+    ∷ []
+unfolding a_small_register
+signals_refused = refl

@@ -1,0 +1,49 @@
+-- The moments at which a frame is sent, on the ring of all cycles, and its greatest gap.
+use Rattle.std.specs.Prelude.{ℕ, ◌+◌, ◌-◌, ◌*◌, Bool, List, [], ◌∷◌, map, Option, Some, None, if◌then◌else◌, nat_lt, min, max}
+use Rattle.std.specs.List.{flat_map, filter_map}
+use Rattle.fr_base.specs.Cells.{Cell, cells_of}
+use Rattle.fr_base.specs.Cycles.{cycle_count}
+use Rattle.fr_base.specs.declared.params.Params.{Params}
+use Rattle.fr_base.specs.declared.placement.Placement.{Placement}
+
+-- the macroticks of all cycles, after which all is sent again
+unfoldable pub ring : Params → ℕ
+ring p = cycle_count * p.macroticks_per_cycle
+
+-- the macrotick on the ring at which the cell's slot starts
+unfoldable pub moment : Params → Cell → ℕ
+moment p c = c.cycle * p.macroticks_per_cycle + (c.slot - 1) * p.slot_macroticks
+
+-- the moments of some placements; that of a cell on A and of one on B may be the same
+unfoldable pub moments : Params → List Placement → List ℕ
+moments p placements = map (moment p) (flat_map cells_of placements)
+
+-- how long it is from a moment to the next time of another, on a ring of this length: the whole ring where they are the same
+abbrev pub distance : ℕ → ℕ → ℕ → ℕ
+distance length from to = if nat_lt from to then to - from else (length - from) + to
+
+-- the least of some numbers, if there is one
+abbrev pub least : List ℕ → Option ℕ
+least [] = None
+least (n ∷ ns) = Some (lower n (least ns))
+  where
+    lower : ℕ → Option ℕ → ℕ
+    lower n None = n
+    lower n (Some m) = min n m
+
+-- the greatest of some numbers, if there is one
+abbrev pub greatest : List ℕ → Option ℕ
+greatest [] = None
+greatest (n ∷ ns) = Some (higher n (greatest ns))
+  where
+    higher : ℕ → Option ℕ → ℕ
+    higher n None = n
+    higher n (Some m) = max n m
+
+-- how long it is from a moment to the next one, which may be itself a whole ring later
+unfoldable pub gap_after : ℕ → List ℕ → ℕ → Option ℕ
+gap_after length moments from = least (map (distance length from) moments)
+
+-- the greatest gap between a moment and the next one; none where nothing is placed
+unfoldable pub greatest_gap : Params → List Placement → Option ℕ
+greatest_gap p placements = greatest (filter_map (gap_after (ring p) (moments p placements)) (moments p placements))

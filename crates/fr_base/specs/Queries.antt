@@ -1,0 +1,113 @@
+-- What a query shows of a variant.
+use Rattle.std.specs.Prelude.{ℕ, ◌==◌, Bool, true, false, List, map, Option, Some, None, Result, Ok, Err}
+use Rattle.std.specs.List.{flat_map, filter}
+use Rattle.fr_base.specs.Refusing.{◌>>=◌, ◌>>◌, ◌or◌, refuse◌when◌}
+use Rattle.fr_base.specs.Tables.{Table, get, len, only}
+use Rattle.fr_base.specs.Keys.{owned, channel_slots, placement_order}
+use Rattle.fr_base.specs.Cells.{Cell, cluster_cells}
+use Rattle.fr_base.specs.Schedule.{entries}
+use Rattle.fr_base.specs.Moments.{greatest_gap}
+use Rattle.fr_base.specs.Checks.{is_integrator}
+use Rattle.fr_base.specs.Cluster.{same_text}
+use Rattle.fr_base.specs.Book.{Holder, Frame, Variant, Book, Owner, schedule_of}
+use Rattle.fr_base.specs.declared.channel.Channel.{Channel}
+use Rattle.fr_base.specs.declared.name.Name.{Name}
+use Rattle.fr_base.specs.declared.params.Params.{Params}
+use Rattle.fr_base.specs.declared.placement.Placement.{Placement}
+use Rattle.fr_base.specs.declared.answer.Answer.{Answer}
+use Rattle.fr_base.specs.declared.answer.Answer.TheVariants as answer
+use Rattle.fr_base.specs.declared.answer.GrantRow.{GrantRow}
+use Rattle.fr_base.specs.declared.answer.FrameRow.{FrameRow}
+use Rattle.fr_base.specs.declared.answer.Sending.{Sending}
+use Rattle.fr_base.specs.declared.answer.GapRow.{GapRow}
+use Rattle.fr_base.specs.declared.answer.SignalRow.{SignalRow}
+use Rattle.fr_base.specs.declared.refusal.Refusal.{Refusal}
+use Rattle.fr_base.specs.declared.refusal.Refusal.TheVariants.{NoVariant, NoFrame}
+use Rattle.fr_base.specs.declared.request.Actor.{Actor}
+use Rattle.fr_base.specs.declared.request.Actor.TheVariants.{Integrator, Supplier}
+use Rattle.fr_base.specs.declared.request.Query.{Query}
+use Rattle.fr_base.specs.declared.request.Query.TheVariants.{Grants, Frames, Schedule, Gaps, Layout}
+
+-- whether the actor sees the rows of this supplier: its own, and the integrator those of all
+abbrev pub sees : Actor → Name → Bool
+sees Integrator t = true
+sees (Supplier s) t = same_text t s
+
+-- the grants that the actor sees
+abbrev pub seen_grants : Actor → Variant → Table channel_slots Holder
+seen_grants actor variant = only (λ _ h. sees actor h.supplier) variant.grants
+
+-- the frames that the actor sees
+abbrev pub seen_frames : Actor → Variant → Table owned Frame
+seen_frames actor variant = only (λ k _. sees actor k.0) variant.frames
+
+-- a frame's placements, in order
+abbrev pub placements_in : Frame → List Placement
+placements_in frame = map (λ q. q.0) frame.placements.rows
+
+-- ---- rows
+
+abbrev pub grant_row : (ℕ × Channel) × Holder → GrantRow
+grant_row e = record { slot = e.0.0; channel = e.0.1; node = e.1.node; supplier = e.1.supplier }
+
+abbrev pub frame_row : (Name × Name) × Frame → FrameRow
+frame_row e = record { frame = e.0.1; node = e.1.node; supplier = e.0.0; placements = placements_in e.1 }
+
+abbrev pub sending : Cell × Owner → Sending
+sending e = record { cycle = e.0.cycle; slot = e.0.slot; channel = e.0.channel; frame = e.1.frame; node = e.1.node; supplier = e.1.supplier }
+
+abbrev pub gap_row : Params → (Name × Name) × Frame → GapRow
+gap_row p e = record { frame = e.0.1; supplier = e.0.0; gap = greatest_gap p (placements_in e.1) }
+
+abbrev pub signal_rows : (Name × Name) × Frame → List SignalRow
+signal_rows e = map (λ s. record { supplier = e.0.0; signal = s }) e.1.signals
+
+-- the grants, by slot and channel
+unfoldable pub grants_of : Table channel_slots Holder → List GrantRow
+grants_of grants = map grant_row grants.rows
+
+-- the frames, by supplier and name
+unfoldable pub frames_of : Table owned Frame → List FrameRow
+frames_of frames = map frame_row frames.rows
+
+-- the schedule's rows, by cycle, slot and channel
+unfoldable pub sendings_of : Params → Table owned Frame → List Sending
+sendings_of p frames = map sending (entries (schedule_of frames) (cluster_cells p))
+
+-- the frames' greatest gaps, by supplier and name
+unfoldable pub gaps_of : Params → Table owned Frame → List GapRow
+gaps_of p frames = map (gap_row p) frames.rows
+
+-- the frames of this name, by supplier
+unfoldable pub named : Name → Table owned Frame → Table owned Frame
+named f frames = only (λ k _. same_text k.1 f) frames
+
+-- the signals of the frames of one name, by supplier and start
+unfoldable pub signals_of : Table owned Frame → List SignalRow
+signals_of frames = flat_map signal_rows frames.rows
+
+-- ---- answers
+
+-- what the actor is shown of the variant
+unfoldable pub shown : Params → Actor → Variant → Query → Result Answer Refusal
+shown p actor variant (Grants v) = Ok (answer.Grants (is_integrator actor) (grants_of (seen_grants actor variant)))
+shown p actor variant (Frames v) = Ok (answer.Frames (is_integrator actor) (frames_of (seen_frames actor variant)))
+shown p actor variant (Schedule v) = Ok (answer.Schedule (is_integrator actor) (sendings_of p (seen_frames actor variant)))
+shown p actor variant (Gaps v) = Ok (answer.Gaps (is_integrator actor) (gaps_of p (seen_frames actor variant)))
+shown p actor variant (Layout v f) = do
+  refuse NoFrame when len (named f (seen_frames actor variant)) == 0
+  Ok (answer.Layout (is_integrator actor) (signals_of (named f (seen_frames actor variant))))
+
+-- the variant that the query asks about
+abbrev pub variant_asked : Query → Name
+variant_asked (Grants v) = v
+variant_asked (Frames v) = v
+variant_asked (Schedule v) = v
+variant_asked (Gaps v) = v
+variant_asked (Layout v f) = v
+
+-- the answer to a query
+unfoldable pub reply : Params → Book → Actor → Query → Result Answer Refusal
+reply p b actor query = do
+  variant ← get b.variants (variant_asked query) or NoVariant
+  shown p actor variant query
