@@ -8,6 +8,7 @@ pub mod Channels
 pub mod Cycles
 pub mod Keys
 pub mod Parameters
+pub mod Limits
 pub mod Cluster
 pub mod Refusals
 pub mod Signals
