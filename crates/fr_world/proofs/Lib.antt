@@ -1,1 +1,5 @@
 pub mod MapLaws
+pub mod SharedLaws
+pub mod TakenLaws
+pub mod KeyLaws
+pub mod RowLaws

@@ -2,3 +2,5 @@ pub mod Maps
 pub mod Pages
 pub mod Decisions
 pub mod Edits
+pub mod Spots
+pub mod Occupancies

@@ -3,7 +3,12 @@
 #![tactic(auto)]
 
 mod edit;
+mod occupancy;
 mod page;
+mod row_occupancy;
+mod spot;
 
 pub use edit::Edit;
+pub use occupancy::{Occupancy, TakenCell};
 pub use page::{ChannelSlot, Page, PageFrame, PageRows};
+pub use row_occupancy::RowOccupancy;

@@ -1,0 +1,56 @@
+-- The keys of maps and sets compare as the register's.
+use Rattle.std.proofs.Common.{◌≡◌, ℕ, Ordering, refl, sym, ap, ◌∙◌}
+use Rattle.std.specs.Ordering.{nat_cmp, is_eq, ordering_then}
+use Rattle.std.specs.Cmp.{tied_itself}
+use Rattle.fr_base.specs.Cluster.{same_text}
+use Rattle.fr_base.specs.Keys.{numbers, names, channel_order, channels_order, owned, channel_slots, placement_order}
+use Rattle.fr_base.specs.declared.channel.Channel.{Channel}
+use Rattle.fr_base.specs.declared.channel.Channel.TheVariants.{A, B}
+use Rattle.fr_base.specs.declared.channel.Channels.{Channels}
+use Rattle.fr_base.specs.declared.channel.Channels.TheVariants as channels
+use Rattle.fr_base.specs.declared.name.Name.{Name}
+use Rattle.fr_base.specs.declared.placement.Placement.{Placement}
+use Rattle.fr_base.specs.Cycles.{Cycles}
+use Rattle.fr_base.specs.contracts.name.NameOrd.TheImpl as by_text
+use Rattle.fr_base.specs.contracts.placement.PlacementOrd.TheImpl as by_cells
+use Rattle.fr_world.specs.declared.page.ChannelSlot.{ChannelSlot}
+use Rattle.fr_world.specs.contracts.page.ChannelSlotOrd.TheImpl as by_slot
+
+abbrev pub slot_cmp : ChannelSlot → ChannelSlot → Ordering
+slot_cmp = by_slot.cmp-value.it
+
+slots_alike_parts : (k l : ℕ) (c d : Channel) → slot_cmp (record { slot = k; channel = c }) (record { slot = l; channel = d }) ≡ channel_slots.compare (k, c) (l, d)
+unfolding channel_slots numbers channel_order
+slots_alike_parts k l A A = refl
+slots_alike_parts k l A B = refl
+slots_alike_parts k l B A = refl
+slots_alike_parts k l B B = refl
+
+pub slots_alike : (x y : ChannelSlot) → slot_cmp x y ≡ channel_slots.compare (x.slot, x.channel) (y.slot, y.channel)
+slots_alike x y = slots_alike_parts x.slot y.slot x.channel y.channel
+
+abbrev pub name_cmp : Name → Name → Ordering
+name_cmp = by_text.cmp-value.it
+
+-- a supplier's own names compare as that supplier's keys
+pub own_alike : (s x y : Name) → name_cmp x y ≡ owned.compare (s, x) (s, y)
+unfolding owned names
+own_alike s x y = sym (ap (λ r. ordering_then r (name_cmp x y)) (tied_itself names.total s))
+
+abbrev pub placement_cmp : Placement → Placement → Ordering
+placement_cmp = by_cells.cmp-value.it
+
+placements_alike_parts : (k l : ℕ) (c d : Channels) (r s : Cycles) → placement_cmp (record { slot = k; channels = c; cycles = r }) (record { slot = l; channels = d; cycles = s }) ≡ placement_order.compare (record { slot = k; channels = c; cycles = r }) (record { slot = l; channels = d; cycles = s })
+unfolding placement_order numbers channels_order
+placements_alike_parts k l channels.A channels.A r s = refl
+placements_alike_parts k l channels.A channels.AB r s = refl
+placements_alike_parts k l channels.A channels.B r s = refl
+placements_alike_parts k l channels.AB channels.A r s = refl
+placements_alike_parts k l channels.AB channels.AB r s = refl
+placements_alike_parts k l channels.AB channels.B r s = refl
+placements_alike_parts k l channels.B channels.A r s = refl
+placements_alike_parts k l channels.B channels.AB r s = refl
+placements_alike_parts k l channels.B channels.B r s = refl
+
+pub placements_alike : (x y : Placement) → placement_cmp x y ≡ placement_order.compare x y
+placements_alike x y = placements_alike_parts x.slot y.slot x.channels y.channels x.cycles y.cycles

@@ -1,0 +1,30 @@
+-- Which cells a list of frames and placements fills.
+use Rattle.std.specs.Prelude.{Bool, not, ◌&&◌, List, filter, Option, is_none, option_map}
+use Rattle.std.specs.Ordering.{is_eq}
+use Rattle.fr_base.specs.Keys.{placement_order}
+use Rattle.fr_base.specs.Cells.{Cell, cells_of}
+use Rattle.fr_base.specs.Cluster.{same_text}
+use Rattle.fr_base.specs.Schedule.{fill, first_taken}
+use Rattle.fr_base.specs.declared.name.Name.{Name}
+use Rattle.fr_base.specs.declared.placement.Placement.{Placement}
+use Rattle.fr_world.specs.declared.occupancy.TakenCell.{TakenCell}
+
+-- a filled cell, with the frame there
+abbrev pub taken_cell : Cell × Name → TakenCell
+taken_cell e = record { cycle = e.0.cycle; channel = e.0.channel; frame = e.1 }
+
+-- the first of the placement's cells that is filled
+unfoldable pub first_taken_cell : List (Name × Placement) → Placement → Option TakenCell
+first_taken_cell pairs q = option_map taken_cell (first_taken (fill pairs) (cells_of q))
+
+-- none of the placement's cells is filled
+unfoldable pub is_free : List (Name × Placement) → Placement → Bool
+is_free pairs q = is_none (first_taken (fill pairs) (cells_of q))
+
+-- whether the pair is that of this frame and placement
+abbrev pub is_pair : Name → Placement → Name × Placement → Bool
+is_pair f q pair = same_text pair.0 f && is_eq (placement_order.compare pair.1 q)
+
+-- the list without this pair
+abbrev pub without : List (Name × Placement) → Name → Placement → List (Name × Placement)
+without pairs f q = filter (λ pair. not (is_pair f q pair)) pairs

@@ -1,0 +1,42 @@
+use fr_base::{Channel, Name, Placement, Refusal};
+
+/// A filled cell of a slot, and the frame that is sent there.
+#[derive(Clone, Copy, Debug, PartialEq, Eq)]
+pub struct TakenCell {
+    /// The communication cycle, 0 to 63.
+    pub cycle: u8,
+    pub channel: Channel,
+    pub frame: Name,
+}
+
+/// Which cells a supplier's frames fill: a list of frames and placements, whose cells are those of
+/// cycles 0 to 63, of the static slots 1 to 1023, on both channels.
+pub trait Occupancy {
+    ghost use Rattle.std.specs.Prelude.{◌≡◌, ◌++◌, ◌∷◌, [], List, Err, IsTrue, OnOk, OnErr};
+    ghost use Rattle.fr_base.specs.declared.name.Name.{Name as NameText};
+    ghost use Rattle.fr_base.specs.declared.placement.Placement.{Placement as Cells};
+    ghost use Rattle.fr_base.specs.declared.refusal.Refusal.TheVariants.{Unavailable};
+    ghost use Rattle.fr_world.specs.Occupancies.{first_taken_cell, is_free, without};
+
+    ghost pairs: { Self → List (NameText × Cells) };
+
+    /// Whether none of the placement's cells is filled. It takes no memory.
+    fn free(&self, placement: &Placement) -> bool
+        ensures { result ≡ is_free (pairs self.now) placement.now };
+
+    /// The first of the placement's cells, by cycle and then A before B, that is filled, with the frame
+    /// that is sent there. It takes no memory.
+    fn first_taken(&self, placement: &Placement) -> Option<TakenCell>
+        ensures { result ≡ first_taken_cell (pairs self.now) placement.now };
+
+    /// The frame fills the placement's cells from now on. `Unavailable` changes nothing.
+    fn fill(&mut self, frame: Name, placement: &Placement) -> Result<(), Refusal>
+        requires { IsTrue (is_free (pairs self.old) placement.now) }
+        ensures ok { OnOk result (pairs self.new ≡ pairs self.old ++ (frame, placement.now) ∷ []) }
+        ensures err { OnErr result ((pairs self.new ≡ pairs self.old) × (result ≡ Err Unavailable)) };
+
+    /// The frame no longer fills the placement's cells, if it did; the others stay in their order. It
+    /// takes no memory.
+    fn clear(&mut self, frame: Name, placement: &Placement)
+        ensures { pairs self.new ≡ without (pairs self.old) frame placement.now };
+}
