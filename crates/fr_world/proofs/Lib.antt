@@ -3,3 +3,4 @@ pub mod SharedLaws
 pub mod TakenLaws
 pub mod KeyLaws
 pub mod RowLaws
+pub mod CommonLaws

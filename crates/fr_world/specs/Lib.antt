@@ -4,3 +4,5 @@ pub mod Decisions
 pub mod Edits
 pub mod Spots
 pub mod Occupancies
+pub mod Common
+pub mod Nodes

@@ -3,12 +3,17 @@
 #![tactic(auto)]
 
 mod edit;
+mod nodes;
 mod occupancy;
 mod page;
 mod row_occupancy;
+mod same;
 mod spot;
+mod variants;
 
 pub use edit::Edit;
+pub use nodes::decide_node;
 pub use occupancy::{Occupancy, TakenCell};
 pub use page::{ChannelSlot, Page, PageFrame, PageRows};
 pub use row_occupancy::RowOccupancy;
+pub use variants::{VariantRow, decide_common};

@@ -1,0 +1,18 @@
+-- What is decided of a node for a supplier.
+use Rattle.std.specs.Prelude.{List, length, nat_le, Result, Ok, Err}
+use Rattle.std.specs.List.{list_any}
+use Rattle.fr_base.specs.Limits.{max_nodes}
+use Rattle.fr_base.specs.Refusing.{◌>>◌, refuse◌when◌}
+use Rattle.fr_base.specs.Cluster.{same_text}
+use Rattle.fr_base.specs.declared.name.Name.{Name}
+use Rattle.fr_base.specs.declared.refusal.Refusal.{Refusal}
+use Rattle.fr_base.specs.declared.refusal.Refusal.TheVariants.{Exists, Limit}
+use Rattle.fr_world.specs.declared.edit.Edit.{Edit}
+use Rattle.fr_world.specs.declared.edit.Edit.TheVariants.{NewNode}
+
+-- the supplier, who has these nodes, is to have the node
+unfoldable pub new_node : Name → List Name → Name → Result Edit Refusal
+new_node s nodes n = do
+  refuse Exists when list_any (λ other. same_text other n) nodes
+  refuse Limit when nat_le max_nodes (length nodes)
+  Ok (NewNode s n)

@@ -1,0 +1,36 @@
+ghost use Rattle.std.specs.Prelude.{◌≡◌, ◌==◌};
+ghost use Rattle.std.specs.List.{list_any};
+ghost use Rattle.fr_base.specs.Cluster.{same_text};
+ghost use Rattle.fr_world.specs.Nodes.{new_node};
+
+use crate::edit::Edit;
+use crate::same::is_same;
+use fr_base::{Name, Refusal};
+
+/// The most nodes that a supplier has.
+const MAX_NODES: usize = 64;
+
+/// The edit that gives the supplier, who has these nodes, the node, or the first refusal: `Exists`,
+/// `Limit`. It takes no memory.
+#[tactic(auto, unfolding(crate::proofs::CommonLaws::common_open))]
+pub fn decide_node(supplier: Name, nodes: &[Name], node: Name) -> Result<Edit, Refusal>
+    ensures { result ≡ new_node supplier nodes.now node }
+{
+    if has(nodes, node) {
+        return Err(Refusal::Exists);
+    }
+    if nodes.len() >= MAX_NODES {
+        return Err(Refusal::Limit);
+    }
+    Ok(Edit::NewNode { supplier, node })
+}
+
+// Whether the name is one of these.
+fn has(names: &[Name], name: Name) -> bool
+    ensures { result ≡ list_any (λ other. same_text other name) names.now }
+{
+    names.iter().any(|other| is_same(*other, name))
+}
+
+#[cfg(test)]
+mod tests;

@@ -1,0 +1,100 @@
+//! What the integrator's commands on all suppliers decide.
+ghost use Rattle.std.specs.Prelude.{◌≡◌, option_map};
+ghost use Rattle.fr_world.specs.Common.{IsCommon, common, depth_after, row_of};
+
+use crate::edit::Edit;
+use crate::same::is_same;
+use fr_base::{Command, Name, Refusal};
+
+/// The most variants that a register has.
+const MAX_VARIANTS: usize = 64;
+
+/// The greatest depth of a variant.
+const MAX_DEPTH: u32 = 16;
+
+/// A variant of the register, without the rows in it.
+#[derive(Clone, Copy, Debug, PartialEq, Eq)]
+pub struct VariantRow {
+    pub variant: Name,
+    /// The variant that it was opened from.
+    pub parent: Option<Name>,
+    /// 1, or one more than the parent's.
+    pub depth: u32,
+    pub released: bool,
+}
+
+/// The edit that opens or releases a variant of the register, or the first refusal: for a new one
+/// `NoVariant`, `NotReleased` and `TooDeep` of its parent, then `Exists` and `Limit`; for a release
+/// `NoVariant` and `Released`. It takes no memory.
+#[tactic(auto, unfolding(crate::proofs::CommonLaws::common_open))]
+pub fn decide_common(variants: &[VariantRow], command: &Command) -> Result<Edit, Refusal>
+    requires { IsCommon command.now }
+    ensures { result ≡ common variants.now command.now }
+{
+    match command {
+        Command::OpenVariant { variant, parent } => open_variant(variants, *variant, parent),
+        Command::Release { variant } => release(variants, *variant),
+        _ => Err(Refusal::NotYours),
+    }
+}
+
+#[tactic(auto, unfolding(crate::proofs::CommonLaws::common_open))]
+fn open_variant(
+    variants: &[VariantRow],
+    variant: Name,
+    parent: &Option<Name>,
+) -> Result<Edit, Refusal>
+    ensures { result ≡ common variants.now (Command.OpenVariant variant parent.now) }
+{
+    let depth = depth_after(variants, parent)?;
+    if find(variants, variant).is_some() {
+        return Err(Refusal::Exists);
+    }
+    if variants.len() >= MAX_VARIANTS {
+        return Err(Refusal::Limit);
+    }
+    Ok(Edit::NewVariant {
+        variant,
+        parent: *parent,
+        depth,
+    })
+}
+
+#[tactic(auto, unfolding(crate::proofs::CommonLaws::common_open))]
+fn release(variants: &[VariantRow], variant: Name) -> Result<Edit, Refusal>
+    ensures { result ≡ common variants.now (Command.Release variant) }
+{
+    let row = find(variants, variant).ok_or(Refusal::NoVariant)?;
+    if row.released {
+        return Err(Refusal::Released);
+    }
+    Ok(Edit::SetReleased { variant })
+}
+
+// The depth of a variant that is opened from this parent, or from none.
+#[tactic(auto, unfolding(crate::proofs::CommonLaws::common_open))]
+fn depth_after(variants: &[VariantRow], parent: &Option<Name>) -> Result<u32, Refusal>
+    ensures { result ≡ depth_after variants.now parent.now }
+{
+    let Some(parent) = parent else {
+        return Ok(1);
+    };
+    let row = find(variants, *parent).ok_or(Refusal::NoVariant)?;
+    if !row.released {
+        return Err(Refusal::NotReleased);
+    }
+    if row.depth >= MAX_DEPTH {
+        return Err(Refusal::TooDeep);
+    }
+    Ok(row.depth + 1)
+}
+
+// The variant of this name.
+fn find(variants: &[VariantRow], variant: Name) -> Option<&VariantRow>
+    ensures { option_map (λ row. row.now) result ≡ row_of variants.now variant }
+{
+    variants.iter().find(|row| is_same(row.variant, variant))
+}
+
+#[cfg(test)]
+mod tests;
