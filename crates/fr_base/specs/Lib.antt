@@ -21,3 +21,4 @@ pub mod Sound
 pub mod Signals
 pub mod Bits
 pub mod Layouts
+pub mod Laws
