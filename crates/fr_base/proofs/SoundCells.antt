@@ -20,6 +20,7 @@ use Rattle.fr_base.specs.declared.channel.Channels.TheVariants as channels
 use Rattle.fr_base.specs.declared.name.Name.{Name}
 use Rattle.fr_base.specs.declared.placement.Placement.{Placement}
 use Rattle.fr_base.proofs.TableLaws.{equal}
+use Rattle.fr_base.proofs.SoundTables.{same_some}
 
 -- cells that compare as equal are the same
 pub same_cell-is : (c d : Cell) → IsTrue (same_cell c d) → c ≡ d
@@ -106,9 +107,6 @@ none_of_one o (r ∷ rs) q c e h = elim (cases_Bool (has_cell r.0 c)) [
   ]
 ]
 
-same_frame : (f g : Frame) → Some f ≡ Some g → f ≡ g
-same_frame f g e = cc
-
 abbrev entries_of : (Name × Name) × Frame → List (Owner × Placement)
 entries_of row = map (λ q. (record { supplier = row.0.0; frame = row.0.1; node = row.1.node }, q.0)) row.1.placements.rows
 
@@ -118,7 +116,7 @@ none_of_rows [] k f q c e there h = cc
 none_of_rows (row ∷ rows) k f q c e there h =
     let free = fill-append_none (entries_of row) (flat_map entries_of rows) c e in
     elim (cases_Bool (eq_by_cmp owned.compare k row.0)) [
-      | inl here ↦ let same : row.1 ≡ f = same_frame row.1 f (rw here at there) in
+      | inl here ↦ let same : row.1 ≡ f = same_some row.1 f (rw here at there) in
           none_of_one _ row.1.placements.rows q c free.0 (ap (λ (g : Frame). contains g.placements q) same ∙ h)
       | inr other ↦ none_of_rows rows k f q c free.1 (rw other at there) h
     ]

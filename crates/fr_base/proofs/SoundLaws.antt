@@ -1,5 +1,5 @@
 -- A new register is sound, each run leaves a sound book sound, and what a sound book says of a cell.
-use Rattle.std.proofs.Common.{◌≡◌, ℕ, ◌+◌, ◌≤◌, Bool, true, false, cond, List, [], ◌∷◌, map, length, Some, IsTrue, sym, ap, subst, ◌∙◌, inl, inr, arith, leb-true, le_trans}
+use Rattle.std.proofs.Common.{◌≡◌, ℕ, ◌+◌, ◌≤◌, Bool, true, false, cond, List, [], ◌∷◌, map, length, Some, IsTrue, sym, ap, subst, ◌∙◌, inl, inr, arith, le_trans}
 use Rattle.std.specs.Ordering.{eq_by_cmp}
 use Rattle.std.specs.List.{list_all}
 use Rattle.std.specs.FinMap.Entries.{find}
@@ -7,7 +7,7 @@ use Rattle.std.proofs.lemmas.Bool.{cases_Bool, and_parts}
 use Rattle.fr_base.specs.Tables.{empty, get, contains, len, insert, only, from_rows}
 use Rattle.fr_base.specs.Keys.{names}
 use Rattle.fr_base.specs.Cells.{Cell}
-use Rattle.fr_base.specs.Cluster.{Cluster, is_cluster}
+use Rattle.fr_base.specs.Cluster.{Cluster}
 use Rattle.fr_base.specs.Names.{is_name, is_key}
 use Rattle.fr_base.specs.Book.{Frame, Variant, Book, opening, held_by_node, granted}
 use Rattle.fr_base.specs.Step.{step}
@@ -21,7 +21,7 @@ use Rattle.fr_base.specs.declared.name.Name.{Name}
 use Rattle.fr_base.specs.declared.placement.Placement.{Placement}
 use Rattle.fr_base.specs.declared.request.Ask.{Ask}
 use Rattle.fr_base.proofs.TableLaws.{equal, get-from_rows}
-use Rattle.fr_base.proofs.SoundTables.{len-insert}
+use Rattle.fr_base.proofs.SoundTables.{same_some, len-insert}
 use Rattle.fr_base.proofs.SoundCells.{has_cell-in}
 use Rattle.fr_base.proofs.SoundRows.{holder-is}
 use Rattle.fr_base.proofs.SoundSteps.{step-sound}
@@ -30,9 +30,6 @@ use Rattle.fr_base.proofs.SoundSteps.{step-sound}
 
 abbrev row : Supplier → Name × Key
 row s = (s.name, s.key)
-
-same_some : {A : Type 0} (x y : A) → Some x ≡ Some y → x ≡ y
-same_some x y e = cc
 
 -- a row that is found has the form of a supplier's
 row-form : (ss : List Supplier) (n : Name) (key : Key) → IsTrue (list_all (λ s. is_name s.name) ss) → IsTrue (list_all is_key (map (λ s. s.key) ss)) → find names.compare n (map row ss) ≡ Some key → IsTrue (is_name n) × IsTrue (is_key key)
@@ -58,17 +55,13 @@ rows-few (s ∷ ss) =
     let more : len (insert rest s.name s.key) ≤ length ss + 1 = subst (λ m. m ≤ length ss + 1) (sym (len-insert rest s.name s.key)) (one_more (contains rest s.name) (len rest) (length ss) (rows-few ss)) in
     omega (arith, more)
 
-few : (c : Cluster) → IsTrue (is_cluster c.integrator c.suppliers) → length c.suppliers ≤ 64
-unfolding is_cluster
-few c h = leb-true _ _ (and_parts _ _ (and_parts _ _ h).0).0
-
 pub opening-sound : (c : Cluster) → IsWellFormed c → IsSound c (opening c)
 unfolding opening empty get len only
 opening-sound c form = record {
   suppliers = λ s key e. row-form c.suppliers s key form.names (and_parts _ _ form.keys).1 (sym (get-from_rows names (map row c.suppliers) s) ∙ e);
   nodes = λ s n h. cc;
   variants = λ v x e. cc;
-  supplier_limit = le_trans (rows-few c.suppliers) (few c form.cluster);
+  supplier_limit = le_trans (rows-few c.suppliers) form.limit;
   node_limit = λ s. omega arith;
   variant_limit = omega arith;
 }

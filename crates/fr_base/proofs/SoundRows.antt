@@ -71,6 +71,11 @@ module _ (p : Params) (nodes more : Table owned ⊤) (there : (s n : Name) → I
     depth = sound.depth;
   }
 
+-- no placement of the frame shares a cell with another of the frame, or with one of another frame
+pub record IsApart (v : Variant) (k : Name × Name) (g : Frame) : Type 0 where
+  pub own : (q r : Placement) (c : Cell) → IsTrue (contains g.placements q) → IsTrue (contains g.placements r) → IsTrue (has_cell q c) → IsTrue (has_cell r c) → q ≡ r
+  pub others : (l : Name × Name) (f : Frame) (q r : Placement) (c : Cell) → l ≢ k → get v.frames l ≡ Some f → IsTrue (contains g.placements q) → IsTrue (contains f.placements r) → IsTrue (has_cell q c) → IsTrue (has_cell r c) → ⊥
+
 module _ (p : Params) (nodes : Table owned ⊤) (v : Variant) (sound : IsSoundVariant p nodes v) where
   -- a grant of a slot and channel that nobody holds
   pub more_grants-sound : (at : ℕ × Channel) (x : Holder) → contains v.grants at ≡ false → HasChannelSlot p at → IsTrue (contains nodes (x.supplier, x.node)) → IsSoundVariant p nodes (record v { grants = insert v.grants at x })
@@ -90,12 +95,7 @@ module _ (p : Params) (nodes : Table owned ⊤) (v : Variant) (sound : IsSoundVa
   }
 
   module _ (k : Name × Name) (g : Frame) where
-    -- a placement of the frame shares no cell with another of the frame, nor with one of another frame
-    pub record IsApart : Type 0 where
-      pub own : (q r : Placement) (c : Cell) → IsTrue (contains g.placements q) → IsTrue (contains g.placements r) → IsTrue (has_cell q c) → IsTrue (has_cell r c) → q ≡ r
-      pub others : (l : Name × Name) (f : Frame) (q r : Placement) (c : Cell) → l ≢ k → get v.frames l ≡ Some f → IsTrue (contains g.placements q) → IsTrue (contains f.placements r) → IsTrue (has_cell q c) → IsTrue (has_cell r c) → ⊥
-
-    frames_apart : IsApart → (i j : Name × Name) (f h : Frame) (q r : Placement) (c : Cell) →
+    frames_apart : IsApart v k g → (i j : Name × Name) (f h : Frame) (q r : Placement) (c : Cell) →
         get (insert v.frames k g) i ≡ Some f → get (insert v.frames k g) j ≡ Some h →
         IsTrue (contains f.placements q) → IsTrue (contains h.placements r) →
         IsTrue (has_cell q c) → IsTrue (has_cell r c) → (i ≡ j) × (q ≡ r)
@@ -112,7 +112,7 @@ module _ (p : Params) (nodes : Table owned ⊤) (v : Variant) (sound : IsSoundVa
     ]
 
     -- a frame put in, or changed
-    pub more_frames-sound : IsSoundFrame p nodes v.grants k g → IsApart → IsTrue (contains v.frames k) ⊎ (len (only (λ j _. is_of k.0 j) v.frames) < 256) → IsSoundVariant p nodes (record v { frames = insert v.frames k g })
+    pub more_frames-sound : IsSoundFrame p nodes v.grants k g → IsApart v k g → IsTrue (contains v.frames k) ⊎ (len (only (λ j _. is_of k.0 j) v.frames) < 256) → IsSoundVariant p nodes (record v { frames = insert v.frames k g })
     more_frames-sound frame apart room = record {
       grant_nodes = sound.grant_nodes;
       grants_fit = sound.grants_fit;

@@ -7,7 +7,8 @@ use Rattle.std.proofs.lemmas.Bool.{cases_Bool}
 use Rattle.fr_base.specs.Tables.{Order, Table, get, contains, len, insert, only}
 use Rattle.fr_base.proofs.TableLaws.{equal, get-insert, get-only, same_table, kept}
 
-same_some : {A : Type 0} (x y : A) → Some x ≡ Some y → x ≡ y
+-- what is there is one thing
+pub same_some : {A : Type 0} (x y : A) → Some x ≡ Some y → x ≡ y
 same_some x y e = cc
 
 -- what is there, where something is
