@@ -1,10 +1,10 @@
 -- A new register is sound, each run leaves a sound book sound, and what a sound book says of a cell.
-use Rattle.std.proofs.Common.{◌≡◌, ℕ, ◌+◌, ◌≤◌, Bool, true, false, cond, List, [], ◌∷◌, map, length, Some, IsTrue, sym, ap, subst, ◌∙◌, inl, inr, arith, le_trans}
+use Rattle.std.proofs.Common.{◌≡◌, ◌≤◌, List, [], ◌∷◌, map, length, Some, IsTrue, sym, ap, subst, ◌∙◌, inl, inr, arith, le_trans}
 use Rattle.std.specs.Ordering.{eq_by_cmp}
 use Rattle.std.specs.List.{list_all}
 use Rattle.std.specs.FinMap.Entries.{find}
 use Rattle.std.proofs.lemmas.Bool.{cases_Bool, and_parts}
-use Rattle.fr_base.specs.Tables.{empty, get, contains, len, insert, only, from_rows}
+use Rattle.fr_base.specs.Tables.{empty, get, len, only, from_rows}
 use Rattle.fr_base.specs.Keys.{names}
 use Rattle.fr_base.specs.Cells.{Cell}
 use Rattle.fr_base.specs.Cluster.{Cluster}
@@ -21,7 +21,7 @@ use Rattle.fr_base.specs.declared.name.Name.{Name}
 use Rattle.fr_base.specs.declared.placement.Placement.{Placement}
 use Rattle.fr_base.specs.declared.request.Ask.{Ask}
 use Rattle.fr_base.proofs.TableLaws.{equal, get-from_rows}
-use Rattle.fr_base.proofs.SoundTables.{same_some, len-insert}
+use Rattle.fr_base.proofs.SoundTables.{same_some, len-within}
 use Rattle.fr_base.proofs.SoundCells.{has_cell-in}
 use Rattle.fr_base.proofs.SoundRows.{holder-is}
 use Rattle.fr_base.proofs.SoundSteps.{step-sound}
@@ -42,18 +42,13 @@ row-form (s ∷ ss) n key named keyed e =
       | inr other ↦ row-form ss n key name_here.1 key_here.1 (rw other at e)
     ]
 
-one_more : (b : Bool) (m n : ℕ) → m ≤ n → cond b m (m + 1) ≤ n + 1
-one_more true m n h = omega arith
-one_more false m n h = omega arith
-
 -- there are at most as many rows as suppliers
 rows-few : (ss : List Supplier) → len (from_rows {o = names} (map row ss)) ≤ length ss
 unfolding from_rows empty len
 rows-few [] = omega arith
 rows-few (s ∷ ss) =
-    let rest = from_rows {o = names} (map row ss) in
-    let more : len (insert rest s.name s.key) ≤ length ss + 1 = subst (λ m. m ≤ length ss + 1) (sym (len-insert rest s.name s.key)) (one_more (contains rest s.name) (len rest) (length ss) (rows-few ss)) in
-    omega (arith, more)
+    let rest : len (from_rows {o = names} (map row ss)) ≤ length ss = rows-few ss in
+    len-within (from_rows (map row ss)) s.name s.key (length (s ∷ ss)) (omega (arith, rest)) (inr (omega (arith, rest)))
 
 pub opening-sound : (c : Cluster) → IsWellFormed c → IsSound c (opening c)
 unfolding opening empty get len only

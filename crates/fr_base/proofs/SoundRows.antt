@@ -32,6 +32,7 @@ holder-is s n (Some x) h =
     let both = and_parts _ _ h in
     λ i. Some (record { supplier = same_text-is x.supplier s both.0 i; node = same_text-is x.node n both.1 i })
 
+-- what all pass, all pass where the test is weaker
 pub all_more : {X : Type 0} (f g : X → Bool) (xs : List X) → ((x : X) → IsTrue (f x) → IsTrue (g x)) → IsTrue (list_all f xs) → IsTrue (list_all g xs)
 all_more f g [] more h = refl
 all_more f g (x ∷ xs) more h = let both = and_parts _ _ h in and_from _ _ (more x both.0) (all_more f g xs more both.1)

@@ -33,6 +33,7 @@ use Rattle.fr_base.proofs.SoundChecks.{HasForm, IsFormed, check-form}
 
 -- ---- a supplier's page
 
+-- a supplier's names are its own
 own : (s n : Name) → IsTrue (is_of s (s, n))
 own s n = ap is_eq (tied_itself nat_list_cmp_total s)
 
@@ -46,6 +47,7 @@ page-granted grants t s n q =
     let found = holder-is s n (get page key) h in
     ap (held_by_node s n) (only-stood channel_slots (λ _ h. held_by t (Some h)) grants key _ found ∙ sym found) ∙ h)
 
+-- a placement that is not refused has no taken cell
 not_taken : (r : Option (Cell × Owner)) (x : ⊤) → cell_taken r ≡ Ok x → r ≡ None
 unfolding cell_taken
 not_taken None x e = refl

@@ -7,7 +7,6 @@ use Rattle.std.proofs.lemmas.Bool.{cases_Bool}
 use Rattle.fr_base.specs.Tables.{Order, Table, get, contains, len, insert, only}
 use Rattle.fr_base.proofs.TableLaws.{equal, get-insert, get-only, same_table, kept}
 
--- what is there is one thing
 pub same_some : {A : Type 0} (x y : A) → Some x ≡ Some y → x ≡ y
 same_some x y e = cc
 
@@ -23,6 +22,11 @@ some_either : {A : Type 0} (b : Bool) (x : A) (o : Option A) → is_some o ≡ t
 some_either true x o h = refl
 some_either false x o h = h
 
+at_most : (there : Bool) (m n : ℕ) → m ≤ n → IsTrue there ⊎ (m < n) → cond there m (m + 1) ≤ n
+at_most true m n few room = few
+at_most false m n few (inl there) = absurd (true≢false (sym there))
+at_most false m n few (inr room) = omega (arith, room)
+
 kept_none : {K V : Type 0} (p : K → Bool) (q : K) (o : Option V) → p q ≡ false → kept (λ k _. p k) q o ≡ None
 kept_none p q None e = refl
 kept_none p q (Some v) e = ap (λ b. cond b (Some v) None) e
@@ -32,10 +36,11 @@ kept_all p q None e = refl
 kept_all p q (Some v) e = ap (λ b. cond b (Some v) None) e
 
 module _ {K : Type 0} (o : Order K) where
-  -- a key is there under itself
+  -- a key ties with itself
   pub same_key : (k : K) → eq_by_cmp o.compare k k ≡ true
   same_key k = ap is_eq (tied_itself o.total k)
 
+  -- keys that don't tie are not the same
   pub other_key : (q k : K) → eq_by_cmp o.compare q k ≡ false → q ≢ k
   other_key q k e same = true≢false (sym (ap (λ x. eq_by_cmp o.compare x k) same ∙ same_key k) ∙ e)
 
@@ -49,9 +54,6 @@ module _ {K V : Type 0} {o : Order K} where
         | inr h ↦ inr (other_key o q k h, ap (λ b. cond b (Some v) (get t q)) (sym h) ∙ found)
       ]
 
-  pub get-put : (t : Table o V) (k : K) (v : V) → get (insert t k v) k ≡ Some v
-  get-put t k v = get-insert t k v k ∙ ap (λ b. cond b (Some v) (get t k)) (same_key o k)
-
   -- what is there stays
   pub contains-more : (t : Table o V) (k : K) (v : V) (q : K) → IsTrue (contains t q) → IsTrue (contains (insert t k v) q)
   contains-more t k v q h = ap is_some (get-insert t k v q) ∙ some_either (eq_by_cmp o.compare q k) v (get t q) h
@@ -61,18 +63,10 @@ module _ {K V : Type 0} {o : Order K} where
       let there = value_of (get (insert t k v) q) h in
       elim (insert-cases t k v q there.0 there.1) [ inl e ↦ inl e.0 | inr e ↦ inr (some_there (get t q) there.0 e.1) ]
 
-  pub len-insert : (t : Table o V) (k : K) (v : V) → len (insert t k v) ≡ cond (contains t k) (len t) (len t + 1)
-  unfolding len get insert
-  len-insert t k v = length-put o.compare o.total k v t.rows t.sorted
-
   -- one more row, or another value in a row
   pub len-within : (t : Table o V) (k : K) (v : V) (n : ℕ) → len t ≤ n → IsTrue (contains t k) ⊎ (len t < n) → len (insert t k v) ≤ n
-  len-within t k v n few (inl there) = subst (λ m. m ≤ n) (sym (len-insert t k v ∙ ap (λ b. cond b (len t) (len t + 1)) there)) few
-  len-within t k v n few (inr room) =
-      elim (cases_Bool (contains t k)) [
-        | inl there ↦ subst (λ m. m ≤ n) (sym (len-insert t k v ∙ ap (λ b. cond b (len t) (len t + 1)) there)) few
-        | inr gone ↦ subst (λ m. m ≤ n) (sym (len-insert t k v ∙ ap (λ b. cond b (len t) (len t + 1)) gone)) (omega (arith, room))
-      ]
+  unfolding len get insert
+  len-within t k v n few room = subst (λ m. m ≤ n) (sym (length-put o.compare o.total k v t.rows t.sorted)) (at_most (contains t k) (len t) n few room)
 
 kept_some : {K V : Type 0} (p : K → V → Bool) (q : K) (o : Option V) (v : V) → kept p q o ≡ Some v → o ≡ Some v
 kept_some p q None v e = e
