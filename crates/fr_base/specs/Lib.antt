@@ -23,3 +23,7 @@ pub mod Step
 pub mod Actors
 pub mod Run
 pub mod Sound
+pub mod Signals
+pub mod Bits
+pub mod Layouts
+pub mod Laws

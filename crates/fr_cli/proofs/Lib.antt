@@ -1,4 +1,5 @@
 pub mod ClusterFileLemmas
+pub mod WellFormedLaws
 mod LineLemmas
 mod StreamLemmas
 pub mod RequestTextLemmas

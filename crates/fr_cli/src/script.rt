@@ -1,8 +1,10 @@
 //! Runs a script: reads it, and writes the answer to each of its requests.
-ghost use Rattle.std.specs.Prelude.{◌≡◌, ◌⊎◌, ◌<◌, ◌++◌, ◌∷◌, ℕ, List, [], length, Some, None, Ok, Err, IfErr, IfOk, IfSome, IsErrOf, IsTrue, OnOk};
+ghost use Rattle.std.specs.Prelude.{◌≡◌, ◌⊎◌, ◌<◌, ◌++◌, ◌∷◌, ℕ, List, [], length, Some, None, Ok, Err, IfErr, IfOk, IfSome, IsErrOf, IsOk, IsTrue, OnOk};
 ghost use Rattle.std.specs.Io.KnownBytes.{Appends, IsAtEnd, Keeps};
 ghost use Rattle.fr_base.specs.Book.{opening};
 ghost use Rattle.fr_base.specs.Step.{knows};
+ghost use Rattle.fr_base.specs.Sound.{IsSound};
+ghost use Rattle.fr_base.specs.Laws.{IsWellFormed};
 ghost use Rattle.fr_cli.specs.Asked.{ask_in};
 ghost use Rattle.fr_cli.specs.Books.{book_of, Replied};
 ghost use Rattle.fr_cli.specs.Output.{IsAnsweredTo, IsCutShort, IsOutput, LacksMemory, cluster_in};
@@ -61,6 +63,7 @@ fn answer_requests<W: Write>(
     requests: &[u8],
     writer: &mut W,
 ) -> Result<(), ScriptFault>
+    requires { IsWellFormed config }
     ensures all { OnOk result ((written : List ℕ) × Appends (W.contents writer.old) (W.contents writer.new) written
         × IsAnsweredTo config (request_lines requests.now) [] written) }
     ensures no_memory { IsErrOf result ScriptFault.NoMemory → (line : List ℕ) × (left : List (List ℕ)) × (written : List ℕ)
@@ -89,6 +92,7 @@ fn answer_line(alloc: Global, book: &mut Book, line: &[u8]) -> Result<Answer, Sc
     ensures config { book.new.config ≡ book.old.config }
     ensures replied { IfOk result (λ answer.
         Replied book.old.config (book_of book.old) (ask_in book.old.config line.now) answer (book_of book.new)) }
+    ensures sound { IsSound book.old.config (book_of book.old) → IsOk result → IsSound book.new.config (book_of book.new) }
     ensures fault { IfErr result (λ fault. fault ≡ ScriptFault.NoMemory) }
 {
     match read_ask(alloc, &book.config, line) {

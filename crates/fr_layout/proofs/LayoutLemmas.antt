@@ -1,7 +1,7 @@
 -- Laws of layouts: what adding and removing a signal keeps.
-use Rattle.std.proofs.Common.{◌≡◌, ◌≢◌, ℕ, suc, zero, ◌+◌, ◌-◌, ◌*◌, ◌/◌, ◌^◌, ◌<◌, ◌≤◌, Bool, true, false, not, ◌&&◌, ◌||◌, List, [], ◌∷◌, length, filter, get_or, Option, Some, None, is_some, Result, Ok, Err, refl, sym, ◌∙◌, ap, arith, eqb, ltb, leb, cond, inl, inr, ◌⊎◌, All, AllPairs, IsTrue, IsOk, is_ok, MatchResult, position, insert, remove, unwrap_or, replicate, subst, ◌%◌}
+use Rattle.std.proofs.Common.{◌≡◌, ◌≢◌, ℕ, suc, zero, ◌+◌, ◌*◌, ◌/◌, ◌<◌, ◌≤◌, Bool, true, false, not, ◌&&◌, ◌||◌, List, [], ◌∷◌, length, filter, get_or, Option, Some, None, is_some, Result, Ok, Err, refl, sym, ◌∙◌, ap, arith, eqb, ltb, leb, cond, inl, inr, ◌⊎◌, All, AllPairs, IsTrue, IsOk, is_ok, MatchResult, position, insert, remove, unwrap_or, replicate, subst, ◌%◌}
 use Rattle.std.specs.List.{list_any, range_with_len, find, position_or_len}
-use Rattle.std.specs.Option.{option_map, option_map_or, option_and_then}
+use Rattle.std.specs.Option.{option_map, option_and_then}
 use Rattle.std.specs.Int.{bit_at}
 use Rattle.std.specs.Str.{bytes_eq}
 use Rattle.std.proofs.lemmas.Bool.{ltb-true, lt-ltb}
@@ -12,17 +12,17 @@ use Rattle.std.proofs.lemmas.List.Elements.{All-cons, All-head, All-tail, All-fi
 use Rattle.std.proofs.lemmas.List.{length-replicate}
 use Rattle.std.proofs.lemmas.List.Edits.{length-remove}
 use Rattle.std.proofs.lemmas.List.Folds.{list_any_at, list_any_none}
-use Rattle.std.proofs.lemmas.Nat.Bits.{bit_at_ones, bit_at-zero}
+use Rattle.std.proofs.lemmas.Nat.Bits.{bit_at-zero}
 use Rattle.std.proofs.lemmas.List.Kept.{AllPairs-cons, AllPairs-filter}
 use Rattle.std.proofs.lemmas.Slice.Eq.{bytes_eq-Decides}
 use Rattle.fr_base.specs.Refusing.{◌>>=◌, ◌>>◌, refuse◌when◌}
 use Rattle.fr_base.specs.Signals.{SignalData, is_signal_length}
-use Rattle.fr_base.specs.Bits.{bits_of, uses, entry_of, payload_bit}
+use Rattle.fr_base.specs.Bits.{bits_of, uses, entry_of}
 use Rattle.fr_base.specs.Layouts.{LayoutData, IsLayout, AreApart, lies_inside, has_signal, user_of, taken_at, first_taken, bit_taken, with_signal, add_signal, remove_signal}
 use Rattle.fr_base.specs.declared.refusal.Refusal.{Refusal}
 use Rattle.fr_base.specs.declared.refusal.Refusal.TheVariants.{Exists, Limit, NoSignal, OutOfPayload, BitTaken}
-use Rattle.fr_layout.specs.Kept.{IsKept}
-use Rattle.fr_layout.proofs.BitsLemmas.{put_over, entry_of_none, length-bits_of, uses_along, not_true}
+use Rattle.fr_layout.specs.Kept.{IsKept, word_bit}
+use Rattle.fr_layout.proofs.BitsLemmas.{length-bits_of, uses_along, not_true}
 
 pub either : (b : Bool) → (b ≡ true) ⊎ (b ≡ false)
 either true = inl refl
@@ -53,16 +53,6 @@ pub uses_entry : (s : SignalData) (p : ℕ) → uses s p ≡ true → (i : ℕ) 
 uses_entry s p h =
     let found = any_at (bits_of s) p h in
     (found.0, omega (arith, length-bits_of s, found.1), found.2, found.3)
-
--- a value whose bits are all alike
-pub put_over_alike : (s : SignalData) (v b p old : ℕ) → ((i : ℕ) → i < s.length → bit_at v i ≡ b) → put_over (bits_of s) v p old ≡ cond (uses s p) b old
-put_over_alike s v b p old alike =
-    elim (either (uses s p)) [
-      | inl used ↦
-          let found = uses_entry s p used in
-          ap (λ o. option_map_or (bit_at v) o old) found.3 ∙ (alike found.0 found.1 ∙ sym (ap (λ t. cond t b old) used))
-      | inr free ↦ ap (λ o. option_map_or (bit_at v) o old) (entry_of_none (bits_of s) p free) ∙ sym (ap (λ t. cond t b old) free)
-    ]
 
 -- a signal has its start
 pub uses_start : (s : SignalData) → 1 ≤ s.length → uses s s.start ≡ true
@@ -307,14 +297,14 @@ abbrev number : Bool → ℕ
 number b = cond b 1 0
 
 -- a bit is 1 in the kept payload where a signal uses it
-kept_bit : (l : LayoutData) (used : List ℕ) (p : ℕ) → IsKept l used → (payload_bit used p ≡ 1) → is_some (user_of l.signals p) ≡ true
+kept_bit : (l : LayoutData) (used : List ℕ) (p : ℕ) → IsKept l used → (word_bit used p ≡ 1) → is_some (user_of l.signals p) ≡ true
 kept_bit l used p kept bit = by_test (is_some (user_of l.signals p)) (sym (kept.bits p) ∙ bit)
   where
     by_test : (b : Bool) → number b ≡ 1 → b ≡ true
     by_test true e = refl
     by_test false e = absurd (omega arith)
 
-test_false : (l : LayoutData) (used : List ℕ) (s : SignalData) (q : ℕ) → IsKept l used → (IsTrue (uses s q) → payload_bit used q ≢ 1) → taken_test l s q ≡ false
+test_false : (l : LayoutData) (used : List ℕ) (s : SignalData) (q : ℕ) → IsKept l used → (IsTrue (uses s q) → word_bit used q ≢ 1) → taken_test l s q ≡ false
 unfolding taken_test
 test_false l used s q kept free = by_tests (uses s q) (is_some (user_of l.signals q)) refl refl
   where
@@ -323,14 +313,14 @@ test_false l used s q kept free = by_tests (uses s q) (is_some (user_of l.signal
     by_tests true false e f = refl
     by_tests true true e f = absurd (free e (kept.bits q ∙ ap number f))
 
-pub taken_none : (l : LayoutData) (used : List ℕ) (s : SignalData) → IsKept l used → ((p : ℕ) → IsTrue (uses s p) → payload_bit used p ≡ 0) → first_taken l s ≡ None
+pub taken_none : (l : LayoutData) (used : List ℕ) (s : SignalData) → IsKept l used → ((p : ℕ) → IsTrue (uses s p) → word_bit used p ≡ 0) → first_taken l s ≡ None
 taken_none l used s kept free =
     first_taken_is l s
     ∙ ap (option_and_then (taken_at l.signals))
     (find_nothing (taken_test l s) 0 (16 * l.words) (λ q. test_false l used s q kept (λ u e. absurd (omega (arith, free q u, e)))))
 
-pub taken_some : (l : LayoutData) (used : List ℕ) (s t : SignalData) (p : ℕ) → IsKept l used → IsTrue (lies_inside l.words s) → IsTrue (uses s p) → payload_bit used p ≡ 1 →
-    ((q : ℕ) → IsTrue (uses s q) → payload_bit used q ≡ 1 → p ≤ q) → user_of l.signals p ≡ Some t → bit_taken (first_taken l s) ≡ Err (BitTaken p t.name)
+pub taken_some : (l : LayoutData) (used : List ℕ) (s t : SignalData) (p : ℕ) → IsKept l used → IsTrue (lies_inside l.words s) → IsTrue (uses s p) → word_bit used p ≡ 1 →
+    ((q : ℕ) → IsTrue (uses s q) → word_bit used q ≡ 1 → p ≤ q) → user_of l.signals p ≡ Some t → bit_taken (first_taken l s) ≡ Err (BitTaken p t.name)
 unfolding taken_test
 taken_some l used s t p kept inside here bit least user =
     let entry = uses_entry s p here in
@@ -341,7 +331,7 @@ taken_some l used s t p kept inside here bit least user =
     ap bit_taken (first_taken_is l s ∙ (ap (option_and_then (taken_at l.signals)) found ∙ ap (option_map (λ s. (p, s.name))) user))
 
 -- a used bit has a user
-pub has_user : (l : LayoutData) (used : List ℕ) (p : ℕ) → IsKept l used → payload_bit used p ≡ 1 → user_of l.signals p ≡ None → ⊥
+pub has_user : (l : LayoutData) (used : List ℕ) (p : ℕ) → IsKept l used → word_bit used p ≡ 1 → user_of l.signals p ≡ None → ⊥
 has_user l used p kept bit none = same (sym (kept_bit l used p kept bit) ∙ ap is_some none)
   where
     same : true ≡ false → ⊥
@@ -415,7 +405,7 @@ ones_or true b = refl
 ones_or false b = refl
 
 pub kept_with : (l : LayoutData) (used new : List ℕ) (s : SignalData) → IsKept l used → Admitted l s → IsTrue (is_signal_length s.length) →
-    ((p : ℕ) → payload_bit new p ≡ put_over (bits_of s) (2 ^ 64 - 1) p (payload_bit used p)) → length new ≡ length used → IsKept (extended l s) new
+    ((p : ℕ) → word_bit new p ≡ cond (uses s p) 1 (word_bit used p)) → length new ≡ 127 → IsKept (extended l s) new
 kept_with l used new s kept passed long bits same =
     let bounds = length_bounds s.length long in
     let apart : All (AreApart s) l.signals = free_apart l s passed.inside passed.free in
@@ -431,14 +421,13 @@ kept_with l used new s kept passed long bits same =
         names = AllPairs-with (λ t u. t.name ≢ u.name) s l.signals (λ k d within e. names k d within (sym e)) names kept.sound.names;
         rising = rising-with s l.signals (other_starts l s kept.sound bounds.0 apart) kept.sound.rising;
       };
-      size = same ∙ kept.size;
+      size = same;
       bits = λ p.
           bits p
-          ∙ (put_over_alike s (2 ^ 64 - 1) 1 p (payload_bit used p) (λ i within. bit_at_ones 64 i (omega (arith, bounds.1)))
           ∙ (ap (cond (uses s p) 1) (kept.bits p)
           ∙ (ones_or (uses s p) (is_some (user_of l.signals p))
           ∙ ap number
-          (ap (λ b. uses s p || b) (is_some-user_of l.signals p) ∙ (sym (list_any-with_signal (λ t. uses t p) s l.signals) ∙ sym (is_some-user_of (with_signal s l.signals) p))))));
+          (ap (λ b. uses s p || b) (is_some-user_of l.signals p) ∙ (sym (list_any-with_signal (λ t. uses t p) s l.signals) ∙ sym (is_some-user_of (with_signal s l.signals) p)))));
     }
 
 -- ---- a layout with one signal less
@@ -493,7 +482,7 @@ zero_unless true b = refl
 zero_unless false b = refl
 
 pub kept_without : (l : LayoutData) (used new : List ℕ) (i : ℕ) (t : SignalData) → IsKept l used → i < length l.signals → t ≡ get_or l.signals i t →
-    ((p : ℕ) → payload_bit new p ≡ put_over (bits_of t) 0 p (payload_bit used p)) → length new ≡ length used → IsKept (record l { signals = remove l.signals i }) new
+    ((p : ℕ) → word_bit new p ≡ cond (uses t p) 0 (word_bit used p)) → length new ≡ 127 → IsKept (record l { signals = remove l.signals i }) new
 kept_without l used new i t kept within at bits same =
     let taken_out : filter (λ s. not (bytes_eq s.name t.name)) l.signals ≡ remove l.signals i = without_is l.signals i t.name t kept.sound.names within (ap (λ (s : SignalData). s.name) (sym at)) in
     let Sound : List SignalData → Type 0 = λ xs. IsLayout (record l { signals = xs }) in
@@ -508,16 +497,15 @@ kept_without l used new i t kept within at bits same =
         names = AllPairs-filter (λ s u. s.name ≢ u.name) (λ s. not (bytes_eq s.name t.name)) l.signals kept.sound.names;
         rising = AllPairs-filter Rises (λ s. not (bytes_eq s.name t.name)) l.signals kept.sound.rising;
       });
-      size = same ∙ kept.size;
+      size = same;
       bits = λ p.
           bits p
-          ∙ (put_over_alike t 0 0 p (payload_bit used p) (λ i within. bit_at-zero i)
           ∙ (ap (cond (uses t p) 0) (kept.bits p)
           ∙ (zero_unless (uses t p) (is_some (user_of l.signals p))
           ∙ ap number
           (ap (cond (uses t p) false) (is_some-user_of l.signals p)
           ∙ (ap (λ s. cond (uses s p) false (list_any (λ s. uses s p) l.signals)) at
-          ∙ (sym (any_without l.signals i p t kept.sound.apart within) ∙ sym (is_some-user_of (remove l.signals i) p)))))));
+          ∙ (sym (any_without l.signals i p t kept.sound.apart within) ∙ sym (is_some-user_of (remove l.signals i) p))))));
     }
 
 -- a search by position
@@ -569,12 +557,12 @@ get_or-zeros zero k = refl
 get_or-zeros (suc n) zero = refl
 get_or-zeros (suc n) (suc k) = get_or-zeros n k
 
-pub payload_bit-zeros : (n p : ℕ) → payload_bit (replicate n 0) p ≡ 0
-payload_bit-zeros n p = ap (λ b. bit_at b (p % 8)) (get_or-zeros n (p / 8)) ∙ bit_at-zero (p % 8)
+pub word_bit-zeros : (n p : ℕ) → word_bit (replicate n 0) p ≡ 0
+word_bit-zeros n p = ap (λ b. bit_at b (p % 16)) (get_or-zeros n (p / 16)) ∙ bit_at-zero (p % 16)
 
-pub kept_empty : (words : ℕ) (items : List SignalData) (used : List ℕ) → words ≤ 127 → items ≡ [] → used ≡ replicate 254 0 → IsKept (record { words = words; signals = items }) used
+pub kept_empty : (words : ℕ) (items : List SignalData) (used : List ℕ) → words ≤ 127 → items ≡ [] → used ≡ replicate 127 0 → IsKept (record { words = words; signals = items }) used
 kept_empty words items used small none all_zero =
-    let Kept : List SignalData → List ℕ → Type 0 = λ xs bytes. IsKept (record { words = words; signals = xs }) bytes in
+    let Kept : List SignalData → List ℕ → Type 0 = λ xs used. IsKept (record { words = words; signals = xs }) used in
     subst (λ xs. Kept xs used) (sym none) (subst (Kept []) (sym all_zero) (record {
       sound = record {
         words = small;
@@ -585,8 +573,8 @@ kept_empty words items used small none all_zero =
         names = λ i j d h below. absurd (omega arith);
         rising = λ i j d h below. absurd (omega arith);
       };
-      size = length-replicate {A = ℕ} 254 0;
-      bits = payload_bit-zeros 254;
+      size = length-replicate {A = ℕ} 127 0;
+      bits = word_bit-zeros 127;
     }))
 
 -- the signal is inserted at its place

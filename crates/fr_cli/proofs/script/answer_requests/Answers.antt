@@ -26,7 +26,7 @@ returns-in_err-answer-clause-no_memory g c = λ _.
       request_lines c.next.new.self.rest.now,
       l.written,
       l.appended,
-      answered_to c.args.config _ l.front _ _ l.written (l.lines ∙ ap (λ left. l.front ++ left) c.in-Some.ensures.steps) l.answering,
+      answered_to c.args.config _ l.front _ _ l.written c.requires (l.lines ∙ ap (λ left. l.front ++ left) c.in-Some.ensures.steps) l.answering,
     )
 
 pub returns-in_err-write_answer-clause-no_memory :
@@ -37,7 +37,7 @@ returns-in_err-write_answer-clause-no_memory g c = λ _.
       request_lines c.next.new.self.rest.now,
       l.written,
       l.appended,
-      answered_to c.args.config _ l.front _ _ l.written (l.lines ∙ ap (λ left. l.front ++ left) c.in-Some.ensures.steps) l.answering,
+      answered_to c.args.config _ l.front _ _ l.written c.requires (l.lines ∙ ap (λ left. l.front ++ left) c.in-Some.ensures.steps) l.answering,
     )
 
 pub returns-in_err-extend_from_slice-clause-no_memory :
@@ -48,7 +48,7 @@ returns-in_err-extend_from_slice-clause-no_memory g c = λ _.
       request_lines c.next.new.self.rest.now,
       l.written,
       l.appended,
-      answered_to c.args.config _ l.front _ _ l.written (l.lines ∙ ap (λ left. l.front ++ left) c.in-Some.ensures.steps) l.answering,
+      answered_to c.args.config _ l.front _ _ l.written c.requires (l.lines ∙ ap (λ left. l.front ++ left) c.in-Some.ensures.steps) l.answering,
     )
 
 pub returns-in_err-write_all-clause-write_failed :
@@ -61,7 +61,7 @@ returns-in_err-write_all-clause-write_failed g c = λ _.
       drop n text,
       l.written ++ take n text,
       Appends-trans _ _ _ l.written (take n text) l.appended cut,
-      answered_to c.args.config _ (l.front ++ c.in-Some.line.now ∷ []) _ _ _
+      answered_to c.args.config _ (l.front ++ c.in-Some.line.now ∷ []) _ _ _ c.requires
           (l.lines ∙ ap (λ left. l.front ++ left) c.in-Some.ensures.steps ∙ sym (append_assoc l.front (c.in-Some.line.now ∷ []) (request_lines c.next.new.self.rest.now)))
           (subst (Answering c.args.config (l.front ++ c.in-Some.line.now ∷ []) (book_of c.answer_line.new.book))
           (ap (λ t. l.written ++ t) (sym (take-append-drop n text)) ∙ sym (append_assoc l.written (take n text) (drop n text)))
@@ -111,7 +111,7 @@ returns-in_err-flush-clause-write_failed g c = λ _.
       [],
       l.written,
       Appends-kept _ _ _ l.written l.appended c.flush.ensures,
-      answered_to c.args.config _ l.front [] _ _ (l.lines ∙ ap (λ left. l.front ++ left) c.in-None.ensures.steps.0)
+      answered_to c.args.config _ l.front [] _ _ c.requires (l.lines ∙ ap (λ left. l.front ++ left) c.in-None.ensures.steps.0)
           (subst (Answering c.args.config l.front (book_of c.loop-line.book)) (sym (append-nil l.written)) l.answering),
     )
 
@@ -120,5 +120,5 @@ returns-clause-all g c =
     let l = c.loop-line.invariant in (
       l.written,
       Appends-kept _ _ _ l.written l.appended c.flush.ensures,
-      answered_to c.args.config _ l.front [] _ l.written (l.lines ∙ ap (λ left. l.front ++ left) c.in-None.ensures.steps.0) l.answering,
+      answered_to c.args.config _ l.front [] _ l.written c.requires (l.lines ∙ ap (λ left. l.front ++ left) c.in-None.ensures.steps.0) l.answering,
     )

@@ -52,4 +52,4 @@ returns-clause-read c =
     let differ : keys_differ (keys_of c.self.inside.integrator.now (suppliers_of c.as_slice-texts.result.now)) ≡ true =
     rw (← key.1, ← read.0, ← c.as_slice.ensures, ← c.keys_differ.ensures) c.if-not-keys_differ.false in
     let params = check_params-same c.self.inside.params c.in_ok-params.params (sym c.in_ok-params.ensures) in
-    rw (rest, ← c.are_names.ensures, c.if-not-are_names.false, key.0, read.1, differ) (rw (c.new.ensures, params, key.1, read.0, c.as_slice-texts.ensures.value, ← c.self.view_is))
+    rw (rest, ← c.are_names.ensures, c.if-not-are_names.false, key.0, read.1, differ) (rw (c.new.ensures.value, params, key.1, read.0, c.as_slice-texts.ensures.value, ← c.self.view_is))
