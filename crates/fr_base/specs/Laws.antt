@@ -4,6 +4,7 @@ use Rattle.std.specs.List.{list_all}
 use Rattle.fr_base.specs.Tables.{get, contains}
 use Rattle.fr_base.specs.Cells.{Cell, has_cell}
 use Rattle.fr_base.specs.Cluster.{Cluster, keys_of}
+use Rattle.fr_base.specs.Parameters.{check_params}
 use Rattle.fr_base.specs.Names.{is_name, is_key}
 use Rattle.fr_base.specs.Book.{Frame, Variant, Book, opening}
 use Rattle.fr_base.specs.Step.{step}
@@ -28,11 +29,11 @@ OpeningIsSound = (c : Cluster) → IsWellFormed c → IsSound c (opening c)
 
 -- Whoever asks, and whatever is asked, done or refused: a sound book stays sound.
 abbrev pub StepKeepsSound : Type 0
-StepKeepsSound = (c : Cluster) (b : Book) (actor : Actor) (request : Request) → IsSound c b → IsSound c (step c b actor request).book
+StepKeepsSound = (c : Cluster) (b : Book) (actor : Actor) (request : Request) → IsWellFormed c → IsSound c b → IsSound c (step c b actor request).book
 
 -- So after any number of requests, in any order, a book that was sound is sound.
 abbrev pub RunKeepsSound : Type 0
-RunKeepsSound = (c : Cluster) (b last : Book) (asks : List Ask) (answers : List Answer) → IsSound c b → IsRun c b asks answers last → IsSound c last
+RunKeepsSound = (c : Cluster) (b last : Book) (asks : List Ask) (answers : List Answer) → IsWellFormed c → IsSound c b → IsRun c b asks answers last → IsSound c last
 
 -- the supplier's frame under this key is sent in the cell, by this one of its placements
 pub record IsSent (v : Variant) (k : Name × Name) (f : Frame) (q : Placement) (cell : Cell) : Type 0 where

@@ -8,6 +8,7 @@ pub mod Channels
 pub mod Cycles
 pub mod Keys
 pub mod Parameters
+pub mod Limits
 pub mod Cluster
 pub mod Refusals
 pub mod Signals
@@ -23,7 +24,4 @@ pub mod Step
 pub mod Actors
 pub mod Run
 pub mod Sound
-pub mod Signals
-pub mod Bits
-pub mod Layouts
 pub mod Laws
