@@ -1,11 +1,12 @@
--- The cells of a placement, and what it means that none of them is filled.
-use Rattle.std.proofs.Common.{◌≡◌, ℕ, Bool, false, List, [], ◌∷◌, ◌++◌, map, flat_map, Option, Some, None, is_some, IsTrue, refl, sym, ap, ◌∙◌, ◌⊎◌, inl, inr, true≢false}
+-- The cells of a placement, what it means that none of them is filled, and that a test finds each placement.
+use Rattle.std.proofs.Common.{◌≡◌, ℕ, Bool, false, List, [], ◌∷◌, ◌++◌, map, flat_map, Option, Some, None, is_some, IsTrue, ◌||◌, true, refl, sym, ap, ◌∙◌, ◌⊎◌, inl, inr, true≢false}
 use Rattle.std.specs.Prelude.{⊤}
 use Rattle.std.specs.Ordering.{eq_by_cmp}
 use Rattle.std.specs.FinMap.{nat_cmp-IsAntisymmetric}
 use Rattle.std.specs.FinMap.Entries.{find}
 use Rattle.std.specs.List.{list_all, list_any}
 use Rattle.std.proofs.lemmas.Bool.{cases_Bool, or_cases, and_parts}
+use Rattle.std.proofs.lemmas.List.Folds.{list_any-append}
 use Rattle.fr_base.specs.Tables.{Table, get, contains}
 use Rattle.fr_base.specs.Keys.{both_tie, same_channel, owned, placement_order}
 use Rattle.fr_base.specs.Channels.{channels_in}
@@ -126,3 +127,38 @@ pub free_cells : (frames : Table owned Frame) (q : Placement) → first_taken (s
 unfolding has_cell schedule_of placements_of get
 free_cells frames q e k f r c there h has_q has_r =
     true≢false (sym has_r ∙ none_of_rows frames.rows k f r c (none_filled (schedule_of frames) (cells_of q) c e has_q) there h)
+
+-- ---- a test that a placement of a frame passes finds one
+
+or_left : (a b : Bool) → IsTrue a → IsTrue (a || b)
+or_left a b h = ap (λ t. t || b) h
+
+or_right : (a b : Bool) → IsTrue b → IsTrue (a || b)
+or_right true b h = refl
+or_right false b h = h
+
+any_of_one : {O : Type 0} (test : O × Placement → Bool) (o : O) (rows : List (Placement × ⊤)) (q : Placement) → IsTrue (is_some (find placement_order.compare q rows)) → IsTrue (test (o, q)) → IsTrue (list_any test (map (λ r. (o, r.0)) rows))
+any_of_one test o [] q there h = absurd (true≢false (sym there))
+any_of_one test o (r ∷ rs) q there h = elim (cases_Bool (eq_by_cmp placement_order.compare q r.0)) [
+  | inl here ↦ or_left _ _ (ap (λ x. test (o, x)) (sym (placement_order.exact q r.0 (equal _ here))) ∙ h)
+  | inr other ↦ or_right _ _ (any_of_one test o rs q (rw other at there) h)
+]
+
+any_of_rows : (test : Owner × Placement → Bool) (rows : List ((Name × Name) × Frame)) (k : Name × Name) (f : Frame) (q : Placement) → find owned.compare k rows ≡ Some f → IsTrue (contains f.placements q) → IsTrue (test (record { supplier = k.0; frame = k.1; node = f.node }, q)) → IsTrue (list_any test (flat_map entries_of rows))
+unfolding get
+any_of_rows test [] k f q there within h = cc
+any_of_rows test (row ∷ rows) k f q there within h =
+    list_any-append test (entries_of row) (flat_map entries_of rows)
+    ∙ elim (cases_Bool (eq_by_cmp owned.compare k row.0)) [
+      | inl here ↦
+          let same : row.1 ≡ f = same_some row.1 f (rw here at there) in
+          let key : k ≡ row.0 = owned.exact k row.0 (equal _ here) in
+          or_left _ _ (any_of_one test (record { supplier = row.0.0; frame = row.0.1; node = row.1.node }) row.1.placements.rows q
+          (ap (λ (g : Frame). contains g.placements q) same ∙ within)
+          (ap (λ (x : (Name × Name) × Name). test (record { supplier = x.0.0; frame = x.0.1; node = x.1 }, q)) (λ i. (sym key i, (same i).node)) ∙ h))
+      | inr other ↦ or_right _ _ (any_of_rows test rows k f q (rw other at there) within h)
+    ]
+
+pub any_placement : (test : Owner × Placement → Bool) (frames : Table owned Frame) (k : Name × Name) (f : Frame) (q : Placement) → get frames k ≡ Some f → IsTrue (contains f.placements q) → IsTrue (test (record { supplier = k.0; frame = k.1; node = f.node }, q)) → IsTrue (list_any test (placements_of frames))
+unfolding placements_of get
+any_placement test frames k f q there within h = any_of_rows test frames.rows k f q there within h

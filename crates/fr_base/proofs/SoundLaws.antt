@@ -67,12 +67,12 @@ opening-sound c form = record {
 
 -- ---- runs
 
-pub run-sound : (c : Cluster) (b last : Book) (asks : List Ask) (answers : List Answer) → IsSound c b → IsRun c b asks answers last → IsSound c last
-run-sound c b last [] [] sound run = subst (IsSound c) (sym run) sound
-run-sound c b last [] (answer ∷ answers) sound run = absurd run
-run-sound c b last (ask ∷ asks) [] sound run = absurd run
-run-sound c b last (ask ∷ asks) (answer ∷ answers) sound (inl lacking) = run-sound c b last asks answers sound lacking.2
-run-sound c b last (ask ∷ asks) (answer ∷ answers) sound (inr done) = run-sound c (step c b ask.actor ask.request).book last asks answers (step-sound c b sound ask.actor ask.request) done.1
+pub run-sound : (c : Cluster) (b last : Book) (asks : List Ask) (answers : List Answer) → IsWellFormed c → IsSound c b → IsRun c b asks answers last → IsSound c last
+run-sound c b last [] [] form sound run = subst (IsSound c) (sym run) sound
+run-sound c b last [] (answer ∷ answers) form sound run = absurd run
+run-sound c b last (ask ∷ asks) [] form sound run = absurd run
+run-sound c b last (ask ∷ asks) (answer ∷ answers) form sound (inl lacking) = run-sound c b last asks answers form sound lacking.2
+run-sound c b last (ask ∷ asks) (answer ∷ answers) form sound (inr done) = run-sound c (step c b ask.actor ask.request).book last asks answers form (step-sound c b sound form ask.actor ask.request) done.1
 
 -- ---- what is sent in a cell
 

@@ -1,10 +1,11 @@
--- Rows of a table after one was put in, and how many there are.
-use Rattle.std.proofs.Common.{◌≡◌, ◌≢◌, ℕ, ◌+◌, ◌≤◌, ◌<◌, Bool, true, false, cond, Option, Some, None, is_some, IsTrue, refl, sym, ap, subst, ◌∙◌, ◌⊎◌, inl, inr, arith, true≢false}
+-- Rows of a table after one was put in or taken out, and how many there are.
+use Rattle.std.proofs.Common.{◌≡◌, ◌≢◌, ℕ, ◌+◌, ◌≤◌, ◌<◌, Bool, true, false, cond, not, List, [], ◌∷◌, length, filter, Option, Some, None, is_some, IsTrue, refl, sym, ap, subst, ◌∙◌, ◌⊎◌, inl, inr, arith, true≢false}
 use Rattle.std.specs.Ordering.{is_eq, eq_by_cmp}
 use Rattle.std.specs.Cmp.{tied_itself}
 use Rattle.std.specs.FinMap.Entries.{length-put}
 use Rattle.std.proofs.lemmas.Bool.{cases_Bool}
-use Rattle.fr_base.specs.Tables.{Order, Table, get, contains, len, insert, only}
+use Rattle.std.proofs.lemmas.List.Sums.{length-filter, count_by-le-length}
+use Rattle.fr_base.specs.Tables.{Order, Table, get, contains, len, insert, only, remove}
 use Rattle.fr_base.proofs.TableLaws.{equal, get-insert, get-only, same_table, kept}
 
 pub same_some : {A : Type 0} (x y : A) → Some x ≡ Some y → x ≡ y
@@ -117,3 +118,41 @@ module _ {K V : Type 0} (o : Order K) (p : K → Bool) (t : Table o V) (k : K) (
         | inl passes ↦ subst (λ u. len u ≤ n) (sym (only-insert passes)) (len-within _ k v n few (elim (room passes) [ inl there ↦ inl (ap is_some (get-passing o p t k passes) ∙ there) | inr more ↦ inr more ]))
         | inr fails ↦ subst (λ u. len u ≤ n) (sym (only-insert_other fails)) few
       ]
+
+-- ---- a row is taken out
+
+filter_twice : {X : Type 0} (p q : X → Bool) (xs : List X) → length (filter p (filter q xs)) ≤ length (filter p xs)
+filter_twice p q [] = omega arith
+filter_twice p q (x ∷ xs) = by_tests (p x) (q x) refl (filter_twice p q xs)
+  where
+    by_tests : (a b : Bool) → p x ≡ a → length (filter p (filter q xs)) ≤ length (filter p xs) → length (filter p (cond b (x ∷ filter q xs) (filter q xs))) ≤ length (cond a (x ∷ filter p xs) (filter p xs))
+    by_tests true true e rest = rw e (omega (arith, rest))
+    by_tests false true e rest = rw e (rest)
+    by_tests true false e rest = omega (arith, rest)
+    by_tests false false e rest = rest
+
+module _ {K V : Type 0} (o : Order K) (t : Table o V) (k : K) where
+  -- what is left stood there before
+  pub remove-stood : (q : K) (v : V) → get (remove t k) q ≡ Some v → get t q ≡ Some v
+  unfolding remove
+  remove-stood q v e = only-stood o (λ j _. not (eq_by_cmp o.compare k j)) t q v e
+
+  pub contains-fewer : (q : K) → IsTrue (contains (remove t k) q) → IsTrue (contains t q)
+  contains-fewer q h = let there = value_of (get (remove t k) q) h in some_there (get t q) there.0 (remove-stood q there.0 there.1)
+
+  -- what stands at another key is left
+  pub get-remove_other : (q : K) → eq_by_cmp o.compare k q ≡ false → get (remove t k) q ≡ get t q
+  unfolding remove
+  get-remove_other q other = get-passing o (λ j. not (eq_by_cmp o.compare k j)) t q (ap not other)
+
+  -- there are no more rows than before
+  pub len-remove : (n : ℕ) → len t ≤ n → len (remove t k) ≤ n
+  unfolding len remove only
+  len-remove n few =
+      let passes : K × V → Bool = λ e. not (eq_by_cmp o.compare k e.0) in
+      omega (arith, few, length-filter passes t.rows, count_by-le-length passes t.rows)
+
+  -- nor more that pass a test
+  pub only-remove : (p : K → V → Bool) (n : ℕ) → len (only p t) ≤ n → len (only p (remove t k)) ≤ n
+  unfolding len remove only
+  only-remove p n few = omega (arith, few, filter_twice (λ e. p e.0 e.1) (λ e. not (eq_by_cmp o.compare k e.0)) t.rows)

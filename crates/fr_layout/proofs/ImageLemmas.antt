@@ -17,7 +17,8 @@ use Rattle.fr_layout.specs.Packing.{first_too_large, too_large, packed, unpacked
 use Rattle.fr_layout.specs.declared.pack_fault.PackFault.{PackFault}
 use Rattle.fr_layout.specs.declared.pack_fault.PackFault.TheVariants.{WrongCount, WrongLength, TooLarge}
 use Rattle.fr_layout.proofs.BitsLemmas.{image_bit_at, bit_at-from_bits, from_bits_all, length-bits_of}
-use Rattle.fr_layout.proofs.LayoutLemmas.{inside_below, position_none, none_of}
+use Rattle.fr_base.proofs.LayoutLaws.{none_of}
+use Rattle.fr_layout.proofs.LayoutLemmas.{inside_below, position_none}
 
 image_bit_below : (signals : List SignalData) (values : List ℕ) (p : ℕ) → image_bit signals values p < 2
 image_bit_below [] values p = omega arith

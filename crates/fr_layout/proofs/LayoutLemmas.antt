@@ -21,6 +21,7 @@ use Rattle.fr_base.specs.Bits.{bits_of, uses, entry_of}
 use Rattle.fr_base.specs.Layouts.{LayoutData, IsLayout, AreApart, lies_inside, has_signal, user_of, taken_at, first_taken, bit_taken, with_signal, add_signal, remove_signal}
 use Rattle.fr_base.specs.declared.refusal.Refusal.{Refusal}
 use Rattle.fr_base.specs.declared.refusal.Refusal.TheVariants.{Exists, Limit, NoSignal, OutOfPayload, BitTaken}
+use Rattle.fr_base.proofs.LayoutLaws.{is_some-user_of, AllPairs-tail, AllPairs-head, length-with_signal, none_of, taken_test, first_taken_is, with_signal-layout, filter-layout}
 use Rattle.fr_layout.specs.Kept.{IsKept, word_bit}
 use Rattle.fr_layout.proofs.BitsLemmas.{length-bits_of, uses_along, not_true}
 
@@ -54,36 +55,6 @@ uses_entry s p h =
     let found = any_at (bits_of s) p h in
     (found.0, omega (arith, length-bits_of s, found.1), found.2, found.3)
 
--- a signal has its start
-pub uses_start : (s : SignalData) → 1 ≤ s.length → uses s s.start ≡ true
-uses_start s h = uses_along s s.start ∙ grind (arith, nat_tests)
-
--- ---- who uses a bit
-
-pub is_some-find : {X : Type 0} (p : X → Bool) (xs : List X) → is_some (find p xs) ≡ list_any p xs
-is_some-find p [] = refl
-is_some-find p (x ∷ xs) = by_test (p x) (is_some-find p xs)
-  where
-    by_test : (b : Bool) → is_some (find p xs) ≡ list_any p xs → is_some (cond b (Some x) (find p xs)) ≡ (b || list_any p xs)
-    by_test true e = refl
-    by_test false e = e
-
-pub is_some-user_of : (signals : List SignalData) (p : ℕ) → is_some (user_of signals p) ≡ list_any (λ s. uses s p) signals
-is_some-user_of signals p = is_some-find (λ s. uses s p) signals
-
-pub none_of : {X : Type 0} (p : X → Bool) (xs : List X) → list_any p xs ≡ false → All (λ x. p x ≡ false) xs
-none_of p [] h k d within = absurd (omega arith)
-none_of p (x ∷ xs) h zero d within = first (p x) (list_any p xs) h
-  where
-    first : (a b : Bool) → (a || b) ≡ false → a ≡ false
-    first true b h = h
-    first false b h = refl
-none_of p (x ∷ xs) h (suc k) d within = none_of p xs (rest (p x) (list_any p xs) h) k d (omega arith)
-  where
-    rest : (a b : Bool) → (a || b) ≡ false → b ≡ false
-    rest true b h = cc
-    rest false b h = h
-
 -- the least number that passes
 find_from : (f : ℕ → Bool) (p a n : ℕ) → f p ≡ true → ((q : ℕ) → q < p → f q ≡ false) → a ≤ p → p < a + n → find f (range_with_len a n) ≡ Some p
 find_from f p a zero here before low high = absurd (omega arith)
@@ -101,58 +72,6 @@ find_least f p n h here before = find_from f p 0 n here before (omega arith) (om
 pub find_nothing : (f : ℕ → Bool) (a n : ℕ) → ((q : ℕ) → f q ≡ false) → find f (range_with_len a n) ≡ None
 find_nothing f a zero never = refl
 find_nothing f a (suc n) never = ap (λ b. cond b (Some a) (find f (range_with_len (a + 1) n))) (never a) ∙ find_nothing f (a + 1) n never
-
--- ---- what adding a signal keeps
-
-pub All-with : (P : SignalData → Type 0) (s : SignalData) (xs : List SignalData) → P s → All P xs → All P (with_signal s xs)
-All-with P s [] here all = All-cons P s [] here all
-All-with P s (t ∷ xs) here all = by_test (ltb s.start t.start) (All-with P s xs here (All-tail P t xs all))
-  where
-    by_test : (b : Bool) → All P (with_signal s xs) → All P (cond b (s ∷ t ∷ xs) (t ∷ with_signal s xs))
-    by_test true later = All-cons P s (t ∷ xs) here all
-    by_test false later = All-cons P t (with_signal s xs) (All-head P t xs all) later
-
-pub AllPairs-tail : {X : Type 0} (R : X → X → Type 0) (x : X) (xs : List X) → AllPairs R (x ∷ xs) → AllPairs R xs
-AllPairs-tail R x xs pairs i j d low high = pairs (suc i) (suc j) d (omega arith) (omega arith)
-
-pub AllPairs-head : {X : Type 0} (R : X → X → Type 0) (x : X) (xs : List X) → AllPairs R (x ∷ xs) → All (R x) xs
-AllPairs-head R x xs pairs k d h = pairs 0 (suc k) d (omega arith) (omega arith)
-
-pub AllPairs-with : (R : SignalData → SignalData → Type 0) (s : SignalData) (xs : List SignalData) → All (R s) xs → All (λ t. R t s) xs → AllPairs R xs → AllPairs R (with_signal s xs)
-AllPairs-with R s [] after before pairs = AllPairs-cons R s [] after pairs
-AllPairs-with R s (t ∷ xs) after before pairs =
-    by_test (ltb s.start t.start) (AllPairs-with R s xs (All-tail (R s) t xs after) (All-tail (λ u. R u s) t xs before) (AllPairs-tail R t xs pairs))
-  where
-    by_test : (b : Bool) → AllPairs R (with_signal s xs) → AllPairs R (cond b (s ∷ t ∷ xs) (t ∷ with_signal s xs))
-    by_test true later = AllPairs-cons R s (t ∷ xs) after pairs
-    by_test false later = AllPairs-cons R t (with_signal s xs) (All-with (R t) s xs (All-head (λ u. R u s) t xs before) (AllPairs-head R t xs pairs)) later
-
-abbrev pub Rises : SignalData → SignalData → Type 0
-Rises s t = s.start < t.start
-
-rises_later : (a b : ℕ) → ltb a b ≡ false → a ≢ b → b < a
-rises_later a b e n = grind (arith, nat_tests)
-
-pub rising-with : (s : SignalData) (xs : List SignalData) → All (λ t. s.start ≢ t.start) xs → AllPairs Rises xs → AllPairs Rises (with_signal s xs)
-rising-with s [] other pairs = AllPairs-cons Rises s [] (λ k d h. absurd (omega arith)) pairs
-rising-with s (t ∷ xs) other pairs =
-    by_test (ltb s.start t.start) refl (rising-with s xs (All-tail (λ u. s.start ≢ u.start) t xs other) (AllPairs-tail Rises t xs pairs))
-  where
-    by_test : (b : Bool) → ltb s.start t.start ≡ b → AllPairs Rises (with_signal s xs) → AllPairs Rises (cond b (s ∷ t ∷ xs) (t ∷ with_signal s xs))
-    by_test true e later =
-        let below : s.start < t.start = ltb-true s.start t.start e in
-        AllPairs-cons Rises s (t ∷ xs) (All-cons (Rises s) t xs below (All-weaker (Rises t) (Rises s) (λ u h. omega arith) xs (AllPairs-head Rises t xs pairs))) pairs
-    by_test false e later =
-        let below : t.start < s.start = rises_later s.start t.start e (All-head (λ u. s.start ≢ u.start) t xs other) in
-        AllPairs-cons Rises t (with_signal s xs) (All-with (Rises t) s xs below (AllPairs-head Rises t xs pairs)) later
-
-pub length-with_signal : (s : SignalData) (xs : List SignalData) → length (with_signal s xs) ≡ length xs + 1
-length-with_signal s [] = refl
-length-with_signal s (t ∷ xs) = by_test (ltb s.start t.start) (length-with_signal s xs)
-  where
-    by_test : (b : Bool) → length (with_signal s xs) ≡ length xs + 1 → length (cond b (s ∷ t ∷ xs) (t ∷ with_signal s xs)) ≡ length (t ∷ xs) + 1
-    by_test true later = omega arith
-    by_test false later = omega (arith, later)
 
 or_turned : (a b c : Bool) → (b || (a || c)) ≡ (a || (b || c))
 or_turned true true c = refl
@@ -286,13 +205,6 @@ admitted l s h =
 
 -- ---- the least bit that is taken
 
-taken_test : LayoutData → SignalData → ℕ → Bool
-taken_test l s p = uses s p && is_some (user_of l.signals p)
-
-first_taken_is : (l : LayoutData) (s : SignalData) → first_taken l s ≡ option_and_then (taken_at l.signals) (find (taken_test l s) (range_with_len 0 (16 * l.words)))
-unfolding first_taken taken_test
-first_taken_is l s = refl
-
 abbrev number : Bool → ℕ
 number b = cond b 1 0
 
@@ -339,67 +251,6 @@ has_user l used p kept bit none = same (sym (kept_bit l used p kept bit) ∙ ap 
 
 -- ---- a layout with one signal more
 
-find_passes : (f : ℕ → Bool) (xs : List ℕ) (q : ℕ) → find f xs ≡ Some q → f q ≡ true
-find_passes f [] q e = cc
-find_passes f (x ∷ xs) q e = by_test (f x) refl e (find_passes f xs q)
-  where
-    by_test : (b : Bool) → f x ≡ b → cond b (Some x) (find f xs) ≡ Some q → (find f xs ≡ Some q → f q ≡ true) → f q ≡ true
-    by_test true h e later = let same : x ≡ q = cc in ap f (sym same) ∙ h
-    by_test false h e later = later e
-
-find_none_all : (f : ℕ → Bool) (a n p : ℕ) → find f (range_with_len a n) ≡ None → a ≤ p → p < a + n → f p ≡ false
-find_none_all f a zero p e low high = absurd (omega arith)
-find_none_all f a (suc n) p e low high = by_test (f a) refl e (λ none less. find_none_all f (a + 1) n p none less (omega arith)) (eqb_tells a p)
-  where
-    by_test : (b : Bool) → f a ≡ b → cond b (Some a) (find f (range_with_len (a + 1) n)) ≡ None → (find f (range_with_len (a + 1) n) ≡ None → a + 1 ≤ p → f p ≡ false) →
-        ((eqb a p ≡ true) × (a ≡ p)) ⊎ ((eqb a p ≡ false) × (a ≢ p)) → f p ≡ false
-    by_test true h e later either = cc
-    by_test false h e later (inl same) = ap f (sym same.1) ∙ h
-    by_test false h e later (inr other) = later e (omega (arith, other.1))
-
-none_taken : (l : LayoutData) (s : SignalData) (o : Option ℕ) → ((q : ℕ) → o ≡ Some q → taken_test l s q ≡ true) → option_and_then (taken_at l.signals) o ≡ None → o ≡ None
-unfolding taken_test
-none_taken l s None passes e = refl
-none_taken l s (Some q) passes e = absurd (no_user (user_of l.signals q) (uses s q) (passes q refl) e)
-  where
-    named : SignalData → ℕ × List ℕ
-    named t = (q, t.name)
-
-    no_user : (u : Option SignalData) (b : Bool) → (b && is_some u) ≡ true → option_map named u ≡ None → ⊥
-    no_user None true h e = cc
-    no_user None false h e = cc
-    no_user (Some t) b h e = cc
-
-free_tests : (l : LayoutData) (s : SignalData) (p : ℕ) → first_taken l s ≡ None → p < 16 * l.words → taken_test l s p ≡ false
-free_tests l s p free below =
-    find_none_all (taken_test l s) 0 (16 * l.words) p
-    (none_taken l s (find (taken_test l s) (range_with_len 0 (16 * l.words))) (find_passes (taken_test l s) (range_with_len 0 (16 * l.words))) (sym (first_taken_is l s) ∙ free))
-    (omega arith) (omega arith)
-
-true-false : true ≡ false → ⊥
-true-false e = cc
-
--- a free signal shares no bit with the others
-free_apart : (l : LayoutData) (s : SignalData) → IsTrue (lies_inside l.words s) → first_taken l s ≡ None → All (AreApart s) l.signals
-unfolding taken_test
-free_apart l s inside free k d within p here there =
-    let entry = uses_entry s p here in
-    let below : p < 16 * l.words = omega (arith, entry.2, inside_below s l.words (16 * l.words) inside (omega arith) entry.0 0 (omega (arith, entry.1, length-bits_of s))) in
-    let user : is_some (user_of l.signals p) ≡ true = is_some-user_of l.signals p ∙ list_any_at (λ t. uses t p) l.signals k d within there in
-    true-false (sym (ap (λ b. b && is_some (user_of l.signals p)) here ∙ user) ∙ free_tests l s p free below)
-
-pub length_bounds : (n : ℕ) → IsTrue (is_signal_length n) → (1 ≤ n) × (n ≤ 64)
-length_bounds n h = (grind (arith, nat_tests), grind (arith, nat_tests))
-
-other_names : (l : LayoutData) (s : SignalData) → has_signal l.signals s.name ≡ false → All (λ t. t.name ≢ s.name) l.signals
-other_names l s fresh k d within e =
-    true-false (sym ((bytes_eq-Decides (get_or l.signals k d).name s.name).1 e) ∙ none_of (λ t. bytes_eq t.name s.name) l.signals fresh k d within)
-
-other_starts : (l : LayoutData) (s : SignalData) → IsLayout l → 1 ≤ s.length → All (AreApart s) l.signals → All (λ t. s.start ≢ t.start) l.signals
-other_starts l s sound long apart k d within same =
-    apart k d within s.start (uses_start s long)
-    (ap (uses (get_or l.signals k d)) same ∙ uses_start (get_or l.signals k d) (length_bounds (get_or l.signals k d).length (sound.lengths k d within)).0)
-
 ones_or : (a b : Bool) → cond a 1 (number b) ≡ number (a || b)
 ones_or true b = refl
 ones_or false b = refl
@@ -407,20 +258,8 @@ ones_or false b = refl
 pub kept_with : (l : LayoutData) (used new : List ℕ) (s : SignalData) → IsKept l used → Admitted l s → IsTrue (is_signal_length s.length) →
     ((p : ℕ) → word_bit new p ≡ cond (uses s p) 1 (word_bit used p)) → length new ≡ 127 → IsKept (extended l s) new
 kept_with l used new s kept passed long bits same =
-    let bounds = length_bounds s.length long in
-    let apart : All (AreApart s) l.signals = free_apart l s passed.inside passed.free in
-    let names : All (λ t. t.name ≢ s.name) l.signals = other_names l s passed.fresh in
-    let room : length l.signals < 64 = grind (arith, nat_tests, passed.room) in
     record {
-      sound = record {
-        words = kept.sound.words;
-        count = omega (arith, length-with_signal s l.signals, room);
-        lengths = All-with (λ t. IsTrue (is_signal_length t.length)) s l.signals long kept.sound.lengths;
-        inside = All-with (λ t. IsTrue (lies_inside l.words t)) s l.signals passed.inside kept.sound.inside;
-        apart = AllPairs-with AreApart s l.signals apart (λ k d within p there here. apart k d within p here there) kept.sound.apart;
-        names = AllPairs-with (λ t u. t.name ≢ u.name) s l.signals (λ k d within e. names k d within (sym e)) names kept.sound.names;
-        rising = rising-with s l.signals (other_starts l s kept.sound bounds.0 apart) kept.sound.rising;
-      };
+      sound = with_signal-layout l s kept.sound long passed.fresh (grind (arith, nat_tests, passed.room)) passed.inside passed.free;
       size = same;
       bits = λ p.
           bits p
@@ -486,17 +325,8 @@ pub kept_without : (l : LayoutData) (used new : List ℕ) (i : ℕ) (t : SignalD
 kept_without l used new i t kept within at bits same =
     let taken_out : filter (λ s. not (bytes_eq s.name t.name)) l.signals ≡ remove l.signals i = without_is l.signals i t.name t kept.sound.names within (ap (λ (s : SignalData). s.name) (sym at)) in
     let Sound : List SignalData → Type 0 = λ xs. IsLayout (record l { signals = xs }) in
-    let fewer : length (filter (λ s. not (bytes_eq s.name t.name)) l.signals) ≤ 64 = omega (arith, ap length taken_out, length-remove l.signals i within, kept.sound.count) in
     record {
-      sound = subst Sound taken_out (record {
-        words = kept.sound.words;
-        count = fewer;
-        lengths = All-filter (λ s. not (bytes_eq s.name t.name)) (λ s. IsTrue (is_signal_length s.length)) l.signals kept.sound.lengths;
-        inside = All-filter (λ s. not (bytes_eq s.name t.name)) (λ s. IsTrue (lies_inside l.words s)) l.signals kept.sound.inside;
-        apart = AllPairs-filter AreApart (λ s. not (bytes_eq s.name t.name)) l.signals kept.sound.apart;
-        names = AllPairs-filter (λ s u. s.name ≢ u.name) (λ s. not (bytes_eq s.name t.name)) l.signals kept.sound.names;
-        rising = AllPairs-filter Rises (λ s. not (bytes_eq s.name t.name)) l.signals kept.sound.rising;
-      });
+      sound = subst Sound taken_out (filter-layout l (λ s. not (bytes_eq s.name t.name)) kept.sound);
       size = same;
       bits = λ p.
           bits p
