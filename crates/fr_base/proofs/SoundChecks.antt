@@ -1,5 +1,5 @@
 -- What a request that passed its check has by its own texts and numbers.
-use Rattle.std.proofs.Common.{ℕ, ◌≤◌, ◌&&◌, List, Option, Some, None, IfOk, IsTrue, nat_le, leb-true, inl, inr}
+use Rattle.std.proofs.Common.{ℕ, ◌≤◌, ◌&&◌, List, IfOk, IsTrue, nat_le, leb-true, inl, inr}
 use Rattle.std.specs.Prelude.{⊤}
 use Rattle.std.specs.List.{list_all}
 use Rattle.std.proofs.lemmas.Bool.{cases_Bool, and_parts}

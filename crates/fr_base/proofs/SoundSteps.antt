@@ -11,7 +11,7 @@ use Rattle.fr_base.specs.Cells.{Cell}
 use Rattle.fr_base.specs.Checks.{check}
 use Rattle.fr_base.specs.Cluster.{Cluster}
 use Rattle.fr_base.specs.Names.{is_name}
-use Rattle.fr_base.specs.Book.{Holder, Frame, Variant, Book, Owner, empty_variant, held_by, held_by_node, granted, schedule_of}
+use Rattle.fr_base.specs.Book.{Holder, Frame, Variant, Book, Owner, held_by, held_by_node, granted, schedule_of}
 use Rattle.fr_base.specs.Signals.{SignalData, is_signal_length}
 use Rattle.fr_base.specs.Layouts as layouts
 use Rattle.fr_base.specs.Layouts.{LayoutData}

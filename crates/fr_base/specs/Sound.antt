@@ -1,8 +1,8 @@
 -- Sound books: every row's owner is there, grants and placements fit the cluster and each other, and the limits are kept.
-use Rattle.std.specs.Prelude.{◌≡◌, ℕ, ◌≤◌, Option, Some, IsTrue, IsOk, All, ⊤}
+use Rattle.std.specs.Prelude.{◌≡◌, ℕ, ◌≤◌, Some, IsTrue, All, ⊤}
 use Rattle.fr_base.specs.Limits.{max_suppliers, max_nodes, max_variants, max_depth, max_frames, max_placements}
 use Rattle.fr_base.specs.Tables.{Table, get, contains, len, only}
-use Rattle.fr_base.specs.Keys.{names, owned, channel_slots}
+use Rattle.fr_base.specs.Keys.{owned, channel_slots}
 use Rattle.fr_base.specs.Cells.{Cell, has_cell}
 use Rattle.fr_base.specs.Cycles.{cycle_count, is_cycle_set}
 use Rattle.fr_base.specs.Channels.{channels_in, has_channel}
