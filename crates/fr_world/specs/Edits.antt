@@ -1,0 +1,48 @@
+-- What an edit makes of a page.
+use Rattle.std.specs.Prelude.{◌≡◌, not, Bool, true, false, List, [], ◌∷◌, filter, Option, Some, None, IsTrue, IsFalse, ⊤}
+use Rattle.std.specs.Str.{bytes_eq}
+use Rattle.fr_base.specs.Tables.{get, contains, empty, insert, remove}
+use Rattle.fr_base.specs.Book.{Frame, Holder}
+use Rattle.fr_base.specs.Layouts.{with_signal}
+use Rattle.fr_base.specs.Step.{Page}
+use Rattle.fr_base.specs.declared.name.Name.{Name}
+use Rattle.fr_world.specs.declared.edit.Edit.{Edit}
+use Rattle.fr_world.specs.declared.edit.Edit.TheVariants.{NewVariant, SetReleased, NewNode, PutGrant, EndGrant, NewFrame, EndFrame, PutPlacement, EndPlacement, PutSignal, EndSignal}
+
+-- the page with one of its frames changed, if it has it
+abbrev pub change_at : Page → Name × Name → Option Frame → (Frame → Frame) → Page
+change_at page k None change = page
+change_at page k (Some frame) change = record page { frames = insert page.frames k (change frame) }
+
+abbrev pub change_frame : Page → Name × Name → (Frame → Frame) → Page
+change_frame page k change = change_at page k (get page.frames k) change
+
+-- the page after an edit of its supplier's rows
+unfoldable pub edited : Page → Edit → Page
+edited page (NewNode s n) = record page { nodes = insert page.nodes (s, n) tt }
+edited page (PutGrant v k c s n) = record page { grants = insert page.grants (k, c) (record { supplier = s; node = n }) }
+edited page (EndGrant v k c) = record page { grants = remove page.grants (k, c) }
+edited page (NewFrame v s f n) = record page { frames = insert page.frames (s, f) (record { node = n; placements = empty; signals = [] }) }
+edited page (EndFrame v s f) = record page { frames = remove page.frames (s, f) }
+edited page (PutPlacement v s f q) = change_frame page (s, f) (λ frame. record frame { placements = insert frame.placements q tt })
+edited page (EndPlacement v s f q) = change_frame page (s, f) (λ frame. record frame { placements = remove frame.placements q })
+edited page (PutSignal v s f x) = change_frame page (s, f) (λ frame. record frame { signals = with_signal x frame.signals })
+edited page (EndSignal v s f x) = change_frame page (s, f) (λ frame. record frame { signals = filter (λ t. not (bytes_eq t.name x)) frame.signals })
+edited page _ = page
+
+-- whether the edit releases the variant
+abbrev pub releases : Edit → Bool
+releases (SetReleased v) = true
+releases _ = false
+
+-- the supplier whose row it is, if it is one's
+abbrev pub supplier_of : Edit → Option Name
+supplier_of (NewNode s n) = Some s
+supplier_of (PutGrant v k c s n) = Some s
+supplier_of (NewFrame v s f n) = Some s
+supplier_of (EndFrame v s f) = Some s
+supplier_of (PutPlacement v s f q) = Some s
+supplier_of (EndPlacement v s f q) = Some s
+supplier_of (PutSignal v s f x) = Some s
+supplier_of (EndSignal v s f x) = Some s
+supplier_of _ = None

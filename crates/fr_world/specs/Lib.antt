@@ -1,0 +1,4 @@
+pub mod Maps
+pub mod Pages
+pub mod Decisions
+pub mod Edits

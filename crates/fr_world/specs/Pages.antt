@@ -1,0 +1,79 @@
+-- A supplier's rows of a variant, in maps and sets, as the register's page; and which rows a page has.
+use Rattle.std.specs.Prelude.{◌≡◌, ℕ, ◌≤◌, Bool, List, map, IsTrue, All, AllPairs, Option, Some}
+use Rattle.fr_base.specs.Limits.{max_nodes, max_frames, max_placements}
+use Rattle.fr_base.specs.Tables.{get, len}
+use Rattle.fr_base.specs.Keys.{owned, channel_slots, placement_order}
+use Rattle.fr_base.specs.Cells.{Cell, has_cell}
+use Rattle.fr_base.specs.Layouts.{LayoutData, IsLayout}
+use Rattle.fr_base.specs.Book as book
+use Rattle.fr_base.specs.Book.{Owner, granted, placements_of}
+use Rattle.fr_base.specs.Step.{Page, layout_of}
+use Rattle.fr_base.specs.Queries.{placements_in}
+use Rattle.fr_base.specs.Sound.{FitsCluster}
+use Rattle.fr_base.specs.declared.name.Name.{Name}
+use Rattle.fr_base.specs.declared.params.Params.{Params}
+use Rattle.fr_base.specs.declared.placement.Placement.{Placement}
+use Rattle.fr_world.specs.Maps.{table_of, set_of}
+use Rattle.fr_world.specs.declared.page.ChannelSlot.{ChannelSlot}
+use Rattle.fr_world.specs.declared.page.PageFrame.{PageFrame}
+
+-- a frame's rows
+pub record FrameData : Type 0 where
+  pub node : Name
+  pub placements : List Placement
+  pub layout : LayoutData
+
+-- a supplier's rows in a variant, each kind in the order of its keys
+pub record PageData : Type 0 where
+  pub params : Params
+  pub supplier : Name
+  pub variant : Name
+  pub released : Bool
+  pub nodes : List Name
+  pub grants : List (ChannelSlot × Name)
+  pub frames : List (Name × FrameData)
+
+abbrev pub frame_data : PageFrame → FrameData
+frame_data f = record { node = f.node; placements = f.placements.keys; layout = f.layout }
+
+abbrev pub frames_data : List (Name × PageFrame) → List (Name × FrameData)
+frames_data frames = map (λ e. (e.0, frame_data e.1)) frames
+
+abbrev pub frame_of : FrameData → book.Frame
+frame_of f = record { node = f.node; placements = set_of placement_order (λ q. q) f.placements; signals = f.layout.signals }
+
+abbrev pub holder_of : Name → Name → book.Holder
+holder_of s n = record { supplier = s; node = n }
+
+-- the register's page that the rows stand for
+abbrev pub page_of : PageData → Page
+page_of rows = record {
+  params = rows.params;
+  supplier = rows.supplier;
+  nodes = set_of owned (λ n. (rows.supplier, n)) rows.nodes;
+  grants = table_of channel_slots (λ k. (k.slot, k.channel)) (holder_of rows.supplier) rows.grants;
+  frames = table_of owned (λ f. (rows.supplier, f)) frame_of rows.frames;
+}
+
+-- no cell lies in both placements
+abbrev pub AreApart : Placement → Placement → Type 0
+AreApart q r = (c : Cell) → IsTrue (has_cell q c) → ¬ IsTrue (has_cell r c)
+
+-- a frame's placements are few, fit the cluster and lie in grants to its node, and its signals make a layout of the payload
+pub record IsPageFrame (page : Page) (f : book.Frame) : Type 0 where
+  pub few : len f.placements ≤ max_placements
+  pub fits : All (FitsCluster page.params) (placements_in f)
+  pub in_grants : All (λ q. IsTrue (granted page.grants page.supplier f.node q)) (placements_in f)
+  pub layout : IsLayout (layout_of page.params f)
+
+-- the limits are kept, each frame is in order, and no two placements share a cell
+pub record IsPage (page : Page) : Type 0 where
+  pub nodes : len page.nodes ≤ max_nodes
+  pub frames : len page.frames ≤ max_frames
+  pub each : (k : Name × Name) (f : book.Frame) → get page.frames k ≡ Some f → IsPageFrame page f
+  pub apart : AllPairs (λ x y. AreApart x.1 y.1) (placements_of page.frames)
+
+-- the rows are a page's, and each layout is that of the cluster's payload
+pub record IsKept (rows : PageData) : Type 0 where
+  pub page : IsPage (page_of rows)
+  pub words : All (λ e. e.1.layout.words ≡ rows.params.payload_words) rows.frames

@@ -1,0 +1,70 @@
+use fr_base::{Channel, Name, Placement, Signal, Slot};
+
+/// A change of one row, with the row's key and, where it adds the row, all of it.
+#[derive(Clone, Copy, Debug, PartialEq, Eq)]
+pub enum Edit {
+    /// A variant, empty or with all rows of its parent. One without a parent has depth 1, another one
+    /// more than its parent.
+    NewVariant {
+        variant: Name,
+        parent: Option<Name>,
+        depth: u32,
+    },
+    /// The variant is released.
+    SetReleased {
+        variant: Name,
+    },
+    NewNode {
+        supplier: Name,
+        node: Name,
+    },
+    PutGrant {
+        variant: Name,
+        slot: Slot,
+        channel: Channel,
+        supplier: Name,
+        node: Name,
+    },
+    EndGrant {
+        variant: Name,
+        slot: Slot,
+        channel: Channel,
+    },
+    /// A frame without placements and signals.
+    NewFrame {
+        variant: Name,
+        supplier: Name,
+        frame: Name,
+        node: Name,
+    },
+    /// The frame goes, with its placements and signals.
+    EndFrame {
+        variant: Name,
+        supplier: Name,
+        frame: Name,
+    },
+    PutPlacement {
+        variant: Name,
+        supplier: Name,
+        frame: Name,
+        placement: Placement,
+    },
+    EndPlacement {
+        variant: Name,
+        supplier: Name,
+        frame: Name,
+        placement: Placement,
+    },
+    PutSignal {
+        variant: Name,
+        supplier: Name,
+        frame: Name,
+        signal: Signal,
+    },
+    EndSignal {
+        variant: Name,
+        supplier: Name,
+        frame: Name,
+        signal: Name,
+    },
+}
