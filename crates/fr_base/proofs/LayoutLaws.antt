@@ -1,5 +1,5 @@
 -- Laws of layouts: a layout stays one where a signal is added or removed.
-use Rattle.std.proofs.Common.{◌≡◌, ◌≢◌, ℕ, suc, zero, ◌+◌, ◌*◌, ◌<◌, ◌≤◌, Bool, true, false, not, ◌&&◌, ◌||◌, List, [], ◌∷◌, length, filter, get_or, Option, Some, None, is_some, Ok, IfOk, refl, sym, ◌∙◌, ap, arith, eqb, ltb, leb, cond, inl, inr, ◌⊎◌, All, AllPairs, IsTrue, reverse, subst, true≢false, leb-false}
+use Rattle.std.proofs.Common.{◌≡◌, ◌≢◌, ℕ, suc, zero, ◌+◌, ◌*◌, ◌<◌, ◌≤◌, Bool, true, false, not, ◌&&◌, ◌||◌, List, [], ◌∷◌, length, filter, get_or, Option, Some, None, is_some, Ok, IfOk, refl, sym, ◌∙◌, ap, arith, eqb, ltb, cond, inl, inr, ◌⊎◌, All, AllPairs, IsTrue, reverse, subst, true≢false, leb-false}
 use Rattle.std.specs.Prelude.{⊤}
 use Rattle.std.specs.List.{list_any, list_all, range_with_len, find}
 use Rattle.std.specs.Option.{option_map, option_and_then}
@@ -189,7 +189,19 @@ other_starts l s sound long apart k d within same =
     apart k d within s.start (uses_start s long)
     (ap (uses (get_or l.signals k d)) same ∙ uses_start (get_or l.signals k d) (length_bounds (get_or l.signals k d).length (sound.lengths k d within)).0)
 
--- ---- a layout with one signal more or less
+-- ---- no signals, one signal more, or fewer
+
+-- no signals make a layout
+pub empty-layout : (words : ℕ) → words ≤ 127 → IsLayout (record { words = words; signals = [] })
+empty-layout words few = record {
+  words = few;
+  count = omega arith;
+  lengths = λ k d h. absurd (omega arith);
+  inside = λ k d h. absurd (omega arith);
+  apart = λ i j d h below. absurd (omega arith);
+  names = λ i j d h below. absurd (omega arith);
+  rising = λ i j d h below. absurd (omega arith);
+}
 
 pub with_signal-layout : (l : LayoutData) (s : SignalData) → IsLayout l → IsTrue (is_signal_length s.length) → has_signal l.signals s.name ≡ false → length l.signals < max_signals → IsTrue (lies_inside l.words s) → first_taken l s ≡ None →
     IsLayout (record l { signals = with_signal s l.signals })
@@ -232,10 +244,10 @@ IsLayoutOf P l signals = IsLayout (record l { signals = signals }) × All P sign
 pub add_signal-layout : (P : SignalData → Type 0) (l : LayoutData) (s : SignalData) → IsLayoutOf P l l.signals → IsTrue (is_signal_length s.length) → P s → IfOk (add_signal l s) (λ m. IsLayoutOf P l m.signals)
 unfolding add_signal
 add_signal-layout P l s sound long has =
-    gives_when _ _ (has_signal l.signals s.name) _ (λ fresh.
-    gives_when _ _ (leb max_signals (length l.signals)) _ (λ room.
-    gives_unless _ _ (lies_inside l.words s) _ (λ inside.
-    gives_then _ (bit_taken (first_taken l s)) _ (λ x free.
+    gives_when _ _ _ _ (λ fresh.
+    gives_when _ _ _ _ (λ room.
+    gives_unless _ _ _ _ (λ inside.
+    gives_then (λ m. IsLayoutOf P l m.signals) (bit_taken (first_taken l s)) _ (λ x free.
     (with_signal-layout l s sound.0 long fresh (leb-false _ _ room) inside (none_bit (first_taken l s) x free), All-with P s l.signals has sound.1)))))
 
 -- and with a signal less

@@ -1,5 +1,5 @@
 -- A frame added to a sound variant, a placement to a frame whose cells are free, a placement taken back, and other signals.
-use Rattle.std.proofs.Common.{◌≡◌, ℕ, ◌<◌, ◌≤◌, List, [], All, Some, None, IsTrue, sym, subst, ◌∙◌, inl, inr, arith}
+use Rattle.std.proofs.Common.{◌≡◌, ◌<◌, ◌≤◌, List, [], All, Some, None, IsTrue, sym, subst, ◌∙◌, inl, inr, arith}
 use Rattle.std.specs.Prelude.{⊤}
 use Rattle.fr_base.specs.Tables.{Table, empty, get, contains, len, insert, only, remove}
 use Rattle.fr_base.specs.Limits.{max_frames, max_placements}
@@ -15,6 +15,7 @@ use Rattle.fr_base.specs.Sound.{FitsCluster, IsSoundFrame, IsSoundVariant}
 use Rattle.fr_base.specs.declared.name.Name.{Name}
 use Rattle.fr_base.specs.declared.params.Params.{Params}
 use Rattle.fr_base.specs.declared.placement.Placement.{Placement}
+use Rattle.fr_base.proofs.LayoutLaws.{empty-layout}
 use Rattle.fr_base.proofs.SoundTables.{some_there, contains-cases, len-within, contains-fewer, len-remove}
 use Rattle.fr_base.proofs.SoundCells.{free_cells}
 use Rattle.fr_base.proofs.SoundRows.{IsApart, more_frames-sound, lesser_frame-sound}
@@ -23,18 +24,6 @@ use Rattle.fr_base.proofs.SoundRows.{IsApart, more_frames-sound, lesser_frame-so
 
 new_frame : Name → Frame
 new_frame n = record { node = n; placements = empty; signals = [] }
-
--- no signals make a layout
-pub empty-layout : (words : ℕ) → words ≤ 127 → IsLayout (record { words = words; signals = [] })
-empty-layout words few = record {
-  words = few;
-  count = omega arith;
-  lengths = λ k d h. absurd (omega arith);
-  inside = λ k d h. absurd (omega arith);
-  apart = λ i j d h below. absurd (omega arith);
-  names = λ i j d h below. absurd (omega arith);
-  rising = λ i j d h below. absurd (omega arith);
-}
 
 module _ (p : Params) (nodes : Table owned ⊤) (v : Variant) (sound : IsSoundVariant p nodes v) (k : Name × Name) (n : Name) where
   new_frame-sound : p.payload_words ≤ 127 → IsTrue (is_name k.1) → IsTrue (contains nodes (k.0, n)) → IsSoundFrame p nodes v.grants k (new_frame n)

@@ -1,5 +1,5 @@
 -- Each command, and each request, leaves a sound book sound.
-use Rattle.std.proofs.Common.{◌≡◌, ℕ, suc, ◌≤◌, true, false, Option, Some, None, is_some, Result, Ok, Err, IfOk, IsTrue, ltb, refl, sym, ap, subst, ◌∙◌, inr, arith, leb-false, ltb-false}
+use Rattle.std.proofs.Common.{◌≡◌, ℕ, suc, ◌≤◌, true, false, Option, Some, None, is_some, Result, Ok, Err, IfOk, IsTrue, refl, sym, ap, ◌∙◌, inr, arith, leb-false}
 use Rattle.std.specs.Prelude.{⊤}
 use Rattle.std.specs.Ordering.{is_eq}
 use Rattle.std.specs.Cmp.{tied_itself}
@@ -16,14 +16,12 @@ use Rattle.fr_base.specs.Signals.{SignalData, is_signal_length}
 use Rattle.fr_base.specs.Layouts as layouts
 use Rattle.fr_base.specs.Layouts.{LayoutData}
 use Rattle.fr_base.specs.Laws.{IsWellFormed}
-use Rattle.fr_base.specs.Parameters.{check_params}
 use Rattle.fr_base.specs.Queries.{reply}
 use Rattle.fr_base.specs.Refusing.{◌>>=◌}
 use Rattle.fr_base.specs.Step.{Page, Filled, Outcome, is_of, page_of, cell_taken, layout_of, begun, open_variant, release, add_node, grant, revoke, add_frame, drop_frame, place, unplace, add_signal, drop_signal, on_frame, by_integrator, by_supplier, change, act, outcome, step, knows}
 use Rattle.fr_base.specs.Sound.{HasChannelSlot, FitsCluster, IsSoundVariant, IsSound}
 use Rattle.fr_base.specs.declared.channel.Channel.{Channel}
 use Rattle.fr_base.specs.declared.name.Name.{Name}
-use Rattle.fr_base.specs.declared.params.Params.{Params}
 use Rattle.fr_base.specs.declared.placement.Placement.{Placement}
 use Rattle.fr_base.specs.declared.refusal.Refusal.{Refusal}
 use Rattle.fr_base.specs.declared.request.Actor.{Actor}
@@ -34,6 +32,7 @@ use Rattle.fr_base.specs.declared.request.Command.TheVariants.{OpenVariant, Rele
 use Rattle.fr_base.specs.declared.request.Checked.{Checked}
 use Rattle.fr_base.specs.declared.request.Checked.TheVariants as checked
 use Rattle.fr_base.proofs.LayoutLaws.{IsLayoutOf, add_signal-layout, remove_signal-layout}
+use Rattle.fr_base.proofs.ParametersLaws.{few_words}
 use Rattle.fr_base.proofs.SoundTables.{only-stood, get-passing}
 use Rattle.fr_base.proofs.SoundRows.{holder-is, all_more, more_grants-sound, empty_variant-sound, marked-sound, revoked-sound, dropped-sound, with_variant-sound, changed-sound, more_nodes-sound}
 use Rattle.fr_base.proofs.SoundFrames.{added_variant-sound, placed_variant-sound, unplaced_variant-sound, signals_variant-sound}
@@ -61,18 +60,6 @@ not_taken : (r : Option (Cell × Owner)) (x : ⊤) → cell_taken r ≡ Ok x →
 unfolding cell_taken
 not_taken None x e = refl
 not_taken (Some taken) x e = cc
-
--- the payload of a cluster has at most 127 words
-payload_words-few : (p : Params) → IfOk (check_params p) (λ _. p.payload_words ≤ 127)
-unfolding check_params
-payload_words-few p =
-    gives_when _ _ _ _ (λ _.
-    gives_when _ _ (ltb 127 p.payload_words) _ (λ few.
-    gives_when _ _ _ _ (λ _.
-    gives_when _ _ _ _ (λ _. ltb-false 127 p.payload_words few))))
-
-payload_few : (p : Params) → check_params p ≡ Ok p → p.payload_words ≤ 127
-payload_few p form = subst (λ r. IfOk r (λ _. p.payload_words ≤ 127)) form (payload_words-few p)
 
 abbrev HasName : SignalData → Type 0
 HasName s = IsTrue (is_name s.name)
@@ -259,4 +246,4 @@ module _ (c : Cluster) (b : Book) (sound : IsSound c b) where
   step-sound form actor request = outcome-sound _ (
       gives_unless _ _ (knows b actor) _ (λ _.
       gives_bind _ _ (check c.params actor request) _ (check-form c.params actor request) (λ what h.
-      act-sound (payload_few c.params form.params) actor what h)))
+      act-sound (few_words c.params form.params) actor what h)))

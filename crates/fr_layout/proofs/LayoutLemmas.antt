@@ -8,12 +8,10 @@ use Rattle.std.proofs.lemmas.Bool.{ltb-true, lt-ltb}
 use Rattle.std.proofs.lemmas.Bool.Decides.{nat_tests, Decides-eqb, eqb_tells, leb_tells}
 use Rattle.std.proofs.lemmas.Nat.{le-div, div_below}
 use Rattle.std.proofs.lemmas.List.Sums.{AllPass-from_list_all, prefix_len-le-length}
-use Rattle.std.proofs.lemmas.List.Elements.{All-cons, All-head, All-tail, All-filter, All-weaker}
+use Rattle.std.proofs.lemmas.List.Elements.{All-head, All-tail}
 use Rattle.std.proofs.lemmas.List.{length-replicate}
-use Rattle.std.proofs.lemmas.List.Edits.{length-remove}
 use Rattle.std.proofs.lemmas.List.Folds.{list_any_at, list_any_none}
 use Rattle.std.proofs.lemmas.Nat.Bits.{bit_at-zero}
-use Rattle.std.proofs.lemmas.List.Kept.{AllPairs-cons, AllPairs-filter}
 use Rattle.std.proofs.lemmas.Slice.Eq.{bytes_eq-Decides}
 use Rattle.fr_base.specs.Refusing.{◌>>=◌, ◌>>◌, refuse◌when◌}
 use Rattle.fr_base.specs.Signals.{SignalData, is_signal_length}
@@ -21,9 +19,9 @@ use Rattle.fr_base.specs.Bits.{bits_of, uses, entry_of}
 use Rattle.fr_base.specs.Layouts.{LayoutData, IsLayout, AreApart, lies_inside, has_signal, user_of, taken_at, first_taken, bit_taken, with_signal, add_signal, remove_signal}
 use Rattle.fr_base.specs.declared.refusal.Refusal.{Refusal}
 use Rattle.fr_base.specs.declared.refusal.Refusal.TheVariants.{Exists, Limit, NoSignal, OutOfPayload, BitTaken}
-use Rattle.fr_base.proofs.LayoutLaws.{is_some-user_of, AllPairs-tail, AllPairs-head, length-with_signal, none_of, taken_test, first_taken_is, with_signal-layout, filter-layout}
+use Rattle.fr_base.proofs.LayoutLaws.{is_some-user_of, AllPairs-tail, AllPairs-head, taken_test, first_taken_is, empty-layout, with_signal-layout, filter-layout}
 use Rattle.fr_layout.specs.Kept.{IsKept, word_bit}
-use Rattle.fr_layout.proofs.BitsLemmas.{length-bits_of, uses_along, not_true}
+use Rattle.fr_layout.proofs.BitsLemmas.{length-bits_of, not_true}
 
 pub either : (b : Bool) → (b ≡ true) ⊎ (b ≡ false)
 either true = inl refl
@@ -394,15 +392,7 @@ pub kept_empty : (words : ℕ) (items : List SignalData) (used : List ℕ) → w
 kept_empty words items used small none all_zero =
     let Kept : List SignalData → List ℕ → Type 0 = λ xs used. IsKept (record { words = words; signals = xs }) used in
     subst (λ xs. Kept xs used) (sym none) (subst (Kept []) (sym all_zero) (record {
-      sound = record {
-        words = small;
-        count = omega arith;
-        lengths = λ k d h. absurd (omega arith);
-        inside = λ k d h. absurd (omega arith);
-        apart = λ i j d h below. absurd (omega arith);
-        names = λ i j d h below. absurd (omega arith);
-        rising = λ i j d h below. absurd (omega arith);
-      };
+      sound = empty-layout words small;
       size = length-replicate {A = ℕ} 127 0;
       bits = word_bit-zeros 127;
     }))
