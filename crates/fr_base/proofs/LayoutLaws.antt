@@ -244,11 +244,13 @@ IsLayoutOf P l signals = IsLayout (record l { signals = signals }) × All P sign
 pub add_signal-layout : (P : SignalData → Type 0) (l : LayoutData) (s : SignalData) → IsLayoutOf P l l.signals → IsTrue (is_signal_length s.length) → P s → IfOk (add_signal l s) (λ m. IsLayoutOf P l m.signals)
 unfolding add_signal
 add_signal-layout P l s sound long has =
+    let more : has_signal l.signals s.name ≡ false → length l.signals < max_signals → IsTrue (lies_inside l.words s) → first_taken l s ≡ None → IsLayoutOf P l (with_signal s l.signals) =
+    λ fresh room inside free. (with_signal-layout l s sound.0 long fresh room inside free, All-with P s l.signals has sound.1) in
     gives_when _ _ _ _ (λ fresh.
     gives_when _ _ _ _ (λ room.
     gives_unless _ _ _ _ (λ inside.
-    gives_then (λ m. IsLayoutOf P l m.signals) (bit_taken (first_taken l s)) _ (λ x free.
-    (with_signal-layout l s sound.0 long fresh (leb-false _ _ room) inside (none_bit (first_taken l s) x free), All-with P s l.signals has sound.1)))))
+    gives_then _ _ _ (λ x free.
+    more fresh (leb-false _ _ room) inside (none_bit _ x free)))))
 
 -- and with a signal less
 pub remove_signal-layout : (P : SignalData → Type 0) (l : LayoutData) (name : List ℕ) → IsLayoutOf P l l.signals → IfOk (remove_signal l name) (λ m. IsLayoutOf P l m.signals)
