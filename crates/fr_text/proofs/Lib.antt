@@ -1,0 +1,5 @@
+pub mod ClusterFileLemmas
+pub mod FieldsLemmas
+pub mod WordsLemmas
+pub mod ReportLemmas
+pub mod AnswerTextLemmas
