@@ -64,7 +64,7 @@ plain_lines-nil = refl
 pub marked-more : {R : Type 0} (mark : List ℕ) (first : Bool → R → List ℕ) (others : Bool → R → List (List ℕ)) (all : Bool) (rows : List R) (i : ℕ) (row : R)
     → i < length rows → row ≡ get_or rows i row
     → marked mark (lines_in first others all (take (i + 1) rows))
-      ≡ marked mark (lines_in first others all (take i rows)) ++ (mark ++ joined mark (first all row ∷ others all row))
+    ≡ marked mark (lines_in first others all (take i rows)) ++ (mark ++ joined mark (first all row ∷ others all row))
 marked-more {R = R} mark first others all rows i row within read =
     let lines : R → List (List ℕ) = λ r. first all r ∷ others all r in
     let one_more : take (i + 1) rows ≡ take i rows ++ (row ∷ []) = take_more rows i row within ∙ ap (λ r. take i rows ++ (r ∷ [])) (sym read) in
@@ -86,17 +86,17 @@ puts_row mark first others all rows i row old front one new within read before e
 -- the lines of a first row and of the others are set by the marks of the style
 pub set_in-rows : {R : Type 0} (style : Style) (first : Bool → R → List ℕ) (others : Bool → R → List (List ℕ)) (all : Bool) (row : R) (rows : List R)
     → before_mark style ++ (joined (between_mark style) (first all row ∷ others all row)
-      ++ (marked (between_mark style) (lines_in first others all rows) ++ after_mark style))
-      ≡ set_in style (lines_in first others all (row ∷ rows))
+    ++ (marked (between_mark style) (lines_in first others all rows) ++ after_mark style))
+    ≡ set_in style (lines_in first others all (row ∷ rows))
 set_in-rows style first others all row rows =
     let mark = between_mark style in
     let behind = lines_in first others all rows in
     ap (λ text. before_mark style ++ text)
-        (sym (append_assoc (joined mark (first all row ∷ others all row)) (marked mark behind) (after_mark style))
-        ∙ ap (λ text. text ++ after_mark style)
-            (ap (λ text. text ++ marked mark behind) (joined-cons mark (first all row) (others all row))
-            ∙ append_assoc (first all row) (marked mark (others all row)) (marked mark behind)
-            ∙ ap (λ text. first all row ++ text) (sym (marked-append mark (others all row) behind))))
+    (sym (append_assoc (joined mark (first all row ∷ others all row)) (marked mark behind) (after_mark style))
+    ∙ ap (λ text. text ++ after_mark style)
+    (ap (λ text. text ++ marked mark behind) (joined-cons mark (first all row) (others all row))
+    ∙ append_assoc (first all row) (marked mark (others all row)) (marked mark behind)
+    ∙ ap (λ text. first all row ++ text) (sym (marked-append mark (others all row) behind))))
     ∙ framed style (first all row) (others all row ++ behind)
 
 -- so what is written piece by piece is the rows' lines

@@ -10,13 +10,12 @@ mod grants;
 mod layout;
 mod schedule;
 
-pub use gaps::write_gaps;
-pub use layout::write_layout;
-pub use schedule::write_schedule;
-
 use crate::style::Style;
 use crate::words::push;
 use fr_base::Answer;
+pub use gaps::write_gaps;
+pub use layout::write_layout;
+pub use schedule::write_schedule;
 use std::alloc::{AllocError, Global};
 
 /// A row of a report, which makes a line, or more.

@@ -3,8 +3,8 @@ use crate::{
     write_schedule,
 };
 use fr_base::{
-    Answer, Channel, Channels, CycleSet, FrameRow, GapRow, GrantRow, Name, Order, Placement, Refusal,
-    Rows, Sending, Signal, SignalRow, Slot,
+    Answer, Channel, Channels, CycleSet, FrameRow, GapRow, GrantRow, Name, Order, Placement,
+    Refusal, Rows, Sending, Signal, SignalRow, Slot,
 };
 use std::alloc::Global;
 use std::test::Fail;
@@ -181,8 +181,14 @@ fn writes_each_report(rt: HostRuntime) -> Result<(), Fail> {
         ),
     ];
     for (answer, json, lines) in &answers {
-        assert!(rt; write_answer(alloc, answer)?.as_slice() == json.as_bytes(), "{json}");
-        assert!(rt; write_lines(alloc, answer)?.as_slice() == lines.as_bytes(), "{lines}");
+        assert!(rt;
+            write_answer(alloc, answer)?.as_slice() == json.as_bytes(),
+            "{json}"
+        );
+        assert!(rt;
+            write_lines(alloc, answer)?.as_slice() == lines.as_bytes(),
+            "{lines}"
+        );
         // Each writer of one report alone writes that one.
         let (scheduled, gapped, laid) = match answer {
             Answer::Schedule { .. } => (*lines, "", ""),
@@ -190,9 +196,18 @@ fn writes_each_report(rt: HostRuntime) -> Result<(), Fail> {
             Answer::Layout { .. } => ("", "", *lines),
             _ => ("", "", ""),
         };
-        assert!(rt; write_schedule(alloc, answer)?.as_slice() == scheduled.as_bytes(), "{json}");
-        assert!(rt; write_gaps(alloc, answer)?.as_slice() == gapped.as_bytes(), "{json}");
-        assert!(rt; write_layout(alloc, answer)?.as_slice() == laid.as_bytes(), "{json}");
+        assert!(rt;
+            write_schedule(alloc, answer)?.as_slice() == scheduled.as_bytes(),
+            "{json}"
+        );
+        assert!(rt;
+            write_gaps(alloc, answer)?.as_slice() == gapped.as_bytes(),
+            "{json}"
+        );
+        assert!(rt;
+            write_layout(alloc, answer)?.as_slice() == laid.as_bytes(),
+            "{json}"
+        );
     }
     Ok(())
 }
@@ -276,7 +291,10 @@ fn layout_and_text_calls_succeed(rt: HostRuntime) -> Result<(), Fail> {
     assert_eq!(rt; write_answer(alloc, &layout)?.len(), 82);
     assert_eq!(rt; write_lines(alloc, &layout)?.len(), 51);
     assert_eq!(rt; write_layout(alloc, &layout)?.len(), 51);
-    assert_eq!(rt; write_schedule(alloc, &schedule(alloc, true, &[(0, 1, Channel::A)])?)?.len(), 19);
+    assert_eq!(rt;
+        write_schedule(alloc, &schedule(alloc, true, &[(0, 1, Channel::A)])?)?.len(),
+        19
+    );
     assert_eq!(rt; write_gaps(alloc, &gaps(alloc, true)?)?.len(), 93);
     let mut out = Vec::new(alloc);
     append_answer(&Answer::Done, &mut out)?;

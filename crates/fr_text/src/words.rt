@@ -26,11 +26,7 @@ pub(crate) fn push_word(word: &[u8], out: &mut Vec<u8>) -> Result<(), AllocError
 /// Appends a space and the supplier's name, where all is shown. An error leaves the old bytes in
 /// front.
 #[tactic(auto, using(crate::proofs::WordsLemmas::extending))]
-pub(crate) fn push_supplier(
-    all: bool,
-    supplier: &Name,
-    out: &mut Vec<u8>,
-) -> Result<(), AllocError>
+pub(crate) fn push_supplier(all: bool, supplier: &Name, out: &mut Vec<u8>) -> Result<(), AllocError>
     ensures ok { OnOk result (out.new.items ≡ out.old.items ++ behind (shown_to all supplier.now)) }
     ensures err { OnErr result (Extends out.old.items out.new.items) }
 {
@@ -72,11 +68,7 @@ pub(crate) fn push_decimal(number: u32, out: &mut Vec<u8>) -> Result<(), AllocEr
 /// Appends the number in decimal digits, at the right of so many places, with spaces before it. An
 /// error leaves the old bytes in front.
 #[tactic(auto, using(crate::proofs::WordsLemmas::extending))]
-pub(crate) fn push_right(
-    number: u32,
-    places: usize,
-    out: &mut Vec<u8>,
-) -> Result<(), AllocError>
+pub(crate) fn push_right(number: u32, places: usize, out: &mut Vec<u8>) -> Result<(), AllocError>
     ensures ok { OnOk result (out.new.items ≡ out.old.items ++ right_in places (decimal number)) }
     ensures err { OnErr result (Extends out.old.items out.new.items) }
 {

@@ -42,7 +42,10 @@ pub(super) fn add_node(alloc: Global, fields: &Fields) -> Result<Request, Refusa
 pub(super) fn grant(alloc: Global, fields: &Fields) -> Result<Request, Refusal>
     ensures { Reads (λ request. request) (grant (fields_in fields.now)) result }
 {
-    allow_only(fields, &["do", "variant", "slot", "channel", "supplier", "node"])?;
+    allow_only(
+        fields,
+        &["do", "variant", "slot", "channel", "supplier", "node"],
+    )?;
     Ok(Request::Grant {
         variant: copy_text(alloc, fields, "variant")?,
         slot: number_in(fields, "slot")?,

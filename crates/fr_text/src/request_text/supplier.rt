@@ -33,7 +33,18 @@ pub(super) fn drop_frame(alloc: Global, fields: &Fields) -> Result<Request, Refu
 pub(super) fn place(alloc: Global, fields: &Fields) -> Result<Request, Refusal>
     ensures { Reads (λ request. request) (place (fields_in fields.now)) result }
 {
-    allow_only(fields, &["do", "variant", "frame", "slot", "channels", "base", "repetition"])?;
+    allow_only(
+        fields,
+        &[
+            "do",
+            "variant",
+            "frame",
+            "slot",
+            "channels",
+            "base",
+            "repetition",
+        ],
+    )?;
     Ok(Request::Place {
         variant: copy_text(alloc, fields, "variant")?,
         frame: copy_text(alloc, fields, "frame")?,
@@ -48,7 +59,18 @@ pub(super) fn place(alloc: Global, fields: &Fields) -> Result<Request, Refusal>
 pub(super) fn unplace(alloc: Global, fields: &Fields) -> Result<Request, Refusal>
     ensures { Reads (λ request. request) (unplace (fields_in fields.now)) result }
 {
-    allow_only(fields, &["do", "variant", "frame", "slot", "channels", "base", "repetition"])?;
+    allow_only(
+        fields,
+        &[
+            "do",
+            "variant",
+            "frame",
+            "slot",
+            "channels",
+            "base",
+            "repetition",
+        ],
+    )?;
     Ok(Request::Unplace {
         variant: copy_text(alloc, fields, "variant")?,
         frame: copy_text(alloc, fields, "frame")?,
@@ -63,7 +85,12 @@ pub(super) fn unplace(alloc: Global, fields: &Fields) -> Result<Request, Refusal
 pub(super) fn add_signal(alloc: Global, fields: &Fields) -> Result<Request, Refusal>
     ensures { Reads (λ request. request) (add_signal (fields_in fields.now)) result }
 {
-    allow_only(fields, &["do", "variant", "frame", "signal", "start", "length", "order"])?;
+    allow_only(
+        fields,
+        &[
+            "do", "variant", "frame", "signal", "start", "length", "order",
+        ],
+    )?;
     Ok(Request::AddSignal {
         variant: copy_text(alloc, fields, "variant")?,
         frame: copy_text(alloc, fields, "frame")?,

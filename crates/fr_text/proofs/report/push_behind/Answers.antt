@@ -11,6 +11,6 @@ returns-in_err-push-2-clause-err g c =
 pub loop-row-preserved : goal.loop-row-preserved
 loop-row-preserved g c =
     let text = puts_row c.args.mark.now g.R.Row.first g.R.Row.others c.args.all c.args.rows.now c.loop-row.row-index c.row-item.result
-        c.args.out.now.items c.loop-row.out.items c.push.new.out.items _ c.loop-row-test.true c.row-item.is
-        c.loop-row.invariant.text c.in_ok-push.ensures.ok c.in_ok-push-2.ensures.ok in
+    c.args.out.now.items c.loop-row.out.items c.push.new.out.items _ c.loop-row-test.true c.row-item.is
+    c.loop-row.invariant.text c.in_ok-push.ensures.ok c.in_ok-push-2.ensures.ok in
     record { text = text; extends = rw text (Extends-append _ _) }
