@@ -1,5 +1,3 @@
-pub mod ClusterFileLemmas
-pub mod WellFormedLaws
 mod LineLemmas
 mod StreamLemmas
 pub mod MapLaws

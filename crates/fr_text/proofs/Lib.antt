@@ -1,4 +1,5 @@
 pub mod ClusterFileLemmas
+pub mod WellFormedLaws
 pub mod FieldsLemmas
 pub mod WordsLemmas
 pub mod ReportLemmas
