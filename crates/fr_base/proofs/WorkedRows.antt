@@ -13,7 +13,7 @@ use Rattle.fr_base.specs.Cluster.{Cluster}
 use Rattle.fr_base.specs.Book.{Book, empty_variant, opening, granted, placements_of, schedule_of}
 use Rattle.fr_base.specs.Step.{begun, open_variant, release, add_node, grant, in_use, revoke, page_of, cell_taken, add_frame, drop_frame, place, unplace, add_signal, drop_signal, on_frame, by_integrator, by_supplier, change, act, outcome, step}
 use Rattle.fr_base.specs.Queries.{grants_of, frames_of, sendings_of, gaps_of, named, signals_of, shown, reply}
-use Rattle.fr_base.specs.Moments.{ring, moment, moments, gap_after, greatest_gap}
+use Rattle.fr_base.specs.Moments.{ring, moment, moments, gaps, greatest_gap}
 use Rattle.fr_base.specs.Bits.{bits_of}
 use Rattle.fr_base.specs.Layouts as layouts
 use Rattle.fr_base.specs.declared.answer.Answer.{Answer}
@@ -73,7 +73,7 @@ answers asks = answers_from cluster (opening cluster) asks
 
 -- what the rows below unfold
 unfoldable pub a_small_register : ⊤
-unfolding cluster answers answers_from ◌>>=◌ ◌>>◌ ◌or◌ refuse◌when◌ empty get len insert only remove from_rows becomes numbers names channel_order channels_order owned channel_slots placement_order is_name is_key cycle_count all_cycles cycles_of name cycles slot channel channels placement signal parent_name check cells_of has_cell cluster_cells fill first_taken entries empty_variant opening granted placements_of schedule_of begun open_variant release add_node grant in_use revoke page_of cell_taken add_frame drop_frame place unplace add_signal drop_signal on_frame by_integrator by_supplier change grants_of frames_of sendings_of gaps_of named signals_of shown reply ring moment moments gap_after greatest_gap bits_of layouts.first_taken layouts.add_signal layouts.remove_signal act outcome step
+unfolding cluster answers answers_from ◌>>=◌ ◌>>◌ ◌or◌ refuse◌when◌ empty get len insert only remove from_rows becomes numbers names channel_order channels_order owned channel_slots placement_order is_name is_key cycle_count all_cycles cycles_of name cycles slot channel channels placement signal parent_name check cells_of has_cell cluster_cells fill first_taken entries empty_variant opening granted placements_of schedule_of begun open_variant release add_node grant in_use revoke page_of cell_taken add_frame drop_frame place unplace add_signal drop_signal on_frame by_integrator by_supplier change grants_of frames_of sendings_of gaps_of named signals_of shown reply ring moment moments gaps greatest_gap bits_of layouts.first_taken layouts.add_signal layouts.remove_signal act outcome step
 a_small_register = tt
 
 abbrev pub integrator : Request → Ask

@@ -3,6 +3,7 @@ use Rattle.std.specs.Prelude.{ℕ, Bool, true, false, not, ◌&&◌, List, [], �
 use Rattle.std.specs.List.{list_any}
 use Rattle.std.specs.Ordering.{nat_cmp, is_lt, is_eq}
 use Rattle.std.specs.Cmp.Lexicographic.{slice_cmp}
+use Rattle.fr_base.specs.Limits.{max_suppliers}
 use Rattle.fr_base.specs.declared.params.RawParams.{RawParams}
 use Rattle.fr_base.specs.declared.config.Supplier.{Supplier}
 use Rattle.fr_base.specs.declared.key.Key.{Key}
@@ -39,4 +40,4 @@ keys_of integrator suppliers = integrator ∷ map (λ s. s.key) suppliers
 -- at most 64 suppliers, in byte order of their names, no name twice, and no key twice
 unfoldable pub is_cluster : Key → List Supplier → Bool
 is_cluster integrator suppliers =
-    (nat_le (length suppliers) 64 && names_rise suppliers) && keys_differ (keys_of integrator suppliers)
+    (nat_le (length suppliers) max_suppliers && names_rise suppliers) && keys_differ (keys_of integrator suppliers)

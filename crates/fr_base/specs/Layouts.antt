@@ -3,6 +3,7 @@ use Rattle.std.specs.Prelude.{◌≢◌, ℕ, ◌*◌, ◌<◌, ◌≤◌, Bool,
 use Rattle.std.specs.List.{list_any, list_all, range_with_len}
 use Rattle.std.specs.Option.{option_map, option_and_then}
 use Rattle.std.specs.Str.{bytes_eq}
+use Rattle.fr_base.specs.Limits.{max_signals}
 use Rattle.fr_base.specs.Refusing.{◌>>◌, refuse◌when◌}
 use Rattle.fr_base.specs.Signals.{SignalData, is_signal_length}
 use Rattle.fr_base.specs.Bits.{bits_of, uses}
@@ -25,7 +26,7 @@ AreApart s t = (p : ℕ) → IsTrue (uses s p) → ¬ IsTrue (uses t p)
 -- the signals lie in the payload and share no bit, none of their names stands twice, and their starts rise
 pub record IsLayout (layout : LayoutData) : Type 0 where
   pub words : layout.words ≤ 127
-  pub count : length layout.signals ≤ 64
+  pub count : length layout.signals ≤ max_signals
   pub lengths : All (λ s. IsTrue (is_signal_length s.length)) layout.signals
   pub inside : All (λ s. IsTrue (lies_inside layout.words s)) layout.signals
   pub apart : AllPairs AreApart layout.signals
@@ -63,7 +64,7 @@ with_signal s (t ∷ signals) = if nat_lt s.start t.start then s ∷ t ∷ signa
 unfoldable pub add_signal : LayoutData → SignalData → Result LayoutData Refusal
 add_signal layout s = do
   refuse Exists when (has_signal layout.signals s.name)
-  refuse Limit when (nat_le 64 (length layout.signals))
+  refuse Limit when (nat_le max_signals (length layout.signals))
   refuse OutOfPayload when (not (lies_inside layout.words s))
   bit_taken (first_taken layout s)
   Ok (record layout { signals = with_signal s layout.signals })

@@ -24,3 +24,4 @@ pub mod Step
 pub mod Actors
 pub mod Run
 pub mod Sound
+pub mod Laws

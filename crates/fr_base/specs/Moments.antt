@@ -10,7 +10,7 @@ use Rattle.fr_base.specs.declared.placement.Placement.{Placement}
 unfoldable pub ring : Params → ℕ
 ring p = cycle_count * p.macroticks_per_cycle
 
--- the macrotick on the ring at which the cell's slot starts
+-- the sending moment of a cell: the macrotick on the ring at which its slot starts
 unfoldable pub moment : Params → Cell → ℕ
 moment p c = c.cycle * p.macroticks_per_cycle + (c.slot - 1) * p.slot_macroticks
 
@@ -40,10 +40,10 @@ greatest (n ∷ ns) = Some (higher n (greatest ns))
     higher n None = n
     higher n (Some m) = max n m
 
--- how long it is from a moment to the next one, which may be itself a whole ring later
-unfoldable pub gap_after : ℕ → List ℕ → ℕ → Option ℕ
-gap_after length moments from = least (map (distance length from) moments)
+-- from each moment to the next one, which may be itself a whole ring later
+unfoldable pub gaps : ℕ → List ℕ → List ℕ
+gaps length moments = filter_map (λ from. least (map (distance length from) moments)) moments
 
--- the greatest gap between a moment and the next one; none where nothing is placed
+-- the greatest gap; none where nothing is placed
 unfoldable pub greatest_gap : Params → List Placement → Option ℕ
-greatest_gap p placements = greatest (filter_map (gap_after (ring p) (moments p placements)) (moments p placements))
+greatest_gap p placements = greatest (gaps (ring p) (moments p placements))

@@ -70,7 +70,8 @@ grants_of grants = map grant_row grants.rows
 unfoldable pub frames_of : Table owned Frame → List FrameRow
 frames_of frames = map frame_row frames.rows
 
--- the schedule's rows, by cycle, slot and channel
+-- the frames' schedule, by cycle, slot and channel. In a sound book a frame that fills a cell of its own schedule fills
+-- it in that of all suppliers too.
 unfoldable pub sendings_of : Params → Table owned Frame → List Sending
 sendings_of p frames = map sending (entries (schedule_of frames) (cluster_cells p))
 
@@ -82,7 +83,7 @@ gaps_of p frames = map (gap_row p) frames.rows
 unfoldable pub named : Name → Table owned Frame → Table owned Frame
 named f frames = only (λ k _. same_text k.1 f) frames
 
--- the signals of the frames of one name, by supplier and start
+-- the frames' signals, by supplier, then start
 unfoldable pub signals_of : Table owned Frame → List SignalRow
 signals_of frames = flat_map signal_rows frames.rows
 

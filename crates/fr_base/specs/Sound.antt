@@ -1,7 +1,8 @@
 -- Sound books: every row's owner is there, grants and placements fit the cluster and each other, and the limits are kept.
-use Rattle.std.specs.Prelude.{◌≡◌, ℕ, ◌≤◌, Option, Some, IsTrue, IsOk, ⊤}
+use Rattle.std.specs.Prelude.{◌≡◌, ℕ, ◌≤◌, Some, IsTrue, All, ⊤}
+use Rattle.fr_base.specs.Limits.{max_suppliers, max_nodes, max_variants, max_depth, max_frames, max_placements}
 use Rattle.fr_base.specs.Tables.{Table, get, contains, len, only}
-use Rattle.fr_base.specs.Keys.{names, owned, channel_slots}
+use Rattle.fr_base.specs.Keys.{owned, channel_slots}
 use Rattle.fr_base.specs.Cells.{Cell, has_cell}
 use Rattle.fr_base.specs.Cycles.{cycle_count, is_cycle_set}
 use Rattle.fr_base.specs.Channels.{channels_in, has_channel}
@@ -31,14 +32,15 @@ pub record FitsCluster (p : Params) (q : Placement) : Type 0 where
   pub cycles : IsTrue (is_cycle_set cycle_count q.cycles.base q.cycles.repetition)
 
 -- a frame has a name, and its node is its supplier's; each of its placements fits the cluster and lies in grants to that node; there are at most 8;
--- and its signals make a layout of the payload
+-- and its signals have names and make a layout of the payload
 pub record IsSoundFrame (p : Params) (nodes : Table owned ⊤) (grants : Table channel_slots Holder) (k : Name × Name) (f : Frame) : Type 0 where
   pub name : IsTrue (is_name k.1)
   pub node : IsTrue (contains nodes (k.0, f.node))
   pub fits : (q : Placement) → IsTrue (contains f.placements q) → FitsCluster p q
   pub in_grants : (q : Placement) → IsTrue (contains f.placements q) → IsTrue (granted grants k.0 f.node q)
-  pub limit : len f.placements ≤ 8
+  pub limit : len f.placements ≤ max_placements
   pub layout : IsLayout (layout_of p f)
+  pub signal_names : All (λ s. IsTrue (is_name s.name)) f.signals
 
 -- a variant: each grant fits the cluster and names a node that is there; its frames are sound; no cell lies in two placements; the limits
 pub record IsSoundVariant (p : Params) (nodes : Table owned ⊤) (v : Variant) : Type 0 where
@@ -49,14 +51,14 @@ pub record IsSoundVariant (p : Params) (nodes : Table owned ⊤) (v : Variant) :
       get v.frames k ≡ Some f → get v.frames l ≡ Some g →
       IsTrue (contains f.placements q) → IsTrue (contains g.placements r) →
       IsTrue (has_cell q c) → IsTrue (has_cell r c) → (k ≡ l) × (q ≡ r)
-  pub frame_limit : (s : Name) → len (only (λ k _. is_of s k) v.frames) ≤ 256
-  pub depth : (1 ≤ v.depth) × (v.depth ≤ 16)
+  pub frame_limit : (s : Name) → len (only (λ k _. is_of s k) v.frames) ≤ max_frames
+  pub depth : (1 ≤ v.depth) × (v.depth ≤ max_depth)
 
 -- a book: names and keys have their form; each node's supplier is there; each variant is sound; and the limits are kept
 pub record IsSound (c : Cluster) (b : Book) : Type 0 where
   pub suppliers : (s : Name) (key : Key) → get b.suppliers s ≡ Some key → IsTrue (is_name s) × IsTrue (is_key key)
   pub nodes : (s n : Name) → IsTrue (contains b.nodes (s, n)) → IsTrue (is_name n) × IsTrue (contains b.suppliers s)
   pub variants : (v : Name) (variant : Variant) → get b.variants v ≡ Some variant → IsTrue (is_name v) × IsSoundVariant c.params b.nodes variant
-  pub supplier_limit : len b.suppliers ≤ 64
-  pub node_limit : (s : Name) → len (only (λ k _. is_of s k) b.nodes) ≤ 64
-  pub variant_limit : len b.variants ≤ 64
+  pub supplier_limit : len b.suppliers ≤ max_suppliers
+  pub node_limit : (s : Name) → len (only (λ k _. is_of s k) b.nodes) ≤ max_nodes
+  pub variant_limit : len b.variants ≤ max_variants

@@ -1,6 +1,7 @@
 -- What a request does: the book after it, and the answer.
 use Rattle.std.specs.Prelude.{ℕ, suc, ◌==◌, Bool, true, false, not, ◌&&◌, List, [], nat_le, Option, Some, None, is_some, Result, Ok, Err, ⊤}
 use Rattle.std.specs.List.{list_any}
+use Rattle.fr_base.specs.Limits.{max_nodes, max_variants, max_depth, max_frames, max_placements}
 use Rattle.fr_base.specs.Refusing.{◌>>=◌, ◌>>◌, ◌or◌, refuse◌when◌}
 use Rattle.fr_base.specs.Tables.{Table, empty, get, contains, len, insert, only, remove, becomes}
 use Rattle.fr_base.specs.Keys.{names, owned, channel_slots}
@@ -13,7 +14,7 @@ use Rattle.fr_base.specs.Signals.{SignalData}
 use Rattle.fr_base.specs.Layouts as layouts
 use Rattle.fr_base.specs.Layouts.{LayoutData}
 use Rattle.fr_base.specs.Queries.{reply}
-use Rattle.fr_base.specs.Book.{Holder, Frame, Variant, Book, Owner, empty_variant, held_by, held_by_node, granted, schedule_of}
+use Rattle.fr_base.specs.Book.{Holder, Frame, Variant, Book, Owner, empty_variant, held_by, held_by_node, granted, placements_of, schedule_of}
 use Rattle.fr_base.specs.declared.channel.Channel.{Channel}
 use Rattle.fr_base.specs.declared.name.Name.{Name}
 use Rattle.fr_base.specs.declared.params.Params.{Params}
@@ -51,7 +52,7 @@ begun b None = Ok empty_variant
 begun b (Some parent) = do
   variant ← get b.variants parent or NoVariant
   refuse NotReleased when not variant.released
-  refuse TooDeep when nat_le 16 variant.depth
+  refuse TooDeep when nat_le max_depth variant.depth
   Ok (record variant { parent = Some parent; depth = suc variant.depth; released = false })
 
 -- OpenVariant: an open variant
@@ -59,7 +60,7 @@ unfoldable pub open_variant : Book → Name → Option Name → Result Book Refu
 open_variant b v parent = do
   variant ← begun b parent
   refuse Exists when contains b.variants v
-  refuse Limit when nat_le 64 (len b.variants)
+  refuse Limit when nat_le max_variants (len b.variants)
   Ok (with_variant b v variant)
 
 -- Release: the variant is frozen
@@ -74,7 +75,7 @@ unfoldable pub add_node : Book → Name → Name → Result Book Refusal
 add_node b s n = do
   refuse NoSupplier when not (contains b.suppliers s)
   refuse Exists when contains b.nodes (s, n)
-  refuse Limit when nat_le 64 (len (only (λ k _. is_of s k) b.nodes))
+  refuse Limit when nat_le max_nodes (len (only (λ k _. is_of s k) b.nodes))
   Ok (record b { nodes = insert b.nodes (s, n) tt })
 
 -- Grant: the supplier's node holds slot and channel, in all cycles
@@ -89,13 +90,13 @@ grant b v at s n = do
   refuse Taken when contains variant.grants at
   Ok (with_variant b v (record variant { grants = insert variant.grants at (record { supplier = s; node = n }) }))
 
--- whether the placement uses the slot on the channel
-abbrev pub uses : ℕ × Channel → Placement → Bool
-uses at q = (q.slot == at.0) && has_channel q.channels at.1
+-- whether the placement fills the slot on the channel, in some cycle
+abbrev pub fills : ℕ × Channel → Placement → Bool
+fills at q = (q.slot == at.0) && has_channel q.channels at.1
 
--- whether a placement of the supplier uses the slot on the channel
+-- whether a placement of the supplier fills the slot on the channel
 unfoldable pub in_use : Name → ℕ × Channel → Table owned Frame → Bool
-in_use s at frames = list_any (λ row. is_of s row.0 && list_any (λ q. uses at q.0) row.1.placements.rows) frames.rows
+in_use s at frames = list_any (λ e. same_text e.0.supplier s && fills at e.1) (placements_of frames)
 
 -- Revoke: the supplier's grant is gone
 unfoldable pub revoke : Book → Name → ℕ × Channel → Name → Result Book Refusal
@@ -143,7 +144,7 @@ unfoldable pub add_frame : Page → Name → Name → Result (Option Frame) Refu
 add_frame page f n = do
   refuse NoNode when not (contains page.nodes (page.supplier, n))
   refuse Exists when contains page.frames (page.supplier, f)
-  refuse Limit when nat_le 256 (len page.frames)
+  refuse Limit when nat_le max_frames (len page.frames)
   Ok (Some (record { node = n; placements = empty; signals = [] }))
 
 -- Place: the frame is sent in the placement's cells
@@ -151,7 +152,7 @@ unfoldable pub place : Page → Filled → Name → Placement → Result (Option
 place page filled f q = do
   frame ← get page.frames (page.supplier, f) or NoFrame
   refuse NotGranted when not (granted page.grants page.supplier frame.node q)
-  refuse Limit when nat_le 8 (len frame.placements)
+  refuse Limit when nat_le max_placements (len frame.placements)
   cell_taken (first_taken filled (cells_of q))
   Ok (Some (record frame { placements = insert frame.placements q tt }))
 
@@ -197,13 +198,13 @@ on_frame p b s v f command = do
 -- ---- all commands
 
 -- the book after the integrator's command; what is not the integrator's to ask was refused before
-unfoldable pub by_integrator : Params → Book → Command → Result Book Refusal
-by_integrator p b (OpenVariant v parent) = open_variant b v parent
-by_integrator p b (Release v) = release b v
-by_integrator p b (AddNode s n) = add_node b s n
-by_integrator p b (Grant v k c s n) = grant b v (k, c) s n
-by_integrator p b (Revoke v k c s) = revoke b v (k, c) s
-by_integrator p b _ = Err NotYours
+unfoldable pub by_integrator : Book → Command → Result Book Refusal
+by_integrator b (OpenVariant v parent) = open_variant b v parent
+by_integrator b (Release v) = release b v
+by_integrator b (AddNode s n) = add_node b s n
+by_integrator b (Grant v k c s n) = grant b v (k, c) s n
+by_integrator b (Revoke v k c s) = revoke b v (k, c) s
+by_integrator b _ = Err NotYours
 
 -- the book after a supplier's command; what is not a supplier's to ask was refused before
 unfoldable pub by_supplier : Params → Book → Name → Command → Result Book Refusal
@@ -217,7 +218,7 @@ by_supplier p b s _ = Err NotYours
 
 -- the book after a command
 unfoldable pub change : Params → Book → Actor → Command → Result Book Refusal
-change p b Integrator command = by_integrator p b command
+change p b Integrator command = by_integrator b command
 change p b (Supplier s) command = by_supplier p b s command
 
 -- ---- the step

@@ -100,7 +100,8 @@ impl Config {
     /// A cluster of these parameters, this integrator and these suppliers.
     pub fn new(params: Params, integrator: Key, suppliers: Suppliers) -> Config
         requires { IsTrue (is_cluster integrator suppliers) }
-        ensures { result ≡ record { params = params; integrator = integrator; suppliers = suppliers } }
+        ensures value { result ≡ record { params = params; integrator = integrator; suppliers = suppliers } }
+        ensures cluster { IsTrue (is_cluster result.integrator result.suppliers) }
     {
         Config {
             params,

@@ -11,6 +11,7 @@ mod config;
 mod cycles;
 mod fixed_text;
 mod key;
+mod laws;
 mod name;
 mod params;
 mod placement;
@@ -27,6 +28,9 @@ pub use checks::check;
 pub use config::{Config, MAX_SUPPLIERS, Supplier, Suppliers};
 pub use cycles::{BadCycles, CYCLE_COUNT, CycleSet};
 pub use key::Key;
+pub use laws::{
+    holder_sends, one_frame_in_a_cell, opening_is_sound, run_keeps_sound, step_keeps_sound,
+};
 pub use name::Name;
 pub use params::{ParamFault, Params, RawParams};
 pub use placement::Placement;

@@ -6,11 +6,15 @@ use Rattle.fr_base.specs.Book.{Book, opening}
 use Rattle.fr_base.specs.Cluster.{Cluster}
 use Rattle.fr_base.specs.Run.{IsRun}
 use Rattle.fr_base.specs.Step.{step}
+use Rattle.fr_base.specs.Sound.{IsSound}
+use Rattle.fr_base.specs.Laws.{IsWellFormed}
+use Rattle.fr_base.proofs.SoundSteps.{step-sound}
+use Rattle.fr_base.proofs.SoundLaws.{opening-sound, run-sound}
 use Rattle.fr_base.specs.declared.answer.Answer.{Answer}
 use Rattle.fr_base.specs.declared.answer.Answer.TheVariants.{Refused}
 use Rattle.fr_base.specs.declared.refusal.Refusal.{Refusal}
 use Rattle.fr_base.specs.declared.request.Ask.{Ask}
-use Rattle.fr_cli.specs.AnswerText.{text_of}
+use Rattle.fr_text.specs.AnswerText.{text_of}
 use Rattle.fr_cli.specs.Asked.{ask_in}
 use Rattle.fr_cli.specs.Books.{Answers, Replied}
 use Rattle.fr_cli.specs.Output.{read_lines, asks_of, answers_of, text_of_answers, IsAnswered, IsAnsweredTo}
@@ -68,8 +72,26 @@ answering-line c d lines line book new answer written text so same replied e =
     subst (λ t. Answering c (lines ++ line ∷ []) new (written ++ t)) (sym e)
     (answering-more c lines line book new answer written so (subst (λ x. Replied x book (ask_in x line) answer new) same replied))
 
+-- A request that is answered leaves a sound book sound.
+pub answers-sound : (c : Cluster) (old new : Book) (ask : Ask) (answer : Answer) → Answers c old ask answer new → IsSound c old → IsSound c new
+answers-sound c old new ask answer answers sound = elim answers [
+  | inl lacks ↦ subst (IsSound c) (sym lacks.2) sound
+  | inr steps ↦ subst (IsSound c) (sym steps.1) (step-sound c old sound ask.actor ask.request)
+]
+
 -- The lines are answered up to those that are left.
-pub answered_to : (c : Cluster) (lines front left : List (List ℕ)) (book : Book) (written : List ℕ) → lines ≡ front ++ left
+pub answered_to : (c : Cluster) (lines front left : List (List ℕ)) (book : Book) (written : List ℕ) → IsWellFormed c → lines ≡ front ++ left
     → Answering c front book written → IsAnsweredTo c lines left written
-answered_to c lines front left book written whole so =
-    record { front = front; all = whole; answered = record { answers = so.answers; last = book; run = so.run; bytes = so.bytes } }
+answered_to c lines front left book written formed whole so =
+    let asks = asks_of (read_lines c front) in
+    record {
+      front = front;
+      all = whole;
+      answered = record {
+        answers = so.answers;
+        last = book;
+        run = so.run;
+        sound = run-sound c (opening c) book asks so.answers (opening-sound c formed) so.run;
+        bytes = so.bytes;
+      };
+    }

@@ -4,15 +4,16 @@ use Rattle.std.specs.List.{flat_map}
 use Rattle.fr_base.specs.Book.{Book, opening}
 use Rattle.fr_base.specs.Cluster.{Cluster}
 use Rattle.fr_base.specs.Run.{IsRun}
+use Rattle.fr_base.specs.Sound.{IsSound}
 use Rattle.fr_base.specs.declared.answer.Answer.{Answer}
 use Rattle.fr_base.specs.declared.answer.Answer.TheVariants.{Refused}
 use Rattle.fr_base.specs.declared.refusal.Refusal.{Refusal}
 use Rattle.fr_base.specs.declared.request.Ask.{Ask}
-use Rattle.fr_cli.specs.AnswerText.{text_of}
+use Rattle.fr_text.specs.AnswerText.{text_of}
 use Rattle.fr_cli.specs.Asked.{ask_in}
-use Rattle.fr_cli.specs.ClusterFile.{config_of}
+use Rattle.fr_text.specs.ClusterFile.{config_of}
 use Rattle.fr_cli.specs.Script.{parts_of, request_lines}
-use Rattle.fr_cli.specs.declared.cluster_file.ConfigFault.{ConfigFault}
+use Rattle.fr_text.specs.declared.cluster_file.ConfigFault.{ConfigFault}
 
 -- what each of the lines asks, or the refusal of a line that asks nothing
 abbrev pub read_lines : Cluster → List (List ℕ) → List (Result Ask Refusal)
@@ -36,11 +37,12 @@ abbrev pub text_of_answers : List Answer → List ℕ
 text_of_answers answers = flat_map (λ answer. text_of answer ++ codes "\n") answers
 
 -- The bytes answer the lines: from the register that was just made the asks among them may be answered so, one after
--- another, and the bytes are the text of one answer for each line.
+-- another, the register that is then reached is sound, and the bytes are the text of one answer for each line.
 pub record IsAnswered (c : Cluster) (lines : List (List ℕ)) (written : List ℕ) : Type 0 where
   pub answers : List Answer
   pub last : Book
   pub run : IsRun c (opening c) (asks_of (read_lines c lines)) answers last
+  pub sound : IsSound c last
   pub bytes : written ≡ text_of_answers (answers_of (read_lines c lines) answers)
 
 -- The bytes answer the lines up to those that are left.

@@ -1,23 +1,23 @@
 //! Runs a script: reads it, and writes the answer to each of its requests.
-ghost use Rattle.std.specs.Prelude.{◌≡◌, ◌⊎◌, ◌<◌, ◌++◌, ◌∷◌, ℕ, List, [], length, Some, None, Ok, Err, IfErr, IfOk, IfSome, IsErrOf, IsTrue, OnOk};
+ghost use Rattle.std.specs.Prelude.{◌≡◌, ◌⊎◌, ◌<◌, ◌++◌, ◌∷◌, ℕ, List, [], length, Some, None, Ok, Err, IfErr, IfOk, IfSome, IsErrOf, IsOk, IsTrue, OnOk};
 ghost use Rattle.std.specs.Io.KnownBytes.{Appends, IsAtEnd, Keeps};
 ghost use Rattle.fr_base.specs.Book.{opening};
 ghost use Rattle.fr_base.specs.Step.{knows};
+ghost use Rattle.fr_base.specs.Sound.{IsSound};
+ghost use Rattle.fr_base.specs.Laws.{IsWellFormed};
 ghost use Rattle.fr_cli.specs.Asked.{ask_in};
 ghost use Rattle.fr_cli.specs.Books.{book_of, Replied};
 ghost use Rattle.fr_cli.specs.Output.{IsAnsweredTo, IsCutShort, IsOutput, LacksMemory, cluster_in};
 ghost use Rattle.fr_cli.specs.Script.{request_lines};
-ghost use Rattle.fr_cli.specs.declared.cluster_file.ConfigFault.{ConfigFault};
+ghost use Rattle.fr_text.specs.declared.cluster_file.ConfigFault.{ConfigFault};
 
-use crate::answer_text::write_answer;
 use crate::book::Book;
-use crate::cluster_file::{ConfigFault, read_config};
 use crate::input::{SCRIPT_BYTES, read_all};
 use crate::lines::{RequestLines, key_and_text, split_script};
 use crate::output::{Retries, flush, write_all};
-use crate::request_text::read_command;
 use crate::script_fault::ScriptFault;
 use fr_base::{Answer, Ask, Config, Refusal};
+use fr_text::{ConfigFault, append_answer, read_command, read_config};
 use std::alloc::Global;
 use std::io::{Read, Write};
 
@@ -61,6 +61,7 @@ fn answer_requests<W: Write>(
     requests: &[u8],
     writer: &mut W,
 ) -> Result<(), ScriptFault>
+    requires { IsWellFormed config }
     ensures all { OnOk result ((written : List ℕ) × Appends (W.contents writer.old) (W.contents writer.new) written
         × IsAnsweredTo config (request_lines requests.now) [] written) }
     ensures no_memory { IsErrOf result ScriptFault.NoMemory → (line : List ℕ) × (left : List (List ℕ)) × (written : List ℕ)
@@ -77,7 +78,7 @@ fn answer_requests<W: Write>(
     for line in RequestLines::new(requests) {
         let answer = answer_line(alloc, &mut book, line)?;
         text.clear();
-        write_answer(&answer, &mut text)?;
+        append_answer(&answer, &mut text)?;
         text.extend_from_slice(b"\n")?;
         write_all(writer, &mut retries, &text)?;
     }
@@ -89,6 +90,7 @@ fn answer_line(alloc: Global, book: &mut Book, line: &[u8]) -> Result<Answer, Sc
     ensures config { book.new.config ≡ book.old.config }
     ensures replied { IfOk result (λ answer.
         Replied book.old.config (book_of book.old) (ask_in book.old.config line.now) answer (book_of book.new)) }
+    ensures sound { IsSound book.old.config (book_of book.old) → IsOk result → IsSound book.new.config (book_of book.new) }
     ensures fault { IfErr result (λ fault. fault ≡ ScriptFault.NoMemory) }
 {
     match read_ask(alloc, &book.config, line) {

@@ -14,11 +14,11 @@ use Rattle.fr_base.specs.Signals.{SignalData}
 use Rattle.fr_base.specs.Bits.{bits_of, entry_of, payload_bit, value_in, image_bit, image_byte, image}
 use Rattle.fr_base.specs.Layouts.{LayoutData, IsLayout}
 use Rattle.fr_layout.specs.Packing.{first_too_large, too_large, packed, unpacked, FailsAs}
-use Rattle.fr_layout.specs.Laws.{UnpackUndoesPack}
 use Rattle.fr_layout.specs.declared.pack_fault.PackFault.{PackFault}
 use Rattle.fr_layout.specs.declared.pack_fault.PackFault.TheVariants.{WrongCount, WrongLength, TooLarge}
 use Rattle.fr_layout.proofs.BitsLemmas.{image_bit_at, bit_at-from_bits, from_bits_all, length-bits_of}
-use Rattle.fr_layout.proofs.LayoutLemmas.{inside_below, position_none, none_of}
+use Rattle.fr_base.proofs.LayoutLaws.{none_of}
+use Rattle.fr_layout.proofs.LayoutLemmas.{inside_below, position_none}
 
 image_bit_below : (signals : List SignalData) (values : List ℕ) (p : ℕ) → image_bit signals values p < 2
 image_bit_below [] values p = omega arith
@@ -168,7 +168,7 @@ value_again l values k d sound none in_signals in_values =
         ∙ (payload_bit-image l.words l.signals values (get_or (bits_of s) i 0) (inside_below s l.words (16 * l.words) (sound.inside k d in_signals) (omega arith) i 0 within)
         ∙ image_bit_at l.signals values k i d sound.apart in_signals in_values (omega (arith, length-bits_of s)))
 
-pub unpack_undoes_pack : UnpackUndoesPack
+pub unpack_undoes_pack : (l : LayoutData) (values bytes : List ℕ) → IsLayout l → packed l values ≡ Ok bytes → unpacked l bytes ≡ Ok values
 unpack_undoes_pack l values bytes sound e =
     let facts = packed_facts (eqb (length values) (length l.signals)) (first_too_large l.signals values) (image l.words l.signals values) bytes (sym (packing_is l values) ∙ e) in
     let count : length values ≡ length l.signals = (Decides-eqb (length values) (length l.signals)).0 facts.0 in

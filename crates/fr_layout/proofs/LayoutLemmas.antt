@@ -1,28 +1,27 @@
 -- Laws of layouts: what adding and removing a signal keeps.
-use Rattle.std.proofs.Common.{◌≡◌, ◌≢◌, ℕ, suc, zero, ◌+◌, ◌-◌, ◌*◌, ◌/◌, ◌^◌, ◌<◌, ◌≤◌, Bool, true, false, not, ◌&&◌, ◌||◌, List, [], ◌∷◌, length, filter, get_or, Option, Some, None, is_some, Result, Ok, Err, refl, sym, ◌∙◌, ap, arith, eqb, ltb, leb, cond, inl, inr, ◌⊎◌, All, AllPairs, IsTrue, IsOk, is_ok, MatchResult, position, insert, remove, unwrap_or, replicate, subst, ◌%◌}
+use Rattle.std.proofs.Common.{◌≡◌, ◌≢◌, ℕ, suc, zero, ◌+◌, ◌*◌, ◌/◌, ◌<◌, ◌≤◌, Bool, true, false, not, ◌&&◌, ◌||◌, List, [], ◌∷◌, length, filter, get_or, Option, Some, None, is_some, Result, Ok, Err, refl, sym, ◌∙◌, ap, arith, eqb, ltb, leb, cond, inl, inr, ◌⊎◌, All, AllPairs, IsTrue, IsOk, is_ok, MatchResult, position, insert, remove, unwrap_or, replicate, subst, ◌%◌}
 use Rattle.std.specs.List.{list_any, range_with_len, find, position_or_len}
-use Rattle.std.specs.Option.{option_map, option_map_or, option_and_then}
+use Rattle.std.specs.Option.{option_map, option_and_then}
 use Rattle.std.specs.Int.{bit_at}
 use Rattle.std.specs.Str.{bytes_eq}
 use Rattle.std.proofs.lemmas.Bool.{ltb-true, lt-ltb}
 use Rattle.std.proofs.lemmas.Bool.Decides.{nat_tests, Decides-eqb, eqb_tells, leb_tells}
 use Rattle.std.proofs.lemmas.Nat.{le-div, div_below}
 use Rattle.std.proofs.lemmas.List.Sums.{AllPass-from_list_all, prefix_len-le-length}
-use Rattle.std.proofs.lemmas.List.Elements.{All-cons, All-head, All-tail, All-filter, All-weaker}
+use Rattle.std.proofs.lemmas.List.Elements.{All-head, All-tail}
 use Rattle.std.proofs.lemmas.List.{length-replicate}
-use Rattle.std.proofs.lemmas.List.Edits.{length-remove}
 use Rattle.std.proofs.lemmas.List.Folds.{list_any_at, list_any_none}
-use Rattle.std.proofs.lemmas.Nat.Bits.{bit_at_ones, bit_at-zero}
-use Rattle.std.proofs.lemmas.List.Kept.{AllPairs-cons, AllPairs-filter}
+use Rattle.std.proofs.lemmas.Nat.Bits.{bit_at-zero}
 use Rattle.std.proofs.lemmas.Slice.Eq.{bytes_eq-Decides}
 use Rattle.fr_base.specs.Refusing.{◌>>=◌, ◌>>◌, refuse◌when◌}
 use Rattle.fr_base.specs.Signals.{SignalData, is_signal_length}
-use Rattle.fr_base.specs.Bits.{bits_of, uses, entry_of, payload_bit}
+use Rattle.fr_base.specs.Bits.{bits_of, uses, entry_of}
 use Rattle.fr_base.specs.Layouts.{LayoutData, IsLayout, AreApart, lies_inside, has_signal, user_of, taken_at, first_taken, bit_taken, with_signal, add_signal, remove_signal}
 use Rattle.fr_base.specs.declared.refusal.Refusal.{Refusal}
 use Rattle.fr_base.specs.declared.refusal.Refusal.TheVariants.{Exists, Limit, NoSignal, OutOfPayload, BitTaken}
-use Rattle.fr_layout.specs.Kept.{IsKept}
-use Rattle.fr_layout.proofs.BitsLemmas.{put_over, entry_of_none, length-bits_of, uses_along, not_true}
+use Rattle.fr_base.proofs.LayoutLaws.{is_some-user_of, AllPairs-tail, AllPairs-head, taken_test, first_taken_is, empty-layout, with_signal-layout, filter-layout}
+use Rattle.fr_layout.specs.Kept.{IsKept, word_bit}
+use Rattle.fr_layout.proofs.BitsLemmas.{length-bits_of, not_true}
 
 pub either : (b : Bool) → (b ≡ true) ⊎ (b ≡ false)
 either true = inl refl
@@ -54,46 +53,6 @@ uses_entry s p h =
     let found = any_at (bits_of s) p h in
     (found.0, omega (arith, length-bits_of s, found.1), found.2, found.3)
 
--- a value whose bits are all alike
-pub put_over_alike : (s : SignalData) (v b p old : ℕ) → ((i : ℕ) → i < s.length → bit_at v i ≡ b) → put_over (bits_of s) v p old ≡ cond (uses s p) b old
-put_over_alike s v b p old alike =
-    elim (either (uses s p)) [
-      | inl used ↦
-          let found = uses_entry s p used in
-          ap (λ o. option_map_or (bit_at v) o old) found.3 ∙ (alike found.0 found.1 ∙ sym (ap (λ t. cond t b old) used))
-      | inr free ↦ ap (λ o. option_map_or (bit_at v) o old) (entry_of_none (bits_of s) p free) ∙ sym (ap (λ t. cond t b old) free)
-    ]
-
--- a signal has its start
-pub uses_start : (s : SignalData) → 1 ≤ s.length → uses s s.start ≡ true
-uses_start s h = uses_along s s.start ∙ grind (arith, nat_tests)
-
--- ---- who uses a bit
-
-pub is_some-find : {X : Type 0} (p : X → Bool) (xs : List X) → is_some (find p xs) ≡ list_any p xs
-is_some-find p [] = refl
-is_some-find p (x ∷ xs) = by_test (p x) (is_some-find p xs)
-  where
-    by_test : (b : Bool) → is_some (find p xs) ≡ list_any p xs → is_some (cond b (Some x) (find p xs)) ≡ (b || list_any p xs)
-    by_test true e = refl
-    by_test false e = e
-
-pub is_some-user_of : (signals : List SignalData) (p : ℕ) → is_some (user_of signals p) ≡ list_any (λ s. uses s p) signals
-is_some-user_of signals p = is_some-find (λ s. uses s p) signals
-
-pub none_of : {X : Type 0} (p : X → Bool) (xs : List X) → list_any p xs ≡ false → All (λ x. p x ≡ false) xs
-none_of p [] h k d within = absurd (omega arith)
-none_of p (x ∷ xs) h zero d within = first (p x) (list_any p xs) h
-  where
-    first : (a b : Bool) → (a || b) ≡ false → a ≡ false
-    first true b h = h
-    first false b h = refl
-none_of p (x ∷ xs) h (suc k) d within = none_of p xs (rest (p x) (list_any p xs) h) k d (omega arith)
-  where
-    rest : (a b : Bool) → (a || b) ≡ false → b ≡ false
-    rest true b h = cc
-    rest false b h = h
-
 -- the least number that passes
 find_from : (f : ℕ → Bool) (p a n : ℕ) → f p ≡ true → ((q : ℕ) → q < p → f q ≡ false) → a ≤ p → p < a + n → find f (range_with_len a n) ≡ Some p
 find_from f p a zero here before low high = absurd (omega arith)
@@ -111,58 +70,6 @@ find_least f p n h here before = find_from f p 0 n here before (omega arith) (om
 pub find_nothing : (f : ℕ → Bool) (a n : ℕ) → ((q : ℕ) → f q ≡ false) → find f (range_with_len a n) ≡ None
 find_nothing f a zero never = refl
 find_nothing f a (suc n) never = ap (λ b. cond b (Some a) (find f (range_with_len (a + 1) n))) (never a) ∙ find_nothing f (a + 1) n never
-
--- ---- what adding a signal keeps
-
-pub All-with : (P : SignalData → Type 0) (s : SignalData) (xs : List SignalData) → P s → All P xs → All P (with_signal s xs)
-All-with P s [] here all = All-cons P s [] here all
-All-with P s (t ∷ xs) here all = by_test (ltb s.start t.start) (All-with P s xs here (All-tail P t xs all))
-  where
-    by_test : (b : Bool) → All P (with_signal s xs) → All P (cond b (s ∷ t ∷ xs) (t ∷ with_signal s xs))
-    by_test true later = All-cons P s (t ∷ xs) here all
-    by_test false later = All-cons P t (with_signal s xs) (All-head P t xs all) later
-
-pub AllPairs-tail : {X : Type 0} (R : X → X → Type 0) (x : X) (xs : List X) → AllPairs R (x ∷ xs) → AllPairs R xs
-AllPairs-tail R x xs pairs i j d low high = pairs (suc i) (suc j) d (omega arith) (omega arith)
-
-pub AllPairs-head : {X : Type 0} (R : X → X → Type 0) (x : X) (xs : List X) → AllPairs R (x ∷ xs) → All (R x) xs
-AllPairs-head R x xs pairs k d h = pairs 0 (suc k) d (omega arith) (omega arith)
-
-pub AllPairs-with : (R : SignalData → SignalData → Type 0) (s : SignalData) (xs : List SignalData) → All (R s) xs → All (λ t. R t s) xs → AllPairs R xs → AllPairs R (with_signal s xs)
-AllPairs-with R s [] after before pairs = AllPairs-cons R s [] after pairs
-AllPairs-with R s (t ∷ xs) after before pairs =
-    by_test (ltb s.start t.start) (AllPairs-with R s xs (All-tail (R s) t xs after) (All-tail (λ u. R u s) t xs before) (AllPairs-tail R t xs pairs))
-  where
-    by_test : (b : Bool) → AllPairs R (with_signal s xs) → AllPairs R (cond b (s ∷ t ∷ xs) (t ∷ with_signal s xs))
-    by_test true later = AllPairs-cons R s (t ∷ xs) after pairs
-    by_test false later = AllPairs-cons R t (with_signal s xs) (All-with (R t) s xs (All-head (λ u. R u s) t xs before) (AllPairs-head R t xs pairs)) later
-
-abbrev pub Rises : SignalData → SignalData → Type 0
-Rises s t = s.start < t.start
-
-rises_later : (a b : ℕ) → ltb a b ≡ false → a ≢ b → b < a
-rises_later a b e n = grind (arith, nat_tests)
-
-pub rising-with : (s : SignalData) (xs : List SignalData) → All (λ t. s.start ≢ t.start) xs → AllPairs Rises xs → AllPairs Rises (with_signal s xs)
-rising-with s [] other pairs = AllPairs-cons Rises s [] (λ k d h. absurd (omega arith)) pairs
-rising-with s (t ∷ xs) other pairs =
-    by_test (ltb s.start t.start) refl (rising-with s xs (All-tail (λ u. s.start ≢ u.start) t xs other) (AllPairs-tail Rises t xs pairs))
-  where
-    by_test : (b : Bool) → ltb s.start t.start ≡ b → AllPairs Rises (with_signal s xs) → AllPairs Rises (cond b (s ∷ t ∷ xs) (t ∷ with_signal s xs))
-    by_test true e later =
-        let below : s.start < t.start = ltb-true s.start t.start e in
-        AllPairs-cons Rises s (t ∷ xs) (All-cons (Rises s) t xs below (All-weaker (Rises t) (Rises s) (λ u h. omega arith) xs (AllPairs-head Rises t xs pairs))) pairs
-    by_test false e later =
-        let below : t.start < s.start = rises_later s.start t.start e (All-head (λ u. s.start ≢ u.start) t xs other) in
-        AllPairs-cons Rises t (with_signal s xs) (All-with (Rises t) s xs below (AllPairs-head Rises t xs pairs)) later
-
-pub length-with_signal : (s : SignalData) (xs : List SignalData) → length (with_signal s xs) ≡ length xs + 1
-length-with_signal s [] = refl
-length-with_signal s (t ∷ xs) = by_test (ltb s.start t.start) (length-with_signal s xs)
-  where
-    by_test : (b : Bool) → length (with_signal s xs) ≡ length xs + 1 → length (cond b (s ∷ t ∷ xs) (t ∷ with_signal s xs)) ≡ length (t ∷ xs) + 1
-    by_test true later = omega arith
-    by_test false later = omega (arith, later)
 
 or_turned : (a b c : Bool) → (b || (a || c)) ≡ (a || (b || c))
 or_turned true true c = refl
@@ -296,25 +203,18 @@ admitted l s h =
 
 -- ---- the least bit that is taken
 
-taken_test : LayoutData → SignalData → ℕ → Bool
-taken_test l s p = uses s p && is_some (user_of l.signals p)
-
-first_taken_is : (l : LayoutData) (s : SignalData) → first_taken l s ≡ option_and_then (taken_at l.signals) (find (taken_test l s) (range_with_len 0 (16 * l.words)))
-unfolding first_taken taken_test
-first_taken_is l s = refl
-
 abbrev number : Bool → ℕ
 number b = cond b 1 0
 
 -- a bit is 1 in the kept payload where a signal uses it
-kept_bit : (l : LayoutData) (used : List ℕ) (p : ℕ) → IsKept l used → (payload_bit used p ≡ 1) → is_some (user_of l.signals p) ≡ true
+kept_bit : (l : LayoutData) (used : List ℕ) (p : ℕ) → IsKept l used → (word_bit used p ≡ 1) → is_some (user_of l.signals p) ≡ true
 kept_bit l used p kept bit = by_test (is_some (user_of l.signals p)) (sym (kept.bits p) ∙ bit)
   where
     by_test : (b : Bool) → number b ≡ 1 → b ≡ true
     by_test true e = refl
     by_test false e = absurd (omega arith)
 
-test_false : (l : LayoutData) (used : List ℕ) (s : SignalData) (q : ℕ) → IsKept l used → (IsTrue (uses s q) → payload_bit used q ≢ 1) → taken_test l s q ≡ false
+test_false : (l : LayoutData) (used : List ℕ) (s : SignalData) (q : ℕ) → IsKept l used → (IsTrue (uses s q) → word_bit used q ≢ 1) → taken_test l s q ≡ false
 unfolding taken_test
 test_false l used s q kept free = by_tests (uses s q) (is_some (user_of l.signals q)) refl refl
   where
@@ -323,14 +223,14 @@ test_false l used s q kept free = by_tests (uses s q) (is_some (user_of l.signal
     by_tests true false e f = refl
     by_tests true true e f = absurd (free e (kept.bits q ∙ ap number f))
 
-pub taken_none : (l : LayoutData) (used : List ℕ) (s : SignalData) → IsKept l used → ((p : ℕ) → IsTrue (uses s p) → payload_bit used p ≡ 0) → first_taken l s ≡ None
+pub taken_none : (l : LayoutData) (used : List ℕ) (s : SignalData) → IsKept l used → ((p : ℕ) → IsTrue (uses s p) → word_bit used p ≡ 0) → first_taken l s ≡ None
 taken_none l used s kept free =
     first_taken_is l s
     ∙ ap (option_and_then (taken_at l.signals))
     (find_nothing (taken_test l s) 0 (16 * l.words) (λ q. test_false l used s q kept (λ u e. absurd (omega (arith, free q u, e)))))
 
-pub taken_some : (l : LayoutData) (used : List ℕ) (s t : SignalData) (p : ℕ) → IsKept l used → IsTrue (lies_inside l.words s) → IsTrue (uses s p) → payload_bit used p ≡ 1 →
-    ((q : ℕ) → IsTrue (uses s q) → payload_bit used q ≡ 1 → p ≤ q) → user_of l.signals p ≡ Some t → bit_taken (first_taken l s) ≡ Err (BitTaken p t.name)
+pub taken_some : (l : LayoutData) (used : List ℕ) (s t : SignalData) (p : ℕ) → IsKept l used → IsTrue (lies_inside l.words s) → IsTrue (uses s p) → word_bit used p ≡ 1 →
+    ((q : ℕ) → IsTrue (uses s q) → word_bit used q ≡ 1 → p ≤ q) → user_of l.signals p ≡ Some t → bit_taken (first_taken l s) ≡ Err (BitTaken p t.name)
 unfolding taken_test
 taken_some l used s t p kept inside here bit least user =
     let entry = uses_entry s p here in
@@ -341,7 +241,7 @@ taken_some l used s t p kept inside here bit least user =
     ap bit_taken (first_taken_is l s ∙ (ap (option_and_then (taken_at l.signals)) found ∙ ap (option_map (λ s. (p, s.name))) user))
 
 -- a used bit has a user
-pub has_user : (l : LayoutData) (used : List ℕ) (p : ℕ) → IsKept l used → payload_bit used p ≡ 1 → user_of l.signals p ≡ None → ⊥
+pub has_user : (l : LayoutData) (used : List ℕ) (p : ℕ) → IsKept l used → word_bit used p ≡ 1 → user_of l.signals p ≡ None → ⊥
 has_user l used p kept bit none = same (sym (kept_bit l used p kept bit) ∙ ap is_some none)
   where
     same : true ≡ false → ⊥
@@ -349,96 +249,22 @@ has_user l used p kept bit none = same (sym (kept_bit l used p kept bit) ∙ ap 
 
 -- ---- a layout with one signal more
 
-find_passes : (f : ℕ → Bool) (xs : List ℕ) (q : ℕ) → find f xs ≡ Some q → f q ≡ true
-find_passes f [] q e = cc
-find_passes f (x ∷ xs) q e = by_test (f x) refl e (find_passes f xs q)
-  where
-    by_test : (b : Bool) → f x ≡ b → cond b (Some x) (find f xs) ≡ Some q → (find f xs ≡ Some q → f q ≡ true) → f q ≡ true
-    by_test true h e later = let same : x ≡ q = cc in ap f (sym same) ∙ h
-    by_test false h e later = later e
-
-find_none_all : (f : ℕ → Bool) (a n p : ℕ) → find f (range_with_len a n) ≡ None → a ≤ p → p < a + n → f p ≡ false
-find_none_all f a zero p e low high = absurd (omega arith)
-find_none_all f a (suc n) p e low high = by_test (f a) refl e (λ none less. find_none_all f (a + 1) n p none less (omega arith)) (eqb_tells a p)
-  where
-    by_test : (b : Bool) → f a ≡ b → cond b (Some a) (find f (range_with_len (a + 1) n)) ≡ None → (find f (range_with_len (a + 1) n) ≡ None → a + 1 ≤ p → f p ≡ false) →
-        ((eqb a p ≡ true) × (a ≡ p)) ⊎ ((eqb a p ≡ false) × (a ≢ p)) → f p ≡ false
-    by_test true h e later either = cc
-    by_test false h e later (inl same) = ap f (sym same.1) ∙ h
-    by_test false h e later (inr other) = later e (omega (arith, other.1))
-
-none_taken : (l : LayoutData) (s : SignalData) (o : Option ℕ) → ((q : ℕ) → o ≡ Some q → taken_test l s q ≡ true) → option_and_then (taken_at l.signals) o ≡ None → o ≡ None
-unfolding taken_test
-none_taken l s None passes e = refl
-none_taken l s (Some q) passes e = absurd (no_user (user_of l.signals q) (uses s q) (passes q refl) e)
-  where
-    named : SignalData → ℕ × List ℕ
-    named t = (q, t.name)
-
-    no_user : (u : Option SignalData) (b : Bool) → (b && is_some u) ≡ true → option_map named u ≡ None → ⊥
-    no_user None true h e = cc
-    no_user None false h e = cc
-    no_user (Some t) b h e = cc
-
-free_tests : (l : LayoutData) (s : SignalData) (p : ℕ) → first_taken l s ≡ None → p < 16 * l.words → taken_test l s p ≡ false
-free_tests l s p free below =
-    find_none_all (taken_test l s) 0 (16 * l.words) p
-    (none_taken l s (find (taken_test l s) (range_with_len 0 (16 * l.words))) (find_passes (taken_test l s) (range_with_len 0 (16 * l.words))) (sym (first_taken_is l s) ∙ free))
-    (omega arith) (omega arith)
-
-true-false : true ≡ false → ⊥
-true-false e = cc
-
--- a free signal shares no bit with the others
-free_apart : (l : LayoutData) (s : SignalData) → IsTrue (lies_inside l.words s) → first_taken l s ≡ None → All (AreApart s) l.signals
-unfolding taken_test
-free_apart l s inside free k d within p here there =
-    let entry = uses_entry s p here in
-    let below : p < 16 * l.words = omega (arith, entry.2, inside_below s l.words (16 * l.words) inside (omega arith) entry.0 0 (omega (arith, entry.1, length-bits_of s))) in
-    let user : is_some (user_of l.signals p) ≡ true = is_some-user_of l.signals p ∙ list_any_at (λ t. uses t p) l.signals k d within there in
-    true-false (sym (ap (λ b. b && is_some (user_of l.signals p)) here ∙ user) ∙ free_tests l s p free below)
-
-pub length_bounds : (n : ℕ) → IsTrue (is_signal_length n) → (1 ≤ n) × (n ≤ 64)
-length_bounds n h = (grind (arith, nat_tests), grind (arith, nat_tests))
-
-other_names : (l : LayoutData) (s : SignalData) → has_signal l.signals s.name ≡ false → All (λ t. t.name ≢ s.name) l.signals
-other_names l s fresh k d within e =
-    true-false (sym ((bytes_eq-Decides (get_or l.signals k d).name s.name).1 e) ∙ none_of (λ t. bytes_eq t.name s.name) l.signals fresh k d within)
-
-other_starts : (l : LayoutData) (s : SignalData) → IsLayout l → 1 ≤ s.length → All (AreApart s) l.signals → All (λ t. s.start ≢ t.start) l.signals
-other_starts l s sound long apart k d within same =
-    apart k d within s.start (uses_start s long)
-    (ap (uses (get_or l.signals k d)) same ∙ uses_start (get_or l.signals k d) (length_bounds (get_or l.signals k d).length (sound.lengths k d within)).0)
-
 ones_or : (a b : Bool) → cond a 1 (number b) ≡ number (a || b)
 ones_or true b = refl
 ones_or false b = refl
 
 pub kept_with : (l : LayoutData) (used new : List ℕ) (s : SignalData) → IsKept l used → Admitted l s → IsTrue (is_signal_length s.length) →
-    ((p : ℕ) → payload_bit new p ≡ put_over (bits_of s) (2 ^ 64 - 1) p (payload_bit used p)) → length new ≡ length used → IsKept (extended l s) new
+    ((p : ℕ) → word_bit new p ≡ cond (uses s p) 1 (word_bit used p)) → length new ≡ 127 → IsKept (extended l s) new
 kept_with l used new s kept passed long bits same =
-    let bounds = length_bounds s.length long in
-    let apart : All (AreApart s) l.signals = free_apart l s passed.inside passed.free in
-    let names : All (λ t. t.name ≢ s.name) l.signals = other_names l s passed.fresh in
-    let room : length l.signals < 64 = grind (arith, nat_tests, passed.room) in
     record {
-      sound = record {
-        words = kept.sound.words;
-        count = omega (arith, length-with_signal s l.signals, room);
-        lengths = All-with (λ t. IsTrue (is_signal_length t.length)) s l.signals long kept.sound.lengths;
-        inside = All-with (λ t. IsTrue (lies_inside l.words t)) s l.signals passed.inside kept.sound.inside;
-        apart = AllPairs-with AreApart s l.signals apart (λ k d within p there here. apart k d within p here there) kept.sound.apart;
-        names = AllPairs-with (λ t u. t.name ≢ u.name) s l.signals (λ k d within e. names k d within (sym e)) names kept.sound.names;
-        rising = rising-with s l.signals (other_starts l s kept.sound bounds.0 apart) kept.sound.rising;
-      };
-      size = same ∙ kept.size;
+      sound = with_signal-layout l s kept.sound long passed.fresh (grind (arith, nat_tests, passed.room)) passed.inside passed.free;
+      size = same;
       bits = λ p.
           bits p
-          ∙ (put_over_alike s (2 ^ 64 - 1) 1 p (payload_bit used p) (λ i within. bit_at_ones 64 i (omega (arith, bounds.1)))
           ∙ (ap (cond (uses s p) 1) (kept.bits p)
           ∙ (ones_or (uses s p) (is_some (user_of l.signals p))
           ∙ ap number
-          (ap (λ b. uses s p || b) (is_some-user_of l.signals p) ∙ (sym (list_any-with_signal (λ t. uses t p) s l.signals) ∙ sym (is_some-user_of (with_signal s l.signals) p))))));
+          (ap (λ b. uses s p || b) (is_some-user_of l.signals p) ∙ (sym (list_any-with_signal (λ t. uses t p) s l.signals) ∙ sym (is_some-user_of (with_signal s l.signals) p)))));
     }
 
 -- ---- a layout with one signal less
@@ -493,31 +319,21 @@ zero_unless true b = refl
 zero_unless false b = refl
 
 pub kept_without : (l : LayoutData) (used new : List ℕ) (i : ℕ) (t : SignalData) → IsKept l used → i < length l.signals → t ≡ get_or l.signals i t →
-    ((p : ℕ) → payload_bit new p ≡ put_over (bits_of t) 0 p (payload_bit used p)) → length new ≡ length used → IsKept (record l { signals = remove l.signals i }) new
+    ((p : ℕ) → word_bit new p ≡ cond (uses t p) 0 (word_bit used p)) → length new ≡ 127 → IsKept (record l { signals = remove l.signals i }) new
 kept_without l used new i t kept within at bits same =
     let taken_out : filter (λ s. not (bytes_eq s.name t.name)) l.signals ≡ remove l.signals i = without_is l.signals i t.name t kept.sound.names within (ap (λ (s : SignalData). s.name) (sym at)) in
     let Sound : List SignalData → Type 0 = λ xs. IsLayout (record l { signals = xs }) in
-    let fewer : length (filter (λ s. not (bytes_eq s.name t.name)) l.signals) ≤ 64 = omega (arith, ap length taken_out, length-remove l.signals i within, kept.sound.count) in
     record {
-      sound = subst Sound taken_out (record {
-        words = kept.sound.words;
-        count = fewer;
-        lengths = All-filter (λ s. not (bytes_eq s.name t.name)) (λ s. IsTrue (is_signal_length s.length)) l.signals kept.sound.lengths;
-        inside = All-filter (λ s. not (bytes_eq s.name t.name)) (λ s. IsTrue (lies_inside l.words s)) l.signals kept.sound.inside;
-        apart = AllPairs-filter AreApart (λ s. not (bytes_eq s.name t.name)) l.signals kept.sound.apart;
-        names = AllPairs-filter (λ s u. s.name ≢ u.name) (λ s. not (bytes_eq s.name t.name)) l.signals kept.sound.names;
-        rising = AllPairs-filter Rises (λ s. not (bytes_eq s.name t.name)) l.signals kept.sound.rising;
-      });
-      size = same ∙ kept.size;
+      sound = subst Sound taken_out (filter-layout l (λ s. not (bytes_eq s.name t.name)) kept.sound);
+      size = same;
       bits = λ p.
           bits p
-          ∙ (put_over_alike t 0 0 p (payload_bit used p) (λ i within. bit_at-zero i)
           ∙ (ap (cond (uses t p) 0) (kept.bits p)
           ∙ (zero_unless (uses t p) (is_some (user_of l.signals p))
           ∙ ap number
           (ap (cond (uses t p) false) (is_some-user_of l.signals p)
           ∙ (ap (λ s. cond (uses s p) false (list_any (λ s. uses s p) l.signals)) at
-          ∙ (sym (any_without l.signals i p t kept.sound.apart within) ∙ sym (is_some-user_of (remove l.signals i) p)))))));
+          ∙ (sym (any_without l.signals i p t kept.sound.apart within) ∙ sym (is_some-user_of (remove l.signals i) p))))));
     }
 
 -- a search by position
@@ -569,24 +385,16 @@ get_or-zeros zero k = refl
 get_or-zeros (suc n) zero = refl
 get_or-zeros (suc n) (suc k) = get_or-zeros n k
 
-pub payload_bit-zeros : (n p : ℕ) → payload_bit (replicate n 0) p ≡ 0
-payload_bit-zeros n p = ap (λ b. bit_at b (p % 8)) (get_or-zeros n (p / 8)) ∙ bit_at-zero (p % 8)
+pub word_bit-zeros : (n p : ℕ) → word_bit (replicate n 0) p ≡ 0
+word_bit-zeros n p = ap (λ b. bit_at b (p % 16)) (get_or-zeros n (p / 16)) ∙ bit_at-zero (p % 16)
 
-pub kept_empty : (words : ℕ) (items : List SignalData) (used : List ℕ) → words ≤ 127 → items ≡ [] → used ≡ replicate 254 0 → IsKept (record { words = words; signals = items }) used
+pub kept_empty : (words : ℕ) (items : List SignalData) (used : List ℕ) → words ≤ 127 → items ≡ [] → used ≡ replicate 127 0 → IsKept (record { words = words; signals = items }) used
 kept_empty words items used small none all_zero =
-    let Kept : List SignalData → List ℕ → Type 0 = λ xs bytes. IsKept (record { words = words; signals = xs }) bytes in
+    let Kept : List SignalData → List ℕ → Type 0 = λ xs used. IsKept (record { words = words; signals = xs }) used in
     subst (λ xs. Kept xs used) (sym none) (subst (Kept []) (sym all_zero) (record {
-      sound = record {
-        words = small;
-        count = omega arith;
-        lengths = λ k d h. absurd (omega arith);
-        inside = λ k d h. absurd (omega arith);
-        apart = λ i j d h below. absurd (omega arith);
-        names = λ i j d h below. absurd (omega arith);
-        rising = λ i j d h below. absurd (omega arith);
-      };
-      size = length-replicate {A = ℕ} 254 0;
-      bits = payload_bit-zeros 254;
+      sound = empty-layout words small;
+      size = length-replicate {A = ℕ} 127 0;
+      bits = word_bit-zeros 127;
     }))
 
 -- the signal is inserted at its place

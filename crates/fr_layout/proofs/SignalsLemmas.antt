@@ -1,11 +1,10 @@
 -- Laws of the loops over signals.
-use Rattle.std.proofs.Common.{◌≡◌, ◌≢◌, ℕ, ◌+◌, ◌<◌, ◌≤◌, min, Bool, true, false, List, take, length, get_or, Option, Some, None, refl, sym, ◌∙◌, ap, arith, leb, below_more, add-one, AllPairs, IsTrue, IfNone, IfSome, inl, inr, ◌⊎◌}
+use Rattle.std.proofs.Common.{◌≡◌, ◌≢◌, ℕ, ◌+◌, ◌<◌, ◌≤◌, min, Bool, true, false, List, take, length, get_or, Option, Some, None, unwrap_or, refl, sym, ◌∙◌, ap, arith, leb, below_more, add-one, AllPairs, IsTrue, IfNone, IfSome, inl, inr, ◌⊎◌}
 use Rattle.fr_base.specs.Signals.{SignalData}
 use Rattle.fr_base.specs.Bits.{bits_of, image_bit, uses}
 use Rattle.fr_base.specs.Layouts.{AreApart}
 use Rattle.fr_layout.proofs.BitsLemmas.{put_over, image_bit-take, uses_at}
 use Rattle.fr_layout.proofs.LayoutLemmas.{uses_entry}
-use Rattle.std.specs.Option.{option_map_or}
 use Rattle.std.proofs.lemmas.Bool.Decides.{nat_tests}
 
 -- the least of the first n positions whose bit is 1
@@ -20,9 +19,10 @@ LeastBelow-not f qs n at (Some p) (k, below, here, used, least) is unused bit =
     (k, omega arith, here, used, below_more (λ j. f (get_or qs j 0) ≡ 1 → p ≤ get_or qs j 0) n least (λ e. absurd (unused (ap f is ∙ e))))
 
 pub LeastBelow-more : (f : ℕ → ℕ) (qs : List ℕ) (n at : ℕ) (o : Option ℕ) → LeastBelow f qs n o → at ≡ get_or qs n 0 → f at ≡ 1 →
-    LeastBelow f qs (n + 1) (Some (option_map_or (λ before. min before at) o at))
+    LeastBelow f qs (n + 1) (Some (min (unwrap_or o at) at))
 LeastBelow-more f qs n at None before is used =
-    (n, omega arith, sym is, used, below_more (λ j. f (get_or qs j 0) ≡ 1 → at ≤ get_or qs j 0) n (λ j below e. absurd (omega (arith, before j below, e))) (λ e. omega (arith, is)))
+    let same : min at at ≡ at = omega arith in
+    (n, omega arith, sym (same ∙ is), ap f same ∙ used, below_more (λ j. f (get_or qs j 0) ≡ 1 → min at at ≤ get_or qs j 0) n (λ j below e. absurd (omega (arith, before j below, e))) (λ e. omega (arith, is)))
 LeastBelow-more f qs n at (Some p) (k, below, here, bit, least) is used =
     elim (either p at) [
       | inl le ↦

@@ -5,10 +5,10 @@ ghost use Rattle.fr_layout.specs.Packing.{FailsAs, packed, unpacked};
 ghost use Rattle.fr_layout.specs.declared.pack_fault.PackFault.TheVariants.{NoMemory};
 
 use crate::bits::lies_inside;
+use crate::occupancy::Occupancy;
 use crate::pack_fault::PackFault;
-use crate::payload::write;
 use crate::signals::{
-    first_after, first_too_large, has_signal, image, index_of, least_used, user_of, values_in,
+    first_after, first_too_large, has_signal, image, index_of, user_of, values_in,
 };
 use fr_base::{Name, Refusal, Signal};
 use std::alloc::Global;
@@ -17,9 +17,6 @@ use std::marker::Model;
 /// How many signals a layout has at most.
 const MAX_SIGNALS: usize = 64;
 
-/// How many bytes a payload has at most.
-const MAX_BYTES: usize = 254;
-
 /// The signals of a frame in a payload of up to 127 words of two bytes (FlexRay Protocol Specification
 /// 2.1 Rev. A, 4.2.2): at most 64, each inside the payload, no two of one name, and no bit in two of
 /// them. They are listed in the order of their starts.
@@ -27,8 +24,8 @@ const MAX_BYTES: usize = 254;
 pub struct Layout {
     words: u32,
     signals: Vec<Signal>,
-    /// The payload in which just the bits are 1 that a signal uses.
-    used: [u8; MAX_BYTES],
+    /// The bits that a signal uses.
+    used: Occupancy,
 }
 
 impl Model for Layout {
@@ -39,7 +36,7 @@ impl Model for Layout {
 
     ghost view = { λ l. record { words = l.words; signals = l.signals.items } };
 
-    ghost invariant = { λ l. IsKept (record { words = l.words; signals = l.signals.items }) l.used };
+    ghost invariant = { λ l. IsKept (record { words = l.words; signals = l.signals.items }) l.used.words };
 }
 
 impl Layout {
@@ -51,7 +48,7 @@ impl Layout {
         Layout {
             words: payload_words,
             signals: Vec::new(alloc),
-            used: [0; MAX_BYTES],
+            used: Occupancy::new(),
         }
     }
 
@@ -93,7 +90,7 @@ impl Layout {
         if self.signals.insert(index, signal).is_err() {
             return Err(Refusal::Unavailable);
         }
-        write(&mut self.used, signal, u64::MAX);
+        self.used.set(signal, true);
         Ok(())
     }
 
@@ -106,7 +103,7 @@ impl Layout {
             None => Err(Refusal::NoSignal),
             Some(index) => {
                 let signal = self.signals.remove(index);
-                write(&mut self.used, signal, 0);
+                self.used.set(signal, false);
                 Ok(())
             }
         }
@@ -145,7 +142,7 @@ impl Layout {
         requires { IsTrue (lies_inside self.now.words signal) }
         ensures { MatchResult result (λ _. first_taken self.now signal ≡ None) (λ e. bit_taken (first_taken self.now signal) ≡ Err e) }
     {
-        match least_used(&self.used, signal) {
+        match self.used.least_used(signal) {
             None => Ok(()),
             Some(bit) => match user_of(&self.signals, bit) {
                 Some(user) => Err(Refusal::BitTaken {

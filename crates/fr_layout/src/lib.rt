@@ -5,6 +5,7 @@
 mod bits;
 mod laws;
 mod layout;
+mod occupancy;
 mod pack_fault;
 mod payload;
 mod signals;

@@ -8,7 +8,7 @@ use crate::bits::position;
 use fr_base::Signal;
 
 /// Whether payload bit `position` is 1.
-pub(crate) fn has_bit(bytes: &[u8], position: usize) -> bool
+fn has_bit(bytes: &[u8], position: usize) -> bool
     requires { position < 8 * length bytes.now }
     ensures { result ≡ (payload_bit bytes.now position == 1) }
 {

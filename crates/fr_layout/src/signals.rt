@@ -5,8 +5,8 @@ ghost use Rattle.fr_base.specs.Bits.{bits_of, image, payload_bit, uses, value_in
 ghost use Rattle.fr_base.specs.Layouts.{AreApart, has_signal, lies_inside, user_of};
 ghost use Rattle.fr_layout.specs.Packing.{first_too_large};
 
-use crate::bits::{position, uses};
-use crate::payload::{has_bit, read, write};
+use crate::bits::uses;
+use crate::payload::{read, write};
 use fr_base::{Name, Signal};
 use std::alloc::{AllocError, Global};
 
@@ -39,33 +39,6 @@ pub(crate) fn index_of(signals: &[Signal], name: Name) -> Option<usize>
     ensures { result ≡ position (λ s. bytes_eq s.name name) signals.now }
 {
     signals.iter().position(|signal| signal.name() == name)
-}
-
-/// The least of the signal's bits that are 1 in the payload.
-pub(crate) fn least_used(used: &[u8], signal: Signal) -> Option<usize>
-    requires { All (λ p. p < 8 * length used.now) (bits_of signal) }
-    ensures none { IfNone result ((p : ℕ) → IsTrue (uses signal p) → payload_bit used.now p ≡ 0) }
-    ensures found { IfSome result (λ p. IsTrue (uses signal p) × (payload_bit used.now p ≡ 1)) }
-    ensures least { IfSome result (λ p. (q : ℕ) → IsTrue (uses signal q) → payload_bit used.now q ≡ 1 → p ≤ q) }
-{
-    let mut least: Option<usize> = None;
-    for index in 0..signal.length() {
-        let at = position(signal, index);
-        if has_bit(used, at) {
-            least = Some(lesser(least, at));
-        }
-    }
-    least
-}
-
-/// The lesser of the two, where there are two.
-fn lesser(least: Option<usize>, at: usize) -> usize
-    ensures { result ≡ option_map_or (λ before. min before at) least at }
-{
-    match least {
-        Some(before) => before.min(at),
-        None => at,
-    }
 }
 
 /// The least index of a value that has more bits than its signal.

@@ -3,10 +3,8 @@ use fr_base::Order;
 /// Order, start, length and value of a signal alone in a payload of ten bytes, and those bytes: the
 /// first eight and the last two, each as a number whose first byte is the most significant one.
 ///
-/// The bytes are not ours: they are the whole payload as one number, computed by Python's integers. In
-/// little order that number is `value << start`, written from its least significant byte on; in big
-/// order it is `value << (80 - first - length)`, written from its most significant byte on, where
-/// `first` counts the bits that stand before the start, each byte's most significant bit first.
+/// The bytes are not ours: they are packed by bitstruct 8.15.1, of Debian's package python3-bitstruct,
+/// as table.py beside this file says, which writes this file.
 pub(super) static ROWS: [(Order, u32, u32, u64, u64, u16); 128] = [
     (Order::Little, 0, 1, 0x1, 0x0100000000000000, 0x0000),
     (Order::Little, 7, 2, 0x3, 0x8001000000000000, 0x0000),

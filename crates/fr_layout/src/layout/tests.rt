@@ -1,7 +1,8 @@
 use super::table::ROWS;
 use super::*;
 use crate::laws::unpack_undoes_pack;
-use fr_base::Order;
+use fr_base::{BadSignal, Order};
+use std::process::Abort;
 use std::test::Fail;
 
 fn signal(name: &str, start: u32, length: u32, order: Order) -> Result<Signal, Fail> {
@@ -80,66 +81,58 @@ fn both_orders_packed(rt: HostRuntime) -> Result<(), Fail> {
 }
 
 #[test]
-fn signals_refused(rt: HostRuntime) -> Result<(), Fail> {
+fn signals_end_in_the_payload(rt: HostRuntime) -> Result<(), Fail> {
     let word = Layout::new(rt.alloc(), 1);
     assert_eq!(rt; word.admits(&signal("z", 15, 1, Order::Little)?), Ok(()));
-    assert_eq!(rt;
-        word.admits(&signal("z", 15, 2, Order::Little)?),
-        Err(Refusal::OutOfPayload)
-    );
-    assert_eq!(rt;
-        word.admits(&signal("z", 8, 2, Order::Big)?),
-        Err(Refusal::OutOfPayload)
-    );
-    assert_eq!(rt;
-        word.admits(&signal("z", u32::MAX, 64, Order::Little)?),
-        Err(Refusal::OutOfPayload)
-    );
-    assert_eq!(rt;
-        word.admits(&signal("z", u32::MAX, 64, Order::Big)?),
-        Err(Refusal::OutOfPayload)
-    );
     let nothing = Layout::new(rt.alloc(), 0);
-    for order in [Order::Little, Order::Big] {
+    for (layout, start, length, order) in [
+        (&word, 15, 2, Order::Little),
+        (&word, 8, 2, Order::Big),
+        (&word, u32::MAX, 64, Order::Little),
+        (&word, u32::MAX, 64, Order::Big),
+        (&nothing, 0, 1, Order::Little),
+        (&nothing, 0, 1, Order::Big),
+    ] {
         assert_eq!(rt;
-            nothing.admits(&signal("z", 0, 1, order)?),
+            layout.admits(&signal("z", start, length, order)?),
             Err(Refusal::OutOfPayload)
         );
     }
-
-    let mut layout = both(rt.alloc())?;
-    let x = Name::read("x").ok_or("no name")?;
-    let y = Name::read("y").ok_or("no name")?;
-    let refusals = [
-        (
-            signal("z", 11, 1, Order::Little)?,
-            Refusal::BitTaken { bit: 11, signal: x },
-        ),
-        (
-            signal("z", 0, 16, Order::Little)?,
-            Refusal::BitTaken { bit: 0, signal: y },
-        ),
-        (
-            signal("z", 7, 16, Order::Big)?,
-            Refusal::BitTaken { bit: 0, signal: y },
-        ),
-        (signal("x", 0, 1, Order::Little)?, Refusal::Exists),
-    ];
-    for (signal, refusal) in refusals {
-        assert_eq!(rt; layout.add(signal), Err(refusal));
-    }
-    assert_eq!(rt;
-        layout.remove(Name::read("w").ok_or("no name")?),
-        Err(Refusal::NoSignal)
-    );
-    assert_eq!(rt; layout.signals().len(), 2);
-    layout.remove(y)?;
-    layout.add(signal("z", 3, 4, Order::Big)?)?;
     Ok(())
 }
 
 #[test]
-fn packs_the_whole_payload_as_one_number(rt: HostRuntime) -> Result<(), Fail> {
+fn signals_refused(rt: HostRuntime) -> Result<(), Fail> {
+    let name = Name::read("z").ok_or("no name")?;
+    for length in [0, 65] {
+        assert_eq!(rt;
+            Signal::new(name, 0, length, Order::Big).err(),
+            Some(BadSignal)
+        );
+    }
+    let mut layout = both(rt.alloc())?;
+    for (start, length, order, bit, user) in [
+        (11, 1, Order::Little, 11, "x"),
+        (0, 16, Order::Little, 0, "y"),
+        (7, 16, Order::Big, 0, "y"),
+    ] {
+        let signal = Name::read(user).ok_or("no name")?;
+        assert_eq!(rt;
+            layout.add(Signal::new(name, start, length, order)?),
+            Err(Refusal::BitTaken { bit, signal })
+        );
+    }
+    let again = signal("x", 0, 1, Order::Little)?;
+    assert_eq!(rt; layout.add(again), Err(Refusal::Exists));
+    assert_eq!(rt; layout.remove(name), Err(Refusal::NoSignal));
+    assert_eq!(rt; layout.signals().len(), 2);
+    layout.remove(again.name())?;
+    layout.add(signal("z", 4, 8, Order::Little)?)?;
+    Ok(())
+}
+
+#[test]
+fn packs_as_bitstruct_does(rt: HostRuntime) -> Result<(), Fail> {
     for (order, start, length, value, first, last) in &ROWS {
         let mut layout = Layout::new(rt.alloc(), 5);
         layout.add(signal("s", *start, *length, *order)?)?;
@@ -155,22 +148,28 @@ fn packs_the_whole_payload_as_one_number(rt: HostRuntime) -> Result<(), Fail> {
     Ok(())
 }
 
-/// With any one allocation refused, what a call refuses leaves the layout as it was.
-#[test]
-fn refused_memory_changes_nothing(rt: HostRuntime) -> Result<(), Fail> {
-    let mut layout = Layout::new(rt.alloc(), 1);
-    for (start, name) in (0..16).zip("abcdefghijklmnop".bytes()) {
-        let text = [name];
-        let text = std::str::from_utf8(&text).ok().ok_or("no text")?;
-        let added = signal(text, start, 1, Order::Little)?;
+/// One word with a signal of one bit at each bit of its first byte. An addition that is refused memory
+/// changes nothing, and is done again.
+fn one_byte(rt: &impl Abort, alloc: Global) -> Result<Layout, Fail> {
+    let mut layout = Layout::new(alloc, 1);
+    for (start, name) in (0..8).zip(["a", "b", "c", "d", "e", "f", "g", "h"]) {
+        let added = signal(name, start, 1, Order::Little)?;
         let before = layout.signals().len();
         if let Err(refusal) = layout.add(added) {
             assert_eq!(rt; refusal, Refusal::Unavailable);
             assert_eq!(rt; layout.signals().len(), before);
+            assert_eq!(rt; layout.admits(&added), Ok(()));
             layout.add(added)?;
         }
     }
-    let values = [1, 0, 1, 1, 0, 0, 0, 1, 0, 1, 1, 1, 0, 0, 1, 0];
+    Ok(layout)
+}
+
+/// With any one allocation refused, what a call refuses leaves the layout as it was.
+#[test]
+fn refused_memory_changes_nothing(rt: HostRuntime) -> Result<(), Fail> {
+    let layout = one_byte(&rt, rt.alloc())?;
+    let values = [1, 0, 1, 1, 0, 0, 0, 1];
     let bytes = match layout.pack(rt.alloc(), &values) {
         Ok(bytes) => bytes,
         Err(fault) => {
@@ -178,7 +177,7 @@ fn refused_memory_changes_nothing(rt: HostRuntime) -> Result<(), Fail> {
             layout.pack(rt.alloc(), &values)?
         }
     };
-    assert_eq!(rt; bytes.as_slice(), [0x8d, 0x4e].as_slice());
+    assert_eq!(rt; bytes.as_slice(), [0x8d, 0].as_slice());
     let again = match layout.unpack(rt.alloc(), &bytes) {
         Ok(again) => again,
         Err(fault) => {

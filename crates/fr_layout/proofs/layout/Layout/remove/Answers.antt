@@ -18,8 +18,8 @@ invariant_of-self c =
     let kept : LayoutData = record { words = c.self.inside.words; signals = c.self.inside.signals.items } in
     let found = position-Some (λ s. bytes_eq s.name c.args.name) c.deref.result.now c.in-Some.index c.remove-signal.result (sym c.in-Some.ensures) in
     let within : c.in-Some.index < length c.self.inside.signals.items = omega (arith, found.0, ap length c.deref.ensures.value) in
-    subst (λ (xs : List SignalData). IsKept (record { words = c.self.inside.words; signals = xs }) c.write.new.bytes) (sym c.remove-signal.ensures.items)
-    (kept_without kept c.self.inside.used c.write.new.bytes c.in-Some.index c.remove-signal.result c.self.invariant within c.remove-signal.ensures.value c.write.ensures.bits (omega arith))
+    subst (λ (xs : List SignalData). IsKept (record { words = c.self.inside.words; signals = xs }) c.set.new.self.words) (sym c.remove-signal.ensures.items)
+    (kept_without kept c.self.inside.used.words c.set.new.self.words c.in-Some.index c.remove-signal.result c.self.invariant within c.remove-signal.ensures.value c.set.ensures.bits c.set.ensures.size)
 
 pub returns-in-Some-clause-ok : goal.returns-in-Some-clause-ok
 returns-in-Some-clause-ok c =

@@ -1,0 +1,91 @@
+#!/usr/bin/env python3
+"""Refuses each allocation of a script's run in turn, and compares what is answered: refuse_memory.py [--program FILE] [SCRIPT]
+
+The answers that are right stand beside the script, in SCRIPT with the ending .answers. With one allocation refused, a run
+answers Unavailable where that request found no memory, and every other line as the register without that request does; or
+it ends with status 1 and the word NoMemory, and wrote whole lines so far. Each allocation is refused by a small library
+that cc makes, loaded before the C library. It is no test of the gate."""
+import argparse
+import os
+import subprocess
+import sys
+import tempfile
+from pathlib import Path
+
+HERE = Path(__file__).resolve().parent
+UNAVAILABLE = b'{"no":28,"refused":"Unavailable"}'
+
+REFUSER = r"""
+#include <fcntl.h>
+#include <stdlib.h>
+extern void *__libc_malloc(size_t);
+extern void *__libc_realloc(void *, size_t);
+static long calls;
+static int refused(void) {
+    const char *nth = getenv("REFUSED_CALL");
+    if (!nth || ++calls != atol(nth)) return 0;
+    open(getenv("REFUSED_MARK"), O_CREAT | O_WRONLY, 0600);
+    return 1;
+}
+void *malloc(size_t n) { return refused() ? 0 : __libc_malloc(n); }
+void *realloc(void *p, size_t n) { return refused() ? 0 : __libc_realloc(p, n); }
+"""
+
+
+def run(program, script, more=None):
+    ended = subprocess.run([program, "run"], input=script, env={**os.environ, **(more or {})}, capture_output=True)
+    return ended.stdout, ended.stderr, ended.returncode
+
+
+def without(script, answers):
+    """The script without the requests that were answered Unavailable. Lines that are empty are not answered."""
+    cluster, end, requests = script.partition(b"---\n")
+    lines = [line for line in requests.split(b"\n") if line]
+    stands = [line for n, line in enumerate(lines) if n >= len(answers) or answers[n] != UNAVAILABLE]
+    return b"".join([cluster, end, *(line + b"\n" for line in stands)])
+
+
+def fault_of(program, script, out, err, status):
+    """What is wrong with how a run ended, if anything is."""
+    answers = out.split(b"\n")
+    if answers.pop() != b"":
+        return "the last line is not whole"
+    right = run(program, without(script, answers))[0].split(b"\n")[:-1]
+    true = [line for line in answers if line != UNAVAILABLE]
+    if status == 0 and err == b"":
+        return None if true == right else "an answer is wrong"
+    if status == 1 and err == b"slotplan: NoMemory\n":
+        return None if true == right[: len(true)] else "an answer is wrong"
+    return f"status {status}, {err!r}"
+
+
+def main():
+    words = argparse.ArgumentParser(description=__doc__, formatter_class=argparse.RawDescriptionHelpFormatter)
+    words.add_argument("--program", default=HERE.parent / "crates/fr_cli/out/fr_cli", type=Path)
+    words.add_argument("script", nargs="?", default=HERE.parent / "examples/first.script", type=Path)
+    given = words.parse_args()
+    script = given.script.read_bytes()
+    if run(given.program, script) != (given.script.with_suffix(".answers").read_bytes(), b"", 0):
+        sys.exit("the answers are not those beside the script")
+    ended = unavailable = calls = 0
+    with tempfile.TemporaryDirectory() as room:
+        source, library, mark = (Path(room) / name for name in ("refuser.c", "refuser.so", "mark"))
+        source.write_text(REFUSER)
+        subprocess.run(["cc", "-shared", "-fPIC", "-o", library, source], check=True)
+        while True:
+            refused = {"LD_PRELOAD": str(library), "REFUSED_CALL": str(calls + 1), "REFUSED_MARK": str(mark)}
+            out, err, status = run(given.program, script, refused)
+            if not mark.exists():
+                break
+            mark.unlink()
+            calls += 1
+            wrong = fault_of(given.program, script, out, err, status)
+            if wrong:
+                sys.exit(f"allocation {calls} refused: {wrong}")
+            ended += status
+            unavailable += out.count(UNAVAILABLE)
+    print(f"{calls} allocations refused in turn: {ended} runs ended in NoMemory, {unavailable} answers were Unavailable, no answer was wrong")
+
+
+if __name__ == "__main__":
+    main()

@@ -1,0 +1,26 @@
+-- What parameters that passed their check have.
+use Rattle.std.proofs.Common.{◌≡◌, ◌≤◌, Ok, IfOk, ltb, refl, subst, ltb-false}
+use Rattle.fr_base.specs.Parameters.{check_params}
+use Rattle.fr_base.specs.declared.params.RawParams.{RawParams}
+use Rattle.fr_base.proofs.SoundRefusing.{gives_when}
+
+-- they are the ones that were checked
+pub same_params : (p : RawParams) → IfOk (check_params p) (λ q. q ≡ p)
+unfolding check_params
+same_params p =
+    gives_when _ _ _ _ (λ _.
+    gives_when _ _ _ _ (λ _.
+    gives_when _ _ _ _ (λ _.
+    gives_when _ _ _ _ (λ _. refl))))
+
+words-few : (p : RawParams) → IfOk (check_params p) (λ _. p.payload_words ≤ 127)
+unfolding check_params
+words-few p =
+    gives_when _ _ _ _ (λ _.
+    gives_when _ _ (ltb 127 p.payload_words) _ (λ few.
+    gives_when _ _ _ _ (λ _.
+    gives_when _ _ _ _ (λ _. ltb-false 127 p.payload_words few))))
+
+-- their payload has at most 127 words
+pub few_words : (p : RawParams) → check_params p ≡ Ok p → p.payload_words ≤ 127
+few_words p form = subst (λ r. IfOk r (λ _. p.payload_words ≤ 127)) form (words-few p)

@@ -1,0 +1,140 @@
+-- What a request that passed its check has by its own texts and numbers.
+use Rattle.std.proofs.Common.{ℕ, ◌≤◌, ◌&&◌, List, IfOk, IsTrue, nat_le, leb-true, inl, inr}
+use Rattle.std.specs.Prelude.{⊤}
+use Rattle.std.specs.List.{list_all}
+use Rattle.std.proofs.lemmas.Bool.{cases_Bool, and_parts}
+use Rattle.fr_base.specs.Names.{is_name}
+use Rattle.fr_base.specs.Cycles.{cycle_count, is_cycle_set}
+use Rattle.fr_base.specs.Signals.{is_signal_length, order_of_text}
+use Rattle.fr_base.specs.Channels.{channels_in, has_channel, channel_of_text, channels_of_text}
+use Rattle.fr_base.specs.Checks.{name, cycles, slot, channel, channels, placement, signal, parent_name, check}
+use Rattle.fr_base.specs.Sound.{HasChannelSlot, FitsCluster}
+use Rattle.fr_base.specs.declared.name.Name.{Name}
+use Rattle.fr_base.specs.declared.params.Params.{Params}
+use Rattle.fr_base.specs.declared.request.Actor.{Actor}
+use Rattle.fr_base.specs.declared.request.Request.{Request}
+use Rattle.fr_base.specs.declared.request.Request.TheVariants as request
+use Rattle.fr_base.specs.declared.request.Command.{Command}
+use Rattle.fr_base.specs.declared.request.Command.TheVariants.{OpenVariant, Release, AddNode, Grant, Revoke, AddFrame, DropFrame, Place, Unplace, AddSignal, DropSignal}
+use Rattle.fr_base.specs.declared.request.Checked.{Checked}
+use Rattle.fr_base.specs.declared.request.Checked.TheVariants as checked
+use Rattle.fr_base.proofs.SoundRefusing.{gives_or, gives_bind, gives_each, gives_when, gives_unless}
+
+-- the names that a command brings into the book are names, its slot, channels and cycles fit the cluster, and its signal has 1 to 64 bits
+abbrev pub HasForm : Params → Command → Type 0
+HasForm p (OpenVariant v parent) = IsTrue (is_name v)
+HasForm p (Release v) = ⊤
+HasForm p (AddNode s n) = IsTrue (is_name n)
+HasForm p (Grant v k c s n) = HasChannelSlot p (k, c)
+HasForm p (Revoke v k c s) = ⊤
+HasForm p (AddFrame v f n) = IsTrue (is_name f)
+HasForm p (DropFrame v f) = ⊤
+HasForm p (Place v f q) = FitsCluster p q
+HasForm p (Unplace v f q) = ⊤
+HasForm p (AddSignal v f s) = IsTrue (is_name s.name) × IsTrue (is_signal_length s.length)
+HasForm p (DropSignal v f s) = ⊤
+
+abbrev pub IsFormed : Params → Checked → Type 0
+IsFormed p (checked.Command command) = HasForm p command
+IsFormed p (checked.Query query) = ⊤
+
+name-form : (text : List ℕ) → IfOk (name text) (λ v. IsTrue (is_name v))
+unfolding name
+name-form text = elim (cases_Bool (is_name text)) [ inl h ↦ rw h (h) | inr h ↦ rw h tt ]
+
+cycles-form : (base repetition : ℕ) → IfOk (cycles base repetition) (λ r. IsTrue (is_cycle_set cycle_count r.base r.repetition))
+unfolding cycles
+cycles-form base repetition = elim (cases_Bool (is_cycle_set cycle_count base repetition)) [ inl h ↦ rw h (h) | inr h ↦ rw h tt ]
+
+slot-form : (p : Params) (n : ℕ) → IfOk (slot p n) (λ k. (1 ≤ k) × (k ≤ p.static_slots))
+unfolding slot
+slot-form p n = elim (cases_Bool (nat_le 1 n && nat_le n p.static_slots)) [
+  | inl h ↦ let both = and_parts _ _ h in rw h ((leb-true 1 n both.0, leb-true n p.static_slots both.1))
+  | inr h ↦ rw h tt
+]
+
+channel-form : (p : Params) (text : List ℕ) → IfOk (channel p text) (λ c. IsTrue (has_channel p.channels c))
+unfolding channel
+channel-form p text = gives_or _ (channel_of_text text) _ _ (λ c _. gives_unless _ _ (has_channel p.channels c) _ (λ h. h))
+
+channels-form : (p : Params) (text : List ℕ) → IfOk (channels p text) (λ cs. IsTrue (list_all (has_channel p.channels) (channels_in cs)))
+unfolding channels
+channels-form p text = gives_or _ (channels_of_text text) _ _ (λ cs _. gives_unless _ _ (list_all (has_channel p.channels) (channels_in cs)) _ (λ h. h))
+
+placement-form : (p : Params) (number : ℕ) (text : List ℕ) (base repetition : ℕ) → IfOk (placement p number text base repetition) (FitsCluster p)
+unfolding placement
+placement-form p number text base repetition =
+    gives_bind _ _ (cycles base repetition) _ (cycles-form base repetition) (λ r selects.
+    gives_bind _ _ (slot p number) _ (slot-form p number) (λ k in_range.
+    gives_bind _ _ (channels p text) _ (channels-form p text) (λ cs has.
+    record { from_one = in_range.0; to_last = in_range.1; channels = has; cycles = selects })))
+
+signal-form : (n : Name) (start length : ℕ) (text : List ℕ) → IsTrue (is_name n) → IfOk (signal n start length text) (λ s. IsTrue (is_name s.name) × IsTrue (is_signal_length s.length))
+unfolding signal
+signal-form n start length text named = gives_or _ (order_of_text text) _ _ (λ order _. gives_unless _ _ (is_signal_length length) _ (λ h. (named, h)))
+
+-- what passes the check has its form
+pub check-form : (p : Params) (actor : Actor) (r : Request) → IfOk (check p actor r) (IsFormed p)
+unfolding check
+check-form p actor (request.OpenVariant variant parent) =
+    gives_when _ _ _ _ (λ _.
+    gives_bind _ _ (name variant) _ (name-form variant) (λ v h.
+    gives_each _ (parent_name parent) _ (λ from _. h)))
+check-form p actor (request.Release variant) =
+    gives_when _ _ _ _ (λ _.
+    gives_each _ (name variant) _ (λ v _. tt))
+check-form p actor (request.AddNode supplier node) =
+    gives_when _ _ _ _ (λ _.
+    gives_each _ (name supplier) _ (λ s _.
+    gives_bind _ _ (name node) _ (name-form node) (λ n h. h)))
+check-form p actor (request.Grant variant number text supplier node) =
+    gives_when _ _ _ _ (λ _.
+    gives_each _ (name variant) _ (λ v _.
+    gives_each _ (name supplier) _ (λ s _.
+    gives_each _ (name node) _ (λ n _.
+    gives_bind _ _ (slot p number) _ (slot-form p number) (λ k in_range.
+    gives_bind _ _ (channel p text) _ (channel-form p text) (λ c has.
+    record { from_one = in_range.0; to_last = in_range.1; channel = has }))))))
+check-form p actor (request.Revoke variant number text supplier) =
+    gives_when _ _ _ _ (λ _.
+    gives_each _ (name variant) _ (λ v _.
+    gives_each _ (name supplier) _ (λ s _.
+    gives_each _ (slot p number) _ (λ k _.
+    gives_each _ (channel p text) _ (λ c _. tt)))))
+check-form p actor (request.AddFrame variant frame node) =
+    gives_when _ _ _ _ (λ _.
+    gives_each _ (name variant) _ (λ v _.
+    gives_bind _ _ (name frame) _ (name-form frame) (λ f h.
+    gives_each _ (name node) _ (λ n _. h))))
+check-form p actor (request.DropFrame variant frame) =
+    gives_when _ _ _ _ (λ _.
+    gives_each _ (name variant) _ (λ v _.
+    gives_each _ (name frame) _ (λ f _. tt)))
+check-form p actor (request.Place variant frame number text base repetition) =
+    gives_when _ _ _ _ (λ _.
+    gives_each _ (name variant) _ (λ v _.
+    gives_each _ (name frame) _ (λ f _.
+    gives_bind _ _ (placement p number text base repetition) _ (placement-form p number text base repetition) (λ q fits. fits))))
+check-form p actor (request.Unplace variant frame number text base repetition) =
+    gives_when _ _ _ _ (λ _.
+    gives_each _ (name variant) _ (λ v _.
+    gives_each _ (name frame) _ (λ f _.
+    gives_each _ (placement p number text base repetition) _ (λ q _. tt))))
+check-form p actor (request.AddSignal variant frame named start length text) =
+    gives_when _ _ _ _ (λ _.
+    gives_each _ (name variant) _ (λ v _.
+    gives_each _ (name frame) _ (λ f _.
+    gives_bind _ _ (name named) _ (name-form named) (λ n h.
+    gives_bind _ _ (signal n start length text) _ (signal-form n start length text h) (λ s form. form)))))
+check-form p actor (request.DropSignal variant frame named) =
+    gives_when _ _ _ _ (λ _.
+    gives_each _ (name variant) _ (λ v _.
+    gives_each _ (name frame) _ (λ f _.
+    gives_each _ (name named) _ (λ n _. tt))))
+check-form p actor (request.Grants variant) = gives_each _ (name variant) _ (λ v _. tt)
+check-form p actor (request.Frames variant) = gives_each _ (name variant) _ (λ v _. tt)
+check-form p actor (request.Schedule variant) = gives_each _ (name variant) _ (λ v _. tt)
+check-form p actor (request.Gaps variant) = gives_each _ (name variant) _ (λ v _. tt)
+check-form p actor (request.Layout variant frame) =
+    gives_each _ (name variant) _ (λ v _.
+    gives_each _ (name frame) _ (λ f _. tt))

@@ -1,0 +1,215 @@
+use super::{
+    BASE, DONE, F1_IN_CYCLE_0, FRAME_F1, GRANT_1_A, NODE_N1, OPEN_V1, PLACE_F1, SCHEDULE, Sheet,
+    check, run,
+};
+use crate::script::tests::refused::{
+    past_a_limit, refused_for_their_text, refused_of_the_register,
+};
+use std::alloc::{AllocError, Global};
+use std::test::Fail;
+
+const NODE_OF_S2: &str = r#"integrator1 {"do":"add_node","supplier":"s2","node":"n2"}"#;
+
+const GRANT_1_B_TO_S2: &str =
+    r#"integrator1 {"do":"grant","variant":"v1","slot":1,"channel":"B","supplier":"s2","node":"n2"}"#;
+
+const PLACE: &str = r#"supplier01 {"do":"place","variant":"v1","frame":"#;
+
+fn first_script(alloc: Global) -> Result<Sheet, AllocError> {
+    let mut sheet = Sheet::new(alloc, &BASE)?;
+    sheet.ask(PLACE_F1, DONE)?;
+    sheet.ask(SCHEDULE, F1_IN_CYCLE_0)?;
+    sheet.ask(
+        r#"integrator1 {"do":"schedule","variant":"v1"}"#,
+        r#"{"lines":["00 0001 A f1 n1 s1"],"ok":"schedule"}"#,
+    )?;
+    Ok(sheet)
+}
+
+fn cells_taken_on_a_and_b(alloc: Global) -> Result<Sheet, AllocError> {
+    let mut sheet = Sheet::new(alloc, &[OPEN_V1, NODE_N1, GRANT_1_A])?;
+    sheet.ask(
+        r#"integrator1 {"do":"grant","variant":"v1","slot":1,"channel":"B","supplier":"s1","node":"n1"}"#,
+        DONE,
+    )?;
+    sheet.ask_each(
+        r#"supplier01 {"do":"add_frame","variant":"v1","node":"n1","frame":"#,
+        &[
+            (r#""f""#, DONE),
+            (r#""g""#, DONE),
+            (r#""e""#, DONE),
+            (r#""h""#, DONE),
+        ],
+        "}",
+    )?;
+    let places = [
+        (r#""f","channels":"AB","base":0,"repetition":2"#, DONE),
+        (
+            r#""g","channels":"B","base":2,"repetition":4"#,
+            r#"{"channel":"B","cycle":2,"frame":"f","no":25,"refused":"CellTaken"}"#,
+        ),
+        (
+            r#""g","channels":"AB","base":2,"repetition":4"#,
+            r#"{"channel":"A","cycle":2,"frame":"f","no":25,"refused":"CellTaken"}"#,
+        ),
+        (r#""g","channels":"B","base":1,"repetition":2"#, DONE),
+        (r#""e","channels":"A","base":3,"repetition":4"#, DONE),
+        (
+            r#""h","channels":"A","base":0,"repetition":1"#,
+            r#"{"channel":"A","cycle":0,"frame":"f","no":25,"refused":"CellTaken"}"#,
+        ),
+    ];
+    sheet.ask_each(PLACE, &places, r#","slot":1}"#)?;
+    Ok(sheet)
+}
+
+fn two_nodes_of_one_supplier(alloc: Global) -> Result<Sheet, AllocError> {
+    let mut sheet = Sheet::new(alloc, &BASE)?;
+    sheet.ask(
+        r#"integrator1 {"do":"add_node","supplier":"s1","node":"n2"}"#,
+        DONE,
+    )?;
+    sheet.ask(
+        r#"integrator1 {"do":"grant","variant":"v1","slot":2,"channel":"A","supplier":"s1","node":"n2"}"#,
+        DONE,
+    )?;
+    let not_granted = r#"{"no":21,"refused":"NotGranted"}"#;
+    let places = [
+        (r#""slot":1,"channels":"AB""#, not_granted),
+        (r#""slot":2,"channels":"A""#, not_granted),
+        (r#""slot":1,"channels":"A""#, DONE),
+    ];
+    sheet.ask_each(
+        r#"supplier01 {"do":"place","variant":"v1","frame":"f1","base":0,"repetition":1,"#,
+        &places,
+        "}",
+    )?;
+    Ok(sheet)
+}
+
+fn two_suppliers_one_slot(alloc: Global) -> Result<Sheet, AllocError> {
+    let mut sheet = Sheet::new(alloc, &BASE)?;
+    sheet.ask(
+        r#"integrator1 {"do":"add_node","supplier":"s1","node":"n2"}"#,
+        DONE,
+    )?;
+    sheet.ask(NODE_OF_S2, DONE)?;
+    let holders = [
+        (r#""s2","node":"n2"}"#, r#"{"no":24,"refused":"Taken"}"#),
+        (r#""s1","node":"n1"}"#, r#"{"no":19,"refused":"Exists"}"#),
+        (
+            r#""s1","node":"n2"}"#,
+            r#"{"no":20,"refused":"NodeDiffers"}"#,
+        ),
+    ];
+    sheet.ask_each(
+        r#"integrator1 {"do":"grant","variant":"v1","slot":1,"channel":"A","supplier":"#,
+        &holders,
+        "",
+    )?;
+    // The slot's other channel is free.
+    sheet.ask(GRANT_1_B_TO_S2, DONE)?;
+    Ok(sheet)
+}
+
+/// The first script with a stranger's node, grant and 257 frames between its lines.
+fn a_strangers_lines_between(alloc: Global) -> Result<Sheet, AllocError> {
+    let mut sheet = Sheet::new(alloc, &[OPEN_V1, NODE_OF_S2, NODE_N1, GRANT_1_B_TO_S2])?;
+    sheet.ask(GRANT_1_A, DONE)?;
+    sheet.ask(FRAME_F1, DONE)?;
+    for i in 1..258 {
+        let request = format!(in alloc;
+            "supplier02 {{\"do\":\"add_frame\",\"variant\":\"v1\",\"frame\":\"f{i}\",\"node\":\"n2\"}}"
+        )?;
+        let answer = if i == 257 {
+            r#"{"no":23,"refused":"Limit"}"#
+        } else {
+            DONE
+        };
+        sheet.ask(request.as_str(), answer)?;
+        if i == 100 {
+            sheet.ask(PLACE_F1, DONE)?;
+        }
+    }
+    sheet.ask(SCHEDULE, F1_IN_CYCLE_0)?;
+    Ok(sheet)
+}
+
+/// The answers to the requests under a key, of those that were written.
+fn answers_to(
+    alloc: Global,
+    key: &str,
+    sheet: &Sheet,
+    written: &str,
+) -> Result<String, AllocError> {
+    let mut answers = String::new(alloc);
+    for (request, answer) in sheet.requests.lines().zip(written.lines()) {
+        if request.starts_with(key) {
+            answers.push_str(answer)?;
+            answers.push('\n')?;
+        }
+    }
+    Ok(answers)
+}
+
+#[test]
+fn the_first_script_is_answered(rt: HostRuntime) -> Result<(), Fail> {
+    check(&rt, &first_script(rt.alloc())?)?;
+    Ok(())
+}
+
+#[test]
+fn filled_cells_are_taken(rt: HostRuntime) -> Result<(), Fail> {
+    check(&rt, &cells_taken_on_a_and_b(rt.alloc())?)?;
+    Ok(())
+}
+
+#[test]
+fn a_grant_is_of_a_node(rt: HostRuntime) -> Result<(), Fail> {
+    check(&rt, &two_nodes_of_one_supplier(rt.alloc())?)?;
+    Ok(())
+}
+
+#[test]
+fn a_slot_on_a_channel_has_one_holder(rt: HostRuntime) -> Result<(), Fail> {
+    check(&rt, &two_suppliers_one_slot(rt.alloc())?)?;
+    Ok(())
+}
+
+#[test]
+fn a_stranger_changes_no_answer(rt: HostRuntime) -> Result<(), Fail> {
+    let alloc = rt.alloc();
+    let alone = first_script(alloc)?;
+    let among = a_strangers_lines_between(alloc)?;
+    check(&rt, &among)?;
+    let (first, _) = run(alloc, alone.script(alloc)?.as_bytes());
+    let (second, _) = run(alloc, among.script(alloc)?.as_bytes());
+    let mine = answers_to(alloc, "supplier01 ", &alone, str::from_utf8(&first)?)?;
+    let also_mine = answers_to(alloc, "supplier01 ", &among, str::from_utf8(&second)?)?;
+    assert_eq!(rt; mine.lines().count(), 3);
+    assert_eq!(rt; mine, also_mine);
+    Ok(())
+}
+
+#[test]
+fn office_succeeds_where_memory_is_ample(rt: HostRuntime) -> Result<(), Fail> {
+    let alloc = rt.alloc();
+    let sheets = [
+        first_script(alloc)?,
+        cells_taken_on_a_and_b(alloc)?,
+        two_nodes_of_one_supplier(alloc)?,
+        two_suppliers_one_slot(alloc)?,
+        a_strangers_lines_between(alloc)?,
+        refused_for_their_text(alloc)?,
+        refused_of_the_register(alloc)?,
+        past_a_limit(alloc)?,
+    ];
+    for sheet in sheets.iter() {
+        let (written, done) = run(alloc, sheet.script(alloc)?.as_bytes());
+        assert_eq!(rt; done, Ok(()));
+        for answer in str::from_utf8(&written)?.lines() {
+            assert!(rt; !answer.contains("Unavailable"));
+        }
+    }
+    Ok(())
+}
