@@ -73,10 +73,10 @@ answering-line c d lines line book new answer written text so same replied e =
     (answering-more c lines line book new answer written so (subst (λ x. Replied x book (ask_in x line) answer new) same replied))
 
 -- A request that is answered leaves a sound book sound.
-pub answers-sound : (c : Cluster) (old new : Book) (ask : Ask) (answer : Answer) → Answers c old ask answer new → IsSound c old → IsSound c new
-answers-sound c old new ask answer answers sound = elim answers [
+pub answers-sound : (c : Cluster) (old new : Book) (ask : Ask) (answer : Answer) → Answers c old ask answer new → IsWellFormed c → IsSound c old → IsSound c new
+answers-sound c old new ask answer answers formed sound = elim answers [
   | inl lacks ↦ subst (IsSound c) (sym lacks.2) sound
-  | inr steps ↦ subst (IsSound c) (sym steps.1) (step-sound c old sound ask.actor ask.request)
+  | inr steps ↦ subst (IsSound c) (sym steps.1) (step-sound c old sound formed ask.actor ask.request)
 ]
 
 -- The lines are answered up to those that are left.
@@ -91,7 +91,7 @@ answered_to c lines front left book written formed whole so =
         answers = so.answers;
         last = book;
         run = so.run;
-        sound = run-sound c (opening c) book asks so.answers (opening-sound c formed) so.run;
+        sound = run-sound c (opening c) book asks so.answers formed (opening-sound c formed) so.run;
         bytes = so.bytes;
       };
     }

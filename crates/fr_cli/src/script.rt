@@ -1,5 +1,5 @@
 //! Runs a script: reads it, and writes the answer to each of its requests.
-ghost use Rattle.std.specs.Prelude.{◌≡◌, ◌⊎◌, ◌<◌, ◌++◌, ◌∷◌, ℕ, List, [], length, Some, None, Ok, Err, IfErr, IfOk, IfSome, IsErrOf, IsOk, IsTrue, OnOk};
+ghost use Rattle.std.specs.Prelude.{◌≡◌, ◌⊎◌, ◌<◌, ◌++◌, ◌∷◌, ℕ, List, [], codes, length, Some, None, Ok, Err, IfErr, IfOk, IfSome, IsErrOf, IsOk, IsTrue, OnOk};
 ghost use Rattle.std.specs.Io.KnownBytes.{Appends, IsAtEnd, Keeps};
 ghost use Rattle.fr_base.specs.Book.{opening};
 ghost use Rattle.fr_base.specs.Step.{knows};
@@ -9,6 +9,7 @@ ghost use Rattle.fr_cli.specs.Asked.{ask_in};
 ghost use Rattle.fr_cli.specs.Books.{book_of, Replied};
 ghost use Rattle.fr_cli.specs.Output.{IsAnsweredTo, IsCutShort, IsOutput, LacksMemory, cluster_in};
 ghost use Rattle.fr_cli.specs.Script.{request_lines};
+ghost use Rattle.fr_text.specs.AnswerText.{text_of};
 ghost use Rattle.fr_text.specs.declared.cluster_file.ConfigFault.{ConfigFault};
 
 use crate::book::Book;
@@ -18,7 +19,7 @@ use crate::output::{Retries, flush, write_all};
 use crate::script_fault::ScriptFault;
 use fr_base::{Answer, Ask, Config, Refusal};
 use fr_text::{ConfigFault, append_answer, read_command, read_config};
-use std::alloc::Global;
+use std::alloc::{AllocError, Global};
 use std::io::{Read, Write};
 
 /// Reads a whole script, and answers its requests in order, each on a line of its own. What it
@@ -77,12 +78,19 @@ fn answer_requests<W: Write>(
     let mut text = Vec::new(alloc);
     for line in RequestLines::new(requests) {
         let answer = answer_line(alloc, &mut book, line)?;
-        text.clear();
-        append_answer(&answer, &mut text)?;
-        text.extend_from_slice(b"\n")?;
+        set_line(answer, &mut text)?;
         write_all(writer, &mut retries, &text)?;
     }
     Ok(flush(writer)?)
+}
+
+// The buffer has the answer's text, on a line of its own, in place of what it had.
+fn set_line(answer: Answer, text: &mut Vec<u8>) -> Result<(), AllocError>
+    ensures { OnOk result (text.new.items ≡ text_of answer ++ codes "\n") }
+{
+    text.clear();
+    append_answer(&answer, text)?;
+    text.extend_from_slice(b"\n")
 }
 
 // The answer to a request's line, which may change the book.
@@ -90,7 +98,7 @@ fn answer_line(alloc: Global, book: &mut Book, line: &[u8]) -> Result<Answer, Sc
     ensures config { book.new.config ≡ book.old.config }
     ensures replied { IfOk result (λ answer.
         Replied book.old.config (book_of book.old) (ask_in book.old.config line.now) answer (book_of book.new)) }
-    ensures sound { IsSound book.old.config (book_of book.old) → IsOk result → IsSound book.new.config (book_of book.new) }
+    ensures sound { IsWellFormed book.old.config → IsSound book.old.config (book_of book.old) → IsOk result → IsSound book.new.config (book_of book.new) }
     ensures fault { IfErr result (λ fault. fault ≡ ScriptFault.NoMemory) }
 {
     match read_ask(alloc, &book.config, line) {

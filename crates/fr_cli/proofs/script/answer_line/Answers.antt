@@ -5,6 +5,6 @@ use Rattle.fr_cli.proofs.OutputLaws.{answers-sound}
 use Rattle.fr_cli.proofs.script.answer_line.Goals as goal
 
 pub returns-in-Ok-clause-sound : goal.returns-in-Ok-clause-sound
-returns-in-Ok-clause-sound c = λ sound _.
+returns-in-Ok-clause-sound c = λ formed sound _.
     subst (λ config. IsSound config (book_of c.answer.new.self)) (sym c.answer.ensures.config)
-    (answers-sound c.args.book.now.config (book_of c.args.book.now) (book_of c.answer.new.self) c.in-Ok.ask c.answer.result c.answer.ensures.answers sound)
+    (answers-sound c.args.book.now.config (book_of c.args.book.now) (book_of c.answer.new.self) c.in-Ok.ask c.answer.result c.answer.ensures.answers formed sound)
