@@ -1,5 +1,5 @@
 -- A new register is sound, each run leaves a sound book sound, and what a sound book says of a cell.
-use Rattle.std.proofs.Common.{◌≡◌, ◌≤◌, List, [], ◌∷◌, map, length, Some, IsTrue, sym, ap, subst, ◌∙◌, inl, inr, arith, le_trans}
+use Rattle.std.proofs.Common.{◌≡◌, ◌≤◌, List, [], ◌∷◌, map, length, Some, IsTrue, sym, ap, subst, ◌∙◌, inl, inr, arith, leb-true, le_trans}
 use Rattle.std.specs.Ordering.{eq_by_cmp}
 use Rattle.std.specs.List.{list_all}
 use Rattle.std.specs.FinMap.Entries.{find}
@@ -7,7 +7,7 @@ use Rattle.std.proofs.lemmas.Bool.{cases_Bool, and_parts}
 use Rattle.fr_base.specs.Tables.{empty, get, len, only, from_rows}
 use Rattle.fr_base.specs.Keys.{names}
 use Rattle.fr_base.specs.Cells.{Cell}
-use Rattle.fr_base.specs.Cluster.{Cluster}
+use Rattle.fr_base.specs.Cluster.{Cluster, is_cluster}
 use Rattle.fr_base.specs.Names.{is_name, is_key}
 use Rattle.fr_base.specs.Book.{Frame, Variant, Book, opening, held_by_node, granted}
 use Rattle.fr_base.specs.Step.{step}
@@ -50,13 +50,17 @@ rows-few (s ∷ ss) =
     let rest : len (from_rows {o = names} (map row ss)) ≤ length ss = rows-few ss in
     len-within (from_rows (map row ss)) s.name s.key (length (s ∷ ss)) (omega (arith, rest)) (inr (omega (arith, rest)))
 
+few : (c : Cluster) → IsTrue (is_cluster c.integrator c.suppliers) → length c.suppliers ≤ 64
+unfolding is_cluster
+few c h = leb-true _ _ (and_parts _ _ (and_parts _ _ h).0).0
+
 pub opening-sound : (c : Cluster) → IsWellFormed c → IsSound c (opening c)
 unfolding opening empty get len only
 opening-sound c form = record {
   suppliers = λ s key e. row-form c.suppliers s key form.names (and_parts _ _ form.keys).1 (sym (get-from_rows names (map row c.suppliers) s) ∙ e);
   nodes = λ s n h. cc;
   variants = λ v x e. cc;
-  supplier_limit = le_trans (rows-few c.suppliers) form.limit;
+  supplier_limit = le_trans (rows-few c.suppliers) (few c form.cluster);
   node_limit = λ s. omega arith;
   variant_limit = omega arith;
 }

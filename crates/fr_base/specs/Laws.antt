@@ -1,9 +1,9 @@
 -- Laws of the register. They hold for all cluster files, books and requests.
-use Rattle.std.specs.Prelude.{◌≡◌, ◌≤◌, List, length, Some, IsTrue}
+use Rattle.std.specs.Prelude.{◌≡◌, List, Some, IsTrue}
 use Rattle.std.specs.List.{list_all}
 use Rattle.fr_base.specs.Tables.{get, contains}
 use Rattle.fr_base.specs.Cells.{Cell, has_cell}
-use Rattle.fr_base.specs.Cluster.{Cluster, keys_of}
+use Rattle.fr_base.specs.Cluster.{Cluster, is_cluster, keys_of}
 use Rattle.fr_base.specs.Names.{is_name, is_key}
 use Rattle.fr_base.specs.Book.{Frame, Variant, Book, opening}
 use Rattle.fr_base.specs.Step.{step}
@@ -16,9 +16,9 @@ use Rattle.fr_base.specs.declared.request.Actor.{Actor}
 use Rattle.fr_base.specs.declared.request.Ask.{Ask}
 use Rattle.fr_base.specs.declared.request.Request.{Request}
 
--- what a cluster file gives: at most 64 suppliers, and each name and each key has its form
+-- what a cluster file gives: at most 64 suppliers in order, and each name and each key has its form
 pub record IsWellFormed (c : Cluster) : Type 0 where
-  pub limit : length c.suppliers ≤ 64
+  pub cluster : IsTrue (is_cluster c.integrator c.suppliers)
   pub names : IsTrue (list_all (λ s. is_name s.name) c.suppliers)
   pub keys : IsTrue (list_all is_key (keys_of c.integrator c.suppliers))
 
