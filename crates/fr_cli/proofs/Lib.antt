@@ -15,3 +15,4 @@ pub mod SharedLaws
 pub mod TakenLaws
 pub mod ScheduleLaws
 pub mod OutputLaws
+pub mod EndingLaws

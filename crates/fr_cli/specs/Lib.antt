@@ -13,3 +13,4 @@ pub mod Sendings
 pub mod Asked
 pub mod Output
 pub mod Words
+pub mod Endings
