@@ -37,7 +37,7 @@ def cluster_file(suppliers):
 
 
 def key_of(supplier):
-    return f"keyof{supplier}"
+    return f"keyfor{supplier}"
 
 
 class Plan:

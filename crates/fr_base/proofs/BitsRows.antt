@@ -1,7 +1,7 @@
 -- Worked rows: what the definitions say of a few signals.
-use Rattle.std.proofs.Common.{◌≡◌, ℕ, [], ◌∷◌, map, Ok, Err, refl}
+use Rattle.std.proofs.Common.{◌≡◌, ℕ, [], ◌∷◌, map, true, false, Ok, Err, refl}
 use Rattle.fr_base.specs.Refusing.{◌>>=◌, ◌>>◌, refuse◌when◌}
-use Rattle.fr_base.specs.Signals.{SignalData}
+use Rattle.fr_base.specs.Signals.{SignalData, is_signal_length}
 use Rattle.fr_base.specs.Bits.{bits_of, image, value_in}
 use Rattle.fr_base.specs.Layouts.{LayoutData, add_signal, remove_signal, first_taken}
 use Rattle.fr_base.specs.declared.signal.Order.{Order}
@@ -41,6 +41,21 @@ row_back = refl
 row_added : add_signal (record { words = 1; signals = y ∷ [] }) x ≡ Ok both
 unfolding add_signal first_taken bits_of ◌>>=◌ ◌>>◌ refuse◌when◌
 row_added = refl
+
+row_lengths : map is_signal_length (0 ∷ 1 ∷ 64 ∷ 65 ∷ []) ≡ false ∷ true ∷ true ∷ false ∷ []
+row_lengths = refl
+
+row_last : add_signal (record { words = 1; signals = [] }) (signal 122 Little 15 1) ≡ Ok (record { words = 1; signals = signal 122 Little 15 1 ∷ [] })
+unfolding add_signal first_taken bits_of ◌>>=◌ ◌>>◌ refuse◌when◌
+row_last = refl
+
+row_nothing : add_signal (record { words = 0; signals = [] }) (signal 122 Little 0 1) ≡ Err OutOfPayload
+unfolding add_signal bits_of ◌>>=◌ ◌>>◌ refuse◌when◌
+row_nothing = refl
+
+row_big_nothing : add_signal (record { words = 0; signals = [] }) (signal 122 Big 0 1) ≡ Err OutOfPayload
+unfolding add_signal bits_of ◌>>=◌ ◌>>◌ refuse◌when◌
+row_big_nothing = refl
 
 row_end : add_signal (record { words = 1; signals = [] }) (signal 122 Little 15 2) ≡ Err OutOfPayload
 unfolding add_signal bits_of ◌>>=◌ ◌>>◌ refuse◌when◌

@@ -10,3 +10,4 @@ pub mod SharedLaws
 pub mod TakenLaws
 pub mod ScheduleLaws
 pub mod OutputLaws
+pub mod EndingLaws

@@ -1,17 +1,16 @@
 -- What is sent in cells: cell by cell, and frame by frame.
-use Rattle.std.proofs.Common.{◌≡◌, ℕ, zero, suc, ◌+◌, ◌-◌, ◌≤◌, Bool, true, false, ◌&&◌, ◌||◌, cond, eqb, List, [], ◌∷◌, ◌++◌, map, filter, Option, Some, None, option_map, refl, sym, ap, ◌∙◌, ◌⊎◌, inl, inr, arith, add-zero, append_assoc, append-nil, Ordering, Less, Equal, Greater}
+use Rattle.std.proofs.Common.{◌≡◌, ℕ, zero, suc, ◌+◌, ◌≤◌, ◌<◌, Bool, true, false, ◌&&◌, ◌||◌, cond, eqb, List, [], length, take, drop, get_or, ◌∷◌, ◌++◌, map, filter, Option, Some, None, option_map, refl, sym, ap, ◌∙◌, inl, inr, arith, add-zero, append_assoc, append-nil, Ordering, Less, Equal, Greater}
 use Rattle.std.specs.Prelude.{⊤, nat_le}
-use Rattle.std.specs.Option.{option_or}
 use Rattle.std.specs.Ordering.{nat_cmp, is_eq, ordering_then}
 use Rattle.std.specs.Cmp.{nat_cmp_is}
-use Rattle.std.specs.List.{cons_option, filter_map, flat_map, list_any, range_with_len}
+use Rattle.std.specs.List.{cons_option, flat_map, list_any, range_with_len}
 use Rattle.std.specs.List.Sorted.{IsStrictlySortedBy}
 use Rattle.std.specs.Map.{keys_of}
 use Rattle.std.proofs.lemmas.Bool.{and_from, and_right, cases_order, eq-eqb, ne_eqb}
 use Rattle.std.proofs.lemmas.Grind.{flat_map-append}
 use Rattle.std.proofs.lemmas.Bool.Decides.{nat_tests}
-use Rattle.std.proofs.lemmas.List.{map-append}
-use Rattle.std.proofs.lemmas.List.Elements.{filter_map-append}
+use Rattle.std.proofs.lemmas.List.{at_drop_more, drop_all, map-append, take_more}
+use Rattle.std.proofs.lemmas.List.Elements.{filter-append, filter_map-append}
 use Rattle.fr_base.specs.Book as book
 use Rattle.fr_base.specs.Cells.{Cell, cells_in, cells_of, cluster_cells, has_cell, same_cell, slots_of}
 use Rattle.fr_base.specs.Channels.{channel_number, channels_in, has_channel}
@@ -31,8 +30,9 @@ use Rattle.fr_base.specs.declared.params.Params.{Params}
 use Rattle.fr_base.specs.declared.placement.Placement.{Placement}
 use Rattle.fr_base.specs.declared.request.Actor.{Actor}
 use Rattle.fr_cli.specs.Rows.{table_of}
-use Rattle.fr_cli.specs.Sendings.{is_sent, seen, sent_in}
+use Rattle.fr_cli.specs.Sendings.{filled, filled_by, is_due, is_used, seen, sent_in}
 use Rattle.fr_cli.specs.Variants.{frame_of}
+use Rattle.fr_cli.specs.declared.schedule.Placed.{Placed}
 use Rattle.fr_cli.specs.declared.variant.Frame.{Frame}
 use Rattle.fr_cli.specs.declared.variant.Owned.{Owned}
 use Rattle.fr_cli.proofs.KeyLaws.{owned_cmp, owned_alike, placement_cmp, placements_alike}
@@ -107,119 +107,84 @@ pub has_cell_parts : (q : Placement) (c : Cell) → has_cell q c ≡ ((eqb c.slo
 unfolding has_cell cells_of has_cycle
 has_cell_parts q c = any_column c q.slot q.channels (cycles_of q.cycles)
 
--- what one of the keys passes, one of their rows does
-any-rows : (p : Placement → Bool) (ks : List Placement) → list_any (λ (row : Placement × ⊤). p row.0) (map (λ k. (k, tt)) ks) ≡ list_any p ks
-any-rows p [] = refl
-any-rows p (k ∷ ks) = ap (λ b. p k || b) (any-rows p ks)
+-- ---- the placements that an actor sees
 
--- a frame is sent in a cell that one of its placements has
-pub is_sent-keys : (f : Frame) (c : Cell) → IsStrictlySortedBy placement_cmp f.placements.keys → is_sent (frame_of f) c ≡ list_any (λ q. has_cell q c) f.placements.keys
-is_sent-keys f c h =
-    ap (λ rs. list_any (λ row. has_cell row.0 c) rs) (rows-set_of placement_cmp placement_order (λ p. p) placements_alike f.placements.keys h)
-    ∙ any-rows (λ q. has_cell q c) f.placements.keys
+-- a set's rows with their owner
+owned_rows : {O : Type 0} (o : O) (qs : List Placement) → map {B = O × Placement} (λ (row : Placement × ⊤). (o, row.0)) (map {B = Placement × ⊤} (λ q. (q, tt)) qs) ≡ map {B = O × Placement} (λ q. (o, q)) qs
+owned_rows o [] = refl
+owned_rows o (q ∷ qs) = ap (λ rest. (o, q) ∷ rest) (owned_rows o qs)
 
--- ---- who sends in a cell
+abbrev pub owner_of : Owned → Name → book.Owner
+owner_of k node = record { supplier = k.supplier; frame = k.name; node = node }
 
--- those before fill it, or else those after
-fill-append : {O : Type 0} (xs ys : List (O × Placement)) (c : Cell) → fill (xs ++ ys) c ≡ option_or (fill xs c) (fill ys c)
-unfolding fill
-fill-append [] ys c = refl
-fill-append (e ∷ es) ys c = elim (has_cell e.1 c) as (λ b. cond b (Some e.0) (fill (es ++ ys) c) ≡ option_or (cond b (Some e.0) (fill es c)) (fill ys c)) [
-  | true ↦ refl
-  | false ↦ fill-append es ys c
-]
+pub filled_by-keys : (k : Owned) (f : Frame) → IsStrictlySortedBy placement_cmp f.placements.keys → filled_by k (frame_of f) ≡ map (λ q. (owner_of k f.node, q)) f.placements.keys
+filled_by-keys k f h =
+    ap (map {B = book.Owner × Placement} (λ row. (owner_of k f.node, row.0))) (rows-set_of placement_cmp placement_order (λ p. p) placements_alike f.placements.keys h)
+    ∙ owned_rows (owner_of k f.node) f.placements.keys
 
--- one owner's placements fill what one of them has
-fill-owner : {O : Type 0} (o : O) (rows : List (Placement × ⊤)) (c : Cell) → fill (map (λ q. (o, q.0)) rows) c ≡ cond (list_any (λ row. has_cell row.0 c) rows) (Some o) None
-unfolding fill
-fill-owner o [] c = refl
-fill-owner o (q ∷ qs) c = elim (has_cell q.0 c) as (λ b. cond b (Some o) (fill (map (λ q. (o, q.0)) qs) c) ≡ cond (b || list_any (λ row. has_cell row.0 c) qs) (Some o) None) [
-  | true ↦ refl
-  | false ↦ fill-owner o qs c
-]
-
-or_cond : {O : Type 0} (b : Bool) (o : O) (r : Option O) → option_or (cond b (Some o) None) r ≡ cond b (Some o) r
-or_cond true o r = refl
-or_cond false o r = refl
-
-abbrev pub owner_of : Owned × Frame → book.Owner
-owner_of e = record { supplier = e.0.supplier; frame = e.0.name; node = e.1.node }
-
--- the owner of the first entry that the actor sees and whose frame is sent in the cell
-abbrev pub sender : Actor → Cell → List (Owned × Frame) → Option book.Owner
-sender a c [] = None
-sender a c (e ∷ es) = cond (sees a e.0.supplier && is_sent (frame_of e.1) c) (Some (owner_of e)) (sender a c es)
-
--- where the first is seen and sent, it is found
-pub sender-here : (a : Actor) (c : Cell) (e : Owned × Frame) (es : List (Owned × Frame)) → sees a e.0.supplier ≡ true → is_sent (frame_of e.1) c ≡ true → sender a c (e ∷ es) ≡ Some (owner_of e)
-sender-here a c e es p q = λ i. cond (p i && q i) (Some (owner_of e)) (sender a c es)
-
--- where it is not, one of the others is
-pub sender-unseen : (a : Actor) (c : Cell) (e : Owned × Frame) (es : List (Owned × Frame)) → sees a e.0.supplier ≡ false → sender a c (e ∷ es) ≡ sender a c es
-sender-unseen a c e es p = λ i. cond (p i && is_sent (frame_of e.1) c) (Some (owner_of e)) (sender a c es)
-
-pub sender-unsent : (a : Actor) (c : Cell) (e : Owned × Frame) (es : List (Owned × Frame)) → is_sent (frame_of e.1) c ≡ false → sender a c (e ∷ es) ≡ sender a c es
-sender-unsent a c e es q = ap (λ b. cond b (Some (owner_of e)) (sender a c es)) (ap (λ b. sees a e.0.supplier && b) q ∙ and_right _ _ refl)
-
--- what a frame fills, as its owner
-abbrev frame_fills : (Name × Name) × book.Frame → List (book.Owner × Placement)
-frame_fills row = map (λ q. (record { supplier = row.0.0; frame = row.0.1; node = row.1.node }, q.0)) row.1.placements.rows
+-- what the entries that the actor sees fill
+abbrev pub fillings : Actor → List (Owned × Frame) → List (book.Owner × Placement)
+fillings a [] = []
+fillings a (e ∷ es) = cond (sees a e.0.supplier) (filled_by e.0 (frame_of e.1) ++ fillings a es) (fillings a es)
 
 abbrev row_of : Owned × Frame → (Name × Name) × book.Frame
 row_of e = ((e.0.supplier, e.0.name), frame_of e.1)
 
-abbrev seen_rows : Actor → List (Owned × Frame) → List ((Name × Name) × book.Frame)
-seen_rows a es = filter (λ row. sees a row.0.0) (map row_of es)
+abbrev frame_fills : (Name × Name) × book.Frame → List (book.Owner × Placement)
+frame_fills row = map (λ q. (record { supplier = row.0.0; frame = row.0.1; node = row.1.node }, q.0)) row.1.placements.rows
 
-fill-seen : (a : Actor) (c : Cell) (es : List (Owned × Frame)) → fill (flat_map frame_fills (seen_rows a es)) c ≡ sender a c es
-unfolding fill
-fill-seen a c [] = refl
-fill-seen a c (e ∷ es) =
-    elim (sees a e.0.supplier) as (λ b. fill (flat_map frame_fills (cond b (row_of e ∷ seen_rows a es) (seen_rows a es))) c ≡ cond (b && is_sent (frame_of e.1) c) (Some (owner_of e)) (sender a c es)) [
-      | true ↦
-          fill-append (frame_fills (row_of e)) (flat_map frame_fills (seen_rows a es)) c
-          ∙ (λ i. option_or (fill-owner (owner_of e) (frame_of e.1).placements.rows c i) (fill-seen a c es i))
-          ∙ or_cond (is_sent (frame_of e.1) c) (owner_of e) (sender a c es)
-      | false ↦ fill-seen a c es
+fillings-rows : (a : Actor) (es : List (Owned × Frame)) → flat_map frame_fills (filter (λ row. sees a row.0.0) (map row_of es)) ≡ fillings a es
+fillings-rows a [] = refl
+fillings-rows a (e ∷ es) =
+    elim (sees a e.0.supplier) as (λ b. flat_map frame_fills (cond b (row_of e ∷ filter (λ row. sees a row.0.0) (map row_of es)) (filter (λ row. sees a row.0.0) (map row_of es))) ≡ cond b (filled_by e.0 (frame_of e.1) ++ fillings a es) (fillings a es)) [
+      | true ↦ ap (λ rest. filled_by e.0 (frame_of e.1) ++ rest) (fillings-rows a es)
+      | false ↦ fillings-rows a es
     ]
 
--- a map's entries that the actor sees, as a schedule
-pub schedule_of-seen : (a : Actor) (c : Cell) (es : List (Owned × Frame)) → IsStrictlySortedBy owned_cmp (keys_of es) → book.schedule_of (seen a (table_of owned (λ k. (k.supplier, k.name)) frame_of es)) c ≡ sender a c es
-unfolding book.schedule_of book.placements_of only
-schedule_of-seen a c es h =
-    ap (λ rs. fill (flat_map frame_fills (filter (λ row. sees a row.0.0) rs)) c) (rows-table_of owned_cmp owned (λ k. (k.supplier, k.name)) frame_of owned_alike es h)
-    ∙ fill-seen a c es
+-- those are the placements of the table that the map stands for
+pub placements_of-seen : (a : Actor) (es : List (Owned × Frame)) → IsStrictlySortedBy owned_cmp (keys_of es) → book.placements_of (seen a (table_of owned (λ k. (k.supplier, k.name)) frame_of es)) ≡ fillings a es
+unfolding book.placements_of only
+placements_of-seen a es h =
+    ap (λ rs. flat_map frame_fills (filter (λ row. sees a row.0.0) rs)) (rows-table_of owned_cmp owned (λ k. (k.supplier, k.name)) frame_of owned_alike es h)
+    ∙ fillings-rows a es
 
--- the sending of the first entry that the actor sees and whose frame is sent in the cell
-pub sending-seen : (a : Actor) (c : Cell) (es : List (Owned × Frame)) (r : Option Sending) → IsStrictlySortedBy owned_cmp (keys_of es) → r ≡ option_map (λ o. sending (c, o)) (sender a c es) → r ≡ option_map (λ o. sending (c, o)) (book.schedule_of (seen a (table_of owned (λ k. (k.supplier, k.name)) frame_of es)) c)
-sending-seen a c es r h e = e ∙ ap (option_map (λ o. sending (c, o))) (sym (schedule_of-seen a c es h))
+-- one entry more, which is seen or not
+pub fillings-seen : (a : Actor) (e : Owned × Frame) (es : List (Owned × Frame)) (old new all : List (book.Owner × Placement)) → sees a e.0.supplier ≡ true → new ≡ old ++ filled_by e.0 (frame_of e.1) → old ++ fillings a (e ∷ es) ≡ all → new ++ fillings a es ≡ all
+fillings-seen a e es old new all p n h =
+    ap (λ xs. xs ++ fillings a es) n
+    ∙ append_assoc old (filled_by e.0 (frame_of e.1)) (fillings a es)
+    ∙ ap (λ b. old ++ cond b (filled_by e.0 (frame_of e.1) ++ fillings a es) (fillings a es)) (sym p)
+    ∙ h
+
+pub fillings-unseen : (a : Actor) (e : Owned × Frame) (es : List (Owned × Frame)) (old all : List (book.Owner × Placement)) → sees a e.0.supplier ≡ false → old ++ fillings a (e ∷ es) ≡ all → old ++ fillings a es ≡ all
+fillings-unseen a e es old all p h = ap (λ b. old ++ cond b (filled_by e.0 (frame_of e.1) ++ fillings a es) (fillings a es)) (sym p) ∙ h
 
 -- ---- what is sent in some cells
 
-pub sent-nothing : (frames : Table owned book.Frame) → sent_in frames [] ≡ []
+pub sent-nothing : (fs : List (book.Owner × Placement)) → sent_in fs [] ≡ []
 unfolding sent_in entries
-sent-nothing frames = refl
+sent-nothing fs = refl
 
-pub sent-append : (frames : Table owned book.Frame) (xs ys : List Cell) → sent_in frames (xs ++ ys) ≡ sent_in frames xs ++ sent_in frames ys
+pub sent-append : (fs : List (book.Owner × Placement)) (xs ys : List Cell) → sent_in fs (xs ++ ys) ≡ sent_in fs xs ++ sent_in fs ys
 unfolding sent_in entries
-sent-append frames xs ys =
-    ap (map sending) (filter_map-append (λ c. option_map (λ o. (c, o)) (book.schedule_of frames c)) xs ys)
-    ∙ map-append sending (entries (book.schedule_of frames) xs) (entries (book.schedule_of frames) ys)
+sent-append fs xs ys =
+    ap (map sending) (filter_map-append (λ c. option_map (λ o. (c, o)) (fill fs c)) xs ys)
+    ∙ map-append sending (entries (fill fs) xs) (entries (fill fs) ys)
 
 sent_as : (c : Cell) (r : Option book.Owner) → map sending (cons_option (option_map (λ o. (c, o)) r) []) ≡ cons_option (option_map (λ o. sending (c, o)) r) []
 sent_as c None = refl
 sent_as c (Some o) = refl
 
-pub sent-cell : (frames : Table owned book.Frame) (c : Cell) → sent_in frames (c ∷ []) ≡ cons_option (option_map (λ o. sending (c, o)) (book.schedule_of frames c)) []
+pub sent-cell : (fs : List (book.Owner × Placement)) (c : Cell) → sent_in fs (c ∷ []) ≡ cons_option (option_map (λ o. sending (c, o)) (fill fs c)) []
 unfolding sent_in entries
-sent-cell frames c = sent_as c (book.schedule_of frames c)
+sent-cell fs c = sent_as c (fill fs c)
 
 -- first some cells, and then others
-pub sent-more : (frames : Table owned book.Frame) (old mid new : List Sending) (xs ys : List Cell) → mid ≡ old ++ sent_in frames xs → new ≡ mid ++ sent_in frames ys → new ≡ old ++ sent_in frames (xs ++ ys)
-sent-more frames old mid new xs ys m n =
-    n ∙ ap (λ rows. rows ++ sent_in frames ys) m
-    ∙ append_assoc old (sent_in frames xs) (sent_in frames ys)
-    ∙ ap (λ rows. old ++ rows) (sym (sent-append frames xs ys))
+pub sent-more : (fs : List (book.Owner × Placement)) (old mid new : List Sending) (xs ys : List Cell) → mid ≡ old ++ sent_in fs xs → new ≡ mid ++ sent_in fs ys → new ≡ old ++ sent_in fs (xs ++ ys)
+sent-more fs old mid new xs ys m n =
+    n ∙ ap (λ rows. rows ++ sent_in fs ys) m
+    ∙ append_assoc old (sent_in fs xs) (sent_in fs ys)
+    ∙ ap (λ rows. old ++ rows) (sym (sent-append fs xs ys))
 
 range-more : (a n : ℕ) → range_with_len a (suc n) ≡ range_with_len a n ++ (a + n) ∷ []
 range-more a zero = ap (λ x. x ∷ []) (sym (add-zero a))
@@ -237,28 +202,156 @@ cells-slots k chs xs ys =
     ∙ (λ i. sym (append-nil (slot_cells k chs xs)) i ++ sym (append-nil (slot_cells k chs ys)) i)
 
 -- one slot more of a cycle
-pub sent-slot : (frames : Table owned book.Frame) (k : ℕ) (chs : List Channel) (old mid new : List Sending) (number m n : ℕ) → number ≡ 1 + m → n ≡ suc m
-    → mid ≡ old ++ sent_in frames (cells_in (k ∷ []) (range_with_len 1 m) chs)
-    → new ≡ mid ++ sent_in frames (cells_in (k ∷ []) (number ∷ []) chs)
-    → new ≡ old ++ sent_in frames (cells_in (k ∷ []) (range_with_len 1 n) chs)
-sent-slot frames k chs old mid new number m n e f h g =
-    sent-more frames old mid new _ _ h g
-    ∙ ap (λ cells. old ++ sent_in frames cells) (ap (λ s. cells_in (k ∷ []) (range_with_len 1 m) chs ++ cells_in (k ∷ []) (s ∷ []) chs) e ∙ sym (cells-slots k chs (range_with_len 1 m) ((1 + m) ∷ [])) ∙ ap (λ ss. cells_in (k ∷ []) ss chs) (sym (range-more 1 m)) ∙ ap (λ l. cells_in (k ∷ []) (range_with_len 1 l) chs) (sym f))
+pub sent-slot : (fs : List (book.Owner × Placement)) (k : ℕ) (chs : List Channel) (slots : List ℕ) (i slot : ℕ) (old mid new : List Sending) → i < length slots → slot ≡ get_or slots i slot
+    → mid ≡ old ++ sent_in fs (cells_in (k ∷ []) (take i slots) chs)
+    → new ≡ mid ++ sent_in fs (cells_in (k ∷ []) (slot ∷ []) chs)
+    → new ≡ old ++ sent_in fs (cells_in (k ∷ []) (take (i + 1) slots) chs)
+sent-slot fs k chs slots i slot old mid new l e h g =
+    sent-more fs old mid new _ _ h g
+    ∙ ap (λ cells. old ++ sent_in fs cells) (sym (cells-slots k chs (take i slots) (slot ∷ [])))
+    ∙ ap (λ xs. old ++ sent_in fs (cells_in (k ∷ []) xs chs)) (ap (λ x. take i slots ++ x ∷ []) e ∙ sym (take_more slots i slot l))
 
 -- one cycle more
-pub sent-cycle : (frames : Table owned book.Frame) (slots : List ℕ) (chs : List Channel) (mid new : List Sending) (k n : ℕ) → n ≡ suc k
-    → mid ≡ sent_in frames (cells_in (range_with_len 0 k) slots chs)
-    → new ≡ mid ++ sent_in frames (cells_in (k ∷ []) slots chs)
-    → new ≡ sent_in frames (cells_in (range_with_len 0 n) slots chs)
-sent-cycle frames slots chs mid new k n f h g =
+pub sent-cycle : (fs : List (book.Owner × Placement)) (slots : List ℕ) (chs : List Channel) (mid new : List Sending) (k n : ℕ) → n ≡ suc k
+    → mid ≡ sent_in fs (cells_in (range_with_len 0 k) slots chs)
+    → new ≡ mid ++ sent_in fs (cells_in (k ∷ []) slots chs)
+    → new ≡ sent_in fs (cells_in (range_with_len 0 n) slots chs)
+sent-cycle fs slots chs mid new k n f h g =
     let z : 0 + k ≡ k = omega arith in
-    sent-more frames [] mid new _ _ h g
-    ∙ ap (sent_in frames) (sym (flat_map-append (λ k. slot_cells k chs slots) (range_with_len 0 k) (k ∷ [])) ∙ ap (λ x. cells_in (range_with_len 0 k ++ x ∷ []) slots chs) (sym z) ∙ ap (λ ks. cells_in ks slots chs) (sym (range-more 0 k)) ∙ ap (λ l. cells_in (range_with_len 0 l) slots chs) (sym f))
+    sent-more fs [] mid new _ _ h g
+    ∙ ap (sent_in fs) (sym (flat_map-append (λ k. slot_cells k chs slots) (range_with_len 0 k) (k ∷ [])) ∙ ap (λ x. cells_in (range_with_len 0 k ++ x ∷ []) slots chs) (sym z) ∙ ap (λ ks. cells_in ks slots chs) (sym (range-more 0 k)) ∙ ap (λ l. cells_in (range_with_len 0 l) slots chs) (sym f))
+
+-- ---- what is not in a cycle or a slot
+
+-- who sends in a placement's cells
+abbrev pub owner_in : Placed → book.Owner
+owner_in p = record { supplier = p.supplier; frame = p.frame; node = p.node }
+
+undue : (k slot : ℕ) (x : Channel) (p : Placed) → is_due k p ≡ false → has_cell p.placement (cell k slot x) ≡ false
+undue k slot x p e = has_cell_parts p.placement (cell k slot x) ∙ and_right _ _ e
+
+elsewhere : (k slot : ℕ) (x : Channel) (p : Placed) → eqb slot p.placement.slot ≡ false → has_cell p.placement (cell k slot x) ≡ false
+elsewhere k slot x p e =
+    has_cell_parts p.placement (cell k slot x)
+    ∙ ap (λ b. (b && has_channel p.placement.channels x) && has_cycle p.placement.cycles k) e
+
+-- the placements of the cycle fill its cells as all do
+fill-due : (k slot : ℕ) (x : Channel) (ps : List Placed) → fill (filled (filter (is_due k) ps)) (cell k slot x) ≡ fill (filled ps) (cell k slot x)
+unfolding fill
+fill-due k slot x [] = refl
+fill-due k slot x (p ∷ ps) =
+    let due : List Placed = filter (is_due k) ps in
+    let c : Cell = cell k slot x in
+    elim (is_due k p) as (λ b. (b ≡ false → has_cell p.placement c ≡ false) → fill (filled (cond b (p ∷ due) due)) c ≡ cond (has_cell p.placement c) (Some (owner_in p)) (fill (filled ps) c)) [
+      | true ↦ λ h. ap (λ r. cond (has_cell p.placement c) (Some (owner_in p)) r) (fill-due k slot x ps)
+      | false ↦ λ h. fill-due k slot x ps ∙ ap (λ b. cond b (Some (owner_in p)) (fill (filled ps) c)) (sym (h refl))
+    ] (undue k slot x p)
+
+fill-nothing : (c : Cell) → None ≡ fill {O = book.Owner} [] c
+unfolding fill
+fill-nothing c = refl
+
+true_is_not : true ≡ false → ⊥
+true_is_not e = cc
+
+-- a slot without a placement has no filled cell
+fill-unused : (ps : List Placed) (k slot : ℕ) (x : Channel) → is_used ps slot ≡ false → fill (filled ps) (cell k slot x) ≡ None
+unfolding fill
+fill-unused [] k slot x e = refl
+fill-unused (p ∷ ps) k slot x e =
+    let c : Cell = cell k slot x in
+    elim (eqb slot p.placement.slot) as (λ b. (b || is_used ps slot) ≡ false → (b ≡ false → has_cell p.placement c ≡ false) → cond (has_cell p.placement c) (Some (owner_in p)) (fill (filled ps) c) ≡ None) [
+      | true ↦ λ f h. absurd (true_is_not f)
+      | false ↦ λ f h. ap (λ b. cond b (Some (owner_in p)) (fill (filled ps) c)) (h refl) ∙ fill-unused ps k slot x f
+    ] e (elsewhere k slot x p)
+
+abbrev column : ℕ → ℕ → List Channel → List Cell
+column k slot chs = map (λ x. cell k slot x) chs
+
+cells-column : (k slot : ℕ) (chs : List Channel) → cells_in (k ∷ []) (slot ∷ []) chs ≡ column k slot chs
+cells-column k slot chs = append-nil (column k slot chs ++ []) ∙ append-nil (column k slot chs)
+
+-- where owners fill a slot's cells alike, the same is sent there
+sent-alike : (fs gs : List (book.Owner × Placement)) (k slot : ℕ) (chs : List Channel) → ((x : Channel) → fill fs (cell k slot x) ≡ fill gs (cell k slot x)) → sent_in fs (column k slot chs) ≡ sent_in gs (column k slot chs)
+sent-alike fs gs k slot [] h = sent-nothing fs ∙ sym (sent-nothing gs)
+sent-alike fs gs k slot (x ∷ chs) h =
+    let c : Cell = cell k slot x in
+    let same : sent_in fs (c ∷ []) ≡ sent_in gs (c ∷ []) = sent-cell fs c ∙ ap (λ r. cons_option (option_map (λ o. sending (c, o)) r) []) (h x) ∙ sym (sent-cell gs c) in
+    sent-append fs (c ∷ []) (column k slot chs)
+    ∙ (λ i. same i ++ sent-alike fs gs k slot chs h i)
+    ∙ sym (sent-append gs (c ∷ []) (column k slot chs))
+
+sent-empty : (cells : List Cell) → sent_in [] cells ≡ []
+unfolding sent_in entries fill
+sent-empty [] = refl
+sent-empty (c ∷ cells) = sent-empty cells
+
+-- of a cycle's cells the cycle's placements alone are asked
+pub sent-due : (k slot : ℕ) (chs : List Channel) (ps : List Placed) → sent_in (filled (filter (is_due k) ps)) (cells_in (k ∷ []) (slot ∷ []) chs) ≡ sent_in (filled ps) (cells_in (k ∷ []) (slot ∷ []) chs)
+sent-due k slot chs ps =
+    ap (sent_in (filled (filter (is_due k) ps))) (cells-column k slot chs)
+    ∙ sent-alike (filled (filter (is_due k) ps)) (filled ps) k slot chs (λ x. fill-due k slot x ps)
+    ∙ ap (sent_in (filled ps)) (sym (cells-column k slot chs))
+
+sent-unused : (ps : List Placed) (k slot : ℕ) (chs : List Channel) → is_used ps slot ≡ false → sent_in (filled ps) (column k slot chs) ≡ []
+sent-unused ps k slot chs e = sent-alike (filled ps) [] k slot chs (λ x. fill-unused ps k slot x e ∙ fill-nothing (cell k slot x)) ∙ sent-empty (column k slot chs)
+
+-- a cycle's slots without a placement can be left out
+sent-used : (ps : List Placed) (k : ℕ) (chs : List Channel) (slots : List ℕ) → sent_in (filled ps) (slot_cells k chs (filter (is_used ps) slots)) ≡ sent_in (filled ps) (slot_cells k chs slots)
+sent-used ps k chs [] = refl
+sent-used ps k chs (slot ∷ slots) =
+    let used : List ℕ = filter (is_used ps) slots in
+    elim (is_used ps slot) as (λ b. (b ≡ false → sent_in (filled ps) (column k slot chs) ≡ []) → sent_in (filled ps) (slot_cells k chs (cond b (slot ∷ used) used)) ≡ sent_in (filled ps) (column k slot chs ++ slot_cells k chs slots)) [
+      | true ↦ λ h. sent-append (filled ps) (column k slot chs) (slot_cells k chs used) ∙ ap (λ rest. sent_in (filled ps) (column k slot chs) ++ rest) (sent-used ps k chs slots) ∙ sym (sent-append (filled ps) (column k slot chs) (slot_cells k chs slots))
+      | false ↦ λ h. sent-used ps k chs slots ∙ ap (λ front. front ++ sent_in (filled ps) (slot_cells k chs slots)) (sym (h refl)) ∙ sym (sent-append (filled ps) (column k slot chs) (slot_cells k chs slots))
+    ] (sent-unused ps k slot chs)
+
+sent-used-slots : (ps : List Placed) (ks : List ℕ) (chs : List Channel) (slots : List ℕ) → sent_in (filled ps) (cells_in ks (filter (is_used ps) slots) chs) ≡ sent_in (filled ps) (cells_in ks slots chs)
+sent-used-slots ps [] chs slots = refl
+sent-used-slots ps (k ∷ ks) chs slots =
+    sent-append (filled ps) (slot_cells k chs (filter (is_used ps) slots)) (cells_in ks (filter (is_used ps) slots) chs)
+    ∙ (λ i. sent-used ps k chs slots i ++ sent-used-slots ps ks chs slots i)
+    ∙ sym (sent-append (filled ps) (slot_cells k chs slots) (cells_in ks slots chs))
 
 -- after the last cycle that is the whole schedule
-pub sent-all : (p : Params) (frames : Table owned book.Frame) (rows : List Sending) (n : ℕ) → n ≡ 64 → rows ≡ sent_in frames (cells_in (range_with_len 0 n) (slots_of p) (channels_in p.channels)) → rows ≡ sendings_of p frames
-unfolding sent_in sendings_of cluster_cells all_cycles cycle_count
-sent-all p frames rows n e h = h ∙ ap (λ n. map sending (entries (book.schedule_of frames) (cells_in (range_with_len 0 n) (slots_of p) (channels_in p.channels)))) e
+pub sent-all : (p : Params) (frames : Table owned book.Frame) (ps : List Placed) (used : List ℕ) (rows : List Sending) (n : ℕ) → n ≡ 64 → filled ps ≡ book.placements_of frames → used ≡ filter (is_used ps) (slots_of p)
+    → rows ≡ sent_in (filled ps) (cells_in (range_with_len 0 n) used (channels_in p.channels)) → rows ≡ sendings_of p frames
+unfolding sent_in sendings_of cluster_cells all_cycles cycle_count book.schedule_of
+sent-all p frames ps used rows n e f u h =
+    h ∙ ap (λ slots. sent_in (filled ps) (cells_in (range_with_len 0 n) slots (channels_in p.channels))) u
+    ∙ sent-used-slots ps (range_with_len 0 n) (channels_in p.channels) (slots_of p)
+    ∙ ap (λ fs. map sending (entries (fill fs) (cells_in (range_with_len 0 n) (slots_of p) (channels_in p.channels)))) f
+    ∙ ap (λ n. map sending (entries (fill (book.placements_of frames)) (cells_in (range_with_len 0 n) (slots_of p) (channels_in p.channels)))) e
+
+-- one slot more, if a placement is in it
+pub used-more : (ps : List Placed) (old new : List ℕ) (number m n : ℕ) → number ≡ 1 + m → n ≡ suc m
+    → old ≡ filter (is_used ps) (range_with_len 1 m)
+    → new ≡ old ++ filter (is_used ps) (number ∷ [])
+    → new ≡ filter (is_used ps) (range_with_len 1 n)
+used-more ps old new number m n e f h g =
+    g
+    ∙ (λ i. h i ++ filter (is_used ps) (e i ∷ []))
+    ∙ sym (filter-append (is_used ps) (range_with_len 1 m) ((1 + m) ∷ []))
+    ∙ ap (filter (is_used ps)) (sym (range-more 1 m) ∙ ap (range_with_len 1) (sym f))
+
+-- ---- who sends in a cell, placement by placement
+
+fill-at : (c : Cell) (ps : List Placed) (i : ℕ) (p : Placed) → i < length ps → p ≡ get_or ps i p → fill (filled (drop i ps)) c ≡ cond (has_cell p.placement c) (Some (owner_in p)) (fill (filled (drop (i + 1) ps)) c)
+unfolding fill
+fill-at c ps i p l e =
+    at_drop_more (λ rest. fill (filled rest) c) ps i p l
+    ∙ ap (λ q. cond (has_cell q.placement c) (Some (owner_in q)) (fill (filled (drop (i + 1) ps)) c)) (sym e)
+
+pub fill-here : (c : Cell) (ps : List Placed) (i : ℕ) (p : Placed) → i < length ps → p ≡ get_or ps i p → has_cell p.placement c ≡ true → fill (filled (drop i ps)) c ≡ fill (filled ps) c → Some (sending (c, owner_in p)) ≡ option_map (λ o. sending (c, o)) (fill (filled ps) c)
+fill-here c ps i p l e t h =
+    ap (option_map (λ o. sending (c, o)))
+    (ap (λ b. cond b (Some (owner_in p)) (fill (filled (drop (i + 1) ps)) c)) (sym t) ∙ sym (fill-at c ps i p l e) ∙ h)
+
+pub fill-later : (c : Cell) (ps : List Placed) (i : ℕ) (p : Placed) → i < length ps → p ≡ get_or ps i p → has_cell p.placement c ≡ false → fill (filled (drop i ps)) c ≡ fill (filled ps) c → fill (filled (drop (i + 1) ps)) c ≡ fill (filled ps) c
+fill-later c ps i p l e t h = ap (λ b. cond b (Some (owner_in p)) (fill (filled (drop (i + 1) ps)) c)) (sym t) ∙ sym (fill-at c ps i p l e) ∙ h
+
+pub fill-nowhere : (c : Cell) (ps : List Placed) (i : ℕ) → length ps ≤ i → fill (filled (drop i ps)) c ≡ fill (filled ps) c → None ≡ option_map (λ o. sending (c, o)) (fill (filled ps) c)
+fill-nowhere c ps i l h = ap (option_map (λ o. sending (c, o))) (fill-nothing c ∙ ap (λ rest. fill (filled rest) c) (sym (drop_all i ps l)) ∙ h)
 
 is_slot-within : (number : ℕ) → 1 ≤ number → number ≤ 1023 → is_slot number ≡ true
 is_slot-within number l h = and_from (nat_le 1 number) (nat_le number 1023) (grind (arith, nat_tests)) (grind (arith, nat_tests))

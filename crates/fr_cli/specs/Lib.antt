@@ -8,3 +8,4 @@ pub mod Sendings
 pub mod Asked
 pub mod Output
 pub mod Words
+pub mod Endings

@@ -1,7 +1,11 @@
 //! The words of the command line, and what the program does for them.
-ghost use Rattle.std.specs.Prelude.{◌≡◌, ◌⊎◌, map, string_bytes, IsOk, IsErr};
-ghost use Rattle.std.specs.Io.KnownBytes.{Keeps};
+ghost use Rattle.std.specs.Prelude.{◌≡◌, ◌⊎◌, ℕ, List, map, string_bytes, Result, ⊤, Some, None, Err, IfSome, IsErrOf, OnOk};
+ghost use Rattle.std.specs.Io.KnownBytes.{Appends, Keeps};
+ghost use Rattle.fr_cli.specs.Endings.{AppendsFront, Tells, fault_line, status_of};
+ghost use Rattle.fr_cli.specs.Output.{IsOutput, cluster_in};
 ghost use Rattle.fr_cli.specs.Words.{is_help, job_of};
+ghost use Rattle.fr_cli.specs.declared.cluster_file.ConfigFault.{ConfigFault};
+ghost use Rattle.fr_cli.specs.declared.script_fault.ScriptFault.{ScriptFault};
 
 use crate::output::{Retries, WriteFailed, write_all};
 use crate::script::run_script;
@@ -60,14 +64,26 @@ pub fn perform<R: Read, O: Write, E: Write>(
     out: &mut O,
     err: &mut E,
 ) -> u8
-    ensures help { job ≡ Job.Help → Keeps (E.contents err.old) (E.contents err.new) ⊎ (result ≡ 1) }
-    ensures usage { job ≡ Job.Usage → (result ≡ 2) × Keeps (O.contents out.old) (O.contents out.new) }
+    ensures run { job ≡ Job.Run → (done : Result ⊤ ScriptFault) × (result ≡ status_of done)
+        × Tells (E.contents err.old) (E.contents err.new) done
+        × OnOk done (IfSome (R.remaining input.old) (λ script. (written : List ℕ)
+        × Appends (O.contents out.old) (O.contents out.new) written × IsOutput script written))
+        × (IsErrOf done ScriptFault.NoSeparator → Keeps (O.contents out.old) (O.contents out.new)
+        × IfSome (R.remaining input.old) (λ script. cluster_in script ≡ None))
+        × ((fault : ConfigFault) → IsErrOf done (ScriptFault.Config fault) → Keeps (O.contents out.old) (O.contents out.new)
+        × IfSome (R.remaining input.old) (λ script. (cluster_in script ≡ Some (Err fault)) ⊎ (fault ≡ ConfigFault.NoMemory))) }
+    ensures help { job ≡ Job.Help
+        → ((result ≡ 0) × Appends (O.contents out.old) (O.contents out.new) USAGE.now × Keeps (E.contents err.old) (E.contents err.new))
+        ⊎ ((result ≡ 1) × AppendsFront (O.contents out.old) (O.contents out.new) USAGE.now
+        × AppendsFront (E.contents err.old) (E.contents err.new) (fault_line ScriptFault.WriteFailed)) }
+    ensures usage { job ≡ Job.Usage → (result ≡ 2) × Keeps (O.contents out.old) (O.contents out.new)
+        × AppendsFront (E.contents err.old) (E.contents err.new) USAGE.now }
 {
     match job {
         Job::Run => status_of(run_script(alloc, input, out), err),
-        Job::Help => status_of(print(&[USAGE], out).map_err(ScriptFault::from), err),
+        Job::Help => status_of(print(USAGE, out).map_err(ScriptFault::from), err),
         Job::Usage => {
-            let _ = print(&[USAGE], err);
+            let _ = print(USAGE, err);
             2
         }
     }
@@ -75,25 +91,34 @@ pub fn perform<R: Read, O: Write, E: Write>(
 
 /// The status of a job that ended so. The fault's word is printed.
 pub fn status_of<E: Write>(done: Result<(), ScriptFault>, err: &mut E) -> u8
-    ensures done { IsOk done → (result ≡ 0) × Keeps (E.contents err.old) (E.contents err.new) }
-    ensures fault { IsErr done → result ≡ 1 }
+    ensures status { result ≡ status_of done }
+    ensures tells { Tells (E.contents err.old) (E.contents err.new) done }
 {
     match done {
         Ok(()) => 0,
         Err(fault) => {
-            let _ = print(&["slotplan: ", fault.word(), "\n"], err);
+            let _ = print_fault(fault, err);
             1
         }
     }
 }
 
-// Writes the texts one after the other.
-fn print<W: Write>(texts: &[&str], out: &mut W) -> Result<(), WriteFailed> {
+// Writes the text.
+fn print<W: Write>(text: &str, out: &mut W) -> Result<(), WriteFailed>
+    ensures ok { OnOk result (Appends (W.contents out.old) (W.contents out.new) text.now) }
+    ensures front { AppendsFront (W.contents out.old) (W.contents out.new) text.now }
+{
+    write_all(out, &mut Retries::new(), text.as_bytes())
+}
+
+// Writes the fault's line.
+fn print_fault<W: Write>(fault: ScriptFault, out: &mut W) -> Result<(), WriteFailed>
+    ensures front { AppendsFront (W.contents out.old) (W.contents out.new) (fault_line fault) }
+{
     let mut retries = Retries::new();
-    for text in texts {
-        write_all(out, &mut retries, text.as_bytes())?;
-    }
-    Ok(())
+    write_all(out, &mut retries, b"slotplan: ")?;
+    write_all(out, &mut retries, fault.word().as_bytes())?;
+    write_all(out, &mut retries, b"\n")
 }
 
 #[cfg(test)]

@@ -4,3 +4,4 @@ pub mod OccupancyLemmas
 pub mod SignalsLemmas
 pub mod LayoutLemmas
 pub mod ImageLemmas
+mod Rows

@@ -17,9 +17,8 @@ use std::marker::Model;
 /// How many signals a layout has at most.
 const MAX_SIGNALS: usize = 64;
 
-/// The signals of a frame in a payload of up to 127 words of two bytes (FlexRay Protocol Specification
-/// 2.1 Rev. A, 4.2.2): at most 64, each inside the payload, no two of one name, and no bit in two of
-/// them. They are listed in the order of their starts.
+/// The signals of a frame in a payload of up to 127 words of two bytes: at most 64, each inside the
+/// payload, no two of one name, and no bit in two of them. They are listed in the order of their starts.
 #[derive(Drop)]
 pub struct Layout {
     words: u32,

@@ -61,18 +61,20 @@ fn both_orders_packed(rt: HostRuntime) -> Result<(), Fail> {
         layout.unpack(rt.alloc(), &[0xba, 0xba])?.as_slice(),
         [171, 171].as_slice()
     );
-    assert_eq!(rt;
-        layout.pack(rt.alloc(), &[256, 0]).err(),
-        Some(PackFault::TooLarge { index: 0 })
-    );
-    assert_eq!(rt;
-        layout.pack(rt.alloc(), &[0, 256]).err(),
-        Some(PackFault::TooLarge { index: 1 })
-    );
-    assert_eq!(rt;
-        layout.pack(rt.alloc(), &[171]).err(),
-        Some(PackFault::WrongCount)
-    );
+    Ok(())
+}
+
+#[test]
+fn values_refused(rt: HostRuntime) -> Result<(), Fail> {
+    let layout = both(rt.alloc())?;
+    for (values, fault) in [
+        ([256, 0].as_slice(), PackFault::TooLarge { index: 0 }),
+        ([255, 256].as_slice(), PackFault::TooLarge { index: 1 }),
+        ([171].as_slice(), PackFault::WrongCount),
+        ([256, 0, 0].as_slice(), PackFault::WrongCount),
+    ] {
+        assert_eq!(rt; layout.pack(rt.alloc(), values).err(), Some(fault));
+    }
     assert_eq!(rt;
         layout.unpack(rt.alloc(), &[0, 0, 0]).err(),
         Some(PackFault::WrongLength)

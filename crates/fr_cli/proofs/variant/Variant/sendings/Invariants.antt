@@ -1,11 +1,10 @@
 use Rattle.std.proofs.Common.{◌≡◌}
 use Rattle.std.specs.List.{range_with_len}
-use Rattle.fr_base.specs.Cells.{cells_in, slots_of}
+use Rattle.fr_base.specs.Cells.{cells_in}
 use Rattle.fr_base.specs.Channels.{channels_in}
-use Rattle.fr_cli.specs.Sendings.{seen, sent_in}
-use Rattle.fr_cli.specs.Variants.{variant_of}
+use Rattle.fr_cli.specs.Sendings.{filled, sent_in}
 use Rattle.fr_cli.proofs.variant.Variant.sendings.Given as goal
 
 -- what is sent in the cycles before
 abbrev pub invariant-loop-cycle : goal.invariant-loop-cycle
-invariant-loop-cycle l = l.rows ≡ sent_in (seen l.actor (variant_of l.self).frames) (cells_in (range_with_len 0 l.cycle) (slots_of l.params) (channels_in l.params.channels))
+invariant-loop-cycle l = l.rows ≡ sent_in (filled l.placed.items) (cells_in (range_with_len 0 l.cycle) l.slots.items (channels_in l.params.channels))

@@ -1,0 +1,15 @@
+use Rattle.std.proofs.Common.{◌≡◌, ◌∙◌, ◌++◌, [], sym, ap, map, append-nil}
+use Rattle.fr_base.specs.Book as book
+use Rattle.fr_base.specs.declared.placement.Placement.{Placement}
+use Rattle.fr_cli.specs.Sendings.{filled}
+use Rattle.fr_cli.proofs.ScheduleLaws.{filled_by-keys, owner_of}
+use Rattle.fr_cli.proofs.schedule.push_placed.Goals as goal
+
+pub returns : goal.returns
+returns c =
+    let now = filled c.loop-placement.placed.items in
+    let left : c.loop-placement.placement-iterator ≡ [] = (c.in-None.ensures).steps.0 in
+    sym (append-nil now)
+    ∙ ap (λ qs. now ++ map {B = book.Owner × Placement} (λ q. (owner_of c.args.key.now c.args.frame.now.node, q)) qs) (sym left)
+    ∙ c.loop-placement.invariant
+    ∙ ap (λ more. filled c.args.placed.now.items ++ more) (sym (filled_by-keys c.args.key.now c.args.frame.now c.iter-placement-items.ensures.ordered))
