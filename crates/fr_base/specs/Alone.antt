@@ -105,8 +105,17 @@ abbrev pub is_another : Name → Option Holder → Bool
 is_another s None = false
 is_another s (Some h) = not (same_text h.supplier s)
 
--- What the integrator's request is answered beside other suppliers, where it is answered so in the register of the
--- supplier alone: a Grant that would be done is Taken where another supplier holds slot and channel.
-abbrev pub beside : Name → Book → Request → Answer → Answer
-beside s b (Grant v k channel t n) Done = if is_another s (holder_at b v k channel) then Refused Taken else Done
-beside s b _ answer = answer
+-- what refuses an integrator's request beside other suppliers, where it is done in the register of the supplier alone:
+-- a Grant is Taken where another supplier holds slot and channel, and nothing else is refused
+abbrev pub refused_beside : Name → Book → Request → Option Refusal
+refused_beside s b (Grant v k channel t n) = if is_another s (holder_at b v k channel) then Some Taken else None
+refused_beside s b _ = None
+
+abbrev pub done_unless : Option Refusal → Answer
+done_unless None = Done
+done_unless (Some e) = Refused e
+
+-- what the request is answered beside other suppliers, where it is answered so in the register of the supplier alone
+abbrev pub beside : Name → Book → Answer → Request → Answer
+beside s b Done request = done_unless (refused_beside s b request)
+beside s b answer request = answer
