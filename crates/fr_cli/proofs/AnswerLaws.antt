@@ -7,7 +7,8 @@ use Rattle.fr_base.specs.Book.{Book, opening}
 use Rattle.fr_base.specs.declared.request.Actor.{Actor}
 use Rattle.fr_base.specs.declared.request.Actor.TheVariants.{Integrator, Supplier}
 use Rattle.fr_cli.specs.declared.book.Book.{Book as Rows}
-use Rattle.fr_base.specs.Step.{knows, change, reply, act, outcome, step}
+use Rattle.fr_base.specs.Queries.{reply}
+use Rattle.fr_base.specs.Step.{knows, change, act, outcome, step}
 use Rattle.fr_base.specs.Run.{MayLack}
 use Rattle.fr_base.specs.declared.answer.Answer.{Answer}
 use Rattle.fr_base.specs.declared.answer.Answer.TheVariants.{Done, Refused}

@@ -1,5 +1,5 @@
 -- What a command that passed its refusals makes of the book.
-use Rattle.std.proofs.Common.{◌≡◌, ◌∙◌, ℕ, ap, sym, refl, subst, arith, Bool, true, false, cond, Option, Some, None, IfSome, is_some, Result, Ok, Err, nat_le}
+use Rattle.std.proofs.Common.{◌≡◌, [], ◌∙◌, ℕ, ap, sym, refl, subst, arith, Bool, true, false, cond, Option, Some, None, IfSome, is_some, Result, Ok, Err, nat_le}
 use Rattle.fr_base.specs.Refusing.{◌>>=◌, ◌>>◌, ◌or◌, refuse◌when◌}
 use Rattle.fr_base.specs.Tables.{get, contains, len, only, insert, becomes, empty}
 use Rattle.fr_base.specs.Cells.{cells_of}
@@ -26,11 +26,11 @@ grant_done b v at s n r found known has free_of_node free_of free new h =
 
 pub add_frame_done : (p : Params) (b : Book) (s v f n : Name) (r : Rows) → get b.variants v ≡ Some (variant_of r)
     → contains b.nodes (s, n) ≡ true → contains (variant_of r).frames (s, f) ≡ false → nat_le 256 (len (only (λ k _. is_of s k) (variant_of r).frames)) ≡ false
-    → (new : Book) → Framed b v (s, f) (record { node = n; placements = empty }) new → on_frame p b s v f (λ page filled. add_frame page f n) ≡ Ok new
+    → (new : Book) → Framed b v (s, f) (record { node = n; placements = empty; signals = [] }) new → on_frame p b s v f (λ page filled. add_frame page f n) ≡ Ok new
 unfolding step_open
 add_frame_done p b s v f n r found has free few new h =
     let x = variant_of r in
-    let e : new ≡ with_variant b v (record x { frames = insert x.frames (s, f) (record { node = n; placements = empty }) }) = subst (λ o. IfSome o (λ x. new ≡ with_variant b v (record x { frames = insert x.frames (s, f) (record { node = n; placements = empty }) }))) found h in
+    let e : new ≡ with_variant b v (record x { frames = insert x.frames (s, f) (record { node = n; placements = empty; signals = [] }) }) = subst (λ o. IfSome o (λ x. new ≡ with_variant b v (record x { frames = insert x.frames (s, f) (record { node = n; placements = empty; signals = [] }) }))) found h in
     rw (found, page-supplier p b s x, page-node p b s x n, has, page-frame p b s x f, free, page-count p b s x, few) (ap Ok (sym e))
 
 pub place_done : (p : Params) (b : Book) (s v f : Name) (q : Placement) (r : Rows) (g : Frame) → get b.variants v ≡ Some (variant_of r)

@@ -1,12 +1,7 @@
-pub mod ClusterFileLemmas
-pub mod WellFormedLaws
 mod LineLemmas
 mod StreamLemmas
-pub mod RequestTextLemmas
 pub mod MapLaws
 pub mod KeyLaws
-pub mod ReportLemmas
-pub mod AnswerTextLemmas
 pub mod StepOpen
 pub mod PageLaws
 pub mod CommandLaws

@@ -14,7 +14,7 @@ use Rattle.fr_base.specs.declared.answer.Answer.{Answer}
 use Rattle.fr_base.specs.declared.answer.Answer.TheVariants.{Refused}
 use Rattle.fr_base.specs.declared.refusal.Refusal.{Refusal}
 use Rattle.fr_base.specs.declared.request.Ask.{Ask}
-use Rattle.fr_cli.specs.AnswerText.{text_of}
+use Rattle.fr_text.specs.AnswerText.{text_of}
 use Rattle.fr_cli.specs.Asked.{ask_in}
 use Rattle.fr_cli.specs.Books.{Answers, Replied}
 use Rattle.fr_cli.specs.Output.{read_lines, asks_of, answers_of, text_of_answers, IsAnswered, IsAnsweredTo}

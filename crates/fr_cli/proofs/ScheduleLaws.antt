@@ -19,7 +19,7 @@ use Rattle.fr_base.specs.Cycles.{all_cycles, cycle_count, cycles_of, has_cycle}
 use Rattle.fr_base.specs.Keys.{owned, placement_order}
 use Rattle.fr_base.specs.Numbers.{is_slot}
 use Rattle.fr_base.specs.Schedule.{entries, fill}
-use Rattle.fr_base.specs.Step.{sees, sending, sendings_of}
+use Rattle.fr_base.specs.Queries.{sees, sending, sendings_of}
 use Rattle.fr_base.specs.Tables.{Table, only}
 use Rattle.fr_base.specs.declared.answer.Sending.{Sending}
 use Rattle.fr_base.specs.declared.channel.Channel.{Channel}

@@ -1,12 +1,7 @@
-pub mod ClusterFile
-pub mod SupplierTexts
 pub mod Script
 pub mod ScriptFault
-pub mod RequestText
 pub mod Rows
 pub mod Variants
-pub mod Report
-pub mod AnswerText
 pub mod Books
 pub mod Taken
 pub mod Sendings

@@ -9,11 +9,11 @@ use Rattle.fr_base.specs.declared.answer.Answer.{Answer}
 use Rattle.fr_base.specs.declared.answer.Answer.TheVariants.{Refused}
 use Rattle.fr_base.specs.declared.refusal.Refusal.{Refusal}
 use Rattle.fr_base.specs.declared.request.Ask.{Ask}
-use Rattle.fr_cli.specs.AnswerText.{text_of}
+use Rattle.fr_text.specs.AnswerText.{text_of}
 use Rattle.fr_cli.specs.Asked.{ask_in}
-use Rattle.fr_cli.specs.ClusterFile.{config_of}
+use Rattle.fr_text.specs.ClusterFile.{config_of}
 use Rattle.fr_cli.specs.Script.{parts_of, request_lines}
-use Rattle.fr_cli.specs.declared.cluster_file.ConfigFault.{ConfigFault}
+use Rattle.fr_text.specs.declared.cluster_file.ConfigFault.{ConfigFault}
 
 -- what each of the lines asks, or the refusal of a line that asks nothing
 abbrev pub read_lines : Cluster → List (List ℕ) → List (Result Ask Refusal)

@@ -1,6 +1,6 @@
 -- The words of the faults that end a script's run.
 use Rattle.std.specs.Prelude.{ℕ, List, codes}
-use Rattle.fr_cli.specs.ClusterFile.{config_fault_word}
+use Rattle.fr_text.specs.ClusterFile.{config_fault_word}
 use Rattle.fr_cli.specs.declared.script_fault.ScriptFault.{ScriptFault}
 use Rattle.fr_cli.specs.declared.script_fault.ScriptFault.TheVariants.{TooLong, TooManyReads, ReadFailed, NoSeparator, Config, Unavailable, NoMemory, WriteFailed}
 use Rattle.fr_cli.specs.declared.input.InputFault.{InputFault}

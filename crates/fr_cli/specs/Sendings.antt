@@ -6,7 +6,7 @@ use Rattle.fr_base.specs.Keys.{owned}
 use Rattle.fr_base.specs.Cells.{Cell, has_cell}
 use Rattle.fr_base.specs.Schedule.{entries}
 use Rattle.fr_base.specs.Book.{Frame, schedule_of}
-use Rattle.fr_base.specs.Step.{sees, sending}
+use Rattle.fr_base.specs.Queries.{sees, sending}
 use Rattle.fr_base.specs.declared.answer.Sending.{Sending}
 use Rattle.fr_base.specs.declared.request.Actor.{Actor}
 

@@ -1,5 +1,5 @@
 -- The runner's rows as the register's.
-use Rattle.std.specs.Prelude.{None, false}
+use Rattle.std.specs.Prelude.{[], None, false}
 use Rattle.fr_base.specs.Keys.{owned, channel_slots, placement_order}
 use Rattle.fr_base.specs.Book as book
 use Rattle.fr_cli.specs.Rows.{table_of, set_of}
@@ -10,8 +10,9 @@ use Rattle.fr_cli.specs.declared.variant.Variant.{Variant}
 abbrev pub holder_of : Holder → book.Holder
 holder_of h = record { supplier = h.supplier; node = h.node }
 
+-- no frame has signals yet
 abbrev pub frame_of : Frame → book.Frame
-frame_of f = record { node = f.node; placements = set_of placement_order (λ q. q) f.placements.keys }
+frame_of f = record { node = f.node; placements = set_of placement_order (λ q. q) f.placements.keys; signals = [] }
 
 -- no variant has a parent or is released yet
 abbrev pub variant_of : Variant → book.Variant

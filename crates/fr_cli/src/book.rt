@@ -1,4 +1,4 @@
-ghost use Rattle.std.specs.Prelude.{◌≡◌, count_by, OnOk, OnErr, option_map};
+ghost use Rattle.std.specs.Prelude.{◌≡◌, [], count_by, OnOk, OnErr, option_map};
 ghost use Rattle.std.specs.List.{list_any};
 ghost use Rattle.fr_base.specs.Book.{opening, empty_variant};
 ghost use Rattle.fr_base.specs.Cluster.{same_text};
@@ -131,7 +131,7 @@ impl Book {
         node: Name,
     ) -> Result<(), Refusal>
         ensures config { self.new.config ≡ self.old.config }
-        ensures ok { OnOk result (Framed (book_of self.old) variant (supplier, name) (record { node = node; placements = empty }) (book_of self.new)) }
+        ensures ok { OnOk result (Framed (book_of self.old) variant (supplier, name) (record { node = node; placements = empty; signals = [] }) (book_of self.new)) }
         ensures err { OnErr result ((book_of self.new ≡ book_of self.old) × (result ≡ Err Refusal.Unavailable)) }
     {
         let Some(rows) = self.variants.get_mut(&variant) else {

@@ -1,6 +1,7 @@
-ghost use Rattle.std.specs.Prelude.{◌≡◌, IsTrue};
+ghost use Rattle.std.specs.Prelude.{◌≡◌, [], IsTrue};
 ghost use Rattle.fr_base.specs.Checks.{is_integrator};
-ghost use Rattle.fr_base.specs.Step.{open_variant, add_node, grant, on_frame, add_frame, place, change, reply, knows};
+ghost use Rattle.fr_base.specs.Step.{open_variant, add_node, grant, on_frame, add_frame, place, change, knows};
+ghost use Rattle.fr_base.specs.Queries.{reply};
 ghost use Rattle.fr_base.specs.Book.{opening};
 ghost use Rattle.fr_base.specs.Tables.{empty};
 ghost use Rattle.fr_cli.specs.Books.{book_of, Does, Permits, Granted, Framed, Placed, Replies, Answers};
@@ -25,12 +26,20 @@ const MOST_FRAMES: usize = 256;
 const MOST_PLACEMENTS: usize = 8;
 
 impl Book {
-    /// The integrator opens an empty variant.
+    /// The integrator opens a variant. One with a parent is not yet kept.
     #[tactic(auto, unfolding(crate::proofs::StepOpen::step_open))]
-    pub(crate) fn open_variant(&mut self, alloc: Global, variant: Name) -> Result<(), Refusal>
+    pub(crate) fn open_variant(
+        &mut self,
+        alloc: Global,
+        variant: Name,
+        parent: Option<Name>,
+    ) -> Result<(), Refusal>
         ensures config { self.new.config ≡ self.old.config }
-        ensures does { Does result (book_of self.old) (book_of self.new) (open_variant (book_of self.old) variant) }
+        ensures does { Does result (book_of self.old) (book_of self.new) (open_variant (book_of self.old) variant parent) }
     {
+        if parent.is_some() {
+            return Err(Refusal::Unavailable);
+        }
         if self.has_variant(variant) {
             return Err(Refusal::Exists);
         }
@@ -132,7 +141,7 @@ impl Book {
         frame: Name,
         node: Name,
     ) -> Result<(), Refusal>
-        ensures { Permits result (on_frame self.now.config.params (book_of self.now) supplier variant frame (λ page filled. add_frame page frame node)) (Framed (book_of self.now) variant (supplier, frame) (record { node = node; placements = empty })) }
+        ensures { Permits result (on_frame self.now.config.params (book_of self.now) supplier variant frame (λ page filled. add_frame page frame node)) (Framed (book_of self.now) variant (supplier, frame) (record { node = node; placements = empty; signals = [] })) }
     {
         let Some(rows) = self.variant(variant) else {
             return Err(Refusal::NoVariant);
@@ -207,7 +216,7 @@ impl Book {
         ensures does { Does result (book_of self.old) (book_of self.new) (change self.old.config.params (book_of self.old) Actor.Integrator command.now) }
     {
         match command {
-            Command::OpenVariant { variant } => self.open_variant(alloc, *variant),
+            Command::OpenVariant { variant, parent } => self.open_variant(alloc, *variant, *parent),
             Command::AddNode { supplier, node } => self.add_node(*supplier, *node),
             Command::Grant {
                 variant,
@@ -216,7 +225,13 @@ impl Book {
                 supplier,
                 node,
             } => self.grant(*variant, *slot, *channel, *supplier, *node),
-            Command::AddFrame { .. } | Command::Place { .. } => Err(Refusal::NotYours),
+            Command::Release { .. } | Command::Revoke { .. } => Err(Refusal::Unavailable),
+            Command::AddFrame { .. }
+            | Command::DropFrame { .. }
+            | Command::Place { .. }
+            | Command::Unplace { .. }
+            | Command::AddSignal { .. }
+            | Command::DropSignal { .. } => Err(Refusal::NotYours),
         }
     }
 
@@ -241,9 +256,15 @@ impl Book {
                 frame,
                 placement,
             } => self.place(*variant, supplier, *frame, placement),
-            Command::OpenVariant { .. } | Command::AddNode { .. } | Command::Grant { .. } => {
-                Err(Refusal::NotYours)
-            }
+            Command::DropFrame { .. }
+            | Command::Unplace { .. }
+            | Command::AddSignal { .. }
+            | Command::DropSignal { .. } => Err(Refusal::Unavailable),
+            Command::OpenVariant { .. }
+            | Command::Release { .. }
+            | Command::AddNode { .. }
+            | Command::Grant { .. }
+            | Command::Revoke { .. } => Err(Refusal::NotYours),
         }
     }
 
@@ -252,7 +273,9 @@ impl Book {
     fn reply(&self, alloc: Global, actor: &Actor, query: &Query) -> Result<Answer, Refusal>
         ensures { Replies result (reply self.now.config.params (book_of self.now) actor.now query.now) }
     {
-        let Query::Schedule { variant } = query;
+        let Query::Schedule { variant } = query else {
+            return Err(Refusal::Unavailable);
+        };
         let Some(rows) = self.variant(*variant) else {
             return Err(Refusal::NoVariant);
         };

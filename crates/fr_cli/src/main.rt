@@ -1,16 +1,12 @@
 //! The program `slotplan`.
 #![tactic(auto)]
 
-mod answer_text;
 mod book;
-mod cluster_file;
 mod commands;
 mod input;
 mod lines;
 mod output;
 mod program;
-mod report;
-mod request_text;
 mod schedule;
 mod script;
 mod script_fault;

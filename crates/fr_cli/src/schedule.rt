@@ -2,14 +2,14 @@ ghost use Rattle.std.specs.Prelude.{◌≡◌, [], ◌∷◌, ◌++◌, IfOk, On
 ghost use Rattle.fr_base.specs.Book.{schedule_of};
 ghost use Rattle.fr_base.specs.Cells.{Cell, cells_in, has_cell, slots_of};
 ghost use Rattle.fr_base.specs.Channels.{channels_in};
-ghost use Rattle.fr_base.specs.Step.{sees, sending, sendings_of};
+ghost use Rattle.fr_base.specs.Queries.{sees, sending, sendings_of};
 ghost use Rattle.fr_base.specs.Tables.{only};
 ghost use Rattle.fr_cli.specs.Sendings.{is_sent, seen, sent_in};
 ghost use Rattle.fr_cli.specs.Variants.{frame_of, variant_of};
 
 use crate::variant::{Frame, Variant};
 use fr_base::{
-    Actor, CYCLE_COUNT, Channel, Channels, Name, Params, Placement, Sending, Sendings, Slot,
+    Actor, CYCLE_COUNT, Channel, Channels, Name, Params, Placement, Rows, Sending, Slot,
 };
 use std::alloc::{AllocError, Global};
 
@@ -21,10 +21,10 @@ impl Variant {
         alloc: Global,
         params: &Params,
         actor: &Actor,
-    ) -> Result<Sendings, AllocError>
+    ) -> Result<Rows<Sending>, AllocError>
         ensures { IfOk result (λ rows. rows ≡ sendings_of params.now (only (λ k _. sees actor.now k.0) (variant_of self.now).frames)) }
     {
-        let mut rows = Sendings::new(alloc);
+        let mut rows = Rows::new(alloc);
         for cycle in 0..CYCLE_COUNT as u8 {
             self.push_cycle(params, actor, cycle, &mut rows)?;
         }
@@ -37,7 +37,7 @@ impl Variant {
         params: &Params,
         actor: &Actor,
         cycle: u8,
-        rows: &mut Sendings,
+        rows: &mut Rows<Sending>,
     ) -> Result<(), AllocError>
         ensures { OnOk result (rows.new ≡ rows.old ++ sent_in (seen actor.now (variant_of self.now).frames) (cells_in (cycle ∷ []) (slots_of params.now) (channels_in params.now.channels))) }
     {
@@ -57,7 +57,7 @@ impl Variant {
         actor: &Actor,
         cycle: u8,
         slot: Slot,
-        rows: &mut Sendings,
+        rows: &mut Rows<Sending>,
     ) -> Result<(), AllocError>
         ensures { OnOk result (rows.new ≡ rows.old ++ sent_in (seen actor.now (variant_of self.now).frames) (cells_in (cycle ∷ []) (slot ∷ []) (channels_in channels))) }
     {
@@ -78,7 +78,7 @@ impl Variant {
         cycle: u8,
         slot: Slot,
         channel: Channel,
-        rows: &mut Sendings,
+        rows: &mut Rows<Sending>,
     ) -> Result<(), AllocError>
         ensures { OnOk result (rows.new ≡ rows.old ++ sent_in (seen actor.now (variant_of self.now).frames) (record { cycle = cycle; slot = slot; channel = channel } ∷ [])) }
     {

@@ -9,17 +9,15 @@ ghost use Rattle.fr_cli.specs.Asked.{ask_in};
 ghost use Rattle.fr_cli.specs.Books.{book_of, Replied};
 ghost use Rattle.fr_cli.specs.Output.{IsAnsweredTo, IsCutShort, IsOutput, LacksMemory, cluster_in};
 ghost use Rattle.fr_cli.specs.Script.{request_lines};
-ghost use Rattle.fr_cli.specs.declared.cluster_file.ConfigFault.{ConfigFault};
+ghost use Rattle.fr_text.specs.declared.cluster_file.ConfigFault.{ConfigFault};
 
-use crate::answer_text::write_answer;
 use crate::book::Book;
-use crate::cluster_file::{ConfigFault, read_config};
 use crate::input::{SCRIPT_BYTES, read_all};
 use crate::lines::{RequestLines, key_and_text, split_script};
 use crate::output::{Retries, flush, write_all};
-use crate::request_text::read_command;
 use crate::script_fault::ScriptFault;
 use fr_base::{Answer, Ask, Config, Refusal};
+use fr_text::{ConfigFault, append_answer, read_command, read_config};
 use std::alloc::Global;
 use std::io::{Read, Write};
 
@@ -80,7 +78,7 @@ fn answer_requests<W: Write>(
     for line in RequestLines::new(requests) {
         let answer = answer_line(alloc, &mut book, line)?;
         text.clear();
-        write_answer(&answer, &mut text)?;
+        append_answer(&answer, &mut text)?;
         text.extend_from_slice(b"\n")?;
         write_all(writer, &mut retries, &text)?;
     }

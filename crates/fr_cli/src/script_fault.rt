@@ -1,7 +1,7 @@
 ghost use Rattle.std.specs.Prelude.{◌≡◌, Some};
 ghost use Rattle.fr_cli.specs.ScriptFault.{script_fault_word};
 
-use crate::cluster_file::ConfigFault;
+use fr_text::ConfigFault;
 use std::alloc::AllocError;
 use std::fmt;
 

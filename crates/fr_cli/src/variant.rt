@@ -1,4 +1,4 @@
-ghost use Rattle.std.specs.Prelude.{◌≡◌, OnOk, OnErr, IfSome, option_map, count_by};
+ghost use Rattle.std.specs.Prelude.{◌≡◌, [], OnOk, OnErr, IfSome, option_map, count_by};
 ghost use Rattle.fr_base.specs.Tables.{contains, empty, get, insert, len, only};
 ghost use Rattle.fr_base.specs.Book.{empty_variant, granted, held_by, held_by_node};
 ghost use Rattle.fr_base.specs.Cluster.{same_text};
@@ -133,7 +133,7 @@ impl Variant {
         name: Name,
         node: Name,
     ) -> Result<(), AllocError>
-        ensures ok { OnOk result (variant_of self.new ≡ record (variant_of self.old) { frames = insert (variant_of self.old).frames (supplier, name) (record { node = node; placements = empty }) }) }
+        ensures ok { OnOk result (variant_of self.new ≡ record (variant_of self.old) { frames = insert (variant_of self.old).frames (supplier, name) (record { node = node; placements = empty; signals = [] }) }) }
         ensures err { OnErr result (variant_of self.new ≡ variant_of self.old) }
     {
         let frame = Frame {

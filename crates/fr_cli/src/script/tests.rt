@@ -1,5 +1,6 @@
 use super::run_script;
 use crate::script_fault::ScriptFault;
+use fr_text::ConfigFault;
 use std::alloc::{AllocError, Global};
 use std::process::Abort;
 

@@ -1,7 +1,7 @@
 use Rattle.std.proofs.Common.{◌≡◌, ◌++◌, ◌∷◌, ℕ, List, [], refl, sym, ap, ◌∙◌, subst, append_assoc, append-nil, take, drop, take-append-drop, codes}
 use Rattle.std.specs.Io.KnownBytes.{Appends, Keeps}
 use Rattle.std.proofs.KnownBytes.{Appends-nil, Appends-trans, Appends-kept}
-use Rattle.fr_cli.specs.AnswerText.{text_of}
+use Rattle.fr_text.specs.AnswerText.{text_of}
 use Rattle.fr_cli.specs.Books.{book_of, Replied}
 use Rattle.fr_cli.specs.Script.{request_lines}
 use Rattle.fr_cli.proofs.OutputLaws.{Answering, answering-none, answering-line, answered_to}
@@ -29,9 +29,9 @@ returns-in_err-answer-clause-no_memory g c = λ _.
       answered_to c.args.config _ l.front _ _ l.written c.requires (l.lines ∙ ap (λ left. l.front ++ left) c.in-Some.ensures.steps) l.answering,
     )
 
-pub returns-in_err-write_answer-clause-no_memory :
-    goal.returns-in_err-write_answer-clause-no_memory
-returns-in_err-write_answer-clause-no_memory g c = λ _.
+pub returns-in_err-append_answer-clause-no_memory :
+    goal.returns-in_err-append_answer-clause-no_memory
+returns-in_err-append_answer-clause-no_memory g c = λ _.
     let l = c.loop-line.invariant in (
       c.in-Some.line.now,
       request_lines c.next.new.self.rest.now,
@@ -67,7 +67,7 @@ returns-in_err-write_all-clause-write_failed g c = λ _.
           (ap (λ t. l.written ++ t) (sym (take-append-drop n text)) ∙ sym (append_assoc l.written (take n text) (drop n text)))
           (answering-line c.args.config c.loop-line.book.config l.front c.in-Some.line.now (book_of c.loop-line.book) (book_of c.answer_line.new.book) c.in_ok-answer.answer
           l.written text l.answering l.config c.in_ok-answer.ensures.replied
-          (c.deref.ensures.value ∙ c.in_ok-extend_from_slice.ensures.items ∙ ap (λ t. t ++ codes "\n") (c.in_ok-write_answer.ensures.ok ∙ ap (λ t. t ++ text_of c.in_ok-answer.answer) c.clear.ensures.items)))),
+          (c.deref.ensures.value ∙ c.in_ok-extend_from_slice.ensures.items ∙ ap (λ t. t ++ codes "\n") (c.in_ok-append_answer.ensures.ok ∙ ap (λ t. t ++ text_of c.in_ok-answer.answer) c.clear.ensures.items)))),
     )
 
 pub loop-line-preserved-in_ok-write_all : goal.loop-line-preserved-in_ok-write_all
@@ -84,7 +84,7 @@ loop-line-preserved-in_ok-write_all g c =
       appended = Appends-trans _ _ _ l.written text l.appended c.in_ok-write_all.ensures.ok;
       answering = answering-line c.args.config c.loop-line.book.config l.front c.in-Some.line.now (book_of c.loop-line.book) (book_of c.answer_line.new.book) c.in_ok-answer.answer
           l.written text l.answering l.config c.in_ok-answer.ensures.replied
-          (c.deref.ensures.value ∙ c.in_ok-extend_from_slice.ensures.items ∙ ap (λ t. t ++ codes "\n") (c.in_ok-write_answer.ensures.ok ∙ ap (λ t. t ++ text_of c.in_ok-answer.answer) c.clear.ensures.items));
+          (c.deref.ensures.value ∙ c.in_ok-extend_from_slice.ensures.items ∙ ap (λ t. t ++ codes "\n") (c.in_ok-append_answer.ensures.ok ∙ ap (λ t. t ++ text_of c.in_ok-answer.answer) c.clear.ensures.items));
     }
 
 pub loop-line-preserved : goal.loop-line-preserved
@@ -101,7 +101,7 @@ loop-line-preserved g c =
       appended = Appends-trans _ _ _ l.written text l.appended c.in_ok-write_all.ensures.ok;
       answering = answering-line c.args.config c.loop-line.book.config l.front c.in-Some.line.now (book_of c.loop-line.book) (book_of c.answer_line.new.book) c.in_ok-answer.answer
           l.written text l.answering l.config c.in_ok-answer.ensures.replied
-          (c.deref.ensures.value ∙ c.in_ok-extend_from_slice.ensures.items ∙ ap (λ t. t ++ codes "\n") (c.in_ok-write_answer.ensures.ok ∙ ap (λ t. t ++ text_of c.in_ok-answer.answer) c.clear.ensures.items));
+          (c.deref.ensures.value ∙ c.in_ok-extend_from_slice.ensures.items ∙ ap (λ t. t ++ codes "\n") (c.in_ok-append_answer.ensures.ok ∙ ap (λ t. t ++ text_of c.in_ok-answer.answer) c.clear.ensures.items));
     }
 
 pub returns-in_err-flush-clause-write_failed : goal.returns-in_err-flush-clause-write_failed

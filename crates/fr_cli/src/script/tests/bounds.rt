@@ -1,7 +1,7 @@
 use super::{CLUSTER, DONE, OPEN_V1, run};
-use crate::cluster_file::ConfigFault;
 use crate::script_fault::ScriptFault;
 use fr_base::ParamFault;
+use fr_text::ConfigFault;
 use std::alloc::{AllocError, Global};
 use std::test::Fail;
 

@@ -1,5 +1,5 @@
 use Rattle.std.proofs.Common.{◌≡◌, ◌∙◌, sym, ap, [], ◌∷◌, option_map, rules}
-use Rattle.fr_base.specs.Step.{sending}
+use Rattle.fr_base.specs.Queries.{sending}
 use Rattle.fr_cli.proofs.ScheduleLaws.{cell, sender, sender-here, sending-seen}
 use Rattle.fr_cli.proofs.variant.Variant.sending.Goals as goal
 

@@ -1,6 +1,0 @@
-use Rattle.fr_cli.specs.RequestText.{place}
-use Rattle.fr_cli.proofs.request_text.place.Goals as goal
-
-pub returns : goal.returns
-unfolding place
-returns c = rw (c.in_ok-allow_only.ensures, c.in_ok-copy_text.ensures, c.in_ok-copy_text-2.ensures, c.in_ok-number_in.ensures, c.in_ok-copy_text-3.ensures, c.in_ok-number_in-2.ensures, c.in_ok-number_in-3.ensures)

@@ -1,0 +1,6 @@
+pub mod ClusterFileLemmas
+pub mod WellFormedLaws
+pub mod FieldsLemmas
+pub mod WordsLemmas
+pub mod ReportLemmas
+pub mod AnswerTextLemmas

@@ -1,0 +1,38 @@
+-- The text of an answer: compact JSON, its keys in byte order. Names are ASCII letters, digits and `_`, so nothing in it needs an escape.
+use Rattle.std.specs.Prelude.{List, ◌++◌, codes, ℕ, decimal}
+use Rattle.fr_base.specs.Channels.{text_of_channel}
+use Rattle.fr_base.specs.Refusals.{number_of, name_of}
+use Rattle.fr_base.specs.declared.answer.Answer.{Answer}
+use Rattle.fr_base.specs.declared.answer.Answer.TheVariants.{Done, Grants, Frames, Schedule, Gaps, Layout, Refused}
+use Rattle.fr_base.specs.declared.refusal.Refusal.{Refusal}
+use Rattle.fr_base.specs.declared.refusal.Refusal.TheVariants.{CellTaken, BitTaken}
+use Rattle.fr_text.specs.Report.{lines_of}
+use Rattle.fr_text.specs.Styles.{quoted, json_lines, plain_lines}
+
+-- a refusal: its number and its name, and of a taken cell or bit what has taken it
+unfoldable pub text_of_refusal : Refusal → List ℕ
+text_of_refusal (CellTaken cycle channel frame) =
+    codes "{\"channel\":" ++ quoted (text_of_channel channel) ++ codes ",\"cycle\":" ++ decimal cycle
+    ++ codes ",\"frame\":" ++ quoted frame ++ codes ",\"no\":25,\"refused\":\"CellTaken\"}"
+text_of_refusal (BitTaken bit signal) =
+    codes "{\"bit\":" ++ decimal bit ++ codes ",\"no\":27,\"refused\":\"BitTaken\",\"signal\":" ++ quoted signal ++ codes "}"
+text_of_refusal refusal =
+    codes "{\"no\":" ++ decimal (number_of refusal) ++ codes ",\"refused\":" ++ quoted (name_of refusal) ++ codes "}"
+
+-- a query's answer: its lines, and which query it answers
+abbrev pub text_of_report : List (List ℕ) → List ℕ → List ℕ
+text_of_report lines query = codes "{\"lines\":[" ++ json_lines lines ++ codes "],\"ok\":" ++ quoted query ++ codes "}"
+
+-- an answer
+unfoldable pub text_of : Answer → List ℕ
+text_of Done = codes "{\"ok\":\"done\"}"
+text_of (Grants all rows) = text_of_report (lines_of (Grants all rows)) (codes "grants")
+text_of (Frames all rows) = text_of_report (lines_of (Frames all rows)) (codes "frames")
+text_of (Schedule all rows) = text_of_report (lines_of (Schedule all rows)) (codes "schedule")
+text_of (Gaps all rows) = text_of_report (lines_of (Gaps all rows)) (codes "gaps")
+text_of (Layout all rows) = text_of_report (lines_of (Layout all rows)) (codes "layout")
+text_of (Refused refusal) = text_of_refusal refusal
+
+-- an answer's lines, each ended by a line feed
+unfoldable pub report_of : Answer → List ℕ
+report_of answer = plain_lines (lines_of answer)

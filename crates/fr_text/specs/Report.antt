@@ -1,0 +1,65 @@
+-- The lines of each report.
+use Rattle.std.specs.Prelude.{ℕ, Bool, List, [], ◌∷◌, map, codes}
+use Rattle.std.specs.List.{flat_map}
+use Rattle.fr_base.specs.Channels.{text_of_channel, text_of_channels}
+use Rattle.fr_base.specs.Signals.{text_of_order}
+use Rattle.fr_base.specs.declared.answer.Answer.{Answer}
+use Rattle.fr_base.specs.declared.answer.Answer.TheVariants.{Done, Grants, Frames, Schedule, Gaps, Layout, Refused}
+use Rattle.fr_base.specs.declared.answer.GrantRow.{GrantRow}
+use Rattle.fr_base.specs.declared.answer.FrameRow.{FrameRow}
+use Rattle.fr_base.specs.declared.answer.Sending.{Sending}
+use Rattle.fr_base.specs.declared.answer.GapRow.{GapRow}
+use Rattle.fr_base.specs.declared.answer.SignalRow.{SignalRow}
+use Rattle.fr_base.specs.declared.placement.Placement.{Placement}
+use Rattle.fr_text.specs.Words.{two_digits, four_digits, right_in, gap_word, line, shown_to}
+
+-- slot, channel and node
+unfoldable pub grant_line : Bool → GrantRow → List ℕ
+grant_line all g = line (four_digits g.slot ∷ text_of_channel g.channel ∷ g.node ∷ shown_to all g.supplier)
+
+-- a frame and its node
+unfoldable pub frame_line : Bool → FrameRow → List ℕ
+frame_line all f = line (codes "FRAME" ∷ f.frame ∷ f.node ∷ shown_to all f.supplier)
+
+-- slot, channels, base and repetition of a frame's placement; no supplier, whoever asks
+unfoldable pub placement_line : Placement → List ℕ
+placement_line q = line (codes "AT" ∷ four_digits q.slot ∷ text_of_channels q.channels ∷ two_digits q.cycles.base ∷ two_digits q.cycles.repetition ∷ [])
+
+-- cycle, slot, channel, frame and node
+unfoldable pub schedule_line : Bool → Sending → List ℕ
+schedule_line all s = line (two_digits s.cycle ∷ four_digits s.slot ∷ text_of_channel s.channel ∷ s.frame ∷ s.node ∷ shown_to all s.supplier)
+
+-- a frame's greatest gap, in seven places
+unfoldable pub gap_line : Bool → GapRow → List ℕ
+gap_line all g = line (codes "GAP" ∷ right_in 7 (gap_word g.gap) ∷ g.frame ∷ shown_to all g.supplier)
+
+-- start, length, order and name of a signal
+unfoldable pub signal_line : Bool → SignalRow → List ℕ
+signal_line all s = line (four_digits s.signal.start ∷ two_digits s.signal.length ∷ text_of_order s.signal.order ∷ s.signal.name ∷ shown_to all s.supplier)
+
+-- a frame's line, and a line for each of its placements
+abbrev pub frame_lines : Bool → FrameRow → List (List ℕ)
+frame_lines all f = frame_line all f ∷ map placement_line f.placements
+
+-- the lines of an answer; one that answers no query has none
+unfoldable pub lines_of : Answer → List (List ℕ)
+lines_of Done = []
+lines_of (Grants all rows) = map (grant_line all) rows
+lines_of (Frames all rows) = flat_map (frame_lines all) rows
+lines_of (Schedule all rows) = map (schedule_line all) rows
+lines_of (Gaps all rows) = map (gap_line all) rows
+lines_of (Layout all rows) = map (signal_line all) rows
+lines_of (Refused _) = []
+
+-- the lines of an answer that is of this kind
+unfoldable pub schedule_lines : Answer → List (List ℕ)
+schedule_lines (Schedule all rows) = map (schedule_line all) rows
+schedule_lines _ = []
+
+unfoldable pub gap_lines : Answer → List (List ℕ)
+gap_lines (Gaps all rows) = map (gap_line all) rows
+gap_lines _ = []
+
+unfoldable pub layout_lines : Answer → List (List ℕ)
+layout_lines (Layout all rows) = map (signal_line all) rows
+layout_lines _ = []

@@ -1,0 +1,179 @@
+-- Which request the bytes of a line are. They are one JSON object, whose field `do` names the request; its other fields are
+-- exactly those of that request.
+use Rattle.std.specs.Prelude.{ℕ, List, [], ◌∷◌, codes, Option, Some}
+use Rattle.std.specs.Map.{lookup}
+use Rattle.std.specs.Str.{bytes_eq}
+use Rattle.serde_json.specs.Data.{Members}
+use Rattle.serde_json.specs.Find.{as_object}
+use Rattle.fr_base.specs.declared.request.Request.{Request}
+use Rattle.fr_base.specs.declared.request.Request.TheVariants.{OpenVariant, Release, AddNode, Grant, Revoke, AddFrame, DropFrame, Place, Unplace, AddSignal, DropSignal, Grants, Frames, Schedule, Gaps, Layout}
+use Rattle.fr_text.specs.Fields.{◌>>=◌, ◌>>◌, provided, value_of, only, text, text_or_null, whole}
+
+-- ---- the integrator's
+
+unfoldable pub open_variant : Members → Option Request
+open_variant fields = do
+  provided (only (codes "do" ∷ codes "variant" ∷ codes "from" ∷ []) fields)
+  variant ← text (codes "variant") fields
+  parent ← text_or_null (codes "from") fields
+  Some (OpenVariant variant parent)
+
+unfoldable pub release : Members → Option Request
+release fields = do
+  provided (only (codes "do" ∷ codes "variant" ∷ []) fields)
+  variant ← text (codes "variant") fields
+  Some (Release variant)
+
+unfoldable pub add_node : Members → Option Request
+add_node fields = do
+  provided (only (codes "do" ∷ codes "supplier" ∷ codes "node" ∷ []) fields)
+  supplier ← text (codes "supplier") fields
+  node ← text (codes "node") fields
+  Some (AddNode supplier node)
+
+unfoldable pub grant : Members → Option Request
+grant fields = do
+  provided (only (codes "do" ∷ codes "variant" ∷ codes "slot" ∷ codes "channel" ∷ codes "supplier" ∷ codes "node" ∷ []) fields)
+  variant ← text (codes "variant") fields
+  slot ← whole (codes "slot") fields
+  channel ← text (codes "channel") fields
+  supplier ← text (codes "supplier") fields
+  node ← text (codes "node") fields
+  Some (Grant variant slot channel supplier node)
+
+unfoldable pub revoke : Members → Option Request
+revoke fields = do
+  provided (only (codes "do" ∷ codes "variant" ∷ codes "slot" ∷ codes "channel" ∷ codes "supplier" ∷ []) fields)
+  variant ← text (codes "variant") fields
+  slot ← whole (codes "slot") fields
+  channel ← text (codes "channel") fields
+  supplier ← text (codes "supplier") fields
+  Some (Revoke variant slot channel supplier)
+
+-- ---- a supplier's
+
+unfoldable pub add_frame : Members → Option Request
+add_frame fields = do
+  provided (only (codes "do" ∷ codes "variant" ∷ codes "frame" ∷ codes "node" ∷ []) fields)
+  variant ← text (codes "variant") fields
+  frame ← text (codes "frame") fields
+  node ← text (codes "node") fields
+  Some (AddFrame variant frame node)
+
+unfoldable pub drop_frame : Members → Option Request
+drop_frame fields = do
+  provided (only (codes "do" ∷ codes "variant" ∷ codes "frame" ∷ []) fields)
+  variant ← text (codes "variant") fields
+  frame ← text (codes "frame") fields
+  Some (DropFrame variant frame)
+
+unfoldable pub place : Members → Option Request
+place fields = do
+  provided (only (codes "do" ∷ codes "variant" ∷ codes "frame" ∷ codes "slot" ∷ codes "channels" ∷ codes "base" ∷ codes "repetition" ∷ []) fields)
+  variant ← text (codes "variant") fields
+  frame ← text (codes "frame") fields
+  slot ← whole (codes "slot") fields
+  channels ← text (codes "channels") fields
+  base ← whole (codes "base") fields
+  repetition ← whole (codes "repetition") fields
+  Some (Place variant frame slot channels base repetition)
+
+unfoldable pub unplace : Members → Option Request
+unplace fields = do
+  provided (only (codes "do" ∷ codes "variant" ∷ codes "frame" ∷ codes "slot" ∷ codes "channels" ∷ codes "base" ∷ codes "repetition" ∷ []) fields)
+  variant ← text (codes "variant") fields
+  frame ← text (codes "frame") fields
+  slot ← whole (codes "slot") fields
+  channels ← text (codes "channels") fields
+  base ← whole (codes "base") fields
+  repetition ← whole (codes "repetition") fields
+  Some (Unplace variant frame slot channels base repetition)
+
+unfoldable pub add_signal : Members → Option Request
+add_signal fields = do
+  provided (only (codes "do" ∷ codes "variant" ∷ codes "frame" ∷ codes "signal" ∷ codes "start" ∷ codes "length" ∷ codes "order" ∷ []) fields)
+  variant ← text (codes "variant") fields
+  frame ← text (codes "frame") fields
+  signal ← text (codes "signal") fields
+  start ← whole (codes "start") fields
+  length ← whole (codes "length") fields
+  order ← text (codes "order") fields
+  Some (AddSignal variant frame signal start length order)
+
+unfoldable pub drop_signal : Members → Option Request
+drop_signal fields = do
+  provided (only (codes "do" ∷ codes "variant" ∷ codes "frame" ∷ codes "signal" ∷ []) fields)
+  variant ← text (codes "variant") fields
+  frame ← text (codes "frame") fields
+  signal ← text (codes "signal") fields
+  Some (DropSignal variant frame signal)
+
+-- ---- queries
+
+unfoldable pub grants : Members → Option Request
+grants fields = do
+  provided (only (codes "do" ∷ codes "variant" ∷ []) fields)
+  variant ← text (codes "variant") fields
+  Some (Grants variant)
+
+unfoldable pub frames : Members → Option Request
+frames fields = do
+  provided (only (codes "do" ∷ codes "variant" ∷ []) fields)
+  variant ← text (codes "variant") fields
+  Some (Frames variant)
+
+unfoldable pub schedule : Members → Option Request
+schedule fields = do
+  provided (only (codes "do" ∷ codes "variant" ∷ []) fields)
+  variant ← text (codes "variant") fields
+  Some (Schedule variant)
+
+unfoldable pub gaps : Members → Option Request
+gaps fields = do
+  provided (only (codes "do" ∷ codes "variant" ∷ []) fields)
+  variant ← text (codes "variant") fields
+  Some (Gaps variant)
+
+unfoldable pub layout : Members → Option Request
+layout fields = do
+  provided (only (codes "do" ∷ codes "variant" ∷ codes "frame" ∷ []) fields)
+  variant ← text (codes "variant") fields
+  frame ← text (codes "frame") fields
+  Some (Layout variant frame)
+
+-- ---- the request
+
+-- what each name of a request reads
+unfoldable pub readers : List (List ℕ × (Members → Option Request))
+readers =
+    (codes "open_variant", open_variant)
+    ∷ (codes "release", release)
+    ∷ (codes "add_node", add_node)
+    ∷ (codes "grant", grant)
+    ∷ (codes "revoke", revoke)
+    ∷ (codes "add_frame", add_frame)
+    ∷ (codes "drop_frame", drop_frame)
+    ∷ (codes "place", place)
+    ∷ (codes "unplace", unplace)
+    ∷ (codes "add_signal", add_signal)
+    ∷ (codes "drop_signal", drop_signal)
+    ∷ (codes "grants", grants)
+    ∷ (codes "frames", frames)
+    ∷ (codes "schedule", schedule)
+    ∷ (codes "gaps", gaps)
+    ∷ (codes "layout", layout)
+    ∷ []
+
+-- the request that the fields are
+unfoldable pub request_in : Members → Option Request
+request_in fields = do
+  name ← text (codes "do") fields
+  reader ← lookup (bytes_eq name) readers
+  reader fields
+
+-- the request that the bytes are, if they are one
+unfoldable pub request_of : List ℕ → Option Request
+request_of bytes = do
+  value ← value_of bytes
+  fields ← as_object value
+  request_in fields

@@ -1,0 +1,114 @@
+//! Writes answers as compact JSON.
+ghost use Rattle.std.specs.Prelude.{◌≡◌, ◌++◌, codes, IfOk, OnOk, OnErr};
+ghost use Rattle.fr_text.specs.AnswerText.{text_of, text_of_report, text_of_refusal};
+ghost use Rattle.fr_text.specs.Styles.{quoted, lines_in};
+ghost use Rattle.fr_text.specs.Words.{Extends};
+
+use crate::report::{Row, push_rows};
+use crate::style::Style;
+use crate::words::{push, push_decimal};
+use fr_base::{Answer, Refusal};
+use std::alloc::{AllocError, Global};
+
+/// The answer's text: compact JSON, its keys in byte order, with no line feed.
+pub fn write_answer(alloc: Global, answer: &Answer) -> Result<Vec<u8>, AllocError>
+    ensures { IfOk result (λ text. text.items ≡ text_of answer.now) }
+{
+    let mut out = Vec::new(alloc);
+    append_answer(answer, &mut out)?;
+    Ok(out)
+}
+
+/// Appends the answer's text. An error leaves the buffer as it was.
+pub fn append_answer(answer: &Answer, out: &mut Vec<u8>) -> Result<(), AllocError>
+    ensures ok { OnOk result (out.new.items ≡ out.old.items ++ text_of answer.now) }
+    ensures err { OnErr result (out.new.items ≡ out.old.items) }
+{
+    let before = out.len();
+    let written = push_answer(answer, out);
+    if written.is_err() {
+        out.truncate(before);
+    }
+    written
+}
+
+#[tactic(auto, using(crate::proofs::WordsLemmas::extending, crate::proofs::ReportLemmas::rows), unfolding(crate::specs::AnswerText::text_of, crate::specs::Report::lines_of))]
+fn push_answer(answer: &Answer, out: &mut Vec<u8>) -> Result<(), AllocError>
+    ensures ok { OnOk result (out.new.items ≡ out.old.items ++ text_of answer.now) }
+    ensures err { OnErr result (Extends out.old.items out.new.items) }
+{
+    match answer {
+        Answer::Done => push("{\"ok\":\"done\"}", out),
+        Answer::Grants { all, rows } => push_report(rows.as_slice(), *all, "grants", out),
+        Answer::Frames { all, rows } => push_report(rows.as_slice(), *all, "frames", out),
+        Answer::Schedule { all, rows } => push_report(rows.as_slice(), *all, "schedule", out),
+        Answer::Gaps { all, rows } => push_report(rows.as_slice(), *all, "gaps", out),
+        Answer::Layout { all, rows } => push_report(rows.as_slice(), *all, "layout", out),
+        Answer::Refused(refusal) => push_refusal(refusal, out),
+    }
+}
+
+// Appends a query's answer: the lines of the rows, and which query it answers.
+#[tactic(auto, using(crate::proofs::WordsLemmas::extending))]
+fn push_report<R: Row>(
+    rows: &[R],
+    all: bool,
+    query: &str,
+    out: &mut Vec<u8>,
+) -> Result<(), AllocError>
+    ensures ok { OnOk result (out.new.items ≡ out.old.items ++ text_of_report (lines_in R.first R.others all rows.now) query.now) }
+    ensures err { OnErr result (Extends out.old.items out.new.items) }
+{
+    push("{\"lines\":[", out)?;
+    push_rows(rows, all, Style::Json, out)?;
+    push("],\"ok\":", out)?;
+    push_quoted(query, out)?;
+    push("}", out)
+}
+
+#[tactic(auto, using(crate::proofs::WordsLemmas::extending), unfolding(crate::specs::AnswerText::text_of_refusal))]
+fn push_refusal(refusal: &Refusal, out: &mut Vec<u8>) -> Result<(), AllocError>
+    ensures ok { OnOk result (out.new.items ≡ out.old.items ++ text_of_refusal refusal.now) }
+    ensures err { OnErr result (Extends out.old.items out.new.items) }
+{
+    match refusal {
+        Refusal::CellTaken {
+            cycle,
+            channel,
+            frame,
+        } => {
+            push("{\"channel\":", out)?;
+            push_quoted(channel.as_str(), out)?;
+            push(",\"cycle\":", out)?;
+            push_decimal(u32::from(*cycle), out)?;
+            push(",\"frame\":", out)?;
+            push_quoted(frame.as_str(), out)?;
+            push(",\"no\":25,\"refused\":\"CellTaken\"}", out)
+        }
+        Refusal::BitTaken { bit, signal } => {
+            push("{\"bit\":", out)?;
+            push_decimal(*bit, out)?;
+            push(",\"no\":27,\"refused\":\"BitTaken\",\"signal\":", out)?;
+            push_quoted(signal.as_str(), out)?;
+            push("}", out)
+        }
+        plain => {
+            push("{\"no\":", out)?;
+            push_decimal(u32::from(plain.number()), out)?;
+            push(",\"refused\":", out)?;
+            push_quoted(plain.name(), out)?;
+            push("}", out)
+        }
+    }
+}
+
+// Appends the text in double quotes. It has no character that needs an escape.
+#[tactic(auto, using(crate::proofs::WordsLemmas::extending))]
+fn push_quoted(text: &str, out: &mut Vec<u8>) -> Result<(), AllocError>
+    ensures ok { OnOk result (out.new.items ≡ out.old.items ++ quoted text.now) }
+    ensures err { OnErr result (Extends out.old.items out.new.items) }
+{
+    push("\"", out)?;
+    push(text, out)?;
+    push("\"", out)
+}

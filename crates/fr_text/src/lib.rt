@@ -1,0 +1,22 @@
+//! The texts of the register: the cluster file and the requests, read; the answers and their
+//! reports, written.
+#![tactic(auto)]
+
+mod answer_text;
+mod cluster_file;
+mod fields;
+mod report;
+mod request_text;
+mod style;
+mod words;
+
+pub use answer_text::{append_answer, write_answer};
+pub use cluster_file::{ConfigFault, read_config};
+pub use report::{write_gaps, write_layout, write_lines, write_schedule};
+pub use request_text::read_command;
+
+/// An allocation failed.
+pub type NoMemory = std::alloc::AllocError;
+
+#[cfg(test)]
+mod tests;

@@ -1,0 +1,53 @@
+//! Reads a request from the bytes of its line: one JSON object, whose field `do` names the request.
+ghost use Rattle.std.specs.Prelude.{◌≡◌, ◌⊎◌, Some, None, MatchResult};
+ghost use Rattle.fr_text.specs.Fields.{fields_in, Reads};
+ghost use Rattle.fr_text.specs.RequestText.{request_of, request_in};
+
+mod integrator;
+mod queries;
+mod supplier;
+
+use crate::fields::{Fields, read_json, text_in};
+use fr_base::{Refusal, Request};
+use std::alloc::Global;
+
+/// Reads a request. What is no request is `BadText`; want of memory is `Unavailable`.
+#[tactic(auto, unfolding(crate::specs::RequestText::request_of))]
+pub fn read_command(alloc: Global, bytes: &[u8]) -> Result<Request, Refusal>
+    ensures { MatchResult result (λ request. request_of bytes.now ≡ Some request)
+        (λ refusal. (refusal ≡ Refusal.Unavailable)
+        ⊎ ((refusal ≡ Refusal.BadText) × (request_of bytes.now ≡ None))) }
+{
+    let value = read_json(alloc, bytes)?;
+    let fields = value.as_object().ok_or(Refusal::BadText)?;
+    request_in(alloc, fields)
+}
+
+// The request that the fields are.
+#[tactic(auto, unfolding(crate::specs::RequestText::request_in, crate::specs::RequestText::readers))]
+fn request_in(alloc: Global, fields: &Fields) -> Result<Request, Refusal>
+    ensures { Reads (λ request. request) (request_in (fields_in fields.now)) result }
+{
+    match text_in(fields, "do")? {
+        "open_variant" => integrator::open_variant(alloc, fields),
+        "release" => integrator::release(alloc, fields),
+        "add_node" => integrator::add_node(alloc, fields),
+        "grant" => integrator::grant(alloc, fields),
+        "revoke" => integrator::revoke(alloc, fields),
+        "add_frame" => supplier::add_frame(alloc, fields),
+        "drop_frame" => supplier::drop_frame(alloc, fields),
+        "place" => supplier::place(alloc, fields),
+        "unplace" => supplier::unplace(alloc, fields),
+        "add_signal" => supplier::add_signal(alloc, fields),
+        "drop_signal" => supplier::drop_signal(alloc, fields),
+        "grants" => queries::grants(alloc, fields),
+        "frames" => queries::frames(alloc, fields),
+        "schedule" => queries::schedule(alloc, fields),
+        "gaps" => queries::gaps(alloc, fields),
+        "layout" => queries::layout(alloc, fields),
+        _ => Err(Refusal::BadText),
+    }
+}
+
+#[cfg(test)]
+mod tests;
