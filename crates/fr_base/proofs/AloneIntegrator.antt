@@ -6,7 +6,7 @@ use Rattle.std.specs.List.{list_any}
 use Rattle.std.proofs.lemmas.Bool.{cases_Bool}
 use Rattle.fr_base.specs.Refusing.{◌>>=◌, ◌>>◌, ◌or◌, refuse◌when◌}
 use Rattle.fr_base.specs.Limits.{max_depth, max_variants, max_nodes}
-use Rattle.fr_base.specs.Tables.{Table, empty, get, contains, len, insert, only, remove}
+use Rattle.fr_base.specs.Tables.{Table, get, contains, len, insert, only, remove}
 use Rattle.fr_base.specs.Keys.{owned, channel_slots}
 use Rattle.fr_base.specs.Cluster.{Cluster, same_text}
 use Rattle.fr_base.specs.Book.{Holder, Frame, Variant, Book, Owner, empty_variant, held_by, held_by_node, placements_of}
@@ -19,9 +19,10 @@ use Rattle.fr_base.specs.declared.refusal.Refusal.{Refusal}
 use Rattle.fr_base.specs.declared.refusal.Refusal.TheVariants.{NoVariant, Released, NotReleased, TooDeep, NoSupplier, NoNode, Exists, NodeDiffers, NotGranted, InUse, Limit, Taken}
 use Rattle.fr_base.specs.declared.request.Command.{Command}
 use Rattle.fr_base.specs.declared.request.Command.TheVariants.{OpenVariant, Release, AddNode, Grant, Revoke, AddFrame, DropFrame, Place, Unplace, AddSignal, DropSignal}
-use Rattle.fr_base.proofs.TableLaws.{get-only, kept, same_rows}
+use Rattle.fr_base.proofs.TableLaws.{get-only, kept}
 use Rattle.fr_base.proofs.SoundRows.{same_text-is}
 use Rattle.fr_base.proofs.SoundRefusing.{gives_or, gives_when, gives_unless}
+use Rattle.fr_base.proofs.AloneTables.{only-empty}
 use Rattle.fr_base.proofs.AloneRefusing.{map_ok, alike_or, alike_when, alike_map}
 use Rattle.fr_base.proofs.AloneChecks.{names, against}
 use Rattle.fr_base.proofs.AloneRows.{own-granted, own-granted_other, own-revoked, own-revoked_other, own-released, rows_of-variant, rows_of-has, rows_of-count, rows_of-supplier, rows_of-node, rows_of-nodes, rows_of-with, rows_of-still, rows_of-more_nodes, rows_of-more_nodes_other}
@@ -93,8 +94,8 @@ unless_none (Ok x) = refl
 unless_none (Err e) = refl
 
 own-empty : (s : Name) → own_variant s empty_variant ≡ empty_variant
-unfolding own_variant empty_variant empty only
-own-empty s = λ i. record empty_variant { grants = same_rows (only (λ _ h. held_by s (Some h)) empty) empty refl i; frames = same_rows (only (λ k _. is_of s k) empty) empty refl i }
+unfolding own_variant empty_variant
+own-empty s = λ i. record empty_variant { grants = only-empty channel_slots (λ _ h. held_by s (Some h)) i; frames = only-empty owned (λ k _. is_of s k) i }
 
 module _ (s : Name) (b : Book) where
   abbrev LikeVariant : Result Variant Refusal → Result Variant Refusal → Type 0

@@ -1,19 +1,22 @@
 -- A step, and the same step in the register that holds one supplier alone.
-use Rattle.std.proofs.Common.{◌≡◌, Bool, true, false, not, ◌&&◌, Option, Some, None, Result, Ok, Err, IfOk, refl, sym, ap, subst, ◌∙◌, ◌⊎◌, inl, inr}
+use Rattle.std.proofs.Common.{◌≡◌, Bool, true, false, not, ◌&&◌, Option, Some, None, Result, Ok, Err, IfOk, IsTrue, refl, sym, ap, subst, ◌∙◌, ◌⊎◌, inl, inr}
 use Rattle.std.specs.Prelude.{◌==◌}
 use Rattle.std.proofs.lemmas.Bool.{cases_Bool}
 use Rattle.fr_base.specs.Refusing.{◌>>=◌, ◌>>◌, ◌or◌, refuse◌when◌}
 use Rattle.fr_base.specs.Tables.{get, len, only}
 use Rattle.fr_base.specs.Keys.{owned, channel_slots}
 use Rattle.fr_base.specs.Checks.{check}
+use Rattle.fr_base.specs.Cells.{cells_of}
+use Rattle.fr_base.specs.Schedule.{first_taken}
 use Rattle.fr_base.specs.Cluster.{Cluster, same_text}
-use Rattle.fr_base.specs.Book.{Variant, Book, held_by}
+use Rattle.fr_base.specs.Book.{Variant, Book, held_by, granted, schedule_of}
 use Rattle.fr_base.specs.Queries.{seen_grants, seen_frames, grants_of, frames_of, sendings_of, gaps_of, named, signals_of, shown, reply, variant_asked}
 use Rattle.fr_base.specs.Step.{Outcome, is_of, knows, by_integrator, by_supplier, change, act, outcome, step}
 use Rattle.fr_base.specs.Sound.{IsSound}
 use Rattle.fr_base.specs.Alone.{own_variant, rows_of, concerns, is_done, is_unavailable, is_mine, alone, refused_beside, done_unless, beside}
 use Rattle.fr_base.specs.declared.name.Name.{Name}
 use Rattle.fr_base.specs.declared.params.Params.{Params}
+use Rattle.fr_base.specs.declared.placement.Placement.{Placement}
 use Rattle.fr_base.specs.declared.answer.Answer.{Answer}
 use Rattle.fr_base.specs.declared.answer.Answer.TheVariants as answer
 use Rattle.fr_base.specs.declared.refusal.Refusal.{Refusal}
@@ -29,6 +32,7 @@ use Rattle.fr_base.specs.declared.request.Checked.TheVariants as checked
 use Rattle.fr_base.proofs.SoundRows.{same_text-is}
 use Rattle.fr_base.proofs.SoundRefusing.{gives_each, gives_bind, gives_when, gives_unless}
 use Rattle.fr_base.proofs.AloneTables.{only-only}
+use Rattle.fr_base.proofs.AloneCells.{first_taken-own}
 use Rattle.fr_base.proofs.AloneRefusing.{map_ok, alike_or, alike_when, alike_bind, alike_map}
 use Rattle.fr_base.proofs.AloneRows.{rows_of-variant, rows_of-supplier}
 use Rattle.fr_base.proofs.AloneFrames.{by_supplier-own, by_supplier-other}
@@ -265,3 +269,17 @@ module _ (c : Cluster) (b : Book) (s : Name) (sound : IsSound c b) where
     | inl undone ↦ ap (rows_of s) (step-undone c b Integrator request undone)
     | inr unnamed ↦ step-unnamed c b s request unnamed.1
   ]
+
+-- ---- as the laws say it
+
+pub step-alone : (c : Cluster) (b : Book) (s : Name) (actor : Actor) (request : Request) → IsSound c b → is_mine s actor request (step c b actor request).answer ≡ true →
+    ((step (alone s c) (rows_of s b) actor request).answer ≡ (step c b actor request).answer) × ((step (alone s c) (rows_of s b) actor request).book ≡ rows_of s (step c b actor request).book)
+unfolding seen
+step-alone c b s actor request sound mine =
+    let same = step-mine c b s sound actor request mine in
+    (ap (λ (o : Outcome). o.answer) same, ap (λ (o : Outcome). o.book) same)
+
+pub first_taken-alone : (c : Cluster) (b : Book) (v : Name) (x : Variant) (s n : Name) (q : Placement) → IsSound c b → get b.variants v ≡ Some x → IsTrue (granted x.grants s n q) →
+    first_taken (schedule_of x.frames) (cells_of q) ≡ first_taken (schedule_of (own_variant s x).frames) (cells_of q)
+unfolding own_variant
+first_taken-alone c b v x s n q sound there holds = first_taken-own c.params b.nodes x (sound.variants v x there).1 s n q holds

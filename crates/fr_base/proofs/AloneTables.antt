@@ -7,7 +7,7 @@ use Rattle.std.specs.FinMap.Entries.{find}
 use Rattle.std.proofs.lemmas.Bool.{cases_Bool}
 use Rattle.std.proofs.lemmas.List.{length-map}
 use Rattle.fr_base.specs.Tables.{Order, Table, empty, get, contains, len, insert, only, each, remove, becomes}
-use Rattle.fr_base.proofs.TableLaws.{equal, get-insert, get-only, get-empty, same_table, kept}
+use Rattle.fr_base.proofs.TableLaws.{equal, get-insert, get-only, same_rows, same_table, kept}
 
 -- ---- each value changed alike
 
@@ -27,6 +27,10 @@ module _ {K V W : Type 0} (o : Order K) (f : V → W) where
   unfolding len each
   len-each t = length-map t.rows (λ e. (e.0, f e.1))
 
+  pub each-empty : each f (empty {o = o}) ≡ empty
+  unfolding each empty
+  each-empty = same_rows _ _ refl
+
   option_map-cond : (b : Bool) (v : V) (x : Option V) → option_map f (cond b (Some v) x) ≡ cond b (Some (f v)) (option_map f x)
   option_map-cond true v x = refl
   option_map-cond false v x = refl
@@ -45,6 +49,10 @@ module _ {K V : Type 0} (o : Order K) (p : K → V → Bool) where
     | true ↦ λ h. ap (λ b. cond b (Some v) None) h
     | false ↦ λ h. refl
   ] refl
+
+  pub only-empty : only p (empty {o = o}) ≡ empty
+  unfolding only empty
+  only-empty = same_rows _ _ refl
 
   -- those that pass all pass
   pub only-only : (t : Table o V) → only p (only p t) ≡ only p t
