@@ -63,7 +63,7 @@ kept p k None = None
 kept p k (Some v) = cond (p k v) (Some v) None
 
 module _ {K V : Type 0} (o : Order K) (p : K → V → Bool) where
-  none_above : (k j : K) (es : List (K × V)) → o.compare k j ≡ Equal → T (below_all o.compare j es) → find o.compare k es ≡ None
+  pub none_above : (k j : K) (es : List (K × V)) → o.compare k j ≡ Equal → T (below_all o.compare j es) → find o.compare k es ≡ None
   none_above k j [] tie h = refl
   none_above k j (e ∷ es) tie h =
       let step : o.compare k e.0 ≡ Less = o.total.congr k j e.0 tie ∙ less (o.compare j e.0) (first _ _ h) in

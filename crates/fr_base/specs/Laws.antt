@@ -1,21 +1,28 @@
 -- Laws of the register. They hold for all cluster files, books and requests.
-use Rattle.std.specs.Prelude.{◌≡◌, List, Some, Ok, IsTrue}
+use Rattle.std.specs.Prelude.{◌≡◌, List, Some, Ok, IsTrue, IsFalse}
 use Rattle.std.specs.List.{list_all}
 use Rattle.fr_base.specs.Tables.{get, contains}
-use Rattle.fr_base.specs.Cells.{Cell, has_cell}
+use Rattle.fr_base.specs.Cells.{Cell, cells_of, has_cell}
+use Rattle.fr_base.specs.Schedule.{first_taken}
+use Rattle.fr_base.specs.Checks.{check}
 use Rattle.fr_base.specs.Cluster.{Cluster, is_cluster, keys_of}
 use Rattle.fr_base.specs.Parameters.{check_params}
 use Rattle.fr_base.specs.Names.{is_name, is_key}
-use Rattle.fr_base.specs.Book.{Frame, Variant, Book, opening}
+use Rattle.fr_base.specs.Book.{Frame, Variant, Book, opening, granted, schedule_of}
+use Rattle.fr_base.specs.Queries.{variant_asked}
 use Rattle.fr_base.specs.Step.{step}
 use Rattle.fr_base.specs.Run.{IsRun}
 use Rattle.fr_base.specs.Sound.{IsSound}
+use Rattle.fr_base.specs.Alone.{own_variant, rows_of, concerns, is_mine, asks_of, answers_of, alone, answers_to, book_after, beside}
 use Rattle.fr_base.specs.declared.answer.Answer.{Answer}
 use Rattle.fr_base.specs.declared.name.Name.{Name}
 use Rattle.fr_base.specs.declared.placement.Placement.{Placement}
 use Rattle.fr_base.specs.declared.request.Actor.{Actor}
+use Rattle.fr_base.specs.declared.request.Actor.TheVariants.{Integrator}
 use Rattle.fr_base.specs.declared.request.Ask.{Ask}
 use Rattle.fr_base.specs.declared.request.Request.{Request}
+use Rattle.fr_base.specs.declared.request.Query.{Query}
+use Rattle.fr_base.specs.declared.request.Checked.TheVariants as checked
 
 -- what a cluster file gives: parameters of a cluster, at most 64 suppliers in order, and each name and each key has its form
 pub record IsWellFormed (c : Cluster) : Type 0 where
@@ -52,3 +59,67 @@ OneFrameInACell = (c : Cluster) (b : Book) (name : Name) (v : Variant) (k l : Na
 abbrev pub HolderSends : Type 0
 HolderSends = (c : Cluster) (b : Book) (name : Name) (v : Variant) (k : Name × Name) (f : Frame) (q : Placement) (cell : Cell) →
     IsSound c b → get b.variants name ≡ Some v → IsSent v k f q cell → get v.grants (cell.slot, cell.channel) ≡ Some (record { supplier = k.0; node = f.node })
+
+-- ---- a release freezes
+
+-- Once a variant is released, its grants, frames, placements and signals stay, whatever is asked.
+abbrev pub ReleaseFreezes : Type 0
+ReleaseFreezes = (c : Cluster) (b last : Book) (asks : List Ask) (answers : List Answer) (v : Name) (variant : Variant) →
+    get b.variants v ≡ Some variant → IsTrue variant.released → IsRun c b asks answers last → get last.variants v ≡ Some variant
+
+-- And each query of it gives the same actor the same answer ever after.
+abbrev pub ReleasedAnswersStay : Type 0
+ReleasedAnswersStay = (c : Cluster) (b last : Book) (asks : List Ask) (answers : List Answer) (v : Name) (variant : Variant) →
+    get b.variants v ≡ Some variant → IsTrue variant.released → IsRun c b asks answers last →
+    (actor : Actor) (request : Request) (query : Query) → check c.params actor request ≡ Ok (checked.Query query) → variant_asked query ≡ v →
+    (step c last actor request).answer ≡ (step c b actor request).answer
+
+-- ---- a supplier alone
+
+-- In a sound book, of cells that are granted to a supplier, the first that any frame fills is the first that one of the
+-- supplier's own fills.
+abbrev pub FirstTakenIsOwn : Type 0
+FirstTakenIsOwn = (c : Cluster) (b : Book) (v : Name) (variant : Variant) (s n : Name) (q : Placement) →
+    IsSound c b → get b.variants v ≡ Some variant → IsTrue (granted variant.grants s n q) →
+    first_taken (schedule_of variant.frames) (cells_of q) ≡ first_taken (schedule_of (own_variant s variant).frames) (cells_of q)
+
+-- A request that is the supplier's is answered as by the register that holds the supplier alone, and does the same to the
+-- supplier's rows.
+abbrev pub OwnStepIsAlone : Type 0
+OwnStepIsAlone = (c : Cluster) (b : Book) (s : Name) (actor : Actor) (request : Request) →
+    IsSound c b → IsTrue (is_mine s actor request (step c b actor request).answer) →
+    ((step (alone s c) (rows_of s b) actor request).answer ≡ (step c b actor request).answer)
+    × ((step (alone s c) (rows_of s b) actor request).book ≡ rows_of s (step c b actor request).book)
+
+-- Any other request leaves the supplier's rows as they were.
+abbrev pub OtherStepLeavesRows : Type 0
+OtherStepLeavesRows = (c : Cluster) (b : Book) (s : Name) (actor : Actor) (request : Request) →
+    IsSound c b → IsFalse (is_mine s actor request (step c b actor request).answer) → rows_of s (step c b actor request).book ≡ rows_of s b
+
+-- A new register that holds the supplier alone has the supplier's rows of a new register.
+abbrev pub OpeningIsAlone : Type 0
+OpeningIsAlone = (c : Cluster) (s : Name) → opening (alone s c) ≡ rows_of s (opening c)
+
+-- Whatever is asked, by whomever, in any order, from any sound book: the register that holds the supplier alone, asked
+-- only what is the supplier's, gives the supplier the same answers one by one, answers Done to each of the integrator's
+-- commands among them, and ends with the supplier's rows.
+abbrev pub RunIsAlone : Type 0
+RunIsAlone = (c : Cluster) (b last : Book) (asks : List Ask) (answers : List Answer) (s : Name) →
+    IsWellFormed c → IsSound c b → IsRun c b asks answers last →
+    (answers_to (alone s c) (rows_of s b) (asks_of s asks answers) ≡ answers_of s asks answers)
+    × (book_after (alone s c) (rows_of s b) (asks_of s asks answers) ≡ rows_of s last)
+
+-- So two registers that begin with the same rows of the supplier, and are asked the same that is the supplier's, give it
+-- the same answers and end with the same rows of the supplier, whatever else is in them and whatever else is asked.
+abbrev pub EqualViews : Type 0
+EqualViews = (c : Cluster) (b d last end : Book) (asks others : List Ask) (answers replies : List Answer) (s : Name) →
+    IsWellFormed c → IsSound c b → IsSound c d → IsRun c b asks answers last → IsRun c d others replies end →
+    rows_of s b ≡ rows_of s d → asks_of s asks answers ≡ asks_of s others replies →
+    (answers_of s asks answers ≡ answers_of s others replies) × (rows_of s last ≡ rows_of s end)
+
+-- The one dependence between suppliers: an integrator's command that is common or names the supplier is answered as by the
+-- register that holds the supplier alone, except that a Grant which that register accepts is Taken exactly where another
+-- supplier holds slot and channel in the variant.
+abbrev pub OneDependence : Type 0
+OneDependence = (c : Cluster) (b : Book) (s : Name) (request : Request) → IsTrue (concerns s request) →
+    (step c b Integrator request).answer ≡ beside s b (step (alone s c) (rows_of s b) Integrator request).answer request

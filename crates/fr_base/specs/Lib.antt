@@ -24,4 +24,5 @@ pub mod Step
 pub mod Actors
 pub mod Run
 pub mod Sound
+pub mod Alone
 pub mod Laws

@@ -1,4 +1,4 @@
-ghost use Rattle.fr_base.specs.Laws.{HolderSends, OneFrameInACell, OpeningIsSound, RunKeepsSound, StepKeepsSound};
+ghost use Rattle.fr_base.specs.Laws.{EqualViews, FirstTakenIsOwn, HolderSends, OneDependence, OneFrameInACell, OpeningIsAlone, OpeningIsSound, OtherStepLeavesRows, OwnStepIsAlone, ReleaseFreezes, ReleasedAnswersStay, RunIsAlone, RunKeepsSound, StepKeepsSound};
 
 /// The book of a new register is sound.
 pub fn opening_is_sound()
@@ -23,4 +23,54 @@ pub fn one_frame_in_a_cell()
 /// In a sound book a frame is sent by the supplier's node that holds the grant of slot and channel.
 pub fn holder_sends()
     ensures { HolderSends }
+{}
+
+/// A released variant stays as it is, whatever is asked.
+pub fn release_freezes()
+    ensures { ReleaseFreezes }
+{}
+
+/// A query of a released variant gives the same actor the same answer ever after.
+pub fn released_answers_stay()
+    ensures { ReleasedAnswersStay }
+{}
+
+/// In a sound book the first taken of the cells that are granted to a supplier is filled by the
+/// supplier's own frame.
+pub fn first_taken_is_own()
+    ensures { FirstTakenIsOwn }
+{}
+
+/// What is a supplier's is answered as by the register that holds this supplier alone, and does the
+/// same to the supplier's rows.
+pub fn own_step_is_alone()
+    ensures { OwnStepIsAlone }
+{}
+
+/// What is not a supplier's leaves its rows as they were.
+pub fn other_step_leaves_rows()
+    ensures { OtherStepLeavesRows }
+{}
+
+/// A supplier's rows of a new register are a new register of the supplier alone.
+pub fn opening_is_alone()
+    ensures { OpeningIsAlone }
+{}
+
+/// Whatever is asked of the register, each supplier has the answers and the rows that it would have
+/// in a register of its own.
+pub fn run_is_alone()
+    ensures { RunIsAlone }
+{}
+
+/// Two registers that are alike in a supplier's rows, and asked alike what is the supplier's, give it
+/// the same answers and stay alike in its rows.
+pub fn equal_views()
+    ensures { EqualViews }
+{}
+
+/// Beside other suppliers an integrator's command that concerns a supplier is answered as alone, but
+/// for a grant of what another holds.
+pub fn one_dependence()
+    ensures { OneDependence }
 {}

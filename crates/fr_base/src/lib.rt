@@ -29,7 +29,9 @@ pub use config::{Config, MAX_SUPPLIERS, Supplier, Suppliers};
 pub use cycles::{BadCycles, CYCLE_COUNT, CycleSet};
 pub use key::Key;
 pub use laws::{
-    holder_sends, one_frame_in_a_cell, opening_is_sound, run_keeps_sound, step_keeps_sound,
+    equal_views, first_taken_is_own, holder_sends, one_dependence, one_frame_in_a_cell,
+    opening_is_alone, opening_is_sound, other_step_leaves_rows, own_step_is_alone, release_freezes,
+    released_answers_stay, run_is_alone, run_keeps_sound, step_keeps_sound,
 };
 pub use name::Name;
 pub use params::{ParamFault, Params, RawParams};

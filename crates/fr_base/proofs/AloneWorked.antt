@@ -1,0 +1,88 @@
+-- What is one supplier's, computed on small registers.
+use Rattle.std.proofs.Common.{◌≡◌, ℕ, false, List, get_or, [], ◌∷◌, ◌++◌, Some, None, map, refl, codes}
+use Rattle.std.specs.Prelude.{⊤, ◌+◌, ◌/◌, ◌%◌}
+use Rattle.std.specs.List.{range_with_len}
+use Rattle.fr_base.specs.Tables.{each}
+use Rattle.fr_base.specs.Cluster.{Cluster}
+use Rattle.fr_base.specs.Book.{Book, opening}
+use Rattle.fr_base.specs.Alone.{own_variant, rows_of, asks_of, answers_of, alone, answers_to, book_after}
+use Rattle.fr_base.specs.declared.answer.Answer.{Answer}
+use Rattle.fr_base.specs.declared.answer.Answer.TheVariants.{Done, Refused, Schedule as Sent}
+use Rattle.fr_base.specs.declared.channel.Channel.TheVariants as ch
+use Rattle.fr_base.specs.declared.refusal.Refusal.TheVariants.{Limit, Taken}
+use Rattle.fr_base.specs.declared.request.Ask.{Ask}
+use Rattle.fr_base.specs.declared.request.Request.TheVariants.{OpenVariant, Release, AddNode, Grant, AddFrame, Place, Grants, Schedule}
+use Rattle.fr_base.proofs.WorkedRows.{cluster, answers, a_small_register, integrator, s1, s2}
+
+-- what the rows below unfold
+unfoldable a_register_alone : ⊤
+unfolding a_small_register each own_variant rows_of
+a_register_alone = tt
+
+-- the requests that are the supplier's
+abbrev pub asks_for : List ℕ → List Ask → List Ask
+asks_for s asks = asks_of s asks (answers asks)
+
+-- their answers
+abbrev pub answers_for : List ℕ → List Ask → List Answer
+answers_for s asks = answers_of s asks (answers asks)
+
+-- the answers of a new register that holds the supplier alone
+abbrev pub answers_alone : List ℕ → List Ask → List Answer
+answers_alone s asks = answers_to (alone s cluster) (rows_of s (opening cluster)) asks
+
+-- a variant, a node of `s1`, a grant to it, a frame, and its placement in the first cycle
+unfoldable pub planned : List Ask
+planned =
+    integrator (OpenVariant (codes "v1") None)
+    ∷ integrator (AddNode (codes "s1") (codes "n1"))
+    ∷ integrator (Grant (codes "v1") 1 (codes "A") (codes "s1") (codes "n1"))
+    ∷ s1 (AddFrame (codes "v1") (codes "f1") (codes "n1"))
+    ∷ s1 (Place (codes "v1") (codes "f1") 1 (codes "A") 0 64)
+    ∷ []
+
+-- the schedule of `s1`
+unfoldable pub asked : List Ask
+asked = s1 (Schedule (codes "v1")) ∷ []
+
+unfoldable pub answered : List Answer
+answered =
+    Done ∷ Done ∷ Done ∷ Done ∷ Done
+    ∷ Sent false (record { cycle = 0; slot = 1; channel = ch.A; frame = codes "f1"; node = codes "n1"; supplier = codes "s1" } ∷ [])
+    ∷ []
+
+-- `f001`, `f002`, ..
+abbrev pub numbered : ℕ → List ℕ
+numbered n = 102 ∷ (48 + (n / 100)) ∷ (48 + ((n / 10) % 10)) ∷ (48 + (n % 10)) ∷ []
+
+-- others' lines: a node of `s2`, grants of what `s1` holds and of the other channel, and more frames than a supplier may have
+unfoldable pub between : ℕ → List Ask
+between count =
+    integrator (AddNode (codes "s2") (codes "n2"))
+    ∷ integrator (Grant (codes "v1") 1 (codes "A") (codes "s2") (codes "n2"))
+    ∷ integrator (Grant (codes "v1") 1 (codes "B") (codes "s2") (codes "n2"))
+    ∷ map (λ n. s2 (AddFrame (codes "v1") (numbered n) (codes "n2"))) (range_with_len 1 count)
+
+-- all of the first script is the supplier's
+pub the_first_script_alone :
+    (asks_for (codes "s1") (planned ++ asked) ≡ planned ++ asked)
+    × (answers_for (codes "s1") (planned ++ asked) ≡ answered)
+    × (answers_alone (codes "s1") (planned ++ asked) ≡ answered)
+unfolding a_register_alone planned asked answered
+the_first_script_alone = (refl, refl, refl)
+
+-- others' lines between change nothing for `s1`; the last of them is refused
+pub strangers_lines_between :
+    (asks_for (codes "s1") (planned ++ between 257 ++ asked) ≡ planned ++ asked)
+    × (answers_for (codes "s1") (planned ++ between 257 ++ asked) ≡ answered)
+    × (get_or (answers (planned ++ between 257)) 263 (Refused Limit) ≡ Done)
+    × (get_or (answers (planned ++ between 257)) 264 Done ≡ Refused Limit)
+unfolding a_register_alone planned asked answered between
+strangers_lines_between = (refl, refl, refl, refl)
+
+-- `s2` is refused what `s1` holds, and alone it is not
+pub taken_beside :
+    (answers (planned ++ between 2) ≡ Done ∷ Done ∷ Done ∷ Done ∷ Done ∷ Done ∷ Refused Taken ∷ Done ∷ Done ∷ Done ∷ [])
+    × (answers_alone (codes "s2") (integrator (OpenVariant (codes "v1") None) ∷ between 2) ≡ Done ∷ Done ∷ Done ∷ Done ∷ Done ∷ Done ∷ [])
+unfolding a_register_alone planned asked answered between
+taken_beside = (refl, refl)

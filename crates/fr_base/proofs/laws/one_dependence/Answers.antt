@@ -1,0 +1,5 @@
+use Rattle.fr_base.proofs.AloneSteps.{step-beside}
+use Rattle.fr_base.proofs.laws.one_dependence.Goals as goal
+
+pub returns : goal.returns
+returns c = step-beside

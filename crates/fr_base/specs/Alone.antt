@@ -1,0 +1,121 @@
+-- What is one supplier's: its rows of a book, its part of a list of requests, and the register that holds it alone.
+use Rattle.std.specs.Prelude.{ℕ, Bool, true, false, not, ◌&&◌, List, [], ◌∷◌, map, filter, Option, Some, None, if◌then◌else◌}
+use Rattle.std.specs.Option.{option_and_then}
+use Rattle.fr_base.specs.Tables.{Table, get, only, each}
+use Rattle.fr_base.specs.Keys.{channel_slots}
+use Rattle.fr_base.specs.Channels.{channel_of_text}
+use Rattle.fr_base.specs.Cluster.{Cluster, same_text}
+use Rattle.fr_base.specs.Book.{Holder, Variant, Book, held_by}
+use Rattle.fr_base.specs.Step.{is_of, step}
+use Rattle.fr_base.specs.declared.name.Name.{Name}
+use Rattle.fr_base.specs.declared.answer.Answer.{Answer}
+use Rattle.fr_base.specs.declared.answer.Answer.TheVariants.{Done, Refused}
+use Rattle.fr_base.specs.declared.refusal.Refusal.{Refusal}
+use Rattle.fr_base.specs.declared.refusal.Refusal.TheVariants.{Taken, Unavailable}
+use Rattle.fr_base.specs.declared.request.Actor.{Actor}
+use Rattle.fr_base.specs.declared.request.Actor.TheVariants.{Integrator, Supplier}
+use Rattle.fr_base.specs.declared.request.Ask.{Ask}
+use Rattle.fr_base.specs.declared.request.Request.{Request}
+use Rattle.fr_base.specs.declared.request.Request.TheVariants.{OpenVariant, Release, AddNode, Grant, Revoke}
+
+-- ---- rows
+
+-- a variant with the supplier's grants and frames alone; its parent, its depth and whether it is released are common to all
+unfoldable pub own_variant : Name → Variant → Variant
+own_variant s v = record v {
+  grants = only (λ _ h. held_by s (Some h)) v.grants;
+  frames = only (λ k _. is_of s k) v.frames;
+}
+
+-- a supplier's rows of a book: itself with its key, its nodes, and all variants with its grants and frames
+unfoldable pub rows_of : Name → Book → Book
+rows_of s b = record {
+  suppliers = only (λ t _. same_text t s) b.suppliers;
+  nodes = only (λ k _. is_of s k) b.nodes;
+  variants = each (own_variant s) b.variants;
+}
+
+-- ---- requests
+
+-- whether an integrator's command is common to all suppliers, or names this one
+abbrev pub concerns : Name → Request → Bool
+concerns s (OpenVariant v parent) = true
+concerns s (Release v) = true
+concerns s (AddNode t n) = same_text t s
+concerns s (Grant v k c t n) = same_text t s
+concerns s (Revoke v k c t) = same_text t s
+concerns s _ = false
+
+abbrev pub is_done : Answer → Bool
+is_done Done = true
+is_done _ = false
+
+abbrev pub lacked : Refusal → Bool
+lacked Unavailable = true
+lacked _ = false
+
+abbrev pub is_unavailable : Answer → Bool
+is_unavailable (Refused r) = lacked r
+is_unavailable _ = false
+
+-- Whether a request that was answered so is the supplier's: its own, unless it was answered Unavailable; and of the
+-- integrator's commands those that were done and are common or name the supplier.
+abbrev pub is_mine : Name → Actor → Request → Answer → Bool
+is_mine s (Supplier t) request answer = same_text t s && not (is_unavailable answer)
+is_mine s Integrator request answer = is_done answer && concerns s request
+
+-- what of some requests and their answers is the supplier's, in order: the requests
+abbrev pub asks_of : Name → List Ask → List Answer → List Ask
+asks_of s (ask ∷ asks) (answer ∷ answers) =
+    if is_mine s ask.actor ask.request answer then ask ∷ asks_of s asks answers else asks_of s asks answers
+asks_of s _ _ = []
+
+-- and their answers
+abbrev pub answers_of : Name → List Ask → List Answer → List Answer
+answers_of s (ask ∷ asks) (answer ∷ answers) =
+    if is_mine s ask.actor ask.request answer then answer ∷ answers_of s asks answers else answers_of s asks answers
+answers_of s _ _ = []
+
+-- ---- a supplier alone
+
+-- the cluster file with this supplier alone
+abbrev pub alone : Name → Cluster → Cluster
+alone s c = record c { suppliers = filter (λ t. same_text t.name s) c.suppliers }
+
+-- the answers to some requests, one step after another
+abbrev pub answers_to : Cluster → Book → List Ask → List Answer
+answers_to c b [] = []
+answers_to c b (ask ∷ asks) =
+    (step c b ask.actor ask.request).answer ∷ answers_to c (step c b ask.actor ask.request).book asks
+
+-- the book after them
+abbrev pub book_after : Cluster → Book → List Ask → Book
+book_after c b [] = b
+book_after c b (ask ∷ asks) = book_after c (step c b ask.actor ask.request).book asks
+
+-- ---- beside other suppliers
+
+-- who holds the slot and channel of that text in the variant
+abbrev pub holder_at : Book → Name → ℕ → List ℕ → Option Holder
+holder_at b v k channel =
+    option_and_then (λ variant. option_and_then (λ c. get variant.grants (k, c)) (channel_of_text channel)) (get b.variants v)
+
+-- whether that is another supplier
+abbrev pub is_another : Name → Option Holder → Bool
+is_another s None = false
+is_another s (Some h) = not (same_text h.supplier s)
+
+-- what refuses an integrator's request beside other suppliers, where it is done in the register of the supplier alone:
+-- a Grant is Taken where another supplier holds slot and channel, and nothing else is refused
+abbrev pub refused_beside : Name → Book → Request → Option Refusal
+refused_beside s b (Grant v k channel t n) = if is_another s (holder_at b v k channel) then Some Taken else None
+refused_beside s b _ = None
+
+abbrev pub done_unless : Option Refusal → Answer
+done_unless None = Done
+done_unless (Some e) = Refused e
+
+-- what the request is answered beside other suppliers, where it is answered so in the register of the supplier alone
+abbrev pub beside : Name → Book → Answer → Request → Answer
+beside s b Done request = done_unless (refused_beside s b request)
+beside s b answer request = answer
