@@ -4,3 +4,5 @@ pub mod TakenLaws
 pub mod KeyLaws
 pub mod RowLaws
 pub mod CommonLaws
+pub mod GapLaws
+pub mod MomentLaws

@@ -3,6 +3,7 @@
 #![tactic(auto)]
 
 mod edit;
+mod gap;
 mod nodes;
 mod occupancy;
 mod page;
@@ -12,6 +13,7 @@ mod spot;
 mod variants;
 
 pub use edit::Edit;
+pub use gap::greatest_gap;
 pub use nodes::decide_node;
 pub use occupancy::{Occupancy, TakenCell};
 pub use page::{ChannelSlot, Page, PageFrame, PageRows};
