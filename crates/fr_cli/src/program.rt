@@ -4,7 +4,7 @@ ghost use Rattle.std.specs.Io.KnownBytes.{Appends, Keeps};
 ghost use Rattle.fr_cli.specs.Endings.{AppendsFront, Tells, fault_line, status_of};
 ghost use Rattle.fr_cli.specs.Output.{IsOutput, cluster_in};
 ghost use Rattle.fr_cli.specs.Words.{is_help, job_of};
-ghost use Rattle.fr_cli.specs.declared.cluster_file.ConfigFault.{ConfigFault};
+ghost use Rattle.fr_text.specs.declared.cluster_file.ConfigFault.{ConfigFault};
 ghost use Rattle.fr_cli.specs.declared.script_fault.ScriptFault.{ScriptFault};
 
 use crate::output::{Retries, WriteFailed, write_all};
