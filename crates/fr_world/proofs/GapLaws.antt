@@ -1,48 +1,12 @@
 -- The greatest gap of some moments: by which numbers are among them, and as they are met in rising order.
-use Rattle.std.proofs.Common.{◌≡◌, ℕ, ◌+◌, ◌-◌, ◌<◌, ◌≤◌, min, max, List, [], ◌∷◌, map, Option, Some, None, refl, sym, ap, subst, ◌∙◌, ◌⊎◌, inl, inr, arith}
-use Rattle.std.specs.List.{cons_option, filter_map}
+use Rattle.std.proofs.Common.{◌≡◌, ℕ, ◌+◌, ◌-◌, ◌<◌, ◌≤◌, min, max, List, [], ◌∷◌, map, Option, Some, None, refl, sym, ap, ◌∙◌, ◌⊎◌, inl, inr, arith}
+use Rattle.std.specs.List.{filter_map}
 use Rattle.std.specs.Option.{option_map_or}
 use Rattle.std.specs.Prelude.{IfSome}
 use Rattle.std.proofs.lemmas.Bool.{cases_lt, lt-ltb, le-ltb}
 use Rattle.fr_base.specs.Moments.{distance, least, greatest, gaps}
 use Rattle.fr_world.specs.declared.gap.Met.{Met}
-
--- ---- what is among the elements of a list
-
-abbrev pub In : {X : Type 0} → X → List X → Type 0
-In x [] = ⊥
-In x (y ∷ ys) = (y ≡ x) ⊎ In x ys
-
-pub In-map : {X Y : Type 0} (f : X → Y) (x : X) (xs : List X) → In x xs → In (f x) (map f xs)
-In-map f x [] i = absurd i
-In-map f x (y ∷ ys) (inl e) = inl (ap f e)
-In-map f x (y ∷ ys) (inr i) = inr (In-map f x ys i)
-
-pub map-In : {X Y : Type 0} (f : X → Y) (y : Y) (xs : List X) → In y (map f xs) → (x : X) × In x xs × (f x ≡ y)
-map-In f y [] i = absurd i
-map-In f y (x ∷ xs) (inl e) = (x, inl refl, e)
-map-In f y (x ∷ xs) (inr i) = let found = map-In f y xs i in (found.0, inr found.1, found.2)
-
-In-cons_option : {Y : Type 0} (y : Y) (o : Option Y) (ys : List Y) → In y (cons_option o ys) → (o ≡ Some y) ⊎ In y ys
-In-cons_option y None ys i = inr i
-In-cons_option y (Some z) ys (inl e) = inl (ap Some e)
-In-cons_option y (Some z) ys (inr i) = inr i
-
-cons_option-In : {Y : Type 0} (y : Y) (o : Option Y) (ys : List Y) → In y ys → In y (cons_option o ys)
-cons_option-In y None ys i = i
-cons_option-In y (Some z) ys i = inr i
-
-filter_map-In : {X Y : Type 0} (h : X → Option Y) (y : Y) (xs : List X) → In y (filter_map h xs) → (x : X) × In x xs × (h x ≡ Some y)
-filter_map-In h y [] i = absurd i
-filter_map-In h y (x ∷ xs) i = elim (In-cons_option y (h x) (filter_map h xs) i) [
-  | inl e ↦ (x, inl refl, e)
-  | inr rest ↦ let found = filter_map-In h y xs rest in (found.0, inr found.1, found.2)
-]
-
-In-filter_map : {X Y : Type 0} (h : X → Option Y) (x : X) (y : Y) (xs : List X) → In x xs → h x ≡ Some y → In y (filter_map h xs)
-In-filter_map h x y [] i is = absurd i
-In-filter_map h x y (z ∷ zs) (inl e) is = subst (λ o. In y (cons_option o (filter_map h zs))) (sym (ap h e ∙ is)) (inl refl)
-In-filter_map h x y (z ∷ zs) (inr i) is = cons_option-In y (h z) (filter_map h zs) (In-filter_map h x y zs i is)
+use Rattle.fr_world.proofs.AmongLaws.{In, In-map, map-In, In-filter_map, filter_map-In}
 
 -- ---- the least and the greatest
 
@@ -101,12 +65,14 @@ record IsNext (length : ℕ) (moments : List ℕ) (from near : ℕ) : Type 0 whe
 next-is : (length : ℕ) (moments : List ℕ) (from : ℕ) → In from moments → (near : ℕ) × IsNext length moments from near
 next-is length [] from i = absurd i
 next-is length (m ∷ ms) from i =
-    let found = least-is (distance length from m) (map (distance length from) ms) in
-    (found.0, record {
-      is = found.1.is;
-      to = map-In (distance length from) found.0 (m ∷ ms) found.1.among;
-      below = λ y j. found.1.below (distance length from y) (In-map (distance length from) y (m ∷ ms) j);
-    })
+    let found = least-is (distance length from m) (map (distance length from) ms) in (
+      found.0,
+      record {
+        is = found.1.is;
+        to = map-In (distance length from) found.0 (m ∷ ms) found.1.among;
+        below = λ y j. found.1.below (distance length from y) (In-map (distance length from) y (m ∷ ms) j);
+      },
+    )
 
 -- a gap is the greatest one where it is from some moment to each, and from each moment another is no further
 greatest-gaps : (length gap x : ℕ) (moments : List ℕ) → In x moments → ((y : ℕ) → In y moments → gap ≤ distance length x y) →
@@ -199,10 +165,15 @@ Keeps-more M N (Some m) at all to here back met =
           | inl e ↦ inl (omega arith)
           | inr from ↦
               let short = from.2 in
-              inr (from.0, to from.0 from.1, omega (arith, short), λ y n. elim (back y n) [
-                | inl old ↦ elim (from.3 y old) [ inl low ↦ inl low | inr high ↦ inr (omega (arith, high)) ]
-                | inr e ↦ inr (omega (arith, short))
-              ])
+              inr (
+                from.0,
+                to from.0 from.1,
+                omega (arith, short),
+                λ y n. elim (back y n) [
+                  | inl old ↦ elim (from.3 y old) [ inl low ↦ inl low | inr high ↦ inr (omega (arith, high)) ]
+                  | inr e ↦ inr (omega (arith, short))
+                ],
+              )
         ]
       ];
     }

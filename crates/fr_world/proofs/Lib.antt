@@ -4,5 +4,7 @@ pub mod TakenLaws
 pub mod KeyLaws
 pub mod RowLaws
 pub mod CommonLaws
+pub mod AmongLaws
 pub mod GapLaws
 pub mod MomentLaws
+pub mod WalkLaws

@@ -1,7 +1,8 @@
 use Rattle.std.proofs.Common.{◌≡◌, ◌*◌, ◌-◌, ◌+◌, None, Some, max, arith, sym, subst, ap, ◌∙◌, rules}
 use Rattle.std.specs.List.Sorted.{IsPermutation}
 use Rattle.std.proofs.lemmas.List.Sorted.{IsNonDecreasingBy-from_sort_by_key}
-use Rattle.fr_world.proofs.MomentLaws.{AreRising-from, Sees, Sees-cycle, Sees-end, Sees-greatest, Sees-inside, Sees-last, Sees-more, Sees-none, Sees-nothing, Sees-skip, fits_at, greatest_gap-nil, moment_at-is, moment_fits, slot_fits}
+use Rattle.fr_world.proofs.MomentLaws.{moment_at-is}
+use Rattle.fr_world.proofs.WalkLaws.{AreRising-from, Sees, Sees-cycle, Sees-end, Sees-greatest, Sees-inside, Sees-last, Sees-more, Sees-none, Sees-nothing, Sees-skip, fits_at, greatest_gap-nil, moment_fits, slot_fits}
 use Rattle.fr_world.proofs.gap.greatest_gap.Goals as goal
 use Rattle.fr_world.proofs.gap.greatest_gap.Goals.{then-contains, else-contains}
 

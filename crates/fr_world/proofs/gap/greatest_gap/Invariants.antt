@@ -1,5 +1,5 @@
 use Rattle.std.specs.List.Sorted.{IsPermutation}
-use Rattle.fr_world.proofs.MomentLaws.{AreRising, Sees}
+use Rattle.fr_world.proofs.WalkLaws.{AreRising, Sees}
 use Rattle.fr_world.proofs.gap.greatest_gap.Given as goal
 
 abbrev pub invariant-loop-cycle : goal.invariant-loop-cycle
