@@ -1,28 +1,28 @@
 -- In a sound variant the cells that are granted to a supplier hold no frame of another: the first taken cell over all rows
 -- is that over the supplier's own.
-use Rattle.std.proofs.Common.{◌≡◌, ℕ, Bool, true, false, cond, List, [], ◌∷◌, ◌++◌, map, filter, flat_map, Option, Some, None, is_some, IsTrue, refl, sym, ap, subst, ◌∙◌, ◌⊎◌, inl, inr, true≢false}
+use Rattle.std.proofs.Common.{◌≡◌, Bool, true, false, cond, List, [], ◌∷◌, ◌++◌, map, filter, flat_map, Option, Some, None, is_some, IsTrue, refl, sym, ap, ◌∙◌, ◌⊎◌, inl, inr, true≢false}
 use Rattle.std.specs.Prelude.{⊤, T, ◌||◌}
-use Rattle.std.specs.Ordering.{is_eq, eq_by_cmp, nat_cmp}
+use Rattle.std.specs.Ordering.{is_eq, eq_by_cmp}
 use Rattle.std.specs.Cmp.{tied_itself, on_total, then_total, nat_cmp_total}
 use Rattle.std.specs.Cmp.Lexicographic.{nat_list_cmp_total}
-use Rattle.std.specs.FinMap.Entries.{find, is_sorted, below_all}
+use Rattle.std.specs.FinMap.Entries.{find, is_sorted}
 use Rattle.std.specs.List.{list_any}
 use Rattle.std.proofs.lemmas.Bool.{cases_Bool}
 use Rattle.fr_base.specs.TableRows.{first, second}
 use Rattle.fr_base.specs.Tables.{Table, get, contains, only}
-use Rattle.fr_base.specs.Keys.{owned, channel_slots, placement_order}
-use Rattle.fr_base.specs.Channels.{channel_number, channels_in}
-use Rattle.fr_base.specs.Cells.{Cell, cell_cmp, same_cell, cells_of, has_cell}
+use Rattle.fr_base.specs.Keys.{owned, placement_order}
+use Rattle.fr_base.specs.Channels.{channel_number}
+use Rattle.fr_base.specs.Cells.{Cell, same_cell, cells_of, has_cell}
 use Rattle.fr_base.specs.Schedule.{fill, first_taken}
 use Rattle.fr_base.specs.Cluster.{same_text}
-use Rattle.fr_base.specs.Book.{Holder, Frame, Variant, Owner, held_by, held_by_node, granted, placements_of, schedule_of}
+use Rattle.fr_base.specs.Book.{Holder, Frame, Variant, Owner, held_by_node, granted, placements_of, schedule_of}
 use Rattle.fr_base.specs.Step.{is_of}
 use Rattle.fr_base.specs.Sound.{IsSoundVariant}
 use Rattle.fr_base.specs.declared.name.Name.{Name}
 use Rattle.fr_base.specs.declared.params.Params.{Params}
 use Rattle.fr_base.specs.declared.placement.Placement.{Placement}
 use Rattle.fr_base.proofs.TableLaws.{equal, none_above}
-use Rattle.fr_base.proofs.SoundTables.{same_some, only-stood}
+use Rattle.fr_base.proofs.SoundTables.{same_some}
 use Rattle.fr_base.proofs.SoundRows.{holder-is}
 use Rattle.fr_base.proofs.SoundCells.{has_cell-in}
 
@@ -35,7 +35,8 @@ same_cell-itself c = ap is_eq (tied_itself (then_total (on_total (λ (d : Cell).
 
 -- ---- rows that don't have a cell
 
-abbrev entries_of : (Name × Name) × Frame → List (Owner × Placement)
+-- a frame's placements with their owner
+abbrev pub entries_of : (Name × Name) × Frame → List (Owner × Placement)
 entries_of row = map (λ q. (record { supplier = row.0.0; frame = row.0.1; node = row.1.node }, q.0)) row.1.placements.rows
 
 -- no placement of the frame has the cell

@@ -1,6 +1,6 @@
 -- A run, and the run of the register that holds one supplier alone over what is the supplier's.
-use Rattle.std.proofs.Common.{◌≡◌, Bool, true, false, not, ◌&&◌, List, [], ◌∷◌, Option, Some, None, refl, sym, ap, subst, ◌∙◌, ◌⊎◌, inl, inr}
-use Rattle.std.specs.Prelude.{if◌then◌else◌, filter, map}
+use Rattle.std.proofs.Common.{◌≡◌, Bool, true, false, ◌&&◌, List, [], ◌∷◌, Some, refl, sym, ap, subst, ◌∙◌, inl, inr}
+use Rattle.std.specs.Prelude.{filter, map}
 use Rattle.std.proofs.lemmas.Bool.{cases_Bool}
 use Rattle.fr_base.specs.Tables.{only, insert, from_rows, becomes}
 use Rattle.fr_base.specs.Keys.{names, owned}
@@ -10,7 +10,7 @@ use Rattle.fr_base.specs.Step.{Outcome, is_of, step}
 use Rattle.fr_base.specs.Run.{IsRun}
 use Rattle.fr_base.specs.Sound.{IsSound}
 use Rattle.fr_base.specs.Laws.{IsWellFormed}
-use Rattle.fr_base.specs.Alone.{own_variant, rows_of, is_mine, is_done, is_unavailable, concerns, asks_of, answers_of, alone, answers_to, book_after}
+use Rattle.fr_base.specs.Alone.{own_variant, rows_of, is_mine, asks_of, answers_of, alone, answers_to, book_after}
 use Rattle.fr_base.specs.declared.config.Supplier.{Supplier as Listed}
 use Rattle.fr_base.specs.declared.key.Key.{Key}
 use Rattle.fr_base.specs.declared.name.Name.{Name}

@@ -1,9 +1,8 @@
 -- A step, and the same step in the register that holds one supplier alone.
 use Rattle.std.proofs.Common.{◌≡◌, Bool, true, false, not, ◌&&◌, Option, Some, None, Result, Ok, Err, IfOk, IsTrue, refl, sym, ap, subst, ◌∙◌, ◌⊎◌, inl, inr}
 use Rattle.std.specs.Prelude.{◌==◌}
-use Rattle.std.proofs.lemmas.Bool.{cases_Bool}
 use Rattle.fr_base.specs.Refusing.{◌>>=◌, ◌>>◌, ◌or◌, refuse◌when◌}
-use Rattle.fr_base.specs.Tables.{get, len, only}
+use Rattle.fr_base.specs.Tables.{get, len}
 use Rattle.fr_base.specs.Keys.{owned, channel_slots}
 use Rattle.fr_base.specs.Checks.{check}
 use Rattle.fr_base.specs.Cells.{cells_of}
@@ -23,7 +22,6 @@ use Rattle.fr_base.specs.declared.refusal.Refusal.{Refusal}
 use Rattle.fr_base.specs.declared.refusal.Refusal.TheVariants.{UnknownKey, NoVariant, NoFrame}
 use Rattle.fr_base.specs.declared.request.Actor.{Actor}
 use Rattle.fr_base.specs.declared.request.Actor.TheVariants.{Integrator, Supplier}
-use Rattle.fr_base.specs.declared.request.Ask.{Ask}
 use Rattle.fr_base.specs.declared.request.Request.{Request}
 use Rattle.fr_base.specs.declared.request.Query.{Query}
 use Rattle.fr_base.specs.declared.request.Query.TheVariants.{Grants, Frames, Schedule, Gaps, Layout}
@@ -36,7 +34,7 @@ use Rattle.fr_base.proofs.AloneCells.{first_taken-own}
 use Rattle.fr_base.proofs.AloneRefusing.{map_ok, alike_or, alike_when, alike_bind, alike_map}
 use Rattle.fr_base.proofs.AloneRows.{rows_of-variant, rows_of-supplier}
 use Rattle.fr_base.proofs.AloneFrames.{by_supplier-own, by_supplier-other}
-use Rattle.fr_base.proofs.AloneChecks.{names, against, Says, check-says}
+use Rattle.fr_base.proofs.AloneChecks.{against, Says, check-says}
 use Rattle.fr_base.proofs.AloneIntegrator.{unless, by_integrator-own, by_integrator-other}
 
 -- what the supplier has of an outcome

@@ -1,8 +1,7 @@
 -- What is one supplier's: its rows of a book, its part of a list of requests, and the register that holds it alone.
-use Rattle.std.specs.Prelude.{ℕ, Bool, true, false, not, ◌&&◌, List, [], ◌∷◌, map, filter, Option, Some, None, if◌then◌else◌}
+use Rattle.std.specs.Prelude.{ℕ, Bool, true, false, not, ◌&&◌, List, [], ◌∷◌, filter, Option, Some, None, if◌then◌else◌}
 use Rattle.std.specs.Option.{option_and_then}
-use Rattle.fr_base.specs.Tables.{Table, get, only, each}
-use Rattle.fr_base.specs.Keys.{channel_slots}
+use Rattle.fr_base.specs.Tables.{get, only, each}
 use Rattle.fr_base.specs.Channels.{channel_of_text}
 use Rattle.fr_base.specs.Cluster.{Cluster, same_text}
 use Rattle.fr_base.specs.Book.{Holder, Variant, Book, held_by}
