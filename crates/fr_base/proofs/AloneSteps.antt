@@ -5,14 +5,14 @@ use Rattle.fr_base.specs.Refusing.{◌>>=◌, ◌>>◌, ◌or◌, refuse◌when�
 use Rattle.fr_base.specs.Tables.{get, len}
 use Rattle.fr_base.specs.Keys.{owned, channel_slots}
 use Rattle.fr_base.specs.Checks.{check}
-use Rattle.fr_base.specs.Cells.{cells_of}
+use Rattle.fr_base.specs.Cells.{Cell, cells_of}
 use Rattle.fr_base.specs.Schedule.{first_taken}
 use Rattle.fr_base.specs.Cluster.{Cluster, same_text}
 use Rattle.fr_base.specs.Book.{Variant, Book, held_by, granted, schedule_of}
 use Rattle.fr_base.specs.Queries.{seen_grants, seen_frames, grants_of, frames_of, sendings_of, gaps_of, named, signals_of, shown, reply, variant_asked}
 use Rattle.fr_base.specs.Step.{Outcome, is_of, knows, by_integrator, by_supplier, change, act, outcome, step}
 use Rattle.fr_base.specs.Sound.{IsSound}
-use Rattle.fr_base.specs.Alone.{own_variant, rows_of, concerns, is_done, is_unavailable, is_mine, alone, refused_beside, done_unless, beside}
+use Rattle.fr_base.specs.Alone.{own_variant, rows_of, own_sender, concerns, is_done, is_unavailable, is_mine, alone, refused_beside, done_unless, beside}
 use Rattle.fr_base.specs.declared.name.Name.{Name}
 use Rattle.fr_base.specs.declared.params.Params.{Params}
 use Rattle.fr_base.specs.declared.placement.Placement.{Placement}
@@ -30,7 +30,7 @@ use Rattle.fr_base.specs.declared.request.Checked.TheVariants as checked
 use Rattle.fr_base.proofs.SoundRows.{same_text-is}
 use Rattle.fr_base.proofs.SoundRefusing.{gives_each, gives_bind, gives_when, gives_unless}
 use Rattle.fr_base.proofs.AloneTables.{only-only}
-use Rattle.fr_base.proofs.AloneCells.{first_taken-own}
+use Rattle.fr_base.proofs.AloneCells.{first_taken-own, own_schedule}
 use Rattle.fr_base.proofs.AloneRefusing.{map_ok, alike_or, alike_when, alike_bind, alike_map}
 use Rattle.fr_base.proofs.AloneRows.{rows_of-variant, rows_of-supplier}
 use Rattle.fr_base.proofs.AloneFrames.{by_supplier-own, by_supplier-other}
@@ -281,3 +281,8 @@ pub first_taken-alone : (c : Cluster) (b : Book) (v : Name) (x : Variant) (s n :
     first_taken (schedule_of x.frames) (cells_of q) ≡ first_taken (schedule_of (own_variant s x).frames) (cells_of q)
 unfolding own_variant
 first_taken-alone c b v x s n q sound there holds = first_taken-own c.params b.nodes x (sound.variants v x there).1 s n q holds
+
+pub schedule-alone : (c : Cluster) (b : Book) (v : Name) (x : Variant) (s : Name) (cell : Cell) → IsSound c b → get b.variants v ≡ Some x →
+    schedule_of (own_variant s x).frames cell ≡ own_sender s (schedule_of x.frames cell)
+unfolding own_variant
+schedule-alone c b v x s cell sound there = own_schedule s cell c.params b.nodes x (sound.variants v x there).1

@@ -13,7 +13,7 @@ use Rattle.fr_base.specs.Queries.{variant_asked}
 use Rattle.fr_base.specs.Step.{step}
 use Rattle.fr_base.specs.Run.{IsRun}
 use Rattle.fr_base.specs.Sound.{IsSound}
-use Rattle.fr_base.specs.Alone.{own_variant, rows_of, concerns, is_mine, asks_of, answers_of, alone, answers_to, book_after, beside}
+use Rattle.fr_base.specs.Alone.{own_variant, rows_of, own_sender, concerns, is_mine, asks_of, answers_of, alone, answers_to, book_after, beside}
 use Rattle.fr_base.specs.declared.answer.Answer.{Answer}
 use Rattle.fr_base.specs.declared.name.Name.{Name}
 use Rattle.fr_base.specs.declared.placement.Placement.{Placement}
@@ -82,6 +82,11 @@ abbrev pub FirstTakenIsOwn : Type 0
 FirstTakenIsOwn = (c : Cluster) (b : Book) (v : Name) (variant : Variant) (s n : Name) (q : Placement) →
     IsSound c b → get b.variants v ≡ Some variant → IsTrue (granted variant.grants s n q) →
     first_taken (schedule_of variant.frames) (cells_of q) ≡ first_taken (schedule_of (own_variant s variant).frames) (cells_of q)
+
+-- In a sound book a supplier's schedule has in each cell what the schedule of all has there of the supplier's.
+abbrev pub ScheduleIsOwn : Type 0
+ScheduleIsOwn = (c : Cluster) (b : Book) (v : Name) (variant : Variant) (s : Name) (cell : Cell) →
+    IsSound c b → get b.variants v ≡ Some variant → schedule_of (own_variant s variant).frames cell ≡ own_sender s (schedule_of variant.frames cell)
 
 -- A request that is the supplier's is answered as by the register that holds the supplier alone, and does the same to the
 -- supplier's rows.
