@@ -23,7 +23,8 @@ use Rattle.fr_base.specs.declared.request.Ask.{Ask}
 use Rattle.fr_base.specs.declared.request.Request.{Request}
 use Rattle.fr_base.proofs.SoundSteps.{step-sound}
 use Rattle.fr_base.proofs.AloneTables.{only-empty, each-empty, only-becomes, only-becomes_other}
-use Rattle.fr_base.proofs.AloneSteps.{seen, step-mine, step-not_mine}
+use Rattle.fr_base.proofs.AloneOutcomes.{seen}
+use Rattle.fr_base.proofs.AloneSteps.{step-mine, step-not_mine}
 
 -- ---- a run
 

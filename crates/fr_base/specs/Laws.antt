@@ -122,9 +122,9 @@ EqualViews = (c : Cluster) (b d last end : Book) (asks others : List Ask) (answe
     rows_of s b ≡ rows_of s d → asks_of s asks answers ≡ asks_of s others replies →
     (answers_of s asks answers ≡ answers_of s others replies) × (rows_of s last ≡ rows_of s end)
 
--- The one dependence between suppliers: an integrator's command that is common or names the supplier is answered as by the
--- register that holds the supplier alone, except that a Grant which that register accepts is Taken exactly where another
--- supplier holds slot and channel in the variant.
+-- The one dependence between suppliers: an integrator's command that is common or names the supplier, where it is not
+-- answered Unavailable, is answered as by the register that holds the supplier alone, except that a Grant which that
+-- register accepts is Taken exactly where another supplier holds slot and channel in the variant.
 abbrev pub OneDependence : Type 0
 OneDependence = (c : Cluster) (b : Book) (s : Name) (request : Request) → IsTrue (concerns s request) →
     (step c b Integrator request).answer ≡ beside s b (step (alone s c) (rows_of s b) Integrator request).answer request
