@@ -112,17 +112,17 @@ module _ (c : Cluster) (b : Book) (sound : IsSound c b) (s : Name) where
   by_supplier-own (Grant v k d t n) = refl
   by_supplier-own (Revoke v k d t) = refl
 
-  -- another supplier's command leaves them as they were
-  pub by_supplier-other : (t : Name) → same_text t s ≡ false → (command : Command) → IfOk (by_supplier c.params b t command) (λ d. rows_of s d ≡ rows_of s b)
-  unfolding by_supplier
-  by_supplier-other t other (AddFrame v f n) = on_frame-other c.params b t v f _ s other
-  by_supplier-other t other (DropFrame v f) = on_frame-other c.params b t v f _ s other
-  by_supplier-other t other (Place v f q) = on_frame-other c.params b t v f _ s other
-  by_supplier-other t other (Unplace v f q) = on_frame-other c.params b t v f _ s other
-  by_supplier-other t other (AddSignal v f x) = on_frame-other c.params b t v f _ s other
-  by_supplier-other t other (DropSignal v f x) = on_frame-other c.params b t v f _ s other
-  by_supplier-other t other (OpenVariant v parent) = tt
-  by_supplier-other t other (Release v) = tt
-  by_supplier-other t other (AddNode u n) = tt
-  by_supplier-other t other (Grant v k d u n) = tt
-  by_supplier-other t other (Revoke v k d u) = tt
+-- another supplier's command leaves the supplier's rows as they were
+pub by_supplier-other : (p : Params) (b : Book) (s t : Name) → same_text t s ≡ false → (command : Command) → IfOk (by_supplier p b t command) (λ d. rows_of s d ≡ rows_of s b)
+unfolding by_supplier
+by_supplier-other p b s t other (AddFrame v f n) = on_frame-other p b t v f _ s other
+by_supplier-other p b s t other (DropFrame v f) = on_frame-other p b t v f _ s other
+by_supplier-other p b s t other (Place v f q) = on_frame-other p b t v f _ s other
+by_supplier-other p b s t other (Unplace v f q) = on_frame-other p b t v f _ s other
+by_supplier-other p b s t other (AddSignal v f x) = on_frame-other p b t v f _ s other
+by_supplier-other p b s t other (DropSignal v f x) = on_frame-other p b t v f _ s other
+by_supplier-other p b s t other (OpenVariant v parent) = tt
+by_supplier-other p b s t other (Release v) = tt
+by_supplier-other p b s t other (AddNode u n) = tt
+by_supplier-other p b s t other (Grant v k d u n) = tt
+by_supplier-other p b s t other (Revoke v k d u) = tt

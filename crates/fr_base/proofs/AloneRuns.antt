@@ -73,7 +73,7 @@ module _ (c : Cluster) (form : IsWellFormed c) (s : Name) where
       elim (cases_Bool (is_mine s ask.actor ask.request answer)) [
         | inl mine ↦ rw mine (gives_first (alone s c) (rows_of s b) ask (asks_of s asks answers) answer (answers_of s asks answers) (rows_of s o.book) (rows_of s last)
             (seen-step b sound ask (ap (is_mine s ask.actor ask.request) (sym done.0) ∙ mine) ∙ ap (λ a. record { book = rows_of s o.book; answer = a }) (sym done.0)) rest)
-        | inr other ↦ passed_over b ask asks answer answers o.book last other (step-not_mine c b s sound ask.actor ask.request (ap (is_mine s ask.actor ask.request) (sym done.0) ∙ other)) rest
+        | inr other ↦ passed_over b ask asks answer answers o.book last other (step-not_mine c b s ask.actor ask.request (ap (is_mine s ask.actor ask.request) (sym done.0) ∙ other)) rest
       ]
 
   -- two runs that begin with the same rows of the supplier, and have the same requests that are the supplier's

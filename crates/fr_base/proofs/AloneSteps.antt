@@ -45,16 +45,16 @@ module _ (c : Cluster) (b : Book) (s : Name) where
       alike_bind Like (λ e. refl) (check c.params (Supplier s) request) _ refl _ _ (λ what _. act-own sound what))))
       ∙ outcome-own s b _
 
-  act-other : IsSound c b → (t : Name) → same_text t s ≡ false → (what : Checked) → IfOk (act c b (Supplier t) what) (λ o. rows_of s o.book ≡ rows_of s b)
+  act-other : (t : Name) → same_text t s ≡ false → (what : Checked) → IfOk (act c b (Supplier t) what) (λ o. rows_of s o.book ≡ rows_of s b)
   unfolding act change
-  act-other sound t other (checked.Command command) = gives_bind _ _ (by_supplier c.params b t command) _ (by_supplier-other c b sound s t other command) (λ after h. h)
-  act-other sound t other (checked.Query query) = gives_each _ (reply c.params b (Supplier t) query) _ (λ rows _. refl)
+  act-other t other (checked.Command command) = gives_bind _ _ (by_supplier c.params b t command) _ (by_supplier-other c.params b s t other command) (λ after h. h)
+  act-other t other (checked.Query query) = gives_each _ (reply c.params b (Supplier t) query) _ (λ rows _. refl)
 
-  step-other : IsSound c b → (t : Name) → same_text t s ≡ false → (request : Request) → rows_of s (step c b (Supplier t) request).book ≡ rows_of s b
+  step-other : (t : Name) → same_text t s ≡ false → (request : Request) → rows_of s (step c b (Supplier t) request).book ≡ rows_of s b
   unfolding step
-  step-other sound t other request = outcome-still s b _ (
+  step-other t other request = outcome-still s b _ (
       gives_unless _ _ (knows b (Supplier t)) _ (λ _.
-      gives_each _ (check c.params (Supplier t) request) _ (λ what _. act-other sound t other what)))
+      gives_each _ (check c.params (Supplier t) request) _ (λ what _. act-other t other what)))
 
 -- ---- a request that was not done
 
@@ -94,17 +94,17 @@ lacked-undone (answer.Schedule all rows) h = refl
 lacked-undone (answer.Gaps all rows) h = refl
 lacked-undone (answer.Layout all rows) h = refl
 
-module _ (c : Cluster) (b : Book) (s : Name) (sound : IsSound c b) where
-  -- a step that is the supplier's is the same alone, on the supplier's rows
-  pub step-mine : (actor : Actor) (request : Request) → is_mine s actor request (step c b actor request).answer ≡ true → step (alone s c) (rows_of s b) actor request ≡ seen s (step c b actor request)
-  step-mine (Supplier t) request h =
+module _ (c : Cluster) (b : Book) (s : Name) where
+  -- in a sound book a step that is the supplier's is the same alone, on the supplier's rows
+  pub step-mine : IsSound c b → (actor : Actor) (request : Request) → is_mine s actor request (step c b actor request).answer ≡ true → step (alone s c) (rows_of s b) actor request ≡ seen s (step c b actor request)
+  step-mine sound (Supplier t) request h =
       subst (λ u. step (alone s c) (rows_of s b) (Supplier u) request ≡ seen s (step c b (Supplier u) request)) (sym (same_text-is t s (and_both _ _ h).0)) (step-own c b s sound request)
-  step-mine Integrator request h = let both = and_both _ _ h in step-named c b s request both.1 both.0
+  step-mine sound Integrator request h = let both = and_both _ _ h in step-named c b s request both.1 both.0
 
   -- and any other leaves the supplier's rows as they were
   pub step-not_mine : (actor : Actor) (request : Request) → is_mine s actor request (step c b actor request).answer ≡ false → rows_of s (step c b actor request).book ≡ rows_of s b
   step-not_mine (Supplier t) request h = elim (and_either _ _ h) [
-    | inl other ↦ step-other c b s sound t other request
+    | inl other ↦ step-other c b s t other request
     | inr own ↦ ap (rows_of s) (step-undone c b (Supplier t) request (lacked-undone _ own.1))
   ]
   step-not_mine Integrator request h = elim (and_either _ _ h) [

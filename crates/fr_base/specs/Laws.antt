@@ -96,10 +96,10 @@ OwnStepIsAlone = (c : Cluster) (b : Book) (s : Name) (actor : Actor) (request : 
     ((step (alone s c) (rows_of s b) actor request).answer ≡ (step c b actor request).answer)
     × ((step (alone s c) (rows_of s b) actor request).book ≡ rows_of s (step c b actor request).book)
 
--- Any other request leaves the supplier's rows as they were.
+-- Any other request leaves the supplier's rows as they were, in any book.
 abbrev pub OtherStepLeavesRows : Type 0
 OtherStepLeavesRows = (c : Cluster) (b : Book) (s : Name) (actor : Actor) (request : Request) →
-    IsSound c b → IsFalse (is_mine s actor request (step c b actor request).answer) → rows_of s (step c b actor request).book ≡ rows_of s b
+    IsFalse (is_mine s actor request (step c b actor request).answer) → rows_of s (step c b actor request).book ≡ rows_of s b
 
 -- A new register that holds the supplier alone has the supplier's rows of a new register.
 abbrev pub OpeningIsAlone : Type 0
