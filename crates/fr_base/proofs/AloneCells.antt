@@ -1,28 +1,29 @@
 -- In a sound variant the cells that are granted to a supplier hold no frame of another: the first taken cell over all rows
 -- is that over the supplier's own.
-use Rattle.std.proofs.Common.{◌≡◌, ℕ, Bool, true, false, cond, List, [], ◌∷◌, ◌++◌, map, filter, flat_map, Option, Some, None, is_some, IsTrue, refl, sym, ap, subst, ◌∙◌, ◌⊎◌, inl, inr, true≢false}
+use Rattle.std.proofs.Common.{◌≡◌, Bool, true, false, cond, List, [], ◌∷◌, ◌++◌, map, filter, flat_map, Option, Some, None, is_some, IsTrue, refl, sym, ap, ◌∙◌, ◌⊎◌, inl, inr, true≢false}
 use Rattle.std.specs.Prelude.{⊤, T, ◌||◌}
-use Rattle.std.specs.Ordering.{is_eq, eq_by_cmp, nat_cmp}
+use Rattle.std.specs.Ordering.{is_eq, eq_by_cmp}
 use Rattle.std.specs.Cmp.{tied_itself, on_total, then_total, nat_cmp_total}
 use Rattle.std.specs.Cmp.Lexicographic.{nat_list_cmp_total}
-use Rattle.std.specs.FinMap.Entries.{find, is_sorted, below_all}
+use Rattle.std.specs.FinMap.Entries.{find, is_sorted}
 use Rattle.std.specs.List.{list_any}
 use Rattle.std.proofs.lemmas.Bool.{cases_Bool}
 use Rattle.fr_base.specs.TableRows.{first, second}
 use Rattle.fr_base.specs.Tables.{Table, get, contains, only}
-use Rattle.fr_base.specs.Keys.{owned, channel_slots, placement_order}
-use Rattle.fr_base.specs.Channels.{channel_number, channels_in}
-use Rattle.fr_base.specs.Cells.{Cell, cell_cmp, same_cell, cells_of, has_cell}
+use Rattle.fr_base.specs.Keys.{owned, placement_order}
+use Rattle.fr_base.specs.Channels.{channel_number}
+use Rattle.fr_base.specs.Cells.{Cell, same_cell, cells_of, has_cell}
 use Rattle.fr_base.specs.Schedule.{fill, first_taken}
-use Rattle.fr_base.specs.Cluster.{same_text}
-use Rattle.fr_base.specs.Book.{Holder, Frame, Variant, Owner, held_by, held_by_node, granted, placements_of, schedule_of}
+use Rattle.fr_base.specs.Cluster.{Cluster, same_text}
+use Rattle.fr_base.specs.Book.{Holder, Frame, Variant, Book, Owner, held_by_node, granted, placements_of, schedule_of}
 use Rattle.fr_base.specs.Step.{is_of}
-use Rattle.fr_base.specs.Sound.{IsSoundVariant}
+use Rattle.fr_base.specs.Sound.{IsSoundVariant, IsSound}
+use Rattle.fr_base.specs.Alone.{own_variant}
 use Rattle.fr_base.specs.declared.name.Name.{Name}
 use Rattle.fr_base.specs.declared.params.Params.{Params}
 use Rattle.fr_base.specs.declared.placement.Placement.{Placement}
 use Rattle.fr_base.proofs.TableLaws.{equal, none_above}
-use Rattle.fr_base.proofs.SoundTables.{same_some, only-stood}
+use Rattle.fr_base.proofs.SoundTables.{same_some}
 use Rattle.fr_base.proofs.SoundRows.{holder-is}
 use Rattle.fr_base.proofs.SoundCells.{has_cell-in}
 
@@ -35,28 +36,35 @@ same_cell-itself c = ap is_eq (tied_itself (then_total (on_total (λ (d : Cell).
 
 -- ---- rows that don't have a cell
 
-abbrev entries_of : (Name × Name) × Frame → List (Owner × Placement)
+-- a frame's placements with their owner
+abbrev pub entries_of : (Name × Name) × Frame → List (Owner × Placement)
 entries_of row = map (λ q. (record { supplier = row.0.0; frame = row.0.1; node = row.1.node }, q.0)) row.1.placements.rows
 
 -- no placement of the frame has the cell
-abbrev Lacks : Cell → Frame → Type 0
+abbrev pub Lacks : Cell → Frame → Type 0
 Lacks c f = (q : Placement) → IsTrue (contains f.placements q) → has_cell q c ≡ false
 
 -- what stands further on in a table stands in it
-later : {V : Type 0} (es : List ((Name × Name) × V)) (e : (Name × Name) × V) → T (is_sorted owned.compare (e ∷ es)) → (k : Name × Name) (v : V) → find owned.compare k es ≡ Some v → find owned.compare k (e ∷ es) ≡ Some v
+pub later : {V : Type 0} (es : List ((Name × Name) × V)) (e : (Name × Name) × V) → T (is_sorted owned.compare (e ∷ es)) → (k : Name × Name) (v : V) → find owned.compare k es ≡ Some v → find owned.compare k (e ∷ es) ≡ Some v
 later es e sorted k v there = elim (cases_Bool (eq_by_cmp owned.compare k e.0)) [
   | inl tie ↦ let none = none_above owned (λ j w. true) k e.0 es (equal _ tie) (first _ _ sorted) in cc
   | inr other ↦ rw other there
 ]
 
-further : (ps : List (Placement × ⊤)) (p : Placement × ⊤) (q : Placement) → is_some (find placement_order.compare q ps) ≡ true → is_some (find placement_order.compare q (p ∷ ps)) ≡ true
+pub further : (ps : List (Placement × ⊤)) (p : Placement × ⊤) (q : Placement) → is_some (find placement_order.compare q ps) ≡ true → is_some (find placement_order.compare q (p ∷ ps)) ≡ true
 further ps p q h = elim (cases_Bool (eq_by_cmp placement_order.compare q p.0)) [ inl e ↦ rw e refl | inr e ↦ rw e h ]
 
-none_of : (o : Owner) (ps : List (Placement × ⊤)) (c : Cell) (rest : List (Owner × Placement)) → ((q : Placement) → is_some (find placement_order.compare q ps) ≡ true → has_cell q c ≡ false) → fill (map (λ q. (o, q.0)) ps ++ rest) c ≡ fill rest c
+pub found_first : (row : (Name × Name) × Frame) (rows : List ((Name × Name) × Frame)) → find owned.compare row.0 (row ∷ rows) ≡ Some row.1
+found_first row rows = ap (λ r. cond r (Some row.1) (find owned.compare row.0 rows)) (ap is_eq (tied_itself owned.total row.0))
+
+pub placement_first : (p : Placement × ⊤) (ps : List (Placement × ⊤)) → is_some (find placement_order.compare p.0 (p ∷ ps)) ≡ true
+placement_first p ps = ap (λ r. is_some (cond r (Some p.1) (find placement_order.compare p.0 ps))) (ap is_eq (tied_itself placement_order.total p.0))
+
+pub none_of : (o : Owner) (ps : List (Placement × ⊤)) (c : Cell) (rest : List (Owner × Placement)) → ((q : Placement) → is_some (find placement_order.compare q ps) ≡ true → has_cell q c ≡ false) → fill (map (λ q. (o, q.0)) ps ++ rest) c ≡ fill rest c
 unfolding fill
 none_of o [] c rest lacks = refl
 none_of o (p ∷ ps) c rest lacks =
-    let here : has_cell p.0 c ≡ false = lacks p.0 (ap (λ r. is_some (cond r (Some p.1) (find placement_order.compare p.0 ps))) (ap is_eq (tied_itself placement_order.total p.0))) in
+    let here : has_cell p.0 c ≡ false = lacks p.0 (placement_first p ps) in
     rw here (none_of o ps c rest (λ q h. lacks q (further ps p q h)))
 
 fill-append : (xs ys zs : List (Owner × Placement)) (c : Cell) → fill ys c ≡ fill zs c → fill (xs ++ ys) c ≡ fill (xs ++ zs) c
@@ -71,10 +79,9 @@ module _ (s : Name) (c : Cell) where
   kept_rows [] sorted lacks = refl
   kept_rows (row ∷ rows) sorted lacks =
       let rest = kept_rows rows (second _ _ sorted) (λ k f there. lacks k f (later rows row sorted k f there)) in
-      let at : find owned.compare row.0 (row ∷ rows) ≡ Some row.1 = ap (λ r. cond r (Some row.1) (find owned.compare row.0 rows)) (ap is_eq (tied_itself owned.total row.0)) in
       elim (cases_Bool (is_of s row.0)) [
         | inl own ↦ rw own (fill-append (entries_of row) _ _ c rest)
-        | inr other ↦ rw other (none_of _ row.1.placements.rows c _ (lacks row.0 row.1 at other) ∙ rest)
+        | inr other ↦ rw other (none_of _ row.1.placements.rows c _ (lacks row.0 row.1 (found_first row rows) other) ∙ rest)
       ]
 
   -- where no frame of another supplier has the cell, the one that is sent in it is the supplier's
@@ -125,3 +132,8 @@ module _ (p : Params) (nodes : Table owned ⊤) (v : Variant) (sound : IsSoundVa
   pub first_taken-own : first_taken (schedule_of v.frames) (cells_of q) ≡ first_taken (schedule_of (only (λ k _. is_of s k) v.frames)) (cells_of q)
   unfolding has_cell
   first_taken-own = first_taken-alike _ _ (cells_of q) (λ c has. schedule-own s c v.frames (others_lack c has))
+
+pub first_taken-alone : (c : Cluster) (b : Book) (v : Name) (x : Variant) (s n : Name) (q : Placement) → IsSound c b → get b.variants v ≡ Some x → IsTrue (granted x.grants s n q) →
+    first_taken (schedule_of x.frames) (cells_of q) ≡ first_taken (schedule_of (own_variant s x).frames) (cells_of q)
+unfolding own_variant
+first_taken-alone c b v x s n q sound there holds = first_taken-own c.params b.nodes x (sound.variants v x there).1 s n q holds

@@ -1,16 +1,15 @@
 -- A supplier's command on a frame, over all rows and over the supplier's own.
-use Rattle.std.proofs.Common.{◌≡◌, ℕ, Bool, true, false, not, Option, Some, None, is_some, Result, Ok, Err, IfOk, IsTrue, refl, sym, ap, subst, ◌∙◌, inl, inr}
-use Rattle.std.specs.Option.{option_map}
+use Rattle.std.proofs.Common.{◌≡◌, ℕ, Bool, true, false, not, Option, Some, None, Result, Ok, IfOk, IsTrue, refl, sym, ap, ◌∙◌}
 use Rattle.fr_base.specs.Refusing.{◌>>=◌, ◌>>◌, ◌or◌, refuse◌when◌}
-use Rattle.fr_base.specs.Tables.{Table, get, contains, only, becomes}
-use Rattle.fr_base.specs.Keys.{owned, channel_slots}
+use Rattle.fr_base.specs.Tables.{Table, get, only}
+use Rattle.fr_base.specs.Keys.{channel_slots}
 use Rattle.fr_base.specs.Channels.{channels_in}
-use Rattle.fr_base.specs.Cells.{Cell, cells_of}
+use Rattle.fr_base.specs.Cells.{cells_of}
 use Rattle.fr_base.specs.Schedule.{first_taken}
 use Rattle.fr_base.specs.Cluster.{Cluster, same_text}
-use Rattle.fr_base.specs.Book.{Holder, Frame, Variant, Book, Owner, held_by, held_by_node, granted, schedule_of}
-use Rattle.fr_base.specs.Step.{Page, Filled, is_of, page_of, with_variant, cell_taken, add_frame, drop_frame, place, unplace, add_signal, drop_signal, on_frame, by_supplier}
-use Rattle.fr_base.specs.Sound.{IsSoundVariant, IsSound}
+use Rattle.fr_base.specs.Book.{Holder, Frame, Variant, Book, held_by, held_by_node, granted, schedule_of}
+use Rattle.fr_base.specs.Step.{Page, Filled, page_of, with_variant, cell_taken, place, on_frame, by_supplier}
+use Rattle.fr_base.specs.Sound.{IsSound}
 use Rattle.fr_base.specs.Alone.{own_variant, rows_of}
 use Rattle.fr_base.specs.declared.channel.Channel.{Channel}
 use Rattle.fr_base.specs.declared.name.Name.{Name}
@@ -87,10 +86,16 @@ module _ (p : Params) (b : Book) (s v f : Name) (command : Page → Filled → R
 -- ---- all of a supplier's commands
 
 module _ (c : Cluster) (b : Book) (sound : IsSound c b) (s : Name) where
+  -- a placement meets the supplier's own frames alone
+  pub place-page : (v : Name) (x : Variant) → get b.variants v ≡ Some x → (f : Name) (q : Placement) →
+      place (page_of c.params b s x) (schedule_of x.frames) f q ≡ place (page_of c.params b s x) (schedule_of (page_of c.params b s x).frames) f q
+  unfolding page_of
+  place-page v x found f q = place-alike (page_of c.params b s x) (schedule_of x.frames) (schedule_of (page_of c.params b s x).frames) f q (λ n holds.
+      first_taken-own c.params b.nodes x (sound.variants v x found).1 s n q (page-granted x.grants s s n q holds))
+
   place-own : (v f : Name) (q : Placement) → map_ok (rows_of s) (by_supplier c.params b s (Place v f q)) ≡ by_supplier c.params (rows_of s b) s (Place v f q)
   unfolding by_supplier page_of own_variant
-  place-own v f q = on_frame-own c.params b s v f _ (λ x found. sym (place-alike (page_of c.params b s x) (schedule_of x.frames) (schedule_of (own_variant s x).frames) f q (λ n holds.
-      first_taken-own c.params b.nodes x (sound.variants v x found).1 s n q (page-granted x.grants s s n q holds))))
+  place-own v f q = on_frame-own c.params b s v f _ (λ x found. sym (place-page v x found f q))
 
   -- a supplier's command does to its rows what it does to them alone, and is refused alike
   pub by_supplier-own : (command : Command) → map_ok (rows_of s) (by_supplier c.params b s command) ≡ by_supplier c.params (rows_of s b) s command
@@ -107,17 +112,17 @@ module _ (c : Cluster) (b : Book) (sound : IsSound c b) (s : Name) where
   by_supplier-own (Grant v k d t n) = refl
   by_supplier-own (Revoke v k d t) = refl
 
-  -- another supplier's command leaves them as they were
-  pub by_supplier-other : (t : Name) → same_text t s ≡ false → (command : Command) → IfOk (by_supplier c.params b t command) (λ d. rows_of s d ≡ rows_of s b)
-  unfolding by_supplier
-  by_supplier-other t other (AddFrame v f n) = on_frame-other c.params b t v f _ s other
-  by_supplier-other t other (DropFrame v f) = on_frame-other c.params b t v f _ s other
-  by_supplier-other t other (Place v f q) = on_frame-other c.params b t v f _ s other
-  by_supplier-other t other (Unplace v f q) = on_frame-other c.params b t v f _ s other
-  by_supplier-other t other (AddSignal v f x) = on_frame-other c.params b t v f _ s other
-  by_supplier-other t other (DropSignal v f x) = on_frame-other c.params b t v f _ s other
-  by_supplier-other t other (OpenVariant v parent) = tt
-  by_supplier-other t other (Release v) = tt
-  by_supplier-other t other (AddNode u n) = tt
-  by_supplier-other t other (Grant v k d u n) = tt
-  by_supplier-other t other (Revoke v k d u) = tt
+-- another supplier's command leaves the supplier's rows as they were
+pub by_supplier-other : (p : Params) (b : Book) (s t : Name) → same_text t s ≡ false → (command : Command) → IfOk (by_supplier p b t command) (λ d. rows_of s d ≡ rows_of s b)
+unfolding by_supplier
+by_supplier-other p b s t other (AddFrame v f n) = on_frame-other p b t v f _ s other
+by_supplier-other p b s t other (DropFrame v f) = on_frame-other p b t v f _ s other
+by_supplier-other p b s t other (Place v f q) = on_frame-other p b t v f _ s other
+by_supplier-other p b s t other (Unplace v f q) = on_frame-other p b t v f _ s other
+by_supplier-other p b s t other (AddSignal v f x) = on_frame-other p b t v f _ s other
+by_supplier-other p b s t other (DropSignal v f x) = on_frame-other p b t v f _ s other
+by_supplier-other p b s t other (OpenVariant v parent) = tt
+by_supplier-other p b s t other (Release v) = tt
+by_supplier-other p b s t other (AddNode u n) = tt
+by_supplier-other p b s t other (Grant v k d u n) = tt
+by_supplier-other p b s t other (Revoke v k d u) = tt

@@ -1,14 +1,14 @@
 -- The integrator's commands, over all rows and over one supplier's.
-use Rattle.std.proofs.Common.{◌≡◌, ℕ, Bool, true, false, not, ◌&&◌, cond, List, [], ◌∷◌, ◌++◌, map, filter, flat_map, Option, Some, None, is_some, Result, Ok, Err, IfOk, IsTrue, refl, sym, ap, subst, ◌∙◌, inl, inr, true≢false}
+use Rattle.std.proofs.Common.{◌≡◌, ℕ, Bool, true, false, not, ◌&&◌, cond, List, [], ◌∷◌, ◌++◌, map, filter, flat_map, Option, Some, None, is_some, Result, Ok, Err, IfOk, IsTrue, refl, sym, ap, subst, ◌∙◌, inl, inr}
 use Rattle.std.specs.Prelude.{⊤, ◌||◌, nat_le}
-use Rattle.std.specs.Option.{option_map, option_and_then}
+use Rattle.std.specs.Option.{option_and_then}
 use Rattle.std.specs.List.{list_any}
 use Rattle.std.proofs.lemmas.Bool.{cases_Bool}
 use Rattle.fr_base.specs.Refusing.{◌>>=◌, ◌>>◌, ◌or◌, refuse◌when◌}
 use Rattle.fr_base.specs.Limits.{max_depth, max_variants, max_nodes}
-use Rattle.fr_base.specs.Tables.{Table, get, contains, len, insert, only, remove}
+use Rattle.fr_base.specs.Tables.{Table, get, contains, len, only}
 use Rattle.fr_base.specs.Keys.{owned, channel_slots}
-use Rattle.fr_base.specs.Cluster.{Cluster, same_text}
+use Rattle.fr_base.specs.Cluster.{same_text}
 use Rattle.fr_base.specs.Book.{Holder, Frame, Variant, Book, Owner, empty_variant, held_by, held_by_node, placements_of}
 use Rattle.fr_base.specs.Step.{is_of, with_variant, begun, open_variant, release, add_node, grant, fills, in_use, revoke, by_integrator}
 use Rattle.fr_base.specs.Alone.{own_variant, rows_of, is_another}
@@ -25,12 +25,10 @@ use Rattle.fr_base.proofs.SoundRefusing.{gives_or, gives_when, gives_unless}
 use Rattle.fr_base.proofs.AloneTables.{only-empty}
 use Rattle.fr_base.proofs.AloneRefusing.{map_ok, alike_or, alike_when, alike_map}
 use Rattle.fr_base.proofs.AloneChecks.{names, against}
-use Rattle.fr_base.proofs.AloneRows.{own-granted, own-granted_other, own-revoked, own-revoked_other, own-released, rows_of-variant, rows_of-has, rows_of-count, rows_of-supplier, rows_of-node, rows_of-nodes, rows_of-with, rows_of-still, rows_of-more_nodes, rows_of-more_nodes_other}
+use Rattle.fr_base.proofs.AloneCells.{entries_of}
+use Rattle.fr_base.proofs.AloneRows.{own-granted, own-granted_other, own-revoked, own-revoked_other, rows_of-variant, rows_of-has, rows_of-count, rows_of-supplier, rows_of-node, rows_of-nodes, rows_of-with, rows_of-still, rows_of-more_nodes, rows_of-more_nodes_other}
 
 -- ---- what others' rows have no part in
-
-abbrev entries_of : (Name × Name) × Frame → List (Owner × Placement)
-entries_of row = map (λ q. (record { supplier = row.0.0; frame = row.0.1; node = row.1.node }, q.0)) row.1.placements.rows
 
 any-append : {A : Type 0} (p : A → Bool) (xs ys zs : List A) → list_any p ys ≡ list_any p zs → list_any p (xs ++ ys) ≡ list_any p (xs ++ zs)
 any-append p [] ys zs e = e

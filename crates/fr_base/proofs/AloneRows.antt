@@ -1,19 +1,16 @@
 -- A supplier's rows of a book after a change of the book.
-use Rattle.std.proofs.Common.{◌≡◌, ℕ, Bool, true, false, not, Option, Some, None, is_some, IsTrue, refl, sym, ap, ◌∙◌, inl, inr}
-use Rattle.std.specs.Prelude.{⊤}
+use Rattle.std.proofs.Common.{◌≡◌, ℕ, false, Option, Some, None, is_some, refl, ap, ◌∙◌}
 use Rattle.std.specs.Option.{option_map}
-use Rattle.std.proofs.lemmas.Bool.{cases_Bool}
-use Rattle.fr_base.specs.Tables.{Table, get, contains, len, insert, only, each, remove, becomes}
+use Rattle.fr_base.specs.Tables.{get, contains, len, insert, only, each, remove, becomes}
 use Rattle.fr_base.specs.Keys.{names, owned, channel_slots}
 use Rattle.fr_base.specs.Cluster.{same_text}
-use Rattle.fr_base.specs.Book.{Holder, Frame, Variant, Book, held_by}
-use Rattle.fr_base.specs.Step.{Page, is_of, page_of, with_variant}
+use Rattle.fr_base.specs.Book.{Frame, Variant, Book, held_by}
+use Rattle.fr_base.specs.Step.{is_of, page_of, with_variant}
 use Rattle.fr_base.specs.Alone.{own_variant, rows_of}
 use Rattle.fr_base.specs.declared.channel.Channel.{Channel}
-use Rattle.fr_base.specs.declared.key.Key.{Key}
 use Rattle.fr_base.specs.declared.name.Name.{Name}
 use Rattle.fr_base.specs.declared.params.Params.{Params}
-use Rattle.fr_base.proofs.TableLaws.{get-only, insert-same, kept}
+use Rattle.fr_base.proofs.TableLaws.{insert-same, kept}
 use Rattle.fr_base.proofs.AloneTables.{get-each, len-each, each-insert, only-only, get-own, only-put, only-put_other, only-remove, only-remove_other, only-becomes, only-becomes_other}
 use Rattle.fr_base.proofs.AloneCells.{same_text-itself}
 
@@ -55,10 +52,6 @@ module _ (s : Name) where
   pub own-revoked_other : (x : Variant) (at : ℕ × Channel) → kept (λ _ h. held_by s (Some h)) at (get x.grants at) ≡ None → own_variant s (record x { grants = remove x.grants at }) ≡ own_variant s x
   unfolding own_variant
   own-revoked_other x at none = ap (λ u. record (own_variant s x) { grants = u }) (only-remove_other channel_slots (λ _ h. held_by s (Some h)) x.grants at none)
-
-  pub own-released : (x : Variant) (r : Bool) → own_variant s (record x { released = r }) ≡ record (own_variant s x) { released = r }
-  unfolding own_variant
-  own-released x r = refl
 
   -- ---- a look-up
 

@@ -1,6 +1,6 @@
 -- A run, and the run of the register that holds one supplier alone over what is the supplier's.
-use Rattle.std.proofs.Common.{◌≡◌, Bool, true, false, not, ◌&&◌, List, [], ◌∷◌, Option, Some, None, refl, sym, ap, subst, ◌∙◌, ◌⊎◌, inl, inr}
-use Rattle.std.specs.Prelude.{if◌then◌else◌, filter, map}
+use Rattle.std.proofs.Common.{◌≡◌, Bool, true, false, ◌&&◌, List, [], ◌∷◌, Some, refl, sym, ap, subst, ◌∙◌, inl, inr}
+use Rattle.std.specs.Prelude.{filter, map}
 use Rattle.std.proofs.lemmas.Bool.{cases_Bool}
 use Rattle.fr_base.specs.Tables.{only, insert, from_rows, becomes}
 use Rattle.fr_base.specs.Keys.{names, owned}
@@ -10,7 +10,7 @@ use Rattle.fr_base.specs.Step.{Outcome, is_of, step}
 use Rattle.fr_base.specs.Run.{IsRun}
 use Rattle.fr_base.specs.Sound.{IsSound}
 use Rattle.fr_base.specs.Laws.{IsWellFormed}
-use Rattle.fr_base.specs.Alone.{own_variant, rows_of, is_mine, is_done, is_unavailable, concerns, asks_of, answers_of, alone, answers_to, book_after}
+use Rattle.fr_base.specs.Alone.{own_variant, rows_of, is_mine, asks_of, answers_of, alone, answers_to, book_after}
 use Rattle.fr_base.specs.declared.config.Supplier.{Supplier as Listed}
 use Rattle.fr_base.specs.declared.key.Key.{Key}
 use Rattle.fr_base.specs.declared.name.Name.{Name}
@@ -23,7 +23,8 @@ use Rattle.fr_base.specs.declared.request.Ask.{Ask}
 use Rattle.fr_base.specs.declared.request.Request.{Request}
 use Rattle.fr_base.proofs.SoundSteps.{step-sound}
 use Rattle.fr_base.proofs.AloneTables.{only-empty, each-empty, only-becomes, only-becomes_other}
-use Rattle.fr_base.proofs.AloneSteps.{seen, step-mine, step-not_mine}
+use Rattle.fr_base.proofs.AloneOutcomes.{seen}
+use Rattle.fr_base.proofs.AloneSteps.{step-mine, step-not_mine}
 
 -- ---- a run
 
@@ -72,7 +73,7 @@ module _ (c : Cluster) (form : IsWellFormed c) (s : Name) where
       elim (cases_Bool (is_mine s ask.actor ask.request answer)) [
         | inl mine ↦ rw mine (gives_first (alone s c) (rows_of s b) ask (asks_of s asks answers) answer (answers_of s asks answers) (rows_of s o.book) (rows_of s last)
             (seen-step b sound ask (ap (is_mine s ask.actor ask.request) (sym done.0) ∙ mine) ∙ ap (λ a. record { book = rows_of s o.book; answer = a }) (sym done.0)) rest)
-        | inr other ↦ passed_over b ask asks answer answers o.book last other (step-not_mine c b s sound ask.actor ask.request (ap (is_mine s ask.actor ask.request) (sym done.0) ∙ other)) rest
+        | inr other ↦ passed_over b ask asks answer answers o.book last other (step-not_mine c b s ask.actor ask.request (ap (is_mine s ask.actor ask.request) (sym done.0) ∙ other)) rest
       ]
 
   -- two runs that begin with the same rows of the supplier, and have the same requests that are the supplier's

@@ -1,12 +1,11 @@
 -- Tables of which some rows are left out, and tables whose values are changed alike, after a change.
-use Rattle.std.proofs.Common.{◌≡◌, ℕ, Bool, true, false, not, cond, List, [], ◌∷◌, map, Option, Some, None, is_some, refl, sym, ap, ◌∙◌, inl, inr}
+use Rattle.std.proofs.Common.{◌≡◌, Bool, true, false, not, cond, List, [], ◌∷◌, map, Option, Some, None, refl, sym, ap, ◌∙◌, inl, inr}
 use Rattle.std.specs.Option.{option_map}
 use Rattle.std.specs.Ordering.{is_eq, eq_by_cmp}
-use Rattle.std.specs.Cmp.{tied_itself}
 use Rattle.std.specs.FinMap.Entries.{find}
 use Rattle.std.proofs.lemmas.Bool.{cases_Bool}
 use Rattle.std.proofs.lemmas.List.{length-map}
-use Rattle.fr_base.specs.Tables.{Order, Table, empty, get, contains, len, insert, only, each, remove, becomes}
+use Rattle.fr_base.specs.Tables.{Order, Table, empty, get, len, insert, only, each, remove, becomes}
 use Rattle.fr_base.proofs.TableLaws.{equal, get-insert, get-only, same_rows, same_table, kept}
 
 -- ---- each value changed alike

@@ -1,17 +1,16 @@
 -- What is one supplier's, computed on small registers.
-use Rattle.std.proofs.Common.{◌≡◌, ℕ, false, List, get_or, [], ◌∷◌, ◌++◌, Some, None, map, refl, codes}
+use Rattle.std.proofs.Common.{◌≡◌, ℕ, false, List, get_or, [], ◌∷◌, ◌++◌, None, map, refl, codes}
 use Rattle.std.specs.Prelude.{⊤, ◌+◌, ◌/◌, ◌%◌}
 use Rattle.std.specs.List.{range_with_len}
 use Rattle.fr_base.specs.Tables.{each}
-use Rattle.fr_base.specs.Cluster.{Cluster}
-use Rattle.fr_base.specs.Book.{Book, opening}
-use Rattle.fr_base.specs.Alone.{own_variant, rows_of, asks_of, answers_of, alone, answers_to, book_after}
+use Rattle.fr_base.specs.Book.{opening}
+use Rattle.fr_base.specs.Alone.{own_variant, rows_of, asks_of, answers_of, alone, answers_to}
 use Rattle.fr_base.specs.declared.answer.Answer.{Answer}
 use Rattle.fr_base.specs.declared.answer.Answer.TheVariants.{Done, Refused, Schedule as Sent}
 use Rattle.fr_base.specs.declared.channel.Channel.TheVariants as ch
 use Rattle.fr_base.specs.declared.refusal.Refusal.TheVariants.{Limit, Taken}
 use Rattle.fr_base.specs.declared.request.Ask.{Ask}
-use Rattle.fr_base.specs.declared.request.Request.TheVariants.{OpenVariant, Release, AddNode, Grant, AddFrame, Place, Grants, Schedule}
+use Rattle.fr_base.specs.declared.request.Request.TheVariants.{OpenVariant, AddNode, Grant, AddFrame, Place, Schedule}
 use Rattle.fr_base.proofs.WorkedRows.{cluster, answers, a_small_register, integrator, s1, s2}
 
 -- what the rows below unfold

@@ -1,11 +1,10 @@
 -- What is one supplier's: its rows of a book, its part of a list of requests, and the register that holds it alone.
-use Rattle.std.specs.Prelude.{ℕ, Bool, true, false, not, ◌&&◌, List, [], ◌∷◌, map, filter, Option, Some, None, if◌then◌else◌}
+use Rattle.std.specs.Prelude.{ℕ, Bool, true, false, not, ◌&&◌, List, [], ◌∷◌, filter, Option, Some, None, if◌then◌else◌}
 use Rattle.std.specs.Option.{option_and_then}
-use Rattle.fr_base.specs.Tables.{Table, get, only, each}
-use Rattle.fr_base.specs.Keys.{channel_slots}
+use Rattle.fr_base.specs.Tables.{get, only, each}
 use Rattle.fr_base.specs.Channels.{channel_of_text}
 use Rattle.fr_base.specs.Cluster.{Cluster, same_text}
-use Rattle.fr_base.specs.Book.{Holder, Variant, Book, held_by}
+use Rattle.fr_base.specs.Book.{Holder, Variant, Book, Owner, held_by}
 use Rattle.fr_base.specs.Step.{is_of, step}
 use Rattle.fr_base.specs.declared.name.Name.{Name}
 use Rattle.fr_base.specs.declared.answer.Answer.{Answer}
@@ -34,6 +33,11 @@ rows_of s b = record {
   nodes = only (λ k _. is_of s k) b.nodes;
   variants = each (own_variant s) b.variants;
 }
+
+-- who sends in a cell, where it is the supplier
+abbrev pub own_sender : Name → Option Owner → Option Owner
+own_sender s None = None
+own_sender s (Some o) = if same_text o.supplier s then Some o else None
 
 -- ---- requests
 

@@ -13,7 +13,7 @@ use Rattle.fr_base.specs.Queries.{variant_asked}
 use Rattle.fr_base.specs.Step.{step}
 use Rattle.fr_base.specs.Run.{IsRun}
 use Rattle.fr_base.specs.Sound.{IsSound}
-use Rattle.fr_base.specs.Alone.{own_variant, rows_of, concerns, is_mine, asks_of, answers_of, alone, answers_to, book_after, beside}
+use Rattle.fr_base.specs.Alone.{own_variant, rows_of, own_sender, concerns, is_mine, asks_of, answers_of, alone, answers_to, book_after, beside}
 use Rattle.fr_base.specs.declared.answer.Answer.{Answer}
 use Rattle.fr_base.specs.declared.name.Name.{Name}
 use Rattle.fr_base.specs.declared.placement.Placement.{Placement}
@@ -83,6 +83,11 @@ FirstTakenIsOwn = (c : Cluster) (b : Book) (v : Name) (variant : Variant) (s n :
     IsSound c b → get b.variants v ≡ Some variant → IsTrue (granted variant.grants s n q) →
     first_taken (schedule_of variant.frames) (cells_of q) ≡ first_taken (schedule_of (own_variant s variant).frames) (cells_of q)
 
+-- In a sound book a supplier's schedule has in each cell what the schedule of all has there of the supplier's.
+abbrev pub ScheduleIsOwn : Type 0
+ScheduleIsOwn = (c : Cluster) (b : Book) (v : Name) (variant : Variant) (s : Name) (cell : Cell) →
+    IsSound c b → get b.variants v ≡ Some variant → schedule_of (own_variant s variant).frames cell ≡ own_sender s (schedule_of variant.frames cell)
+
 -- A request that is the supplier's is answered as by the register that holds the supplier alone, and does the same to the
 -- supplier's rows.
 abbrev pub OwnStepIsAlone : Type 0
@@ -91,10 +96,10 @@ OwnStepIsAlone = (c : Cluster) (b : Book) (s : Name) (actor : Actor) (request : 
     ((step (alone s c) (rows_of s b) actor request).answer ≡ (step c b actor request).answer)
     × ((step (alone s c) (rows_of s b) actor request).book ≡ rows_of s (step c b actor request).book)
 
--- Any other request leaves the supplier's rows as they were.
+-- Any other request leaves the supplier's rows as they were, in any book.
 abbrev pub OtherStepLeavesRows : Type 0
 OtherStepLeavesRows = (c : Cluster) (b : Book) (s : Name) (actor : Actor) (request : Request) →
-    IsSound c b → IsFalse (is_mine s actor request (step c b actor request).answer) → rows_of s (step c b actor request).book ≡ rows_of s b
+    IsFalse (is_mine s actor request (step c b actor request).answer) → rows_of s (step c b actor request).book ≡ rows_of s b
 
 -- A new register that holds the supplier alone has the supplier's rows of a new register.
 abbrev pub OpeningIsAlone : Type 0
@@ -117,9 +122,9 @@ EqualViews = (c : Cluster) (b d last end : Book) (asks others : List Ask) (answe
     rows_of s b ≡ rows_of s d → asks_of s asks answers ≡ asks_of s others replies →
     (answers_of s asks answers ≡ answers_of s others replies) × (rows_of s last ≡ rows_of s end)
 
--- The one dependence between suppliers: an integrator's command that is common or names the supplier is answered as by the
--- register that holds the supplier alone, except that a Grant which that register accepts is Taken exactly where another
--- supplier holds slot and channel in the variant.
+-- The one dependence between suppliers: an integrator's command that is common or names the supplier, where it is not
+-- answered Unavailable, is answered as by the register that holds the supplier alone, except that a Grant which that
+-- register accepts is Taken exactly where another supplier holds slot and channel in the variant.
 abbrev pub OneDependence : Type 0
 OneDependence = (c : Cluster) (b : Book) (s : Name) (request : Request) → IsTrue (concerns s request) →
     (step c b Integrator request).answer ≡ beside s b (step (alone s c) (rows_of s b) Integrator request).answer request

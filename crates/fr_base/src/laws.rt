@@ -1,4 +1,4 @@
-ghost use Rattle.fr_base.specs.Laws.{EqualViews, FirstTakenIsOwn, HolderSends, OneDependence, OneFrameInACell, OpeningIsAlone, OpeningIsSound, OtherStepLeavesRows, OwnStepIsAlone, ReleaseFreezes, ReleasedAnswersStay, RunIsAlone, RunKeepsSound, StepKeepsSound};
+ghost use Rattle.fr_base.specs.Laws.{EqualViews, FirstTakenIsOwn, HolderSends, OneDependence, OneFrameInACell, OpeningIsAlone, OpeningIsSound, OtherStepLeavesRows, OwnStepIsAlone, ReleaseFreezes, ReleasedAnswersStay, RunIsAlone, RunKeepsSound, ScheduleIsOwn, StepKeepsSound};
 
 /// The book of a new register is sound.
 pub fn opening_is_sound()
@@ -39,6 +39,11 @@ pub fn released_answers_stay()
 /// supplier's own frame.
 pub fn first_taken_is_own()
     ensures { FirstTakenIsOwn }
+{}
+
+/// In a sound book a supplier's schedule is what is the supplier's of the schedule of all.
+pub fn schedule_is_own()
+    ensures { ScheduleIsOwn }
 {}
 
 /// What is a supplier's is answered as by the register that holds this supplier alone, and does the

@@ -1,4 +1,4 @@
-use Rattle.fr_base.proofs.AloneSteps.{step-beside}
+use Rattle.fr_base.proofs.AloneDependence.{step-beside}
 use Rattle.fr_base.proofs.laws.one_dependence.Goals as goal
 
 pub returns : goal.returns

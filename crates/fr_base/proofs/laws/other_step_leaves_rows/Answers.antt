@@ -2,4 +2,4 @@ use Rattle.fr_base.proofs.AloneSteps.{step-not_mine}
 use Rattle.fr_base.proofs.laws.other_step_leaves_rows.Goals as goal
 
 pub returns : goal.returns
-returns c = λ cluster b s actor request sound other. step-not_mine cluster b s sound actor request other
+returns c = step-not_mine
