@@ -1,3 +1,5 @@
+mod memory;
+
 use crate::{
     append_answer, read_command, read_config, write_answer, write_gaps, write_layout, write_lines,
     write_schedule,
@@ -9,15 +11,18 @@ use fr_base::{
 use std::alloc::Global;
 use std::test::Fail;
 
-fn name(text: &str) -> Result<Name, Fail> {
-    Ok(Name::read(text).ok_or("name")?)
+/// Why an answer could not be made.
+type Why = &'static str;
+
+fn name(text: &str) -> Result<Name, Why> {
+    Name::read(text).ok_or("name")
 }
 
-fn slot(number: u32) -> Result<Slot, Fail> {
-    Ok(Slot::new(number).ok_or("slot")?)
+fn slot(number: u32) -> Result<Slot, Why> {
+    Slot::new(number).ok_or("slot")
 }
 
-fn grants(alloc: Global, all: bool) -> Result<Answer, Fail> {
+fn grants(alloc: Global, all: bool) -> Result<Answer, Why> {
     let mut rows = Rows::new(alloc);
     for (number, channel, node, supplier) in [
         (1, Channel::A, "n1", "s1"),
@@ -28,7 +33,8 @@ fn grants(alloc: Global, all: bool) -> Result<Answer, Fail> {
             channel,
             node: name(node)?,
             supplier: name(supplier)?,
-        })?;
+        })
+        .map_err(|_| "memory")?;
     }
     Ok(Answer::Grants { all, rows })
 }
@@ -37,14 +43,15 @@ fn frame(
     alloc: Global,
     text: &str,
     placements: &[(u32, Channels, u32, u32)],
-) -> Result<FrameRow, Fail> {
+) -> Result<FrameRow, Why> {
     let mut rows = Rows::new(alloc);
     for (number, channels, base, repetition) in placements {
         rows.push(Placement {
             slot: slot(*number)?,
             channels: *channels,
-            cycles: CycleSet::new(*base, *repetition)?,
-        })?;
+            cycles: CycleSet::new(*base, *repetition).map_err(|_| "cycles")?,
+        })
+        .map_err(|_| "memory")?;
     }
     Ok(FrameRow {
         frame: name(text)?,
@@ -54,9 +61,9 @@ fn frame(
     })
 }
 
-fn frames(alloc: Global, all: bool) -> Result<Answer, Fail> {
+fn frames(alloc: Global, all: bool) -> Result<Answer, Why> {
     let mut rows = Rows::new(alloc);
-    rows.push(frame(alloc, "f0", &[])?)?;
+    rows.push(frame(alloc, "f0", &[])?).map_err(|_| "memory")?;
     rows.push(frame(
         alloc,
         "f1",
@@ -65,12 +72,14 @@ fn frames(alloc: Global, all: bool) -> Result<Answer, Fail> {
             (20, Channels::A, 0, 1),
             (300, Channels::B, 63, 64),
         ],
-    )?)?;
-    rows.push(frame(alloc, "f2", &[(1, Channels::A, 0, 64)])?)?;
+    )?)
+    .map_err(|_| "memory")?;
+    rows.push(frame(alloc, "f2", &[(1, Channels::A, 0, 64)])?)
+        .map_err(|_| "memory")?;
     Ok(Answer::Frames { all, rows })
 }
 
-fn schedule(alloc: Global, all: bool, sent: &[(u8, u32, Channel)]) -> Result<Answer, Fail> {
+fn schedule(alloc: Global, all: bool, sent: &[(u8, u32, Channel)]) -> Result<Answer, Why> {
     let mut rows = Rows::new(alloc);
     for (cycle, number, channel) in sent {
         rows.push(Sending {
@@ -80,12 +89,13 @@ fn schedule(alloc: Global, all: bool, sent: &[(u8, u32, Channel)]) -> Result<Ans
             frame: name("f1")?,
             node: name("n1")?,
             supplier: name("s1")?,
-        })?;
+        })
+        .map_err(|_| "memory")?;
     }
     Ok(Answer::Schedule { all, rows })
 }
 
-fn gaps(alloc: Global, all: bool) -> Result<Answer, Fail> {
+fn gaps(alloc: Global, all: bool) -> Result<Answer, Why> {
     let mut rows = Rows::new(alloc);
     for (text, gap) in [
         ("f1", Some(6400)),
@@ -98,12 +108,13 @@ fn gaps(alloc: Global, all: bool) -> Result<Answer, Fail> {
             frame: name(text)?,
             supplier: name("s1")?,
             gap,
-        })?;
+        })
+        .map_err(|_| "memory")?;
     }
     Ok(Answer::Gaps { all, rows })
 }
 
-fn layout(alloc: Global, all: bool) -> Result<Answer, Fail> {
+fn layout(alloc: Global, all: bool) -> Result<Answer, Why> {
     let mut rows = Rows::new(alloc);
     for (text, start, length, order) in [
         ("y", 3, 8, Order::Big),
@@ -112,10 +123,9 @@ fn layout(alloc: Global, all: bool) -> Result<Answer, Fail> {
     ] {
         rows.push(SignalRow {
             supplier: name("s1")?,
-            signal: Signal::new(name(text)?, start, length, order)
-                .ok()
-                .ok_or("signal")?,
-        })?;
+            signal: Signal::new(name(text)?, start, length, order).map_err(|_| "signal")?,
+        })
+        .map_err(|_| "memory")?;
     }
     Ok(Answer::Layout { all, rows })
 }
