@@ -5,7 +5,7 @@ ghost use Rattle.fr_base.specs.Book.{opening};
 ghost use Rattle.fr_base.specs.Step.{knows};
 ghost use Rattle.fr_base.specs.Sound.{IsSound};
 ghost use Rattle.fr_base.specs.Laws.{IsWellFormed};
-ghost use Rattle.fr_cli.specs.Asked.{ask_in};
+ghost use Rattle.fr_cli.specs.Asked.{ask_in, is_answered};
 ghost use Rattle.fr_cli.specs.Books.{book_of, Replied};
 ghost use Rattle.fr_cli.specs.Output.{IsAnsweredTo, IsCutShort, IsOutput, LacksMemory, cluster_in};
 ghost use Rattle.fr_cli.specs.Script.{request_lines};
@@ -17,7 +17,7 @@ use crate::input::{SCRIPT_BYTES, read_all};
 use crate::lines::{RequestLines, key_and_text, split_script};
 use crate::output::{Retries, flush, write_all};
 use crate::script_fault::ScriptFault;
-use fr_base::{Answer, Ask, Config, Refusal};
+use fr_base::{Answer, Ask, Config, Refusal, Request};
 use fr_text::{ConfigFault, append_answer, read_command, read_config};
 use std::alloc::{AllocError, Global};
 use std::io::{Read, Write};
@@ -117,8 +117,26 @@ fn read_ask(alloc: Global, config: &Config, line: &[u8]) -> Result<Ask, Refusal>
 {
     let (key, text) = key_and_text(line).ok_or(Refusal::BadText)?;
     let request = read_command(alloc, text)?;
+    if !is_answered(&request) {
+        return Err(Refusal::BadText);
+    }
     let actor = config.actor_of(key).ok_or(Refusal::UnknownKey)?;
     Ok(Ask { actor, request })
+}
+
+// Whether the program answers such a request so far.
+fn is_answered(request: &Request) -> bool
+    ensures { result ≡ is_answered request.now }
+{
+    match request {
+        Request::OpenVariant { parent: None, .. }
+        | Request::AddNode { .. }
+        | Request::Grant { .. }
+        | Request::AddFrame { .. }
+        | Request::Place { .. }
+        | Request::Schedule { .. } => true,
+        _ => false,
+    }
 }
 
 #[cfg(test)]
