@@ -74,6 +74,7 @@ fn refuses_the_first_fault(rt: HostRuntime) -> Result<(), Fail> {
     }
     let open = Request::OpenVariant {
         variant: Text::copy(rt.alloc(), "1v")?,
+        parent: None,
     };
     assert_eq!(rt; check(&params, &s1, &open), Err(Refusal::NotYours));
     assert_eq!(rt;

@@ -35,7 +35,14 @@ const LIMIT: &str = r#"{"no":23,"refused":"Limit"}"#;
 const NOTHING_IS_SENT: &str = r#"{"lines":[],"ok":"schedule"}"#;
 
 /// Requests that the register is not asked for: their text or their key is none.
-const UNASKED: [(&str, &str); 20] = [
+const UNASKED: [(&str, &str); 23] = [
+    // requests that the program does not answer yet
+    (r#"supplier01 {"do":"release","variant":"v1"}"#, BAD_TEXT),
+    (r#"nobody123 {"do":"grants","variant":"v1"}"#, BAD_TEXT),
+    (
+        r#"integrator1 {"do":"open_variant","variant":"v2","from":"v1"}"#,
+        BAD_TEXT,
+    ),
     ("supplier01", BAD_TEXT),
     ("supplier01\t{}", BAD_TEXT),
     ("supplier01 ", BAD_TEXT),
