@@ -4,3 +4,4 @@ pub mod FieldsLemmas
 pub mod WordsLemmas
 pub mod ReportLemmas
 pub mod AnswerTextLemmas
+pub mod ReadBackLaws

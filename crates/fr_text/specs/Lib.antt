@@ -6,3 +6,4 @@ pub mod Words
 pub mod Report
 pub mod Styles
 pub mod AnswerText
+pub mod Laws

@@ -4,6 +4,7 @@ ghost use Rattle.fr_text.specs.AnswerText.{text_of, text_of_report, text_of_refu
 ghost use Rattle.fr_text.specs.Styles.{quoted, lines_in};
 ghost use Rattle.fr_text.specs.Words.{Extends};
 
+use crate::NoMemory;
 use crate::report::{Row, push_rows};
 use crate::style::Style;
 use crate::words::{push, push_decimal};
@@ -11,7 +12,7 @@ use fr_base::{Answer, Refusal};
 use std::alloc::{AllocError, Global};
 
 /// The answer's text: compact JSON, its keys in byte order, with no line feed.
-pub fn write_answer(alloc: Global, answer: &Answer) -> Result<Vec<u8>, AllocError>
+pub fn write_answer(alloc: Global, answer: &Answer) -> Result<Vec<u8>, NoMemory>
     ensures { IfOk result (λ text. text.items ≡ text_of answer.now) }
 {
     let mut out = Vec::new(alloc);
@@ -20,7 +21,7 @@ pub fn write_answer(alloc: Global, answer: &Answer) -> Result<Vec<u8>, AllocErro
 }
 
 /// Appends the answer's text. An error leaves the buffer as it was.
-pub fn append_answer(answer: &Answer, out: &mut Vec<u8>) -> Result<(), AllocError>
+pub fn append_answer(answer: &Answer, out: &mut Vec<u8>) -> Result<(), NoMemory>
     ensures ok { OnOk result (out.new.items ≡ out.old.items ++ text_of answer.now) }
     ensures err { OnErr result (out.new.items ≡ out.old.items) }
 {

@@ -5,6 +5,7 @@
 mod answer_text;
 mod cluster_file;
 mod fields;
+mod laws;
 mod report;
 mod request_text;
 mod style;
@@ -12,6 +13,7 @@ mod words;
 
 pub use answer_text::{append_answer, write_answer};
 pub use cluster_file::{ConfigFault, read_config};
+pub use laws::written_is_read_back;
 pub use report::{write_gaps, write_layout, write_lines, write_schedule};
 pub use request_text::read_command;
 

@@ -10,6 +10,7 @@ mod grants;
 mod layout;
 mod schedule;
 
+use crate::NoMemory;
 use crate::style::Style;
 use crate::words::push;
 use fr_base::Answer;
@@ -82,7 +83,7 @@ pub(crate) fn report<R: Row>(alloc: Global, rows: &[R], all: bool) -> Result<Vec
 
 /// The lines of a query's answer, each with a line feed behind it. Another answer has none.
 #[tactic(auto, using(crate::proofs::ReportLemmas::rows), unfolding(crate::specs::AnswerText::report_of, crate::specs::Report::lines_of))]
-pub fn write_lines(alloc: Global, answer: &Answer) -> Result<Vec<u8>, AllocError>
+pub fn write_lines(alloc: Global, answer: &Answer) -> Result<Vec<u8>, NoMemory>
     ensures { IfOk result (λ text. text.items ≡ report_of answer.now) }
 {
     match answer {

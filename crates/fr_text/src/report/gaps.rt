@@ -5,6 +5,7 @@ ghost use Rattle.fr_text.specs.Styles.{plain_lines};
 ghost use Rattle.fr_text.specs.Words.{right_in, gap_word, Extends};
 
 use super::{Row, report};
+use crate::NoMemory;
 use crate::words::{push, push_right, push_supplier, push_word};
 use fr_base::{Answer, GapRow};
 use std::alloc::{AllocError, Global};
@@ -37,7 +38,7 @@ fn push_gap(gap: Option<u32>, out: &mut Vec<u8>) -> Result<(), AllocError>
 
 /// The lines of a gaps report, each with a line feed behind it. Another answer has none.
 #[tactic(auto, using(crate::proofs::ReportLemmas::rows), unfolding(crate::specs::Report::gap_lines))]
-pub fn write_gaps(alloc: Global, answer: &Answer) -> Result<Vec<u8>, AllocError>
+pub fn write_gaps(alloc: Global, answer: &Answer) -> Result<Vec<u8>, NoMemory>
     ensures { IfOk result (λ text. text.items ≡ plain_lines (gap_lines answer.now)) }
 {
     match answer {

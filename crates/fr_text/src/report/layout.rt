@@ -4,6 +4,7 @@ ghost use Rattle.fr_text.specs.Report.{signal_line, layout_lines};
 ghost use Rattle.fr_text.specs.Styles.{plain_lines};
 
 use super::{Row, report};
+use crate::NoMemory;
 use crate::words::{four_digits, push_supplier, push_word, two_digits};
 use fr_base::{Answer, SignalRow};
 use std::alloc::{AllocError, Global};
@@ -25,7 +26,7 @@ impl Row for SignalRow {
 
 /// The lines of a layout, each with a line feed behind it. Another answer has none.
 #[tactic(auto, using(crate::proofs::ReportLemmas::rows), unfolding(crate::specs::Report::layout_lines))]
-pub fn write_layout(alloc: Global, answer: &Answer) -> Result<Vec<u8>, AllocError>
+pub fn write_layout(alloc: Global, answer: &Answer) -> Result<Vec<u8>, NoMemory>
     ensures { IfOk result (λ text. text.items ≡ plain_lines (layout_lines answer.now)) }
 {
     match answer {

@@ -6,6 +6,7 @@ ghost use Rattle.fr_text.specs.Styles.{plain_lines};
 ghost use Rattle.fr_text.specs.Words.{two_digits, four_digits, line, Extends};
 
 use super::{Row, report};
+use crate::NoMemory;
 use crate::words::{four_digits, push_supplier, push_word, two_digits};
 use fr_base::{Answer, Sending};
 use std::alloc::{AllocError, Global};
@@ -37,7 +38,7 @@ fn push_cell(sending: &Sending, out: &mut Vec<u8>) -> Result<(), AllocError>
 
 /// The lines of a schedule, each with a line feed behind it. Another answer has none.
 #[tactic(auto, using(crate::proofs::ReportLemmas::rows), unfolding(crate::specs::Report::schedule_lines))]
-pub fn write_schedule(alloc: Global, answer: &Answer) -> Result<Vec<u8>, AllocError>
+pub fn write_schedule(alloc: Global, answer: &Answer) -> Result<Vec<u8>, NoMemory>
     ensures { IfOk result (λ text. text.items ≡ plain_lines (schedule_lines answer.now)) }
 {
     match answer {

@@ -1,4 +1,7 @@
-use super::greatest_gap;
+ghost use Rattle.std.specs.Bool.{OnTrue};
+ghost use Rattle.fr_base.specs.Sound.{FitsCluster};
+
+use super::{MAX_PLACEMENTS, greatest_gap};
 use fr_base::{Channels, CycleSet, Params, Placement, RawParams, Slot};
 use std::test::Fail;
 
@@ -25,16 +28,39 @@ fn placement(slot: u32, channels: Channels, base: u32, repetition: u32) -> Resul
     })
 }
 
+// Whether a cluster of both channels has the placement.
+fn fits(params: &Params, placement: &Placement) -> bool
+    ensures { OnTrue result (FitsCluster params.now placement.now) }
+{
+    let slot = placement.slot.get();
+    let base = u32::from(placement.cycles.base());
+    let repetition = u32::from(placement.cycles.repetition());
+    params.channels() == Channels::AB
+        && slot >= 1
+        && slot <= params.static_slots()
+        && CycleSet::new(base, repetition).is_ok()
+}
+
+// The greatest gap of placements that fit.
+fn gap_of(params: &Params, placements: &[Placement]) -> Result<Option<u32>, Fail> {
+    if placements.len() > MAX_PLACEMENTS
+        || !placements.iter().all(|placement| fits(params, placement))
+    {
+        return Err(Fail::from("placements that do not fit"));
+    }
+    Ok(greatest_gap(params, placements))
+}
+
 #[test]
 fn nothing_placed(rt: HostRuntime) -> Result<(), Fail> {
-    assert_eq!(rt; greatest_gap(&params()?, &[]), None);
+    assert_eq!(rt; gap_of(&params()?, &[])?, None);
     Ok(())
 }
 
 #[test]
 fn lone_moment(rt: HostRuntime) -> Result<(), Fail> {
     let one = [placement(1, Channels::A, 1, 64)?];
-    assert_eq!(rt; greatest_gap(&params()?, &one), Some(6400));
+    assert_eq!(rt; gap_of(&params()?, &one)?, Some(6400));
     Ok(())
 }
 
@@ -44,7 +70,7 @@ fn two_slots(rt: HostRuntime) -> Result<(), Fail> {
         placement(1, Channels::A, 0, 4)?,
         placement(3, Channels::A, 2, 4)?,
     ];
-    assert_eq!(rt; greatest_gap(&params()?, &two), Some(220));
+    assert_eq!(rt; gap_of(&params()?, &two)?, Some(220));
     Ok(())
 }
 
@@ -52,8 +78,8 @@ fn two_slots(rt: HostRuntime) -> Result<(), Fail> {
 fn slots_in_any_order(rt: HostRuntime) -> Result<(), Fail> {
     let low = placement(2, Channels::A, 0, 2)?;
     let high = placement(4, Channels::A, 1, 64)?;
-    assert_eq!(rt; greatest_gap(&params()?, &[low, high]), Some(200));
-    assert_eq!(rt; greatest_gap(&params()?, &[high, low]), Some(200));
+    assert_eq!(rt; gap_of(&params()?, &[low, high])?, Some(200));
+    assert_eq!(rt; gap_of(&params()?, &[high, low])?, Some(200));
     Ok(())
 }
 
@@ -70,7 +96,7 @@ fn eight_placements(rt: HostRuntime) -> Result<(), Fail> {
         placement(3, Channels::A, 61, 64)?,
         placement(2, Channels::A, 14, 32)?,
     ];
-    assert_eq!(rt; greatest_gap(&params()?, &eight), Some(1390));
+    assert_eq!(rt; gap_of(&params()?, &eight)?, Some(1390));
     Ok(())
 }
 
@@ -92,7 +118,7 @@ fn longest_cycle(rt: HostRuntime) -> Result<(), Fail> {
         placement(1023, Channels::A, 63, 64)?,
         placement(1, Channels::A, 0, 64)?,
     ];
-    assert_eq!(rt; greatest_gap(&params, &two), Some(1023330));
+    assert_eq!(rt; gap_of(&params, &two)?, Some(1023330));
     Ok(())
 }
 
@@ -103,7 +129,7 @@ fn both_channels_at_once(rt: HostRuntime) -> Result<(), Fail> {
         placement(2, Channels::B, 0, 2)?,
     ];
     let together = [placement(2, Channels::AB, 0, 2)?];
-    assert_eq!(rt; greatest_gap(&params()?, &apart), Some(200));
-    assert_eq!(rt; greatest_gap(&params()?, &together), Some(200));
+    assert_eq!(rt; gap_of(&params()?, &apart)?, Some(200));
+    assert_eq!(rt; gap_of(&params()?, &together)?, Some(200));
     Ok(())
 }
