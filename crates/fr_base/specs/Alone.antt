@@ -41,7 +41,7 @@ own_sender s (Some o) = if same_text o.supplier s then Some o else None
 
 -- ---- requests
 
--- whether an integrator's command is common to all suppliers, or names this one
+-- whether an integrator's command is common to all suppliers, or names this one; a supplier's requests and queries are none
 abbrev pub concerns : Name → Request → Bool
 concerns s (OpenVariant v parent) = true
 concerns s (Release v) = true
@@ -54,6 +54,7 @@ abbrev pub is_done : Answer → Bool
 is_done Done = true
 is_done _ = false
 
+-- whether the refusal is Unavailable
 abbrev pub lacked : Refusal → Bool
 lacked Unavailable = true
 lacked _ = false
@@ -86,7 +87,7 @@ answers_of s _ _ = []
 abbrev pub alone : Name → Cluster → Cluster
 alone s c = record c { suppliers = filter (λ t. same_text t.name s) c.suppliers }
 
--- the answers to some requests, one step after another
+-- the answers to some requests, one step after another: those of the run in which none is Unavailable
 abbrev pub answers_to : Cluster → Book → List Ask → List Answer
 answers_to c b [] = []
 answers_to c b (ask ∷ asks) =
@@ -119,7 +120,7 @@ abbrev pub done_unless : Option Refusal → Answer
 done_unless None = Done
 done_unless (Some e) = Refused e
 
--- what the request is answered beside other suppliers, where it is answered so in the register of the supplier alone
+-- the answer beside other suppliers, from the answer in the register of the supplier alone
 abbrev pub beside : Name → Book → Answer → Request → Answer
 beside s b Done request = done_unless (refused_beside s b request)
 beside s b answer request = answer

@@ -1,4 +1,4 @@
--- Laws of the register. They hold for all cluster files, books and requests.
+-- Laws of the register. Each says of which books it is: any, or sound ones. `IsWellFormed c` is what reading a cluster file gives.
 use Rattle.std.specs.Prelude.{◌≡◌, List, Some, Ok, IsTrue, IsFalse}
 use Rattle.std.specs.List.{list_all}
 use Rattle.fr_base.specs.Tables.{get, contains}
@@ -24,7 +24,8 @@ use Rattle.fr_base.specs.declared.request.Request.{Request}
 use Rattle.fr_base.specs.declared.request.Query.{Query}
 use Rattle.fr_base.specs.declared.request.Checked.TheVariants as checked
 
--- what a cluster file gives: parameters of a cluster, at most 64 suppliers in order, and each name and each key has its form
+-- what a cluster file gives: parameters without a fault, at most 64 suppliers in order, no name and no key twice, and each
+-- name and each key of its form
 pub record IsWellFormed (c : Cluster) : Type 0 where
   pub params : check_params c.params ≡ Ok c.params
   pub cluster : IsTrue (is_cluster c.integrator c.suppliers)
@@ -39,7 +40,8 @@ OpeningIsSound = (c : Cluster) → IsWellFormed c → IsSound c (opening c)
 abbrev pub StepKeepsSound : Type 0
 StepKeepsSound = (c : Cluster) (b : Book) (actor : Actor) (request : Request) → IsWellFormed c → IsSound c b → IsSound c (step c b actor request).book
 
--- So after any number of requests, in any order, a book that was sound is sound.
+-- So after any number of requests, in any order, a book that was sound is sound. Each front of a run is a run, so the book is
+-- sound at every point.
 abbrev pub RunKeepsSound : Type 0
 RunKeepsSound = (c : Cluster) (b last : Book) (asks : List Ask) (answers : List Answer) → IsWellFormed c → IsSound c b → IsRun c b asks answers last → IsSound c last
 
@@ -67,7 +69,8 @@ abbrev pub ReleaseFreezes : Type 0
 ReleaseFreezes = (c : Cluster) (b last : Book) (asks : List Ask) (answers : List Answer) (v : Name) (variant : Variant) →
     get b.variants v ≡ Some variant → IsTrue variant.released → IsRun c b asks answers last → get last.variants v ≡ Some variant
 
--- And each query of it gives the same actor the same answer ever after.
+-- And each query of it that is not answered Unavailable gives the same actor the same answer ever after. One whose frame is no
+-- name is BadName in every book.
 abbrev pub ReleasedAnswersStay : Type 0
 ReleasedAnswersStay = (c : Cluster) (b last : Book) (asks : List Ask) (answers : List Answer) (v : Name) (variant : Variant) →
     get b.variants v ≡ Some variant → IsTrue variant.released → IsRun c b asks answers last →
@@ -76,8 +79,8 @@ ReleasedAnswersStay = (c : Cluster) (b last : Book) (asks : List Ask) (answers :
 
 -- ---- a supplier alone
 
--- In a sound book, of cells that are granted to a supplier, the first that any frame fills is the first that one of the
--- supplier's own fills.
+-- In a sound book, where one of a supplier's nodes holds a placement's slot on each of its channels, the first of its cells
+-- that any frame fills is the first that the supplier's own fill, and by the same frame.
 abbrev pub FirstTakenIsOwn : Type 0
 FirstTakenIsOwn = (c : Cluster) (b : Book) (v : Name) (variant : Variant) (s n : Name) (q : Placement) →
     IsSound c b → get b.variants v ≡ Some variant → IsTrue (granted variant.grants s n q) →
@@ -88,7 +91,7 @@ abbrev pub ScheduleIsOwn : Type 0
 ScheduleIsOwn = (c : Cluster) (b : Book) (v : Name) (variant : Variant) (s : Name) (cell : Cell) →
     IsSound c b → get b.variants v ≡ Some variant → schedule_of (own_variant s variant).frames cell ≡ own_sender s (schedule_of variant.frames cell)
 
--- A request that is the supplier's is answered as by the register that holds the supplier alone, and does the same to the
+-- In a sound book a request that is the supplier's is answered as by the register that holds the supplier alone, and does the same to the
 -- supplier's rows.
 abbrev pub OwnStepIsAlone : Type 0
 OwnStepIsAlone = (c : Cluster) (b : Book) (s : Name) (actor : Actor) (request : Request) →
@@ -105,8 +108,8 @@ OtherStepLeavesRows = (c : Cluster) (b : Book) (s : Name) (actor : Actor) (reque
 abbrev pub OpeningIsAlone : Type 0
 OpeningIsAlone = (c : Cluster) (s : Name) → opening (alone s c) ≡ rows_of s (opening c)
 
--- Whatever is asked, by whomever, in any order, from any sound book: the register that holds the supplier alone, asked
--- only what is the supplier's, gives the supplier the same answers one by one, answers Done to each of the integrator's
+-- Whatever is asked, by whomever, in any order, from any sound book: the register that holds the supplier alone and begins
+-- with its rows, asked only what is the supplier's, gives the supplier the same answers one by one, answers Done to each of the integrator's
 -- commands among them, and ends with the supplier's rows.
 abbrev pub RunIsAlone : Type 0
 RunIsAlone = (c : Cluster) (b last : Book) (asks : List Ask) (answers : List Answer) (s : Name) →
@@ -114,7 +117,7 @@ RunIsAlone = (c : Cluster) (b last : Book) (asks : List Ask) (answers : List Ans
     (answers_to (alone s c) (rows_of s b) (asks_of s asks answers) ≡ answers_of s asks answers)
     × (book_after (alone s c) (rows_of s b) (asks_of s asks answers) ≡ rows_of s last)
 
--- So two registers that begin with the same rows of the supplier, and are asked the same that is the supplier's, give it
+-- So under one cluster file two sound registers that begin with the same rows of the supplier, and are asked the same that is the supplier's, give it
 -- the same answers and end with the same rows of the supplier, whatever else is in them and whatever else is asked.
 abbrev pub EqualViews : Type 0
 EqualViews = (c : Cluster) (b d last end : Book) (asks others : List Ask) (answers replies : List Answer) (s : Name) →
@@ -123,7 +126,7 @@ EqualViews = (c : Cluster) (b d last end : Book) (asks others : List Ask) (answe
     (answers_of s asks answers ≡ answers_of s others replies) × (rows_of s last ≡ rows_of s end)
 
 -- The one dependence between suppliers: an integrator's command that is common or names the supplier, where it is not
--- answered Unavailable, is answered as by the register that holds the supplier alone, except that a Grant which that
+-- answered Unavailable, is answered as by the register that holds the supplier alone, with the supplier's rows of the book, except that a Grant which that
 -- register accepts is Taken exactly where another supplier holds slot and channel in the variant.
 abbrev pub OneDependence : Type 0
 OneDependence = (c : Cluster) (b : Book) (s : Name) (request : Request) → IsTrue (concerns s request) →

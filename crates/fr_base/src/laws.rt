@@ -35,8 +35,8 @@ pub fn released_answers_stay()
     ensures { ReleasedAnswersStay }
 {}
 
-/// In a sound book the first taken of the cells that are granted to a supplier is filled by the
-/// supplier's own frame.
+/// In a sound book, where one of a supplier's nodes holds a placement's slot on each of its channels,
+/// the first of its cells that is filled is filled by the supplier's own frame.
 pub fn first_taken_is_own()
     ensures { FirstTakenIsOwn }
 {}
@@ -46,7 +46,7 @@ pub fn schedule_is_own()
     ensures { ScheduleIsOwn }
 {}
 
-/// What is a supplier's is answered as by the register that holds this supplier alone, and does the
+/// In a sound book what is a supplier's is answered as by the register that holds this supplier alone, and does the
 /// same to the supplier's rows.
 pub fn own_step_is_alone()
     ensures { OwnStepIsAlone }
@@ -62,20 +62,20 @@ pub fn opening_is_alone()
     ensures { OpeningIsAlone }
 {}
 
-/// Whatever is asked of the register, each supplier has the answers and the rows that it would have
-/// in a register of its own.
+/// Whatever is asked of a sound register, each supplier has the answers and the rows that it would
+/// have in a register of its own, asked only what is the supplier's.
 pub fn run_is_alone()
     ensures { RunIsAlone }
 {}
 
-/// Two registers that are alike in a supplier's rows, and asked alike what is the supplier's, give it
-/// the same answers and stay alike in its rows.
+/// Two sound registers under one cluster file that are alike in a supplier's rows, and asked alike
+/// what is the supplier's, give it the same answers and stay alike in its rows.
 pub fn equal_views()
     ensures { EqualViews }
 {}
 
-/// Beside other suppliers an integrator's command that concerns a supplier is answered as alone, but
-/// for a grant of what another holds.
+/// An integrator's command that is common or names a supplier is answered as alone, but that a Grant
+/// which is done alone is Taken exactly where another supplier holds slot and channel.
 pub fn one_dependence()
     ensures { OneDependence }
 {}
