@@ -1,6 +1,6 @@
 -- What is one supplier's, computed on small registers.
 use Rattle.std.proofs.Common.{◌≡◌, ℕ, false, List, get_or, [], ◌∷◌, ◌++◌, None, map, refl, codes}
-use Rattle.std.specs.Prelude.{⊤, ◌+◌, ◌/◌, ◌%◌}
+use Rattle.std.specs.Prelude.{⊤, ◌+◌, ◌/◌, ◌%◌, nat_lt, if◌then◌else◌}
 use Rattle.std.specs.List.{range_with_len}
 use Rattle.fr_base.specs.Tables.{each}
 use Rattle.fr_base.specs.Book.{opening}
@@ -28,7 +28,7 @@ answers_for s asks = answers_of s asks (answers asks)
 
 -- the answers of a new register that holds the supplier alone
 abbrev pub answers_alone : List ℕ → List Ask → List Answer
-answers_alone s asks = answers_to (alone s cluster) (rows_of s (opening cluster)) asks
+answers_alone s asks = answers_to (alone s cluster) (opening (alone s cluster)) asks
 
 -- a variant, a node of `s1`, a grant to it, a frame, and its placement in the first cycle
 unfoldable pub planned : List Ask
@@ -50,9 +50,13 @@ answered =
     ∷ Sent false (record { cycle = 0; slot = 1; channel = ch.A; frame = codes "f1"; node = codes "n1"; supplier = codes "s1" } ∷ [])
     ∷ []
 
--- `f001`, `f002`, ..
+-- `f1`, `f2`, ..
 abbrev pub numbered : ℕ → List ℕ
-numbered n = 102 ∷ (48 + (n / 100)) ∷ (48 + ((n / 10) % 10)) ∷ (48 + (n % 10)) ∷ []
+numbered n =
+    102
+    ∷ (if nat_lt n 10 then (48 + n) ∷ []
+    else if nat_lt n 100 then (48 + (n / 10)) ∷ (48 + (n % 10)) ∷ []
+    else (48 + (n / 100)) ∷ (48 + ((n / 10) % 10)) ∷ (48 + (n % 10)) ∷ [])
 
 -- others' lines: a node of `s2`, grants of what `s1` holds and of the other channel, and more frames than a supplier may have
 unfoldable pub between : ℕ → List Ask
