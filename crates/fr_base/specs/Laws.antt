@@ -108,6 +108,10 @@ OtherStepLeavesRows = (c : Cluster) (b : Book) (s : Name) (actor : Actor) (reque
 abbrev pub OpeningIsAlone : Type 0
 OpeningIsAlone = (c : Cluster) (s : Name) → opening (alone s c) ≡ rows_of s (opening c)
 
+-- One step after another is a run, in which no request is answered Unavailable.
+abbrev pub StepsAreARun : Type 0
+StepsAreARun = (c : Cluster) (b : Book) (asks : List Ask) → IsRun c b asks (answers_to c b asks) (book_after c b asks)
+
 -- Whatever is asked, by whomever, in any order, from any sound book: the register that holds the supplier alone and begins
 -- with its rows, asked only what is the supplier's, gives the supplier the same answers one by one, answers Done to each of the integrator's
 -- commands among them, and ends with the supplier's rows.

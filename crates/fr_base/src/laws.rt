@@ -1,4 +1,4 @@
-ghost use Rattle.fr_base.specs.Laws.{EqualViews, FirstTakenIsOwn, HolderSends, OneDependence, OneFrameInACell, OpeningIsAlone, OpeningIsSound, OtherStepLeavesRows, OwnStepIsAlone, ReleaseFreezes, ReleasedAnswersStay, RunIsAlone, RunKeepsSound, ScheduleIsOwn, StepKeepsSound};
+ghost use Rattle.fr_base.specs.Laws.{EqualViews, FirstTakenIsOwn, HolderSends, OneDependence, OneFrameInACell, OpeningIsAlone, OpeningIsSound, OtherStepLeavesRows, OwnStepIsAlone, ReleaseFreezes, ReleasedAnswersStay, RunIsAlone, RunKeepsSound, ScheduleIsOwn, StepKeepsSound, StepsAreARun};
 
 /// The book of a new register is sound.
 pub fn opening_is_sound()
@@ -60,6 +60,11 @@ pub fn other_step_leaves_rows()
 /// A supplier's rows of a new register are a new register of the supplier alone.
 pub fn opening_is_alone()
     ensures { OpeningIsAlone }
+{}
+
+/// One step after another is a run.
+pub fn steps_are_a_run()
+    ensures { StepsAreARun }
 {}
 
 /// Whatever is asked of a sound register, each supplier has the answers and the rows that it would

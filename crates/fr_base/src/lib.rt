@@ -32,6 +32,7 @@ pub use laws::{
     equal_views, first_taken_is_own, holder_sends, one_dependence, one_frame_in_a_cell,
     opening_is_alone, opening_is_sound, other_step_leaves_rows, own_step_is_alone, release_freezes,
     released_answers_stay, run_is_alone, run_keeps_sound, schedule_is_own, step_keeps_sound,
+    steps_are_a_run,
 };
 pub use name::Name;
 pub use params::{ParamFault, Params, RawParams};
