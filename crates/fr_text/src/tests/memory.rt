@@ -29,11 +29,8 @@ fn read_again(alloc: Global, line: &str) -> Result<Request, Refusal> {
     }
 }
 
-#[test]
-fn a_request_is_read_again(rt: HostRuntime) -> Result<(), Fail> {
-    let line =
-        r#"{"do":"add_signal","variant":"v1","frame":"f1","signal":"x","start":4,"length":8,"order":"big"}"#;
-    match read_again(rt.alloc(), line)? {
+fn is_the_signal(request: &Request) -> bool {
+    match request {
         Request::AddSignal {
             variant,
             frame,
@@ -42,27 +39,41 @@ fn a_request_is_read_again(rt: HostRuntime) -> Result<(), Fail> {
             length,
             order,
         } => {
-            assert!(rt; variant.as_str() == "v1" && frame.as_str() == "f1");
-            assert!(rt; signal.as_str() == "x" && order.as_str() == "big");
-            assert_eq!(rt; (start, length), (4, 8));
+            variant.as_str() == "v1"
+                && frame.as_str() == "f1"
+                && signal.as_str() == "x"
+                && *start == 4
+                && *length == 8
+                && order.as_str() == "big"
         }
-        _ => assert!(rt; false),
+        _ => false,
     }
+}
+
+#[test]
+fn a_request_is_read_again(rt: HostRuntime) -> Result<(), Fail> {
+    let line =
+        r#"{"do":"add_signal","variant":"v1","frame":"f1","signal":"x","start":4,"length":8,"order":"big"}"#;
+    let request = read_again(rt.alloc(), line)?;
+    assert!(rt; is_the_signal(&request));
     Ok(())
+}
+
+fn is_opened_from_v1(request: &Request) -> bool {
+    match request {
+        Request::OpenVariant { variant, parent } => match parent {
+            Some(parent) => variant.as_str() == "v2" && parent.as_str() == "v1",
+            None => false,
+        },
+        _ => false,
+    }
 }
 
 #[test]
 fn a_parent_is_read_again(rt: HostRuntime) -> Result<(), Fail> {
     let line = r#"{"do":"open_variant","variant":"v2","from":"v1"}"#;
-    match read_again(rt.alloc(), line)? {
-        Request::OpenVariant {
-            variant,
-            parent: Some(parent),
-        } => {
-            assert!(rt; variant.as_str() == "v2" && parent.as_str() == "v1");
-        }
-        _ => assert!(rt; false),
-    }
+    let request = read_again(rt.alloc(), line)?;
+    assert!(rt; is_opened_from_v1(&request));
     Ok(())
 }
 
@@ -104,7 +115,7 @@ fn an_answer_is_appended_again(rt: HostRuntime) -> Result<(), Fail> {
             assert!(rt; out.as_slice() == br#"{"ok":"done"}"#.as_slice());
             append_answer(answer, &mut out)?;
         }
-        assert_eq!(rt; out.len(), 13 + json);
+        assert_eq!(rt; out.len().checked_sub(13), Some(json));
     }
     Ok(())
 }
