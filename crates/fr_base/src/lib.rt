@@ -5,6 +5,7 @@
 
 mod actor;
 mod answer;
+mod body;
 mod channel;
 mod checks;
 mod config;
@@ -23,6 +24,7 @@ mod slot;
 mod text;
 
 pub use answer::{Answer, FrameRow, GapRow, GrantRow, Sending, SignalRow};
+pub use body::Body;
 pub use channel::{Channel, Channels};
 pub use checks::check;
 pub use config::{Config, MAX_SUPPLIERS, Supplier, Suppliers};

@@ -1,5 +1,5 @@
--- What an edit makes of a page.
-use Rattle.std.specs.Prelude.{◌≡◌, not, Bool, true, false, List, [], ◌∷◌, filter, Option, Some, None, IsTrue, IsFalse, ⊤}
+-- What an edit makes of a page, and which edits a page takes.
+use Rattle.std.specs.Prelude.{◌≡◌, not, Bool, true, false, List, [], ◌∷◌, filter, Option, Some, None, IfSome, ⊤}
 use Rattle.std.specs.Str.{bytes_eq}
 use Rattle.fr_base.specs.Tables.{get, contains, empty, insert, remove}
 use Rattle.fr_base.specs.Book.{Frame, Holder}
@@ -7,7 +7,8 @@ use Rattle.fr_base.specs.Layouts.{with_signal}
 use Rattle.fr_base.specs.Step.{Page}
 use Rattle.fr_base.specs.declared.name.Name.{Name}
 use Rattle.fr_world.specs.declared.edit.Edit.{Edit}
-use Rattle.fr_world.specs.declared.edit.Edit.TheVariants.{NewVariant, SetReleased, NewNode, PutGrant, EndGrant, NewFrame, EndFrame, PutPlacement, EndPlacement, PutSignal, EndSignal}
+use Rattle.fr_world.specs.Pages.{IsPage}
+use Rattle.fr_world.specs.declared.edit.Edit.TheVariants.{NewVariant, SetReleased, NewNode, PutGrant, EndGrant, NewFrame, EndFrame, PutPlacement, EndPlacement, PutSignal, EndSignal, KeepImport}
 
 -- the page with one of its frames changed, if it has it
 abbrev pub change_at : Page → Name × Name → Option Frame → (Frame → Frame) → Page
@@ -35,7 +36,7 @@ abbrev pub releases : Edit → Bool
 releases (SetReleased v) = true
 releases _ = false
 
--- the supplier whose row it is, if it is one's
+-- the supplier whose row it is, where the edit names one
 abbrev pub supplier_of : Edit → Option Name
 supplier_of (NewNode s n) = Some s
 supplier_of (PutGrant v k c s n) = Some s
@@ -45,4 +46,38 @@ supplier_of (PutPlacement v s f q) = Some s
 supplier_of (EndPlacement v s f q) = Some s
 supplier_of (PutSignal v s f x) = Some s
 supplier_of (EndSignal v s f x) = Some s
+supplier_of (KeepImport s label v body rows) = Some s
 supplier_of _ = None
+
+-- the variant that the row is in, where it is in one
+abbrev pub variant_of : Edit → Option Name
+variant_of (NewVariant v parent depth) = Some v
+variant_of (SetReleased v) = Some v
+variant_of (NewNode s n) = None
+variant_of (PutGrant v k c s n) = Some v
+variant_of (EndGrant v k c) = Some v
+variant_of (NewFrame v s f n) = Some v
+variant_of (EndFrame v s f) = Some v
+variant_of (PutPlacement v s f q) = Some v
+variant_of (EndPlacement v s f q) = Some v
+variant_of (PutSignal v s f x) = Some v
+variant_of (EndSignal v s f x) = Some v
+variant_of (KeepImport s label v body rows) = Some v
+
+-- whether a page has such rows
+abbrev pub is_of_page : Edit → Bool
+is_of_page (NewVariant v parent depth) = false
+is_of_page (KeepImport s label v body rows) = false
+is_of_page _ = true
+
+-- The supplier's page of the variant takes the edit: it is one of theirs, and leaves rows that a page has.
+pub record Takes (v : Name) (page : Page) (edit : Edit) : Type 0 where
+  pub kind : is_of_page edit ≡ true
+  pub supplier : IfSome (supplier_of edit) (λ s. s ≡ page.supplier)
+  pub variant : IfSome (variant_of edit) (λ w. w ≡ v)
+  pub leaves : IsPage (edited page edit)
+
+-- The page takes the edits, one after the other, and then it is the last.
+abbrev pub Leads : Name → Page → List Edit → Page → Type 0
+Leads v page [] last = last ≡ page
+Leads v page (edit ∷ edits) last = Takes v page edit × Leads v (edited page edit) edits last

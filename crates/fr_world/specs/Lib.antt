@@ -2,6 +2,8 @@ pub mod Maps
 pub mod Pages
 pub mod Decisions
 pub mod Edits
+pub mod Changes
+pub mod Laws
 pub mod Spots
 pub mod Occupancies
 pub mod Common

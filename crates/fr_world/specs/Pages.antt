@@ -1,13 +1,13 @@
 -- A supplier's rows of a variant, in maps and sets, as the register's page; and which rows a page has.
 use Rattle.std.specs.Prelude.{◌≡◌, ℕ, ◌≤◌, Bool, List, map, IsTrue, All, AllPairs, Option, Some}
 use Rattle.fr_base.specs.Limits.{max_nodes, max_frames, max_placements}
-use Rattle.fr_base.specs.Tables.{get, len}
+use Rattle.fr_base.specs.Tables.{get, len, only}
 use Rattle.fr_base.specs.Keys.{owned, channel_slots, placement_order}
 use Rattle.fr_base.specs.Cells.{Cell, has_cell}
 use Rattle.fr_base.specs.Layouts.{LayoutData, IsLayout}
 use Rattle.fr_base.specs.Book as book
-use Rattle.fr_base.specs.Book.{Owner, granted, placements_of}
-use Rattle.fr_base.specs.Step.{Page, layout_of}
+use Rattle.fr_base.specs.Book.{Owner, held_by, granted, placements_of}
+use Rattle.fr_base.specs.Step.{Page, is_of, layout_of}
 use Rattle.fr_base.specs.Queries.{placements_in}
 use Rattle.fr_base.specs.Sound.{FitsCluster}
 use Rattle.fr_base.specs.declared.name.Name.{Name}
@@ -16,6 +16,7 @@ use Rattle.fr_base.specs.declared.placement.Placement.{Placement}
 use Rattle.fr_world.specs.Maps.{table_of, set_of}
 use Rattle.fr_world.specs.declared.page.ChannelSlot.{ChannelSlot}
 use Rattle.fr_world.specs.declared.page.PageFrame.{PageFrame}
+use Rattle.fr_world.specs.declared.page.PageRows.{PageRows}
 
 -- a frame's rows
 pub record FrameData : Type 0 where
@@ -38,6 +39,18 @@ frame_data f = record { node = f.node; placements = f.placements.keys; layout = 
 
 abbrev pub frames_data : List (Name × PageFrame) → List (Name × FrameData)
 frames_data frames = map (λ e. (e.0, frame_data e.1)) frames
+
+-- what the rows are
+abbrev pub rows_data : PageRows → PageData
+rows_data r = record {
+  params = r.params;
+  supplier = r.supplier;
+  variant = r.variant;
+  released = r.released;
+  nodes = r.nodes.keys;
+  grants = r.grants.entries;
+  frames = frames_data r.frames.entries;
+}
 
 abbrev pub frame_of : FrameData → book.Frame
 frame_of f = record { node = f.node; placements = set_of placement_order (λ q. q) f.placements; signals = f.layout.signals }
@@ -77,3 +90,30 @@ pub record IsPage (page : Page) : Type 0 where
 pub record IsKept (rows : PageData) : Type 0 where
   pub page : IsPage (page_of rows)
   pub words : All (λ e. e.1.layout.words ≡ rows.params.payload_words) rows.frames
+
+-- ---- a page of the register
+
+-- the nodes of a supplier, in order
+unfoldable pub nodes_in : book.Book → Name → List Name
+nodes_in b s = map (λ e. e.0.1) (only (λ k _. is_of s k) b.nodes).rows
+
+-- which of its nodes holds which slot and channel, by slot and channel
+unfoldable pub grants_in : Name → book.Variant → List (ChannelSlot × Name)
+grants_in s x = map (λ e. (record { slot = e.0.0; channel = e.0.1 }, e.1.node)) (only (λ _ h. held_by s (Some h)) x.grants).rows
+
+-- its frames, by their names
+unfoldable pub frames_in : Params → Name → book.Variant → List (Name × FrameData)
+frames_in p s x =
+    map (λ e. (e.0.1, record { node = e.1.node; placements = placements_in e.1; layout = layout_of p e.1 })) (only (λ k _. is_of s k) x.frames).rows
+
+-- the rows of a supplier in a variant of the register
+abbrev pub page_in : Params → book.Book → Name → Name → book.Variant → PageData
+page_in p b s v x = record {
+  params = p;
+  supplier = s;
+  variant = v;
+  released = x.released;
+  nodes = nodes_in b s;
+  grants = grants_in s x;
+  frames = frames_in p s x;
+}

@@ -1,7 +1,7 @@
-use fr_base::{Channel, Name, Placement, Signal, Slot};
+use fr_base::{Body, Channel, Name, Placement, Signal, Slot};
 
 /// A change of one row, with the row's key and, where it adds the row, all of it.
-#[derive(Clone, Copy, Debug, PartialEq, Eq)]
+#[derive(Debug, Drop, PartialEq, Eq)]
 pub enum Edit {
     /// A variant, empty or with all rows of its parent. One without a parent has depth 1, another one
     /// more than its parent.
@@ -66,5 +66,13 @@ pub enum Edit {
         supplier: Name,
         frame: Name,
         signal: Name,
+    },
+    /// A supplier's import, with the number of its rows.
+    KeepImport {
+        supplier: Name,
+        label: Name,
+        variant: Name,
+        body: Body,
+        rows: u32,
     },
 }

@@ -1,0 +1,66 @@
+ghost use Rattle.std.specs.Prelude.{nat_eq};
+ghost use Rattle.std.specs.Cmp.Lexicographic.{pointwise, nat_list_eq_equiv};
+ghost use Rattle.std.specs.Cmp.{partial_equiv_from_equiv};
+
+use std::alloc::{AllocError, Global};
+use std::marker::Model;
+
+/// The bytes of an import, as they were sent.
+#[derive(Debug, Drop)]
+pub struct Body {
+    bytes: Vec<u8>,
+}
+
+impl Model for Body {
+    ghost use Rattle.std.specs.Prelude.{List, ℕ};
+
+    ghost Value = { List ℕ };
+
+    ghost view = { λ b. b.bytes.items };
+}
+
+impl Body {
+    ghost use Rattle.std.specs.Prelude.{◌≡◌, IfOk};
+
+    /// A body of its own with the same bytes.
+    pub fn copy(alloc: Global, bytes: &[u8]) -> Result<Body, AllocError>
+        ensures { IfOk result (λ b. b ≡ bytes.now) }
+    {
+        let mut copy = Vec::new(alloc);
+        copy.extend_from_slice(bytes)?;
+        Ok(Body { bytes: copy })
+    }
+
+    /// The bytes.
+    pub fn as_slice(&self) -> &[u8]
+        ensures { result.now ≡ self.now }
+    {
+        self.bytes.as_slice()
+    }
+}
+
+impl PartialEq for Body {
+    ghost eq = { pointwise nat_eq };
+
+    ghost laws = { partial_equiv_from_equiv nat_list_eq_equiv };
+
+    fn eq(&self, other: &Self) -> bool {
+        self.as_slice() == other.as_slice()
+    }
+}
+
+impl Eq for Body {
+    ghost laws = { nat_list_eq_equiv };
+}
+
+#[cfg(test)]
+mod tests {
+    use super::*;
+    use std::test::Fail;
+
+    #[test]
+    fn copies(rt: HostRuntime) -> Result<(), Fail> {
+        assert!(rt; Body::copy(rt.alloc(), b"f1,n1\r\n")?.as_slice() == b"f1,n1\r\n");
+        Ok(())
+    }
+}
