@@ -9,3 +9,5 @@ pub mod Asked
 pub mod Output
 pub mod Words
 pub mod Endings
+pub mod Plans
+pub mod Registers
