@@ -74,7 +74,7 @@ impl Model for Page {
 
 impl Page {
     ghost use Rattle.std.specs.Prelude.{◌≡◌};
-    ghost use Rattle.fr_world.specs.Pages.{frames_data};
+    ghost use Rattle.fr_world.specs.Pages.{IsKept, frames_data};
 
     /// The cluster's parameters.
     pub fn params(&self) -> Params
@@ -120,7 +120,8 @@ impl Page {
 
     /// The supplier's frames.
     pub fn frames(&self) -> &BTreeMap<Name, PageFrame>
-        ensures { frames_data result.now.entries ≡ self.now.frames }
+        ensures value { frames_data result.now.entries ≡ self.now.frames }
+        ensures kept { IsKept self.now }
     {
         &self.frames
     }
