@@ -8,3 +8,5 @@ pub mod AmongLaws
 pub mod GapLaws
 pub mod MomentLaws
 pub mod WalkLaws
+pub mod ApartLaws
+pub mod LeadsLaws

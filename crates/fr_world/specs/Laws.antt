@@ -3,6 +3,7 @@ use Rattle.std.specs.Prelude.{◌≡◌, ℕ, Some, Ok, IsTrue}
 use Rattle.fr_base.specs.Refusing.{◌>>=◌, ◌>>◌, refuse◌when◌}
 use Rattle.fr_base.specs.Tables.{get, contains}
 use Rattle.fr_base.specs.Cluster.{Cluster}
+use Rattle.fr_base.specs.Parameters.{check_params}
 use Rattle.fr_base.specs.Book.{Variant, Book}
 use Rattle.fr_base.specs.Sound.{IsSound}
 use Rattle.fr_base.specs.Step as register
@@ -28,10 +29,10 @@ SoundRowsAreAPage = (c : Cluster) (b : Book) (s v : Name) (x : Variant) → IsSo
 abbrev pub RowsAreTheRegisters : Type 0
 RowsAreTheRegisters = (c : Cluster) (b : Book) (s v : Name) (x : Variant) → page_of (page_in c.params b s v x) ≡ register.page_of c.params b s x
 
--- What a page's decision makes of it: the page takes its edits, one after the other, and they lead to what the command makes of
--- the page.
+-- What a page's decision makes of it, where its parameters make a cluster: the page takes its edits, one after the other, and
+-- they lead to what the command makes of the page.
 abbrev pub DecisionLeads : Type 0
-DecisionLeads = (rows : PageData) (command : Command) (after : register.Page) →
+DecisionLeads = (rows : PageData) (command : Command) (after : register.Page) → check_params rows.params ≡ Ok rows.params →
     IsKept rows → IsFor rows.supplier rows.variant command → IsChecked rows.params command → decided rows command ≡ Ok after →
     Leads rows.variant (page_of rows) (edits_of rows.supplier command) after
 

@@ -4,6 +4,7 @@
 
 mod edit;
 mod gap;
+mod laws;
 mod nodes;
 mod occupancy;
 mod page;
@@ -14,6 +15,7 @@ mod variants;
 
 pub use edit::Edit;
 pub use gap::greatest_gap;
+pub use laws::decision_leads;
 pub use nodes::decide_node;
 pub use occupancy::{Occupancy, TakenCell};
 pub use page::{ChannelSlot, Page, PageFrame, PageRows};
