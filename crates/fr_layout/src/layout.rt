@@ -11,7 +11,7 @@ use crate::signals::{
     first_after, first_too_large, has_signal, image, index_of, user_of, values_in,
 };
 use fr_base::{Name, Refusal, Signal};
-use std::alloc::Global;
+use std::alloc::{AllocError, Global};
 use std::marker::Model;
 
 /// How many signals a layout has at most.
@@ -36,6 +36,18 @@ impl Model for Layout {
     ghost view = { λ l. record { words = l.words; signals = l.signals.items } };
 
     ghost invariant = { λ l. IsKept (record { words = l.words; signals = l.signals.items }) l.used.words };
+}
+
+impl Clone for Layout {
+    ghost is_clone = { λ l n. n ≡ l };
+
+    fn clone(&self) -> Result<Layout, AllocError> {
+        Ok(Layout {
+            words: self.words,
+            signals: self.signals.clone()?,
+            used: self.used,
+        })
+    }
 }
 
 impl Layout {

@@ -1,5 +1,6 @@
 use fr_base::{Channel, Name, Params, Placement, Slot};
 use fr_layout::Layout;
+use std::alloc::AllocError;
 use std::collections::{BTreeMap, BTreeSet};
 use std::marker::Model;
 
@@ -17,6 +18,21 @@ pub struct PageFrame {
     pub node: Name,
     pub placements: BTreeSet<Placement>,
     pub layout: Layout,
+}
+
+impl Clone for PageFrame {
+    ghost use Rattle.std.specs.Prelude.{◌≡◌};
+    ghost use Rattle.fr_world.specs.Pages.{frame_data};
+
+    ghost is_clone = { λ f g. frame_data g ≡ frame_data f };
+
+    fn clone(&self) -> Result<PageFrame, AllocError> {
+        Ok(PageFrame {
+            node: self.node,
+            placements: self.placements.clone()?,
+            layout: self.layout.clone()?,
+        })
+    }
 }
 
 /// One supplier's rows in one variant: its nodes, which of them holds which slot and channel, and its

@@ -39,6 +39,19 @@ fn layout_and_text_calls_succeed(rt: HostRuntime) -> Result<(), Fail> {
 }
 
 #[test]
+fn clone_stands_alone(rt: HostRuntime) -> Result<(), Fail> {
+    let layout = both(rt.alloc())?;
+    let mut copy = layout.clone()?;
+    assert_eq!(rt; copy.signals(), layout.signals());
+    let again = signal("z", 0, 4, Order::Little)?;
+    assert_eq!(rt; copy.admits(&again).err(), layout.admits(&again).err());
+    copy.remove(Name::read("x").ok_or("no name")?)?;
+    assert_eq!(rt; copy.signals().len(), 1);
+    assert_eq!(rt; layout.signals().len(), 2);
+    Ok(())
+}
+
+#[test]
 fn both_orders_packed(rt: HostRuntime) -> Result<(), Fail> {
     let alone = [
         (signal("y", 3, 8, Order::Big)?, [0x0a, 0xb0]),
