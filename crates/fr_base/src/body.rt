@@ -60,7 +60,7 @@ mod tests {
 
     #[test]
     fn copies(rt: HostRuntime) -> Result<(), Fail> {
-        assert!(rt; Body::copy(rt.alloc(), b"f1,n1\r\n")?.as_slice() == b"f1,n1\r\n");
+        assert!(rt; Body::copy(rt.alloc(), b"f1,n1\r\n")?.as_slice() == b"f1,n1\r\n".as_slice());
         Ok(())
     }
 }

@@ -59,3 +59,23 @@ impl<T> Rows<T> {
         self.rows.is_empty()
     }
 }
+
+#[cfg(test)]
+mod tests {
+    use super::Rows;
+    use std::test::Fail;
+
+    #[test]
+    fn grows_at_its_end(rt: HostRuntime) -> Result<(), Fail> {
+        let mut rows = Rows::new(rt.alloc());
+        assert!(rt; rows.is_empty() && rows.as_slice().is_empty());
+        assert_eq!(rt; rows.len(), 0);
+        rows.push(7)?;
+        rows.push(3)?;
+        rows.push(7)?;
+        assert!(rt; !rows.is_empty());
+        assert_eq!(rt; rows.len(), 3);
+        assert!(rt; rows.as_slice() == [7, 3, 7].as_slice());
+        Ok(())
+    }
+}
