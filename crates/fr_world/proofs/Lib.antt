@@ -10,3 +10,4 @@ pub mod MomentLaws
 pub mod WalkLaws
 pub mod ApartLaws
 pub mod LeadsLaws
+pub mod PageLaws

@@ -1,4 +1,14 @@
-ghost use Rattle.fr_world.specs.Laws.{DecisionLeads};
+ghost use Rattle.fr_world.specs.Laws.{DecisionLeads, RowsAreTheRegisters, SoundRowsAreAPage};
+
+/// In a sound book a supplier's rows of a variant are a page's.
+pub fn sound_rows_are_a_page()
+    ensures { SoundRowsAreAPage }
+{}
+
+/// A supplier's rows of a variant stand for the register's page of them.
+pub fn rows_are_the_registers()
+    ensures { RowsAreTheRegisters }
+{}
 
 /// What a page decides leads it, row by row, to what the command makes of it.
 pub fn decision_leads()

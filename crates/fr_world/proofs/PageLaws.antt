@@ -1,0 +1,147 @@
+-- A supplier's rows of a register: they stand for the register's page, and in a sound book they are a page's.
+use Rattle.std.proofs.Common.{◌≡◌, ℕ, Bool, true, false, cond, List, [], ◌∷◌, map, filter, All, Option, Some, None, IsTrue, refl, sym, ap, subst, ◌∙◌, inl, inr}
+use Rattle.std.specs.Prelude.{T}
+use Rattle.std.specs.FinMap.Entries.{is_sorted}
+use Rattle.std.proofs.lemmas.Bool.{cases_Bool, and_parts}
+use Rattle.fr_base.specs.Tables.{Order, Table, get, only, from_rows}
+use Rattle.fr_base.specs.Keys.{owned, channel_slots, placement_order}
+use Rattle.fr_base.specs.Channels.{channels_in}
+use Rattle.fr_base.specs.Cluster.{Cluster}
+use Rattle.fr_base.specs.Book.{Frame, Holder, Variant, Book, held_by, held_by_node, granted}
+use Rattle.fr_base.specs.Queries.{placements_in}
+use Rattle.fr_base.specs.Step as register
+use Rattle.fr_base.specs.Step.{is_of, layout_of}
+use Rattle.fr_base.specs.Sound.{FitsCluster, IsSoundVariant, IsSound}
+use Rattle.fr_base.specs.declared.channel.Channel.{Channel}
+use Rattle.fr_base.specs.declared.name.Name.{Name}
+use Rattle.fr_base.specs.declared.params.Params.{Params}
+use Rattle.fr_base.specs.declared.placement.Placement.{Placement}
+use Rattle.fr_base.proofs.TableLaws.{same_rows, rows-from_rows, get-only, kept}
+use Rattle.fr_base.proofs.SoundTables.{only-stood}
+use Rattle.fr_base.proofs.SoundRows.{same_text-is, all_more}
+use Rattle.fr_world.specs.Maps.{table_of, set_of}
+use Rattle.fr_world.specs.Pages.{FrameData, frame_of, holder_of, page_of, IsPageFrame, IsPage, IsKept, nodes_in, grants_in, frames_in, page_in}
+use Rattle.fr_world.proofs.AmongLaws.{In, map-In}
+use Rattle.fr_world.proofs.ApartLaws.{In-All, contained-all, none_shared-pairs}
+
+-- ---- rows there and back
+
+-- the table of a table's rows is that table
+from_rows-same : {K V : Type 0} (o : Order K) (t : Table o V) (es : List (K × V)) → es ≡ t.rows → from_rows {o = o} es ≡ t
+from_rows-same o t es e = same_rows _ _ (rows-from_rows o es (subst (λ rows. T (is_sorted o.compare rows)) (sym e) t.sorted) ∙ e)
+
+-- what is the same there and back
+there_and_back : {X Y : Type 0} (to : X → Y) (back : Y → X) (xs : List X) → ((x : X) → In x xs → back (to x) ≡ x) → map back (map to xs) ≡ xs
+there_and_back to back [] same = refl
+there_and_back to back (x ∷ xs) same = λ i. same x (inl refl) i ∷ there_and_back to back xs (λ y j. same y (inr j)) i
+
+-- what is left passes the test, and stood there before
+filter-In : {X : Type 0} (p : X → Bool) (x : X) (xs : List X) → In x (filter p xs) → IsTrue (p x) × In x xs
+filter-In p x [] i = absurd i
+filter-In p x (y ∷ ys) i = by_test (p y) refl i (filter-In p x ys)
+  where
+    by_test : (b : Bool) → p y ≡ b → In x (cond b (y ∷ filter p ys) (filter p ys)) → (In x (filter p ys) → IsTrue (p x) × In x ys) → IsTrue (p x) × In x (y ∷ ys)
+    by_test true e (inl same) later = (ap p (sym same) ∙ e, inl same)
+    by_test true e (inr j) later = ((later j).0, inr (later j).1)
+    by_test false e j later = ((later j).0, inr (later j).1)
+
+-- the table of rows that were made of those that pass a test
+only-back : {K V Y : Type 0} (o : Order K) (p : K → V → Bool) (t : Table o V) (to : K × V → Y) (back : Y → K × V) →
+    ((e : K × V) → IsTrue (p e.0 e.1) → back (to e) ≡ e) → from_rows {o = o} (map back (map to (only p t).rows)) ≡ only p t
+unfolding only
+only-back o p t to back same = from_rows-same o (only p t) _ (there_and_back to back (only p t).rows (λ e i. same e (filter-In (λ e. p e.0 e.1) e t.rows i).0))
+
+-- ---- the rows are the register's
+
+-- a frame's placements, in a set
+placements-back : (f : Frame) → set_of placement_order (λ q. q) (placements_in f) ≡ f.placements
+unfolding set_of
+placements-back f = from_rows-same placement_order f.placements _ (there_and_back (λ e. e.0) (λ q. (q, tt)) f.placements.rows (λ e i. refl))
+
+module _ (p : Params) (b : Book) (s : Name) (x : Variant) where
+  nodes-back : set_of owned (λ n. (s, n)) (nodes_in b s) ≡ only (λ k _. is_of s k) b.nodes
+  unfolding set_of nodes_in
+  nodes-back = only-back owned (λ k _. is_of s k) b.nodes (λ e. e.0.1) (λ n. ((s, n), tt)) (λ e own i. ((sym (same_text-is e.0.0 s own) i, e.0.1), tt))
+
+  grants-back : table_of channel_slots (λ k. (k.slot, k.channel)) (holder_of s) (grants_in s x) ≡ only (λ _ h. held_by s (Some h)) x.grants
+  unfolding table_of grants_in
+  grants-back = only-back channel_slots (λ _ h. held_by s (Some h)) x.grants
+      (λ e. (record { slot = e.0.0; channel = e.0.1 }, e.1.node)) (λ e. ((e.0.slot, e.0.channel), holder_of s e.1))
+      (λ e own i. (e.0, record { supplier = sym (same_text-is e.1.supplier s own) i; node = e.1.node }))
+
+  frames-back : table_of owned (λ f. (s, f)) frame_of (frames_in p s x) ≡ only (λ k _. is_of s k) x.frames
+  unfolding table_of frames_in
+  frames-back = only-back owned (λ k _. is_of s k) x.frames
+      (λ e. (e.0.1, record { node = e.1.node; placements = placements_in e.1; layout = layout_of p e.1 })) (λ e. ((s, e.0), frame_of e.1))
+      (λ e own i. ((sym (same_text-is e.0.0 s own) i, e.0.1), record { node = e.1.node; placements = placements-back e.1 i; signals = e.1.signals }))
+
+pub rows-registers : (c : Cluster) (b : Book) (s v : Name) (x : Variant) → page_of (page_in c.params b s v x) ≡ register.page_of c.params b s x
+unfolding register.page_of
+rows-registers c b s v x = λ i. record {
+  params = c.params;
+  supplier = s;
+  nodes = nodes-back c.params b s x i;
+  grants = grants-back c.params b s x i;
+  frames = frames-back c.params b s x i;
+}
+
+-- ---- in a sound book they are a page's
+
+module _ (c : Cluster) (b : Book) (s v : Name) (x : Variant) (sound : IsSound c b) (there : get b.variants v ≡ Some x) where
+  abbrev fine : IsSoundVariant c.params b.nodes x
+  fine = (sound.variants v x there).1
+
+  abbrev mine : Table channel_slots Holder
+  mine = only (λ _ h. held_by s (Some h)) x.grants
+
+  -- what a supplier holds is on its page
+  held-page : (n : Name) (o : Option Holder) (at : ℕ × Channel) → IsTrue (held_by_node s n o) → IsTrue (held_by_node s n (kept (λ _ h. held_by s (Some h)) at o))
+  held-page n None at h = h
+  held-page n (Some g) at h = ap (λ t. held_by_node s n (cond t (Some g) None)) (and_parts _ _ h).0 ∙ h
+
+  granted-page : (n : Name) (q : Placement) → IsTrue (granted x.grants s n q) → IsTrue (granted mine s n q)
+  unfolding granted
+  granted-page n q = all_more _ _ (channels_in q.channels) (λ d h.
+      ap (held_by_node s n) (get-only channel_slots (λ _ h. held_by s (Some h)) x.grants (q.slot, d)) ∙ held-page n (get x.grants (q.slot, d)) (q.slot, d) h)
+
+  -- a frame of the supplier is the supplier's
+  own_key : (k : Name × Name) (o : Option Frame) (f : Frame) → kept (λ j _. is_of s j) k o ≡ Some f → k.0 ≡ s
+  own_key k None f e = cc
+  own_key k (Some g) f e = elim (cases_Bool (is_of s k)) [
+    | inl own ↦ same_text-is k.0 s own
+    | inr other ↦ let none : None ≡ Some f = sym (ap (λ t. cond t (Some g) None) other) ∙ e in cc
+  ]
+
+  frame-page : (k : Name × Name) (f : Frame) → get (only (λ j _. is_of s j) x.frames) k ≡ Some f → IsPageFrame (register.page_of c.params b s x) f
+  unfolding register.page_of
+  frame-page k f at =
+      let old = fine.frames k f (only-stood owned (λ j _. is_of s j) x.frames k f at) in
+      let own : k.0 ≡ s = own_key k (get x.frames k) f (sym (get-only owned (λ j _. is_of s j) x.frames k) ∙ at) in
+      record {
+        few = old.limit;
+        fits = contained-all (FitsCluster c.params) f old.fits;
+        in_grants = contained-all (λ q. IsTrue (granted mine s f.node q)) f (λ q h. granted-page f.node q (subst (λ t. IsTrue (granted x.grants t f.node q)) own (old.in_grants q h)));
+        layout = old.layout;
+      }
+
+  sound-page : IsPage (register.page_of c.params b s x)
+  unfolding register.page_of
+  sound-page =
+      let stood = only-stood owned (λ j _. is_of s j) x.frames in
+      record {
+        nodes = sound.node_limit s;
+        frames = fine.frame_limit s;
+        each = frame-page;
+        apart = none_shared-pairs (only (λ j _. is_of s j) x.frames) (λ k l f g q r d at_k at_l. fine.apart k l f g q r d (stood k f at_k) (stood l g at_l));
+      }
+
+-- each layout is that of the cluster's payload
+words-in : (p : Params) (s : Name) (x : Variant) → All (λ e. e.1.layout.words ≡ p.payload_words) (frames_in p s x)
+unfolding frames_in
+words-in p s x = In-All _ (frames_in p s x) (λ e i. let found = map-In _ e (only (λ k _. is_of s k) x.frames).rows i in ap (λ (d : Name × FrameData). d.1.layout.words) (sym found.2))
+
+pub rows-kept : (c : Cluster) (b : Book) (s v : Name) (x : Variant) → IsSound c b → get b.variants v ≡ Some x → IsKept (page_in c.params b s v x)
+rows-kept c b s v x sound there = record {
+  page = subst IsPage (sym (rows-registers c b s v x)) (sound-page c b s v x sound there);
+  words = words-in c.params s x;
+}
