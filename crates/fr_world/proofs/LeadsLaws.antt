@@ -263,7 +263,7 @@ both_hold P Q (Ok a) p q = (p, q)
 both_hold P Q (Err e) p q = tt
 
 -- the signals that are added, or left
-added : (l : LayoutData) (s : SignalData) → IfOk (layouts.add_signal l s) (λ m. m.signals ≡ with_signal s l.signals)
+pub added : (l : LayoutData) (s : SignalData) → IfOk (layouts.add_signal l s) (λ m. m.signals ≡ with_signal s l.signals)
 unfolding layouts.add_signal
 added l s =
     gives_when _ _ _ _ (λ _.
@@ -271,7 +271,7 @@ added l s =
     gives_unless _ _ _ _ (λ _.
     gives_then _ _ _ (λ _ _. refl))))
 
-removed : (l : LayoutData) (name : List ℕ) → IfOk (layouts.remove_signal l name) (λ m. m.signals ≡ filter (λ t. not (bytes_eq t.name name)) l.signals)
+pub removed : (l : LayoutData) (name : List ℕ) → IfOk (layouts.remove_signal l name) (λ m. m.signals ≡ filter (λ t. not (bytes_eq t.name name)) l.signals)
 unfolding layouts.remove_signal
 removed l name = gives_unless _ _ _ _ (λ _. refl)
 

@@ -11,3 +11,4 @@ pub mod WalkLaws
 pub mod ApartLaws
 pub mod LeadsLaws
 pub mod PageLaws
+pub mod StepLaws

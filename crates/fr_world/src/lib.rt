@@ -15,7 +15,7 @@ mod variants;
 
 pub use edit::Edit;
 pub use gap::greatest_gap;
-pub use laws::{decision_leads, rows_are_the_registers, sound_rows_are_a_page};
+pub use laws::{decision_leads, rows_are_the_registers, sound_rows_are_a_page, supplier_decides};
 pub use nodes::decide_node;
 pub use occupancy::{Occupancy, TakenCell};
 pub use page::{ChannelSlot, Page, PageFrame, PageRows};
