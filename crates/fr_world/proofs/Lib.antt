@@ -12,3 +12,6 @@ pub mod ApartLaws
 pub mod LeadsLaws
 pub mod PageLaws
 pub mod StepLaws
+pub mod ScheduleLaws
+pub mod PlacedLaws
+pub mod FrameLaws

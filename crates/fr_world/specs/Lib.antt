@@ -8,3 +8,4 @@ pub mod Spots
 pub mod Occupancies
 pub mod Common
 pub mod Nodes
+pub mod Sendings

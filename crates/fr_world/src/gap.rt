@@ -7,7 +7,7 @@ ghost use Rattle.fr_base.specs.Sound.{FitsCluster};
 use fr_base::{CYCLE_COUNT, Params, Placement};
 
 /// How many placements a frame has at most.
-const MAX_PLACEMENTS: usize = 8;
+pub(crate) const MAX_PLACEMENTS: usize = 8;
 
 /// The longest time from a moment at which a frame with these placements is sent to the next such moment,
 /// in macroticks on the ring of all cycles. A moment is the start of a slot, so cells on A and on B at once

@@ -3,21 +3,29 @@
 #![tactic(auto)]
 
 mod edit;
+mod frame_rows;
 mod gap;
 mod laws;
 mod nodes;
 mod occupancy;
 mod page;
+mod page_sendings;
+mod placed;
 mod row_occupancy;
 mod same;
+mod sendings;
 mod spot;
 mod variants;
 
 pub use edit::Edit;
+pub use frame_rows::{frame_row, gap_row, push_signal_rows};
 pub use gap::greatest_gap;
 pub use laws::{decision_leads, rows_are_the_registers, sound_rows_are_a_page, supplier_decides};
 pub use nodes::decide_node;
 pub use occupancy::{Occupancy, TakenCell};
 pub use page::{ChannelSlot, Page, PageFrame, PageRows};
+pub use page_sendings::sent;
+pub use placed::{Placed, push_placed};
 pub use row_occupancy::RowOccupancy;
+pub use sendings::{push_sendings, schedule};
 pub use variants::{VariantRow, decide_common};

@@ -1,0 +1,43 @@
+-- What is sent in which cell, where placements are given with their senders, and by a page's frames.
+use Rattle.std.specs.Prelude.{ℕ, ◌==◌, Bool, List, [], ◌∷◌, map}
+use Rattle.std.specs.List.{list_any}
+use Rattle.fr_base.specs.Cells.{Cell, cells_in, slots_of}
+use Rattle.fr_base.specs.Channels.{channels_in}
+use Rattle.fr_base.specs.Cycles.{has_cycle}
+use Rattle.fr_base.specs.Schedule.{entries, fill}
+use Rattle.fr_base.specs.Book.{Frame, Owner, schedule_of}
+use Rattle.fr_base.specs.Queries.{sending}
+use Rattle.fr_base.specs.Step.{Page}
+use Rattle.fr_base.specs.declared.answer.Sending.{Sending}
+use Rattle.fr_base.specs.declared.name.Name.{Name}
+use Rattle.fr_base.specs.declared.params.Params.{Params}
+use Rattle.fr_base.specs.declared.placement.Placement.{Placement}
+use Rattle.fr_world.specs.declared.placed.Placed.{Placed}
+
+-- the placements, each with its owner
+abbrev pub filled : List Placed → List (Owner × Placement)
+filled placed = map (λ p. (record { supplier = p.supplier; frame = p.frame; node = p.node }, p.placement)) placed
+
+-- the frame's placements, each with its owner
+abbrev pub filled_by : Name × Name → Frame → List (Owner × Placement)
+filled_by k f = map (λ row. (record { supplier = k.0; frame = k.1; node = f.node }, row.0)) f.placements.rows
+
+-- whether it is sent in the cycle
+abbrev pub is_due : ℕ → Placed → Bool
+is_due cycle p = has_cycle p.placement.cycles cycle
+
+-- whether one of them is in the slot
+abbrev pub is_used : List Placed → ℕ → Bool
+is_used placed slot = list_any (λ p. slot == p.placement.slot) placed
+
+-- the cluster's cells of a cycle, by slot and channel
+abbrev pub cycle_cells : Params → ℕ → List Cell
+cycle_cells p cycle = cells_in (cycle ∷ []) (slots_of p) (channels_in p.channels)
+
+-- what is sent in these cells, where owners fill them so
+unfoldable pub sent_in : List (Owner × Placement) → List Cell → List Sending
+sent_in filled cells = map sending (entries (fill filled) cells)
+
+-- what the page's frames send in the cycle, by slot and channel
+unfoldable pub page_sendings : Page → ℕ → List Sending
+page_sendings page cycle = map sending (entries (schedule_of page.frames) (cycle_cells page.params cycle))
