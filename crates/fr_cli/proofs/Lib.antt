@@ -11,3 +11,5 @@ pub mod TakenLaws
 pub mod ScheduleLaws
 pub mod OutputLaws
 pub mod EndingLaws
+pub mod KeptLaws
+pub mod OwnLaws

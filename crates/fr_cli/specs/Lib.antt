@@ -11,3 +11,4 @@ pub mod Words
 pub mod Endings
 pub mod Plans
 pub mod Registers
+pub mod Kept

@@ -6,6 +6,7 @@ mod commands;
 mod input;
 mod lines;
 mod output;
+mod pages;
 mod plan;
 mod program;
 mod register;

@@ -1,3 +1,6 @@
+ghost use Rattle.std.specs.Prelude.{◌≡◌};
+ghost use Rattle.fr_base.specs.Cluster.{same_text};
+
 use fr_base::Name;
 use fr_world::{ChannelSlot, PageFrame};
 use std::collections::BTreeMap;
@@ -9,11 +12,29 @@ pub(crate) struct Owned {
     pub(crate) name: Name,
 }
 
+impl Owned {
+    /// Whether it is this supplier's.
+    pub(crate) fn is_of(&self, supplier: Name) -> bool
+        ensures { result ≡ same_text self.now.supplier supplier }
+    {
+        self.supplier == supplier
+    }
+}
+
 /// A supplier's node that holds a slot on a channel.
 #[derive(Clone, Copy, Debug, PartialEq, Eq)]
 pub(crate) struct Holder {
     pub(crate) supplier: Name,
     pub(crate) node: Name,
+}
+
+impl Holder {
+    /// Whether it is this supplier.
+    pub(crate) fn is_of(&self, supplier: Name) -> bool
+        ensures { result ≡ same_text self.now.supplier supplier }
+    {
+        self.supplier == supplier
+    }
 }
 
 /// The rows of a variant: where it comes from, who holds which slot on which channel, and the frames of
