@@ -15,3 +15,4 @@ pub mod StepLaws
 pub mod ScheduleLaws
 pub mod PlacedLaws
 pub mod FrameLaws
+pub mod IntegratorLaws

@@ -1,5 +1,5 @@
 -- A `BTreeMap`'s entries beside the table that they stand for.
-use Rattle.std.proofs.Common.{◌≡◌, ℕ, suc, count_by, Bor, Bool, true, false, not, ◌&&◌, ◌||◌, cond, List, [], ◌∷◌, map, filter, length, Option, Some, None, Result, Ok, Err, OnErr, is_some, option_map, refl, sym, ap, subst, ◌∙◌, arith, Ordering, Less, Equal, Greater}
+use Rattle.std.proofs.Common.{◌≡◌, suc, count_by, Bor, Bool, true, false, ◌||◌, cond, List, [], ◌∷◌, map, filter, length, Option, Some, None, Result, Ok, Err, OnErr, is_some, option_map, refl, sym, ap, subst, ◌∙◌, Ordering, Less, Equal, Greater}
 use Rattle.std.specs.Prelude.{T, ⊤}
 use Rattle.std.specs.Option.{option_copied}
 use Rattle.std.specs.Ordering.{is_lt, is_eq, eq_by_cmp, match_ordering}
@@ -11,8 +11,8 @@ use Rattle.std.specs.List.{AllByRecursion, list_any}
 use Rattle.std.specs.List.Sorted.{IsStrictlySortedBy}
 use Rattle.std.proofs.lemmas.List.{length-map}
 use Rattle.std.proofs.lemmas.List.Sums.{length-filter}
-use Rattle.fr_base.specs.TableRows.{both, first, second}
-use Rattle.fr_base.specs.Tables.{Order, Table, get, contains, len, insert, only, from_rows}
+use Rattle.fr_base.specs.TableRows.{both}
+use Rattle.fr_base.specs.Tables.{Order, get, contains, len, insert, only, from_rows}
 use Rattle.fr_base.proofs.TableLaws.{insert-same, same_rows, same_table, get-insert, rows-from_rows, get-from_rows}
 use Rattle.fr_world.specs.Maps.{table_of, set_of}
 

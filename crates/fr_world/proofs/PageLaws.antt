@@ -58,11 +58,12 @@ placements-back : (f : Frame) → set_of placement_order (λ q. q) (placements_i
 unfolding set_of
 placements-back f = from_rows-same placement_order f.placements _ (there_and_back (λ e. e.0) (λ q. (q, tt)) f.placements.rows (λ e i. refl))
 
-module _ (p : Params) (b : Book) (s : Name) (x : Variant) where
-  nodes-back : set_of owned (λ n. (s, n)) (nodes_in b s) ≡ only (λ k _. is_of s k) b.nodes
-  unfolding set_of nodes_in
-  nodes-back = only-back owned (λ k _. is_of s k) b.nodes (λ e. e.0.1) (λ n. ((s, n), tt)) (λ e own i. ((sym (same_text-is e.0.0 s own) i, e.0.1), tt))
+-- its nodes are the register's
+pub nodes-back : (b : Book) (s : Name) → set_of owned (λ n. (s, n)) (nodes_in b s) ≡ only (λ k _. is_of s k) b.nodes
+unfolding set_of nodes_in
+nodes-back b s = only-back owned (λ k _. is_of s k) b.nodes (λ e. e.0.1) (λ n. ((s, n), tt)) (λ e own i. ((sym (same_text-is e.0.0 s own) i, e.0.1), tt))
 
+module _ (p : Params) (s : Name) (x : Variant) where
   grants-back : table_of channel_slots (λ k. (k.slot, k.channel)) (holder_of s) (grants_in s x) ≡ only (λ _ h. held_by s (Some h)) x.grants
   unfolding table_of grants_in
   grants-back = only-back channel_slots (λ _ h. held_by s (Some h)) x.grants
@@ -80,9 +81,9 @@ unfolding register.page_of
 rows-registers c b s v x = λ i. record {
   params = c.params;
   supplier = s;
-  nodes = nodes-back c.params b s x i;
-  grants = grants-back c.params b s x i;
-  frames = frames-back c.params b s x i;
+  nodes = nodes-back b s i;
+  grants = grants-back c.params s x i;
+  frames = frames-back c.params s x i;
 }
 
 -- ---- in a sound book they are a page's

@@ -1,47 +1,40 @@
 -- What is decided on a supplier's page is the register's step.
-use Rattle.std.proofs.Common.{◌≡◌, ℕ, Bool, true, false, not, ◌&&◌, cond, List, [], ◌∷◌, ◌++◌, map, filter, flat_map, Option, Some, None, is_some, Result, Ok, Err, IfOk, IsTrue, refl, sym, ap, ◌∙◌, inl, inr}
-use Rattle.std.specs.Prelude.{⊤, ◌||◌}
-use Rattle.std.specs.List.{list_any}
+use Rattle.std.proofs.Common.{◌≡◌, Bool, true, false, not, [], ◌∷◌, filter, Option, Some, Result, Ok, Err, IfOk, refl, sym, ap, ◌∙◌}
 use Rattle.std.specs.Str.{bytes_eq}
-use Rattle.std.proofs.lemmas.Bool.{cases_Bool}
 use Rattle.fr_base.specs.Refusing.{◌>>=◌, ◌>>◌, ◌or◌, refuse◌when◌}
-use Rattle.fr_base.specs.Tables.{Table, empty, get, contains, insert, remove, only, becomes}
-use Rattle.fr_base.specs.Keys.{owned, channel_slots}
+use Rattle.fr_base.specs.Tables.{empty, get, insert, remove, only, becomes}
+use Rattle.fr_base.specs.Keys.{owned}
 use Rattle.fr_base.specs.Layouts as layouts
 use Rattle.fr_base.specs.Layouts.{LayoutData, with_signal}
 use Rattle.fr_base.specs.Signals.{SignalData}
-use Rattle.fr_base.specs.Cluster.{Cluster, same_text}
-use Rattle.fr_base.specs.Book.{Frame, Holder, Variant, Book, Owner, held_by, held_by_node, placements_of, schedule_of}
+use Rattle.fr_base.specs.Cluster.{Cluster}
+use Rattle.fr_base.specs.Book.{Frame, Variant, Book, schedule_of}
 use Rattle.fr_base.specs.Step as register
 use Rattle.fr_base.specs.Step.{Page, Filled, is_of, with_variant, fills, in_use, grant, revoke, layout_of, add_frame, drop_frame, place, unplace, add_signal, drop_signal, on_frame, by_integrator, by_supplier}
 use Rattle.fr_base.specs.Sound.{IsSound}
-use Rattle.fr_base.specs.declared.channel.Channel.{Channel}
 use Rattle.fr_base.specs.declared.name.Name.{Name}
 use Rattle.fr_base.specs.declared.placement.Placement.{Placement}
 use Rattle.fr_base.specs.declared.refusal.Refusal.{Refusal}
-use Rattle.fr_base.specs.declared.refusal.Refusal.TheVariants.{NoVariant, Released, NoSupplier, NoNode, Exists, NodeDiffers, Taken, NotGranted, InUse}
+use Rattle.fr_base.specs.declared.refusal.Refusal.TheVariants.{NoVariant, Released}
 use Rattle.fr_base.specs.declared.request.Command.{Command}
 use Rattle.fr_base.specs.declared.request.Command.TheVariants.{OpenVariant, Release, AddNode, Grant, Revoke, AddFrame, DropFrame, Place, Unplace, AddSignal, DropSignal}
-use Rattle.fr_base.proofs.TableLaws.{get-only, kept}
 use Rattle.fr_base.proofs.SoundTables.{only-stood}
 use Rattle.fr_base.proofs.SoundRefusing.{gives_or, gives_bind, gives_then, gives_when, gives_unless}
-use Rattle.fr_base.proofs.AloneCells.{entries_of, same_text-itself}
-use Rattle.fr_base.proofs.AloneTables.{get-own}
 use Rattle.fr_base.proofs.AloneFrames.{place-page}
 use Rattle.fr_world.specs.Changes.{changed, changes, changed_at, reframed}
 use Rattle.fr_world.specs.Decisions.{IsIn, after, framed, decided, decision, edits_of}
-use Rattle.fr_world.specs.Pages.{page_of, page_in}
+use Rattle.fr_world.specs.Pages.{page_in}
 use Rattle.fr_world.specs.declared.edit.Edit.{Edit}
-use Rattle.fr_world.specs.declared.edit.Edit.TheVariants.{PutGrant, EndGrant, NewFrame, EndFrame, PutPlacement, EndPlacement, PutSignal, EndSignal}
+use Rattle.fr_world.specs.declared.edit.Edit.TheVariants.{NewFrame, EndFrame, PutPlacement, EndPlacement, PutSignal, EndSignal}
 use Rattle.fr_world.proofs.LeadsLaws.{added, removed}
 use Rattle.fr_world.proofs.PageLaws.{rows-registers}
 
 -- what a page of the register decides for a variant that is released or not, and what the edits then make of the book
-abbrev told : Book → Bool → Page → Name → Command → Result Book Refusal
+abbrev pub told : Book → Bool → Page → Name → Command → Result Book Refusal
 told b released page s command = (((refuse Released when released) >> after page command) >> Ok (edits_of s command)) >>= λ edits. Ok (changes b edits)
 
 module _ (c : Cluster) (b : Book) (s v : Name) (x : Variant) where
-  told-decision : (command : Command) → told b x.released (register.page_of c.params b s x) s command ≡ (decision (page_in c.params b s v x) command >>= λ edits. Ok (changes b edits))
+  pub told-decision : (command : Command) → told b x.released (register.page_of c.params b s x) s command ≡ (decision (page_in c.params b s v x) command >>= λ edits. Ok (changes b edits))
   unfolding decision decided
   told-decision command = ap (λ page. told b x.released page s command) (sym (rows-registers c b s v x))
 
@@ -147,52 +140,3 @@ by_supplier-told c b s v x (Revoke w k d t) sound there here = absurd here
 pub supplier-decides : (c : Cluster) (b : Book) (s v : Name) (x : Variant) (command : Command) → IsSound c b → get b.variants v ≡ Some x → IsIn v command →
     by_supplier c.params b s command ≡ (decision (page_in c.params b s v x) command >>= λ edits. Ok (changes b edits))
 supplier-decides c b s v x command sound there here = by_supplier-told c b s v x command sound there here ∙ told-decision c b s v x command
-
--- ---- a grant to a supplier, and its end
-
--- what another holds, the supplier does not
-held-own : (s : Name) (at : ℕ × Channel) (o : Option Holder) → held_by s (kept (λ _ h. held_by s (Some h)) at o) ≡ held_by s o
-held-own s at None = refl
-held-own s at (Some h) = elim (same_text h.supplier s) as (λ t. same_text h.supplier s ≡ t → held_by s (cond t (Some h) None) ≡ t) [ true ↦ λ e. e | false ↦ λ e. refl ] refl
-
-held_node-own : (s n : Name) (at : ℕ × Channel) (o : Option Holder) → held_by_node s n (kept (λ _ h. held_by s (Some h)) at o) ≡ held_by_node s n o
-held_node-own s n at None = refl
-held_node-own s n at (Some h) = elim (same_text h.supplier s) as (λ t. same_text h.supplier s ≡ t → held_by_node s n (cond t (Some h) None) ≡ (t && same_text h.node n)) [ true ↦ λ e. ap (λ t. t && same_text h.node n) e | false ↦ λ e. refl ] refl
-
-module _ (s : Name) (at : ℕ × Channel) where
-  uses_it : Owner × Placement → Bool
-  uses_it e = same_text e.0.supplier s && fills at e.1
-
-  any-append : (xs ys zs : List (Owner × Placement)) → list_any uses_it ys ≡ list_any uses_it zs → list_any uses_it (xs ++ ys) ≡ list_any uses_it (xs ++ zs)
-  any-append [] ys zs e = e
-  any-append (x ∷ xs) ys zs e = ap (λ t. uses_it x || t) (any-append xs ys zs e)
-
-  none_uses : (o : Owner) (ps : List (Placement × ⊤)) (rest : List (Owner × Placement)) → same_text o.supplier s ≡ false → list_any uses_it (map (λ q. (o, q.0)) ps ++ rest) ≡ list_any uses_it rest
-  unfolding uses_it
-  none_uses o [] rest other = refl
-  none_uses o (p ∷ ps) rest other = rw other (none_uses o ps rest other)
-
-  own_uses : (rows : List ((Name × Name) × Frame)) → list_any uses_it (flat_map entries_of (filter (λ e. is_of s e.0) rows)) ≡ list_any uses_it (flat_map entries_of rows)
-  own_uses [] = refl
-  own_uses (row ∷ rows) = elim (cases_Bool (is_of s row.0)) [
-    | inl own ↦ rw own (any-append (entries_of row) _ _ (own_uses rows))
-    | inr other ↦ rw other (own_uses rows ∙ sym (none_uses _ row.1.placements.rows (flat_map entries_of rows) other))
-  ]
-
-  -- others' frames are no use of the supplier's
-  in_use-own : (frames : Table owned Frame) → in_use s at (only (λ k _. is_of s k) frames) ≡ in_use s at frames
-  unfolding in_use uses_it only placements_of
-  in_use-own frames = own_uses frames.rows
-
--- two lists of refusals, line by line
-granted-alike : {E B : Type 0} (e g h i j k : E) (released has node own taken : Bool) (last : B) →
-    ((refuse e when released) >> ((refuse g when not true) >> ((refuse h when not has) >> ((refuse i when node) >> ((refuse j when own) >> ((refuse k when taken) >> Ok last))))))
-    ≡ ((refuse e when released) >> ((refuse h when not has) >> ((refuse i when node) >> ((refuse j when own) >> ((refuse k when taken) >> Ok last)))))
-unfolding ◌>>◌ refuse◌when◌
-granted-alike e g h i j k true has node own taken last = refl
-granted-alike e g h i j k false has node own taken last = refl
-
-then-bind : {A B D E : Type 0} (r : Result A E) (u : Result B E) (f : B → Result D E) → ((r >> u) >>= f) ≡ (r >> (u >>= f))
-unfolding ◌>>◌ ◌>>=◌
-then-bind (Ok a) u f = refl
-then-bind (Err e) u f = refl

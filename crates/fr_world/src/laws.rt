@@ -1,4 +1,4 @@
-ghost use Rattle.fr_world.specs.Laws.{DecisionLeads, RowsAreTheRegisters, SoundRowsAreAPage, SupplierDecides};
+ghost use Rattle.fr_world.specs.Laws.{CommonDecides, DecisionLeads, GrantDecides, NodeDecides, RevokeDecides, RowsAreTheRegisters, SoundRowsAreAPage, SupplierDecides};
 
 /// In a sound book a supplier's rows of a variant are a page's.
 pub fn sound_rows_are_a_page()
@@ -19,4 +19,26 @@ pub fn decision_leads()
 /// of the book what the page's edits make of it.
 pub fn supplier_decides()
     ensures { SupplierDecides }
+{}
+
+/// A grant to a supplier is refused as on the supplier's page of the variant, and then `Taken` where
+/// slot and channel are held, or makes of the book what the page's edits make of it.
+pub fn grant_decides()
+    ensures { GrantDecides }
+{}
+
+/// The end of a grant is refused as on the supplier's page of the variant, or makes of the book what
+/// the page's edits make of it.
+pub fn revoke_decides()
+    ensures { RevokeDecides }
+{}
+
+/// A node for a supplier is decided by the supplier's nodes.
+pub fn node_decides()
+    ensures { NodeDecides }
+{}
+
+/// A command on all suppliers is decided by the list of variants.
+pub fn common_decides()
+    ensures { CommonDecides }
 {}

@@ -1,0 +1,5 @@
+use Rattle.fr_world.proofs.IntegratorLaws.{revoke-decides}
+use Rattle.fr_world.proofs.laws.revoke_decides.Goals as goal
+
+pub returns : goal.returns
+returns c = revoke-decides
