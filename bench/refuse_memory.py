@@ -32,6 +32,25 @@ void *realloc(void *p, size_t n) { return refused() ? 0 : __libc_realloc(p, n); 
 """
 
 
+class Refuser:
+    """A library, made in this folder, that refuses one allocation of a program it is loaded into."""
+
+    def __init__(self, room):
+        source, self.library, self.mark = (Path(room) / name for name in ("refuser.c", "refuser.so", "mark"))
+        source.write_text(REFUSER)
+        subprocess.run(["cc", "-shared", "-fPIC", "-o", self.library, source], check=True)
+
+    def refusing(self, call):
+        """The environment in which this allocation is refused, counted from 1."""
+        return {"LD_PRELOAD": str(self.library), "REFUSED_CALL": str(call), "REFUSED_MARK": str(self.mark)}
+
+    def has_refused(self):
+        """Whether the last run came to the allocation that was to be refused."""
+        refused = self.mark.exists()
+        self.mark.unlink(missing_ok=True)
+        return refused
+
+
 def run(program, script, more=None):
     ended = subprocess.run([program, "run"], input=script, env={**os.environ, **(more or {})}, capture_output=True)
     return ended.stdout, ended.stderr, ended.returncode
@@ -69,15 +88,11 @@ def main():
         sys.exit("the answers are not those beside the script")
     ended = unavailable = calls = 0
     with tempfile.TemporaryDirectory() as room:
-        source, library, mark = (Path(room) / name for name in ("refuser.c", "refuser.so", "mark"))
-        source.write_text(REFUSER)
-        subprocess.run(["cc", "-shared", "-fPIC", "-o", library, source], check=True)
+        refuser = Refuser(room)
         while True:
-            refused = {"LD_PRELOAD": str(library), "REFUSED_CALL": str(calls + 1), "REFUSED_MARK": str(mark)}
-            out, err, status = run(given.program, script, refused)
-            if not mark.exists():
+            out, err, status = run(given.program, script, refuser.refusing(calls + 1))
+            if not refuser.has_refused():
                 break
-            mark.unlink()
             calls += 1
             wrong = fault_of(given.program, script, out, err, status)
             if wrong:
