@@ -16,3 +16,7 @@ pub mod ScheduleLaws
 pub mod PlacedLaws
 pub mod FrameLaws
 pub mod IntegratorLaws
+pub mod RemoveLaws
+pub mod AmendLaws
+pub mod AmendSignals
+pub mod AmendPages

@@ -9,3 +9,4 @@ pub mod Occupancies
 pub mod Common
 pub mod Nodes
 pub mod Sendings
+pub mod Amends

@@ -2,6 +2,7 @@
 //! gaps between the moments at which a frame is sent.
 #![tactic(auto)]
 
+mod amend;
 mod edit;
 mod frame_rows;
 mod gap;

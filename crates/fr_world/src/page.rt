@@ -53,13 +53,13 @@ pub struct PageRows {
 /// no cell is filled twice.
 #[derive(Drop)]
 pub struct Page {
-    params: Params,
-    supplier: Name,
-    variant: Name,
-    released: bool,
-    nodes: BTreeSet<Name>,
-    grants: BTreeMap<ChannelSlot, Name>,
-    frames: BTreeMap<Name, PageFrame>,
+    pub(crate) params: Params,
+    pub(crate) supplier: Name,
+    pub(crate) variant: Name,
+    pub(crate) released: bool,
+    pub(crate) nodes: BTreeSet<Name>,
+    pub(crate) grants: BTreeMap<ChannelSlot, Name>,
+    pub(crate) frames: BTreeMap<Name, PageFrame>,
 }
 
 impl Model for Page {
