@@ -25,7 +25,7 @@ pub room-below : (f : FrameData) (left rest room : List Placement) (n : ℕ) (q 
 room-below f left rest room n q o few size l e h =
     let front : length (take n room) ≡ n = length-take-le n room (omega (arith, size, l)) in
     let all : n + suc (length rest) ≡ length f.placements =
-        ap (λ m. m + suc (length rest)) (sym front) ∙ sym (length-append (take n room) (q ∷ rest)) ∙ ap (λ qs. length (take n room ++ qs)) (sym e) ∙ ap length h in
+    ap (λ m. m + suc (length rest)) (sym front) ∙ sym (length-append (take n room) (q ∷ rest)) ∙ ap (λ qs. length (take n room ++ qs)) (sym e) ∙ ap length h in
     omega (arith, all, few_keys f o few)
 
 -- one more is in the front of the room

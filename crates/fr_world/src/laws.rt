@@ -10,7 +10,8 @@ pub fn rows_are_the_registers()
     ensures { RowsAreTheRegisters }
 {}
 
-/// What a page decides leads it, row by row, to what the command makes of it.
+/// The edits that are decided on a page, whose parameters make a cluster, lead it, one after the
+/// other, to what the command makes of it; and each leaves rows that a page has.
 pub fn decision_leads()
     ensures { DecisionLeads }
 {}
