@@ -63,6 +63,14 @@ impl Layout {
         }
     }
 
+    /// How many words of two bytes the payload has, at most 127.
+    pub fn words(&self) -> u32
+        ensures value { result ≡ self.now.words }
+        ensures sound { IsLayout self.now }
+    {
+        self.words
+    }
+
     /// The signals, by their starts.
     pub fn signals(&self) -> &[Signal]
         ensures value { result.now ≡ self.now.signals }

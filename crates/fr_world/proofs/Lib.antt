@@ -20,3 +20,6 @@ pub mod RemoveLaws
 pub mod AmendLaws
 pub mod AmendSignals
 pub mod AmendPages
+pub mod BuildApart
+pub mod BuildFrames
+pub mod BuildLaws

@@ -10,3 +10,4 @@ pub mod Common
 pub mod Nodes
 pub mod Sendings
 pub mod Amends
+pub mod Building

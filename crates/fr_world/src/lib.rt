@@ -3,6 +3,7 @@
 #![tactic(auto)]
 
 mod amend;
+mod build;
 mod edit;
 mod frame_rows;
 mod gap;

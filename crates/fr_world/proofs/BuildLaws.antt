@@ -1,0 +1,158 @@
+-- When rows are a page's, by their maps and sets.
+use Rattle.std.proofs.Common.{◌≡◌, ◌<◌, ◌≤◌, Bool, true, false, cond, length, List, [], ◌∷◌, ◌++◌, map, flat_map, Some, refl, sym, ap, subst, ◌∙◌, inl, inr, arith, true≢false}
+use Rattle.std.specs.Prelude.{T}
+use Rattle.std.specs.Bool.{Decides}
+use Rattle.std.specs.List.{All, AllByRecursion, AllPairs}
+use Rattle.std.specs.List.Sorted.{IsStrictlySortedBy}
+use Rattle.std.specs.Map.{keys_of}
+use Rattle.std.specs.FinMap.Entries.{find, is_sorted}
+use Rattle.std.specs.Ordering.{eq_by_cmp}
+use Rattle.std.proofs.lemmas.Bool.{cases_Bool}
+use Rattle.std.proofs.lemmas.List.{get_or-map, length-map, map-append}
+use Rattle.std.proofs.lemmas.List.Elements.{All-from_recursion, All-map, recursion_from_All}
+use Rattle.std.proofs.lemmas.List.Folds.{flat_map-map}
+use Rattle.std.proofs.lemmas.Simd.{map-map}
+use Rattle.fr_base.specs.Book as book
+use Rattle.fr_base.specs.Book.{Owner, placements_of}
+use Rattle.fr_base.specs.Keys.{owned}
+use Rattle.fr_base.specs.Queries.{placements_in}
+use Rattle.fr_base.specs.TableRows.{first, second}
+use Rattle.fr_base.specs.Tables.{Order, Table, get, len}
+use Rattle.fr_base.specs.declared.name.Name.{Name}
+use Rattle.fr_base.specs.declared.placement.Placement.{Placement}
+use Rattle.fr_base.proofs.SoundTables.{same_key, same_some}
+use Rattle.fr_base.proofs.TableLaws.{equal, none_above}
+use Rattle.fr_world.specs.Building.{IsKeptFrame}
+use Rattle.fr_world.specs.Pages.{AreApart, IsKept, IsPageFrame, frame_data, frame_of, frames_data, page_of, rows_data}
+use Rattle.fr_world.specs.declared.page.PageFrame.{PageFrame}
+use Rattle.fr_world.specs.declared.page.PageRows.{PageRows}
+use Rattle.fr_world.proofs.BuildFrames.{All-from_map}
+use Rattle.fr_world.proofs.KeyLaws.{name_cmp, own_alike}
+use Rattle.fr_world.proofs.MapLaws.{len-set_of, len-table_of, rows-table_of}
+
+-- ---- what holds of each row of a table
+
+module _ {K V : Type 0} (o : Order K) (P : V → Type 0) where
+  found_holds : (es : List (K × V)) (k : K) (v : V) → AllByRecursion (λ e. P e.1) es → find o.compare k es ≡ Some v → P v
+  found_holds [] k v h found = cc
+  found_holds (e ∷ es) k v h found = elim (cases_Bool (eq_by_cmp o.compare k e.0)) [
+    | inl tie ↦ subst P (same_some e.1 v (ap (λ b. cond b (Some e.1) (find o.compare k es)) (sym tie) ∙ found)) h.0
+    | inr other ↦ found_holds es k v h.1 (ap (λ b. cond b (Some e.1) (find o.compare k es)) (sym other) ∙ found)
+  ]
+
+  holds_found : (es : List (K × V)) → T (is_sorted o.compare es) → ((k : K) (v : V) → find o.compare k es ≡ Some v → P v) → AllByRecursion (λ e. P e.1) es
+  holds_found [] sorted h = tt
+  holds_found (e ∷ es) sorted h = (
+    h e.0 e.1 (ap (λ b. cond b (Some e.1) (find o.compare e.0 es)) (same_key o e.0)),
+    holds_found es (second _ _ sorted) (λ k v found. h k v (elim (cases_Bool (eq_by_cmp o.compare k e.0)) [
+      | inl tie ↦ let none = none_above o (λ _ _. true) k e.0 es (equal _ tie) (first _ _ sorted) in cc
+      | inr other ↦ ap (λ b. cond b (Some e.1) (find o.compare k es)) other ∙ found
+    ])),
+  )
+
+  pub each_row : (t : Table o V) → All (λ e. P e.1) t.rows → (k : K) (v : V) → get t k ≡ Some v → P v
+  unfolding get
+  each_row t h k v found = found_holds t.rows k v (recursion_from_All (λ e. P e.1) t.rows h) found
+
+  pub all_rows : (t : Table o V) → ((k : K) (v : V) → get t k ≡ Some v → P v) → All (λ e. P e.1) t.rows
+  unfolding get
+  all_rows t h = All-from_recursion (λ e. P e.1) t.rows (holds_found t.rows t.sorted h)
+
+-- ---- pairs of images
+
+module _ {X Y : Type 0} (R : Y → Y → Type 0) (g : X → Y) where
+  AllPairs-from_map : (xs : List X) → AllPairs R (map g xs) → AllPairs (λ x y. R (g x) (g y)) xs
+  AllPairs-from_map xs h i j d low high =
+      subst (λ (p : Y × Y). R p.0 p.1) (λ k. (get_or-map g xs i d (g d) (omega (arith, low, high)) k, get_or-map g xs j d (g d) high k))
+      (h i j (g d) low (omega (arith, high, length-map xs g)))
+
+  AllPairs-map : (xs : List X) → AllPairs (λ x y. R (g x) (g y)) xs → AllPairs R (map g xs)
+  AllPairs-map [] h i j e low high = absurd (omega (arith, high))
+  AllPairs-map (x ∷ xs) h i j e low high =
+      let within : j < length (x ∷ xs) = omega (arith, high, length-map (x ∷ xs) g) in
+      subst (λ (p : Y × Y). R p.0 p.1) (λ k. (sym (get_or-map g (x ∷ xs) i x e (omega (arith, low, within))) k, sym (get_or-map g (x ∷ xs) j x e within) k))
+      (h i j x low within)
+
+pub none_of : {P : Type 0} → (¬ P) → Decides false P
+none_of none = (λ e. absurd (true≢false (sym e)), λ p. absurd (none p))
+
+-- ---- a page's rows
+
+abbrev frame_row : Name → Name × PageFrame → (Name × Name) × book.Frame
+frame_row s e = ((s, e.0), frame_of (frame_data e.1))
+
+abbrev with_owner : (Name × Name) × book.Frame → Placement → Owner × Placement
+with_owner row q = (record { supplier = row.0.0; frame = row.0.1; node = row.1.node }, q)
+
+-- the placements of some frames, without their owners
+without_owners : (rows : List ((Name × Name) × book.Frame)) → map (λ (x : Owner × Placement). x.1) (flat_map (λ row. map (λ q. with_owner row q.0) row.1.placements.rows) rows) ≡ flat_map (λ row. placements_in row.1) rows
+without_owners [] = refl
+without_owners (row ∷ rows) =
+    map-append (λ (x : Owner × Placement). x.1) (map (λ q. with_owner row q.0) row.1.placements.rows) (flat_map (λ row. map (λ q. with_owner row q.0) row.1.placements.rows) rows)
+    ∙ (λ i. map-map (λ (x : Owner × Placement). x.1) (λ q. with_owner row q.0) row.1.placements.rows i ++ without_owners rows i)
+
+keys-frames_data : (es : List (Name × PageFrame)) → keys_of (frames_data es) ≡ keys_of es
+keys-frames_data es = map-map (λ e. e.0) (λ e. (e.0, frame_data e.1)) es
+
+module _ (r : PageRows) (nodes_rise : IsStrictlySortedBy name_cmp r.nodes.keys) (frames_rise : IsStrictlySortedBy name_cmp (keys_of r.frames.entries)) where
+  rise : IsStrictlySortedBy name_cmp (keys_of (frames_data r.frames.entries))
+  rise = subst (IsStrictlySortedBy name_cmp) (sym (keys-frames_data r.frames.entries)) frames_rise
+
+  frame_rows : (page_of (rows_data r)).frames.rows ≡ map (frame_row r.supplier) r.frames.entries
+  frame_rows = rows-table_of name_cmp owned (λ f. (r.supplier, f)) frame_of (own_alike r.supplier) (frames_data r.frames.entries) rise ∙ map-map _ _ r.frames.entries
+
+  count_nodes : len (page_of (rows_data r)).nodes ≡ length r.nodes.keys
+  count_nodes = len-set_of name_cmp owned (λ n. (r.supplier, n)) (own_alike r.supplier) r.nodes.keys nodes_rise
+
+  count_frames : len (page_of (rows_data r)).frames ≡ length r.frames.entries
+  count_frames = len-table_of name_cmp owned (λ f. (r.supplier, f)) frame_of (own_alike r.supplier) (frames_data r.frames.entries) rise ∙ length-map r.frames.entries _
+
+  all_placements : map (λ (x : Owner × Placement). x.1) (placements_of (page_of (rows_data r)).frames) ≡ flat_map (λ e. placements_in (frame_of (frame_data e.1))) r.frames.entries
+  unfolding placements_of
+  all_placements =
+      without_owners (page_of (rows_data r)).frames.rows
+      ∙ ap (flat_map (λ row. placements_in row.1)) frame_rows
+      ∙ flat_map-map (λ row. placements_in row.1) (frame_row r.supplier) r.frames.entries
+
+  abbrev Frames : Type 0
+  Frames = All (λ e. IsKeptFrame (page_of (rows_data r)) (frame_data e.1)) r.frames.entries
+
+  kept_frames : IsKept (rows_data r) → Frames
+  kept_frames kept =
+      let each = All-from_map (λ e. IsPageFrame (page_of (rows_data r)) e.1) (frame_row r.supplier) r.frames.entries
+      (subst (All (λ e. IsPageFrame (page_of (rows_data r)) e.1)) frame_rows (all_rows owned (IsPageFrame (page_of (rows_data r))) (page_of (rows_data r)).frames kept.page.each)) in
+      let words = All-from_map (λ e. e.1.layout.words ≡ r.params.payload_words) (λ e. (e.0, frame_data e.1)) r.frames.entries kept.words in
+      λ i d low. (each i d low, words i d low)
+
+  kept_cells : IsKept (rows_data r) → AllPairs AreApart (flat_map (λ e. placements_in (frame_of (frame_data e.1))) r.frames.entries)
+  kept_cells kept = subst (AllPairs AreApart) all_placements (AllPairs-map AreApart (λ x. x.1) (placements_of (page_of (rows_data r)).frames) kept.page.apart)
+
+  kept : length r.nodes.keys ≤ 64 → length r.frames.entries ≤ 256 → Frames → AllPairs AreApart (flat_map (λ e. placements_in (frame_of (frame_data e.1))) r.frames.entries) → IsKept (rows_data r)
+  kept nodes frames each cells = record {
+    page = record {
+      nodes = omega (arith, count_nodes, nodes);
+      frames = omega (arith, count_frames, frames);
+      each = each_row owned (IsPageFrame (page_of (rows_data r))) (page_of (rows_data r)).frames
+          (subst (All (λ e. IsPageFrame (page_of (rows_data r)) e.1)) (sym frame_rows) (All-map (λ e. IsPageFrame (page_of (rows_data r)) e.1) (frame_row r.supplier) r.frames.entries (λ i d low. (each i d low).0)));
+      apart = AllPairs-from_map AreApart (λ x. x.1) (placements_of (page_of (rows_data r)).frames) (subst (AllPairs AreApart) (sym all_placements) cells);
+    };
+    words = All-map (λ e. e.1.layout.words ≡ r.params.payload_words) (λ e. (e.0, frame_data e.1)) r.frames.entries (λ i d low. (each i d low).1);
+  }
+
+  -- too many nodes, too many frames, or a frame that is none of a page
+  pub too_many_nodes : 64 < length r.nodes.keys → ¬ IsKept (rows_data r)
+  too_many_nodes many k = let few = k.page.nodes in omega (arith, few, many, count_nodes)
+
+  pub too_many_frames : 256 < length r.frames.entries → ¬ IsKept (rows_data r)
+  too_many_frames many k = let few = k.page.frames in omega (arith, few, many, count_frames)
+
+  pub other_frames : (are : Bool) → are ≡ false → Decides are Frames → ¬ IsKept (rows_data r)
+  other_frames are none frames k = true≢false (sym (frames.1 (kept_frames k)) ∙ none)
+
+  -- else they are a page's where no cell lies in two placements
+  pub kept_decided : (qs : List Placement) (are is : Bool) → length r.nodes.keys ≤ 64 → length r.frames.entries ≤ 256 → are ≡ true → Decides are Frames →
+      qs ≡ flat_map (λ e. placements_in (frame_of (frame_data e.1))) r.frames.entries → Decides is (AllPairs AreApart qs) → Decides is (IsKept (rows_data r))
+  kept_decided qs are is nodes frames whole each all cells = (
+    λ h. kept nodes frames (each.0 whole) (subst (AllPairs AreApart) all (cells.0 h)),
+    λ k. cells.1 (subst (AllPairs AreApart) (sym all) (kept_cells k)),
+  )

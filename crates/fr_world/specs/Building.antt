@@ -1,0 +1,39 @@
+-- By which tests rows are found to be a page's.
+use Rattle.std.specs.Prelude.{◌≡◌, ◌==◌, ◌&&◌, Bool, true, not, List, [], ◌∷◌, nat_le, find, take_while, is_some}
+use Rattle.std.specs.List.{list_any, list_all}
+use Rattle.fr_base.specs.Cells.{cells_of, has_cell}
+use Rattle.fr_base.specs.Channels.{channels_in, has_channel}
+use Rattle.fr_base.specs.Cycles.{cycle_count, is_cycle_set}
+use Rattle.fr_base.specs.Book.{granted}
+use Rattle.fr_base.specs.declared.name.Name.{Name}
+use Rattle.fr_base.specs.declared.params.Params.{Params}
+use Rattle.fr_base.specs.declared.placement.Placement.{Placement}
+use Rattle.fr_base.specs.Step.{Page}
+use Rattle.fr_world.specs.Pages.{FrameData, IsPageFrame, frame_of}
+
+-- whether the cluster has the placement's slot and channels, and its cycles are a set of cycles
+unfoldable pub fits : Params → Placement → Bool
+fits p q =
+    nat_le 1 q.slot && (nat_le q.slot p.static_slots
+    && (list_all (has_channel p.channels) (channels_in q.channels) && is_cycle_set cycle_count q.cycles.base q.cycles.repetition))
+
+-- and it lies in grants to the node
+unfoldable pub is_placed : Page → Name → Placement → Bool
+is_placed page n q = fits page.params q && granted page.grants page.supplier n q
+
+-- the frame is a page's, and its layout is that of the cluster's payload
+abbrev pub IsKeptFrame : Page → FrameData → Type 0
+IsKeptFrame page f = IsPageFrame page (frame_of f) × (f.layout.words ≡ page.params.payload_words)
+
+-- whether a cell lies in both placements
+unfoldable pub meet : Placement → Placement → Bool
+meet q r = is_some (find (has_cell r) (cells_of q))
+
+-- whether one of the first of these, as long as they are in the same slot, shares a cell with the placement
+unfoldable pub meets_next : Placement → List Placement → Bool
+meets_next q rs = list_any (meet q) (take_while (λ r. r.slot == q.slot) rs)
+
+-- whether no two of them that follow one another in a slot share a cell
+unfoldable pub none_meets : List Placement → Bool
+none_meets [] = true
+none_meets (q ∷ qs) = not (meets_next q qs) && none_meets qs

@@ -1,0 +1,57 @@
+//! Which rows are a page's.
+ghost use Rattle.std.specs.Prelude.{◌≡◌, IfNone, IfOk, IfSome};
+ghost use Rattle.std.specs.Bool.{Decides};
+ghost use Rattle.fr_world.specs.Pages.{IsKept, rows_data};
+
+mod apart;
+mod frames;
+mod placements;
+
+use crate::page::{Page, PageRows};
+use apart::no_cell_twice;
+use frames::are_frames;
+use placements::placements_of;
+use std::alloc::{AllocError, Global};
+
+/// The most nodes that a supplier has.
+const MAX_NODES: usize = 64;
+
+/// The most frames that a supplier has in a variant.
+const MAX_FRAMES: usize = 256;
+
+impl Page {
+    /// The page of these rows. `None` where they are not a page's: more than 64 nodes or 256 frames, or
+    /// in a frame more than 8 placements, a layout of another payload than the cluster's, a placement
+    /// past the static slots, on a channel that the cluster has not, or without a grant to the frame's
+    /// node; or a cell in two placements. Without a page the rows are given up.
+    pub fn build(alloc: Global, rows: PageRows) -> Result<Option<Page>, AllocError>
+        ensures page { IfOk result (λ built. IfSome built (λ page. page ≡ rows_data rows)) }
+        ensures kept { IfOk result (λ built. IfSome built (λ page. IsKept (rows_data rows))) }
+        ensures none { IfOk result (λ built. IfNone built (¬ IsKept (rows_data rows))) }
+    {
+        if !is_kept(alloc, &rows)? {
+            return Ok(None);
+        }
+        Ok(Some(Page {
+            params: rows.params,
+            supplier: rows.supplier,
+            variant: rows.variant,
+            released: rows.released,
+            nodes: rows.nodes,
+            grants: rows.grants,
+            frames: rows.frames,
+        }))
+    }
+}
+
+// Whether the rows are a page's.
+fn is_kept(alloc: Global, rows: &PageRows) -> Result<bool, AllocError>
+    ensures { IfOk result (λ is. Decides is (IsKept (rows_data rows.now))) }
+{
+    let nodes = rows.nodes.len();
+    let frames = rows.frames.len();
+    if nodes > MAX_NODES || frames > MAX_FRAMES || !are_frames(rows) {
+        return Ok(false);
+    }
+    Ok(no_cell_twice(placements_of(alloc, rows)?))
+}
