@@ -13,3 +13,5 @@ pub mod OutputLaws
 pub mod EndingLaws
 pub mod KeptLaws
 pub mod OwnLaws
+pub mod ShownLaws
+pub mod ListLaws

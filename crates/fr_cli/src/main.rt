@@ -5,6 +5,7 @@ mod book;
 mod commands;
 mod input;
 mod lines;
+mod lists;
 mod output;
 mod pages;
 mod plan;
