@@ -15,3 +15,5 @@ pub mod KeptLaws
 pub mod OwnLaws
 pub mod ShownLaws
 pub mod ListLaws
+pub mod PlanLaws
+pub mod ApplyLaws

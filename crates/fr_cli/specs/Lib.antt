@@ -12,3 +12,4 @@ pub mod Endings
 pub mod Plans
 pub mod Registers
 pub mod Kept
+pub mod Applied

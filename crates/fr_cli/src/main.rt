@@ -1,6 +1,7 @@
 //! The program `slotplan`.
 #![tactic(auto)]
 
+mod apply;
 mod book;
 mod commands;
 mod input;
