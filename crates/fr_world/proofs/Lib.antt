@@ -23,3 +23,5 @@ pub mod AmendPages
 pub mod BuildApart
 pub mod BuildFrames
 pub mod BuildLaws
+pub mod DecideRows
+pub mod DecideSteps

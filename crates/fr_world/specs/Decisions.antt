@@ -47,6 +47,12 @@ decided rows command = do
   refuse Released when rows.released
   after (page_of rows) command
 
+-- the edit, where the page admits the command; else the command's first refusal
+unfoldable pub admitted : Page → Command → Edit → Result Edit Refusal
+admitted page command edit = do
+  after page command
+  Ok edit
+
 -- the edits that bring a supplier's command, or a grant or its end to a supplier
 abbrev pub edits_of : Name → Command → List Edit
 edits_of s (Grant v k c t n) = PutGrant v k c s n ∷ []

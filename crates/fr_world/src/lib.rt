@@ -4,6 +4,7 @@
 
 mod amend;
 mod build;
+mod decide;
 mod edit;
 mod frame_rows;
 mod gap;
