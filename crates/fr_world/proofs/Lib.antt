@@ -25,3 +25,5 @@ pub mod BuildFrames
 pub mod BuildLaws
 pub mod DecideRows
 pub mod DecideSteps
+pub mod DecideFilling
+pub mod DecideAll

@@ -1,20 +1,32 @@
 -- What a command makes of a supplier's page: that supplier's commands, and the grants that name it.
-use Rattle.std.specs.Prelude.{◌≡◌, not, List, [], ◌∷◌, Option, Some, None, Result, Ok, Err, IsTrue, ⊤}
+use Rattle.std.specs.Prelude.{◌≡◌, not, List, [], ◌∷◌, map, Option, Some, None, Result, Ok, Err, IsTrue, ⊤}
 use Rattle.fr_base.specs.Refusing.{◌>>=◌, ◌>>◌, refuse◌when◌}
 use Rattle.fr_base.specs.Tables.{get, contains, insert, remove, becomes}
-use Rattle.fr_base.specs.Book.{Frame, held_by, held_by_node, schedule_of}
+use Rattle.fr_base.specs.Book.{Frame, Owner, held_by, held_by_node, schedule_of}
+use Rattle.fr_base.specs.Cells.{Cell}
+use Rattle.fr_base.specs.Queries.{placements_in}
 use Rattle.fr_base.specs.Step.{Page, in_use, add_frame, drop_frame, place, unplace, add_signal, drop_signal}
 use Rattle.fr_base.specs.Signals.{is_signal_length}
 use Rattle.fr_base.specs.Sound.{FitsCluster}
 use Rattle.fr_base.specs.declared.name.Name.{Name}
 use Rattle.fr_base.specs.declared.params.Params.{Params}
+use Rattle.fr_base.specs.declared.placement.Placement.{Placement}
 use Rattle.fr_base.specs.declared.refusal.Refusal.{Refusal}
 use Rattle.fr_base.specs.declared.refusal.Refusal.TheVariants.{NotYours, Released, NoNode, Exists, NodeDiffers, NotGranted, InUse}
 use Rattle.fr_base.specs.declared.request.Command.{Command}
 use Rattle.fr_base.specs.declared.request.Command.TheVariants.{OpenVariant, Release, AddNode, Grant, Revoke, AddFrame, DropFrame, Place, Unplace, AddSignal, DropSignal}
 use Rattle.fr_world.specs.Pages.{PageData, page_of}
 use Rattle.fr_world.specs.declared.edit.Edit.{Edit}
+use Rattle.fr_world.specs.declared.occupancy.TakenCell.{TakenCell}
 use Rattle.fr_world.specs.declared.edit.Edit.TheVariants.{PutGrant, EndGrant, NewFrame, EndFrame, PutPlacement, EndPlacement, PutSignal, EndSignal}
+
+-- a frame's placements, each with the frame's name
+abbrev pub filled_by : Name → Frame → List (Name × Placement)
+filled_by f frame = map (λ q. (f, q)) (placements_in frame)
+
+-- a filled cell, with its owner's frame
+abbrev pub taken_by : Cell × Owner → TakenCell
+taken_by e = record { cycle = e.0.cycle; channel = e.0.channel; frame = e.1.frame }
 
 -- the page after one of its frames became this, or went
 unfoldable pub framed : Page → Name → Result (Option Frame) Refusal → Result Page Refusal

@@ -5,6 +5,7 @@
 mod amend;
 mod build;
 mod decide;
+mod decision;
 mod edit;
 mod frame_rows;
 mod gap;
@@ -20,6 +21,7 @@ mod sendings;
 mod spot;
 mod variants;
 
+pub use decision::decide;
 pub use edit::Edit;
 pub use frame_rows::{frame_row, gap_row, push_signal_rows};
 pub use gap::greatest_gap;

@@ -1,0 +1,160 @@
+-- Frames and placements that lie apart fill cells that are free.
+use Rattle.std.proofs.Common.{◌≡◌, ℕ, suc, ◌<◌, Bool, true, false, cond, length, List, [], ◌∷◌, ◌++◌, map, flat_map, All, AllPairs, Option, Some, None, is_some, is_none, option_map, IsTrue, refl, sym, ap, subst, ◌∙◌, ◌⊎◌, inl, inr, arith, append_assoc}
+use Rattle.std.specs.Prelude.{⊤, ◌||◌}
+use Rattle.std.specs.List.{list_any}
+use Rattle.std.specs.List.Sorted.{IsStrictlySortedBy}
+use Rattle.std.specs.Map.{keys_of}
+use Rattle.std.specs.Cmp.{tied_itself, on_total, then_total, nat_cmp_total}
+use Rattle.std.specs.Ordering.{is_eq}
+use Rattle.std.proofs.lemmas.Bool.{cases_Bool}
+use Rattle.std.proofs.lemmas.List.{append-nil, map-append}
+use Rattle.std.proofs.lemmas.List.Elements.{All-head, All-tail, All-cons, All-map}
+use Rattle.std.proofs.lemmas.List.Concat.{flat_map-append}
+use Rattle.std.proofs.lemmas.List.Kept.{AllPairs-cons}
+use Rattle.fr_base.specs.Book as book
+use Rattle.fr_base.specs.Book.{Owner, placements_of, schedule_of}
+use Rattle.fr_base.specs.Cells.{Cell, cells_of, has_cell, same_cell}
+use Rattle.fr_base.specs.Channels.{channel_number}
+use Rattle.fr_base.specs.Queries.{placements_in}
+use Rattle.fr_base.specs.Schedule.{fill, first_taken}
+use Rattle.fr_base.specs.declared.name.Name.{Name}
+use Rattle.fr_base.specs.declared.placement.Placement.{Placement}
+use Rattle.fr_world.specs.declared.page.PageFrame.{PageFrame}
+use Rattle.fr_world.specs.Decisions.{filled_by, taken_by}
+use Rattle.fr_world.specs.Occupancies.{first_taken_cell, is_free, taken_cell}
+use Rattle.fr_world.specs.Pages.{AreApart, IsKept, PageData, FrameData, frame_data, frames_data, frame_of, page_of}
+use Rattle.fr_world.proofs.DecideRows.{frame_rows, frames-rows}
+use Rattle.fr_world.proofs.KeyLaws.{name_cmp}
+
+-- ---- pairs of a list
+
+module _ {X : Type 0} (R : X → X → Type 0) where
+  first-pairs : (x : X) (xs : List X) → AllPairs R (x ∷ xs) → All (R x) xs
+  first-pairs x xs h = λ k d l. h 0 (suc k) d (omega arith) (omega arith)
+
+  later-pairs : (x : X) (xs : List X) → AllPairs R (x ∷ xs) → AllPairs R xs
+  later-pairs x xs h = λ i j d l m. h (suc i) (suc j) d (omega arith) (omega arith)
+
+  all-front : (P : X → Type 0) (xs ys : List X) → All P (xs ++ ys) → All P xs
+  all-front P [] ys h = λ k d l. absurd (omega arith)
+  all-front P (x ∷ xs) ys h = All-cons P x xs (All-head P x (xs ++ ys) h) (all-front P xs ys (All-tail P x (xs ++ ys) h))
+
+  all-middle : (P : X → Type 0) (xs : List X) (y : X) (ys : List X) → All P (xs ++ y ∷ ys) → P y
+  all-middle P [] y ys h = All-head P y ys h
+  all-middle P (x ∷ xs) y ys h = all-middle P xs y ys (All-tail P x (xs ++ y ∷ ys) h)
+
+  pub pairs-front : (xs ys : List X) → AllPairs R (xs ++ ys) → AllPairs R xs
+  pairs-front [] ys h = λ i j d l m. absurd (omega arith)
+  pairs-front (x ∷ xs) ys h = AllPairs-cons R x xs (all-front (R x) xs ys (first-pairs x (xs ++ ys) h)) (pairs-front xs ys (later-pairs x (xs ++ ys) h))
+
+  pub pairs-map : {Y : Type 0} (f : Y → X) (ys : List Y) → AllPairs (λ x y. R (f x) (f y)) ys → AllPairs R (map f ys)
+  pairs-map f [] h = λ i j d l m. absurd (omega arith)
+  pairs-map f (y ∷ ys) h = AllPairs-cons R (f y) (map f ys) (All-map (R (f y)) f ys (λ k d l. h 0 (suc k) d (omega arith) (omega arith))) (pairs-map f ys (λ i j d l m. h (suc i) (suc j) d (omega arith) (omega arith)))
+
+-- ---- what is apart is free
+
+-- no two of the placements share a cell
+abbrev pub Apart : List (Name × Placement) → Type 0
+Apart = AllPairs (λ x y. AreApart x.1 y.1)
+
+unfilled : (xs : List (Name × Placement)) (f : Name) (q : Placement) (ys : List (Name × Placement)) (c : Cell) → Apart (xs ++ (f, q) ∷ ys) → IsTrue (has_cell q c) → fill xs c ≡ None
+unfolding fill
+unfilled [] f q ys c apart has = refl
+unfilled (x ∷ xs) f q ys c apart has =
+    let here : AreApart x.1 q = all-middle (λ x y. AreApart x.1 y.1) (λ y. AreApart x.1 y.1) xs (f, q) ys (first-pairs (λ x y. AreApart x.1 y.1) x (xs ++ (f, q) ∷ ys) apart) in
+    elim (cases_Bool (has_cell x.1 c)) [
+      | inl clash ↦ absurd (here c clash has)
+      | inr lacks ↦ rw lacks (unfilled xs f q ys c (later-pairs (λ x y. AreApart x.1 y.1) x (xs ++ (f, q) ∷ ys) apart) has)
+    ]
+
+same_cell-itself : (c : Cell) → same_cell c c ≡ true
+same_cell-itself c = ap is_eq (tied_itself (then_total (on_total (λ (d : Cell). d.cycle) nat_cmp_total) (then_total (on_total (λ (d : Cell). d.slot) nat_cmp_total) (on_total (λ (d : Cell). channel_number d.channel) nat_cmp_total))) c)
+
+or_now : (a b : Bool) → a ≡ true → a || b ≡ true
+or_now true b h = refl
+or_now false b h = cc
+
+or_later : (a b : Bool) → b ≡ true → a || b ≡ true
+or_later true b h = refl
+or_later false b h = h
+
+none_taken : {O : Type 0} (filled : Cell → Option O) (ds : List Cell) → ((c : Cell) → list_any (same_cell c) ds ≡ true → filled c ≡ None) → first_taken filled ds ≡ None
+unfolding first_taken
+none_taken filled [] none = refl
+none_taken filled (d ∷ ds) none =
+    let here : filled d ≡ None = none d (or_now (same_cell d d) _ (same_cell-itself d)) in
+    rw here (none_taken filled ds (λ c h. none c (or_later (same_cell c d) _ h)))
+
+pub free-apart : (xs : List (Name × Placement)) (f : Name) (q : Placement) (ys : List (Name × Placement)) → Apart (xs ++ (f, q) ∷ ys) → IsTrue (is_free xs q)
+unfolding is_free has_cell
+free-apart xs f q ys apart = ap is_none (none_taken (fill xs) (cells_of q) (λ c has. unfilled xs f q ys c apart has))
+
+-- ---- a page's frames
+
+-- the placements of frames, each with its frame's name
+abbrev pub filled_in : List (Name × PageFrame) → List (Name × Placement)
+filled_in es = flat_map (λ e. filled_by e.0 (frame_of (frame_data e.1))) es
+
+abbrev named : Owner × Placement → Name × Placement
+named e = (e.0.frame, e.1)
+
+abbrev entries_of : (Name × Name) × book.Frame → List (Owner × Placement)
+entries_of row = map (λ q. (record { supplier = row.0.0; frame = row.0.1; node = row.1.node }, q.0)) row.1.placements.rows
+
+named-entries : (o : Owner) (ps : List (Placement × ⊤)) → map named (map (λ q. (o, q.0)) ps) ≡ map (λ q. (o.frame, q)) (map (λ q. q.0) ps)
+named-entries o [] = refl
+named-entries o (p ∷ ps) = ap (λ rest. (o.frame, p.0) ∷ rest) (named-entries o ps)
+
+named-frames : (s : Name) (es : List (Name × PageFrame)) → map named (flat_map entries_of (frame_rows s (frames_data es))) ≡ filled_in es
+named-frames s [] = refl
+named-frames s (e ∷ es) =
+    map-append named (entries_of ((s, e.0), frame_of (frame_data e.1))) (flat_map entries_of (frame_rows s (frames_data es)))
+    ∙ (λ i. named-entries (record { supplier = s; frame = e.0; node = e.1.node }) (frame_of (frame_data e.1)).placements.rows i ++ named-frames s es i)
+
+pub named-page : (rows : PageData) (es : List (Name × PageFrame)) → frames_data es ≡ rows.frames → IsStrictlySortedBy name_cmp (keys_of es) → map named (placements_of (page_of rows).frames) ≡ filled_in es
+unfolding placements_of
+named-page rows es e h = ap (λ rs. map named (flat_map entries_of rs)) (frames-rows rows es e h) ∙ named-frames rows.supplier es
+
+-- one frame more
+pub filled_in-more : (es : List (Name × PageFrame)) (e : Name × PageFrame) → filled_in (es ++ e ∷ []) ≡ filled_in es ++ filled_by e.0 (frame_of (frame_data e.1))
+filled_in-more es e =
+    flat_map-append (λ e. filled_by e.0 (frame_of (frame_data e.1))) es (e ∷ [])
+    ∙ ap (λ ps. filled_in es ++ ps) (append-nil (filled_by e.0 (frame_of (frame_data e.1))))
+
+-- the frames so far and the next one are apart
+pub frames-apart : (es : List (Name × PageFrame)) (e : Name × PageFrame) (rest : List (Name × PageFrame)) → Apart (filled_in (es ++ e ∷ rest)) → Apart (filled_in es ++ filled_by e.0 (frame_of (frame_data e.1)))
+frames-apart es e rest apart =
+    let here : List (Name × Placement) = filled_by e.0 (frame_of (frame_data e.1)) in
+    pairs-front (λ x y. AreApart x.1 y.1) (filled_in es ++ here) (filled_in rest)
+    (subst Apart (flat_map-append (λ e. filled_by e.0 (frame_of (frame_data e.1))) es (e ∷ rest) ∙ sym (append_assoc (filled_in es) here (filled_in rest))) apart)
+
+-- a page's placements are apart
+pub page-apart : (rows : PageData) (es : List (Name × PageFrame)) → frames_data es ≡ rows.frames → IsStrictlySortedBy name_cmp (keys_of es) → IsKept rows → Apart (filled_in es)
+page-apart rows es e h kept = subst Apart (named-page rows es e h) (pairs-map (λ x y. AreApart x.1 y.1) named (placements_of (page_of rows).frames) kept.page.apart)
+
+-- ---- the first taken cell, with its frame
+
+fill-named : (xs : List (Owner × Placement)) (c : Cell) → fill (map named xs) c ≡ option_map (λ o. o.frame) (fill xs c)
+unfolding fill
+fill-named [] c = refl
+fill-named (x ∷ xs) c = elim (has_cell x.1 c) as (λ b. cond b (Some x.0.frame) (fill (map named xs) c) ≡ option_map (λ o. o.frame) (cond b (Some x.0) (fill xs c))) [
+  | true ↦ refl
+  | false ↦ fill-named xs c
+]
+
+option_is : {A : Type 0} (r : Option A) → ((x : A) × (r ≡ Some x)) ⊎ (r ≡ None)
+option_is None = inr refl
+option_is (Some x) = inl (x, refl)
+
+taken-named : (xs : List (Owner × Placement)) (ds : List Cell) → option_map taken_cell (first_taken (fill (map named xs)) ds) ≡ option_map taken_by (first_taken (fill xs) ds)
+unfolding first_taken
+taken-named xs [] = refl
+taken-named xs (d ∷ ds) = elim (option_is (fill xs d)) [
+  | inl o ↦ rw (fill-named xs d, o.1) refl
+  | inr none ↦ rw (fill-named xs d, none) (taken-named xs ds)
+]
+
+pub taken-page : (rows : PageData) (es : List (Name × PageFrame)) (q : Placement) → frames_data es ≡ rows.frames → IsStrictlySortedBy name_cmp (keys_of es) →
+    first_taken_cell (filled_in es) q ≡ option_map taken_by (first_taken (schedule_of (page_of rows).frames) (cells_of q))
+unfolding first_taken_cell schedule_of
+taken-page rows es q e h = ap (λ ps. option_map taken_cell (first_taken (fill ps) (cells_of q))) (sym (named-page rows es e h)) ∙ taken-named (placements_of (page_of rows).frames) (cells_of q)
