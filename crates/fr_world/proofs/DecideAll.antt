@@ -1,6 +1,7 @@
 -- A command's edit, and its decision.
-use Rattle.std.proofs.Common.{◌≡◌, ℕ, true, false, List, [], ◌∷◌, Result, Ok, Err, MatchResult, refl, sym, ap, ◌∙◌, ◌⊎◌, inl, inr}
+use Rattle.std.proofs.Common.{◌≡◌, ℕ, true, false, List, [], ◌∷◌, Result, Ok, Err, MatchResult, refl, sym, ap, subst, ◌∙◌, ◌⊎◌, inl, inr}
 use Rattle.fr_base.specs.Refusing.{◌>>◌, refuse◌when◌}
+use Rattle.fr_base.specs.Parameters.{check_params}
 use Rattle.fr_base.specs.Step.{Page}
 use Rattle.fr_base.specs.declared.channel.Channel.{Channel}
 use Rattle.fr_base.specs.declared.name.Name.{Name}
@@ -9,8 +10,10 @@ use Rattle.fr_base.specs.declared.refusal.Refusal.TheVariants.{NotYours, Release
 use Rattle.fr_base.specs.declared.request.Command.{Command}
 use Rattle.fr_base.specs.declared.request.Command.TheVariants.{Grant, Revoke}
 use Rattle.fr_world.specs.declared.edit.Edit.{Edit}
-use Rattle.fr_world.specs.Decisions.{admitted, after, decided, decision, edits_of}
-use Rattle.fr_world.specs.Pages.{PageData, page_of}
+use Rattle.fr_world.specs.Decisions.{IsChecked, IsFor, admitted, after, decided, decision, edits_of}
+use Rattle.fr_world.specs.Edits.{Leads}
+use Rattle.fr_world.specs.Pages.{IsKept, PageData, page_of}
+use Rattle.fr_world.proofs.LeadsLaws.{decision-leads}
 
 -- the decision where the variant is open
 decision-open : (rows : PageData) (command : Command) → rows.released ≡ false → decision rows command ≡ (after (page_of rows) command >> Ok (edits_of rows.supplier command))
@@ -63,3 +66,17 @@ decision-released rows command closed = rw closed refl
 pub decision-other : (rows : PageData) (command : Command) → rows.released ≡ false → after (page_of rows) command ≡ Err NotYours → decision rows command ≡ Err NotYours
 unfolding ◌>>◌
 decision-other rows command unreleased other = decision-open rows command unreleased ∙ ap (λ r. r >> Ok (edits_of rows.supplier command)) other
+
+-- what is decided, by its parts
+decided-parts : (r : Result Page Refusal) (named edits : List Edit) → (r >> Ok named) ≡ Ok edits → (last : Page) × (r ≡ Ok last) × (named ≡ edits)
+unfolding ◌>>◌
+decided-parts (Ok x) named edits e = (x, refl, cc)
+decided-parts (Err x) named edits e = cc
+
+-- the edits lead to what the command makes of the page
+pub edits-lead : (rows : PageData) (command : Command) (edits : List Edit) → check_params rows.params ≡ Ok rows.params → IsKept rows → IsFor rows.supplier rows.variant command → IsChecked rows.params command →
+    decision rows command ≡ Ok edits → (last : Page) × (decided rows command ≡ Ok last) × Leads rows.variant (page_of rows) edits last
+unfolding decision
+edits-lead rows command edits params kept here checked e =
+    let parts = decided-parts (decided rows command) (edits_of rows.supplier command) edits e in
+    (parts.0, parts.1, subst (λ es. Leads rows.variant (page_of rows) es parts.0) parts.2 (decision-leads rows command parts.0 params kept here checked parts.1))

@@ -1,5 +1,5 @@
 -- Frames and placements that lie apart fill cells that are free.
-use Rattle.std.proofs.Common.{◌≡◌, ℕ, suc, ◌<◌, Bool, true, false, cond, length, List, [], ◌∷◌, ◌++◌, map, flat_map, All, AllPairs, Option, Some, None, is_some, is_none, option_map, IsTrue, refl, sym, ap, subst, ◌∙◌, ◌⊎◌, inl, inr, arith, append_assoc}
+use Rattle.std.proofs.Common.{◌≡◌, suc, Bool, true, false, cond, List, [], ◌∷◌, ◌++◌, map, flat_map, All, AllPairs, Option, Some, None, is_none, option_map, IsTrue, refl, sym, ap, subst, ◌∙◌, ◌⊎◌, inl, inr, arith, append_assoc}
 use Rattle.std.specs.Prelude.{⊤, ◌||◌}
 use Rattle.std.specs.List.{list_any}
 use Rattle.std.specs.List.Sorted.{IsStrictlySortedBy}
@@ -15,14 +15,13 @@ use Rattle.fr_base.specs.Book as book
 use Rattle.fr_base.specs.Book.{Owner, placements_of, schedule_of}
 use Rattle.fr_base.specs.Cells.{Cell, cells_of, has_cell, same_cell}
 use Rattle.fr_base.specs.Channels.{channel_number}
-use Rattle.fr_base.specs.Queries.{placements_in}
 use Rattle.fr_base.specs.Schedule.{fill, first_taken}
 use Rattle.fr_base.specs.declared.name.Name.{Name}
 use Rattle.fr_base.specs.declared.placement.Placement.{Placement}
 use Rattle.fr_world.specs.declared.page.PageFrame.{PageFrame}
 use Rattle.fr_world.specs.Decisions.{filled_by, taken_by}
 use Rattle.fr_world.specs.Occupancies.{first_taken_cell, is_free, taken_cell}
-use Rattle.fr_world.specs.Pages.{AreApart, IsKept, PageData, FrameData, frame_data, frames_data, frame_of, page_of}
+use Rattle.fr_world.specs.Pages.{AreApart, IsKept, PageData, frame_data, frames_data, frame_of, page_of}
 use Rattle.fr_world.proofs.DecideRows.{frame_rows, frames-rows}
 use Rattle.fr_world.proofs.KeyLaws.{name_cmp}
 

@@ -1,5 +1,5 @@
 -- A page's rows, and the register's tables that they stand for.
-use Rattle.std.proofs.Common.{◌≡◌, ℕ, suc, ◌&&◌, ◌||◌, ◌++◌, length, Bor, IfSome, All, Bool, true, false, cond, List, [], ◌∷◌, map, Option, Some, None, is_some, option_map, refl, sym, ap, subst, ◌∙◌}
+use Rattle.std.proofs.Common.{◌≡◌, ℕ, suc, ◌&&◌, ◌||◌, length, Bor, IfSome, All, Bool, true, false, cond, List, [], ◌∷◌, map, Option, Some, None, option_map, refl, sym, ap, subst, ◌∙◌}
 use Rattle.std.specs.Prelude.{⊤}
 use Rattle.std.specs.List.{list_any, flat_map}
 use Rattle.std.specs.List.Sorted.{IsStrictlySortedBy}
@@ -8,7 +8,7 @@ use Rattle.std.proofs.lemmas.List.Elements.{All-head, All-tail}
 use Rattle.std.specs.Map.{lookup, keys_of, values_of}
 use Rattle.std.specs.BTreeMap.{is_at}
 use Rattle.fr_base.specs.Refusing.{◌>>=◌, ◌>>◌, ◌or◌, refuse◌when◌}
-use Rattle.fr_base.specs.Tables.{Table, get, contains, len}
+use Rattle.fr_base.specs.Tables.{get, contains, len}
 use Rattle.fr_base.specs.Keys.{owned, channel_slots, placement_order}
 use Rattle.fr_base.specs.Cluster.{same_text}
 use Rattle.fr_base.specs.Book as book
@@ -23,7 +23,6 @@ use Rattle.fr_base.proofs.AloneCells.{same_text-itself}
 use Rattle.fr_world.specs.declared.page.ChannelSlot.{ChannelSlot}
 use Rattle.fr_world.specs.declared.page.PageFrame.{PageFrame}
 use Rattle.fr_world.specs.Decisions.{admitted, framed, after}
-use Rattle.fr_world.specs.Maps.{table_of}
 use Rattle.fr_world.specs.Pages.{IsKept, PageData, FrameData, frame_data, frames_data, frame_of, holder_of, page_of}
 use Rattle.fr_world.proofs.KeyLaws.{name_cmp, own_alike, slot_cmp, slots_alike, placement_cmp, placements_alike}
 use Rattle.fr_world.proofs.MapLaws.{contains-set_of, rows-set_of, get-table_of, rows-table_of, len-table_of}

@@ -1,5 +1,5 @@
 -- What a command is refused as, by what stands on the page.
-use Rattle.std.proofs.Common.{◌≡◌, ℕ, Bool, true, false, cond, Option, Some, None, is_none, Result, Ok, Err, option_map, nat_le, refl, sym, ap, ◌∙◌}
+use Rattle.std.proofs.Common.{◌≡◌, ℕ, true, false, Option, Some, None, is_none, Ok, Err, option_map, nat_le, refl, ap}
 use Rattle.fr_base.specs.Limits.{max_placements}
 use Rattle.fr_base.specs.Tables.{get, contains, len}
 use Rattle.fr_base.specs.Cluster.{same_text}

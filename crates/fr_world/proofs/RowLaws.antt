@@ -1,5 +1,5 @@
 -- The rows of a list as frames and placements.
-use Rattle.std.proofs.Common.{◌≡◌, ℕ, suc, ◌+◌, ◌<◌, Bool, true, false, not, cond, length, get_or, List, [], ◌∷◌, ◌++◌, map, filter, take, Option, Some, None, option_map, refl, sym, ap, ◌∙◌, arith, take-suc, add-one, inl, inr}
+use Rattle.std.proofs.Common.{◌≡◌, ℕ, suc, ◌+◌, ◌<◌, not, length, get_or, List, [], ◌∷◌, ◌++◌, map, filter, take, Option, Some, None, option_map, refl, sym, ap, ◌∙◌, take-suc, add-one, inl, inr}
 use Rattle.std.proofs.lemmas.Bool.{cases_Bool}
 use Rattle.std.proofs.lemmas.List.{map-append}
 use Rattle.std.specs.Prelude.{is_none}

@@ -1,5 +1,5 @@
 -- What a command makes of a supplier's page: that supplier's commands, and the grants that name it.
-use Rattle.std.specs.Prelude.{◌≡◌, not, List, [], ◌∷◌, map, Option, Some, None, Result, Ok, Err, IsTrue, ⊤}
+use Rattle.std.specs.Prelude.{◌≡◌, not, List, [], ◌∷◌, map, Option, Result, Ok, Err, IsTrue, ⊤}
 use Rattle.fr_base.specs.Refusing.{◌>>=◌, ◌>>◌, refuse◌when◌}
 use Rattle.fr_base.specs.Tables.{get, contains, insert, remove, becomes}
 use Rattle.fr_base.specs.Book.{Frame, Owner, held_by, held_by_node, schedule_of}
@@ -14,7 +14,7 @@ use Rattle.fr_base.specs.declared.placement.Placement.{Placement}
 use Rattle.fr_base.specs.declared.refusal.Refusal.{Refusal}
 use Rattle.fr_base.specs.declared.refusal.Refusal.TheVariants.{NotYours, Released, NoNode, Exists, NodeDiffers, NotGranted, InUse}
 use Rattle.fr_base.specs.declared.request.Command.{Command}
-use Rattle.fr_base.specs.declared.request.Command.TheVariants.{OpenVariant, Release, AddNode, Grant, Revoke, AddFrame, DropFrame, Place, Unplace, AddSignal, DropSignal}
+use Rattle.fr_base.specs.declared.request.Command.TheVariants.{Grant, Revoke, AddFrame, DropFrame, Place, Unplace, AddSignal, DropSignal}
 use Rattle.fr_world.specs.Pages.{PageData, page_of}
 use Rattle.fr_world.specs.declared.edit.Edit.{Edit}
 use Rattle.fr_world.specs.declared.occupancy.TakenCell.{TakenCell}

@@ -1,8 +1,8 @@
 -- What an edit makes of a page, and which edits a page takes.
-use Rattle.std.specs.Prelude.{◌≡◌, not, Bool, true, false, List, [], ◌∷◌, filter, Option, Some, None, IfSome, ⊤}
+use Rattle.std.specs.Prelude.{◌≡◌, not, Bool, true, false, List, [], ◌∷◌, filter, Option, Some, None, IfSome}
 use Rattle.std.specs.Str.{bytes_eq}
-use Rattle.fr_base.specs.Tables.{get, contains, empty, insert, remove}
-use Rattle.fr_base.specs.Book.{Frame, Holder}
+use Rattle.fr_base.specs.Tables.{get, empty, insert, remove}
+use Rattle.fr_base.specs.Book.{Frame}
 use Rattle.fr_base.specs.Layouts.{with_signal}
 use Rattle.fr_base.specs.Step.{Page}
 use Rattle.fr_base.specs.declared.name.Name.{Name}

@@ -1,5 +1,5 @@
 -- A supplier's rows of a variant, in maps and sets, as the register's page; and which rows a page has.
-use Rattle.std.specs.Prelude.{◌≡◌, ℕ, ◌≤◌, Bool, List, map, IsTrue, All, AllPairs, Option, Some}
+use Rattle.std.specs.Prelude.{◌≡◌, ◌≤◌, Bool, List, map, IsTrue, All, AllPairs, Some}
 use Rattle.fr_base.specs.Limits.{max_nodes, max_frames, max_placements}
 use Rattle.fr_base.specs.Tables.{get, len, only}
 use Rattle.fr_base.specs.Keys.{owned, channel_slots, placement_order}

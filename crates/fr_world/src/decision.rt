@@ -1,7 +1,10 @@
 //! What a command decides on a supplier's page.
 ghost use Rattle.std.specs.Prelude.{◌≡◌, ◌⊎◌, ◌∷◌, [], false, Ok, Err, IfOk, IfErr, MatchResult};
 ghost use Rattle.fr_base.specs.declared.refusal.Refusal.TheVariants.{Unavailable};
-ghost use Rattle.fr_world.specs.Decisions.{IsChecked, IsFor, decision};
+ghost use Rattle.fr_base.specs.Step.{Page as RegisterPage};
+ghost use Rattle.fr_world.specs.Decisions.{IsChecked, IsFor, decided, decision};
+ghost use Rattle.fr_world.specs.Edits.{Leads};
+ghost use Rattle.fr_world.specs.Pages.{page_of};
 
 mod filling;
 mod frames;
@@ -37,11 +40,15 @@ pub fn decide(alloc: Global, page: &Page, command: &Command) -> Result<Vec<Edit>
     requires decides { IsFor page.now.supplier page.now.variant command.now }
     requires checked { IsChecked page.now.params command.now }
     ensures edits { IfOk result (λ edits. decision page.now command.now ≡ Ok edits.items) }
+    ensures leads { IfOk result (λ edits. (last : RegisterPage) × (decided page.now command.now ≡ Ok last)
+        × Leads page.now.variant (page_of page.now) edits.items last) }
     ensures refusal { IfErr result (λ e. (e ≡ Unavailable) ⊎ (decision page.now command.now ≡ Err e)) }
 {
     if page.released() {
         return Err(Refusal::Released);
     }
+    // They give the proof that the parameters make a cluster, and that the page's rows are kept.
+    let (_raw, _frames) = (page.params().raw(), page.frames());
     let edit = edit_for(alloc, page, command)?;
     match vec![in alloc; edit] {
         Ok(edits) => Ok(edits),

@@ -4,7 +4,6 @@
 
 mod amend;
 mod build;
-mod decide;
 mod decision;
 mod edit;
 mod frame_rows;

@@ -1,5 +1,4 @@
-use Rattle.std.proofs.Common.{◌≡◌, ◌∙◌, Err, refl, sym, ap, subst, inl, inr}
-use Rattle.fr_base.specs.declared.request.Command.{Command}
+use Rattle.std.proofs.Common.{◌∙◌, refl, sym, ap, subst, inl, inr}
 use Rattle.fr_base.specs.declared.request.Command.TheVariants.{Grant, Revoke, AddFrame, DropFrame, Place, Unplace, AddSignal, DropSignal}
 use Rattle.fr_world.specs.Decisions.{after}
 use Rattle.fr_world.specs.Pages.{page_of}

@@ -1,4 +1,4 @@
-use Rattle.std.proofs.Common.{◌≡◌, ◌∙◌, sym, ap, rules, None, Some}
+use Rattle.std.proofs.Common.{◌≡◌, ◌∙◌, sym, rules, None}
 use Rattle.fr_world.proofs.SharedLaws.{no_slot, no_channel, no_cycle, both_spot, differ, same}
 use Rattle.fr_world.proofs.spot.first_shared.Goals as goal
 

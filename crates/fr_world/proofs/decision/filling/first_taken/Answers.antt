@@ -3,7 +3,6 @@ use Rattle.std.proofs.lemmas.Map.Iter.{iter_end, rest_more, rest_so_far}
 use Rattle.std.proofs.lemmas.List.{map-append}
 use Rattle.std.specs.Map.Iter.{deref_pair}
 use Rattle.fr_base.specs.declared.name.Name.{Name}
-use Rattle.fr_base.specs.declared.placement.Placement.{Placement}
 use Rattle.fr_world.specs.declared.page.PageFrame.{PageFrame}
 use Rattle.fr_world.specs.Decisions.{filled_by}
 use Rattle.fr_world.specs.Occupancies.{first_taken_cell}

@@ -1,4 +1,4 @@
-use Rattle.std.proofs.Common.{◌≡◌, ◌∙◌, false, true, nat_le, Ok, Err, Some, None, option_map, inr, refl, sym, ap, arith, rules, tests}
+use Rattle.std.proofs.Common.{◌≡◌, ◌∙◌, false, true, nat_le, Ok, Some, option_map, inr, refl, sym, ap, arith, rules, tests}
 use Rattle.std.proofs.lemmas.Bool.{le-leb, lt-leb}
 use Rattle.fr_base.specs.Limits.{max_placements}
 use Rattle.fr_base.specs.Tables.{get, len}

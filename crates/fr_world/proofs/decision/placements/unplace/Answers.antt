@@ -1,5 +1,5 @@
 use Rattle.std.proofs.Common.{◌≡◌, ◌∙◌, false, true, Ok, Some, option_map, sym, ap, rules, tests}
-use Rattle.fr_base.specs.Tables.{get, contains}
+use Rattle.fr_base.specs.Tables.{get}
 use Rattle.fr_base.specs.Keys.{placement_order}
 use Rattle.fr_world.specs.declared.edit.Edit.TheVariants.{EndPlacement}
 use Rattle.fr_world.specs.Pages.{frame_data, frame_of, page_of}

@@ -1,4 +1,4 @@
-use Rattle.std.proofs.Common.{◌≡◌, ◌∙◌, option_map, sym, ap}
+use Rattle.std.proofs.Common.{◌∙◌, option_map, sym, ap}
 use Rattle.fr_world.specs.Pages.{frame_data, frame_of}
 use Rattle.fr_world.specs.declared.page.PageFrame.{PageFrame}
 use Rattle.fr_world.proofs.DecideRows.{frame_there, words-kept}

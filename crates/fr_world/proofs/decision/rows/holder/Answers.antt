@@ -1,4 +1,4 @@
-use Rattle.std.proofs.Common.{◌≡◌, ◌∙◌, option_map, sym, ap}
+use Rattle.std.proofs.Common.{◌∙◌, option_map, sym, ap}
 use Rattle.std.specs.Map.{lookup}
 use Rattle.std.specs.BTreeMap.{is_at}
 use Rattle.fr_world.specs.Pages.{holder_of}

@@ -1,8 +1,5 @@
-use Rattle.std.proofs.Common.{◌≡◌, ◌∙◌, ◌≤◌, length, get_or, Some, None, option_map, take, sym, ap, arith, rules, tests, take_all}
-use Rattle.std.specs.List.{find}
-use Rattle.fr_base.specs.Cells.{cells_of, has_cell}
-use Rattle.fr_world.specs.Spots.{spot_of, earlier}
-use Rattle.fr_world.specs.declared.row_occupancy.Taken.{Taken}
+use Rattle.std.proofs.Common.{◌≡◌, ◌∙◌, length, get_or, option_map, take, sym, ap, arith, rules, tests, take_all}
+use Rattle.fr_world.specs.Spots.{earlier}
 use Rattle.fr_world.proofs.TakenLaws.{taken_among, taken_among-none, taken_by}
 use Rattle.fr_world.proofs.RowLaws.{pairs, shown, taken_among-row, first_taken_cell-among}
 use Rattle.fr_world.proofs.row_occupancy.RowOccupancyOccupancy.first_taken.Goals as goal
