@@ -27,3 +27,4 @@ pub mod DecideRows
 pub mod DecideSteps
 pub mod DecideFilling
 pub mod DecideAll
+pub mod AgreeLaws

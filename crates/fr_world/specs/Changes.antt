@@ -1,6 +1,7 @@
 -- What edits make of the register's rows.
-use Rattle.std.specs.Prelude.{not, true, false, List, [], ◌∷◌, map, filter, Option, Some, None}
+use Rattle.std.specs.Prelude.{◌≡◌, not, true, false, List, [], ◌∷◌, map, filter, Option, Some, None, ⊤}
 use Rattle.std.specs.Str.{bytes_eq}
+use Rattle.fr_base.specs.Alone.{is_another}
 use Rattle.fr_base.specs.Tables.{empty, get, insert, remove}
 use Rattle.fr_base.specs.Book.{Frame, Variant, Book, empty_variant}
 use Rattle.fr_base.specs.Layouts.{with_signal}
@@ -55,6 +56,12 @@ changed b (KeepImport s label v body rows) = b
 abbrev pub changes : Book → List Edit → Book
 changes b [] = b
 changes b (edit ∷ edits) = changes (changed b edit) edits
+
+-- The slot and channel that a supplier's edit grants, or whose grant it ends, is not another's in the variant.
+abbrev pub SparesOthers : Name → Variant → Edit → Type 0
+SparesOthers s x (PutGrant v k c t n) = is_another s (get x.grants (k, c)) ≡ false
+SparesOthers s x (EndGrant v k c) = is_another s (get x.grants (k, c)) ≡ false
+SparesOthers s x _ = ⊤
 
 -- the variants of the register, without the rows in them
 unfoldable pub variants_in : Book → List VariantRow

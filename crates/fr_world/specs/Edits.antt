@@ -70,6 +70,12 @@ is_of_page (NewVariant v parent depth) = false
 is_of_page (KeepImport s label v body rows) = false
 is_of_page _ = true
 
+-- The edit is one of the rows that this supplier's page of the variant has.
+pub record IsOf (s v : Name) (edit : Edit) : Type 0 where
+  pub kind : is_of_page edit ≡ true
+  pub supplier : IfSome (supplier_of edit) (λ t. t ≡ s)
+  pub variant : IfSome (variant_of edit) (λ w. w ≡ v)
+
 -- The supplier's page of the variant takes the edit: it is one of theirs, and leaves rows that a page has.
 pub record Takes (v : Name) (page : Page) (edit : Edit) : Type 0 where
   pub kind : is_of_page edit ≡ true

@@ -1,8 +1,8 @@
 -- Laws of pages. In a sound book what is decided on a supplier's page is the register's step.
-use Rattle.std.specs.Prelude.{◌≡◌, ℕ, Some, Ok, IsTrue}
+use Rattle.std.specs.Prelude.{◌≡◌, ◌||◌, ℕ, false, Some, Ok, IsTrue}
 use Rattle.fr_base.specs.Refusing.{◌>>=◌, ◌>>◌, refuse◌when◌}
 use Rattle.fr_base.specs.Tables.{get, contains}
-use Rattle.fr_base.specs.Cluster.{Cluster}
+use Rattle.fr_base.specs.Cluster.{Cluster, same_text}
 use Rattle.fr_base.specs.Parameters.{check_params}
 use Rattle.fr_base.specs.Book.{Variant, Book}
 use Rattle.fr_base.specs.Sound.{IsSound}
@@ -13,10 +13,11 @@ use Rattle.fr_base.specs.declared.name.Name.{Name}
 use Rattle.fr_base.specs.declared.refusal.Refusal.TheVariants.{Taken}
 use Rattle.fr_base.specs.declared.request.Command.{Command}
 use Rattle.fr_base.specs.declared.request.Command.TheVariants.{Grant, Revoke}
-use Rattle.fr_world.specs.Changes.{changed, changes, variants_in}
+use Rattle.fr_world.specs.Changes.{SparesOthers, changed, changes, variants_in}
 use Rattle.fr_world.specs.Common.{IsCommon, common}
 use Rattle.fr_world.specs.Decisions.{IsIn, IsFor, IsChecked, decided, decision, edits_of}
-use Rattle.fr_world.specs.Edits.{Leads}
+use Rattle.fr_world.specs.Edits.{IsOf, Leads, edited, releases}
+use Rattle.fr_world.specs.declared.edit.Edit.{Edit}
 use Rattle.fr_world.specs.Nodes.{new_node}
 use Rattle.fr_world.specs.Pages.{PageData, IsKept, nodes_in, page_in, page_of}
 
@@ -65,3 +66,18 @@ NodeDecides = (b : Book) (s n : Name) → IsTrue (contains b.suppliers s) →
 abbrev pub CommonDecides : Type 0
 CommonDecides = (b : Book) (command : Command) → IsCommon command →
     by_integrator b command ≡ (common (variants_in b) command >>= λ edit. Ok (changed b edit))
+
+-- An edit of a supplier's rows of a variant that is there makes of the supplier's page in the register what it makes of the
+-- page; and the variant is released where the edit releases it, or where it was before.
+abbrev pub EditsAgree : Type 0
+EditsAgree = (c : Cluster) (b : Book) (s v : Name) (x : Variant) (edit : Edit) → get b.variants v ≡ Some x → IsOf s v edit →
+    (y : Variant) × (get (changed b edit).variants v ≡ Some y)
+    × (register.page_of c.params (changed b edit) s y ≡ edited (register.page_of c.params b s x) edit)
+    × (y.released ≡ (releases edit || x.released))
+
+-- It leaves another supplier's page of any variant as it was, where it grants or ends nothing that another holds.
+abbrev pub OthersStay : Type 0
+OthersStay = (c : Cluster) (b : Book) (s t v w : Name) (x y : Variant) (edit : Edit) → get b.variants v ≡ Some x → IsOf s v edit →
+    SparesOthers s x edit → same_text s t ≡ false → get b.variants w ≡ Some y →
+    (z : Variant) × (get (changed b edit).variants w ≡ Some z)
+    × (register.page_of c.params (changed b edit) t z ≡ register.page_of c.params b t y)

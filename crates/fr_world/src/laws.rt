@@ -1,4 +1,4 @@
-ghost use Rattle.fr_world.specs.Laws.{CommonDecides, DecisionLeads, GrantDecides, NodeDecides, RevokeDecides, RowsAreTheRegisters, SoundRowsAreAPage, SupplierDecides};
+ghost use Rattle.fr_world.specs.Laws.{CommonDecides, DecisionLeads, EditsAgree, GrantDecides, NodeDecides, OthersStay, RevokeDecides, RowsAreTheRegisters, SoundRowsAreAPage, SupplierDecides};
 
 /// In a sound book a supplier's rows of a variant are a page's.
 pub fn sound_rows_are_a_page()
@@ -42,4 +42,16 @@ pub fn node_decides()
 /// A command on all suppliers is decided by the list of variants.
 pub fn common_decides()
     ensures { CommonDecides }
+{}
+
+/// An edit of a supplier's rows of a variant makes of the supplier's page in the register what it
+/// makes of the page, and releases the variant or leaves it as it was.
+pub fn edits_agree()
+    ensures { EditsAgree }
+{}
+
+/// An edit of a supplier's rows leaves other suppliers' pages as they were, where it grants or ends
+/// nothing that another supplier holds.
+pub fn others_stay()
+    ensures { OthersStay }
 {}

@@ -25,8 +25,8 @@ pub use edit::Edit;
 pub use frame_rows::{frame_row, gap_row, push_signal_rows};
 pub use gap::greatest_gap;
 pub use laws::{
-    common_decides, decision_leads, grant_decides, node_decides, revoke_decides,
-    rows_are_the_registers, sound_rows_are_a_page, supplier_decides,
+    common_decides, decision_leads, edits_agree, grant_decides, node_decides, others_stay,
+    revoke_decides, rows_are_the_registers, sound_rows_are_a_page, supplier_decides,
 };
 pub use nodes::decide_node;
 pub use occupancy::{Occupancy, TakenCell};
