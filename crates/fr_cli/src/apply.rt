@@ -115,12 +115,7 @@ impl Register {
     }
 
     // Makes the edit of the variant's rows, if the variant is there.
-    fn change_variant(
-        &mut self,
-        alloc: Global,
-        variant: Name,
-        edit: &Edit,
-    ) -> Result<(), Refusal>
+    fn change_variant(&mut self, alloc: Global, variant: Name, edit: &Edit) -> Result<(), Refusal>
         ensures config { self.new.config ≡ self.old.config }
         ensures ok { OnOk result (book_of self.new ≡ change_variant (book_of self.old) variant (variant_edited edit.now)) }
         ensures err { OnErr result ((book_of self.new ≡ book_of self.old) × (result ≡ Err Unavailable)) }

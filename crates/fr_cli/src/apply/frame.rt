@@ -37,10 +37,7 @@ pub(crate) fn change_frame(frame: &mut PageFrame, edit: &Edit) -> Result<(), Ref
 }
 
 #[tactic(auto, using(crate::proofs::ApplyLaws::placement_put))]
-fn put_placement(
-    placements: &mut BTreeSet<Placement>,
-    placement: &Placement,
-) -> Result<(), Refusal>
+fn put_placement(placements: &mut BTreeSet<Placement>, placement: &Placement) -> Result<(), Refusal>
     ensures ok { OnOk result (set_of placement_order (λ q. q) placements.new.keys ≡ insert (set_of placement_order (λ q. q) placements.old.keys) placement.now tt) }
     ensures err { OnErr result ((placements.new.keys ≡ placements.old.keys) × (result ≡ Err Unavailable)) }
 {

@@ -88,24 +88,40 @@ impl Plan {
                 frame,
                 node,
                 ..
-            } => new_frame(&mut self.frames, alloc, words, owned(supplier, frame), *node),
+            } => new_frame(
+                &mut self.frames,
+                alloc,
+                words,
+                owned(supplier, frame),
+                *node,
+            ),
             Edit::EndFrame {
-                supplier, frame, ..
+                supplier,
+                frame,
+                ..
             } => {
                 end_frame(&mut self.frames, owned(supplier, frame));
                 Ok(())
             }
             Edit::PutPlacement {
-                supplier, frame, ..
+                supplier,
+                frame,
+                ..
             }
             | Edit::EndPlacement {
-                supplier, frame, ..
+                supplier,
+                frame,
+                ..
             }
             | Edit::PutSignal {
-                supplier, frame, ..
+                supplier,
+                frame,
+                ..
             }
             | Edit::EndSignal {
-                supplier, frame, ..
+                supplier,
+                frame,
+                ..
             } => self.change_frame(owned(supplier, frame), edit),
             _ => Ok(()),
         }

@@ -17,8 +17,11 @@ pub returns-in-Some-clause-err : goal.returns-in-Some-clause-err
 returns-in-Some-clause-err c =
     let g = c.change_frame.new.frame in
     on_err c.change_frame.result
-    (λ same. (frame_lent_same (variant_of c.args.self.now) c.args.key c.args.self.now.frames.entries (c.get_mut.follows.lender g).entries c.in-Some.frame.now g
-    c.get_mut.ensures.ordered c.in-Some.ensures.value (c.get_mut.follows.holds g).0 same.0, same.1))
+    (λ same. (
+      frame_lent_same (variant_of c.args.self.now) c.args.key c.args.self.now.frames.entries (c.get_mut.follows.lender g).entries c.in-Some.frame.now g
+          c.get_mut.ensures.ordered c.in-Some.ensures.value (c.get_mut.follows.holds g).0 same.0,
+      same.1,
+    ))
     c.change_frame.ensures.err
 
 pub returns-in-None-clause-ok : goal.returns-in-None-clause-ok

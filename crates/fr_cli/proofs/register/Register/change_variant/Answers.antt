@@ -16,8 +16,11 @@ pub returns-in-Some-clause-err : goal.returns-in-Some-clause-err
 returns-in-Some-clause-err c =
     let y = c.change.new.self in
     on_err c.change.result
-    (λ same. (variant_lent_same (book_of c.args.self.now) c.args.variant c.args.self.now.variants.entries (c.get_mut.follows.lender y).entries c.in-Some.plan.now y
-    c.get_mut.ensures.ordered c.in-Some.ensures.value (c.get_mut.follows.holds y).0 same.0, same.1))
+    (λ same. (
+      variant_lent_same (book_of c.args.self.now) c.args.variant c.args.self.now.variants.entries (c.get_mut.follows.lender y).entries c.in-Some.plan.now y
+          c.get_mut.ensures.ordered c.in-Some.ensures.value (c.get_mut.follows.holds y).0 same.0,
+      same.1,
+    ))
     c.change.ensures.err
 
 pub returns-in-None-clause-ok : goal.returns-in-None-clause-ok
