@@ -55,3 +55,6 @@ fn is_kept(alloc: Global, rows: &PageRows) -> Result<bool, AllocError>
     }
     Ok(no_cell_twice(placements_of(alloc, rows)?))
 }
+
+#[cfg(test)]
+mod tests;
