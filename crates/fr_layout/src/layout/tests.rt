@@ -21,6 +21,7 @@ fn both(alloc: Global) -> Result<Layout, Fail> {
 #[test]
 fn layout_and_text_calls_succeed(rt: HostRuntime) -> Result<(), Fail> {
     let mut layout = Layout::new(rt.alloc(), 127);
+    assert_eq!(rt; layout.words(), 127);
     let last = signal("last", 2031, 1, Order::Little)?;
     assert_eq!(rt; layout.admits(&last), Ok(()));
     layout.add(last)?;
