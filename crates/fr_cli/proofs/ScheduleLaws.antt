@@ -1,113 +1,24 @@
--- What is sent in cells: cell by cell, and frame by frame.
-use Rattle.std.proofs.Common.{◌≡◌, ℕ, zero, suc, ◌+◌, ◌≤◌, ◌<◌, Bool, true, false, ◌&&◌, ◌||◌, cond, eqb, List, [], length, take, drop, get_or, ◌∷◌, ◌++◌, map, filter, Option, Some, None, option_map, refl, sym, ap, ◌∙◌, inl, inr, arith, add-zero, append_assoc, append-nil, Ordering, Less, Equal, Greater}
-use Rattle.std.specs.Prelude.{⊤, nat_le}
-use Rattle.std.specs.Ordering.{nat_cmp, is_eq, ordering_then}
-use Rattle.std.specs.Cmp.{nat_cmp_is}
-use Rattle.std.specs.List.{cons_option, flat_map, list_any, range_with_len}
+-- The placements that an actor sees, frame by frame.
+use Rattle.std.proofs.Common.{◌≡◌, Bool, true, false, cond, List, [], ◌∷◌, ◌++◌, map, filter, refl, sym, ap, ◌∙◌, append_assoc}
+use Rattle.std.specs.Prelude.{⊤}
+use Rattle.std.specs.List.{flat_map}
 use Rattle.std.specs.List.Sorted.{IsStrictlySortedBy}
 use Rattle.std.specs.Map.{keys_of}
-use Rattle.std.proofs.lemmas.Bool.{and_from, and_right, cases_order, eq-eqb, ne_eqb}
-use Rattle.std.proofs.lemmas.Grind.{flat_map-append}
-use Rattle.std.proofs.lemmas.Bool.Decides.{nat_tests}
-use Rattle.std.proofs.lemmas.List.{at_drop_more, drop_all, map-append, take_more}
-use Rattle.std.proofs.lemmas.List.Elements.{filter-append, filter_map-append}
 use Rattle.fr_base.specs.Book as book
-use Rattle.fr_base.specs.Cells.{Cell, cells_in, cells_of, cluster_cells, has_cell, same_cell, slots_of}
-use Rattle.fr_base.specs.Channels.{channel_number, channels_in, has_channel}
-use Rattle.fr_base.specs.Cycles.{all_cycles, cycle_count, cycles_of, has_cycle}
 use Rattle.fr_base.specs.Keys.{owned, placement_order}
-use Rattle.fr_base.specs.Numbers.{is_slot}
-use Rattle.fr_base.specs.Schedule.{entries, fill}
-use Rattle.fr_base.specs.Queries.{sees, sending, sendings_of}
-use Rattle.fr_base.specs.Tables.{Table, only}
-use Rattle.fr_base.specs.declared.answer.Sending.{Sending}
-use Rattle.fr_base.specs.declared.channel.Channel.{Channel}
-use Rattle.fr_base.specs.declared.channel.Channel.TheVariants as channel
-use Rattle.fr_base.specs.declared.channel.Channels.{Channels}
-use Rattle.fr_base.specs.declared.channel.Channels.TheVariants as channels
+use Rattle.fr_base.specs.Queries.{sees}
+use Rattle.fr_base.specs.Tables.{only}
 use Rattle.fr_base.specs.declared.name.Name.{Name}
-use Rattle.fr_base.specs.declared.params.Params.{Params}
 use Rattle.fr_base.specs.declared.placement.Placement.{Placement}
 use Rattle.fr_base.specs.declared.request.Actor.{Actor}
+use Rattle.fr_world.specs.Sendings.{filled_by}
 use Rattle.fr_cli.specs.Rows.{table_of}
-use Rattle.fr_cli.specs.Sendings.{filled, filled_by, is_due, is_used, seen, sent_in}
+use Rattle.fr_cli.specs.Sendings.{seen}
 use Rattle.fr_cli.specs.Variants.{frame_of}
-use Rattle.fr_cli.specs.declared.schedule.Placed.{Placed}
 use Rattle.fr_cli.specs.declared.variant.Frame.{Frame}
 use Rattle.fr_cli.specs.declared.variant.Owned.{Owned}
 use Rattle.fr_cli.proofs.KeyLaws.{owned_cmp, owned_alike, placement_cmp, placements_alike}
 use Rattle.fr_cli.proofs.MapLaws.{rows-table_of, rows-set_of}
-
-abbrev pub cell : ℕ → ℕ → Channel → Cell
-cell k slot x = record { cycle = k; slot = slot; channel = x }
-
--- ---- which cells a placement has
-
-is_eq-then : (r s : Ordering) → is_eq (ordering_then r s) ≡ (is_eq r && is_eq s)
-is_eq-then Less s = refl
-is_eq-then Equal s = refl
-is_eq-then Greater s = refl
-
-is_eq-nat : (a b : ℕ) → is_eq (nat_cmp a b) ≡ eqb a b
-is_eq-nat a b = elim (cases_order a b) [
-  | inl e ↦ ap is_eq (sym (nat_cmp_is a b Equal e)) ∙ sym (eq-eqb a b e)
-  | inr o ↦ elim o [
-    | inl l ↦ ap is_eq (sym (nat_cmp_is a b Less l)) ∙ sym (ne_eqb a b (λ e. omega (arith, l, e)))
-    | inr g ↦ ap is_eq (sym (nat_cmp_is a b Greater g)) ∙ sym (ne_eqb a b (λ e. omega (arith, g, e)))
-  ]
-]
-
-abbrev same_channel : Channel → Channel → Bool
-same_channel c d = eqb (channel_number c) (channel_number d)
-
-same_cell-parts : (c : Cell) (k slot : ℕ) (x : Channel) → same_cell c (cell k slot x) ≡ (eqb c.cycle k && (eqb c.slot slot && same_channel c.channel x))
-same_cell-parts c k slot x =
-    let s = nat_cmp c.slot slot in
-    let n = nat_cmp (channel_number c.channel) (channel_number x) in
-    is_eq-then (nat_cmp c.cycle k) (ordering_then s n)
-    ∙ (λ i. is_eq-nat c.cycle k i && is_eq-then s n i)
-    ∙ (λ i. eqb c.cycle k && (is_eq-nat c.slot slot i && is_eq-nat (channel_number c.channel) (channel_number x) i))
-
--- a cell is in a cycle, or in a later one
-turn_A : (s y : Bool) (c : Channel) (r : Bool) → ((y && (s && same_channel c channel.A)) || ((s && has_channel channels.A c) && r)) ≡ ((s && has_channel channels.A c) && (y || r))
-turn_A true true channel.A r = refl
-turn_A true true channel.B r = refl
-turn_A true false c r = refl
-turn_A false true c r = refl
-turn_A false false c r = refl
-
-turn_B : (s y : Bool) (c : Channel) (r : Bool) → ((y && (s && same_channel c channel.B)) || ((s && has_channel channels.B c) && r)) ≡ ((s && has_channel channels.B c) && (y || r))
-turn_B true true channel.A r = refl
-turn_B true true channel.B r = refl
-turn_B true false c r = refl
-turn_B false true c r = refl
-turn_B false false c r = refl
-
-turn_AB : (s y : Bool) (c : Channel) (r : Bool) → ((y && (s && same_channel c channel.A)) || ((y && (s && same_channel c channel.B)) || ((s && has_channel channels.AB c) && r))) ≡ ((s && has_channel channels.AB c) && (y || r))
-turn_AB true true channel.A r = refl
-turn_AB true true channel.B r = refl
-turn_AB true false c r = refl
-turn_AB false true c r = refl
-turn_AB false false c r = refl
-
-any_column : (c : Cell) (slot : ℕ) (chs : Channels) (ks : List ℕ) → list_any (same_cell c) (cells_in ks (slot ∷ []) (channels_in chs)) ≡ ((eqb c.slot slot && has_channel chs c.channel) && list_any (eqb c.cycle) ks)
-any_column c slot chs [] = sym (and_right _ _ refl)
-any_column c slot channels.A (k ∷ ks) =
-    (λ i. same_cell-parts c k slot channel.A i || any_column c slot channels.A ks i)
-    ∙ turn_A (eqb c.slot slot) (eqb c.cycle k) c.channel (list_any (eqb c.cycle) ks)
-any_column c slot channels.AB (k ∷ ks) =
-    (λ i. same_cell-parts c k slot channel.A i || (same_cell-parts c k slot channel.B i || any_column c slot channels.AB ks i))
-    ∙ turn_AB (eqb c.slot slot) (eqb c.cycle k) c.channel (list_any (eqb c.cycle) ks)
-any_column c slot channels.B (k ∷ ks) =
-    (λ i. same_cell-parts c k slot channel.B i || any_column c slot channels.B ks i)
-    ∙ turn_B (eqb c.slot slot) (eqb c.cycle k) c.channel (list_any (eqb c.cycle) ks)
-
--- a placement has a cell of its slot, on one of its channels, in one of its cycles
-pub has_cell_parts : (q : Placement) (c : Cell) → has_cell q c ≡ ((eqb c.slot q.slot && has_channel q.channels c.channel) && has_cycle q.cycles c.cycle)
-unfolding has_cell cells_of has_cycle
-has_cell_parts q c = any_column c q.slot q.channels (cycles_of q.cycles)
-
--- ---- the placements that an actor sees
 
 -- a set's rows with their owner
 owned_rows : {O : Type 0} (o : O) (qs : List Placement) → map {B = O × Placement} (λ (row : Placement × ⊤). (o, row.0)) (map {B = Placement × ⊤} (λ q. (q, tt)) qs) ≡ map {B = O × Placement} (λ q. (o, q)) qs
@@ -117,7 +28,7 @@ owned_rows o (q ∷ qs) = ap (λ rest. (o, q) ∷ rest) (owned_rows o qs)
 abbrev pub owner_of : Owned → Name → book.Owner
 owner_of k node = record { supplier = k.supplier; frame = k.name; node = node }
 
-pub filled_by-keys : (k : Owned) (f : Frame) → IsStrictlySortedBy placement_cmp f.placements.keys → filled_by k (frame_of f) ≡ map (λ q. (owner_of k f.node, q)) f.placements.keys
+pub filled_by-keys : (k : Owned) (f : Frame) → IsStrictlySortedBy placement_cmp f.placements.keys → filled_by (k.supplier, k.name) (frame_of f) ≡ map (λ q. (owner_of k f.node, q)) f.placements.keys
 filled_by-keys k f h =
     ap (map {B = book.Owner × Placement} (λ row. (owner_of k f.node, row.0))) (rows-set_of placement_cmp placement_order (λ p. p) placements_alike f.placements.keys h)
     ∙ owned_rows (owner_of k f.node) f.placements.keys
@@ -125,19 +36,19 @@ filled_by-keys k f h =
 -- what the entries that the actor sees fill
 abbrev pub fillings : Actor → List (Owned × Frame) → List (book.Owner × Placement)
 fillings a [] = []
-fillings a (e ∷ es) = cond (sees a e.0.supplier) (filled_by e.0 (frame_of e.1) ++ fillings a es) (fillings a es)
+fillings a (e ∷ es) = cond (sees a e.0.supplier) (filled_by (e.0.supplier, e.0.name) (frame_of e.1) ++ fillings a es) (fillings a es)
 
 abbrev row_of : Owned × Frame → (Name × Name) × book.Frame
 row_of e = ((e.0.supplier, e.0.name), frame_of e.1)
 
 abbrev frame_fills : (Name × Name) × book.Frame → List (book.Owner × Placement)
-frame_fills row = map (λ q. (record { supplier = row.0.0; frame = row.0.1; node = row.1.node }, q.0)) row.1.placements.rows
+frame_fills row = filled_by row.0 row.1
 
 fillings-rows : (a : Actor) (es : List (Owned × Frame)) → flat_map frame_fills (filter (λ row. sees a row.0.0) (map row_of es)) ≡ fillings a es
 fillings-rows a [] = refl
 fillings-rows a (e ∷ es) =
-    elim (sees a e.0.supplier) as (λ b. flat_map frame_fills (cond b (row_of e ∷ filter (λ row. sees a row.0.0) (map row_of es)) (filter (λ row. sees a row.0.0) (map row_of es))) ≡ cond b (filled_by e.0 (frame_of e.1) ++ fillings a es) (fillings a es)) [
-      | true ↦ ap (λ rest. filled_by e.0 (frame_of e.1) ++ rest) (fillings-rows a es)
+    elim (sees a e.0.supplier) as (λ b. flat_map frame_fills (cond b (row_of e ∷ filter (λ row. sees a row.0.0) (map row_of es)) (filter (λ row. sees a row.0.0) (map row_of es))) ≡ cond b (filled_by (e.0.supplier, e.0.name) (frame_of e.1) ++ fillings a es) (fillings a es)) [
+      | true ↦ ap (λ rest. filled_by (e.0.supplier, e.0.name) (frame_of e.1) ++ rest) (fillings-rows a es)
       | false ↦ fillings-rows a es
     ]
 
@@ -149,219 +60,12 @@ placements_of-seen a es h =
     ∙ fillings-rows a es
 
 -- one entry more, which is seen or not
-pub fillings-seen : (a : Actor) (e : Owned × Frame) (es : List (Owned × Frame)) (old new all : List (book.Owner × Placement)) → sees a e.0.supplier ≡ true → new ≡ old ++ filled_by e.0 (frame_of e.1) → old ++ fillings a (e ∷ es) ≡ all → new ++ fillings a es ≡ all
+pub fillings-seen : (a : Actor) (e : Owned × Frame) (es : List (Owned × Frame)) (old new all : List (book.Owner × Placement)) → sees a e.0.supplier ≡ true → new ≡ old ++ filled_by (e.0.supplier, e.0.name) (frame_of e.1) → old ++ fillings a (e ∷ es) ≡ all → new ++ fillings a es ≡ all
 fillings-seen a e es old new all p n h =
     ap (λ xs. xs ++ fillings a es) n
-    ∙ append_assoc old (filled_by e.0 (frame_of e.1)) (fillings a es)
-    ∙ ap (λ b. old ++ cond b (filled_by e.0 (frame_of e.1) ++ fillings a es) (fillings a es)) (sym p)
+    ∙ append_assoc old (filled_by (e.0.supplier, e.0.name) (frame_of e.1)) (fillings a es)
+    ∙ ap (λ b. old ++ cond b (filled_by (e.0.supplier, e.0.name) (frame_of e.1) ++ fillings a es) (fillings a es)) (sym p)
     ∙ h
 
 pub fillings-unseen : (a : Actor) (e : Owned × Frame) (es : List (Owned × Frame)) (old all : List (book.Owner × Placement)) → sees a e.0.supplier ≡ false → old ++ fillings a (e ∷ es) ≡ all → old ++ fillings a es ≡ all
-fillings-unseen a e es old all p h = ap (λ b. old ++ cond b (filled_by e.0 (frame_of e.1) ++ fillings a es) (fillings a es)) (sym p) ∙ h
-
--- ---- what is sent in some cells
-
-pub sent-nothing : (fs : List (book.Owner × Placement)) → sent_in fs [] ≡ []
-unfolding sent_in entries
-sent-nothing fs = refl
-
-pub sent-append : (fs : List (book.Owner × Placement)) (xs ys : List Cell) → sent_in fs (xs ++ ys) ≡ sent_in fs xs ++ sent_in fs ys
-unfolding sent_in entries
-sent-append fs xs ys =
-    ap (map sending) (filter_map-append (λ c. option_map (λ o. (c, o)) (fill fs c)) xs ys)
-    ∙ map-append sending (entries (fill fs) xs) (entries (fill fs) ys)
-
-sent_as : (c : Cell) (r : Option book.Owner) → map sending (cons_option (option_map (λ o. (c, o)) r) []) ≡ cons_option (option_map (λ o. sending (c, o)) r) []
-sent_as c None = refl
-sent_as c (Some o) = refl
-
-pub sent-cell : (fs : List (book.Owner × Placement)) (c : Cell) → sent_in fs (c ∷ []) ≡ cons_option (option_map (λ o. sending (c, o)) (fill fs c)) []
-unfolding sent_in entries
-sent-cell fs c = sent_as c (fill fs c)
-
--- first some cells, and then others
-pub sent-more : (fs : List (book.Owner × Placement)) (old mid new : List Sending) (xs ys : List Cell) → mid ≡ old ++ sent_in fs xs → new ≡ mid ++ sent_in fs ys → new ≡ old ++ sent_in fs (xs ++ ys)
-sent-more fs old mid new xs ys m n =
-    n ∙ ap (λ rows. rows ++ sent_in fs ys) m
-    ∙ append_assoc old (sent_in fs xs) (sent_in fs ys)
-    ∙ ap (λ rows. old ++ rows) (sym (sent-append fs xs ys))
-
-range-more : (a n : ℕ) → range_with_len a (suc n) ≡ range_with_len a n ++ (a + n) ∷ []
-range-more a zero = ap (λ x. x ∷ []) (sym (add-zero a))
-range-more a (suc n) =
-    let e : a + 1 + n ≡ a + suc n = omega arith in
-    ap (λ xs. a ∷ xs) (range-more (a + 1) n ∙ ap (λ x. range_with_len (a + 1) n ++ x ∷ []) e)
-
-abbrev slot_cells : ℕ → List Channel → List ℕ → List Cell
-slot_cells k chs slots = flat_map (λ slot. map (λ x. cell k slot x) chs) slots
-
-cells-slots : (k : ℕ) (chs : List Channel) (xs ys : List ℕ) → cells_in (k ∷ []) (xs ++ ys) chs ≡ cells_in (k ∷ []) xs chs ++ cells_in (k ∷ []) ys chs
-cells-slots k chs xs ys =
-    append-nil (slot_cells k chs (xs ++ ys))
-    ∙ flat_map-append (λ slot. map (λ x. cell k slot x) chs) xs ys
-    ∙ (λ i. sym (append-nil (slot_cells k chs xs)) i ++ sym (append-nil (slot_cells k chs ys)) i)
-
--- one slot more of a cycle
-pub sent-slot : (fs : List (book.Owner × Placement)) (k : ℕ) (chs : List Channel) (slots : List ℕ) (i slot : ℕ) (old mid new : List Sending) → i < length slots → slot ≡ get_or slots i slot
-    → mid ≡ old ++ sent_in fs (cells_in (k ∷ []) (take i slots) chs)
-    → new ≡ mid ++ sent_in fs (cells_in (k ∷ []) (slot ∷ []) chs)
-    → new ≡ old ++ sent_in fs (cells_in (k ∷ []) (take (i + 1) slots) chs)
-sent-slot fs k chs slots i slot old mid new l e h g =
-    sent-more fs old mid new _ _ h g
-    ∙ ap (λ cells. old ++ sent_in fs cells) (sym (cells-slots k chs (take i slots) (slot ∷ [])))
-    ∙ ap (λ xs. old ++ sent_in fs (cells_in (k ∷ []) xs chs)) (ap (λ x. take i slots ++ x ∷ []) e ∙ sym (take_more slots i slot l))
-
--- one cycle more
-pub sent-cycle : (fs : List (book.Owner × Placement)) (slots : List ℕ) (chs : List Channel) (mid new : List Sending) (k n : ℕ) → n ≡ suc k
-    → mid ≡ sent_in fs (cells_in (range_with_len 0 k) slots chs)
-    → new ≡ mid ++ sent_in fs (cells_in (k ∷ []) slots chs)
-    → new ≡ sent_in fs (cells_in (range_with_len 0 n) slots chs)
-sent-cycle fs slots chs mid new k n f h g =
-    let z : 0 + k ≡ k = omega arith in
-    sent-more fs [] mid new _ _ h g
-    ∙ ap (sent_in fs) (sym (flat_map-append (λ k. slot_cells k chs slots) (range_with_len 0 k) (k ∷ [])) ∙ ap (λ x. cells_in (range_with_len 0 k ++ x ∷ []) slots chs) (sym z) ∙ ap (λ ks. cells_in ks slots chs) (sym (range-more 0 k)) ∙ ap (λ l. cells_in (range_with_len 0 l) slots chs) (sym f))
-
--- ---- what is not in a cycle or a slot
-
--- who sends in a placement's cells
-abbrev pub owner_in : Placed → book.Owner
-owner_in p = record { supplier = p.supplier; frame = p.frame; node = p.node }
-
-undue : (k slot : ℕ) (x : Channel) (p : Placed) → is_due k p ≡ false → has_cell p.placement (cell k slot x) ≡ false
-undue k slot x p e = has_cell_parts p.placement (cell k slot x) ∙ and_right _ _ e
-
-elsewhere : (k slot : ℕ) (x : Channel) (p : Placed) → eqb slot p.placement.slot ≡ false → has_cell p.placement (cell k slot x) ≡ false
-elsewhere k slot x p e =
-    has_cell_parts p.placement (cell k slot x)
-    ∙ ap (λ b. (b && has_channel p.placement.channels x) && has_cycle p.placement.cycles k) e
-
--- the placements of the cycle fill its cells as all do
-fill-due : (k slot : ℕ) (x : Channel) (ps : List Placed) → fill (filled (filter (is_due k) ps)) (cell k slot x) ≡ fill (filled ps) (cell k slot x)
-unfolding fill
-fill-due k slot x [] = refl
-fill-due k slot x (p ∷ ps) =
-    let due : List Placed = filter (is_due k) ps in
-    let c : Cell = cell k slot x in
-    elim (is_due k p) as (λ b. (b ≡ false → has_cell p.placement c ≡ false) → fill (filled (cond b (p ∷ due) due)) c ≡ cond (has_cell p.placement c) (Some (owner_in p)) (fill (filled ps) c)) [
-      | true ↦ λ h. ap (λ r. cond (has_cell p.placement c) (Some (owner_in p)) r) (fill-due k slot x ps)
-      | false ↦ λ h. fill-due k slot x ps ∙ ap (λ b. cond b (Some (owner_in p)) (fill (filled ps) c)) (sym (h refl))
-    ] (undue k slot x p)
-
-fill-nothing : (c : Cell) → None ≡ fill {O = book.Owner} [] c
-unfolding fill
-fill-nothing c = refl
-
-true_is_not : true ≡ false → ⊥
-true_is_not e = cc
-
--- a slot without a placement has no filled cell
-fill-unused : (ps : List Placed) (k slot : ℕ) (x : Channel) → is_used ps slot ≡ false → fill (filled ps) (cell k slot x) ≡ None
-unfolding fill
-fill-unused [] k slot x e = refl
-fill-unused (p ∷ ps) k slot x e =
-    let c : Cell = cell k slot x in
-    elim (eqb slot p.placement.slot) as (λ b. (b || is_used ps slot) ≡ false → (b ≡ false → has_cell p.placement c ≡ false) → cond (has_cell p.placement c) (Some (owner_in p)) (fill (filled ps) c) ≡ None) [
-      | true ↦ λ f h. absurd (true_is_not f)
-      | false ↦ λ f h. ap (λ b. cond b (Some (owner_in p)) (fill (filled ps) c)) (h refl) ∙ fill-unused ps k slot x f
-    ] e (elsewhere k slot x p)
-
-abbrev column : ℕ → ℕ → List Channel → List Cell
-column k slot chs = map (λ x. cell k slot x) chs
-
-cells-column : (k slot : ℕ) (chs : List Channel) → cells_in (k ∷ []) (slot ∷ []) chs ≡ column k slot chs
-cells-column k slot chs = append-nil (column k slot chs ++ []) ∙ append-nil (column k slot chs)
-
--- where owners fill a slot's cells alike, the same is sent there
-sent-alike : (fs gs : List (book.Owner × Placement)) (k slot : ℕ) (chs : List Channel) → ((x : Channel) → fill fs (cell k slot x) ≡ fill gs (cell k slot x)) → sent_in fs (column k slot chs) ≡ sent_in gs (column k slot chs)
-sent-alike fs gs k slot [] h = sent-nothing fs ∙ sym (sent-nothing gs)
-sent-alike fs gs k slot (x ∷ chs) h =
-    let c : Cell = cell k slot x in
-    let same : sent_in fs (c ∷ []) ≡ sent_in gs (c ∷ []) = sent-cell fs c ∙ ap (λ r. cons_option (option_map (λ o. sending (c, o)) r) []) (h x) ∙ sym (sent-cell gs c) in
-    sent-append fs (c ∷ []) (column k slot chs)
-    ∙ (λ i. same i ++ sent-alike fs gs k slot chs h i)
-    ∙ sym (sent-append gs (c ∷ []) (column k slot chs))
-
-sent-empty : (cells : List Cell) → sent_in [] cells ≡ []
-unfolding sent_in entries fill
-sent-empty [] = refl
-sent-empty (c ∷ cells) = sent-empty cells
-
--- of a cycle's cells the cycle's placements alone are asked
-pub sent-due : (k slot : ℕ) (chs : List Channel) (ps : List Placed) → sent_in (filled (filter (is_due k) ps)) (cells_in (k ∷ []) (slot ∷ []) chs) ≡ sent_in (filled ps) (cells_in (k ∷ []) (slot ∷ []) chs)
-sent-due k slot chs ps =
-    ap (sent_in (filled (filter (is_due k) ps))) (cells-column k slot chs)
-    ∙ sent-alike (filled (filter (is_due k) ps)) (filled ps) k slot chs (λ x. fill-due k slot x ps)
-    ∙ ap (sent_in (filled ps)) (sym (cells-column k slot chs))
-
-sent-unused : (ps : List Placed) (k slot : ℕ) (chs : List Channel) → is_used ps slot ≡ false → sent_in (filled ps) (column k slot chs) ≡ []
-sent-unused ps k slot chs e = sent-alike (filled ps) [] k slot chs (λ x. fill-unused ps k slot x e ∙ fill-nothing (cell k slot x)) ∙ sent-empty (column k slot chs)
-
--- a cycle's slots without a placement can be left out
-sent-used : (ps : List Placed) (k : ℕ) (chs : List Channel) (slots : List ℕ) → sent_in (filled ps) (slot_cells k chs (filter (is_used ps) slots)) ≡ sent_in (filled ps) (slot_cells k chs slots)
-sent-used ps k chs [] = refl
-sent-used ps k chs (slot ∷ slots) =
-    let used : List ℕ = filter (is_used ps) slots in
-    elim (is_used ps slot) as (λ b. (b ≡ false → sent_in (filled ps) (column k slot chs) ≡ []) → sent_in (filled ps) (slot_cells k chs (cond b (slot ∷ used) used)) ≡ sent_in (filled ps) (column k slot chs ++ slot_cells k chs slots)) [
-      | true ↦ λ h. sent-append (filled ps) (column k slot chs) (slot_cells k chs used) ∙ ap (λ rest. sent_in (filled ps) (column k slot chs) ++ rest) (sent-used ps k chs slots) ∙ sym (sent-append (filled ps) (column k slot chs) (slot_cells k chs slots))
-      | false ↦ λ h. sent-used ps k chs slots ∙ ap (λ front. front ++ sent_in (filled ps) (slot_cells k chs slots)) (sym (h refl)) ∙ sym (sent-append (filled ps) (column k slot chs) (slot_cells k chs slots))
-    ] (sent-unused ps k slot chs)
-
-sent-used-slots : (ps : List Placed) (ks : List ℕ) (chs : List Channel) (slots : List ℕ) → sent_in (filled ps) (cells_in ks (filter (is_used ps) slots) chs) ≡ sent_in (filled ps) (cells_in ks slots chs)
-sent-used-slots ps [] chs slots = refl
-sent-used-slots ps (k ∷ ks) chs slots =
-    sent-append (filled ps) (slot_cells k chs (filter (is_used ps) slots)) (cells_in ks (filter (is_used ps) slots) chs)
-    ∙ (λ i. sent-used ps k chs slots i ++ sent-used-slots ps ks chs slots i)
-    ∙ sym (sent-append (filled ps) (slot_cells k chs slots) (cells_in ks slots chs))
-
--- after the last cycle that is the whole schedule
-pub sent-all : (p : Params) (frames : Table owned book.Frame) (ps : List Placed) (used : List ℕ) (rows : List Sending) (n : ℕ) → n ≡ 64 → filled ps ≡ book.placements_of frames → used ≡ filter (is_used ps) (slots_of p)
-    → rows ≡ sent_in (filled ps) (cells_in (range_with_len 0 n) used (channels_in p.channels)) → rows ≡ sendings_of p frames
-unfolding sent_in sendings_of cluster_cells all_cycles cycle_count book.schedule_of
-sent-all p frames ps used rows n e f u h =
-    h ∙ ap (λ slots. sent_in (filled ps) (cells_in (range_with_len 0 n) slots (channels_in p.channels))) u
-    ∙ sent-used-slots ps (range_with_len 0 n) (channels_in p.channels) (slots_of p)
-    ∙ ap (λ fs. map sending (entries (fill fs) (cells_in (range_with_len 0 n) (slots_of p) (channels_in p.channels)))) f
-    ∙ ap (λ n. map sending (entries (fill (book.placements_of frames)) (cells_in (range_with_len 0 n) (slots_of p) (channels_in p.channels)))) e
-
--- one slot more, if a placement is in it
-pub used-more : (ps : List Placed) (old new : List ℕ) (number m n : ℕ) → number ≡ 1 + m → n ≡ suc m
-    → old ≡ filter (is_used ps) (range_with_len 1 m)
-    → new ≡ old ++ filter (is_used ps) (number ∷ [])
-    → new ≡ filter (is_used ps) (range_with_len 1 n)
-used-more ps old new number m n e f h g =
-    g
-    ∙ (λ i. h i ++ filter (is_used ps) (e i ∷ []))
-    ∙ sym (filter-append (is_used ps) (range_with_len 1 m) ((1 + m) ∷ []))
-    ∙ ap (filter (is_used ps)) (sym (range-more 1 m) ∙ ap (range_with_len 1) (sym f))
-
--- ---- who sends in a cell, placement by placement
-
-fill-at : (c : Cell) (ps : List Placed) (i : ℕ) (p : Placed) → i < length ps → p ≡ get_or ps i p → fill (filled (drop i ps)) c ≡ cond (has_cell p.placement c) (Some (owner_in p)) (fill (filled (drop (i + 1) ps)) c)
-unfolding fill
-fill-at c ps i p l e =
-    at_drop_more (λ rest. fill (filled rest) c) ps i p l
-    ∙ ap (λ q. cond (has_cell q.placement c) (Some (owner_in q)) (fill (filled (drop (i + 1) ps)) c)) (sym e)
-
-pub fill-here : (c : Cell) (ps : List Placed) (i : ℕ) (p : Placed) → i < length ps → p ≡ get_or ps i p → has_cell p.placement c ≡ true → fill (filled (drop i ps)) c ≡ fill (filled ps) c → Some (sending (c, owner_in p)) ≡ option_map (λ o. sending (c, o)) (fill (filled ps) c)
-fill-here c ps i p l e t h =
-    ap (option_map (λ o. sending (c, o)))
-    (ap (λ b. cond b (Some (owner_in p)) (fill (filled (drop (i + 1) ps)) c)) (sym t) ∙ sym (fill-at c ps i p l e) ∙ h)
-
-pub fill-later : (c : Cell) (ps : List Placed) (i : ℕ) (p : Placed) → i < length ps → p ≡ get_or ps i p → has_cell p.placement c ≡ false → fill (filled (drop i ps)) c ≡ fill (filled ps) c → fill (filled (drop (i + 1) ps)) c ≡ fill (filled ps) c
-fill-later c ps i p l e t h = ap (λ b. cond b (Some (owner_in p)) (fill (filled (drop (i + 1) ps)) c)) (sym t) ∙ sym (fill-at c ps i p l e) ∙ h
-
-pub fill-nowhere : (c : Cell) (ps : List Placed) (i : ℕ) → length ps ≤ i → fill (filled (drop i ps)) c ≡ fill (filled ps) c → None ≡ option_map (λ o. sending (c, o)) (fill (filled ps) c)
-fill-nowhere c ps i l h = ap (option_map (λ o. sending (c, o))) (fill-nothing c ∙ ap (λ rest. fill (filled rest) c) (sym (drop_all i ps l)) ∙ h)
-
-is_slot-within : (number : ℕ) → 1 ≤ number → number ≤ 1023 → is_slot number ≡ true
-is_slot-within number l h = and_from (nat_le 1 number) (nat_le number 1023) (grind (arith, nat_tests)) (grind (arith, nat_tests))
-
--- a number within the bounds is a slot's
-pub slot-within : (number : ℕ) (r : Option ℕ) → 1 ≤ number → number ≤ 1023 → r ≡ cond (is_slot number) (Some number) None → r ≡ Some number
-slot-within number r l h e = e ∙ ap (λ b. cond b (Some number) None) (is_slot-within number l h)
-
-pub same_slot : (slot number : ℕ) → Some slot ≡ Some number → slot ≡ number
-same_slot slot number e = cc
-
-pub some_slot : (r : Option ℕ) (number : ℕ) → r ≡ Some number → r ≡ None → ⊥
-some_slot r number e f = cc
+fillings-unseen a e es old all p h = ap (λ b. old ++ cond b (filled_by (e.0.supplier, e.0.name) (frame_of e.1) ++ fillings a es) (fillings a es)) (sym p) ∙ h

@@ -78,3 +78,6 @@ fn gap_of(params: &Params, frame: &PageFrame) -> Option<u32>
     }
     greatest_gap(params, &room[..count])
 }
+
+#[cfg(test)]
+mod tests;

@@ -165,3 +165,6 @@ fn has_cell(placement: &Placement, cycle: u8, slot: Slot, channel: Channel) -> b
 {
     slot == placement.slot && placement.channels.has(channel) && placement.cycles.contains(cycle)
 }
+
+#[cfg(test)]
+mod tests;

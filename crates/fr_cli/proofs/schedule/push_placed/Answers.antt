@@ -1,7 +1,7 @@
 use Rattle.std.proofs.Common.{◌≡◌, ◌∙◌, ◌++◌, [], sym, ap, map, append-nil}
 use Rattle.fr_base.specs.Book as book
 use Rattle.fr_base.specs.declared.placement.Placement.{Placement}
-use Rattle.fr_cli.specs.Sendings.{filled}
+use Rattle.fr_world.specs.Sendings.{filled}
 use Rattle.fr_cli.proofs.ScheduleLaws.{filled_by-keys, owner_of}
 use Rattle.fr_cli.proofs.schedule.push_placed.Goals as goal
 

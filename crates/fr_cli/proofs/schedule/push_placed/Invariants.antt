@@ -1,5 +1,5 @@
 use Rattle.std.proofs.Common.{◌≡◌, ◌++◌, map}
-use Rattle.fr_cli.specs.Sendings.{filled}
+use Rattle.fr_world.specs.Sendings.{filled}
 use Rattle.fr_cli.proofs.ScheduleLaws.{owner_of}
 use Rattle.fr_cli.proofs.schedule.push_placed.Given as goal
 

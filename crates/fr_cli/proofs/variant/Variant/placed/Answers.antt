@@ -1,5 +1,5 @@
 use Rattle.std.proofs.Common.{◌≡◌, ◌∙◌, ◌++◌, [], sym, ap, append-nil}
-use Rattle.fr_cli.specs.Sendings.{filled}
+use Rattle.fr_world.specs.Sendings.{filled}
 use Rattle.fr_cli.proofs.ScheduleLaws.{fillings, placements_of-seen}
 use Rattle.fr_cli.proofs.variant.Variant.placed.Goals as goal
 

@@ -1,5 +1,5 @@
 use Rattle.std.proofs.Common.{◌≡◌, ◌++◌}
-use Rattle.fr_cli.specs.Sendings.{filled}
+use Rattle.fr_world.specs.Sendings.{filled}
 use Rattle.fr_cli.proofs.ScheduleLaws.{fillings}
 use Rattle.fr_cli.proofs.variant.Variant.placed.Given as goal
 

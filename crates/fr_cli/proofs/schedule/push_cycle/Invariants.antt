@@ -1,9 +1,0 @@
-use Rattle.std.proofs.Common.{◌≡◌, [], ◌∷◌, ◌++◌, take}
-use Rattle.fr_base.specs.Cells.{cells_in}
-use Rattle.fr_base.specs.Channels.{channels_in}
-use Rattle.fr_cli.specs.Sendings.{filled, sent_in}
-use Rattle.fr_cli.proofs.schedule.push_cycle.Given as goal
-
--- what was there, and what is sent in the slots so far
-abbrev pub invariant-loop-slot : goal.invariant-loop-slot
-invariant-loop-slot l = l.rows ≡ l.fn.rows ++ sent_in (filled l.placed) (cells_in (l.cycle ∷ []) (take l.slot-index l.slots) (channels_in l.channels))

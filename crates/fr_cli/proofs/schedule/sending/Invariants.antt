@@ -1,9 +1,0 @@
-use Rattle.std.proofs.Common.{◌≡◌, drop}
-use Rattle.fr_base.specs.Schedule.{fill}
-use Rattle.fr_cli.specs.Sendings.{filled}
-use Rattle.fr_cli.proofs.ScheduleLaws.{cell}
-use Rattle.fr_cli.proofs.schedule.sending.Given as goal
-
--- the first one is among those that are left
-abbrev pub invariant-loop-one : goal.invariant-loop-one
-invariant-loop-one l = fill (filled (drop l.one-index l.placed)) (cell l.cycle l.slot l.channel) ≡ fill (filled l.placed) (cell l.cycle l.slot l.channel)
