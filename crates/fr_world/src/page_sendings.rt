@@ -31,3 +31,6 @@ fn sendings(alloc: Global, page: &Page, cycle: u8) -> Result<Rows<Sending>, Allo
     push_sendings(alloc, &page.params(), &placed, cycle, &mut rows)?;
     Ok(rows)
 }
+
+#[cfg(test)]
+mod tests;
