@@ -1,6 +1,5 @@
 -- What is made of a frame's placements and signals, and of the variants.
-use Rattle.std.proofs.Common.{◌≡◌, ℕ, Bool, true, false, not, cond, ◌||◌, List, [], ◌∷◌, filter, Option, Some, None, option_map, Result, Ok, Err, IfOk, OnOk, OnErr, refl, sym, ap, subst, ◌∙◌}
-use Rattle.std.specs.Prelude.{MatchResult}
+use Rattle.std.proofs.Common.{◌≡◌, ℕ, not, List, filter, Option, Some, None, option_map, Result, Ok, Err, IfOk, OnOk, OnErr, refl, sym, ap, subst, ◌∙◌}
 use Rattle.std.specs.Map.{keys_of, lookup, set_value}
 use Rattle.std.specs.BTreeMap.{insert_entry, is_at}
 use Rattle.std.specs.Option.{option_and_then}
@@ -11,13 +10,11 @@ use Rattle.std.specs.List.Sorted.{IsStrictlySortedBy}
 use Rattle.fr_base.specs.Tables.{Table, get, insert, remove}
 use Rattle.fr_base.specs.Keys.{names, owned, placement_order}
 use Rattle.fr_base.specs.Book as register
-use Rattle.fr_base.specs.Refusing.{◌>>◌, refuse◌when◌}
 use Rattle.fr_base.specs.Signals.{SignalData}
-use Rattle.fr_base.specs.Layouts.{LayoutData, add_signal, has_signal, remove_signal, with_signal}
+use Rattle.fr_base.specs.Layouts.{LayoutData, add_signal, remove_signal, with_signal}
 use Rattle.fr_base.specs.declared.name.Name.{Name}
 use Rattle.fr_base.specs.declared.placement.Placement.{Placement}
 use Rattle.fr_base.specs.declared.refusal.Refusal.{Refusal}
-use Rattle.fr_base.specs.declared.refusal.Refusal.TheVariants.{NoSignal}
 use Rattle.fr_base.proofs.SoundRefusing.{gives_when, gives_unless, gives_then}
 use Rattle.fr_world.specs.Changes.{change_variant, changed_at, copied, or_empty}
 use Rattle.fr_world.specs.Maps.{table_of, set_of}

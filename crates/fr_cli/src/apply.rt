@@ -35,7 +35,7 @@ impl Register {
     /// Makes the edit. A change of a variant or frame that is not there changes nothing.
     /// `Unavailable` where memory is refused or a signal cannot stand with the frame's others, which
     /// changes nothing.
-    #[tactic(auto, unfolding(fr_world::specs::Changes::changed, crate::specs::Applied::variant_edited, fr_world::specs::Amends::frame_edited))]
+    #[tactic(auto, unfolding(fr_world::specs::Changes::changed, crate::specs::Applied::variant_edited, crate::specs::Applied::frames_edited, fr_world::specs::Amends::frame_edited))]
     pub(crate) fn apply(&mut self, alloc: Global, edit: &Edit) -> Result<(), Refusal>
         ensures config { self.new.config ≡ self.old.config }
         ensures ok { OnOk result (book_of self.new ≡ changed (book_of self.old) edit.now) }

@@ -5,12 +5,12 @@ ghost use Rattle.fr_base.specs.Tables.{empty, get, insert, remove};
 ghost use Rattle.fr_base.specs.declared.refusal.Refusal.TheVariants.{Unavailable};
 ghost use Rattle.fr_world.specs.Amends.{frame_edited};
 ghost use Rattle.fr_world.specs.Changes.{reframed};
-ghost use Rattle.fr_cli.specs.Applied.{frames_of, grants_of, variant_edited};
+ghost use Rattle.fr_cli.specs.Applied.{frames_edited, frames_of, grants_of, variant_edited};
 ghost use Rattle.fr_cli.specs.Plans.{holder_of, variant_of};
 
 use crate::apply::frame::change_frame;
 use crate::plan::{Holder, Owned, Plan};
-use fr_base::{Name, Refusal};
+use fr_base::{Channel, Name, Refusal, Slot};
 use fr_layout::Layout;
 use fr_world::{ChannelSlot, Edit, PageFrame};
 use std::alloc::{AllocError, Global};
@@ -66,23 +66,28 @@ impl Plan {
                 ..
             } => put_grant(
                 &mut self.grants,
-                ChannelSlot {
-                    slot: *slot,
-                    channel: *channel,
-                },
+                at(*slot, *channel),
                 Holder {
                     supplier: *supplier,
                     node: *node,
                 },
             ),
             Edit::EndGrant { slot, channel, .. } => {
-                let at = ChannelSlot {
-                    slot: *slot,
-                    channel: *channel,
-                };
-                end_grant(&mut self.grants, at);
+                end_grant(&mut self.grants, at(*slot, *channel));
                 Ok(())
             }
+            _ => self.change_frames(alloc, words, edit),
+        }
+    }
+
+    // Makes the edit, if it is one of the variant's frames.
+    #[tactic(auto, unfolding(crate::specs::Applied::frames_edited))]
+    fn change_frames(&mut self, alloc: Global, words: u32, edit: &Edit) -> Result<(), Refusal>
+        requires { words ≤ 127 }
+        ensures ok { OnOk result (variant_of self.new ≡ frames_edited edit.now (variant_of self.old)) }
+        ensures err { OnErr result ((variant_of self.new ≡ variant_of self.old) × (result ≡ Err Unavailable)) }
+    {
+        match edit {
             Edit::NewFrame {
                 supplier,
                 frame,
@@ -137,6 +142,12 @@ impl Plan {
             None => Ok(()),
         }
     }
+}
+
+fn at(slot: Slot, channel: Channel) -> ChannelSlot
+    ensures { result ≡ record { slot = slot; channel = channel } }
+{
+    ChannelSlot { slot, channel }
 }
 
 fn owned(supplier: &Name, name: &Name) -> Owned
