@@ -17,3 +17,4 @@ pub mod ShownLaws
 pub mod ListLaws
 pub mod PlanLaws
 pub mod ApplyLaws
+pub mod QueryLaws

@@ -13,3 +13,4 @@ pub mod Plans
 pub mod Registers
 pub mod Kept
 pub mod Applied
+pub mod Fitting

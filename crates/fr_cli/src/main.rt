@@ -11,6 +11,7 @@ mod output;
 mod pages;
 mod plan;
 mod program;
+mod queries;
 mod register;
 mod schedule;
 mod script;

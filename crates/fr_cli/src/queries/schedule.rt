@@ -1,0 +1,55 @@
+ghost use Rattle.std.specs.Prelude.{◌≡◌, ◌++◌, IfOk, OnOk};
+ghost use Rattle.fr_base.specs.Book.{placements_of};
+ghost use Rattle.fr_base.specs.Queries.{seen_frames, sendings_of};
+ghost use Rattle.fr_world.specs.Sendings.{filled, filled_by};
+ghost use Rattle.fr_cli.specs.Plans.{frame_of, variant_of};
+
+use super::sees;
+use crate::plan::{Owned, Plan};
+use fr_base::{Actor, Params, Rows, Sending};
+use fr_world::{PageFrame, Placed, schedule};
+use std::alloc::{AllocError, Global};
+
+impl Plan {
+    /// Which frame is sent in which cycle, slot and channel, of the frames that the actor sees: by
+    /// cycle, slot and channel.
+    pub(crate) fn sendings(
+        &self,
+        alloc: Global,
+        params: &Params,
+        actor: &Actor,
+    ) -> Result<Rows<Sending>, AllocError>
+        ensures { IfOk result (λ rows. rows ≡ sendings_of params.now (seen_frames actor.now (variant_of self.now))) }
+    {
+        let placed = self.placed(alloc, actor)?;
+        schedule(alloc, params, &placed)
+    }
+
+    // The placements of the frames that the actor sees.
+    fn placed(&self, alloc: Global, actor: &Actor) -> Result<Vec<Placed>, AllocError>
+        ensures { IfOk result (λ placed. filled placed.items ≡ placements_of (seen_frames actor.now (variant_of self.now))) }
+    {
+        let mut placed = Vec::new(alloc);
+        for (key, frame) in self.frames.iter() {
+            if sees(actor, &key.supplier) {
+                push_placed(key, frame, &mut placed)?;
+            }
+        }
+        Ok(placed)
+    }
+}
+
+// Appends the frame's placements.
+fn push_placed(key: &Owned, frame: &PageFrame, placed: &mut Vec<Placed>) -> Result<(), AllocError>
+    ensures { OnOk result (filled placed.new.items ≡ filled placed.old.items ++ filled_by (key.now.supplier, key.now.name) (frame_of frame.now)) }
+{
+    for placement in frame.placements.iter() {
+        placed.push(Placed {
+            placement: *placement,
+            supplier: key.supplier,
+            frame: key.name,
+            node: frame.node,
+        })?;
+    }
+    Ok(())
+}
