@@ -28,3 +28,4 @@ pub mod DecideSteps
 pub mod DecideFilling
 pub mod DecideAll
 pub mod AgreeLaws
+pub mod AmendTakes

@@ -221,3 +221,6 @@ fn end_signal(layout: &mut Layout, name: Name)
 {
     let _ = layout.remove(name);
 }
+
+#[cfg(test)]
+mod tests;
