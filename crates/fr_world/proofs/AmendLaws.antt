@@ -1,5 +1,5 @@
 -- What an edit makes of the sets and maps of a page, beside what it makes of the page's tables.
-use Rattle.std.proofs.Common.{◌≡◌, ℕ, Bool, true, false, cond, List, [], ◌∷◌, Some, None, option_map, Result, Ok, Err, OnOk, OnErr, Ordering, Less, Equal, Greater, refl, sym, ap, ◌∙◌}
+use Rattle.std.proofs.Common.{◌≡◌, ℕ, Bool, true, false, cond, List, [], ◌∷◌, Some, None, option_map, Result, Ok, Err, OnOk, OnErr, All, Ordering, Less, Equal, Greater, refl, sym, ap, subst, ◌∙◌}
 use Rattle.std.specs.Map.{keys_of, lookup, remove_entry, set_value}
 use Rattle.std.specs.Set.{remove_key}
 use Rattle.std.specs.BTreeMap.{insert_entry, is_at}
@@ -10,16 +10,16 @@ use Rattle.std.proofs.lemmas.List.Elements.{All-cons, All-head, All-tail}
 use Rattle.std.proofs.lemmas.Map.Views.{All-map-remove_entry}
 use Rattle.std.proofs.lemmas.Simd.{map-map}
 use Rattle.fr_base.specs.Tables.{empty, from_rows, get, insert, remove}
-use Rattle.fr_base.specs.Keys.{owned, channel_slots, placement_order}
+use Rattle.fr_base.specs.Keys.{names, owned, channel_slots, placement_order}
 use Rattle.fr_base.specs.declared.name.Name.{Name}
 use Rattle.fr_base.specs.declared.placement.Placement.{Placement}
 use Rattle.fr_world.specs.Maps.{table_of, set_of}
 use Rattle.fr_world.specs.Amends.{HaveWords, as_frame, frame_edited, frames_edited, nodes_of, grants_of, frames_of}
-use Rattle.fr_world.specs.Pages.{FrameData, frame_data, frame_of, frames_data, holder_of}
+use Rattle.fr_world.specs.Pages.{AreInOrder, FrameData, frame_data, frame_of, frames_data, holder_of}
 use Rattle.fr_world.specs.declared.edit.Edit.{Edit}
 use Rattle.fr_world.specs.declared.page.ChannelSlot.{ChannelSlot}
 use Rattle.fr_world.specs.declared.page.PageFrame.{PageFrame}
-use Rattle.fr_world.proofs.KeyLaws.{name_cmp, own_alike, slot_cmp, slots_alike, placement_cmp, placements_alike}
+use Rattle.fr_world.proofs.KeyLaws.{name_cmp, names_rise, own_alike, slot_cmp, slots_alike, placement_cmp, placements_alike}
 use Rattle.fr_world.proofs.MapLaws.{set_of-insert_key, table_of-insert_entry, table_of-lent, get-table_of}
 use Rattle.fr_world.proofs.RemoveLaws.{table_of-remove_entry, set_of-remove_key}
 
@@ -75,35 +75,85 @@ pub no_frame : (s name : Name) (edit : Edit) (frames : List (Name × PageFrame))
 no_frame s name edit frames none =
     sym (ap (frames_edited (frames_of s frames) (s, name) edit) (get_frame s name frames ∙ ap (option_map as_frame) (sym none)))
 
+-- ---- what holds of each frame
+
+module _ (P : FrameData → Type 0) where
+  abbrev held : Name × FrameData → Type 0
+  held e = P e.1
+
+  abbrev HoldOf : List (Name × PageFrame) → Type 0
+  HoldOf frames = All held (frames_data frames)
+
+  all_insert : (name : Name) (f : PageFrame) (frames : List (Name × PageFrame)) → P (frame_data f) → HoldOf frames → HoldOf (insert_entry name_cmp frames name f)
+  all_insert name f [] e all = All-cons held (name, frame_data f) [] e all
+  all_insert name f (x ∷ xs) e all = by_order (name_cmp name x.0) (all_insert name f xs e (All-tail held (x.0, frame_data x.1) (frames_data xs) all))
+    where
+      by_order : (r : Ordering) → HoldOf (insert_entry name_cmp xs name f) → HoldOf (match_ordering r ((name, f) ∷ x ∷ xs) ((x.0, f) ∷ xs) (x ∷ insert_entry name_cmp xs name f))
+      by_order Less rest = All-cons held (name, frame_data f) (frames_data (x ∷ xs)) e all
+      by_order Equal rest = All-cons held (x.0, frame_data f) (frames_data xs) e (All-tail held (x.0, frame_data x.1) (frames_data xs) all)
+      by_order Greater rest = All-cons held (x.0, frame_data x.1) (frames_data (insert_entry name_cmp xs name f)) (All-head held (x.0, frame_data x.1) (frames_data xs) all) rest
+
+  all_remove : (name : Name) (frames : List (Name × PageFrame)) → HoldOf frames → HoldOf (remove_entry (is_at (name_cmp name)) frames)
+  all_remove name frames all = All-map-remove_entry (is_at (name_cmp name)) (λ e. (e.0, frame_data e.1)) held frames all
+
+  all_set : (test : Name → Bool) (f g : PageFrame) (frames : List (Name × PageFrame)) → Some f ≡ lookup test frames → (P (frame_data f) → P (frame_data g)) → HoldOf frames → HoldOf (set_value test frames g)
+  all_set test f g [] found more all = all
+  all_set test f g (x ∷ xs) found more all = by_test (test x.0) found (λ later. all_set test f g xs later more (All-tail held (x.0, frame_data x.1) (frames_data xs) all))
+    where
+      by_test : (b : Bool) → Some f ≡ cond b (Some x.1) (lookup test xs) → (Some f ≡ lookup test xs → HoldOf (set_value test xs g)) → HoldOf (cond b ((x.0, g) ∷ xs) (x ∷ set_value test xs g))
+      by_test true here rest =
+          let one : x.1 ≡ f = cc in
+          All-cons held (x.0, frame_data g) (frames_data xs)
+          (more (subst (λ (y : PageFrame). P (frame_data y)) one (All-head held (x.0, frame_data x.1) (frames_data xs) all)))
+          (All-tail held (x.0, frame_data x.1) (frames_data xs) all)
+      by_test false here rest = All-cons held (x.0, frame_data x.1) (frames_data (set_value test xs g)) (All-head held (x.0, frame_data x.1) (frames_data xs) all) (rest here)
+
 -- ---- the payload's words
 
 -- whether a frame's layout is that of so many words
-abbrev has_words : ℕ → Name × FrameData → Type 0
-has_words words e = e.1.layout.words ≡ words
+abbrev has_words : ℕ → FrameData → Type 0
+has_words words d = d.layout.words ≡ words
 
 pub words_insert : (words : ℕ) (name : Name) (f : PageFrame) (frames : List (Name × PageFrame)) → f.layout.words ≡ words → HaveWords words frames → HaveWords words (insert_entry name_cmp frames name f)
-words_insert words name f [] e all = All-cons (has_words words) (name, frame_data f) [] e all
-words_insert words name f (x ∷ xs) e all = by_order (name_cmp name x.0) (words_insert words name f xs e (All-tail (has_words words) (x.0, frame_data x.1) (frames_data xs) all))
-  where
-    by_order : (r : Ordering) → HaveWords words (insert_entry name_cmp xs name f) → HaveWords words (match_ordering r ((name, f) ∷ x ∷ xs) ((x.0, f) ∷ xs) (x ∷ insert_entry name_cmp xs name f))
-    by_order Less rest = All-cons (has_words words) (name, frame_data f) (frames_data (x ∷ xs)) e all
-    by_order Equal rest = All-cons (has_words words) (x.0, frame_data f) (frames_data xs) e (All-tail (has_words words) (x.0, frame_data x.1) (frames_data xs) all)
-    by_order Greater rest = All-cons (has_words words) (x.0, frame_data x.1) (frames_data (insert_entry name_cmp xs name f)) (All-head (has_words words) (x.0, frame_data x.1) (frames_data xs) all) rest
+words_insert words name f frames e all = all_insert (has_words words) name f frames e all
 
 pub words_remove : (words : ℕ) (name : Name) (frames : List (Name × PageFrame)) → HaveWords words frames → HaveWords words (remove_entry (is_at (name_cmp name)) frames)
-words_remove words name frames all = All-map-remove_entry (is_at (name_cmp name)) (λ e. (e.0, frame_data e.1)) (λ e. e.1.layout.words ≡ words) frames all
+words_remove words name frames all = all_remove (has_words words) name frames all
 
 pub words_set : (words : ℕ) (test : Name → Bool) (f g : PageFrame) (frames : List (Name × PageFrame)) → Some f ≡ lookup test frames → g.layout.words ≡ f.layout.words → HaveWords words frames → HaveWords words (set_value test frames g)
-words_set words test f g [] found same all = all
-words_set words test f g (x ∷ xs) found same all = by_test (test x.0) found (λ later. words_set words test f g xs later same (All-tail (has_words words) (x.0, frame_data x.1) (frames_data xs) all))
-  where
-    by_test : (b : Bool) → Some f ≡ cond b (Some x.1) (lookup test xs) → (Some f ≡ lookup test xs → HaveWords words (set_value test xs g)) → HaveWords words (cond b ((x.0, g) ∷ xs) (x ∷ set_value test xs g))
-    by_test true here rest =
-        let one : f ≡ x.1 = cc in
-        All-cons (has_words words) (x.0, frame_data g) (frames_data xs)
-        (same ∙ ap (λ (y : PageFrame). y.layout.words) one ∙ All-head (has_words words) (x.0, frame_data x.1) (frames_data xs) all)
-        (All-tail (has_words words) (x.0, frame_data x.1) (frames_data xs) all)
-    by_test false here rest = All-cons (has_words words) (x.0, frame_data x.1) (frames_data (set_value test xs g)) (All-head (has_words words) (x.0, frame_data x.1) (frames_data xs) all) (rest here)
+words_set words test f g frames found same all = all_set (has_words words) test f g frames found (λ e. same ∙ e) all
+
+-- ---- the order of the frames, and of each frame's placements
+
+abbrev in_order : FrameData → Type 0
+in_order d = IsStrictlySortedBy placement_order.compare d.placements
+
+-- the frames' names rise where the map's keys do
+names_in : (frames : List (Name × PageFrame)) → IsStrictlySortedBy name_cmp (keys_of frames) → IsStrictlySortedBy names.compare (keys_of (frames_data frames))
+names_in frames h = names_rise (keys_of (frames_data frames)) (subst (IsStrictlySortedBy name_cmp) (sym (map-map (λ e. e.0) (λ e. (e.0, frame_data e.1)) frames)) h)
+
+pub order_insert : (name : Name) (f : PageFrame) (frames later : List (Name × PageFrame)) → IsStrictlySortedBy name_cmp (keys_of later) → later ≡ insert_entry name_cmp frames name f → f.placements.keys ≡ [] →
+    AreInOrder (frames_data frames) → AreInOrder (frames_data later)
+unfolding IsStrictlySortedBy
+order_insert name f frames later h e none was = record {
+  names = names_in later h;
+  placements = subst (HoldOf in_order) (sym e) (all_insert in_order name f frames (subst (IsStrictlySortedBy placement_order.compare) (sym none) tt) was.placements);
+}
+
+pub order_remove : (name : Name) (frames later : List (Name × PageFrame)) → IsStrictlySortedBy name_cmp (keys_of later) → later ≡ remove_entry (is_at (name_cmp name)) frames →
+    AreInOrder (frames_data frames) → AreInOrder (frames_data later)
+order_remove name frames later h e was = record {
+  names = names_in later h;
+  placements = subst (HoldOf in_order) (sym e) (all_remove in_order name frames was.placements);
+}
+
+pub order_set : (test : Name → Bool) (f g : PageFrame) (frames later : List (Name × PageFrame)) → IsStrictlySortedBy name_cmp (keys_of later) → later ≡ set_value test frames g → Some f ≡ lookup test frames →
+    (IsStrictlySortedBy placement_order.compare f.placements.keys → IsStrictlySortedBy placement_order.compare g.placements.keys) →
+    AreInOrder (frames_data frames) → AreInOrder (frames_data later)
+order_set test f g frames later h e found more was = record {
+  names = names_in later h;
+  placements = subst (HoldOf in_order) (sym e) (all_set in_order test f g frames found more was.placements);
+}
 
 -- a frame written back as it was
 pub data_set : (test : Name → Bool) (f g : PageFrame) (frames : List (Name × PageFrame)) → Some f ≡ lookup test frames → frame_data g ≡ frame_data f → frames_data (set_value test frames g) ≡ frames_data frames

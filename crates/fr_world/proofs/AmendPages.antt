@@ -21,7 +21,7 @@ use Rattle.fr_base.specs.declared.channel.Channel.{Channel}
 use Rattle.fr_base.specs.declared.placement.Placement.{Placement}
 use Rattle.fr_world.specs.Amends.{HaveWords, LeavesLayout, as_frame, frame_at, frame_edited, frames_edited, nodes_of, grants_of}
 use Rattle.fr_world.specs.Edits.{Takes, edited, change_at, supplier_of}
-use Rattle.fr_world.specs.Pages.{FrameData, PageData, IsKept, IsPage, frame_data, frames_data, holder_of, page_of}
+use Rattle.fr_world.specs.Pages.{FrameData, PageData, IsInOrder, IsKept, IsPage, frame_data, frames_data, holder_of, page_of}
 use Rattle.fr_world.specs.declared.edit.Edit.{Edit}
 use Rattle.fr_world.specs.declared.edit.Edit.TheVariants.{SetReleased, NewNode, PutGrant, EndGrant, NewFrame, EndFrame, PutPlacement, EndPlacement, PutSignal, EndSignal}
 use Rattle.fr_world.specs.declared.page.ChannelSlot.{ChannelSlot}
@@ -77,9 +77,9 @@ module _ (old seen : PageData) (view : old ≡ seen) (edit : Edit) (takes : Take
   own e is = subst (λ d. IfSome (supplier_of e) (λ s. s ≡ d.supplier)) (sym view) (subst (λ x. IfSome (supplier_of x) (λ s. s ≡ seen.supplier)) is takes.supplier)
 
   -- what becomes of the invariant
-  pub kept : (r : Result ⊤ Refusal) (new : PageData) → IsKept old → OnOk r (page_of new ≡ aim) → OnOk r (All (λ e. e.1.layout.words ≡ old.params.payload_words) old.frames → All (λ e. e.1.layout.words ≡ new.params.payload_words) new.frames) → OnErr r (new ≡ old) → IsKept new
-  kept (Ok x) new was page words same = record { page = subst IsPage (sym page) takes.leaves; words = words was.words }
-  kept (Err e) new was page words same = subst IsKept (sym same) was
+  pub kept : (r : Result ⊤ Refusal) (new : PageData) → IsKept old → OnOk r (page_of new ≡ aim) → OnOk r (All (λ e. e.1.layout.words ≡ old.params.payload_words) old.frames → All (λ e. e.1.layout.words ≡ new.params.payload_words) new.frames) → OnOk r (IsInOrder old → IsInOrder new) → OnErr r (new ≡ old) → IsKept new
+  kept (Ok x) new was page words order same = record { page = subst IsPage (sym page) takes.leaves; words = words was.words; order = order was.order }
+  kept (Err e) new was page words order same = subst IsKept (sym same) was
 
   pub released_page : (v : Name) → edit ≡ SetReleased v → page_of (record old { released = true }) ≡ aim
   unfolding edited

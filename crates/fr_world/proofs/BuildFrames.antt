@@ -27,7 +27,7 @@ use Rattle.fr_world.specs.Building.{fits, is_placed, IsKeptFrame}
 use Rattle.fr_world.specs.Maps.{table_of}
 use Rattle.fr_world.specs.Pages.{FrameData, frame_of, holder_of}
 use Rattle.fr_world.specs.declared.page.ChannelSlot.{ChannelSlot}
-use Rattle.fr_world.proofs.KeyLaws.{placement_cmp, placements_alike, slot_cmp, slots_alike}
+use Rattle.fr_world.proofs.KeyLaws.{placement_cmp, placements_alike, placements_rise, slot_cmp, slots_alike}
 use Rattle.fr_world.proofs.MapLaws.{get-table_of, len-set_of, rows-set_of, set_rows}
 
 -- ---- grants
@@ -109,6 +109,7 @@ frame_decided page f few whole placed ordered sound is_few is_whole is_placed =
               layout = subst IsLayout (λ i. record { words = words i; signals = f.layout.signals }) sound;
             },
             words,
+            placements_rise f.placements ordered,
           ),
       λ kept.
           let page_frame = kept.0 in

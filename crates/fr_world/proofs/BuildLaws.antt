@@ -14,7 +14,7 @@ use Rattle.std.proofs.lemmas.List.Folds.{flat_map-map}
 use Rattle.std.proofs.lemmas.Simd.{map-map}
 use Rattle.fr_base.specs.Book as book
 use Rattle.fr_base.specs.Book.{Owner, placements_of}
-use Rattle.fr_base.specs.Keys.{owned}
+use Rattle.fr_base.specs.Keys.{owned, placement_order}
 use Rattle.fr_base.specs.Queries.{placements_in}
 use Rattle.fr_base.specs.TableRows.{first, second}
 use Rattle.fr_base.specs.Tables.{Order, Table, get, len}
@@ -27,7 +27,7 @@ use Rattle.fr_world.specs.Pages.{AreApart, IsKept, IsPageFrame, frame_data, fram
 use Rattle.fr_world.specs.declared.page.PageFrame.{PageFrame}
 use Rattle.fr_world.specs.declared.page.PageRows.{PageRows}
 use Rattle.fr_world.proofs.BuildFrames.{All-from_map}
-use Rattle.fr_world.proofs.KeyLaws.{name_cmp, own_alike}
+use Rattle.fr_world.proofs.KeyLaws.{name_cmp, names_rise, own_alike, slot_cmp, slots_rise}
 use Rattle.fr_world.proofs.MapLaws.{len-set_of, len-table_of, rows-table_of}
 
 -- ---- what holds of each row of a table
@@ -94,7 +94,7 @@ without_owners (row ∷ rows) =
 keys-frames_data : (es : List (Name × PageFrame)) → keys_of (frames_data es) ≡ keys_of es
 keys-frames_data es = map-map (λ e. e.0) (λ e. (e.0, frame_data e.1)) es
 
-module _ (r : PageRows) (nodes_rise : IsStrictlySortedBy name_cmp r.nodes.keys) (frames_rise : IsStrictlySortedBy name_cmp (keys_of r.frames.entries)) where
+module _ (r : PageRows) (nodes_rise : IsStrictlySortedBy name_cmp r.nodes.keys) (grants_rise : IsStrictlySortedBy slot_cmp (keys_of r.grants.entries)) (frames_rise : IsStrictlySortedBy name_cmp (keys_of r.frames.entries)) where
   rise : IsStrictlySortedBy name_cmp (keys_of (frames_data r.frames.entries))
   rise = subst (IsStrictlySortedBy name_cmp) (sym (keys-frames_data r.frames.entries)) frames_rise
 
@@ -122,7 +122,8 @@ module _ (r : PageRows) (nodes_rise : IsStrictlySortedBy name_cmp r.nodes.keys) 
       let each = All-from_map (λ e. IsPageFrame (page_of (rows_data r)) e.1) (frame_row r.supplier) r.frames.entries
       (subst (All (λ e. IsPageFrame (page_of (rows_data r)) e.1)) frame_rows (all_rows owned (IsPageFrame (page_of (rows_data r))) (page_of (rows_data r)).frames kept.page.each)) in
       let words = All-from_map (λ e. e.1.layout.words ≡ r.params.payload_words) (λ e. (e.0, frame_data e.1)) r.frames.entries kept.words in
-      λ i d low. (each i d low, words i d low)
+      let placements = All-from_map (λ e. IsStrictlySortedBy placement_order.compare e.1.placements) (λ e. (e.0, frame_data e.1)) r.frames.entries kept.order.frames.placements in
+      λ i d low. (each i d low, words i d low, placements i d low)
 
   kept_cells : IsKept (rows_data r) → AllPairs AreApart (flat_map (λ e. placements_in (frame_of (frame_data e.1))) r.frames.entries)
   kept_cells kept = subst (AllPairs AreApart) all_placements (AllPairs-map AreApart (λ x. x.1) (placements_of (page_of (rows_data r)).frames) kept.page.apart)
@@ -137,6 +138,14 @@ module _ (r : PageRows) (nodes_rise : IsStrictlySortedBy name_cmp r.nodes.keys) 
       apart = AllPairs-from_map AreApart (λ x. x.1) (placements_of (page_of (rows_data r)).frames) (subst (AllPairs AreApart) (sym all_placements) cells);
     };
     words = All-map (λ e. e.1.layout.words ≡ r.params.payload_words) (λ e. (e.0, frame_data e.1)) r.frames.entries (λ i d low. (each i d low).1);
+    order = record {
+      nodes = names_rise r.nodes.keys nodes_rise;
+      grants = slots_rise (keys_of r.grants.entries) grants_rise;
+      frames = record {
+        names = names_rise (keys_of (frames_data r.frames.entries)) rise;
+        placements = All-map (λ e. IsStrictlySortedBy placement_order.compare e.1.placements) (λ e. (e.0, frame_data e.1)) r.frames.entries (λ i d low. (each i d low).2);
+      };
+    };
   }
 
   -- too many nodes, too many frames, or a frame that is none of a page

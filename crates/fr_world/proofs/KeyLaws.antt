@@ -1,7 +1,8 @@
 -- The keys of maps and sets compare as the register's.
-use Rattle.std.proofs.Common.{◌≡◌, ℕ, Ordering, refl, sym, ap}
+use Rattle.std.proofs.Common.{◌≡◌, ℕ, List, Ordering, refl, sym, ap, subst}
 use Rattle.std.specs.Ordering.{ordering_then}
 use Rattle.std.specs.Cmp.{tied_itself}
+use Rattle.std.specs.List.Sorted.{IsStrictlySortedBy}
 use Rattle.fr_base.specs.Keys.{numbers, names, channel_order, channels_order, owned, channel_slots, placement_order}
 use Rattle.fr_base.specs.declared.channel.Channel.{Channel}
 use Rattle.fr_base.specs.declared.channel.Channel.TheVariants.{A, B}
@@ -12,6 +13,7 @@ use Rattle.fr_base.specs.declared.placement.Placement.{Placement}
 use Rattle.fr_base.specs.Cycles.{Cycles}
 use Rattle.fr_base.specs.contracts.name.NameOrd.TheImpl as by_text
 use Rattle.fr_base.specs.contracts.placement.PlacementOrd.TheImpl as by_cells
+use Rattle.fr_world.specs.Pages.{compare_slots}
 use Rattle.fr_world.specs.declared.page.ChannelSlot.{ChannelSlot}
 use Rattle.fr_world.specs.contracts.page.ChannelSlotOrd.TheImpl as by_slot
 
@@ -53,3 +55,18 @@ placements_alike_parts k l channels.B channels.B r s = refl
 
 pub placements_alike : (x y : Placement) → placement_cmp x y ≡ placement_order.compare x y
 placements_alike x y = placements_alike_parts x.slot y.slot x.channels y.channels x.cycles y.cycles
+
+-- ---- keys that rise
+
+abbrev rising : {K : Type 0} → List K → (K → K → Ordering) → Type 0
+rising ks cmp = IsStrictlySortedBy cmp ks
+
+pub names_rise : (ks : List Name) → IsStrictlySortedBy name_cmp ks → IsStrictlySortedBy names.compare ks
+unfolding names
+names_rise ks h = h
+
+pub slots_rise : (ks : List ChannelSlot) → IsStrictlySortedBy slot_cmp ks → IsStrictlySortedBy compare_slots ks
+slots_rise ks h = subst (rising ks) (λ i x y. slots_alike x y i) h
+
+pub placements_rise : (ks : List Placement) → IsStrictlySortedBy placement_cmp ks → IsStrictlySortedBy placement_order.compare ks
+placements_rise ks h = subst (rising ks) (λ i x y. placements_alike x y i) h

@@ -1,10 +1,16 @@
 -- A supplier's rows of a register: they stand for the register's page, and in a sound book they are a page's.
-use Rattle.std.proofs.Common.{◌≡◌, ℕ, Bool, true, false, cond, List, [], ◌∷◌, map, filter, All, Option, Some, None, IsTrue, refl, sym, ap, subst, ◌∙◌, inl, inr}
+use Rattle.std.proofs.Common.{◌≡◌, ℕ, Bool, true, false, cond, List, [], ◌∷◌, map, filter, All, Option, Some, None, IsTrue, refl, sym, ap, subst, ◌∙◌, inl, inr, Ordering, Less, Equal, Greater}
 use Rattle.std.specs.Prelude.{T}
-use Rattle.std.specs.FinMap.Entries.{is_sorted}
+use Rattle.std.specs.FinMap.Entries.{below_all, is_sorted}
+use Rattle.std.specs.List.{AllByRecursion}
+use Rattle.std.specs.List.Sorted.{IsStrictlySortedBy}
+use Rattle.std.specs.Map.{keys_of}
+use Rattle.std.specs.Ordering.{is_lt}
+use Rattle.std.proofs.lemmas.Simd.{map-map}
 use Rattle.std.proofs.lemmas.Bool.{cases_Bool, and_parts}
+use Rattle.fr_base.specs.TableRows.{first, second}
 use Rattle.fr_base.specs.Tables.{Order, Table, get, only, from_rows}
-use Rattle.fr_base.specs.Keys.{owned, channel_slots, placement_order}
+use Rattle.fr_base.specs.Keys.{names, owned, channel_slots, placement_order}
 use Rattle.fr_base.specs.Channels.{channels_in}
 use Rattle.fr_base.specs.Cluster.{Cluster}
 use Rattle.fr_base.specs.Book.{Frame, Holder, Variant, Book, held_by, held_by_node, granted}
@@ -20,7 +26,8 @@ use Rattle.fr_base.proofs.TableLaws.{same_rows, rows-from_rows, get-only, kept}
 use Rattle.fr_base.proofs.SoundTables.{only-stood}
 use Rattle.fr_base.proofs.SoundRows.{same_text-is, all_more}
 use Rattle.fr_world.specs.Maps.{table_of, set_of}
-use Rattle.fr_world.specs.Pages.{FrameData, frame_of, holder_of, page_of, IsPageFrame, IsPage, IsKept, nodes_in, grants_in, frames_in, page_in}
+use Rattle.fr_world.specs.Pages.{FrameData, IsInOrder, compare_slots, frame_of, holder_of, page_of, IsPageFrame, IsPage, IsKept, nodes_in, grants_in, frames_in, page_in}
+use Rattle.fr_world.proofs.KeyLaws.{own_alike}
 use Rattle.fr_world.proofs.AmongLaws.{In, map-In}
 use Rattle.fr_world.proofs.ApartLaws.{In-All, contained-all, none_shared-pairs}
 
@@ -141,8 +148,62 @@ words-in : (p : Params) (s : Name) (x : Variant) → All (λ e. e.1.layout.words
 unfolding frames_in
 words-in p s x = In-All _ (frames_in p s x) (λ e i. let found = map-In _ e (only (λ k _. is_of s k) x.frames).rows i in ap (λ (d : Name × FrameData). d.1.layout.words) (sym found.2))
 
+-- ---- they stand in the order of their keys
+
+less : (r : Ordering) → T (is_lt r) → r ≡ Less
+less Less h = refl
+less Equal h = absurd h
+less Greater h = absurd h
+
+module _ {K V J : Type 0} (o : Order K) (key : K × V → J) (cmp : J → J → Ordering) where
+  below : (e : K × V) (es : List (K × V)) → ((f : K × V) → In f es → o.compare e.0 f.0 ≡ Less → cmp (key e) (key f) ≡ Less) → T (below_all o.compare e.0 es) → AllByRecursion (λ y. cmp (key e) y ≡ Less) (map key es)
+  below e [] alike h = tt
+  below e (f ∷ fs) alike h = (alike f (inl refl) (less _ (first _ _ h)), below e fs (λ g i. alike g (inr i)) (second _ _ h))
+
+  -- keys of rows in order rise, where they compare as the rows' keys
+  rise : (es : List (K × V)) → ((e f : K × V) → In e es → In f es → o.compare e.0 f.0 ≡ Less → cmp (key e) (key f) ≡ Less) → T (is_sorted o.compare es) → IsStrictlySortedBy cmp (map key es)
+  unfolding IsStrictlySortedBy
+  rise [] alike h = tt
+  rise (e ∷ es) alike h = (below e es (λ f i. alike e f (inl refl) (inr i)) (first _ _ h), rise es (λ f g i j. alike f g (inr i) (inr j)) (second _ _ h))
+
+module _ (s : Name) where
+  -- a supplier's own keys compare by their names
+  own_less : (k l : Name × Name) → k.0 ≡ s → l.0 ≡ s → owned.compare k l ≡ Less → names.compare k.1 l.1 ≡ Less
+  unfolding names
+  own_less k l own_k own_l h = own_alike s k.1 l.1 ∙ (λ i. owned.compare (sym own_k i, k.1) (sym own_l i, l.1)) ∙ h
+
+  names-rise : {V : Type 0} (t : Table owned V) → IsStrictlySortedBy names.compare (map (λ e. e.0.1) (only (λ k _. is_of s k) t).rows)
+  unfolding only
+  names-rise t = rise owned (λ e. e.0.1) names.compare (only (λ k _. is_of s k) t).rows
+      (λ e f i j. own_less e.0 f.0 (same_text-is e.0.0 s (filter-In (λ e. is_of s e.0) e t.rows i).0) (same_text-is f.0.0 s (filter-In (λ e. is_of s e.0) f t.rows j).0))
+      (only (λ k _. is_of s k) t).sorted
+
+  slots-rise : (x : Variant) → IsStrictlySortedBy compare_slots (keys_of (grants_in s x))
+  unfolding grants_in
+  slots-rise x =
+      let held : Table channel_slots Holder = only (λ _ h. held_by s (Some h)) x.grants in
+      subst (IsStrictlySortedBy compare_slots) (sym (map-map (λ e. e.0) (λ e. (record { slot = e.0.0; channel = e.0.1 }, e.1.node)) held.rows))
+      (rise channel_slots (λ e. record { slot = e.0.0; channel = e.0.1 }) compare_slots held.rows (λ e f i j h. h) held.sorted)
+
+placements-rise : (f : Frame) → IsStrictlySortedBy placement_order.compare (placements_in f)
+placements-rise f = rise placement_order (λ e. e.0) placement_order.compare f.placements.rows (λ e g i j h. h) f.placements.sorted
+
+rows-in-order : (p : Params) (b : Book) (s v : Name) (x : Variant) → IsInOrder (page_in p b s v x)
+unfolding nodes_in frames_in
+rows-in-order p b s v x =
+    let own : Table owned Frame = only (λ k _. is_of s k) x.frames in
+    record {
+      nodes = names-rise s b.nodes;
+      grants = slots-rise s x;
+      frames = record {
+        names = subst (IsStrictlySortedBy names.compare) (sym (map-map (λ e. e.0) (λ e. (e.0.1, record { node = e.1.node; placements = placements_in e.1; layout = layout_of p e.1 })) own.rows)) (names-rise s x.frames);
+        placements = In-All _ (frames_in p s x) (λ e i. let found = map-In _ e own.rows i in subst (λ (d : Name × FrameData). IsStrictlySortedBy placement_order.compare d.1.placements) found.2 (placements-rise found.0.1));
+      };
+    }
+
 pub rows-kept : (c : Cluster) (b : Book) (s v : Name) (x : Variant) → IsSound c b → get b.variants v ≡ Some x → IsKept (page_in c.params b s v x)
 rows-kept c b s v x sound there = record {
   page = subst IsPage (sym (rows-registers c b s v x)) (sound-page c b s v x sound there);
   words = words-in c.params s x;
+  order = rows-in-order c.params b s v x;
 }

@@ -1,6 +1,8 @@
 -- By which tests rows are found to be a page's.
 use Rattle.std.specs.Prelude.{◌≡◌, ◌==◌, ◌&&◌, Bool, true, not, List, [], ◌∷◌, nat_le, find, take_while, is_some}
 use Rattle.std.specs.List.{list_any, list_all}
+use Rattle.std.specs.List.Sorted.{IsStrictlySortedBy}
+use Rattle.fr_base.specs.Keys.{placement_order}
 use Rattle.fr_base.specs.Cells.{cells_of, has_cell}
 use Rattle.fr_base.specs.Channels.{channels_in, has_channel}
 use Rattle.fr_base.specs.Cycles.{cycle_count, is_cycle_set}
@@ -21,9 +23,9 @@ fits p q =
 unfoldable pub is_placed : Page → Name → Placement → Bool
 is_placed page n q = fits page.params q && granted page.grants page.supplier n q
 
--- the frame is a page's, and its layout is that of the cluster's payload
+-- the frame is a page's, its layout is that of the cluster's payload, and its placements stand in order
 abbrev pub IsKeptFrame : Page → FrameData → Type 0
-IsKeptFrame page f = IsPageFrame page (frame_of f) × (f.layout.words ≡ page.params.payload_words)
+IsKeptFrame page f = IsPageFrame page (frame_of f) × (f.layout.words ≡ page.params.payload_words) × IsStrictlySortedBy placement_order.compare f.placements
 
 -- whether a cell lies in both placements
 unfoldable pub meet : Placement → Placement → Bool

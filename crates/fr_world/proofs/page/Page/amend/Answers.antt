@@ -22,6 +22,7 @@ pub invariant_of-self-in-NewNode-1 : goal.invariant_of-self-in-NewNode-1
 invariant_of-self-in-NewNode-1 c =
     kept (the_view c.self.inside) c.args.self.now c.self.view_is c.args.edit.now c.requires.takes c.put_node.result
     (record (the_view c.self.inside) { nodes = c.put_node.new.nodes.keys }) c.self.invariant (returns-in-NewNode-clause-page c) (holds c.put_node.result (λ words. words))
+    (holds c.put_node.result (λ was. record { nodes = c.put_node.ensures.order; grants = was.grants; frames = was.frames }))
     (on_err c.put_node.result (λ same. ap (λ ns. record (the_view c.self.inside) { nodes = ns }) same.0) c.put_node.ensures.err)
 
 pub returns-in-PutGrant-clause-page : goal.returns-in-PutGrant-clause-page
@@ -35,17 +36,19 @@ pub invariant_of-self-in-PutGrant-1 : goal.invariant_of-self-in-PutGrant-1
 invariant_of-self-in-PutGrant-1 c =
     kept (the_view c.self.inside) c.args.self.now c.self.view_is c.args.edit.now c.requires.takes c.put_grant.result
     (record (the_view c.self.inside) { grants = c.put_grant.new.grants.entries }) c.self.invariant (returns-in-PutGrant-clause-page c) (holds c.put_grant.result (λ words. words))
+    (holds c.put_grant.result (λ was. record { nodes = was.nodes; grants = c.put_grant.ensures.order; frames = was.frames }))
     (on_err c.put_grant.result (λ same. ap (λ gs. record (the_view c.self.inside) { grants = gs }) same.0) c.put_grant.ensures.err)
 
 pub returns-in-EndGrant-clause-page : goal.returns-in-EndGrant-clause-page
 returns-in-EndGrant-clause-page c =
     ended_page (the_view c.self.inside) c.args.self.now c.self.view_is c.args.edit.now c.requires.takes c.in-EndGrant.variant c.in-EndGrant.slot c.in-EndGrant.channel c.end_grant.new.grants.entries c.in-EndGrant.is
-    (subst (λ (k : ChannelSlot). (t : Name) → grants_of t c.end_grant.new.grants.entries ≡ remove (grants_of t c.self.inside.grants.entries) (k.slot, k.channel)) c.at-in-EndGrant.ensures c.end_grant.ensures)
+    (subst (λ (k : ChannelSlot). (t : Name) → grants_of t c.end_grant.new.grants.entries ≡ remove (grants_of t c.self.inside.grants.entries) (k.slot, k.channel)) c.at-in-EndGrant.ensures c.end_grant.ensures.table)
 
 pub invariant_of-self-in-EndGrant-1 : goal.invariant_of-self-in-EndGrant-1
 invariant_of-self-in-EndGrant-1 c =
     kept (the_view c.self.inside) c.args.self.now c.self.view_is c.args.edit.now c.requires.takes (Ok tt)
-    (record (the_view c.self.inside) { grants = c.end_grant.new.grants.entries }) c.self.invariant (returns-in-EndGrant-clause-page c) (λ words. words) tt
+    (record (the_view c.self.inside) { grants = c.end_grant.new.grants.entries }) c.self.invariant (returns-in-EndGrant-clause-page c) (λ words. words)
+    (λ was. record { nodes = was.nodes; grants = c.end_grant.ensures.order; frames = was.frames }) tt
 
 pub returns-in-NewFrame-clause-page : goal.returns-in-NewFrame-clause-page
 returns-in-NewFrame-clause-page c =
@@ -58,6 +61,7 @@ invariant_of-self-in-NewFrame-1 c =
     kept (the_view c.self.inside) c.args.self.now c.self.view_is c.args.edit.now c.requires.takes c.new_frame.result
     (record (the_view c.self.inside) { frames = frames_data c.new_frame.new.frames.entries }) c.self.invariant (returns-in-NewFrame-clause-page c)
     (on_ok c.new_frame.result (subst (λ w. HaveWords w c.self.inside.frames.entries → HaveWords w c.new_frame.new.frames.entries) c.payload_words-words.ensures.value) c.new_frame.ensures.words)
+    (on_ok c.new_frame.result (λ frames was. record { nodes = was.nodes; grants = was.grants; frames = frames was.frames }) c.new_frame.ensures.order)
     (on_err c.new_frame.result (λ same. ap (λ fs. record (the_view c.self.inside) { frames = frames_data fs }) same.0) c.new_frame.ensures.err)
 
 pub returns-in-EndFrame-clause-page : goal.returns-in-EndFrame-clause-page
@@ -67,7 +71,8 @@ returns-in-EndFrame-clause-page c =
 pub invariant_of-self-in-EndFrame-1 : goal.invariant_of-self-in-EndFrame-1
 invariant_of-self-in-EndFrame-1 c =
     kept (the_view c.self.inside) c.args.self.now c.self.view_is c.args.edit.now c.requires.takes (Ok tt)
-    (record (the_view c.self.inside) { frames = frames_data c.end_frame.new.frames.entries }) c.self.invariant (returns-in-EndFrame-clause-page c) (c.end_frame.ensures.words c.self.inside.params.payload_words) tt
+    (record (the_view c.self.inside) { frames = frames_data c.end_frame.new.frames.entries }) c.self.invariant (returns-in-EndFrame-clause-page c) (c.end_frame.ensures.words c.self.inside.params.payload_words)
+    (λ was. record { nodes = was.nodes; grants = was.grants; frames = c.end_frame.ensures.order was.frames }) tt
 
 pub change_frame-requires : goal.change_frame-requires
 change_frame-requires c =
@@ -84,4 +89,5 @@ invariant_of-self-in-PutPlacement c =
     kept (the_view c.self.inside) c.args.self.now c.self.view_is c.args.edit.now c.requires.takes c.change_frame.result
     (record (the_view c.self.inside) { frames = frames_data c.change_frame.new.frames.entries }) c.self.invariant (returns-in-PutPlacement-clause-page c)
     (holds c.change_frame.result (c.change_frame.ensures.words c.self.inside.params.payload_words))
+    (holds c.change_frame.result (λ was. record { nodes = was.nodes; grants = was.grants; frames = c.change_frame.ensures.order was.frames }))
     (on_err c.change_frame.result (λ same. ap (λ fs. record (the_view c.self.inside) { frames = fs }) same.0) c.change_frame.ensures.err)
