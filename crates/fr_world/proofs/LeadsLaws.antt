@@ -1,5 +1,5 @@
 -- A page takes what it decides: each edit leads to what the command makes of the page, and leaves rows that a page has.
-use Rattle.std.proofs.Common.{◌≡◌, ◌≢◌, ℕ, ◌<◌, ◌≤◌, ◌&&◌, Bool, true, false, cond, not, List, [], ◌∷◌, map, filter, Option, Some, None, Result, Ok, Err, IfOk, IfSome, IsTrue, refl, sym, ap, subst, ◌∙◌, ◌⊎◌, inl, inr, arith, true≢false, leb-false}
+use Rattle.std.proofs.Common.{◌≡◌, ◌≢◌, ℕ, ◌<◌, ◌≤◌, ◌&&◌, Bool, true, false, cond, not, List, [], ◌∷◌, map, filter, Option, Some, None, is_some, Result, Ok, Err, IfOk, IfSome, IsTrue, refl, sym, ap, subst, ◌∙◌, ◌⊎◌, inl, inr, arith, true≢false, leb-false}
 use Rattle.std.specs.Prelude.{⊤}
 use Rattle.std.specs.Ordering.{eq_by_cmp}
 use Rattle.std.specs.List.{list_all}
@@ -12,12 +12,13 @@ use Rattle.fr_base.specs.Limits.{max_frames, max_placements}
 use Rattle.fr_base.specs.Channels.{channels_in, has_channel}
 use Rattle.fr_base.specs.Cells.{Cell, cells_of, has_cell}
 use Rattle.fr_base.specs.Schedule.{first_taken}
+use Rattle.fr_base.specs.Refusing.{◌or◌}
 use Rattle.fr_base.specs.Parameters.{check_params}
 use Rattle.fr_base.specs.Cluster.{same_text}
 use Rattle.fr_base.specs.Book.{Frame, Holder, Owner, held_by, held_by_node, granted, schedule_of}
 use Rattle.fr_base.specs.Signals.{SignalData, is_signal_length}
 use Rattle.fr_base.specs.Layouts as layouts
-use Rattle.fr_base.specs.Layouts.{LayoutData, IsLayout, with_signal}
+use Rattle.fr_base.specs.Layouts.{LayoutData, IsLayout, has_signal, with_signal}
 use Rattle.fr_base.specs.Step.{Page, fills, in_use, cell_taken, layout_of, add_frame, drop_frame, place, unplace, add_signal, drop_signal}
 use Rattle.fr_base.specs.Sound.{FitsCluster}
 use Rattle.fr_base.specs.declared.channel.Channel.{Channel}
@@ -39,9 +40,10 @@ use Rattle.fr_base.proofs.AloneCells.{same_text-itself}
 use Rattle.fr_world.specs.Maps.{table_of}
 use Rattle.fr_world.specs.Pages.{PageData, frame_of, page_of, IsPageFrame, IsPage, IsKept}
 use Rattle.fr_world.specs.Decisions.{IsFor, IsChecked, framed, after, decided, edits_of}
-use Rattle.fr_world.specs.Edits.{is_of_page, supplier_of, variant_of, change_at, edited, Leads}
+use Rattle.fr_world.specs.Edits.{FitsPage, is_of_page, supplier_of, variant_of, change_at, edited, Leads}
 use Rattle.fr_world.specs.declared.edit.Edit.{Edit}
 use Rattle.fr_world.specs.declared.edit.Edit.TheVariants.{PutGrant, EndGrant, NewFrame, EndFrame, PutPlacement, EndPlacement, PutSignal, EndSignal}
+use Rattle.fr_world.proofs.FitsLaws.{held_there, new_grant, new_placement, new_signal, own-grant, signal_there}
 use Rattle.fr_world.proofs.AmongLaws.{map-In}
 use Rattle.fr_world.proofs.ApartLaws.{NoneShared, find-In, contained-all, all-contained, pairs-none_shared, none_shared-pairs}
 
@@ -247,8 +249,8 @@ still_granted grants frames at s n free k f q mine there within =
 -- ---- each command
 
 -- an edit of the page, which leaves this page
-leads : (v : Name) (page : Page) (edit : Edit) (last : Page) → is_of_page edit ≡ true → IfSome (supplier_of edit) (λ s. s ≡ page.supplier) → IfSome (variant_of edit) (λ w. w ≡ v) → edited page edit ≡ last → IsPage last → Leads v page (edit ∷ []) last
-leads v page edit last kind supplier variant e fine = (record { kind = kind; supplier = supplier; variant = variant; leaves = subst IsPage (sym e) fine }, sym e)
+leads : (v : Name) (page : Page) (edit : Edit) (last : Page) → is_of_page edit ≡ true → IfSome (supplier_of edit) (λ s. s ≡ page.supplier) → IfSome (variant_of edit) (λ w. w ≡ v) → FitsPage page edit → edited page edit ≡ last → IsPage last → Leads v page (edit ∷ []) last
+leads v page edit last kind supplier variant fits e fine = (record { kind = kind; supplier = supplier; variant = variant; leaves = subst IsPage (sym e) fine }, fits, sym e)
 
 -- a placement that is not refused has no taken cell
 not_taken : (r : Option (Cell × Owner)) (x : ⊤) → cell_taken r ≡ Ok x → r ≡ None
@@ -261,6 +263,12 @@ not_taken (Some taken) x e = cc
 both_hold : {A E : Type 0} (P Q : A → Type 0) (r : Result A E) → IfOk r P → IfOk r Q → IfOk r (λ a. P a × Q a)
 both_hold P Q (Ok a) p q = (p, q)
 both_hold P Q (Err e) p q = tt
+
+-- what is there is not refused
+ok_there : {A E : Type 0} (o : Option A) (e : E) (x : A) → (o or e) ≡ Ok x → IsTrue (is_some o)
+unfolding ◌or◌
+ok_there None e x h = cc
+ok_there (Some y) e x h = refl
 
 -- the signals that are added, or left
 pub added : (l : LayoutData) (s : SignalData) → IfOk (layouts.add_signal l s) (λ m. m.signals ≡ with_signal s l.signals)
@@ -289,13 +297,14 @@ module _ (page : Page) (fine : IsPage page) (v : Name) where
   changed-frame : (k : Name × Name) (frame : Frame) (change : Frame → Frame) → get page.frames k ≡ Some frame → change_at page k (get page.frames k) change ≡ record page { frames = insert page.frames k (change frame) }
   changed-frame k frame change found = ap (λ o. change_at page k o change) found
 
-  grant-leads : (w : Name) (k : ℕ) (c : Channel) (t n : Name) → w ≡ v → IfOk (after page (Grant w k c t n)) (Ends (PutGrant w k c page.supplier n))
+  grant-leads : ((at : ℕ × Channel) (h : Holder) → get page.grants at ≡ Some h → h.supplier ≡ page.supplier) →
+      (w : Name) (k : ℕ) (c : Channel) (t n : Name) → w ≡ v → IfOk (after page (Grant w k c t n)) (Ends (PutGrant w k c page.supplier n))
   unfolding after edited
-  grant-leads w k c t n here =
+  grant-leads mine w k c t n here =
       gives_unless _ _ _ _ (λ has.
       gives_when _ _ _ _ (λ other.
       gives_when _ _ _ _ (λ free.
-      leads v page (PutGrant w k c page.supplier n) _ refl refl here refl
+      leads v page (PutGrant w k c page.supplier n) _ refl refl here (has, new_grant page.supplier (get page.grants (k, c)) (mine (k, c)) free) refl
       (regrant-page page fine _ (λ j f q _ _. granted-more page.grants (k, c) _ page.supplier f.node free q)))))
 
   revoke-leads : ((k : Name × Name) (f : Frame) → get page.frames k ≡ Some f → k.0 ≡ page.supplier) →
@@ -304,7 +313,7 @@ module _ (page : Page) (fine : IsPage page) (v : Name) where
   revoke-leads own w k c t here =
       gives_unless _ _ _ _ (λ holds.
       gives_when _ _ _ _ (λ free.
-      leads v page (EndGrant w k c) _ refl tt here refl
+      leads v page (EndGrant w k c) _ refl tt here (held_there page.supplier (get page.grants (k, c)) holds) refl
       (regrant-page page fine _ (λ j f q at within. still_granted page.grants page.frames (k, c) page.supplier f.node free j f q (own j f at) at within))))
 
   add_frame-leads : page.params.payload_words ≤ 127 → (w f n : Name) → w ≡ v → IfOk (after page (AddFrame w f n)) (Ends (NewFrame w page.supplier f n))
@@ -313,13 +322,13 @@ module _ (page : Page) (fine : IsPage page) (v : Name) where
       gives_unless _ _ _ _ (λ has.
       gives_when _ _ _ _ (λ other.
       gives_when _ _ _ _ (λ room.
-      leads v page (NewFrame w page.supplier f n) _ refl refl here refl (new_frame-page page fine words (page.supplier, f) n (leb-false _ _ room))))))
+      leads v page (NewFrame w page.supplier f n) _ refl refl here (has, other) refl (new_frame-page page fine words (page.supplier, f) n (leb-false _ _ room))))))
 
   drop_frame-leads : (w f : Name) → w ≡ v → IfOk (after page (DropFrame w f)) (Ends (EndFrame w page.supplier f))
   unfolding after edited becomes drop_frame
   drop_frame-leads w f here = framed-leads _ f (drop_frame page f) (
       gives_then _ _ _ (λ frame there.
-      leads v page (EndFrame w page.supplier f) _ refl refl here refl (remove-page page fine (page.supplier, f))))
+      leads v page (EndFrame w page.supplier f) _ refl refl here (ok_there _ _ frame there) refl (remove-page page fine (page.supplier, f))))
 
   place-leads : (w f : Name) (q : Placement) → w ≡ v → FitsCluster page.params q → IfOk (after page (Place w f q)) (Ends (PutPlacement w page.supplier f q))
   unfolding after edited becomes place
@@ -328,7 +337,7 @@ module _ (page : Page) (fine : IsPage page) (v : Name) where
       gives_unless _ _ _ _ (λ holds.
       gives_when _ _ _ _ (λ room.
       gives_then _ _ _ (λ y free.
-      leads v page (PutPlacement w page.supplier f q) _ refl refl here
+      leads v page (PutPlacement w page.supplier f q) _ refl refl here (frame, found, new_placement page.params page.frames (page.supplier, f) frame q fits found (not_taken _ y free))
       (changed-frame (page.supplier, f) frame (λ x. record x { placements = insert x.placements q tt }) found)
       (placed-page page fine (page.supplier, f) frame found q fits holds (leb-false _ _ room) (not_taken _ y free)))))))
 
@@ -337,7 +346,7 @@ module _ (page : Page) (fine : IsPage page) (v : Name) where
   unplace-leads w f q here = framed-leads _ f (unplace page f q) (
       gives_or _ (get page.frames (page.supplier, f)) _ _ (λ frame found.
       gives_unless _ _ _ _ (λ there.
-      leads v page (EndPlacement w page.supplier f q) _ refl refl here
+      leads v page (EndPlacement w page.supplier f q) _ refl refl here (frame, found, there)
       (changed-frame (page.supplier, f) frame (λ x. record x { placements = remove x.placements q }) found)
       (unplaced-page page fine (page.supplier, f) frame found q))))
 
@@ -348,39 +357,43 @@ module _ (page : Page) (fine : IsPage page) (v : Name) where
   unfolding after edited becomes add_signal
   add_signal-leads w f x here long = framed-leads _ f (add_signal page f x) (
       gives_or _ (get page.frames (page.supplier, f)) _ _ (λ frame found.
-      gives_bind _ (λ m. (m.signals ≡ with_signal x frame.signals) × IsLayoutOf Any (layout_of page.params frame) m.signals) (layouts.add_signal (layout_of page.params frame) x) _
+      gives_bind _ _ (layouts.add_signal (layout_of page.params frame) x) _
+      (both_hold (λ m. has_signal frame.signals x.name ≡ false) (λ m. (m.signals ≡ with_signal x frame.signals) × IsLayoutOf Any (layout_of page.params frame) m.signals) (layouts.add_signal (layout_of page.params frame) x)
+      (new_signal (layout_of page.params frame) x)
       (both_hold _ _ (layouts.add_signal (layout_of page.params frame) x) (added (layout_of page.params frame) x)
-      (add_signal-layout Any (layout_of page.params frame) x ((fine.each (page.supplier, f) frame found).layout, λ i d h. tt) long tt)) (λ m h.
-      leads v page (PutSignal w page.supplier f x) _ refl refl here
+      (add_signal-layout Any (layout_of page.params frame) x ((fine.each (page.supplier, f) frame found).layout, λ i d h. tt) long tt))) (λ m h.
+      leads v page (PutSignal w page.supplier f x) _ refl refl here (frame, found, h.0)
       (changed-frame (page.supplier, f) frame (λ y. record y { signals = with_signal x y.signals }) found
-      ∙ ap (λ signals. record page { frames = insert page.frames (page.supplier, f) (record frame { signals = signals }) }) (sym h.0))
-      (signals-page page fine (page.supplier, f) frame found m.signals h.1.0))))
+      ∙ ap (λ signals. record page { frames = insert page.frames (page.supplier, f) (record frame { signals = signals }) }) (sym h.1.0))
+      (signals-page page fine (page.supplier, f) frame found m.signals h.1.1.0))))
 
   drop_signal-leads : (w f x : Name) → w ≡ v → IfOk (after page (DropSignal w f x)) (Ends (EndSignal w page.supplier f x))
   unfolding after edited becomes drop_signal
   drop_signal-leads w f x here = framed-leads _ f (drop_signal page f x) (
       gives_or _ (get page.frames (page.supplier, f)) _ _ (λ frame found.
-      gives_bind _ (λ m. (m.signals ≡ filter (λ t. not (bytes_eq t.name x)) frame.signals) × IsLayoutOf Any (layout_of page.params frame) m.signals) (layouts.remove_signal (layout_of page.params frame) x) _
+      gives_bind _ _ (layouts.remove_signal (layout_of page.params frame) x) _
+      (both_hold (λ m. IsTrue (has_signal frame.signals x)) (λ m. (m.signals ≡ filter (λ t. not (bytes_eq t.name x)) frame.signals) × IsLayoutOf Any (layout_of page.params frame) m.signals) (layouts.remove_signal (layout_of page.params frame) x)
+      (signal_there (layout_of page.params frame) x)
       (both_hold _ _ (layouts.remove_signal (layout_of page.params frame) x) (removed (layout_of page.params frame) x)
-      (remove_signal-layout Any (layout_of page.params frame) x ((fine.each (page.supplier, f) frame found).layout, λ i d h. tt))) (λ m h.
-      leads v page (EndSignal w page.supplier f x) _ refl refl here
+      (remove_signal-layout Any (layout_of page.params frame) x ((fine.each (page.supplier, f) frame found).layout, λ i d h. tt)))) (λ m h.
+      leads v page (EndSignal w page.supplier f x) _ refl refl here (frame, found, h.0)
       (changed-frame (page.supplier, f) frame (λ y. record y { signals = filter (λ t. not (bytes_eq t.name x)) y.signals }) found
-      ∙ ap (λ signals. record page { frames = insert page.frames (page.supplier, f) (record frame { signals = signals }) }) (sym h.0))
-      (signals-page page fine (page.supplier, f) frame found m.signals h.1.0))))
+      ∙ ap (λ signals. record page { frames = insert page.frames (page.supplier, f) (record frame { signals = signals }) }) (sym h.1.0))
+      (signals-page page fine (page.supplier, f) frame found m.signals h.1.1.0))))
 
-  after-leads : page.params.payload_words ≤ 127 → ((k : Name × Name) (f : Frame) → get page.frames k ≡ Some f → k.0 ≡ page.supplier) →
+  after-leads : page.params.payload_words ≤ 127 → ((at : ℕ × Channel) (h : Holder) → get page.grants at ≡ Some h → h.supplier ≡ page.supplier) → ((k : Name × Name) (f : Frame) → get page.frames k ≡ Some f → k.0 ≡ page.supplier) →
       (command : Command) → IsFor page.supplier v command → IsChecked page.params command → IfOk (after page command) (Leads v page (edits_of page.supplier command))
-  after-leads words own (Grant w k c t n) here checked = grant-leads w k c t n here.0
-  after-leads words own (Revoke w k c t) here checked = revoke-leads own w k c t here.0
-  after-leads words own (AddFrame w f n) here checked = add_frame-leads words w f n here
-  after-leads words own (DropFrame w f) here checked = drop_frame-leads w f here
-  after-leads words own (Place w f q) here checked = place-leads w f q here checked
-  after-leads words own (Unplace w f q) here checked = unplace-leads w f q here
-  after-leads words own (AddSignal w f x) here checked = add_signal-leads w f x here checked
-  after-leads words own (DropSignal w f x) here checked = drop_signal-leads w f x here
-  after-leads words own (OpenVariant w parent) here checked = absurd here
-  after-leads words own (Release w) here checked = absurd here
-  after-leads words own (AddNode s n) here checked = absurd here
+  after-leads words mine own (Grant w k c t n) here checked = grant-leads mine w k c t n here.0
+  after-leads words mine own (Revoke w k c t) here checked = revoke-leads own w k c t here.0
+  after-leads words mine own (AddFrame w f n) here checked = add_frame-leads words w f n here
+  after-leads words mine own (DropFrame w f) here checked = drop_frame-leads w f here
+  after-leads words mine own (Place w f q) here checked = place-leads w f q here checked
+  after-leads words mine own (Unplace w f q) here checked = unplace-leads w f q here
+  after-leads words mine own (AddSignal w f x) here checked = add_signal-leads w f x here checked
+  after-leads words mine own (DropSignal w f x) here checked = drop_signal-leads w f x here
+  after-leads words mine own (OpenVariant w parent) here checked = absurd here
+  after-leads words mine own (Release w) here checked = absurd here
+  after-leads words mine own (AddNode s n) here checked = absurd here
 
 -- ---- the page of some rows
 
@@ -398,4 +411,4 @@ pub decision-leads : (rows : PageData) (command : Command) (last : Page) → che
 unfolding decided
 decision-leads rows command last params kept here checked e =
     subst (λ r. IfOk r (Leads rows.variant (page_of rows) (edits_of rows.supplier command))) e
-    (gives_when _ _ rows.released _ (λ _. after-leads (page_of rows) kept.page rows.variant (few_words rows.params params) (own-frame rows) command here checked))
+    (gives_when _ _ rows.released _ (λ _. after-leads (page_of rows) kept.page rows.variant (few_words rows.params params) (own-grant rows) (own-frame rows) command here checked))

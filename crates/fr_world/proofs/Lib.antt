@@ -29,3 +29,4 @@ pub mod DecideFilling
 pub mod DecideAll
 pub mod AgreeLaws
 pub mod AmendTakes
+pub mod FitsLaws

@@ -1,9 +1,9 @@
 -- What an edit makes of a page, and which edits a page takes.
-use Rattle.std.specs.Prelude.{◌≡◌, not, Bool, true, false, List, [], ◌∷◌, filter, Option, Some, None, IfSome}
+use Rattle.std.specs.Prelude.{◌≡◌, not, Bool, true, false, List, [], ◌∷◌, filter, Option, Some, None, IfSome, IsTrue, ⊤}
 use Rattle.std.specs.Str.{bytes_eq}
-use Rattle.fr_base.specs.Tables.{get, empty, insert, remove}
+use Rattle.fr_base.specs.Tables.{get, contains, empty, insert, remove}
 use Rattle.fr_base.specs.Book.{Frame}
-use Rattle.fr_base.specs.Layouts.{with_signal}
+use Rattle.fr_base.specs.Layouts.{has_signal, with_signal}
 use Rattle.fr_base.specs.Step.{Page}
 use Rattle.fr_base.specs.declared.name.Name.{Name}
 use Rattle.fr_world.specs.declared.edit.Edit.{Edit}
@@ -83,7 +83,24 @@ pub record Takes (v : Name) (page : Page) (edit : Edit) : Type 0 where
   pub variant : IfSome (variant_of edit) (λ w. w ≡ v)
   pub leaves : IsPage (edited page edit)
 
--- The page takes the edits, one after the other, and then it is the last.
+-- the page has the frame, of which this holds
+abbrev pub HasFrame : Page → Name × Name → (Frame → Type 0) → Type 0
+HasFrame page k P = (frame : Frame) × (get page.frames k ≡ Some frame) × P frame
+
+-- What the edit adds is new on the page, and what it names, changes or takes out is there.
+abbrev pub FitsPage : Page → Edit → Type 0
+FitsPage page (NewNode s n) = contains page.nodes (s, n) ≡ false
+FitsPage page (PutGrant v k c s n) = IsTrue (contains page.nodes (s, n)) × (contains page.grants (k, c) ≡ false)
+FitsPage page (EndGrant v k c) = IsTrue (contains page.grants (k, c))
+FitsPage page (NewFrame v s f n) = IsTrue (contains page.nodes (s, n)) × (contains page.frames (s, f) ≡ false)
+FitsPage page (EndFrame v s f) = IsTrue (contains page.frames (s, f))
+FitsPage page (PutPlacement v s f q) = HasFrame page (s, f) (λ frame. contains frame.placements q ≡ false)
+FitsPage page (EndPlacement v s f q) = HasFrame page (s, f) (λ frame. IsTrue (contains frame.placements q))
+FitsPage page (PutSignal v s f x) = HasFrame page (s, f) (λ frame. has_signal frame.signals x.name ≡ false)
+FitsPage page (EndSignal v s f x) = HasFrame page (s, f) (λ frame. IsTrue (has_signal frame.signals x))
+FitsPage page _ = ⊤
+
+-- The page takes the edits, one after the other, each of which fits it, and then it is the last.
 abbrev pub Leads : Name → Page → List Edit → Page → Type 0
 Leads v page [] last = last ≡ page
-Leads v page (edit ∷ edits) last = Takes v page edit × Leads v (edited page edit) edits last
+Leads v page (edit ∷ edits) last = Takes v page edit × FitsPage page edit × Leads v (edited page edit) edits last

@@ -11,7 +11,8 @@ pub fn rows_are_the_registers()
 {}
 
 /// The edits that are decided on a page, whose parameters make a cluster, lead it, one after the
-/// other, to what the command makes of it; and each leaves rows that a page has.
+/// other, to what the command makes of it; each adds what is new, or changes or ends what is there, and
+/// leaves rows that a page has.
 pub fn decision_leads()
     ensures { DecisionLeads }
 {}

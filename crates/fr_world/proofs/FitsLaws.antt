@@ -1,0 +1,107 @@
+-- What an edit adds is new on the page, and what it takes out is there.
+use Rattle.std.proofs.Common.{◌≡◌, ℕ, ◌<◌, ◌≤◌, ◌||◌, Bool, true, false, List, [], ◌∷◌, map, Option, Some, None, is_some, IfOk, IsTrue, refl, sym, ap, ◌∙◌, inl, inr, arith, leb, true≢false}
+use Rattle.std.specs.Prelude.{nat_eq}
+use Rattle.std.specs.Ordering.{is_eq}
+use Rattle.std.specs.Cmp.{tied_itself, on_total, then_total, nat_cmp_total}
+use Rattle.std.specs.List.{list_any}
+use Rattle.std.proofs.Math.Nat.{mod-eq_of_lt}
+use Rattle.std.proofs.lemmas.Bool.{and_parts, cases_Bool, eq-eqb, eqb-true, ltb-true}
+use Rattle.fr_base.specs.Cells.{Cell, cells_in, cells_of, has_cell, same_cell}
+use Rattle.fr_base.specs.Channels.{channel_number, channels_in}
+use Rattle.fr_base.specs.Cycles.{Cycles, cycle_count, cycles_of, has_cycle, is_cycle_set, is_repetition}
+use Rattle.fr_base.specs.Book.{Frame, Holder, held_by, schedule_of}
+use Rattle.fr_base.specs.Cluster.{same_text}
+use Rattle.fr_base.specs.Keys.{owned, channel_slots}
+use Rattle.fr_base.specs.Layouts as layouts
+use Rattle.fr_base.specs.Layouts.{LayoutData, has_signal}
+use Rattle.fr_base.specs.Schedule.{first_taken}
+use Rattle.fr_base.specs.Signals.{SignalData}
+use Rattle.fr_base.specs.Sound.{FitsCluster}
+use Rattle.fr_base.specs.Tables.{Table, contains, get}
+use Rattle.fr_base.specs.declared.channel.Channel.{Channel}
+use Rattle.fr_base.specs.declared.channel.Channel.TheVariants as channel
+use Rattle.fr_base.specs.declared.channel.Channels.{Channels}
+use Rattle.fr_base.specs.declared.channel.Channels.TheVariants as channels
+use Rattle.fr_base.specs.declared.name.Name.{Name}
+use Rattle.fr_base.specs.declared.params.Params.{Params}
+use Rattle.fr_base.specs.declared.placement.Placement.{Placement}
+use Rattle.fr_base.proofs.AloneCells.{same_text-itself}
+use Rattle.fr_base.proofs.CycleLemmas.{divisor_within, has_cycle-in}
+use Rattle.fr_base.proofs.SoundCells.{free_cells}
+use Rattle.fr_base.proofs.SoundRefusing.{gives_then, gives_unless, gives_when}
+use Rattle.fr_base.proofs.TableLaws.{get-from_rows}
+use Rattle.fr_world.specs.Maps.{table_of}
+use Rattle.fr_world.specs.Pages.{PageData, holder_of, page_of}
+use Rattle.fr_world.proofs.AmongLaws.{map-In}
+use Rattle.fr_world.proofs.ApartLaws.{find-In}
+
+-- ---- a placement that fits the cluster has a cell
+
+-- a cycle set selects its base
+selected : (s : Cycles) → IsTrue (is_cycle_set cycle_count s.base s.repetition) → IsTrue (has_cycle s s.base)
+unfolding cycle_count
+selected s h =
+    let parts = and_parts (is_repetition cycle_count s.repetition) _ h in
+    let within : s.base < s.repetition = ltb-true s.base s.repetition parts.1 in
+    let most : s.repetition ≤ cycle_count = divisor_within cycle_count s.repetition (omega arith) (eqb-true _ _ (and_parts (leb 1 s.repetition) _ parts.0).1) in
+    has_cycle-in s s.base (omega (arith, within, most)) ∙ eq-eqb _ _ (mod-eq_of_lt within)
+
+same_cell-itself : (c : Cell) → same_cell c c ≡ true
+same_cell-itself c = ap is_eq (tied_itself (then_total (on_total (λ (d : Cell). d.cycle) nat_cmp_total) (then_total (on_total (λ (d : Cell). d.slot) nat_cmp_total) (on_total (λ (d : Cell). channel_number d.channel) nat_cmp_total))) c)
+
+or_now : (a b : Bool) → IsTrue a → IsTrue (a || b)
+or_now a b h = ap (λ t. t || b) h
+
+abbrev cell : ℕ → ℕ → Channel → Cell
+cell k slot x = record { cycle = k; slot = slot; channel = x }
+
+-- the first of a slot's cells in some cycles
+some_cell : (k slot : ℕ) (chs : Channels) (ks : List ℕ) → IsTrue (list_any (nat_eq k) ks) → (c : Cell) × IsTrue (list_any (same_cell c) (cells_in ks (slot ∷ []) (channels_in chs)))
+some_cell k slot chs [] h = absurd (true≢false (sym h))
+some_cell k slot channels.A (y ∷ ys) h = (cell y slot channel.A, or_now _ _ (same_cell-itself (cell y slot channel.A)))
+some_cell k slot channels.AB (y ∷ ys) h = (cell y slot channel.A, or_now _ _ (same_cell-itself (cell y slot channel.A)))
+some_cell k slot channels.B (y ∷ ys) h = (cell y slot channel.B, or_now _ _ (same_cell-itself (cell y slot channel.B)))
+
+placement-cell : (p : Params) (q : Placement) → FitsCluster p q → (c : Cell) × IsTrue (has_cell q c)
+unfolding has_cell cells_of has_cycle
+placement-cell p q fits = some_cell q.cycles.base q.slot q.channels (cycles_of q.cycles) (selected q.cycles fits.cycles)
+
+-- so it is none of a frame's, where none of its cells is filled
+pub new_placement : (p : Params) (frames : Table owned Frame) (k : Name × Name) (f : Frame) (q : Placement) → FitsCluster p q → get frames k ≡ Some f → first_taken (schedule_of frames) (cells_of q) ≡ None → contains f.placements q ≡ false
+new_placement p frames k f q fits found free = elim (cases_Bool (contains f.placements q)) [
+  | inl there ↦ let c = placement-cell p q fits in absurd (free_cells frames q free k f q c.0 found there c.1 c.1)
+  | inr new ↦ new
+]
+
+-- ---- grants
+
+-- the grants of a page are its supplier's
+pub own-grant : (rows : PageData) (at : ℕ × Channel) (h : Holder) → get (page_of rows).grants at ≡ Some h → h.supplier ≡ rows.supplier
+unfolding table_of
+own-grant rows at h there =
+    let keyed : List ((ℕ × Channel) × Holder) = map (λ e. ((e.0.slot, e.0.channel), holder_of rows.supplier e.1)) rows.grants in
+    let found = map-In (λ e. ((e.0.slot, e.0.channel), holder_of rows.supplier e.1)) (at, h) rows.grants (find-In channel_slots keyed at h (sym (get-from_rows channel_slots keyed at) ∙ there)) in
+    ap (λ (x : (ℕ × Channel) × Holder). x.1.supplier) (sym found.2)
+
+-- what the supplier does not hold, nobody holds there
+pub new_grant : (s : Name) (o : Option Holder) → ((h : Holder) → o ≡ Some h → h.supplier ≡ s) → held_by s o ≡ false → is_some o ≡ false
+new_grant s None own free = refl
+new_grant s (Some h) own free = absurd (true≢false (sym (ap (λ t. same_text t s) (own h refl) ∙ same_text-itself s) ∙ free))
+
+pub held_there : (s : Name) (o : Option Holder) → IsTrue (held_by s o) → IsTrue (is_some o)
+held_there s None h = h
+held_there s (Some h) own = refl
+
+-- ---- signals
+
+pub new_signal : (l : LayoutData) (s : SignalData) → IfOk (layouts.add_signal l s) (λ m. has_signal l.signals s.name ≡ false)
+unfolding layouts.add_signal
+new_signal l s =
+    gives_when _ _ _ _ (λ new.
+    gives_when _ _ _ _ (λ _.
+    gives_unless _ _ _ _ (λ _.
+    gives_then _ _ _ (λ _ _. new))))
+
+pub signal_there : (l : LayoutData) (name : List ℕ) → IfOk (layouts.remove_signal l name) (λ m. IsTrue (has_signal l.signals name))
+unfolding layouts.remove_signal
+signal_there l name = gives_unless _ _ _ _ (λ there. there)
