@@ -108,3 +108,6 @@ fn edit_for(alloc: Global, page: &Page, command: &Command) -> Result<Edit, Refus
         }
     }
 }
+
+#[cfg(test)]
+mod tests;

@@ -1,0 +1,7 @@
+mod asked;
+mod cells;
+mod frames;
+mod grants;
+mod pages;
+mod released;
+mod signals;
