@@ -153,12 +153,16 @@ module _ (c : Cluster) (b : Book) (s v : Name) (x : Variant) (there : get b.vari
   unfolding register.page_of
   stay edit z made same = elim (cases_Bool (eq_by_cmp names.compare w v)) [
     | inl e ↦
-        let one : x ≡ y = same_some x y (sym there ∙ ap (get b.variants) (sym (names.exact w v (equal _ e))) ∙ beside) in
-        (z, ap (λ d. get d.variants w) made ∙ get-insert b.variants v z w ∙ ap (λ r. cond r (Some z) (get b.variants w)) e,
-        ap (λ d. register.page_of c.params d t z) made ∙ same ∙ ap (register.page_of c.params b t) one)
-    | inr e ↦
-        (y, ap (λ d. get d.variants w) made ∙ get-insert b.variants v z w ∙ ap (λ r. cond r (Some z) (get b.variants w)) e ∙ beside,
-        ap (λ d. register.page_of c.params d t y) made)
+        let one : x ≡ y = same_some x y (sym there ∙ ap (get b.variants) (sym (names.exact w v (equal _ e))) ∙ beside) in (
+          z,
+          ap (λ d. get d.variants w) made ∙ get-insert b.variants v z w ∙ ap (λ r. cond r (Some z) (get b.variants w)) e,
+          ap (λ d. register.page_of c.params d t z) made ∙ same ∙ ap (register.page_of c.params b t) one,
+        )
+    | inr e ↦ (
+      y,
+      ap (λ d. get d.variants w) made ∙ get-insert b.variants v z w ∙ ap (λ r. cond r (Some z) (get b.variants w)) e ∙ beside,
+      ap (λ d. register.page_of c.params d t y) made,
+    )
   ]
 
   abbrev theirs : Page

@@ -58,9 +58,9 @@ unfolding admitted after
 any-holder page v k c s t edit = refl
 
 -- before all else the variant has to be open
-pub decision-released : (rows : PageData) (command : Command) → rows.released ≡ true → decision rows command ≡ Err Released
+pub decision_released : (rows : PageData) (command : Command) → rows.released ≡ true → decision rows command ≡ Err Released
 unfolding decision decided ◌>>◌ refuse◌when◌
-decision-released rows command closed = rw closed refl
+decision_released rows command closed = rw closed refl
 
 -- a command of no supplier's
 pub decision-other : (rows : PageData) (command : Command) → rows.released ≡ false → after (page_of rows) command ≡ Err NotYours → decision rows command ≡ Err NotYours

@@ -36,6 +36,7 @@ use std::alloc::Global;
 /// - the end of a signal: `NoFrame`, `NoSignal`.
 ///
 /// `Unavailable` where memory is refused.
+#[tactic(auto, using(crate::proofs::DecideAll::decision_released))]
 pub fn decide(alloc: Global, page: &Page, command: &Command) -> Result<Vec<Edit>, Refusal>
     requires decides { IsFor page.now.supplier page.now.variant command.now }
     requires checked { IsChecked page.now.params command.now }

@@ -37,7 +37,10 @@ fn placements_in_order(rt: HostRuntime) -> Result<(), Fail> {
         (row.supplier, row.frame, row.node),
         (name("s1")?, name("f1")?, name("n1")?)
     );
-    assert_eq!(rt; row.placements.as_slice(), [placement(1)?, placement(3)?].as_slice());
+    assert_eq!(rt;
+        row.placements.as_slice(),
+        [placement(1)?, placement(3)?].as_slice()
+    );
     Ok(())
 }
 
@@ -53,7 +56,17 @@ fn signals_by_their_starts(rt: HostRuntime) -> Result<(), Fail> {
     push_signal_rows(supplier, &frame, &mut rows)?;
     assert_eq!(rt;
         rows.as_slice(),
-        [SignalRow { supplier, signal: y }, SignalRow { supplier, signal: x }].as_slice()
+        [
+            SignalRow {
+                supplier,
+                signal: y
+            },
+            SignalRow {
+                supplier,
+                signal: x
+            }
+        ]
+        .as_slice()
     );
     Ok(())
 }

@@ -1,6 +1,8 @@
 use super::{push_sendings, schedule};
 use crate::placed::Placed;
-use fr_base::{Channel, Channels, CycleSet, Name, Params, Placement, RawParams, Rows, Sending, Slot};
+use fr_base::{
+    Channel, Channels, CycleSet, Name, Params, Placement, RawParams, Rows, Sending, Slot,
+};
 use std::test::Fail;
 
 // A cluster of both channels and 4 slots.
@@ -58,7 +60,10 @@ fn sending(cycle: u8, slot: u32, channel: Channel, frame: &str) -> Result<Sendin
 fn a_placement_of_one_cycle(rt: HostRuntime) -> Result<(), Fail> {
     let f1 = [placed("f1", 1, Channels::A, 0, 64)?];
     let rows = schedule(rt.alloc(), &params()?, &f1)?;
-    assert_eq!(rt; rows.as_slice(), [sending(0, 1, Channel::A, "f1")?].as_slice());
+    assert_eq!(rt;
+        rows.as_slice(),
+        [sending(0, 1, Channel::A, "f1")?].as_slice()
+    );
     Ok(())
 }
 
@@ -70,7 +75,11 @@ fn a_comes_before_b(rt: HostRuntime) -> Result<(), Fail> {
     push_sendings(rt.alloc(), &params()?, &f, 63, &mut rows)?;
     assert_eq!(rt;
         rows.as_slice(),
-        [sending(62, 1, Channel::A, "f")?, sending(62, 1, Channel::B, "f")?].as_slice()
+        [
+            sending(62, 1, Channel::A, "f")?,
+            sending(62, 1, Channel::B, "f")?
+        ]
+        .as_slice()
     );
     assert_eq!(rt; schedule(rt.alloc(), &params()?, &f)?.len(), 64);
     Ok(())
@@ -86,7 +95,11 @@ fn slots_come_before_channels(rt: HostRuntime) -> Result<(), Fail> {
     push_sendings(rt.alloc(), &params()?, &all, 1, &mut rows)?;
     assert_eq!(rt;
         rows.as_slice(),
-        [sending(1, 2, Channel::B, "f")?, sending(1, 4, Channel::A, "e")?].as_slice()
+        [
+            sending(1, 2, Channel::B, "f")?,
+            sending(1, 4, Channel::A, "e")?
+        ]
+        .as_slice()
     );
     Ok(())
 }
@@ -101,7 +114,11 @@ fn the_first_of_two_is_sent(rt: HostRuntime) -> Result<(), Fail> {
     push_sendings(rt.alloc(), &params()?, &both, 2, &mut rows)?;
     assert_eq!(rt;
         rows.as_slice(),
-        [sending(2, 1, Channel::A, "f")?, sending(2, 1, Channel::B, "g")?].as_slice()
+        [
+            sending(2, 1, Channel::A, "f")?,
+            sending(2, 1, Channel::B, "g")?
+        ]
+        .as_slice()
     );
     Ok(())
 }
