@@ -30,8 +30,8 @@ SoundRowsAreAPage = (c : Cluster) (b : Book) (s v : Name) (x : Variant) → IsSo
 abbrev pub RowsAreTheRegisters : Type 0
 RowsAreTheRegisters = (c : Cluster) (b : Book) (s v : Name) (x : Variant) → page_of (page_in c.params b s v x) ≡ register.page_of c.params b s x
 
--- What a page's decision makes of it, where its parameters make a cluster: its edits fit the page, which takes them one after the other, and
--- they lead to what the command makes of the page.
+-- What a page's decision makes of it, where its parameters make a cluster: its edits fit the page, which takes them one
+-- after the other, and they lead to what the command makes of the page.
 abbrev pub DecisionLeads : Type 0
 DecisionLeads = (rows : PageData) (command : Command) (after : register.Page) → check_params rows.params ≡ Ok rows.params →
     IsKept rows → IsFor rows.supplier rows.variant command → IsChecked rows.params command → decided rows command ≡ Ok after →
