@@ -16,7 +16,7 @@ use Rattle.fr_base.specs.declared.refusal.Refusal.{Refusal}
 use Rattle.fr_base.specs.declared.request.Ask.{Ask}
 use Rattle.fr_text.specs.AnswerText.{text_of}
 use Rattle.fr_cli.specs.Asked.{ask_in}
-use Rattle.fr_cli.specs.Books.{Answers, Replied}
+use Rattle.fr_cli.specs.Answers.{Answers, Replied}
 use Rattle.fr_cli.specs.Output.{read_lines, asks_of, answers_of, text_of_answers, IsAnswered, IsAnsweredTo}
 
 -- After the run of some lines' asks, one line more is answered.
@@ -95,3 +95,8 @@ answered_to c lines front left book written formed whole so =
         bytes = so.bytes;
       };
     }
+
+-- The register is sound after the lines that were answered.
+pub answering-sound : (c d : Cluster) (lines : List (List ℕ)) (book : Book) (written : List ℕ) → IsWellFormed c → d ≡ c → Answering c lines book written → IsSound d book
+answering-sound c d lines book written formed same so =
+    subst (λ x. IsSound x book) (sym same) (run-sound c (opening c) book (asks_of (read_lines c lines)) so.answers formed (opening-sound c formed) so.run)

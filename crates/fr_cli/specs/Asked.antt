@@ -1,5 +1,5 @@
 -- What a request's line asks.
-use Rattle.std.specs.Prelude.{ℕ, Bool, true, false, if◌then◌else◌, List, Option, Some, None, Result, Ok, Err}
+use Rattle.std.specs.Prelude.{ℕ, List, Option, Some, None, Result, Ok, Err}
 use Rattle.fr_base.specs.Actors.{actor_of}
 use Rattle.fr_base.specs.Cluster.{Cluster}
 use Rattle.fr_base.specs.declared.refusal.Refusal.{Refusal}
@@ -7,7 +7,6 @@ use Rattle.fr_base.specs.declared.refusal.Refusal.TheVariants.{BadText, UnknownK
 use Rattle.fr_base.specs.declared.request.Actor.{Actor}
 use Rattle.fr_base.specs.declared.request.Ask.{Ask}
 use Rattle.fr_base.specs.declared.request.Request.{Request}
-use Rattle.fr_base.specs.declared.request.Request.TheVariants.{OpenVariant, AddNode, Grant, AddFrame, Place, Schedule}
 use Rattle.fr_text.specs.RequestText.{request_of}
 use Rattle.fr_cli.specs.Script.{key_and_text}
 
@@ -21,26 +20,10 @@ abbrev pub asked : Option Request → Option Actor → Result Ask Refusal
 asked None actor = Err BadText
 asked (Some request) actor = asked_by actor request
 
--- whether the program answers such a request so far: a variant is opened empty, and nothing is released, taken back or
--- shown but the schedule
-abbrev pub is_answered : Request → Bool
-is_answered (OpenVariant variant None) = true
-is_answered (AddNode supplier node) = true
-is_answered (Grant variant slot channel supplier node) = true
-is_answered (AddFrame variant frame node) = true
-is_answered (Place variant frame slot channels base repetition) = true
-is_answered (Schedule variant) = true
-is_answered _ = false
-
--- any other is none to it
-abbrev pub answerable : Option Request → Option Request
-answerable None = None
-answerable (Some request) = if is_answered request then Some request else None
-
 -- a line without a space, or whose text is no request, is refused before its key is looked up
 abbrev pub ask_of : Cluster → Option (List ℕ × List ℕ) → Result Ask Refusal
 ask_of cluster None = Err BadText
-ask_of cluster (Some (key, text)) = asked (answerable (request_of text)) (actor_of cluster key)
+ask_of cluster (Some (key, text)) = asked (request_of text) (actor_of cluster key)
 
 -- who asks what by the line
 unfoldable pub ask_in : Cluster → List ℕ → Result Ask Refusal

@@ -1,10 +1,5 @@
 pub mod Script
 pub mod ScriptFault
-pub mod Rows
-pub mod Variants
-pub mod Books
-pub mod Taken
-pub mod Sendings
 pub mod Asked
 pub mod Output
 pub mod Words
@@ -13,4 +8,6 @@ pub mod Plans
 pub mod Registers
 pub mod Kept
 pub mod Applied
+pub mod Decided
+pub mod Answers
 pub mod Fitting

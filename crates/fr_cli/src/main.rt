@@ -1,9 +1,9 @@
 //! The program `slotplan`.
 #![tactic(auto)]
 
+mod answers;
 mod apply;
-mod book;
-mod commands;
+mod changes;
 mod input;
 mod lines;
 mod lists;
@@ -13,11 +13,8 @@ mod plan;
 mod program;
 mod queries;
 mod register;
-mod schedule;
 mod script;
 mod script_fault;
-mod taken;
-mod variant;
 
 use crate::program::{Job, perform, read_words, status_of};
 use crate::script_fault::ScriptFault;

@@ -1,18 +1,62 @@
-ghost use Rattle.std.specs.Prelude.{◌≡◌, IfOk, OnOk};
+ghost use Rattle.std.specs.Prelude.{◌≡◌, Err, IfOk, IfSome, OnErr, OnOk};
 ghost use Rattle.fr_base.specs.Keys.{owned, channel_slots};
 ghost use Rattle.fr_base.specs.Book.{held_by};
 ghost use Rattle.fr_base.specs.Step.{is_of};
 ghost use Rattle.fr_base.specs.Tables.{only};
 ghost use Rattle.fr_world.specs.Maps.{set_of, table_of};
 ghost use Rattle.fr_world.specs.Pages as pages;
-ghost use Rattle.fr_cli.specs.Plans.{frame_of, holder_of};
+ghost use Rattle.fr_cli.specs.Plans.{frame_of, holder_of, variant_of};
 ghost use Rattle.fr_cli.specs.Kept.{with_kept};
+ghost use Rattle.fr_cli.specs.Registers.{IsPageOf, book_of};
+ghost use Rattle.fr_base.specs.declared.refusal.Refusal.TheVariants.{Unavailable};
 
-use crate::plan::{Holder, Owned};
-use fr_base::Name;
-use fr_world::{ChannelSlot, PageFrame};
+use crate::plan::{Holder, Owned, Plan};
+use crate::register::Register;
+use fr_base::{Name, Refusal};
+use fr_world::{ChannelSlot, Page, PageFrame, PageRows};
 use std::alloc::{AllocError, Global};
 use std::collections::{BTreeMap, BTreeSet};
+
+impl Register {
+    /// The page of the supplier's rows in the variant, which is this one of the register's. `Unavailable`
+    /// where memory is refused.
+    pub(crate) fn page(
+        &self,
+        alloc: Global,
+        supplier: Name,
+        variant: Name,
+        plan: &Plan,
+    ) -> Result<Page, Refusal>
+        ensures page { IfOk result (λ page. IsPageOf page self.now.config.params (book_of self.now) supplier variant (variant_of plan.now)) }
+        ensures err { OnErr result (result ≡ Err Unavailable) }
+    {
+        match self.build_page(alloc, supplier, variant, plan) {
+            Ok(Some(page)) => Ok(page),
+            _ => Err(Refusal::Unavailable),
+        }
+    }
+
+    fn build_page(
+        &self,
+        alloc: Global,
+        supplier: Name,
+        variant: Name,
+        plan: &Plan,
+    ) -> Result<Option<Page>, AllocError>
+        ensures { IfOk result (λ built. IfSome built (λ page. IsPageOf page self.now.config.params (book_of self.now) supplier variant (variant_of plan.now))) }
+    {
+        let rows = PageRows {
+            params: self.config.params(),
+            supplier,
+            variant,
+            released: plan.released,
+            nodes: own_nodes(alloc, &self.nodes, supplier)?,
+            grants: own_grants(alloc, &plan.grants, supplier)?,
+            frames: own_frames(alloc, &plan.frames, supplier)?,
+        };
+        Page::build(alloc, rows)
+    }
+}
 
 // The supplier's nodes among all.
 fn own_nodes(

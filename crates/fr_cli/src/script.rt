@@ -5,19 +5,20 @@ ghost use Rattle.fr_base.specs.Book.{opening};
 ghost use Rattle.fr_base.specs.Step.{knows};
 ghost use Rattle.fr_base.specs.Sound.{IsSound};
 ghost use Rattle.fr_base.specs.Laws.{IsWellFormed};
-ghost use Rattle.fr_cli.specs.Asked.{ask_in, is_answered};
-ghost use Rattle.fr_cli.specs.Books.{book_of, Replied};
+ghost use Rattle.fr_cli.specs.Asked.{ask_in};
+ghost use Rattle.fr_cli.specs.Answers.{Replied};
+ghost use Rattle.fr_cli.specs.Registers.{book_of};
 ghost use Rattle.fr_cli.specs.Output.{IsAnsweredTo, IsCutShort, IsOutput, LacksMemory, cluster_in};
 ghost use Rattle.fr_cli.specs.Script.{request_lines};
 ghost use Rattle.fr_text.specs.AnswerText.{text_of};
 ghost use Rattle.fr_text.specs.declared.cluster_file.ConfigFault.{ConfigFault};
 
-use crate::book::Book;
 use crate::input::{SCRIPT_BYTES, read_all};
 use crate::lines::{RequestLines, key_and_text, split_script};
 use crate::output::{Retries, flush, write_all};
+use crate::register::Register;
 use crate::script_fault::ScriptFault;
-use fr_base::{Answer, Ask, Config, Refusal, Request};
+use fr_base::{Answer, Ask, Config, Refusal};
 use fr_text::{ConfigFault, append_answer, read_command, read_config};
 use std::alloc::{AllocError, Global};
 use std::io::{Read, Write};
@@ -73,11 +74,11 @@ fn answer_requests<W: Write>(
         × IsAnsweredTo config (request_lines requests.now) left (written ++ missing) }
     ensures faults { IfErr result (λ fault. (fault ≡ ScriptFault.NoMemory) ⊎ (fault ≡ ScriptFault.WriteFailed)) }
 {
-    let mut book = Book::new(alloc, config);
+    let mut register = Register::new(alloc, config);
     let mut retries = Retries::new();
     let mut text = Vec::new(alloc);
     for line in RequestLines::new(requests) {
-        let answer = answer_line(alloc, &mut book, line)?;
+        let answer = answer_line(alloc, &mut register, line)?;
         set_line(answer, &mut text)?;
         write_all(writer, &mut retries, &text)?;
     }
@@ -93,16 +94,17 @@ fn set_line(answer: Answer, text: &mut Vec<u8>) -> Result<(), AllocError>
     text.extend_from_slice(b"\n")
 }
 
-// The answer to a request's line, which may change the book.
-fn answer_line(alloc: Global, book: &mut Book, line: &[u8]) -> Result<Answer, ScriptFault>
-    ensures config { book.new.config ≡ book.old.config }
+// The answer to a request's line, which may change the register.
+fn answer_line(alloc: Global, register: &mut Register, line: &[u8]) -> Result<Answer, ScriptFault>
+    requires formed { IsWellFormed register.old.config }
+    requires sound { IsSound register.old.config (book_of register.old) }
+    ensures config { register.new.config ≡ register.old.config }
     ensures replied { IfOk result (λ answer.
-        Replied book.old.config (book_of book.old) (ask_in book.old.config line.now) answer (book_of book.new)) }
-    ensures sound { IsWellFormed book.old.config → IsSound book.old.config (book_of book.old) → IsOk result → IsSound book.new.config (book_of book.new) }
+        Replied register.old.config (book_of register.old) (ask_in register.old.config line.now) answer (book_of register.new)) }
     ensures fault { IfErr result (λ fault. fault ≡ ScriptFault.NoMemory) }
 {
-    match read_ask(alloc, &book.config, line) {
-        Ok(ask) => Ok(book.answer(alloc, &ask)),
+    match read_ask(alloc, &register.config, line) {
+        Ok(ask) => Ok(register.answer(alloc, &ask)),
         Err(Refusal::Unavailable) => Err(ScriptFault::NoMemory),
         Err(refusal) => Ok(Answer::Refused(refusal)),
     }
@@ -117,26 +119,8 @@ fn read_ask(alloc: Global, config: &Config, line: &[u8]) -> Result<Ask, Refusal>
 {
     let (key, text) = key_and_text(line).ok_or(Refusal::BadText)?;
     let request = read_command(alloc, text)?;
-    if !is_answered(&request) {
-        return Err(Refusal::BadText);
-    }
     let actor = config.actor_of(key).ok_or(Refusal::UnknownKey)?;
     Ok(Ask { actor, request })
-}
-
-// Whether the program answers such a request so far.
-fn is_answered(request: &Request) -> bool
-    ensures { result ≡ is_answered request.now }
-{
-    match request {
-        Request::OpenVariant { parent: None, .. }
-        | Request::AddNode { .. }
-        | Request::Grant { .. }
-        | Request::AddFrame { .. }
-        | Request::Place { .. }
-        | Request::Schedule { .. } => true,
-        _ => false,
-    }
 }
 
 #[cfg(test)]

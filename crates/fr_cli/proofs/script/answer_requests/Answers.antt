@@ -1,21 +1,22 @@
 use Rattle.std.proofs.Common.{◌≡◌, ◌++◌, ◌∷◌, ℕ, List, [], refl, sym, ap, ◌∙◌, subst, append_assoc, append-nil, take, drop, take-append-drop, codes}
 use Rattle.std.specs.Io.KnownBytes.{Appends, Keeps}
 use Rattle.std.proofs.KnownBytes.{Appends-nil, Appends-trans, Appends-kept}
-use Rattle.fr_cli.specs.Books.{book_of, Replied}
+use Rattle.fr_cli.specs.Answers.{Replied}
+use Rattle.fr_cli.specs.Registers.{book_of}
 use Rattle.fr_cli.specs.Script.{request_lines}
-use Rattle.fr_cli.proofs.OutputLaws.{Answering, answering-none, answering-line, answered_to}
+use Rattle.fr_cli.proofs.OutputLaws.{Answering, answering-none, answering-line, answering-sound, answered_to}
 use Rattle.fr_cli.proofs.script.answer_requests.Goals as goal
 
 pub loop-line-init : goal.loop-line-init
 loop-line-init g c = record {
   can = tt;
   finite = tt;
-  config = c.new-book.ensures.config;
+  config = c.new-register.ensures.config;
   front = [];
   lines = ap request_lines (sym c.new-line-items.ensures ∙ ap (λ items. items.rest.now) (sym c.into_iter-line-iterator.ensures.into_iter_gives));
   written = [];
   appended = Appends-nil (g.W.Write.contents c.args.writer.now);
-  answering = answering-none c.args.config (book_of c.new-book.result) c.new-book.ensures.opening;
+  answering = answering-none c.args.config (book_of c.new-register.result) c.new-register.ensures.opening;
 }
 
 pub returns-in_err-answer-clause-no_memory : goal.returns-in_err-answer-clause-no_memory
@@ -51,9 +52,9 @@ returns-in_err-write_all-clause-write_failed g c = λ _.
       Appends-trans _ _ _ l.written (take n text) l.appended cut,
       answered_to c.args.config _ (l.front ++ c.in-Some.line.now ∷ []) _ _ _ c.requires
           (l.lines ∙ ap (λ left. l.front ++ left) c.in-Some.ensures.steps ∙ sym (append_assoc l.front (c.in-Some.line.now ∷ []) (request_lines c.next.new.self.rest.now)))
-          (subst (Answering c.args.config (l.front ++ c.in-Some.line.now ∷ []) (book_of c.answer_line.new.book))
+          (subst (Answering c.args.config (l.front ++ c.in-Some.line.now ∷ []) (book_of c.answer_line.new.register))
           (ap (λ t. l.written ++ t) (sym (take-append-drop n text)) ∙ sym (append_assoc l.written (take n text) (drop n text)))
-          (answering-line c.args.config c.loop-line.book.config l.front c.in-Some.line.now (book_of c.loop-line.book) (book_of c.answer_line.new.book) c.in_ok-answer.answer
+          (answering-line c.args.config c.loop-line.register.config l.front c.in-Some.line.now (book_of c.loop-line.register) (book_of c.answer_line.new.register) c.in_ok-answer.answer
           l.written text l.answering l.config c.in_ok-answer.ensures.replied
           (c.deref.ensures.value ∙ c.in_ok-set_line.ensures))),
     )
@@ -70,7 +71,7 @@ loop-line-preserved g c =
       lines = l.lines ∙ ap (λ left. l.front ++ left) c.in-Some.ensures.steps ∙ sym (append_assoc l.front (c.in-Some.line.now ∷ []) (request_lines c.next.new.self.rest.now));
       written = l.written ++ text;
       appended = Appends-trans _ _ _ l.written text l.appended c.in_ok-write_all.ensures.ok;
-      answering = answering-line c.args.config c.loop-line.book.config l.front c.in-Some.line.now (book_of c.loop-line.book) (book_of c.answer_line.new.book) c.in_ok-answer.answer
+      answering = answering-line c.args.config c.loop-line.register.config l.front c.in-Some.line.now (book_of c.loop-line.register) (book_of c.answer_line.new.register) c.in_ok-answer.answer
           l.written text l.answering l.config c.in_ok-answer.ensures.replied
           (c.deref.ensures.value ∙ c.in_ok-set_line.ensures);
     }
@@ -83,7 +84,7 @@ returns-in_err-flush-clause-write_failed g c = λ _.
       l.written,
       Appends-kept _ _ _ l.written l.appended c.flush.ensures,
       answered_to c.args.config _ l.front [] _ _ c.requires (l.lines ∙ ap (λ left. l.front ++ left) c.in-None.ensures.steps.0)
-          (subst (Answering c.args.config l.front (book_of c.loop-line.book)) (sym (append-nil l.written)) l.answering),
+          (subst (Answering c.args.config l.front (book_of c.loop-line.register)) (sym (append-nil l.written)) l.answering),
     )
 
 pub returns-clause-all : goal.returns-clause-all
@@ -93,3 +94,8 @@ returns-clause-all g c =
       Appends-kept _ _ _ l.written l.appended c.flush.ensures,
       answered_to c.args.config _ l.front [] _ l.written c.requires (l.lines ∙ ap (λ left. l.front ++ left) c.in-None.ensures.steps.0) l.answering,
     )
+
+pub answer_line-requires-clause-sound : goal.answer_line-requires-clause-sound
+answer_line-requires-clause-sound g c =
+    let l = c.loop-line.invariant in
+    answering-sound c.args.config c.loop-line.register.config l.front (book_of c.loop-line.register) l.written c.requires l.config l.answering

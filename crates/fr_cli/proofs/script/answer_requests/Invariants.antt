@@ -1,7 +1,7 @@
 -- The lines so far are answered by what was written, and the iterator has those that are left.
 use Rattle.std.proofs.Common.{◌≡◌, ◌++◌, ℕ, List}
 use Rattle.std.specs.Io.KnownBytes.{Appends}
-use Rattle.fr_cli.specs.Books.{book_of}
+use Rattle.fr_cli.specs.Registers.{book_of}
 use Rattle.fr_cli.specs.Script.{request_lines}
 use Rattle.fr_cli.proofs.OutputLaws.{Answering}
 use Rattle.fr_cli.proofs.script.answer_requests.Given as goal
@@ -10,10 +10,10 @@ abbrev pub invariant-loop-line : goal.invariant-loop-line
 invariant-loop-line g l = record {
   can : (goal.iterator-loop-line g).can_next l.line-iterator;
   finite : (goal.iterator-loop-line g).is_finite l.line-iterator;
-  config : l.book.config ≡ l.fn.config;
+  config : l.register.config ≡ l.fn.config;
   front : List (List ℕ);
   lines : request_lines l.fn.requests ≡ front ++ request_lines l.line-iterator.rest.now;
   written : List ℕ;
   appended : Appends (g.W.Write.contents l.fn.writer) (g.W.Write.contents l.writer) written;
-  answering : Answering l.fn.config front (book_of l.book) written;
+  answering : Answering l.fn.config front (book_of l.register) written;
 }

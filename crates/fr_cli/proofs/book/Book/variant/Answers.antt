@@ -1,9 +1,0 @@
-use Rattle.std.proofs.Common.{◌∙◌, sym, ap, option_map}
-use Rattle.fr_base.specs.Keys.{names}
-use Rattle.fr_cli.specs.Variants.{variant_of}
-use Rattle.fr_cli.proofs.KeyLaws.{name_cmp, names_alike}
-use Rattle.fr_cli.proofs.MapLaws.{get-table_of, copied_map}
-use Rattle.fr_cli.proofs.book.Book.variant.Goals as goal
-
-pub returns : goal.returns
-returns c = copied_map variant_of c.get.result ∙ ap (option_map variant_of) c.get.ensures.value ∙ sym (get-table_of name_cmp names (λ v. v) variant_of names_alike c.args.self.now.variants.entries c.args.variant)
