@@ -34,7 +34,7 @@ framed page f result = do
   after ← result
   Ok (record page { frames = becomes page.frames (page.supplier, f) after })
 
--- the page after a command; no other command speaks of a page
+-- the page after a command; what is not for a page is NotYours, which no caller asks
 unfoldable pub after : Page → Command → Result Page Refusal
 after page (Grant v k c s n) = do
   refuse NoNode when not (contains page.nodes (page.supplier, n))
@@ -65,7 +65,7 @@ admitted page command edit = do
   after page command
   Ok edit
 
--- the edits that bring a supplier's command, or a grant or its end to a supplier
+-- the edits that an accepted command makes on the supplier's rows
 abbrev pub edits_of : Name → Command → List Edit
 edits_of s (Grant v k c t n) = PutGrant v k c s n ∷ []
 edits_of s (Revoke v k c t) = EndGrant v k c ∷ []

@@ -18,7 +18,7 @@ change_at page k (Some frame) change = record page { frames = insert page.frames
 abbrev pub change_frame : Page → Name × Name → (Frame → Frame) → Page
 change_frame page k change = change_at page k (get page.frames k) change
 
--- the page after an edit of its supplier's rows
+-- the page after an edit of its supplier's rows; whether the variant is released is no part of it (see `releases`)
 unfoldable pub edited : Page → Edit → Page
 edited page (NewNode s n) = record page { nodes = insert page.nodes (s, n) tt }
 edited page (PutGrant v k c s n) = record page { grants = insert page.grants (k, c) (record { supplier = s; node = n }) }
@@ -64,7 +64,7 @@ variant_of (PutSignal v s f x) = Some v
 variant_of (EndSignal v s f x) = Some v
 variant_of (KeepImport s label v body rows) = Some v
 
--- whether a page has such rows
+-- whether a page takes such edits: all but a new variant and a kept import
 abbrev pub is_of_page : Edit → Bool
 is_of_page (NewVariant v parent depth) = false
 is_of_page (KeepImport s label v body rows) = false

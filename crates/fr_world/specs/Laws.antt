@@ -26,7 +26,7 @@ abbrev pub SoundRowsAreAPage : Type 0
 SoundRowsAreAPage = (c : Cluster) (b : Book) (s v : Name) (x : Variant) → IsSound c b → get b.variants v ≡ Some x →
     IsKept (page_in c.params b s v x)
 
--- They are the register's page.
+-- In any book they stand for the register's page.
 abbrev pub RowsAreTheRegisters : Type 0
 RowsAreTheRegisters = (c : Cluster) (b : Book) (s v : Name) (x : Variant) → page_of (page_in c.params b s v x) ≡ register.page_of c.params b s x
 
@@ -44,25 +44,28 @@ SupplierDecides = (c : Cluster) (b : Book) (s v : Name) (x : Variant) (command :
     IsSound c b → get b.variants v ≡ Some x → IsIn v command →
     by_supplier c.params b s command ≡ (decision (page_in c.params b s v x) command >>= λ edits. Ok (changes b edits))
 
--- So is a grant to a supplier that is there, but that it is Taken where slot and channel are held; and the end of a grant.
+-- In any book a grant to a supplier that is there is refused as on the supplier's page; what the page accepts is Taken where slot
+-- and channel are held, by another supplier then, or makes of the book what its edits make of it.
 abbrev pub GrantDecides : Type 0
 GrantDecides = (c : Cluster) (b : Book) (s v n : Name) (x : Variant) (k : ℕ) (channel : Channel) →
     get b.variants v ≡ Some x → IsTrue (contains b.suppliers s) →
     by_integrator b (Grant v k channel s n)
     ≡ (decision (page_in c.params b s v x) (Grant v k channel s n) >>= λ edits. (refuse Taken when contains x.grants (k, channel)) >> Ok (changes b edits))
 
+-- In any book the end of a grant to a supplier that is there is refused as on the supplier's page, or makes of the book what its
+-- edits make of it.
 abbrev pub RevokeDecides : Type 0
 RevokeDecides = (c : Cluster) (b : Book) (s v : Name) (x : Variant) (k : ℕ) (channel : Channel) →
     get b.variants v ≡ Some x → IsTrue (contains b.suppliers s) →
     by_integrator b (Revoke v k channel s)
     ≡ (decision (page_in c.params b s v x) (Revoke v k channel s) >>= λ edits. Ok (changes b edits))
 
--- A node for a supplier that is there is decided by the supplier's nodes,
+-- In any book a new node for a supplier that is there is decided by the supplier's nodes.
 abbrev pub NodeDecides : Type 0
 NodeDecides = (b : Book) (s n : Name) → IsTrue (contains b.suppliers s) →
     add_node b s n ≡ (new_node s (nodes_in b s) n >>= λ edit. Ok (changed b edit))
 
--- and what is common to all suppliers by the list of variants.
+-- In any book what is common to all suppliers is decided by the list of variants.
 abbrev pub CommonDecides : Type 0
 CommonDecides = (b : Book) (command : Command) → IsCommon command →
     by_integrator b command ≡ (common (variants_in b) command >>= λ edit. Ok (changed b edit))

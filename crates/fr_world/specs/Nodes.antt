@@ -1,4 +1,4 @@
--- What is decided of a node for a supplier.
+-- What is decided of a new node for a supplier.
 use Rattle.std.specs.Prelude.{List, length, nat_le, Result, Ok, Err}
 use Rattle.std.specs.List.{list_any}
 use Rattle.fr_base.specs.Limits.{max_nodes}
@@ -10,7 +10,7 @@ use Rattle.fr_base.specs.declared.refusal.Refusal.TheVariants.{Exists, Limit}
 use Rattle.fr_world.specs.declared.edit.Edit.{Edit}
 use Rattle.fr_world.specs.declared.edit.Edit.TheVariants.{NewNode}
 
--- the supplier, who has these nodes, is to have the node
+-- the edit that gives the supplier, who has these nodes, the node; or the first refusal
 unfoldable pub new_node : Name → List Name → Name → Result Edit Refusal
 new_node s nodes n = do
   refuse Exists when list_any (λ other. same_text other n) nodes

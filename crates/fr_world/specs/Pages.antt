@@ -1,4 +1,4 @@
--- A supplier's rows of a variant, in maps and sets, as the register's page; and which rows a page has.
+-- A supplier's rows in a variant as lists, the register's page that they stand for, and which rows a page may have.
 use Rattle.std.specs.Prelude.{◌≡◌, ◌≤◌, Bool, List, map, IsTrue, All, AllPairs, Some}
 use Rattle.std.specs.declared.cmp.Ordering.{Ordering}
 use Rattle.std.specs.Ordering.{on}
@@ -44,7 +44,7 @@ frame_data f = record { node = f.node; placements = f.placements.keys; layout = 
 abbrev pub frames_data : List (Name × PageFrame) → List (Name × FrameData)
 frames_data frames = map (λ e. (e.0, frame_data e.1)) frames
 
--- what the rows are
+-- the lists of a page's maps and sets
 abbrev pub rows_data : PageRows → PageData
 rows_data r = record {
   params = r.params;
