@@ -2,7 +2,8 @@
 # make test     the gate: every proof from nothing, the must-fail edits, the tests, the stored run
 # make install  puts the proved program at $(PREFIX)/bin/slotplan
 # make examples runs every script of examples/ and compares its answers with those beside it
-# make bench    prints the program's speed and memory beside those of a plain reader, and of texts alone; no test
+# make bench    prints the program's speed and memory beside those of a plain reader, how a change's time grows
+#               with its supplier's rows, and the speed of texts alone; no test
 
 SCRIPT ?= examples/first.script
 PREFIX ?= /usr/local
@@ -30,6 +31,7 @@ examples: build
 
 bench: build
 	@python3 bench/run.py
+	@python3 bench/growth.py
 	@python3 bench/texts.py
 
 # `rt run` proves what has changed, compiles it, and runs the program once on its stored script. What

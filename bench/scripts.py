@@ -2,9 +2,9 @@
 """Prints a script of many requests, the same one for the same arguments: scripts.py MIX [--lines N] [--suppliers S] [--seed X]
 
 MIX is one of
-  plan      variants, nodes, grants, frames and placements, as suppliers plan; few are refused
-  refused   requests that are refused, for each reason that there is, over a small plan
-  queries   schedules of a small plan, of the integrator and of the suppliers
+  plan      each command that there is, as integrator and suppliers plan; few are refused
+  refused   requests that are refused, for nearly each reason that there is, over a small plan
+  queries   each query, on a small plan, of the integrator and of the suppliers
   place     each request is a placement, on a variant that fills up
   all       plan, refused and queries, mixed line by line
 """
@@ -17,6 +17,9 @@ SLOTS = 1023
 VARIANTS = 64
 NODES = 4
 FRAMES = 256
+DEPTH = 16
+PAYLOAD_BITS = 16 * 16
+QUERIES = ("grants", "frames", "schedule", "gaps", "layout")
 
 
 def cluster_file(suppliers):
@@ -46,10 +49,15 @@ class Plan:
     def __init__(self, suppliers, seed):
         self.suppliers = suppliers
         self.dice = random.Random(seed)
-        self.variants = []
+        self.named = {}  # of a variant and a supplier, how many frames so far, those dropped too
+        self.variants = []  # those that are open
+        self.released = []
+        self.depth = {}  # of each variant
         self.granted = {}  # of a variant, how many slots and channels
         self.held = {}  # of a variant, a supplier and a node, its slots and channels
         self.frames = {}  # of a variant and a supplier, its frames, each with its node
+        self.placed = {}  # of a variant and a supplier, the placements that were asked for
+        self.signals = {}  # of a variant and a supplier, the frames and signals that were asked for
 
     def line(self, actor, do, **fields):
         key = "integrator1" if actor is None else key_of(actor)
@@ -67,10 +75,22 @@ class Plan:
                 yield from (self.grant(variant, supplier, n) for n in range(NODES))
                 yield from (self.add_frame(variant, supplier, n % NODES) for n in range(frames))
 
-    def open_variant(self):
-        self.variants.append(f"v{len(self.variants)}")
-        self.granted[self.variants[-1]] = 0
-        return self.line(None, "open_variant", variant=self.variants[-1])
+    def open_variant(self, parent=None):
+        """An empty variant, or one that has all that stands in its parent."""
+        variant = f"v{len(self.depth)}"
+        self.variants.append(variant)
+        self.depth[variant] = 1 + self.depth.get(parent, 0)
+        self.granted[variant] = self.granted.get(parent, 0)
+        for rows in (self.held, self.frames, self.placed, self.signals):
+            rows.update({(variant, *key[1:]): list(of) for key, of in rows.items() if key[0] == parent})
+        self.named.update({(variant, key[1]): named for key, named in self.named.items() if key[0] == parent})
+        fields = {"from": parent} if parent else {}
+        return self.line(None, "open_variant", variant=variant, **fields)
+
+    def release(self):
+        variant = self.variants.pop(self.dice.randrange(len(self.variants)))
+        self.released.append(variant)
+        return self.line(None, "release", variant=variant)
 
     def grant(self, variant, supplier, node):
         at = self.granted[variant]
@@ -81,7 +101,9 @@ class Plan:
 
     def add_frame(self, variant, supplier, node):
         frames = self.frames.setdefault((variant, supplier), [])
-        frames.append((f"frame{len(frames)}", node))
+        named = self.named.get((variant, supplier), 0)
+        self.named[variant, supplier] = named + 1
+        frames.append((f"frame{named}", node))
         return self.line(supplier, "add_frame", variant=variant, frame=frames[-1][0], node=f"node{node}")
 
     def place(self, variant, supplier):
@@ -89,24 +111,61 @@ class Plan:
         slot, channel = self.dice.choice(self.held[variant, supplier, node])
         repetition = self.dice.choice((16, 32, 64))
         base = self.dice.randrange(repetition)
-        return self.line(supplier, "place", variant=variant, frame=frame, slot=slot, channels=channel, base=base, repetition=repetition)
+        fields = dict(frame=frame, slot=slot, channels=channel, base=base, repetition=repetition)
+        self.placed.setdefault((variant, supplier), []).append(fields)
+        return self.line(supplier, "place", variant=variant, **fields)
+
+    def add_signal(self, variant, supplier):
+        frame, _ = self.dice.choice(self.frames[variant, supplier])
+        signal = f"signal{self.dice.randrange(1000)}"
+        self.signals.setdefault((variant, supplier), []).append((frame, signal))
+        length, order = self.dice.randint(1, 8), self.dice.choice(("little", "big"))
+        start = self.dice.randrange(PAYLOAD_BITS)
+        return self.line(supplier, "add_signal", variant=variant, frame=frame, signal=signal, start=start, length=length, order=order)
+
+    def taken(self, rows, key):
+        """One of these rows, which then is among them no more; None where there is none."""
+        of = rows.get(key)
+        return of.pop(self.dice.randrange(len(of))) if of else None
+
+    def end(self, variant, supplier):
+        """Takes back a placement, a signal, a frame or a grant; asks to see the grants where there is none."""
+        kind, node = self.dice.random(), self.dice.randrange(NODES)
+        if kind < 0.5 and (placement := self.taken(self.placed, (variant, supplier))):
+            return self.line(supplier, "unplace", variant=variant, **placement)
+        if kind < 0.9 and (signal := self.taken(self.signals, (variant, supplier))):
+            return self.line(supplier, "drop_signal", variant=variant, frame=signal[0], signal=signal[1])
+        if kind < 0.95 and (frame := self.taken(self.frames, (variant, supplier))):
+            return self.line(supplier, "drop_frame", variant=variant, frame=frame[0])
+        if len(self.held.get((variant, supplier, node), ())) > 1:
+            slot, channel = self.held[variant, supplier, node].pop()
+            return self.line(None, "revoke", variant=variant, slot=slot, channel=channel, supplier=supplier)
+        return self.line(supplier, "grants", variant=variant)
 
     def plan(self):
         kind = self.dice.random()
         variant, supplier, node = self.dice.choice(self.variants), self.dice.choice(self.suppliers), self.dice.randrange(NODES)
         frames = self.frames.get((variant, supplier), ())
-        if kind < 0.02 and len(self.variants) < VARIANTS:
-            return self.open_variant()
-        if (variant, supplier, node) not in self.held or (kind < 0.2 and self.granted[variant] < 2 * SLOTS):
+        if kind < 0.005 and len(self.variants) > 2:
+            return self.release()
+        if kind < 0.015 and len(self.depth) < VARIANTS:
+            parents = [parent for parent in self.released if self.depth[parent] < DEPTH]
+            return self.open_variant(self.dice.choice([None, *parents[-1:]]))
+        if (variant, supplier, node) not in self.held or (kind < 0.1 and self.granted[variant] < 2 * SLOTS):
             return self.grant(variant, supplier, node)
-        if not frames or (kind < 0.5 and len(frames) < FRAMES):
+        if not frames or (kind < 0.3 and len(frames) < FRAMES):
             return self.add_frame(variant, supplier, node)
+        if kind < 0.5:
+            return self.add_signal(variant, supplier)
+        if kind < 0.6:
+            return self.end(variant, supplier)
         return self.place(variant, supplier)
 
     def refused(self):
         supplier, variant = self.dice.choice(self.suppliers), self.variants[0]
         place = dict(variant=variant, frame="frame0", slot=1, channels="A", base=0, repetition=64)
         grant = dict(variant=variant, slot=1, channel="A", supplier=supplier, node="node0")
+        signal = dict(variant=variant, frame="frame0", signal="signal0", start=PAYLOAD_BITS, length=1, order="little")
         return self.dice.choice((
             lambda: "line",
             lambda: key_of(supplier) + ' {"do":"place"',
@@ -129,11 +188,21 @@ class Plan:
             lambda: self.line(None, "add_node", supplier="nobody", node="node0"),
             lambda: self.line(None, "add_node", supplier=supplier, node="node0"),
             lambda: self.line(None, "grant", **{**grant, "node": "node3"}),
+            lambda: self.line(None, "open_variant", **{"variant": "other", "from": variant}),
+            lambda: self.line(None, "revoke", variant=variant, slot=SLOTS, channel="B", supplier=supplier),
+            lambda: self.line(supplier, "unplace", **{**place, "base": 63}),
+            lambda: self.line(supplier, "drop_frame", variant=variant, frame="nothing"),
+            lambda: self.line(supplier, "add_signal", **signal),
+            lambda: self.line(supplier, "add_signal", **{**signal, "length": 65}),
+            lambda: self.line(supplier, "add_signal", **{**signal, "order": "middle"}),
+            lambda: self.line(supplier, "drop_signal", variant=variant, frame="frame0", signal="nothing"),
+            lambda: self.line(supplier, "layout", variant=variant, frame="nothing"),
         ))()
 
     def query(self):
-        actor = self.dice.choice([None, *self.suppliers])
-        return self.line(actor, "schedule", variant=self.variants[0])
+        actor, query = self.dice.choice([None, *self.suppliers]), self.dice.choice(QUERIES)
+        fields = {"frame": "frame0"} if query == "layout" else {}
+        return self.line(actor, query, variant=self.variants[0], **fields)
 
 
 def script(mix, lines, suppliers, seed):
@@ -142,7 +211,7 @@ def script(mix, lines, suppliers, seed):
     variants, frames = {"plan": (4, 4), "place": (1, 60), "all": (4, 4)}.get(mix, (1, 4))
     opening = list(plan.opening(variants, frames))
     if mix == "queries":
-        opening += [plan.place("v0", name) for name in names]
+        opening += [asked("v0", name) for name in names for asked in (plan.place, plan.add_signal)]
     kinds = {
         "plan": [plan.plan],
         "refused": [plan.refused],
@@ -157,7 +226,7 @@ def script(mix, lines, suppliers, seed):
 def main():
     words = argparse.ArgumentParser(description=__doc__, formatter_class=argparse.RawDescriptionHelpFormatter)
     words.add_argument("mix", choices=("plan", "refused", "queries", "place", "all"))
-    words.add_argument("--lines", type=int, default=100_000)
+    words.add_argument("--lines", type=int, default=10_000)
     words.add_argument("--suppliers", type=int, default=8, choices=range(1, 65), metavar="1..64")
     words.add_argument("--seed", type=int, default=1)
     given = words.parse_args()
