@@ -36,3 +36,6 @@ pub use placed::{Placed, push_placed};
 pub use row_occupancy::RowOccupancy;
 pub use sendings::{push_sendings, schedule};
 pub use variants::{VariantRow, decide_common};
+
+#[cfg(test)]
+mod tests;
