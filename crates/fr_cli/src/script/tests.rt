@@ -6,8 +6,11 @@ use std::process::Abort;
 
 mod bounds;
 mod refused;
+mod reports;
 mod rows;
+mod signals;
 mod streams;
+mod variants;
 
 const CLUSTER: &str = r#"channels = "AB"
 static_slots = 4

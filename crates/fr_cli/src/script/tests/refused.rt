@@ -20,6 +20,8 @@ const BAD_CHANNEL: &str = r#"{"no":7,"refused":"BadChannel"}"#;
 
 const NO_VARIANT: &str = r#"{"no":10,"refused":"NoVariant"}"#;
 
+const NOT_RELEASED: &str = r#"{"no":12,"refused":"NotReleased"}"#;
+
 const NO_SUPPLIER: &str = r#"{"no":14,"refused":"NoSupplier"}"#;
 
 const NO_NODE: &str = r#"{"no":15,"refused":"NoNode"}"#;
@@ -35,14 +37,7 @@ const LIMIT: &str = r#"{"no":23,"refused":"Limit"}"#;
 const NOTHING_IS_SENT: &str = r#"{"lines":[],"ok":"schedule"}"#;
 
 /// Requests that the register is not asked for: their text or their key is none.
-const UNASKED: [(&str, &str); 23] = [
-    // requests that the program does not answer yet
-    (r#"supplier01 {"do":"release","variant":"v1"}"#, BAD_TEXT),
-    (r#"nobody123 {"do":"grants","variant":"v1"}"#, BAD_TEXT),
-    (
-        r#"integrator1 {"do":"open_variant","variant":"v2","from":"v1"}"#,
-        BAD_TEXT,
-    ),
+const UNASKED: [(&str, &str); 21] = [
     ("supplier01", BAD_TEXT),
     ("supplier01\t{}", BAD_TEXT),
     ("supplier01 ", BAD_TEXT),
@@ -75,10 +70,11 @@ const UNASKED: [(&str, &str); 23] = [
     ),
     (r#" {"do":"schedule","variant":"v1"}"#, UNKNOWN_KEY),
     (r#"nobody123 {"do":"schedule","variant":"1v"}"#, UNKNOWN_KEY),
+    (r#"nobody123 {"do":"grants","variant":"v1"}"#, UNKNOWN_KEY),
 ];
 
 /// Requests of an actor that may not give them, and of names that are none.
-const MISNAMED: [(&str, &str); 23] = [
+const MISNAMED: [(&str, &str); 30] = [
     (
         r#"supplier01 {"do":"open_variant","variant":"v2"}"#,
         NOT_YOURS,
@@ -101,6 +97,19 @@ const MISNAMED: [(&str, &str); 23] = [
     ),
     (
         r#"integrator1 {"do":"place","variant":"v1","frame":"f1","slot":1,"channels":"A","base":0,"repetition":1}"#,
+        NOT_YOURS,
+    ),
+    (r#"supplier01 {"do":"release","variant":"v1"}"#, NOT_YOURS),
+    (
+        r#"supplier01 {"do":"revoke","variant":"v1","slot":1,"channel":"A","supplier":"s1"}"#,
+        NOT_YOURS,
+    ),
+    (
+        r#"integrator1 {"do":"drop_frame","variant":"v1","frame":"f1"}"#,
+        NOT_YOURS,
+    ),
+    (
+        r#"integrator1 {"do":"drop_signal","variant":"v1","frame":"f1","signal":"x"}"#,
         NOT_YOURS,
     ),
     (
@@ -160,6 +169,18 @@ const MISNAMED: [(&str, &str); 23] = [
         BAD_NAME,
     ),
     (r#"supplier01 {"do":"schedule","variant":"1v"}"#, BAD_NAME),
+    (
+        r#"integrator1 {"do":"open_variant","variant":"v2","from":"1v"}"#,
+        BAD_NAME,
+    ),
+    (
+        r#"supplier01 {"do":"add_signal","variant":"v1","frame":"f1","signal":"1x","start":0,"length":0,"order":"big"}"#,
+        BAD_NAME,
+    ),
+    (
+        r#"supplier01 {"do":"layout","variant":"v1","frame":"1f"}"#,
+        BAD_NAME,
+    ),
     // Of a field that is there twice the last value counts.
     (
         r#"supplier01 {"do":"schedule","variant":"v1","variant":"1v"}"#,
@@ -172,7 +193,7 @@ const MISNAMED: [(&str, &str); 23] = [
 ];
 
 /// The slot, the channels and the cycles of a placement.
-const MISPLACED: [(&str, &str); 23] = [
+const MISPLACED: [(&str, &str); 24] = [
     (
         r#""slot":1.0,"channels":"A","base":0,"repetition":1"#,
         BAD_TEXT,
@@ -210,6 +231,10 @@ const MISPLACED: [(&str, &str); 23] = [
         BAD_TEXT,
     ),
     (r#""slot":1,"channels":"A","repetition":1"#, BAD_TEXT),
+    (
+        r#""slot":1,"channels":"A","base":0,"repetition":1,"x":1"#,
+        BAD_TEXT,
+    ),
     (
         r#""slot":1,"channels":"A","base":2,"repetition":2"#,
         BAD_CYCLES,
@@ -274,7 +299,7 @@ const MISGRANTED: [(&str, &str); 5] = [
 ];
 
 /// Requests that name what is not there, or what is there already.
-const UNFITTING: [(&str, &str); 19] = [
+const UNFITTING: [(&str, &str); 24] = [
     (
         r#"integrator1 {"do":"open_variant","variant":"v1"}"#,
         EXISTS,
@@ -348,6 +373,23 @@ const UNFITTING: [(&str, &str); 19] = [
         NOT_GRANTED,
     ),
     (r#"supplier01 {"do":"schedule","variant":"v9"}"#, NO_VARIANT),
+    (r#"supplier01 {"do":"grants","variant":"v9"}"#, NO_VARIANT),
+    (
+        r#"supplier01 {"do":"layout","variant":"v9","frame":"f9"}"#,
+        NO_VARIANT,
+    ),
+    (
+        r#"supplier02 {"do":"layout","variant":"v1","frame":"f1"}"#,
+        NO_FRAME,
+    ),
+    (
+        r#"integrator1 {"do":"layout","variant":"v1","frame":"f9"}"#,
+        NO_FRAME,
+    ),
+    (
+        r#"integrator1 {"do":"open_variant","variant":"v2","from":"v1"}"#,
+        NOT_RELEASED,
+    ),
 ];
 
 /// Requests that are refused by their text alone, and leave the plan as it was.

@@ -5,6 +5,11 @@ use super::{
 use crate::script::tests::refused::{
     past_a_limit, refused_for_their_text, refused_of_the_register,
 };
+use crate::script::tests::reports::{
+    a_frame_dropped, gap_of_two_slots, gaps_alone_mixed_and_never, placements_in_order,
+};
+use crate::script::tests::signals::{both_orders, signals_refused, two_suppliers_layouts};
+use crate::script::tests::variants::{depth, release_and_open};
 use std::alloc::{AllocError, Global};
 use std::test::Fail;
 
@@ -12,6 +17,16 @@ const NODE_OF_S2: &str = r#"integrator1 {"do":"add_node","supplier":"s2","node":
 
 const GRANT_1_B_TO_S2: &str =
     r#"integrator1 {"do":"grant","variant":"v1","slot":1,"channel":"B","supplier":"s2","node":"n2"}"#;
+
+const REVOKE_1: &str = r#"integrator1 {"do":"revoke","variant":"v1","slot":1,"channel":"#;
+
+const GRANTS: &str = r#" {"do":"grants","variant":"v1"}"#;
+
+const N1_HOLDS_1_A: &str = r#"{"lines":["0001 A n1"],"ok":"grants"}"#;
+
+const NO_GRANTS: &str = r#"{"lines":[],"ok":"grants"}"#;
+
+const NOT_GRANTED: &str = r#"{"no":21,"refused":"NotGranted"}"#;
 
 const PLACE: &str = r#"supplier01 {"do":"place","variant":"v1","frame":"#;
 
@@ -73,10 +88,9 @@ fn two_nodes_of_one_supplier(alloc: Global) -> Result<Sheet, AllocError> {
         r#"integrator1 {"do":"grant","variant":"v1","slot":2,"channel":"A","supplier":"s1","node":"n2"}"#,
         DONE,
     )?;
-    let not_granted = r#"{"no":21,"refused":"NotGranted"}"#;
     let places = [
-        (r#""slot":1,"channels":"AB""#, not_granted),
-        (r#""slot":2,"channels":"A""#, not_granted),
+        (r#""slot":1,"channels":"AB""#, NOT_GRANTED),
+        (r#""slot":2,"channels":"A""#, NOT_GRANTED),
         (r#""slot":1,"channels":"A""#, DONE),
     ];
     sheet.ask_each(
@@ -107,8 +121,54 @@ fn two_suppliers_one_slot(alloc: Global) -> Result<Sheet, AllocError> {
         &holders,
         "",
     )?;
+    let holders = [("supplier01", N1_HOLDS_1_A), ("supplier02", NO_GRANTS)];
+    sheet.ask_each("", &holders, GRANTS)?;
     // The slot's other channel is free.
     sheet.ask(GRANT_1_B_TO_S2, DONE)?;
+    let holders = [
+        ("supplier01", N1_HOLDS_1_A),
+        ("supplier02", r#"{"lines":["0001 B n2"],"ok":"grants"}"#),
+        (
+            "integrator1",
+            r#"{"lines":["0001 A n1 s1","0001 B n2 s2"],"ok":"grants"}"#,
+        ),
+    ];
+    sheet.ask_each("", &holders, GRANTS)?;
+    Ok(sheet)
+}
+
+/// A grant that a placement uses stays, on its channel; another's is none of one's own.
+fn revoke(alloc: Global) -> Result<Sheet, AllocError> {
+    let mut sheet = Sheet::new(alloc, &BASE)?;
+    sheet.ask(PLACE_F1, DONE)?;
+    sheet.ask(
+        r#"integrator1 {"do":"grant","variant":"v1","slot":1,"channel":"B","supplier":"s1","node":"n1"}"#,
+        DONE,
+    )?;
+    let used = [
+        (r#""A","supplier":"s1""#, r#"{"no":22,"refused":"InUse"}"#),
+        (r#""B","supplier":"s1""#, DONE),
+        (r#""B","supplier":"s1""#, NOT_GRANTED),
+        (r#""A","supplier":"s2""#, NOT_GRANTED),
+        (
+            r#""A","supplier":"s3""#,
+            r#"{"no":14,"refused":"NoSupplier"}"#,
+        ),
+    ];
+    sheet.ask_each(REVOKE_1, &used, "}")?;
+    sheet.ask(
+        r#"supplier01 {"do":"unplace","variant":"v1","frame":"f1","slot":1,"channels":"A","base":0,"repetition":64}"#,
+        DONE,
+    )?;
+    sheet.ask(NODE_OF_S2, DONE)?;
+    sheet.ask(GRANT_1_B_TO_S2, DONE)?;
+    let unused = [
+        (r#""A","supplier":"s1""#, DONE),
+        (r#""A","supplier":"s1""#, NOT_GRANTED),
+        (r#""B","supplier":"s1""#, NOT_GRANTED),
+    ];
+    sheet.ask_each(REVOKE_1, &unused, "}")?;
+    sheet.ask_each("", &[("supplier01", NO_GRANTS)], GRANTS)?;
     Ok(sheet)
 }
 
@@ -177,6 +237,12 @@ fn a_slot_on_a_channel_has_one_holder(rt: HostRuntime) -> Result<(), Fail> {
 }
 
 #[test]
+fn a_grant_in_use_stays(rt: HostRuntime) -> Result<(), Fail> {
+    check(&rt, &revoke(rt.alloc())?)?;
+    Ok(())
+}
+
+#[test]
 fn a_stranger_changes_no_answer(rt: HostRuntime) -> Result<(), Fail> {
     let alloc = rt.alloc();
     let alone = first_script(alloc)?;
@@ -203,6 +269,16 @@ fn office_succeeds_where_memory_is_ample(rt: HostRuntime) -> Result<(), Fail> {
         refused_for_their_text(alloc)?,
         refused_of_the_register(alloc)?,
         past_a_limit(alloc)?,
+        revoke(alloc)?,
+        gap_of_two_slots(alloc)?,
+        gaps_alone_mixed_and_never(alloc)?,
+        a_frame_dropped(alloc)?,
+        placements_in_order(alloc)?,
+        both_orders(alloc)?,
+        two_suppliers_layouts(alloc)?,
+        signals_refused(alloc)?,
+        release_and_open(alloc)?,
+        depth(alloc)?,
     ];
     for sheet in sheets.iter() {
         let (written, done) = run(alloc, sheet.script(alloc)?.as_bytes());
