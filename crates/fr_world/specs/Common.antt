@@ -1,5 +1,5 @@
 -- What OpenVariant and Release are decided to, by the list of variants.
-use Rattle.std.specs.Prelude.{◌==◌, ℕ, suc, not, List, length, find, nat_le, Option, Some, None, is_some, Result, Ok, Err, ⊤}
+use Rattle.std.specs.Prelude.{ℕ, suc, not, List, length, find, nat_le, Option, Some, None, is_some, Result, Ok, Err, ⊤}
 use Rattle.fr_base.specs.Limits.{max_variants, max_depth}
 use Rattle.fr_base.specs.Refusing.{◌>>=◌, ◌>>◌, ◌or◌, refuse◌when◌}
 use Rattle.fr_base.specs.Cluster.{same_text}

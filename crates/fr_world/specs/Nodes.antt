@@ -1,5 +1,5 @@
 -- What is decided of a new node for a supplier.
-use Rattle.std.specs.Prelude.{List, length, nat_le, Result, Ok, Err}
+use Rattle.std.specs.Prelude.{List, length, nat_le, Result, Ok}
 use Rattle.std.specs.List.{list_any}
 use Rattle.fr_base.specs.Limits.{max_nodes}
 use Rattle.fr_base.specs.Refusing.{◌>>◌, refuse◌when◌}
