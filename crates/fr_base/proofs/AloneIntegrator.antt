@@ -4,7 +4,7 @@ use Rattle.std.specs.Prelude.{⊤, ◌||◌, nat_le}
 use Rattle.std.specs.Option.{option_and_then}
 use Rattle.std.specs.List.{list_any}
 use Rattle.std.proofs.lemmas.Bool.{cases_Bool}
-use Rattle.fr_base.specs.Refusing.{◌>>=◌, ◌>>◌, ◌or◌, refuse◌when◌}
+use Rattle.fr_base.specs.Refusing.{◌>>=◌, ◌>>◌, refuse◌when◌}
 use Rattle.fr_base.specs.Limits.{max_depth, max_variants, max_nodes}
 use Rattle.fr_base.specs.Tables.{Table, get, contains, len, only}
 use Rattle.fr_base.specs.Keys.{owned, channel_slots}

@@ -1,12 +1,12 @@
 -- What stands in a table after it was made, changed or filtered.
-use Rattle.std.proofs.Common.{◌≡◌, ℕ, Bool, true, false, not, ◌&&◌, cond, List, [], ◌∷◌, map, filter, length, Option, Some, None, is_some, refl, sym, ap, subst, ◌∙◌, arith, Ordering, Less, Equal, Greater}
+use Rattle.std.proofs.Common.{◌≡◌, Bool, true, false, cond, List, [], ◌∷◌, filter, Option, Some, None, refl, sym, ap, ◌∙◌, Ordering, Less, Equal, Greater}
 use Rattle.std.specs.Prelude.{T}
 use mathlib.Core.HLevel.{Σ_prop_path}
 use lib.Dec.{T_prop}
 use Rattle.std.specs.Ordering.{is_lt, is_eq, eq_by_cmp}
 use Rattle.std.specs.FinMap.Entries.{put, find, find-put, same_entries, is_sorted, below_all, by_order}
 use Rattle.fr_base.specs.TableRows.{first, second}
-use Rattle.fr_base.specs.Tables.{Order, Table, empty, get, contains, len, insert, only, from_rows}
+use Rattle.fr_base.specs.Tables.{Order, Table, empty, get, insert, only, from_rows}
 
 less : (r : Ordering) → T (is_lt r) → r ≡ Less
 less Less h = refl

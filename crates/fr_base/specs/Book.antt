@@ -1,14 +1,13 @@
 -- The register's rows, over all suppliers.
-use Rattle.std.specs.Prelude.{ℕ, Bool, true, false, ◌&&◌, List, ◌∷◌, map, Option, Some, None, is_some, ⊤}
+use Rattle.std.specs.Prelude.{ℕ, Bool, false, ◌&&◌, List, map, Option, Some, None, ⊤}
 use Rattle.std.specs.List.{flat_map, list_all}
-use Rattle.fr_base.specs.Tables.{Table, empty, get, contains, from_rows}
+use Rattle.fr_base.specs.Tables.{Table, empty, get, from_rows}
 use Rattle.fr_base.specs.Keys.{names, owned, channel_slots, placement_order}
 use Rattle.fr_base.specs.Cells.{Cell}
 use Rattle.fr_base.specs.Channels.{channels_in}
 use Rattle.fr_base.specs.Schedule.{fill}
 use Rattle.fr_base.specs.Cluster.{Cluster, same_text}
 use Rattle.fr_base.specs.Signals.{SignalData}
-use Rattle.fr_base.specs.declared.channel.Channel.{Channel}
 use Rattle.fr_base.specs.declared.key.Key.{Key}
 use Rattle.fr_base.specs.declared.name.Name.{Name}
 use Rattle.fr_base.specs.declared.placement.Placement.{Placement}

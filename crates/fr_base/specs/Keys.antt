@@ -1,14 +1,12 @@
 -- The orders of keys: of names, of a supplier's own names, of slots and channels, of placements.
-use Rattle.std.specs.Prelude.{◌≡◌, ℕ, List, refl, ◌∷◌, []}
-use Rattle.std.proofs.Common.{ap, sym, ◌∙◌}
+use Rattle.std.specs.Prelude.{◌≡◌, ℕ, refl}
 use Rattle.std.specs.declared.cmp.Ordering.{Ordering}
 use Rattle.std.specs.declared.cmp.Ordering.TheVariants.{Less, Equal, Greater}
 use Rattle.std.specs.Ordering.{nat_cmp, ordering_then, on, then_cmp}
 use Rattle.std.specs.Cmp.{on_total, then_total, nat_cmp_total}
 use Rattle.std.specs.Cmp.Lexicographic.{slice_cmp, nat_list_cmp_total}
-use Rattle.std.specs.FinMap.{IsAntisymmetric, nat_cmp-IsAntisymmetric, slice_cmp-IsAntisymmetric}
+use Rattle.std.specs.FinMap.{nat_cmp-IsAntisymmetric, slice_cmp-IsAntisymmetric}
 use Rattle.fr_base.specs.Tables.{Order}
-use Rattle.fr_base.specs.Cycles.{Cycles}
 use Rattle.fr_base.specs.Channels.{channel_number, channels_number}
 use Rattle.fr_base.specs.declared.channel.Channel.{Channel}
 use Rattle.fr_base.specs.declared.channel.Channel.TheVariants as channel

@@ -1,5 +1,5 @@
 -- The moments at which a frame is sent, on the ring of all cycles, and its greatest gap.
-use Rattle.std.specs.Prelude.{ℕ, ◌+◌, ◌-◌, ◌*◌, Bool, List, [], ◌∷◌, map, Option, Some, None, if◌then◌else◌, nat_lt, min, max}
+use Rattle.std.specs.Prelude.{ℕ, ◌+◌, ◌-◌, ◌*◌, List, [], ◌∷◌, map, Option, Some, None, if◌then◌else◌, nat_lt, min, max}
 use Rattle.std.specs.List.{flat_map, filter_map}
 use Rattle.fr_base.specs.Cells.{Cell, cells_of}
 use Rattle.fr_base.specs.Cycles.{cycle_count}

@@ -1,10 +1,10 @@
 -- What a request does: the book after it, and the answer.
-use Rattle.std.specs.Prelude.{ℕ, suc, ◌==◌, Bool, true, false, not, ◌&&◌, List, [], nat_le, Option, Some, None, is_some, Result, Ok, Err, ⊤}
+use Rattle.std.specs.Prelude.{ℕ, suc, ◌==◌, Bool, true, false, not, ◌&&◌, [], nat_le, Option, Some, None, Result, Ok, Err, ⊤}
 use Rattle.std.specs.List.{list_any}
 use Rattle.fr_base.specs.Limits.{max_nodes, max_variants, max_depth, max_frames, max_placements}
 use Rattle.fr_base.specs.Refusing.{◌>>=◌, ◌>>◌, ◌or◌, refuse◌when◌}
 use Rattle.fr_base.specs.Tables.{Table, empty, get, contains, len, insert, only, remove, becomes}
-use Rattle.fr_base.specs.Keys.{names, owned, channel_slots}
+use Rattle.fr_base.specs.Keys.{owned, channel_slots}
 use Rattle.fr_base.specs.Cells.{Cell, cells_of}
 use Rattle.fr_base.specs.Schedule.{first_taken}
 use Rattle.fr_base.specs.Checks.{check}

@@ -1,7 +1,6 @@
 -- Rows in order stay in order where some are left out, and where values change.
-use Rattle.std.specs.Prelude.{◌≡◌, Bool, true, false, ◌&&◌, T, List, [], ◌∷◌, map, filter, cond}
+use Rattle.std.specs.Prelude.{Bool, true, false, ◌&&◌, T, List, [], ◌∷◌, map, filter, cond}
 use Rattle.std.specs.declared.cmp.Ordering.{Ordering}
-use Rattle.std.specs.Ordering.{is_lt}
 use Rattle.std.specs.FinMap.Entries.{below_all, is_sorted}
 
 pub both : (a b : Bool) → T a → T b → T (a && b)

@@ -1,10 +1,10 @@
 -- Tables: finite lists of rows in the order of their keys, no two rows with one key.
-use Rattle.std.specs.Prelude.{◌≡◌, ℕ, Bool, true, false, not, ◌&&◌, T, List, [], ◌∷◌, map, length, filter, Option, Some, None, is_some}
+use Rattle.std.specs.Prelude.{ℕ, Bool, not, T, List, [], ◌∷◌, map, length, filter, Option, Some, None, is_some}
 use Rattle.std.specs.declared.cmp.Ordering.{Ordering}
-use Rattle.std.specs.Ordering.{nat_cmp, is_lt, eq_by_cmp}
+use Rattle.std.specs.Ordering.{eq_by_cmp}
 use Rattle.std.specs.Cmp.{IsTotalOrder}
 use Rattle.std.specs.FinMap.{IsAntisymmetric}
-use Rattle.std.specs.FinMap.Entries.{put, find, below_all, is_sorted, is_sorted-put}
+use Rattle.std.specs.FinMap.Entries.{put, find, is_sorted, is_sorted-put}
 use Rattle.fr_base.specs.TableRows.{is_sorted-filter, is_sorted-map}
 
 -- an order of keys, in which only equal keys tie
