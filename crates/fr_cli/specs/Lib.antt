@@ -11,3 +11,4 @@ pub mod Applied
 pub mod Decided
 pub mod Answers
 pub mod Fitting
+pub mod Runs

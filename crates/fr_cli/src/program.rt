@@ -1,10 +1,9 @@
 //! The words of the command line, and what the program does for them.
-ghost use Rattle.std.specs.Prelude.{◌≡◌, ◌⊎◌, ℕ, List, map, string_bytes, Result, ⊤, Some, None, Err, IfSome, IsErrOf, OnOk};
+ghost use Rattle.std.specs.Prelude.{◌≡◌, ◌⊎◌, map, string_bytes, Result, ⊤, OnOk};
 ghost use Rattle.std.specs.Io.KnownBytes.{Appends, Keeps};
 ghost use Rattle.fr_cli.specs.Endings.{AppendsFront, Tells, fault_line, status_of};
-ghost use Rattle.fr_cli.specs.Output.{IsOutput, cluster_in};
+ghost use Rattle.fr_cli.specs.Runs.{IsRunOf};
 ghost use Rattle.fr_cli.specs.Words.{is_help, job_of};
-ghost use Rattle.fr_text.specs.declared.cluster_file.ConfigFault.{ConfigFault};
 ghost use Rattle.fr_cli.specs.declared.script_fault.ScriptFault.{ScriptFault};
 
 use crate::output::{Retries, WriteFailed, write_all};
@@ -66,12 +65,7 @@ pub fn perform<R: Read, O: Write, E: Write>(
 ) -> u8
     ensures run { job ≡ Job.Run → (done : Result ⊤ ScriptFault) × (result ≡ status_of done)
         × Tells (E.contents err.old) (E.contents err.new) done
-        × OnOk done (IfSome (R.remaining input.old) (λ script. (written : List ℕ)
-        × Appends (O.contents out.old) (O.contents out.new) written × IsOutput script written))
-        × (IsErrOf done ScriptFault.NoSeparator → Keeps (O.contents out.old) (O.contents out.new)
-        × IfSome (R.remaining input.old) (λ script. cluster_in script ≡ None))
-        × ((fault : ConfigFault) → IsErrOf done (ScriptFault.Config fault) → Keeps (O.contents out.old) (O.contents out.new)
-        × IfSome (R.remaining input.old) (λ script. (cluster_in script ≡ Some (Err fault)) ⊎ (fault ≡ ConfigFault.NoMemory))) }
+        × IsRunOf (R.remaining input.old) (R.remaining input.new) (O.contents out.old) (O.contents out.new) done }
     ensures help { job ≡ Job.Help
         → ((result ≡ 0) × Appends (O.contents out.old) (O.contents out.new) USAGE.now × Keeps (E.contents err.old) (E.contents err.new))
         ⊎ ((result ≡ 1) × AppendsFront (O.contents out.old) (O.contents out.new) USAGE.now

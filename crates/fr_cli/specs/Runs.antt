@@ -1,0 +1,27 @@
+-- The run of a script: what it writes where it ends well, and what stands where a fault ends it.
+use Rattle.std.specs.Prelude.{◌≡◌, ◌⊎◌, ◌<◌, ℕ, List, length, Option, Some, None, Result, Err, IfSome, IsErrOf, OnOk, ⊤}
+use Rattle.std.specs.Io.KnownBytes.{Appends, IsAtEnd, Keeps}
+use Rattle.fr_text.specs.declared.cluster_file.ConfigFault.{ConfigFault}
+use Rattle.fr_text.specs.declared.cluster_file.ConfigFault.TheVariants as cluster
+use Rattle.fr_cli.specs.Output.{IsCutShort, IsOutput, LacksMemory, cluster_in}
+use Rattle.fr_cli.specs.declared.script_fault.ScriptFault.{ScriptFault}
+use Rattle.fr_cli.specs.declared.script_fault.ScriptFault.TheVariants.{TooLong, TooManyReads, ReadFailed, NoSeparator, Config, Unavailable, NoMemory, WriteFailed}
+
+-- how many bytes a script has at most
+abbrev pub max_script : ℕ
+max_script = 16777216
+
+-- The run ended so: the reader had this script and has this left, and the writer had the old bytes and has the new ones.
+pub record IsRunOf (script left old new : Option (List ℕ)) (done : Result ⊤ ScriptFault) : Type 0 where
+  pub output : OnOk done (IfSome script (λ s. (written : List ℕ) × Appends old new written × IsOutput s written))
+  pub whole_script : OnOk done (IsAtEnd left)
+  pub too_long : IsErrOf done TooLong → Keeps old new × IfSome script (λ s. max_script < length s)
+  pub too_many_reads : IsErrOf done TooManyReads → Keeps old new
+  pub read_failed : IsErrOf done ReadFailed → Keeps old new
+  pub no_separator : IsErrOf done NoSeparator → Keeps old new × IsAtEnd left × IfSome script (λ s. cluster_in s ≡ None)
+  pub config : (fault : ConfigFault) → IsErrOf done (Config fault) →
+      Keeps old new × IfSome script (λ s. (cluster_in s ≡ Some (Err fault)) ⊎ (fault ≡ cluster.NoMemory))
+  pub no_memory : IsErrOf done NoMemory → Keeps old new
+      ⊎ IfSome script (λ s. (written : List ℕ) × Appends old new written × LacksMemory s written)
+  pub write_failed : IsErrOf done WriteFailed → IfSome script (λ s. (written : List ℕ) × Appends old new written × IsCutShort s written)
+  pub available : IsErrOf done Unavailable → ⊥
