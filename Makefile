@@ -2,6 +2,7 @@
 # make test     the gate: every proof from nothing, the must-fail edits, the tests, the stored run
 # make install  puts the proved program at $(PREFIX)/bin/slotplan
 # make examples runs every script of examples/ and compares its answers with those beside it
+#               (of the gate are the first, as the stored run, and the powertrain's, as a test: each line stands there)
 # make bench    prints the program's speed and memory beside those of a plain reader, how a change's time grows
 #               with its supplier's rows, and the speed of texts alone; no test
 
@@ -24,6 +25,7 @@ install: build
 
 examples: build
 	@cmp examples/first.script crates/fr_cli/stdin && cmp examples/first.answers crates/fr_cli/stdout
+	@! grep -vxFf crates/fr_cli/src/script/tests/powertrain.rt examples/powertrain.script examples/powertrain.answers
 	@for script in examples/*.script; do \
 	  $(program) run < $$script | diff - $${script%.script}.answers || exit 1; \
 	  echo "$$script is answered as $${script%.script}.answers has it" || exit 1; \

@@ -5,6 +5,7 @@ use std::alloc::{AllocError, Global};
 use std::process::Abort;
 
 mod bounds;
+mod powertrain;
 mod refused;
 mod reports;
 mod rows;
