@@ -1,5 +1,5 @@
 -- What is sent in which cell, where placements are given with their senders, and by a page's frames.
-use Rattle.std.specs.Prelude.{ℕ, ◌==◌, Bool, List, [], ◌∷◌, map}
+use Rattle.std.specs.Prelude.{ℕ, ◌==◌, ◌≡◌, ◌++◌, Bool, List, [], ◌∷◌, map}
 use Rattle.std.specs.List.{list_any}
 use Rattle.fr_base.specs.Cells.{Cell, cells_in, slots_of}
 use Rattle.fr_base.specs.Channels.{channels_in}
@@ -13,6 +13,10 @@ use Rattle.fr_base.specs.declared.name.Name.{Name}
 use Rattle.fr_base.specs.declared.params.Params.{Params}
 use Rattle.fr_base.specs.declared.placement.Placement.{Placement}
 use Rattle.fr_world.specs.declared.placed.Placed.{Placed}
+
+-- the latter list begins with the former
+abbrev pub Extends : {A : Type 0} → List A → List A → Type 0
+Extends {A} old new = (more : List A) × (new ≡ old ++ more)
 
 -- the placements, each with its owner
 abbrev pub filled : List Placed → List (Owner × Placement)

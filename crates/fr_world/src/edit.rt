@@ -14,10 +14,12 @@ pub enum Edit {
     SetReleased {
         variant: Name,
     },
+    /// A node of the supplier.
     NewNode {
         supplier: Name,
         node: Name,
     },
+    /// The slot on the channel is granted to the supplier's node.
     PutGrant {
         variant: Name,
         slot: Slot,
@@ -25,6 +27,7 @@ pub enum Edit {
         supplier: Name,
         node: Name,
     },
+    /// The slot on the channel is no longer granted.
     EndGrant {
         variant: Name,
         slot: Slot,
@@ -43,24 +46,28 @@ pub enum Edit {
         supplier: Name,
         frame: Name,
     },
+    /// The frame is sent in the placement's cells too.
     PutPlacement {
         variant: Name,
         supplier: Name,
         frame: Name,
         placement: Placement,
     },
+    /// The frame has this placement no longer.
     EndPlacement {
         variant: Name,
         supplier: Name,
         frame: Name,
         placement: Placement,
     },
+    /// The signal is in the frame's payload.
     PutSignal {
         variant: Name,
         supplier: Name,
         frame: Name,
         signal: Signal,
     },
+    /// The signal of this name goes out of the frame's payload.
     EndSignal {
         variant: Name,
         supplier: Name,

@@ -1,4 +1,4 @@
-ghost use Rattle.std.specs.Prelude.{◌≡◌, ◌≤◌, ◌++◌, All, IfOk, OnOk};
+ghost use Rattle.std.specs.Prelude.{◌≡◌, ◌≤◌, ◌++◌, All, IfOk, OnErr, OnOk};
 ghost use Rattle.fr_base.specs.Limits.{max_placements};
 ghost use Rattle.fr_base.specs.Moments.{greatest_gap};
 ghost use Rattle.fr_base.specs.Queries.{frame_row, gap_row, placements_in, signal_rows};
@@ -6,6 +6,7 @@ ghost use Rattle.fr_base.specs.Sound.{FitsCluster};
 ghost use Rattle.fr_base.specs.Tables.{len};
 ghost use Rattle.fr_base.specs.declared.name.Name.{Name as NameText};
 ghost use Rattle.fr_world.specs.Pages.{frame_data, frame_of};
+ghost use Rattle.fr_world.specs.Sendings.{Extends};
 
 use crate::gap::{MAX_PLACEMENTS, greatest_gap};
 use crate::page::PageFrame;
@@ -47,13 +48,16 @@ pub fn gap_row(params: &Params, supplier: Name, name: Name, frame: &PageFrame) -
     }
 }
 
-/// Appends the signals of a supplier's frame, by their starts.
+/// Appends the signals of a supplier's frame, by their starts. Where memory is refused, some of them may
+/// have been appended.
 pub fn push_signal_rows(
     supplier: Name,
     frame: &PageFrame,
     rows: &mut Rows<SignalRow>,
 ) -> Result<(), AllocError>
-    ensures { (name : NameText) → OnOk result (rows.new ≡ rows.old ++ signal_rows ((supplier, name), frame_of (frame_data frame.now))) }
+    // a signal's row does not name its frame, so any name will do
+    ensures ok { (name : NameText) → OnOk result (rows.new ≡ rows.old ++ signal_rows ((supplier, name), frame_of (frame_data frame.now))) }
+    ensures err { OnErr result (Extends rows.old rows.new) }
 {
     for signal in frame.layout.signals() {
         rows.push(SignalRow {

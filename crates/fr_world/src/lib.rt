@@ -32,9 +32,9 @@ pub use nodes::decide_node;
 pub use occupancy::{Occupancy, TakenCell};
 pub use page::{ChannelSlot, Page, PageFrame, PageRows};
 pub use page_sendings::sent;
-pub use placed::{Placed, push_placed};
+pub use placed::{Placed, push_frame};
 pub use row_occupancy::RowOccupancy;
-pub use sendings::{push_sendings, schedule};
+pub use sendings::schedule;
 pub use variants::{VariantRow, decide_common};
 
 #[cfg(test)]

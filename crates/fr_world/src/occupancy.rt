@@ -5,12 +5,15 @@ use fr_base::{Channel, Name, Placement, Refusal};
 pub struct TakenCell {
     /// The communication cycle, 0 to 63.
     pub cycle: u8,
+    /// The channel, A or B.
     pub channel: Channel,
+    /// The frame that is sent there.
     pub frame: Name,
 }
 
 /// Which cells a supplier's frames fill: a list of frames and placements, whose cells are those of
-/// cycles 0 to 63, of the static slots 1 to 1023, on both channels.
+/// cycles 0 to 63, of the static slots 1 to 1023, on both channels. `fill` asks that the placement is
+/// free, so in a list that it filled no cell lies in two placements.
 pub trait Occupancy {
     ghost use Rattle.std.specs.Prelude.{◌≡◌, ◌++◌, ◌∷◌, [], List, Err, IsTrue, OnOk, OnErr};
     ghost use Rattle.fr_base.specs.declared.name.Name.{Name as NameText};

@@ -7,7 +7,9 @@ use std::marker::Model;
 /// A static slot on a channel. Slots come first in the order, then A before B.
 #[derive(Clone, Copy, Debug, PartialEq, Eq, PartialOrd, Ord)]
 pub struct ChannelSlot {
+    /// The slot, 1 to 1023.
     pub slot: Slot,
+    /// The channel, A or B.
     pub channel: Channel,
 }
 
@@ -15,8 +17,11 @@ pub struct ChannelSlot {
 /// payload.
 #[derive(Drop)]
 pub struct PageFrame {
+    /// The node that sends it.
     pub node: Name,
+    /// Its slots, channels and cycles.
     pub placements: BTreeSet<Placement>,
+    /// Which signals lie on which bits of its payload.
     pub layout: Layout,
 }
 
@@ -35,22 +40,29 @@ impl Clone for PageFrame {
     }
 }
 
-/// One supplier's rows in one variant: its nodes, which of them holds which slot and channel, and its
-/// frames by their names.
+/// One supplier's rows in one variant, which `Page::build` checks.
 #[derive(Drop)]
 pub struct PageRows {
+    /// The cluster's parameters.
     pub params: Params,
+    /// The supplier whose rows they are.
     pub supplier: Name,
+    /// The variant.
     pub variant: Name,
+    /// Whether the variant is released.
     pub released: bool,
+    /// The supplier's nodes.
     pub nodes: BTreeSet<Name>,
+    /// Which of the nodes holds which slot and channel.
     pub grants: BTreeMap<ChannelSlot, Name>,
+    /// The supplier's frames, by their names.
     pub frames: BTreeMap<Name, PageFrame>,
 }
 
-/// A supplier's rows in a variant that can stand in a register: the limits are kept, each layout has
-/// the cluster's payload, each placement fits the cluster and lies in grants to its frame's node, and
-/// no cell is filled twice.
+/// A supplier's rows in a variant, in the order of their keys: at most 64 nodes and 256 frames, each
+/// frame with at most 8 placements, which fit the cluster and lie in grants to its node, and with
+/// signals that make a layout of the cluster's payload. No cell lies in two placements. Whether the
+/// nodes of its grants and frames are among its nodes is not asked.
 #[derive(Drop)]
 pub struct Page {
     pub(crate) params: Params,

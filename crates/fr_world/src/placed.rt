@@ -1,7 +1,7 @@
-ghost use Rattle.std.specs.Prelude.{◌≡◌, ◌++◌, OnOk};
+ghost use Rattle.std.specs.Prelude.{◌≡◌, ◌++◌, OnErr, OnOk};
 ghost use Rattle.fr_base.specs.Book.{placements_of};
 ghost use Rattle.fr_world.specs.Pages.{frame_data, frame_of, page_of};
-ghost use Rattle.fr_world.specs.Sendings.{filled, filled_by};
+ghost use Rattle.fr_world.specs.Sendings.{Extends, filled, filled_by};
 
 use crate::page::{Page, PageFrame};
 use fr_base::{Name, Placement};
@@ -21,8 +21,9 @@ pub struct Placed {
 }
 
 /// Appends the placements of the page's frames: frame by frame in the order of their names, and each
-/// frame's by slot, channels, base and repetition.
-pub fn push_placed(page: &Page, placed: &mut Vec<Placed>) -> Result<(), AllocError>
+/// frame's by slot, channels, base and repetition. Where memory is refused, some of them may have been
+/// appended.
+pub(crate) fn push_placed(page: &Page, placed: &mut Vec<Placed>) -> Result<(), AllocError>
     ensures { OnOk result (filled placed.new.items ≡ filled placed.old.items ++ placements_of (page_of page.now).frames) }
 {
     let supplier = page.supplier();
@@ -32,14 +33,16 @@ pub fn push_placed(page: &Page, placed: &mut Vec<Placed>) -> Result<(), AllocErr
     Ok(())
 }
 
-// Appends the frame's placements.
-fn push_frame(
+/// Appends the placements of a supplier's frame of this name: by slot, channels, base and repetition.
+/// Where memory is refused, some of them may have been appended.
+pub fn push_frame(
     supplier: Name,
     name: Name,
     frame: &PageFrame,
     placed: &mut Vec<Placed>,
 ) -> Result<(), AllocError>
-    ensures { OnOk result (filled placed.new.items ≡ filled placed.old.items ++ filled_by (supplier, name) (frame_of (frame_data frame.now))) }
+    ensures ok { OnOk result (filled placed.new.items ≡ filled placed.old.items ++ filled_by (supplier, name) (frame_of (frame_data frame.now))) }
+    ensures err { OnErr result (Extends placed.old.items placed.new.items) }
 {
     for placement in frame.placements.iter() {
         placed.push(Placed {

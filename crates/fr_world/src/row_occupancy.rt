@@ -31,7 +31,7 @@ pub struct RowOccupancy {
 impl RowOccupancy {
     /// No cell is filled. It takes no memory.
     pub fn new(alloc: Global) -> RowOccupancy
-        ensures { result.rows.items ≡ [] }
+        ensures { ⟦<RowOccupancy as Occupancy>⟧.pairs result ≡ [] }
     {
         RowOccupancy {
             rows: Vec::new(alloc),

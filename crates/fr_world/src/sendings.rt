@@ -27,8 +27,8 @@ pub fn schedule(
 }
 
 /// Appends what is sent in the cycle, 0 to 63, of these placements: by slot and channel. Where several
-/// have a cell, the first one is sent.
-pub fn push_sendings(
+/// have a cell, the first one is sent. Where memory is refused, some of it may have been appended.
+pub(crate) fn push_sendings(
     alloc: Global,
     params: &Params,
     placed: &[Placed],

@@ -15,11 +15,13 @@ const MAX_DEPTH: u32 = 16;
 /// A variant of the register, without the rows in it.
 #[derive(Clone, Copy, Debug, PartialEq, Eq)]
 pub struct VariantRow {
+    /// Its name.
     pub variant: Name,
-    /// The variant that it was opened from.
+    /// The variant that it was opened from; none where it was opened empty.
     pub parent: Option<Name>,
-    /// 1, or one more than the parent's.
+    /// 1 to 16: 1 without a parent, or one more than the parent's.
     pub depth: u32,
+    /// Whether it is released.
     pub released: bool,
 }
 

@@ -1,13 +1,13 @@
-ghost use Rattle.std.specs.Prelude.{◌≡◌, ◌++◌, IfOk, OnOk};
+ghost use Rattle.std.specs.Prelude.{◌≡◌, IfOk};
 ghost use Rattle.fr_base.specs.Book.{placements_of};
 ghost use Rattle.fr_base.specs.Queries.{seen_frames, sendings_of};
-ghost use Rattle.fr_world.specs.Sendings.{filled, filled_by};
-ghost use Rattle.fr_cli.specs.Plans.{frame_of, variant_of};
+ghost use Rattle.fr_world.specs.Sendings.{filled};
+ghost use Rattle.fr_cli.specs.Plans.{variant_of};
 
 use super::sees;
-use crate::plan::{Owned, Plan};
+use crate::plan::Plan;
 use fr_base::{Actor, Params, Rows, Sending};
-use fr_world::{PageFrame, Placed, schedule};
+use fr_world::{Placed, push_frame, schedule};
 use std::alloc::{AllocError, Global};
 
 impl Plan {
@@ -32,24 +32,9 @@ impl Plan {
         let mut placed = Vec::new(alloc);
         for (key, frame) in self.frames.iter() {
             if sees(actor, &key.supplier) {
-                push_placed(key, frame, &mut placed)?;
+                push_frame(key.supplier, key.name, frame, &mut placed)?;
             }
         }
         Ok(placed)
     }
-}
-
-// Appends the frame's placements.
-fn push_placed(key: &Owned, frame: &PageFrame, placed: &mut Vec<Placed>) -> Result<(), AllocError>
-    ensures { OnOk result (filled placed.new.items ≡ filled placed.old.items ++ filled_by (key.now.supplier, key.now.name) (frame_of frame.now)) }
-{
-    for placement in frame.placements.iter() {
-        placed.push(Placed {
-            placement: *placement,
-            supplier: key.supplier,
-            frame: key.name,
-            node: frame.node,
-        })?;
-    }
-    Ok(())
 }

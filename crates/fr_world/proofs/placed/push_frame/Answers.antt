@@ -6,11 +6,11 @@ use Rattle.fr_world.specs.Sendings.{filled}
 use Rattle.fr_world.proofs.PlacedLaws.{filled_by-keys, owner_of}
 use Rattle.fr_world.proofs.placed.push_frame.Goals as goal
 
-pub returns : goal.returns
-returns c =
+pub returns-clause-ok : goal.returns-clause-ok
+returns-clause-ok c =
     let now = filled c.loop-placement.placed.items in
     let left : c.loop-placement.placement-iterator ≡ [] = (c.in-None.ensures).steps.0 in
     sym (append-nil now)
     ∙ ap (λ qs. now ++ map {B = book.Owner × Placement} (λ q. (owner_of (c.args.supplier, c.args.name) c.args.frame.now.node, q)) qs) (sym left)
-    ∙ c.loop-placement.invariant
+    ∙ c.loop-placement.invariant.0
     ∙ ap (λ more. filled c.args.placed.now.items ++ more) (sym (filled_by-keys (c.args.supplier, c.args.name) (frame_data c.args.frame.now) c.iter-placement-items.ensures.ordered))

@@ -1,8 +1,10 @@
 use Rattle.std.proofs.Common.{◌≡◌, ◌++◌, map}
-use Rattle.fr_world.specs.Sendings.{filled}
+use Rattle.fr_world.specs.Sendings.{Extends, filled}
 use Rattle.fr_world.proofs.PlacedLaws.{owner_of}
 use Rattle.fr_world.proofs.placed.push_frame.Given as goal
 
 -- what was there, and the placements before
 abbrev pub invariant-loop-placement : goal.invariant-loop-placement
-invariant-loop-placement l = filled l.placed.items ++ map (λ q. (owner_of (l.supplier, l.name) l.frame.node, q)) l.placement-iterator ≡ filled l.fn.placed.items ++ map (λ q. (owner_of (l.supplier, l.name) l.frame.node, q)) l.frame.placements.keys
+invariant-loop-placement l =
+    (filled l.placed.items ++ map (λ q. (owner_of (l.supplier, l.name) l.frame.node, q)) l.placement-iterator ≡ filled l.fn.placed.items ++ map (λ q. (owner_of (l.supplier, l.name) l.frame.node, q)) l.frame.placements.keys)
+    × Extends l.fn.placed.items l.placed.items
