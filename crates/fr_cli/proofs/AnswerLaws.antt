@@ -1,6 +1,6 @@
 -- An answer is a step of the register, or want of memory.
-use Rattle.std.proofs.Common.{◌≡◌, ◌∙◌, ap, sym, refl, subst, Bool, true, false, Result, Ok, Err, IfOk, IsTrue, IsOk, inl, inr, ◌⊎◌}
-use Rattle.fr_base.specs.Refusing.{◌>>=◌, ◌>>◌, ◌or◌, refuse◌when◌}
+use Rattle.std.proofs.Common.{◌≡◌, ap, sym, refl, subst, Ok, Err, IfOk, IsTrue, IsOk, inl, inr, ◌⊎◌}
+use Rattle.fr_base.specs.Refusing.{◌>>=◌, ◌>>◌, refuse◌when◌}
 use Rattle.fr_base.specs.Checks.{check}
 use Rattle.fr_base.specs.Cluster.{Cluster}
 use Rattle.fr_base.specs.Book.{Book, opening}
@@ -9,7 +9,6 @@ use Rattle.fr_base.specs.declared.request.Actor.TheVariants.{Integrator, Supplie
 use Rattle.fr_cli.specs.declared.register.Register.{Register}
 use Rattle.fr_base.specs.Queries.{reply}
 use Rattle.fr_base.specs.Step.{knows, change, act, outcome, step}
-use Rattle.fr_base.specs.Run.{MayLack}
 use Rattle.fr_base.specs.declared.answer.Answer.{Answer}
 use Rattle.fr_base.specs.declared.answer.Answer.TheVariants.{Done, Refused}
 use Rattle.fr_base.specs.declared.refusal.Refusal.{Refusal}

@@ -1,5 +1,5 @@
 -- Names compare as the register's keys, and suppliers are found by theirs.
-use Rattle.std.proofs.Common.{◌≡◌, Ordering, refl, ap, ◌∙◌, Bool, true, false, cond, ◌||◌, List, [], ◌∷◌, map, Some, None, is_some}
+use Rattle.std.proofs.Common.{◌≡◌, Ordering, refl, ap, ◌∙◌, true, false, cond, ◌||◌, List, [], ◌∷◌, map, Some, is_some}
 use Rattle.std.specs.List.{list_any}
 use Rattle.std.specs.FinMap.Entries.{find}
 use Rattle.fr_base.specs.Tables.{contains, from_rows}

@@ -1,6 +1,5 @@
 -- A front of a script's lines is answered, and one line more.
-use Rattle.std.proofs.Common.{◌≡◌, ◌⊎◌, inl, inr, ⊎_elim, ℕ, List, [], ◌∷◌, ◌++◌, map, codes, Result, Ok, Err, refl, sym, ap, ◌∙◌, subst, append_assoc, append-nil}
-use Rattle.std.specs.Prelude.{flat_map}
+use Rattle.std.proofs.Common.{◌≡◌, inl, inr, ℕ, List, [], ◌∷◌, ◌++◌, codes, Result, Ok, Err, refl, sym, ap, ◌∙◌, subst}
 use Rattle.std.proofs.lemmas.List.{map-append, flat_map_more}
 use Rattle.fr_base.specs.Book.{Book, opening}
 use Rattle.fr_base.specs.Cluster.{Cluster}
@@ -17,7 +16,7 @@ use Rattle.fr_base.specs.declared.request.Ask.{Ask}
 use Rattle.fr_text.specs.AnswerText.{text_of}
 use Rattle.fr_cli.specs.Asked.{ask_in}
 use Rattle.fr_cli.specs.Answers.{Answers, Replied}
-use Rattle.fr_cli.specs.Output.{read_lines, asks_of, answers_of, text_of_answers, IsAnswered, IsAnsweredTo}
+use Rattle.fr_cli.specs.Output.{read_lines, asks_of, answers_of, text_of_answers, IsAnsweredTo}
 
 -- After the run of some lines' asks, one line more is answered.
 pub run-more : (c : Cluster) (b mid last : Book) (read : List (Result Ask Refusal)) (r : Result Ask Refusal) (answers : List Answer) (answer : Answer)

@@ -1,7 +1,7 @@
 -- The rows of a page, from the register's own maps.
 use Rattle.std.proofs.Common.{◌≡◌, List, [], ◌∷◌, map, Option, Some, None, Result, Ok, Err, IfOk, refl, sym, ap, subst, ◌∙◌}
 use Rattle.std.specs.Prelude.{IfSome}
-use Rattle.fr_base.specs.Tables.{Table, only, from_rows}
+use Rattle.fr_base.specs.Tables.{only, from_rows}
 use Rattle.fr_base.specs.Keys.{owned, channel_slots}
 use Rattle.fr_base.specs.Book as book
 use Rattle.fr_base.specs.Book.{held_by}

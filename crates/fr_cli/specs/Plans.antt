@@ -1,5 +1,4 @@
 -- The runner's rows of a variant as the register's.
-use Rattle.std.specs.Prelude.{Option}
 use Rattle.fr_base.specs.Keys.{owned, channel_slots}
 use Rattle.fr_base.specs.Book as register
 use Rattle.fr_world.specs.Maps.{table_of}

@@ -1,4 +1,4 @@
-use Rattle.std.proofs.Common.{◌∙◌, sym, true, false, Some}
+use Rattle.std.proofs.Common.{◌∙◌, sym, Some}
 use Rattle.fr_base.specs.Keys.{channel_slots}
 use Rattle.fr_base.specs.Book.{held_by}
 use Rattle.fr_world.specs.Maps.{table_of}

@@ -1,4 +1,4 @@
-use Rattle.std.proofs.Common.{◌∙◌, sym, true, false}
+use Rattle.std.proofs.Common.{◌∙◌, sym}
 use Rattle.fr_base.specs.Keys.{owned}
 use Rattle.fr_base.specs.Step.{is_of}
 use Rattle.fr_world.specs.Maps.{set_of}

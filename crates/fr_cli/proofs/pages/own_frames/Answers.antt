@@ -1,4 +1,4 @@
-use Rattle.std.proofs.Common.{◌∙◌, sym, rules}
+use Rattle.std.proofs.Common.{rules}
 use Rattle.fr_cli.proofs.OwnLaws.{frames-none, frames-more, frames-all}
 use Rattle.fr_cli.proofs.pages.own_frames.Goals as goal
 

@@ -1,4 +1,4 @@
-use Rattle.std.proofs.Common.{◌∙◌, sym, rules}
+use Rattle.std.proofs.Common.{rules}
 use Rattle.fr_cli.proofs.OwnLaws.{grants-none, grants-more, grants-all}
 use Rattle.fr_cli.proofs.pages.own_grants.Goals as goal
 

@@ -1,7 +1,5 @@
-use Rattle.std.proofs.Common.{◌≡◌, ◌++◌, ◌∷◌, ℕ, List, [], refl, sym, ap, ◌∙◌, subst, append_assoc, append-nil, take, drop, take-append-drop, codes}
-use Rattle.std.specs.Io.KnownBytes.{Appends, Keeps}
+use Rattle.std.proofs.Common.{◌++◌, ◌∷◌, [], sym, ap, ◌∙◌, subst, append_assoc, append-nil, take, drop, take-append-drop}
 use Rattle.std.proofs.KnownBytes.{Appends-nil, Appends-trans, Appends-kept}
-use Rattle.fr_cli.specs.Answers.{Replied}
 use Rattle.fr_cli.specs.Registers.{book_of}
 use Rattle.fr_cli.specs.Script.{request_lines}
 use Rattle.fr_cli.proofs.OutputLaws.{Answering, answering-none, answering-line, answering-sound, answered_to}

@@ -1,4 +1,4 @@
-use Rattle.std.proofs.Common.{◌≡◌, ◌∙◌, sym, ap, Ok, Err, Result}
+use Rattle.std.proofs.Common.{◌∙◌, sym, ap, Ok}
 use Rattle.fr_base.specs.Checks.{check}
 use Rattle.fr_cli.specs.Registers.{book_of}
 use Rattle.fr_cli.proofs.AnswerLaws.{checked_command, knows-opening, answers_refused, answers_done, answers_refused_command, answers_query, answers_refused_query}

@@ -1,8 +1,7 @@
-use Rattle.std.proofs.Common.{◌≡◌, ◌∙◌, Err, rules, subst, sym}
+use Rattle.std.proofs.Common.{Err, rules, subst}
 use Rattle.fr_base.specs.Step.{by_integrator}
 use Rattle.fr_cli.specs.Answers.{Does}
 use Rattle.fr_cli.specs.Registers.{book_of}
-use Rattle.fr_cli.specs.Plans.{variant_of}
 use Rattle.fr_world.proofs.IntegratorLaws.{common-decides}
 use Rattle.fr_cli.proofs.DecideLaws.{edit_refused, edit_done}
 use Rattle.fr_cli.proofs.register.Register.change_common.Goals as goal

@@ -1,4 +1,4 @@
-use Rattle.std.proofs.Common.{◌≡◌, ◌∙◌, Err, rules, subst, sym}
+use Rattle.std.proofs.Common.{Err, rules, subst}
 use Rattle.fr_base.specs.Step.{by_integrator}
 use Rattle.fr_cli.specs.Answers.{Does}
 use Rattle.fr_cli.specs.Registers.{book_of}

@@ -1,4 +1,4 @@
-use Rattle.std.proofs.Common.{ap, map}
+use Rattle.std.proofs.Common.{map}
 use Rattle.fr_base.specs.Tables.{from_rows}
 use Rattle.fr_base.specs.Keys.{owned, names}
 use Rattle.fr_base.specs.Book.{opening}

@@ -1,4 +1,4 @@
-use Rattle.std.proofs.Common.{rules, ◌∙◌, sym}
+use Rattle.std.proofs.Common.{◌∙◌, sym}
 use Rattle.fr_cli.specs.Registers.{book_of}
 use Rattle.fr_cli.specs.Plans.{variant_of}
 use Rattle.fr_cli.proofs.DecideLaws.{opened-none, opened-frozen, opened-unknown, opened}
