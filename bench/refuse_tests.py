@@ -14,7 +14,7 @@ from pathlib import Path
 from refuse_memory import Refuser
 
 CRATES = Path(__file__).resolve().parent.parent / "crates"
-WORDS = (b"AllocError", b"NoMemory", b"Unavailable", b'error: "memory"')
+WORDS = (b"AllocError", b"NoMemory", b"Unavailable", b'error: "memory"', b'error: "no memory"', b"AllocFailed")
 
 
 def listed(tests):
