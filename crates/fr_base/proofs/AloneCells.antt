@@ -4,19 +4,19 @@ use Rattle.std.proofs.Common.{◌≡◌, Bool, true, false, cond, List, [], ◌�
 use Rattle.std.specs.Prelude.{⊤, T, ◌||◌}
 use Rattle.std.specs.Ordering.{is_eq, eq_by_cmp}
 use Rattle.std.specs.Cmp.{tied_itself, on_total, then_total, nat_cmp_total}
-use Rattle.std.specs.Cmp.Lexicographic.{nat_list_cmp_total}
 use Rattle.std.specs.FinMap.Entries.{find, is_sorted}
 use Rattle.std.specs.List.{list_any}
 use Rattle.std.proofs.lemmas.Bool.{cases_Bool}
+use Rattle.std.proofs.lemmas.Slice.Eq.{bytes_eq-Decides}
 use Rattle.fr_base.specs.TableRows.{first, second}
 use Rattle.fr_base.specs.Tables.{Table, get, contains, only}
 use Rattle.fr_base.specs.Keys.{owned, placement_order}
 use Rattle.fr_base.specs.Channels.{channel_number}
 use Rattle.fr_base.specs.Cells.{Cell, same_cell, cells_of, has_cell}
 use Rattle.fr_base.specs.Schedule.{fill, first_taken}
-use Rattle.fr_base.specs.Cluster.{Cluster, same_text}
-use Rattle.fr_base.specs.Book.{Holder, Frame, Variant, Book, Owner, held_by_node, granted, placements_of, schedule_of}
-use Rattle.fr_base.specs.Step.{is_of}
+use Rattle.fr_base.specs.Cluster.{Cluster}
+use Rattle.fr_base.specs.Names.{same_text}
+use Rattle.fr_base.specs.Book.{Holder, Frame, Variant, Book, Owner, held_by_node, is_of, own, granted, placements_of, schedule_of}
 use Rattle.fr_base.specs.Sound.{IsSoundVariant, IsSound}
 use Rattle.fr_base.specs.Alone.{own_variant}
 use Rattle.fr_base.specs.declared.name.Name.{Name}
@@ -29,7 +29,7 @@ use Rattle.fr_base.proofs.SoundCells.{has_cell-in}
 
 -- a text is itself
 pub same_text-itself : (s : Name) → same_text s s ≡ true
-same_text-itself s = ap is_eq (tied_itself nat_list_cmp_total s)
+same_text-itself s = (bytes_eq-Decides s s).1 refl
 
 same_cell-itself : (c : Cell) → same_cell c c ≡ true
 same_cell-itself c = ap is_eq (tied_itself (then_total (on_total (λ (d : Cell). d.cycle) nat_cmp_total) (then_total (on_total (λ (d : Cell). d.slot) nat_cmp_total) (on_total (λ (d : Cell). channel_number d.channel) nat_cmp_total))) c)
@@ -85,7 +85,7 @@ module _ (s : Name) (c : Cell) where
       ]
 
   -- where no frame of another supplier has the cell, the one that is sent in it is the supplier's
-  pub schedule-own : (frames : Table owned Frame) → ((k : Name × Name) (f : Frame) → get frames k ≡ Some f → is_of s k ≡ false → Lacks c f) → schedule_of frames c ≡ schedule_of (only (λ k _. is_of s k) frames) c
+  pub schedule-own : (frames : Table owned Frame) → ((k : Name × Name) (f : Frame) → get frames k ≡ Some f → is_of s k ≡ false → Lacks c f) → schedule_of frames c ≡ schedule_of (own s frames) c
   unfolding schedule_of placements_of only get
   schedule-own frames lacks = kept_rows frames.rows frames.sorted lacks
 
@@ -129,7 +129,7 @@ module _ (p : Params) (nodes : Table owned ⊤) (v : Variant) (sound : IsSoundVa
     | inr free ↦ free
   ]
 
-  pub first_taken-own : first_taken (schedule_of v.frames) (cells_of q) ≡ first_taken (schedule_of (only (λ k _. is_of s k) v.frames)) (cells_of q)
+  pub first_taken-own : first_taken (schedule_of v.frames) (cells_of q) ≡ first_taken (schedule_of (own s v.frames)) (cells_of q)
   unfolding has_cell
   first_taken-own = first_taken-alike _ _ (cells_of q) (λ c has. schedule-own s c v.frames (others_lack c has))
 

@@ -1,48 +1,68 @@
--- What an integrator's request says of suppliers, and what its checked form says.
-use Rattle.std.proofs.Common.{◌≡◌, ℕ, Bool, true, false, cond, List, Option, Some, None, IfOk, refl, sym, ap, ◌∙◌, inl, inr}
-use Rattle.std.specs.Prelude.{◌&&◌, nat_le}
+-- What a request says of suppliers, and what its checked form says.
+use Rattle.std.proofs.Common.{◌≡◌, ℕ, Bool, true, false, List, Some, Result, Ok, IfOk, refl, sym, ap, subst, ◌∙◌, inl, inr, true≢false}
+use Rattle.std.specs.Prelude.{⊤, ◌&&◌, nat_le}
 use Rattle.std.specs.Option.{option_and_then}
 use Rattle.std.proofs.lemmas.Bool.{cases_Bool}
-use Rattle.fr_base.specs.Refusing.{◌>>◌, refuse◌when◌}
+use Rattle.fr_base.specs.Refusing.{refuse◌when◌}
 use Rattle.fr_base.specs.Tables.{get}
-use Rattle.fr_base.specs.Names.{is_name}
+use Rattle.fr_base.specs.Names.{is_name, same_text}
 use Rattle.fr_base.specs.Channels.{has_channel, channel_of_text}
-use Rattle.fr_base.specs.Checks.{name, slot, channel, parent_name, check}
-use Rattle.fr_base.specs.Cluster.{same_text}
+use Rattle.fr_base.specs.Checks.{is_integrator, asking, name, slot, channel, placement, signal, parent_name, check}
 use Rattle.fr_base.specs.Book.{Variant, Book}
-use Rattle.fr_base.specs.Alone.{concerns, is_another, holder_at, refused_beside}
+use Rattle.fr_base.specs.Alone.{concerns, is_another, holder_at}
 use Rattle.fr_base.specs.declared.channel.Channel.{Channel}
 use Rattle.fr_base.specs.declared.name.Name.{Name}
 use Rattle.fr_base.specs.declared.params.Params.{Params}
 use Rattle.fr_base.specs.declared.refusal.Refusal.{Refusal}
 use Rattle.fr_base.specs.declared.refusal.Refusal.TheVariants.{Taken}
-use Rattle.fr_base.specs.declared.request.Actor.TheVariants.{Integrator}
+use Rattle.fr_base.specs.declared.actor.Actor.{Actor}
+use Rattle.fr_base.specs.declared.actor.Actor.TheVariants.{Integrator, Supplier}
 use Rattle.fr_base.specs.declared.request.Request.{Request}
 use Rattle.fr_base.specs.declared.request.Request.TheVariants as request
 use Rattle.fr_base.specs.declared.request.Command.{Command}
-use Rattle.fr_base.specs.declared.request.Command.TheVariants.{OpenVariant, Release, AddNode, Grant, Revoke}
+use Rattle.fr_base.specs.declared.request.Command.TheVariants.{Rows}
+use Rattle.fr_base.specs.declared.request.Change.TheVariants as change
+use Rattle.fr_base.specs.declared.request.FrameChange.{FrameChange}
 use Rattle.fr_base.specs.declared.request.Checked.{Checked}
 use Rattle.fr_base.specs.declared.request.Checked.TheVariants as checked
 use Rattle.fr_base.proofs.SoundRefusing.{gives_or, gives_bind, gives_each, gives_unless}
+use Rattle.fr_base.proofs.AloneCommands.{names, of_frame, holder_in, against}
 
--- whether a command is common to all suppliers, or names this one
-abbrev pub names : Name → Command → Bool
-names s (OpenVariant v parent) = true
-names s (Release v) = true
-names s (AddNode t n) = same_text t s
-names s (Grant v k c t n) = same_text t s
-names s (Revoke v k c t) = same_text t s
-names s _ = false
+-- whether a request is the supplier's: its own, or the integrator's that is common or names it
+abbrev pub asked_of : Name → Actor → Request → Bool
+asked_of s Integrator request = concerns s request
+asked_of s (Supplier t) request = same_text t s
 
--- what refuses a command beside other suppliers
-abbrev pub against : Name → Book → Command → Option Refusal
-against s b (Grant v k c t n) = cond (is_another s (option_and_then (λ variant. get variant.grants (k, c)) (get b.variants v))) (Some Taken) None
-against s b _ = None
+-- what refuses a request beside other suppliers
+abbrev pub refused_beside : Name → Book → Actor → Request → Result ⊤ Refusal
+refused_beside s b (Supplier t) request = Ok tt
+refused_beside s b Integrator (request.Grant v number text t n) = refuse Taken when is_another s (holder_at b v number text)
+refused_beside s b Integrator request = Ok tt
 
--- a checked command says of suppliers what the request says, and a query concerns none
-abbrev pub Says : Request → Checked → Type 0
-Says r (checked.Command command) = ((s : Name) → names s command ≡ concerns s r) × ((s : Name) (b : Book) → against s b command ≡ refused_beside s b r)
-Says r (checked.Query query) = (s : Name) → concerns s r ≡ false
+-- a checked command says of suppliers what the request says, and changes a frame only where a supplier asks
+pub record SaysAlike (actor : Actor) (request : Request) (command : Command) : Type 0 where
+  pub names : (s : Name) → names s command ≡ asked_of s actor request
+  pub against : (s : Name) (b : Book) → against s b command ≡ refused_beside s b actor request
+  pub frames : of_frame command ≡ true → is_integrator actor ≡ false
+
+-- and no query of the integrator's concerns a supplier
+abbrev pub Says : Actor → Request → Checked → Type 0
+Says actor request (checked.Command command) = SaysAlike actor request command
+Says actor request (checked.Query query) = is_integrator actor ≡ true → (s : Name) → concerns s request ≡ false
+
+by_integrator : (actor : Actor) (request : Request) (command : Command) → is_integrator actor ≡ true →
+    ((s : Name) → names s command ≡ concerns s request) → ((s : Name) (b : Book) → against s b command ≡ refused_beside s b Integrator request) → of_frame command ≡ false → SaysAlike actor request command
+by_integrator Integrator request command is named same none = record { names = named; against = same; frames = λ frame. absurd (true≢false (sym frame ∙ none)) }
+by_integrator (Supplier t) request command is named same none = cc
+
+by_supplier : (actor : Actor) (request : Request) (t v f : Name) (what : FrameChange) → actor ≡ Supplier t → SaysAlike actor request (Rows t v (change.Frame f what))
+by_supplier actor request t v f what is =
+    subst (λ a. SaysAlike a request (Rows t v (change.Frame f what))) (sym is) (record { names = λ s. refl; against = λ s b. refl; frames = λ _. refl })
+
+asking-is : (actor : Actor) → IfOk (asking actor) (λ t. actor ≡ Supplier t)
+unfolding asking
+asking-is Integrator = tt
+asking-is (Supplier t) = refl
 
 name-is : (text : List ℕ) → IfOk (name text) (λ v. v ≡ text)
 unfolding name
@@ -56,43 +76,76 @@ channel-is : (p : Params) (text : List ℕ) → IfOk (channel p text) (λ c. cha
 unfolding channel
 channel-is p text = gives_or _ (channel_of_text text) _ _ (λ c found. gives_unless _ _ (has_channel p.channels c) _ (λ h. found))
 
-granted-says : (s : Name) (b : Book) (v variant : Name) (k number : ℕ) (c : Channel) (text : List ℕ) → v ≡ variant → k ≡ number → channel_of_text text ≡ Some c →
-    option_and_then (λ x. get x.grants (k, c)) (get b.variants v) ≡ holder_at b variant number text
-granted-says s b v variant k number c text ev ek ec =
-    ap (λ (z : Name × ℕ). option_and_then (λ x. get x.grants (z.1, c)) (get b.variants z.0)) (λ i. (ev i, ek i))
-    ∙ sym (ap (λ o. option_and_then (λ (x : Variant). option_and_then (λ c. get x.grants (number, c)) o) (get b.variants variant)) ec)
+holder-says : (b : Book) (v variant : Name) (k number : ℕ) (c : Channel) (text : List ℕ) → v ≡ variant → k ≡ number → channel_of_text text ≡ Some c → holder_in b v (k, c) ≡ holder_at b variant number text
+holder-says b v variant k number c text ev ek ec =
+    ap (λ (z : Name × ℕ). holder_in b z.0 (z.1, c)) (λ i. (ev i, ek i))
+    ∙ sym (ap (λ o. option_and_then (λ (x : Variant). option_and_then (λ d. get x.grants (number, d)) o) (get b.variants variant)) ec)
 
-pub check-says : (p : Params) (r : Request) → IfOk (check p Integrator r) (Says r)
-unfolding check refuse◌when◌ ◌>>◌
-check-says p (request.OpenVariant variant parent) =
+pub check-says : (p : Params) (actor : Actor) (r : Request) → IfOk (check p actor r) (Says actor r)
+unfolding check
+check-says p actor (request.OpenVariant variant parent) =
+    gives_unless _ _ (is_integrator actor) _ (λ is.
     gives_each _ (name variant) _ (λ v _.
-    gives_each _ (parent_name parent) _ (λ from _. (λ s. refl, λ s b. refl)))
-check-says p (request.Release variant) = gives_each _ (name variant) _ (λ v _. (λ s. refl, λ s b. refl))
-check-says p (request.AddNode supplier node) =
-    gives_bind _ _ (name supplier) _ (name-is supplier) (λ t is.
-    gives_each _ (name node) _ (λ n _. (λ s. ap (λ x. same_text x s) is, λ s b. refl)))
-check-says p (request.Grant variant number text supplier node) =
+    gives_each _ (parent_name parent) _ (λ from _.
+    by_integrator actor _ _ is (λ s. refl) (λ s b. refl) refl)))
+check-says p actor (request.Release variant) =
+    gives_unless _ _ (is_integrator actor) _ (λ is.
+    gives_each _ (name variant) _ (λ v _.
+    by_integrator actor _ _ is (λ s. refl) (λ s b. refl) refl))
+check-says p actor (request.AddNode supplier node) =
+    gives_unless _ _ (is_integrator actor) _ (λ is.
+    gives_bind _ _ (name supplier) _ (name-is supplier) (λ t t_is.
+    gives_each _ (name node) _ (λ n _.
+    by_integrator actor _ _ is (λ s. ap (λ x. same_text x s) t_is) (λ s b. refl) refl)))
+check-says p actor (request.Grant variant number text supplier node) =
+    gives_unless _ _ (is_integrator actor) _ (λ is.
     gives_bind _ _ (name variant) _ (name-is variant) (λ v v_is.
-    gives_bind _ _ (name supplier) _ (name-is supplier) (λ t is.
+    gives_bind _ _ (name supplier) _ (name-is supplier) (λ t t_is.
     gives_each _ (name node) _ (λ n _.
     gives_bind _ _ (slot p number) _ (slot-is p number) (λ k k_is.
     gives_bind _ _ (channel p text) _ (channel-is p text) (λ c c_is.
-    (λ s. ap (λ x. same_text x s) is, λ s b. ap (λ o. cond (is_another s o) (Some Taken) None) (granted-says s b v variant k number c text v_is k_is c_is)))))))
-check-says p (request.Revoke variant number text supplier) =
+    by_integrator actor _ _ is (λ s. ap (λ x. same_text x s) t_is) (λ s b. ap (λ o. refuse Taken when is_another s o) (holder-says b v variant k number c text v_is k_is c_is)) refl))))))
+check-says p actor (request.Revoke variant number text supplier) =
+    gives_unless _ _ (is_integrator actor) _ (λ is.
     gives_each _ (name variant) _ (λ v _.
-    gives_bind _ _ (name supplier) _ (name-is supplier) (λ t is.
+    gives_bind _ _ (name supplier) _ (name-is supplier) (λ t t_is.
     gives_each _ (slot p number) _ (λ k _.
-    gives_each _ (channel p text) _ (λ c _. (λ s. ap (λ x. same_text x s) is, λ s b. refl)))))
-check-says p (request.AddFrame variant frame node) = tt
-check-says p (request.DropFrame variant frame) = tt
-check-says p (request.Place variant frame number text base repetition) = tt
-check-says p (request.Unplace variant frame number text base repetition) = tt
-check-says p (request.AddSignal variant frame named start length text) = tt
-check-says p (request.DropSignal variant frame named) = tt
-check-says p (request.Grants variant) = gives_each _ (name variant) _ (λ v _ s. refl)
-check-says p (request.Frames variant) = gives_each _ (name variant) _ (λ v _ s. refl)
-check-says p (request.Schedule variant) = gives_each _ (name variant) _ (λ v _ s. refl)
-check-says p (request.Gaps variant) = gives_each _ (name variant) _ (λ v _ s. refl)
-check-says p (request.Layout variant frame) =
+    gives_each _ (channel p text) _ (λ c _.
+    by_integrator actor _ _ is (λ s. ap (λ x. same_text x s) t_is) (λ s b. refl) refl)))))
+check-says p actor (request.AddFrame variant frame node) =
+    gives_bind _ _ (asking actor) _ (asking-is actor) (λ t is.
     gives_each _ (name variant) _ (λ v _.
-    gives_each _ (name frame) _ (λ f _ s. refl))
+    gives_each _ (name frame) _ (λ f _.
+    gives_each _ (name node) _ (λ n _. by_supplier actor _ t v f _ is))))
+check-says p actor (request.DropFrame variant frame) =
+    gives_bind _ _ (asking actor) _ (asking-is actor) (λ t is.
+    gives_each _ (name variant) _ (λ v _.
+    gives_each _ (name frame) _ (λ f _. by_supplier actor _ t v f _ is)))
+check-says p actor (request.Place variant frame number text base repetition) =
+    gives_bind _ _ (asking actor) _ (asking-is actor) (λ t is.
+    gives_each _ (name variant) _ (λ v _.
+    gives_each _ (name frame) _ (λ f _.
+    gives_each _ (placement p number text base repetition) _ (λ q _. by_supplier actor _ t v f _ is))))
+check-says p actor (request.Unplace variant frame number text base repetition) =
+    gives_bind _ _ (asking actor) _ (asking-is actor) (λ t is.
+    gives_each _ (name variant) _ (λ v _.
+    gives_each _ (name frame) _ (λ f _.
+    gives_each _ (placement p number text base repetition) _ (λ q _. by_supplier actor _ t v f _ is))))
+check-says p actor (request.AddSignal variant frame named start length text) =
+    gives_bind _ _ (asking actor) _ (asking-is actor) (λ t is.
+    gives_each _ (name variant) _ (λ v _.
+    gives_each _ (name frame) _ (λ f _.
+    gives_each _ (name named) _ (λ n _.
+    gives_each _ (signal n start length text) _ (λ x _. by_supplier actor _ t v f _ is)))))
+check-says p actor (request.DropSignal variant frame named) =
+    gives_bind _ _ (asking actor) _ (asking-is actor) (λ t is.
+    gives_each _ (name variant) _ (λ v _.
+    gives_each _ (name frame) _ (λ f _.
+    gives_each _ (name named) _ (λ n _. by_supplier actor _ t v f _ is))))
+check-says p actor (request.Grants variant) = gives_each _ (name variant) _ (λ v _ is s. refl)
+check-says p actor (request.Frames variant) = gives_each _ (name variant) _ (λ v _ is s. refl)
+check-says p actor (request.Schedule variant) = gives_each _ (name variant) _ (λ v _ is s. refl)
+check-says p actor (request.Gaps variant) = gives_each _ (name variant) _ (λ v _ is s. refl)
+check-says p actor (request.Layout variant frame) =
+    gives_each _ (name variant) _ (λ v _.
+    gives_each _ (name frame) _ (λ f _ is s. refl))

@@ -4,9 +4,8 @@ use Rattle.std.specs.Prelude.{◌==◌}
 use Rattle.fr_base.specs.Refusing.{◌>>◌, refuse◌when◌}
 use Rattle.fr_base.specs.Tables.{get, len}
 use Rattle.fr_base.specs.Keys.{owned, channel_slots}
-use Rattle.fr_base.specs.Book.{Variant, Book, held_by}
-use Rattle.fr_base.specs.Queries.{seen_grants, seen_frames, grants_of, frames_of, sendings_of, gaps_of, named, signals_of, shown, reply, variant_asked}
-use Rattle.fr_base.specs.Step.{is_of}
+use Rattle.fr_base.specs.Book.{Variant, Book, held_by, is_of, own, own_grants}
+use Rattle.fr_base.specs.Queries.{grants_of, frames_of, sendings_of, gaps_of, named, signals_of, shown, reply, variant_asked}
 use Rattle.fr_base.specs.Alone.{own_variant, rows_of}
 use Rattle.fr_base.specs.declared.name.Name.{Name}
 use Rattle.fr_base.specs.declared.params.Params.{Params}
@@ -14,7 +13,7 @@ use Rattle.fr_base.specs.declared.answer.Answer.{Answer}
 use Rattle.fr_base.specs.declared.answer.Answer.TheVariants as answer
 use Rattle.fr_base.specs.declared.refusal.Refusal.{Refusal}
 use Rattle.fr_base.specs.declared.refusal.Refusal.TheVariants.{NoVariant, NoFrame}
-use Rattle.fr_base.specs.declared.request.Actor.TheVariants.{Supplier}
+use Rattle.fr_base.specs.declared.actor.Actor.TheVariants.{Supplier}
 use Rattle.fr_base.specs.declared.request.Query.{Query}
 use Rattle.fr_base.specs.declared.request.Query.TheVariants.{Grants, Frames, Schedule, Gaps, Layout}
 use Rattle.fr_base.proofs.AloneTables.{only-only}
@@ -22,21 +21,19 @@ use Rattle.fr_base.proofs.AloneRefusing.{alike_or}
 use Rattle.fr_base.proofs.AloneRows.{rows_of-variant}
 
 module _ (p : Params) (s : Name) where
-  own_grants : (x : Variant) → seen_grants (Supplier s) (own_variant s x) ≡ seen_grants (Supplier s) x
-  unfolding own_variant
-  own_grants x = only-only channel_slots (λ _ h. held_by s (Some h)) x.grants
+  own_grants-own : (x : Variant) → own_grants s (own_grants s x.grants) ≡ own_grants s x.grants
+  own_grants-own x = only-only channel_slots (λ _ h. held_by s (Some h)) x.grants
 
-  own_frames : (x : Variant) → seen_frames (Supplier s) (own_variant s x) ≡ seen_frames (Supplier s) x
-  unfolding own_variant
-  own_frames x = only-only owned (λ k _. is_of s k) x.frames
+  own_frames-own : (x : Variant) → own s (own s x.frames) ≡ own s x.frames
+  own_frames-own x = only-only owned (λ k _. is_of s k) x.frames
 
   shown-own : (x : Variant) (query : Query) → shown p (Supplier s) (own_variant s x) query ≡ shown p (Supplier s) x query
   unfolding shown own_variant
-  shown-own x (Grants v) = ap (λ t. Ok (answer.Grants false (grants_of t))) (own_grants x)
-  shown-own x (Frames v) = ap (λ t. Ok (answer.Frames false (frames_of t))) (own_frames x)
-  shown-own x (Schedule v) = ap (λ t. Ok (answer.Schedule false (sendings_of p t))) (own_frames x)
-  shown-own x (Gaps v) = ap (λ t. Ok (answer.Gaps false (gaps_of p t))) (own_frames x)
-  shown-own x (Layout v f) = ap (λ t. (refuse NoFrame when len (named f t) == 0) >> Ok (answer.Layout false (signals_of (named f t)))) (own_frames x)
+  shown-own x (Grants v) = ap (λ t. Ok (answer.Grants false (grants_of t))) (own_grants-own x)
+  shown-own x (Frames v) = ap (λ t. Ok (answer.Frames false (frames_of t))) (own_frames-own x)
+  shown-own x (Schedule v) = ap (λ t. Ok (answer.Schedule false (sendings_of p t))) (own_frames-own x)
+  shown-own x (Gaps v) = ap (λ t. Ok (answer.Gaps false (gaps_of p t))) (own_frames-own x)
+  shown-own x (Layout v f) = ap (λ t. (refuse NoFrame when len (named f t) == 0) >> Ok (answer.Layout false (signals_of (named f t)))) (own_frames-own x)
 
   abbrev Same : Result Answer Refusal → Result Answer Refusal → Type 0
   Same r u = r ≡ u

@@ -37,14 +37,6 @@ module _ {B C E : Type 0} (R : Result B E → Result C E → Type 0) (same : (e 
   pub alike_bind : {A : Type 0} (r u : Result A E) → u ≡ r → (f : A → Result B E) (g : A → Result C E) → ((x : A) → r ≡ Ok x → R (f x) (g x)) → R (r >>= f) (u >>= g)
   alike_bind r u eq f g k = subst (λ y. R (r >>= f) (y >>= g)) (sym eq) (both_bind r f g k)
 
-  both_then : {A : Type 0} (r : Result A E) (f : Result B E) (g : Result C E) → R f g → R (r >> f) (r >> g)
-  unfolding ◌>>◌
-  both_then (Ok x) f g k = k
-  both_then (Err e) f g k = same e
-
-  pub alike_then : {A : Type 0} (r u : Result A E) → u ≡ r → (f : Result B E) (g : Result C E) → R f g → R (r >> f) (u >> g)
-  alike_then r u eq f g k = subst (λ y. R (r >> f) (y >> g)) (sym eq) (both_then r f g k)
-
   mapped_bind : {A D : Type 0} (h : A → D) (r : Result A E) (f : A → Result B E) (g : D → Result C E) → ((x : A) → r ≡ Ok x → R (f x) (g (h x))) → R (r >>= f) (map_ok h r >>= g)
   unfolding ◌>>=◌
   mapped_bind h (Ok x) f g k = k x refl

@@ -1,58 +1,20 @@
--- A supplier's rows of a book after a change of the book.
-use Rattle.std.proofs.Common.{◌≡◌, ℕ, false, Option, Some, None, is_some, refl, ap, ◌∙◌}
+-- A supplier's rows of a book, and after a change of the book.
+use Rattle.std.proofs.Common.{◌≡◌, false, Option, Some, None, is_some, refl, ap, ◌∙◌}
 use Rattle.std.specs.Option.{option_map}
-use Rattle.fr_base.specs.Tables.{get, contains, len, insert, only, each, remove, becomes}
+use Rattle.fr_base.specs.Tables.{get, contains, len, insert, each}
 use Rattle.fr_base.specs.Keys.{names, owned, channel_slots}
-use Rattle.fr_base.specs.Cluster.{same_text}
-use Rattle.fr_base.specs.Book.{Frame, Variant, Book, held_by}
-use Rattle.fr_base.specs.Step.{is_of, page_of, with_variant}
+use Rattle.fr_base.specs.Names.{same_text}
+use Rattle.fr_base.specs.Book.{Variant, Book, held_by, is_of, own}
+use Rattle.fr_base.specs.Step.{own_rows, with_variant}
 use Rattle.fr_base.specs.Alone.{own_variant, rows_of}
-use Rattle.fr_base.specs.declared.channel.Channel.{Channel}
 use Rattle.fr_base.specs.declared.name.Name.{Name}
 use Rattle.fr_base.specs.declared.params.Params.{Params}
-use Rattle.fr_base.proofs.TableLaws.{insert-same, kept}
-use Rattle.fr_base.proofs.AloneTables.{get-each, len-each, each-insert, only-only, get-own, only-put, only-put_other, only-remove, only-remove_other, only-becomes, only-becomes_other}
+use Rattle.fr_base.proofs.TableLaws.{insert-same}
+use Rattle.fr_base.proofs.SoundTables.{only-insert, only-insert_other}
+use Rattle.fr_base.proofs.AloneTables.{get-each, len-each, each-insert, only-only, get-own}
 use Rattle.fr_base.proofs.AloneCells.{same_text-itself}
 
 module _ (s : Name) where
-  -- the rows of the supplier's rows are the same
-  pub own_variant-own : (x : Variant) → own_variant s (own_variant s x) ≡ own_variant s x
-  unfolding own_variant
-  own_variant-own x = λ i. record (own_variant s x) {
-    grants = only-only channel_slots (λ _ h. held_by s (Some h)) x.grants i;
-    frames = only-only owned (λ k _. is_of s k) x.frames i;
-  }
-
-  -- ---- a variant after a change
-
-  pub own-frames : (x : Variant) (f : Name) (after : Option Frame) →
-      own_variant s (record x { frames = becomes x.frames (s, f) after }) ≡ record (own_variant s x) { frames = becomes (own_variant s x).frames (s, f) after }
-  unfolding own_variant
-  own-frames x f after = ap (λ t. record (own_variant s x) { frames = t }) (only-becomes owned (is_of s) x.frames (s, f) after (same_text-itself s))
-
-  pub own-frames_other : (x : Variant) (t f : Name) (after : Option Frame) → same_text t s ≡ false → own_variant s (record x { frames = becomes x.frames (t, f) after }) ≡ own_variant s x
-  unfolding own_variant
-  own-frames_other x t f after other = ap (λ u. record (own_variant s x) { frames = u }) (only-becomes_other owned (is_of s) x.frames (t, f) after other)
-
-  pub own-granted : (x : Variant) (at : ℕ × Channel) (n : Name) →
-      own_variant s (record x { grants = insert x.grants at (record { supplier = s; node = n }) }) ≡ record (own_variant s x) { grants = insert (own_variant s x).grants at (record { supplier = s; node = n }) }
-  unfolding own_variant
-  own-granted x at n = ap (λ t. record (own_variant s x) { grants = t }) (only-put channel_slots (λ _ h. held_by s (Some h)) x.grants at (record { supplier = s; node = n }) (same_text-itself s))
-
-  pub own-granted_other : (x : Variant) (at : ℕ × Channel) (t n : Name) → same_text t s ≡ false → get x.grants at ≡ None →
-      own_variant s (record x { grants = insert x.grants at (record { supplier = t; node = n }) }) ≡ own_variant s x
-  unfolding own_variant
-  own-granted_other x at t n other free = ap (λ u. record (own_variant s x) { grants = u })
-      (only-put_other channel_slots (λ _ h. held_by s (Some h)) x.grants at (record { supplier = t; node = n }) other (ap (kept (λ _ h. held_by s (Some h)) at) free))
-
-  pub own-revoked : (x : Variant) (at : ℕ × Channel) → own_variant s (record x { grants = remove x.grants at }) ≡ record (own_variant s x) { grants = remove (own_variant s x).grants at }
-  unfolding own_variant
-  own-revoked x at = ap (λ t. record (own_variant s x) { grants = t }) (only-remove channel_slots (λ _ h. held_by s (Some h)) x.grants at)
-
-  pub own-revoked_other : (x : Variant) (at : ℕ × Channel) → kept (λ _ h. held_by s (Some h)) at (get x.grants at) ≡ None → own_variant s (record x { grants = remove x.grants at }) ≡ own_variant s x
-  unfolding own_variant
-  own-revoked_other x at none = ap (λ u. record (own_variant s x) { grants = u }) (only-remove_other channel_slots (λ _ h. held_by s (Some h)) x.grants at none)
-
   -- ---- a look-up
 
   pub rows_of-variant : (b : Book) (v : Name) → get (rows_of s b).variants v ≡ option_map (own_variant s) (get b.variants v)
@@ -78,14 +40,14 @@ module _ (s : Name) where
   unfolding rows_of
   rows_of-node b n = ap is_some (get-own owned (is_of s) b.nodes (s, n) (same_text-itself s))
 
-  pub rows_of-nodes : (b : Book) → only (λ k _. is_of s k) (rows_of s b).nodes ≡ only (λ k _. is_of s k) b.nodes
+  pub rows_of-nodes : (b : Book) → own s (rows_of s b).nodes ≡ own s b.nodes
   unfolding rows_of
   rows_of-nodes b = only-only owned (λ k _. is_of s k) b.nodes
 
-  -- the supplier's page of its own rows
-  pub rows_of-page : (p : Params) (b : Book) (x : Variant) → page_of p (rows_of s b) s (own_variant s x) ≡ page_of p b s x
-  unfolding page_of own_variant
-  rows_of-page p b x = λ i. record {
+  -- the supplier's own of its rows are its own
+  pub own_rows-own : (p : Params) (b : Book) (x : Variant) → own_rows p (rows_of s b) s (own_variant s x) ≡ own_rows p b s x
+  unfolding own_rows own_variant
+  own_rows-own p b x = λ i. record {
     params = p;
     supplier = s;
     nodes = rows_of-nodes b i;
@@ -108,8 +70,8 @@ module _ (s : Name) where
 
   pub rows_of-more_nodes : (b : Book) (n : Name) → rows_of s (record b { nodes = insert b.nodes (s, n) tt }) ≡ record (rows_of s b) { nodes = insert (rows_of s b).nodes (s, n) tt }
   unfolding rows_of
-  rows_of-more_nodes b n = ap (λ t. record (rows_of s b) { nodes = t }) (only-put owned (λ k _. is_of s k) b.nodes (s, n) tt (same_text-itself s))
+  rows_of-more_nodes b n = ap (λ t. record (rows_of s b) { nodes = t }) (only-insert owned (is_of s) b.nodes (s, n) tt (same_text-itself s))
 
   pub rows_of-more_nodes_other : (b : Book) (t n : Name) → same_text t s ≡ false → rows_of s (record b { nodes = insert b.nodes (t, n) tt }) ≡ rows_of s b
-  unfolding rows_of becomes
-  rows_of-more_nodes_other b t n other = ap (λ u. record (rows_of s b) { nodes = u }) (only-becomes_other owned (is_of s) b.nodes (t, n) (Some tt) other)
+  unfolding rows_of
+  rows_of-more_nodes_other b t n other = ap (λ u. record (rows_of s b) { nodes = u }) (only-insert_other owned (is_of s) b.nodes (t, n) tt other)

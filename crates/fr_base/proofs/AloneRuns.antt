@@ -1,15 +1,15 @@
 -- A run, and the run of the register that holds one supplier alone over what is the supplier's.
-use Rattle.std.proofs.Common.{◌≡◌, Bool, true, false, ◌&&◌, List, [], ◌∷◌, Some, refl, sym, ap, subst, ◌∙◌, inl, inr}
+use Rattle.std.proofs.Common.{◌≡◌, Bool, true, false, ◌&&◌, List, [], ◌∷◌, refl, sym, ap, subst, ◌∙◌, inl, inr}
 use Rattle.std.specs.Prelude.{filter, map}
 use Rattle.std.proofs.lemmas.Bool.{cases_Bool}
-use Rattle.fr_base.specs.Tables.{only, insert, from_rows, becomes}
+use Rattle.fr_base.specs.Tables.{only, insert, from_rows}
 use Rattle.fr_base.specs.Keys.{names, owned}
-use Rattle.fr_base.specs.Cluster.{Cluster, same_text}
-use Rattle.fr_base.specs.Book.{Book, opening}
-use Rattle.fr_base.specs.Step.{Outcome, is_of, step}
+use Rattle.fr_base.specs.Cluster.{Cluster}
+use Rattle.fr_base.specs.Names.{same_text}
+use Rattle.fr_base.specs.Book.{Book, is_of, suppliers_of, opening}
+use Rattle.fr_base.specs.Step.{Outcome, step}
 use Rattle.fr_base.specs.Run.{IsRun}
 use Rattle.fr_base.specs.Sound.{IsSound}
-use Rattle.fr_base.specs.Laws.{IsWellFormed}
 use Rattle.fr_base.specs.Alone.{own_variant, rows_of, is_mine, asks_of, answers_of, alone, answers_to, book_after}
 use Rattle.fr_base.specs.declared.config.Supplier.{Supplier as Listed}
 use Rattle.fr_base.specs.declared.key.Key.{Key}
@@ -17,12 +17,13 @@ use Rattle.fr_base.specs.declared.name.Name.{Name}
 use Rattle.fr_base.specs.declared.answer.Answer.{Answer}
 use Rattle.fr_base.specs.declared.answer.Answer.TheVariants.{Refused}
 use Rattle.fr_base.specs.declared.refusal.Refusal.TheVariants.{Unavailable}
-use Rattle.fr_base.specs.declared.request.Actor.{Actor}
-use Rattle.fr_base.specs.declared.request.Actor.TheVariants.{Integrator, Supplier}
+use Rattle.fr_base.specs.declared.actor.Actor.{Actor}
+use Rattle.fr_base.specs.declared.actor.Actor.TheVariants.{Integrator, Supplier}
 use Rattle.fr_base.specs.declared.request.Ask.{Ask}
 use Rattle.fr_base.specs.declared.request.Request.{Request}
 use Rattle.fr_base.proofs.SoundSteps.{step-sound}
-use Rattle.fr_base.proofs.AloneTables.{only-empty, each-empty, only-becomes, only-becomes_other}
+use Rattle.fr_base.proofs.SoundTables.{only-insert, only-insert_other}
+use Rattle.fr_base.proofs.AloneTables.{only-empty, each-empty}
 use Rattle.fr_base.proofs.AloneOutcomes.{seen}
 use Rattle.fr_base.proofs.AloneSteps.{step-mine, step-not_mine}
 
@@ -46,7 +47,7 @@ not_lacked s (Supplier t) request = and_none (same_text t s)
     and_none true = refl
     and_none false = refl
 
-module _ (c : Cluster) (form : IsWellFormed c) (s : Name) where
+module _ (c : Cluster) (s : Name) where
   seen-step : (b : Book) → IsSound c b → (ask : Ask) → is_mine s ask.actor ask.request (step c b ask.actor ask.request).answer ≡ true →
       step (alone s c) (rows_of s b) ask.actor ask.request ≡ record { book = rows_of s (step c b ask.actor ask.request).book; answer = (step c b ask.actor ask.request).answer }
   unfolding seen
@@ -69,7 +70,7 @@ module _ (c : Cluster) (form : IsWellFormed c) (s : Name) where
       passed_over b ask asks answer answers b last (ap (is_mine s ask.actor ask.request) lacking.1 ∙ not_lacked s ask.actor ask.request) refl (run-alone b last asks answers sound lacking.2)
   run-alone b last (ask ∷ asks) (answer ∷ answers) sound (inr done) =
       let o : Outcome = step c b ask.actor ask.request in
-      let rest = run-alone o.book last asks answers (step-sound c b sound form ask.actor ask.request) done.1 in
+      let rest = run-alone o.book last asks answers (step-sound c b sound ask.actor ask.request) done.1 in
       elim (cases_Bool (is_mine s ask.actor ask.request answer)) [
         | inl mine ↦ rw mine (gives_first (alone s c) (rows_of s b) ask (asks_of s asks answers) answer (answers_of s asks answers) (rows_of s o.book) (rows_of s last)
             (seen-step b sound ask (ap (is_mine s ask.actor ask.request) (sym done.0) ∙ mine) ∙ ap (λ a. record { book = rows_of s o.book; answer = a }) (sym done.0)) rest)
@@ -93,16 +94,16 @@ row : Listed → Name × Key
 row t = (t.name, t.key)
 
 only-from_rows : (s : Name) (ts : List Listed) → only (λ t _. same_text t s) (from_rows {o = names} (map row ts)) ≡ from_rows {o = names} (map row (filter (λ t. same_text t.name s) ts))
-unfolding from_rows becomes row
+unfolding from_rows row
 only-from_rows s [] = only-empty names (λ t _. same_text t s)
 only-from_rows s (t ∷ ts) = elim (cases_Bool (same_text t.name s)) [
-  | inl own ↦ rw own (only-becomes names (λ t. same_text t s) (from_rows (map row ts)) t.name (Some t.key) own ∙ ap (λ u. insert u t.name t.key) (only-from_rows s ts))
-  | inr other ↦ rw other (only-becomes_other names (λ t. same_text t s) (from_rows (map row ts)) t.name (Some t.key) other ∙ only-from_rows s ts)
+  | inl own ↦ rw own (only-insert names (λ t. same_text t s) (from_rows (map row ts)) t.name t.key own ∙ ap (λ u. insert u t.name t.key) (only-from_rows s ts))
+  | inr other ↦ rw other (only-insert_other names (λ t. same_text t s) (from_rows (map row ts)) t.name t.key other ∙ only-from_rows s ts)
 ]
 
 -- the supplier's rows of a new register are a new register of the supplier alone
 pub opening-alone : (c : Cluster) (s : Name) → rows_of s (opening c) ≡ opening (alone s c)
-unfolding rows_of opening row
+unfolding rows_of opening suppliers_of row
 opening-alone c s = λ i. record {
   suppliers = only-from_rows s c.suppliers i;
   nodes = only-empty owned (λ k _. is_of s k) i;

@@ -8,9 +8,9 @@ use Rattle.fr_base.specs.Tables.{Table, get, contains, only}
 use Rattle.fr_base.specs.Keys.{owned, placement_order}
 use Rattle.fr_base.specs.Cells.{Cell, has_cell}
 use Rattle.fr_base.specs.Schedule.{fill}
-use Rattle.fr_base.specs.Cluster.{Cluster, same_text}
-use Rattle.fr_base.specs.Book.{Frame, Variant, Book, Owner, placements_of, schedule_of}
-use Rattle.fr_base.specs.Step.{is_of}
+use Rattle.fr_base.specs.Cluster.{Cluster}
+use Rattle.fr_base.specs.Names.{same_text}
+use Rattle.fr_base.specs.Book.{Frame, Variant, Book, Owner, is_of, own, placements_of, schedule_of}
 use Rattle.fr_base.specs.Sound.{IsSoundVariant, IsSound}
 use Rattle.fr_base.specs.Alone.{own_variant, own_sender}
 use Rattle.fr_base.specs.declared.name.Name.{Name}
@@ -66,11 +66,11 @@ module _ (s : Name) (c : Cell) where
       ]
 
   -- in each cell the supplier's schedule has what the schedule of all has there of the supplier's
-  pub own_schedule : (p : Params) (nodes : Table owned ⊤) (v : Variant) → IsSoundVariant p nodes v → schedule_of (only (λ k _. is_of s k) v.frames) c ≡ own_sender s (schedule_of v.frames c)
+  pub own_schedule : (p : Params) (nodes : Table owned ⊤) (v : Variant) → IsSoundVariant p nodes v → schedule_of (own s v.frames) c ≡ own_sender s (schedule_of v.frames c)
   unfolding schedule_of placements_of only get
   own_schedule p nodes v sound = own_fill v.frames.rows v.frames.sorted (λ k l f g q at_k at_l other own in_f has r in_g. elim (cases_Bool (has_cell r c)) [
     | inl clash ↦
-        let same = (sound.apart k l f g q r c at_k at_l in_f in_g has clash).0 in
+        let same = (sound.apart k l f g q r c (record { frame = at_k; placement = in_f; has = has }) (record { frame = at_l; placement = in_g; has = clash })).0 in
         absurd (true≢false (sym own ∙ ap (is_of s) (sym same) ∙ other))
     | inr free ↦ free
   ])

@@ -1,60 +1,31 @@
 -- A step, and the same step in the register that holds one supplier alone.
-use Rattle.std.proofs.Common.{◌≡◌, Bool, true, false, not, ◌&&◌, Result, Ok, Err, IfOk, refl, sym, ap, subst, ◌∙◌, ◌⊎◌, inl, inr}
+use Rattle.std.proofs.Common.{◌≡◌, Bool, true, false, not, ◌&&◌, Result, Ok, Err, IfOk, refl, sym, ap, ◌∙◌, ◌⊎◌, inl, inr}
+use Rattle.std.specs.Prelude.{⊤}
+use Rattle.fr_base.specs.Refusing.{◌>>=◌, ◌>>◌}
 use Rattle.fr_base.specs.Checks.{check}
-use Rattle.fr_base.specs.Cluster.{Cluster, same_text}
+use Rattle.fr_base.specs.Cluster.{Cluster}
 use Rattle.fr_base.specs.Book.{Book}
 use Rattle.fr_base.specs.Queries.{reply}
-use Rattle.fr_base.specs.Step.{Outcome, knows, by_supplier, change, act, outcome, step}
+use Rattle.fr_base.specs.Step.{Outcome, knows, common, add_node, change_rows, done, perform, act, outcome, step}
 use Rattle.fr_base.specs.Sound.{IsSound}
 use Rattle.fr_base.specs.Alone.{rows_of, is_done, is_unavailable, is_mine, alone}
 use Rattle.fr_base.specs.declared.name.Name.{Name}
 use Rattle.fr_base.specs.declared.answer.Answer.{Answer}
 use Rattle.fr_base.specs.declared.answer.Answer.TheVariants as answer
 use Rattle.fr_base.specs.declared.refusal.Refusal.{Refusal}
-use Rattle.fr_base.specs.declared.refusal.Refusal.TheVariants.{UnknownKey}
-use Rattle.fr_base.specs.declared.request.Actor.{Actor}
-use Rattle.fr_base.specs.declared.request.Actor.TheVariants.{Integrator, Supplier}
+use Rattle.fr_base.specs.declared.actor.Actor.{Actor}
+use Rattle.fr_base.specs.declared.actor.Actor.TheVariants.{Integrator, Supplier}
 use Rattle.fr_base.specs.declared.request.Request.{Request}
+use Rattle.fr_base.specs.declared.request.Command.TheVariants.{Common, AddNode, Rows}
 use Rattle.fr_base.specs.declared.request.Checked.{Checked}
 use Rattle.fr_base.specs.declared.request.Checked.TheVariants as checked
-use Rattle.fr_base.proofs.SoundRows.{same_text-is}
-use Rattle.fr_base.proofs.SoundRefusing.{gives_each, gives_bind, gives_unless}
-use Rattle.fr_base.proofs.AloneRefusing.{map_ok, alike_when, alike_bind, alike_map}
-use Rattle.fr_base.proofs.AloneRows.{rows_of-supplier}
-use Rattle.fr_base.proofs.AloneFrames.{by_supplier-own, by_supplier-other}
+use Rattle.fr_base.proofs.SoundRefusing.{gives_bind, gives_each, gives_unless}
+use Rattle.fr_base.proofs.AloneRefusing.{map_ok}
+use Rattle.fr_base.proofs.AloneChanges.{unless, unless_none}
+use Rattle.fr_base.proofs.AloneCommands.{perform-other}
+use Rattle.fr_base.proofs.AloneChecks.{asked_of, refused_beside, Says, check-says}
 use Rattle.fr_base.proofs.AloneOutcomes.{seen, outcome-own, outcome-still}
-use Rattle.fr_base.proofs.AloneQueries.{reply-own}
-use Rattle.fr_base.proofs.AloneDependence.{step-named, step-unnamed}
-
--- ---- a supplier's request
-
-module _ (c : Cluster) (b : Book) (s : Name) where
-  abbrev Like : Result Outcome Refusal → Result Outcome Refusal → Type 0
-  Like r u = map_ok (seen s) r ≡ u
-
-  act-own : IsSound c b → (what : Checked) → map_ok (seen s) (act c b (Supplier s) what) ≡ act (alone s c) (rows_of s b) (Supplier s) what
-  unfolding act change seen
-  act-own sound (checked.Command command) = alike_map Like (λ e. refl) (rows_of s) (by_supplier c.params b s command) _ (sym (by_supplier-own c b sound s command)) _ _ (λ after _. refl)
-  act-own sound (checked.Query query) = alike_bind Like (λ e. refl) (reply c.params b (Supplier s) query) _ (sym (reply-own c.params s b query)) _ _ (λ rows _. refl)
-
-  step-own : IsSound c b → (request : Request) → step (alone s c) (rows_of s b) (Supplier s) request ≡ seen s (step c b (Supplier s) request)
-  unfolding step
-  step-own sound request =
-      sym (ap (outcome (rows_of s b)) (
-      alike_when Like (λ e. refl) UnknownKey (not (knows b (Supplier s))) _ (ap not (rows_of-supplier s b)) _ _ (λ _.
-      alike_bind Like (λ e. refl) (check c.params (Supplier s) request) _ refl _ _ (λ what _. act-own sound what))))
-      ∙ outcome-own s b _
-
-  act-other : (t : Name) → same_text t s ≡ false → (what : Checked) → IfOk (act c b (Supplier t) what) (λ o. rows_of s o.book ≡ rows_of s b)
-  unfolding act change
-  act-other t other (checked.Command command) = gives_bind _ _ (by_supplier c.params b t command) _ (by_supplier-other c.params b s t other command) (λ after h. h)
-  act-other t other (checked.Query query) = gives_each _ (reply c.params b (Supplier t) query) _ (λ rows _. refl)
-
-  step-other : (t : Name) → same_text t s ≡ false → (request : Request) → rows_of s (step c b (Supplier t) request).book ≡ rows_of s b
-  unfolding step
-  step-other t other request = outcome-still s b _ (
-      gives_unless _ _ (knows b (Supplier t)) _ (λ _.
-      gives_each _ (check c.params (Supplier t) request) _ (λ what _. act-other t other what)))
+use Rattle.fr_base.proofs.AloneDependence.{lines, lines-own}
 
 -- ---- a request that was not done
 
@@ -64,8 +35,10 @@ outcome-undone b (Ok o) h undone = h undone
 outcome-undone b (Err e) h undone = refl
 
 act-undone : (c : Cluster) (b : Book) (actor : Actor) (what : Checked) → IfOk (act c b actor what) (λ o. is_done o.answer ≡ false → o.book ≡ b)
-unfolding act
-act-undone c b actor (checked.Command command) = gives_each _ (change c.params b actor command) _ (λ after _ undone. cc)
+unfolding act perform done
+act-undone c b actor (checked.Command (Common command)) = gives_each _ (common b command) _ (λ after _ undone. cc)
+act-undone c b actor (checked.Command (AddNode s n)) = gives_each _ (add_node b s n) _ (λ after _ undone. cc)
+act-undone c b actor (checked.Command (Rows s v what)) = gives_each _ (change_rows c.params b s v what) _ (λ after _ undone. cc)
 act-undone c b actor (checked.Query query) = gives_each _ (reply c.params b actor query) _ (λ rows _ undone. refl)
 
 -- what was not done has changed nothing
@@ -75,7 +48,7 @@ step-undone c b actor request = outcome-undone b _ (
     gives_unless _ _ (knows b actor) _ (λ _.
     gives_each _ (check c.params actor request) _ (λ what _. act-undone c b actor what)))
 
--- ---- whoever asks
+-- ---- a request that is the supplier's, and any other
 
 and_either : (x y : Bool) → x && y ≡ false → (x ≡ false) ⊎ ((x ≡ true) × (y ≡ false))
 and_either true y h = inr (refl, h)
@@ -87,29 +60,46 @@ and_both false y h = cc
 
 lacked-undone : (a : Answer) → not (is_unavailable a) ≡ false → is_done a ≡ false
 lacked-undone answer.Done h = cc
-lacked-undone (answer.Refused e) h = refl
-lacked-undone (answer.Grants all rows) h = refl
-lacked-undone (answer.Frames all rows) h = refl
-lacked-undone (answer.Schedule all rows) h = refl
-lacked-undone (answer.Gaps all rows) h = refl
-lacked-undone (answer.Layout all rows) h = refl
+lacked-undone a h = refl
 
 module _ (c : Cluster) (b : Book) (s : Name) where
+  outcome-done : (t : Result ⊤ Refusal) (r u : Result Outcome Refusal) → map_ok (seen s) r ≡ (u >>= unless t) → is_done (outcome b r).answer ≡ true → outcome (rows_of s b) u ≡ seen s (outcome b r)
+  unfolding outcome unless ◌>>=◌ ◌>>◌
+  outcome-done t (Err e) u h is = cc
+  outcome-done (Ok x) (Ok o) (Ok d) h is = cc
+  outcome-done (Err e) (Ok o) (Ok d) h is = cc
+  outcome-done t (Ok o) (Err e) h is = cc
+
   -- in a sound book a step that is the supplier's is the same alone, on the supplier's rows
   pub step-mine : IsSound c b → (actor : Actor) (request : Request) → is_mine s actor request (step c b actor request).answer ≡ true → step (alone s c) (rows_of s b) actor request ≡ seen s (step c b actor request)
+  unfolding step
+  step-mine sound Integrator request h =
+      let both = and_both _ _ h in
+      outcome-done (refused_beside s b Integrator request) (lines c b Integrator request) (lines (alone s c) (rows_of s b) Integrator request) (lines-own c b s Integrator request (λ _. sound) both.1) both.0
   step-mine sound (Supplier t) request h =
-      subst (λ u. step (alone s c) (rows_of s b) (Supplier u) request ≡ seen s (step c b (Supplier u) request)) (sym (same_text-is t s (and_both _ _ h).0)) (step-own c b s sound request)
-  step-mine sound Integrator request h = let both = and_both _ _ h in step-named c b s request both.1 both.0
+      sym (ap (outcome (rows_of s b)) (lines-own c b s (Supplier t) request (λ _. sound) (and_both _ _ h).0 ∙ unless_none (lines (alone s c) (rows_of s b) (Supplier t) request)))
+      ∙ outcome-own s b (lines c b (Supplier t) request)
+
+  act-other : (actor : Actor) (request : Request) → asked_of s actor request ≡ false → (what : Checked) → Says actor request what → IfOk (act c b actor what) (λ o. rows_of s o.book ≡ rows_of s b)
+  unfolding act
+  act-other actor request other (checked.Command command) says = perform-other c b s command (says.names s ∙ other)
+  act-other actor request other (checked.Query query) says = gives_each _ (reply c.params b actor query) _ (λ rows _. refl)
+
+  step-other : (actor : Actor) (request : Request) → asked_of s actor request ≡ false → rows_of s (step c b actor request).book ≡ rows_of s b
+  unfolding step
+  step-other actor request other = outcome-still s b _ (
+      gives_unless _ _ (knows b actor) _ (λ _.
+      gives_bind _ _ (check c.params actor request) _ (check-says c.params actor request) (λ what says. act-other actor request other what says)))
 
   -- and any other leaves the supplier's rows as they were
   pub step-not_mine : (actor : Actor) (request : Request) → is_mine s actor request (step c b actor request).answer ≡ false → rows_of s (step c b actor request).book ≡ rows_of s b
   step-not_mine (Supplier t) request h = elim (and_either _ _ h) [
-    | inl other ↦ step-other c b s t other request
+    | inl other ↦ step-other (Supplier t) request other
     | inr own ↦ ap (rows_of s) (step-undone c b (Supplier t) request (lacked-undone _ own.1))
   ]
   step-not_mine Integrator request h = elim (and_either _ _ h) [
     | inl undone ↦ ap (rows_of s) (step-undone c b Integrator request undone)
-    | inr unnamed ↦ step-unnamed c b s request unnamed.1
+    | inr other ↦ step-other Integrator request other.1
   ]
 
 pub step-alone : (c : Cluster) (b : Book) (s : Name) (actor : Actor) (request : Request) → IsSound c b → is_mine s actor request (step c b actor request).answer ≡ true →

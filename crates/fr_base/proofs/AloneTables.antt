@@ -5,8 +5,9 @@ use Rattle.std.specs.Ordering.{is_eq, eq_by_cmp}
 use Rattle.std.specs.FinMap.Entries.{find}
 use Rattle.std.proofs.lemmas.Bool.{cases_Bool}
 use Rattle.std.proofs.lemmas.List.{length-map}
-use Rattle.fr_base.specs.Tables.{Order, Table, empty, get, len, insert, only, each, remove, becomes}
+use Rattle.fr_base.specs.Tables.{Order, Table, empty, get, len, insert, only, each, remove, Fate, Becomes, Gone, settle}
 use Rattle.fr_base.proofs.TableLaws.{equal, get-insert, get-only, same_rows, same_table, kept}
+use Rattle.fr_base.proofs.SoundTables.{get-passing, only-insert, only-insert_other}
 
 -- ---- each value changed alike
 
@@ -118,26 +119,22 @@ module _ {K V : Type 0} (o : Order K) (p : K → V → Bool) where
 -- ---- rows whose key passes a test
 
 module _ {K V : Type 0} (o : Order K) (p : K → Bool) (t : Table o V) (k : K) where
-  kept_key : (x : Option V) → p k ≡ true → kept (λ j _. p j) k x ≡ x
-  kept_key None e = refl
-  kept_key (Some v) e = ap (λ b. cond b (Some v) None) e
-
   kept_no_key : (x : Option V) → p k ≡ false → kept (λ j _. p j) k x ≡ None
   kept_no_key None e = refl
   kept_no_key (Some v) e = ap (λ b. cond b (Some v) None) e
 
   -- it is found among them
   pub get-own : p k ≡ true → get (only (λ j _. p j) t) k ≡ get t k
-  get-own e = get-only o (λ j _. p j) t k ∙ kept_key (get t k) e
+  get-own e = get-passing o p t k e
 
   -- what becomes of it becomes of it there
-  pub only-becomes : (x : Option V) → p k ≡ true → only (λ j _. p j) (becomes t k x) ≡ becomes (only (λ j _. p j) t) k x
-  unfolding becomes
-  only-becomes (Some v) e = only-put o (λ j _. p j) t k v e
-  only-becomes None e = only-remove o (λ j _. p j) t k
+  pub only-settle : (x : Fate V) → p k ≡ true → only (λ j _. p j) (settle t k x) ≡ settle (only (λ j _. p j) t) k x
+  unfolding settle
+  only-settle (Becomes v) e = only-insert o p t k v e
+  only-settle Gone e = only-remove o (λ j _. p j) t k
 
   -- what becomes of any other changes nothing there
-  pub only-becomes_other : (x : Option V) → p k ≡ false → only (λ j _. p j) (becomes t k x) ≡ only (λ j _. p j) t
-  unfolding becomes
-  only-becomes_other (Some v) e = only-put_other o (λ j _. p j) t k v e (kept_no_key (get t k) e)
-  only-becomes_other None e = only-remove_other o (λ j _. p j) t k (kept_no_key (get t k) e)
+  pub only-settle_other : (x : Fate V) → p k ≡ false → only (λ j _. p j) (settle t k x) ≡ only (λ j _. p j) t
+  unfolding settle
+  only-settle_other (Becomes v) e = only-insert_other o p t k v e
+  only-settle_other Gone e = only-remove_other o (λ j _. p j) t k (kept_no_key (get t k) e)

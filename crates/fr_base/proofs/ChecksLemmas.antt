@@ -1,8 +1,8 @@
 -- What a proof about the check of a request opens.
 use Rattle.std.specs.Prelude.{⊤}
 use Rattle.fr_base.specs.Refusing.{◌>>=◌, ◌>>◌, ◌or◌, refuse◌when◌}
-use Rattle.fr_base.specs.Checks.{name, cycles, slot, channel, channels, placement, signal, parent_name, check}
+use Rattle.fr_base.specs.Checks.{asking, name, cycles, slot, channel, channels, placement, signal, parent_name, check}
 
 unfoldable pub checks_open : ⊤
-unfolding ◌>>=◌ ◌>>◌ ◌or◌ refuse◌when◌ name cycles slot channel channels placement signal parent_name check
+unfolding ◌>>=◌ ◌>>◌ ◌or◌ refuse◌when◌ asking name cycles slot channel channels placement signal parent_name check
 checks_open = tt

@@ -3,7 +3,7 @@ use Rattle.std.proofs.Common.{◌≡◌, ◌≢◌, ℕ, suc, zero, ◌+◌, ◌
 use Rattle.std.specs.Prelude.{⊤}
 use Rattle.std.specs.List.{list_any, list_all, range_with_len, find}
 use Rattle.std.specs.Option.{option_map, option_and_then}
-use Rattle.std.specs.Str.{bytes_eq}
+use Rattle.fr_base.specs.Names.{same_text}
 use Rattle.std.proofs.lemmas.Bool.{ltb-true, and_parts, or_cases}
 use Rattle.std.proofs.lemmas.Bool.Decides.{nat_tests, Decides-eqb, eqb_tells}
 use Rattle.std.proofs.lemmas.List.Elements.{All-cons, All-head, All-tail, All-filter, All-weaker}
@@ -12,13 +12,13 @@ use Rattle.std.proofs.lemmas.List.Kept.{AllPairs-cons, AllPairs-filter}
 use Rattle.std.proofs.lemmas.List.Sorted.{list_any-IsPermutation, IsPermutation-sym, IsPermutation-reverse}
 use Rattle.std.proofs.lemmas.List.Sums.{length-filter, count_by-le-length}
 use Rattle.std.proofs.lemmas.Slice.Eq.{bytes_eq-Decides}
-use Rattle.fr_base.specs.Limits.{max_signals}
+use Rattle.fr_base.specs.declared.limits.TheConstants.{MAX_SIGNALS}
 use Rattle.fr_base.specs.Signals.{SignalData, is_signal_length}
 use Rattle.fr_base.specs.Bits.{bits_of, run_of, run_big, uses}
-use Rattle.fr_base.specs.Layouts.{LayoutData, IsLayout, AreApart, lies_inside, has_signal, user_of, taken_at, first_taken, bit_taken, with_signal, add_signal, remove_signal}
+use Rattle.fr_base.specs.Layouts.{LayoutData, IsLayout, AreApart, lies_inside, has_signal, user_of, taken_at, first_taken_bit, bit_taken, with_signal, admits_signal, without_signal}
 use Rattle.fr_base.specs.declared.signal.Order.{Order}
 use Rattle.fr_base.specs.declared.signal.Order.TheVariants.{Little, Big}
-use Rattle.fr_base.proofs.SoundRefusing.{gives_when, gives_unless, gives_then}
+use Rattle.fr_base.proofs.SoundRefusing.{gives_when, gives_unless, gives_last}
 
 -- ---- where bits lie
 
@@ -129,8 +129,8 @@ length-with_signal s (t ∷ xs) = by_test (ltb s.start t.start) (length-with_sig
 unfoldable pub taken_test : LayoutData → SignalData → ℕ → Bool
 taken_test l s p = uses s p && is_some (user_of l.signals p)
 
-pub first_taken_is : (l : LayoutData) (s : SignalData) → first_taken l s ≡ option_and_then (taken_at l.signals) (find (taken_test l s) (range_with_len 0 (16 * l.words)))
-unfolding first_taken taken_test
+pub first_taken_is : (l : LayoutData) (s : SignalData) → first_taken_bit l s ≡ option_and_then (taken_at l.signals) (find (taken_test l s) (range_with_len 0 (16 * l.words)))
+unfolding first_taken_bit taken_test
 first_taken_is l s = refl
 
 find_passes : (f : ℕ → Bool) (xs : List ℕ) (q : ℕ) → find f xs ≡ Some q → f q ≡ true
@@ -164,14 +164,14 @@ none_taken l s (Some q) passes e = absurd (no_user (user_of l.signals q) (uses s
     no_user None false h e = cc
     no_user (Some t) b h e = cc
 
-free_tests : (l : LayoutData) (s : SignalData) (p : ℕ) → first_taken l s ≡ None → p < 16 * l.words → taken_test l s p ≡ false
+free_tests : (l : LayoutData) (s : SignalData) (p : ℕ) → first_taken_bit l s ≡ None → p < 16 * l.words → taken_test l s p ≡ false
 free_tests l s p free below =
     find_none_all (taken_test l s) 0 (16 * l.words) p
     (none_taken l s (find (taken_test l s) (range_with_len 0 (16 * l.words))) (find_passes (taken_test l s) (range_with_len 0 (16 * l.words))) (sym (first_taken_is l s) ∙ free))
     (omega arith) (omega arith)
 
 -- a free signal shares no bit with the others
-free_apart : (l : LayoutData) (s : SignalData) → IsTrue (lies_inside l.words s) → first_taken l s ≡ None → All (AreApart s) l.signals
+free_apart : (l : LayoutData) (s : SignalData) → IsTrue (lies_inside l.words s) → first_taken_bit l s ≡ None → All (AreApart s) l.signals
 unfolding taken_test
 free_apart l s inside free k d within p here there =
     let user : is_some (user_of l.signals p) ≡ true = is_some-user_of l.signals p ∙ list_any_at (λ t. uses t p) l.signals k d within there in
@@ -182,7 +182,7 @@ length_bounds n h = (grind (arith, nat_tests), grind (arith, nat_tests))
 
 other_names : (l : LayoutData) (s : SignalData) → has_signal l.signals s.name ≡ false → All (λ t. t.name ≢ s.name) l.signals
 other_names l s fresh k d within e =
-    true≢false (sym ((bytes_eq-Decides (get_or l.signals k d).name s.name).1 e) ∙ none_of (λ t. bytes_eq t.name s.name) l.signals fresh k d within)
+    true≢false (sym ((bytes_eq-Decides (get_or l.signals k d).name s.name).1 e) ∙ none_of (λ t. same_text t.name s.name) l.signals fresh k d within)
 
 other_starts : (l : LayoutData) (s : SignalData) → IsLayout l → 1 ≤ s.length → All (AreApart s) l.signals → All (λ t. s.start ≢ t.start) l.signals
 other_starts l s sound long apart k d within same =
@@ -203,7 +203,7 @@ empty-layout words few = record {
   rising = λ i j d h below. absurd (omega arith);
 }
 
-pub with_signal-layout : (l : LayoutData) (s : SignalData) → IsLayout l → IsTrue (is_signal_length s.length) → has_signal l.signals s.name ≡ false → length l.signals < max_signals → IsTrue (lies_inside l.words s) → first_taken l s ≡ None →
+pub with_signal-layout : (l : LayoutData) (s : SignalData) → IsLayout l → IsTrue (is_signal_length s.length) → has_signal l.signals s.name ≡ false → length l.signals < MAX_SIGNALS → IsTrue (lies_inside l.words s) → first_taken_bit l s ≡ None →
     IsLayout (record l { signals = with_signal s l.signals })
 with_signal-layout l s sound long fresh room inside free =
     let apart : All (AreApart s) l.signals = free_apart l s inside free in
@@ -241,20 +241,18 @@ abbrev pub IsLayoutOf : (SignalData → Type 0) → LayoutData → List SignalDa
 IsLayoutOf P l signals = IsLayout (record l { signals = signals }) × All P signals
 
 -- a layout stays one with a signal more
-pub add_signal-layout : (P : SignalData → Type 0) (l : LayoutData) (s : SignalData) → IsLayoutOf P l l.signals → IsTrue (is_signal_length s.length) → P s → IfOk (add_signal l s) (λ m. IsLayoutOf P l m.signals)
-unfolding add_signal
-add_signal-layout P l s sound long has =
-    let more : has_signal l.signals s.name ≡ false → length l.signals < max_signals → IsTrue (lies_inside l.words s) → first_taken l s ≡ None → IsLayoutOf P l (with_signal s l.signals) =
+pub admits_signal-layout : (P : SignalData → Type 0) (l : LayoutData) (s : SignalData) → IsLayoutOf P l l.signals → IsTrue (is_signal_length s.length) → P s → IfOk (admits_signal l s) (λ _. IsLayoutOf P l (with_signal s l.signals))
+unfolding admits_signal
+admits_signal-layout P l s sound long has =
+    let more : has_signal l.signals s.name ≡ false → length l.signals < MAX_SIGNALS → IsTrue (lies_inside l.words s) → first_taken_bit l s ≡ None → IsLayoutOf P l (with_signal s l.signals) =
     λ fresh room inside free. (with_signal-layout l s sound.0 long fresh room inside free, All-with P s l.signals has sound.1) in
     gives_when _ _ _ _ (λ fresh.
     gives_when _ _ _ _ (λ room.
     gives_unless _ _ _ _ (λ inside.
-    gives_then _ _ _ (λ x free.
+    gives_last _ (bit_taken (first_taken_bit l s)) (λ x free.
     more fresh (leb-false _ _ room) inside (none_bit _ x free)))))
 
 -- and with a signal less
-pub remove_signal-layout : (P : SignalData → Type 0) (l : LayoutData) (name : List ℕ) → IsLayoutOf P l l.signals → IfOk (remove_signal l name) (λ m. IsLayoutOf P l m.signals)
-unfolding remove_signal
-remove_signal-layout P l name sound =
-    gives_unless _ _ (has_signal l.signals name) _ (λ _.
-    (filter-layout l (λ s. not (bytes_eq s.name name)) sound.0, All-filter (λ s. not (bytes_eq s.name name)) P l.signals sound.1))
+pub without_signal-layout : (P : SignalData → Type 0) (l : LayoutData) (name : List ℕ) → IsLayoutOf P l l.signals → IsLayoutOf P l (without_signal name l.signals)
+without_signal-layout P l name sound =
+    (filter-layout l (λ s. not (same_text s.name name)) sound.0, All-filter (λ s. not (same_text s.name name)) P l.signals sound.1)

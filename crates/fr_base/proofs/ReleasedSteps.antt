@@ -1,5 +1,5 @@
 -- A released variant stays as it is, whatever is asked.
-use Rattle.std.proofs.Common.{◌≡◌, ℕ, true, false, cond, List, [], ◌∷◌, Option, Some, is_some, Result, Ok, Err, IfOk, IsTrue, refl, sym, ap, ◌∙◌, inl, inr, true≢false}
+use Rattle.std.proofs.Common.{◌≡◌, true, false, cond, List, [], ◌∷◌, Some, is_some, Result, Ok, Err, IfOk, IsTrue, refl, sym, ap, ◌∙◌, inl, inr, true≢false}
 use Rattle.std.specs.Ordering.{eq_by_cmp}
 use Rattle.std.proofs.lemmas.Bool.{cases_Bool}
 use Rattle.fr_base.specs.Refusing.{◌>>=◌, ◌>>◌, ◌or◌, refuse◌when◌}
@@ -7,28 +7,30 @@ use Rattle.fr_base.specs.Tables.{get, contains}
 use Rattle.fr_base.specs.Keys.{names}
 use Rattle.fr_base.specs.Checks.{check}
 use Rattle.fr_base.specs.Cluster.{Cluster}
-use Rattle.fr_base.specs.Book.{Frame, Variant, Book, schedule_of}
+use Rattle.fr_base.specs.Book.{Variant, Book}
 use Rattle.fr_base.specs.Queries.{shown, reply, variant_asked}
-use Rattle.fr_base.specs.Step.{Page, Filled, Outcome, knows, with_variant, page_of, begun, open_variant, release, add_node, grant, revoke, on_frame, by_integrator, by_supplier, change, act, outcome, step}
+use Rattle.fr_base.specs.Step.{Outcome, knows, with_variant, begun, common, add_node, own_rows, shared_by, admits, change_rows, done, perform, act, outcome, step}
 use Rattle.fr_base.specs.Run.{IsRun}
-use Rattle.fr_base.specs.declared.channel.Channel.{Channel}
 use Rattle.fr_base.specs.declared.name.Name.{Name}
 use Rattle.fr_base.specs.declared.params.Params.{Params}
 use Rattle.fr_base.specs.declared.answer.Answer.{Answer}
 use Rattle.fr_base.specs.declared.refusal.Refusal.{Refusal}
 use Rattle.fr_base.specs.declared.refusal.Refusal.TheVariants.{NoVariant}
-use Rattle.fr_base.specs.declared.request.Actor.{Actor}
-use Rattle.fr_base.specs.declared.request.Actor.TheVariants.{Integrator, Supplier}
+use Rattle.fr_base.specs.declared.actor.Actor.{Actor}
+use Rattle.fr_base.specs.declared.actor.Actor.TheVariants.{Integrator, Supplier}
 use Rattle.fr_base.specs.declared.request.Ask.{Ask}
 use Rattle.fr_base.specs.declared.request.Request.{Request}
 use Rattle.fr_base.specs.declared.request.Query.{Query}
 use Rattle.fr_base.specs.declared.request.Command.{Command}
-use Rattle.fr_base.specs.declared.request.Command.TheVariants.{OpenVariant, Release, AddNode, Grant, Revoke, AddFrame, DropFrame, Place, Unplace, AddSignal, DropSignal}
+use Rattle.fr_base.specs.declared.request.Command.TheVariants.{Common, AddNode, Rows}
+use Rattle.fr_base.specs.declared.request.CommonCommand.{CommonCommand}
+use Rattle.fr_base.specs.declared.request.CommonCommand.TheVariants.{OpenVariant, Release}
+use Rattle.fr_base.specs.declared.request.Change.{Change}
 use Rattle.fr_base.specs.declared.request.Checked.{Checked}
 use Rattle.fr_base.specs.declared.request.Checked.TheVariants as checked
 use Rattle.fr_base.proofs.TableLaws.{equal, get-insert}
 use Rattle.fr_base.proofs.SoundTables.{same_some}
-use Rattle.fr_base.proofs.SoundRefusing.{gives_or, gives_each, gives_bind, gives_when, gives_unless}
+use Rattle.fr_base.proofs.SoundRefusing.{gives_or, gives_each, gives_then, gives_bind, gives_when, gives_unless}
 
 -- the variant stands, and the suppliers are those of before
 abbrev Stays : Name → Variant → Book → Book → Type 0
@@ -50,17 +52,14 @@ module _ (b : Book) (v : Name) (x : Variant) (there : get b.variants v ≡ Some 
   open-other w y found open_yet same =
       true≢false (sym frozen ∙ ap (λ (z : Variant). z.released) (same_some x y (sym there ∙ ap (get b.variants) same ∙ found)) ∙ open_yet)
 
-  open_variant-stays : (w : Name) (parent : Option Name) → IfOk (open_variant b w parent) (Stays v x b)
-  unfolding open_variant
-  open_variant-stays w parent =
+  common-stays : (command : CommonCommand) → IfOk (common b command) (Stays v x b)
+  unfolding common
+  common-stays (OpenVariant w parent) =
       gives_each _ (begun b parent) _ (λ y _.
       gives_when _ _ (contains b.variants w) _ (λ free.
       gives_when _ _ _ _ (λ _.
       stays-with w y (λ same. true≢false (sym (ap is_some there) ∙ ap (contains b.variants) same ∙ free)))))
-
-  release-stays : (w : Name) → IfOk (release b w) (Stays v x b)
-  unfolding release
-  release-stays w =
+  common-stays (Release w) =
       gives_or _ (get b.variants w) _ _ (λ y found.
       gives_when _ _ y.released _ (λ open_yet. stays-with w _ (open-other w y found open_yet)))
 
@@ -71,66 +70,21 @@ module _ (b : Book) (v : Name) (x : Variant) (there : get b.variants v ≡ Some 
       gives_when _ _ _ _ (λ _.
       gives_when _ _ _ _ (λ _. (there, refl))))
 
-  grant-stays : (w : Name) (at : ℕ × Channel) (s n : Name) → IfOk (grant b w at s n) (Stays v x b)
-  unfolding grant
-  grant-stays w at s n =
-      gives_or _ (get b.variants w) _ _ (λ y found.
-      gives_when _ _ y.released _ (λ open_yet.
-      gives_unless _ _ _ _ (λ _.
-      gives_unless _ _ _ _ (λ _.
-      gives_when _ _ _ _ (λ _.
-      gives_when _ _ _ _ (λ _.
-      gives_when _ _ _ _ (λ _. stays-with w _ (open-other w y found open_yet))))))))
-
-  revoke-stays : (w : Name) (at : ℕ × Channel) (s : Name) → IfOk (revoke b w at s) (Stays v x b)
-  unfolding revoke
-  revoke-stays w at s =
-      gives_or _ (get b.variants w) _ _ (λ y found.
-      gives_when _ _ y.released _ (λ open_yet.
-      gives_unless _ _ _ _ (λ _.
-      gives_unless _ _ _ _ (λ _.
-      gives_when _ _ _ _ (λ _. stays-with w _ (open-other w y found open_yet))))))
-
   module _ (p : Params) where
-    on_frame-stays : (s w f : Name) (command : Page → Filled → Result (Option Frame) Refusal) → IfOk (on_frame p b s w f command) (Stays v x b)
-    unfolding on_frame
-    on_frame-stays s w f command =
+    change_rows-stays : (s w : Name) (what : Change) → IfOk (change_rows p b s w what) (Stays v x b)
+    unfolding change_rows
+    change_rows-stays s w what =
         gives_or _ (get b.variants w) _ _ (λ y found.
         gives_when _ _ y.released _ (λ open_yet.
-        gives_each _ (command (page_of p b s y) (schedule_of y.frames)) _ (λ after _. stays-with w _ (open-other w y found open_yet))))
+        gives_unless _ _ (contains b.suppliers s) _ (λ _.
+        gives_then _ (admits (own_rows p b s y) (shared_by y.grants y.frames) what) _ (λ _ _.
+        stays-with w _ (open-other w y found open_yet)))))
 
-    by_integrator-stays : (command : Command) → IfOk (by_integrator b command) (Stays v x b)
-    unfolding by_integrator
-    by_integrator-stays (OpenVariant w parent) = open_variant-stays w parent
-    by_integrator-stays (Release w) = release-stays w
-    by_integrator-stays (AddNode s n) = add_node-stays s n
-    by_integrator-stays (Grant w k c s n) = grant-stays w (k, c) s n
-    by_integrator-stays (Revoke w k c s) = revoke-stays w (k, c) s
-    by_integrator-stays (AddFrame w f n) = tt
-    by_integrator-stays (DropFrame w f) = tt
-    by_integrator-stays (Place w f q) = tt
-    by_integrator-stays (Unplace w f q) = tt
-    by_integrator-stays (AddSignal w f y) = tt
-    by_integrator-stays (DropSignal w f y) = tt
-
-    by_supplier-stays : (s : Name) (command : Command) → IfOk (by_supplier p b s command) (Stays v x b)
-    unfolding by_supplier
-    by_supplier-stays s (AddFrame w f n) = on_frame-stays s w f _
-    by_supplier-stays s (DropFrame w f) = on_frame-stays s w f _
-    by_supplier-stays s (Place w f q) = on_frame-stays s w f _
-    by_supplier-stays s (Unplace w f q) = on_frame-stays s w f _
-    by_supplier-stays s (AddSignal w f y) = on_frame-stays s w f _
-    by_supplier-stays s (DropSignal w f y) = on_frame-stays s w f _
-    by_supplier-stays s (OpenVariant w parent) = tt
-    by_supplier-stays s (Release w) = tt
-    by_supplier-stays s (AddNode t n) = tt
-    by_supplier-stays s (Grant w k c t n) = tt
-    by_supplier-stays s (Revoke w k c t) = tt
-
-    change-stays : (actor : Actor) (command : Command) → IfOk (change p b actor command) (Stays v x b)
-    unfolding change
-    change-stays Integrator command = by_integrator-stays command
-    change-stays (Supplier s) command = by_supplier-stays s command
+    perform-stays : (command : Command) → IfOk (perform p b command) (λ o. Stays v x b o.book)
+    unfolding perform done
+    perform-stays (Common command) = gives_bind _ _ (common b command) _ (common-stays command) (λ after h. h)
+    perform-stays (AddNode s n) = gives_bind _ _ (add_node b s n) _ (add_node-stays s n) (λ after h. h)
+    perform-stays (Rows s w what) = gives_bind _ _ (change_rows p b s w what) _ (change_rows-stays s w what) (λ after h. h)
 
   outcome-stays : (r : Result Outcome Refusal) → IfOk r (λ o. Stays v x b o.book) → Stays v x b (outcome b r).book
   unfolding outcome
@@ -139,7 +93,7 @@ module _ (b : Book) (v : Name) (x : Variant) (there : get b.variants v ≡ Some 
 
   act-stays : (c : Cluster) (actor : Actor) (what : Checked) → IfOk (act c b actor what) (λ o. Stays v x b o.book)
   unfolding act
-  act-stays c actor (checked.Command command) = gives_bind _ _ (change c.params b actor command) _ (change-stays c.params actor command) (λ after h. h)
+  act-stays c actor (checked.Command command) = perform-stays c.params command
   act-stays c actor (checked.Query query) = gives_each _ (reply c.params b actor query) _ (λ rows _. (there, refl))
 
   pub step-stays : (c : Cluster) (actor : Actor) (request : Request) → Stays v x b (step c b actor request).book

@@ -8,7 +8,8 @@ use Rattle.std.specs.List.{list_all, list_any}
 use Rattle.std.proofs.lemmas.Bool.{cases_Bool, or_cases, and_parts}
 use Rattle.std.proofs.lemmas.List.Folds.{list_any-append}
 use Rattle.fr_base.specs.Tables.{Table, get, contains}
-use Rattle.fr_base.specs.Keys.{both_tie, same_channel, owned, placement_order}
+use Rattle.fr_base.specs.Keys.{owned, placement_order}
+use Rattle.fr_base.specs.Orders.{both_tie, same_channel}
 use Rattle.fr_base.specs.Channels.{channels_in}
 use Rattle.fr_base.specs.Cells.{Cell, cells_in, cells_of, has_cell, same_cell}
 use Rattle.fr_base.specs.Cycles.{cycles_of}

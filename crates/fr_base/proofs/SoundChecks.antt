@@ -7,32 +7,45 @@ use Rattle.fr_base.specs.Names.{is_name}
 use Rattle.fr_base.specs.Cycles.{cycle_count, is_cycle_set}
 use Rattle.fr_base.specs.Signals.{is_signal_length, order_of_text}
 use Rattle.fr_base.specs.Channels.{channels_in, has_channel, channel_of_text, channels_of_text}
-use Rattle.fr_base.specs.Checks.{name, cycles, slot, channel, channels, placement, signal, parent_name, check}
+use Rattle.fr_base.specs.Checks.{asking, name, cycles, slot, channel, channels, placement, signal, parent_name, check}
 use Rattle.fr_base.specs.Sound.{HasChannelSlot, FitsCluster}
 use Rattle.fr_base.specs.declared.name.Name.{Name}
 use Rattle.fr_base.specs.declared.params.Params.{Params}
-use Rattle.fr_base.specs.declared.request.Actor.{Actor}
+use Rattle.fr_base.specs.declared.actor.Actor.{Actor}
 use Rattle.fr_base.specs.declared.request.Request.{Request}
 use Rattle.fr_base.specs.declared.request.Request.TheVariants as request
 use Rattle.fr_base.specs.declared.request.Command.{Command}
-use Rattle.fr_base.specs.declared.request.Command.TheVariants.{OpenVariant, Release, AddNode, Grant, Revoke, AddFrame, DropFrame, Place, Unplace, AddSignal, DropSignal}
+use Rattle.fr_base.specs.declared.request.Command.TheVariants.{Common, AddNode, Rows}
+use Rattle.fr_base.specs.declared.request.CommonCommand.TheVariants.{OpenVariant, Release}
+use Rattle.fr_base.specs.declared.request.Change.{Change}
+use Rattle.fr_base.specs.declared.request.Change.TheVariants.{Grant, Revoke, Frame}
+use Rattle.fr_base.specs.declared.request.FrameChange.{FrameChange}
+use Rattle.fr_base.specs.declared.request.FrameChange.TheVariants.{Add, Drop, Place, Unplace, AddSignal, DropSignal}
 use Rattle.fr_base.specs.declared.request.Checked.{Checked}
 use Rattle.fr_base.specs.declared.request.Checked.TheVariants as checked
 use Rattle.fr_base.proofs.SoundRefusing.{gives_or, gives_bind, gives_each, gives_when, gives_unless}
 
+-- a frame that is added has a name, a placement fits the cluster, and a signal has a name and 1 to 64 bits
+abbrev pub IsFormedFrame : Params → Name → FrameChange → Type 0
+IsFormedFrame p f (Add n) = IsTrue (is_name f)
+IsFormedFrame p f Drop = ⊤
+IsFormedFrame p f (Place q) = FitsCluster p q
+IsFormedFrame p f (Unplace q) = ⊤
+IsFormedFrame p f (AddSignal s) = IsTrue (is_name s.name) × IsTrue (is_signal_length s.length)
+IsFormedFrame p f (DropSignal n) = ⊤
+
+-- what is granted fits the cluster
+abbrev pub IsFormedChange : Params → Change → Type 0
+IsFormedChange p (Grant k c n) = HasChannelSlot p (k, c)
+IsFormedChange p (Revoke k c) = ⊤
+IsFormedChange p (Frame f what) = IsFormedFrame p f what
+
 -- the names that a command brings into the book are names, its slot, channels and cycles fit the cluster, and its signal has 1 to 64 bits
 abbrev pub HasForm : Params → Command → Type 0
-HasForm p (OpenVariant v parent) = IsTrue (is_name v)
-HasForm p (Release v) = ⊤
+HasForm p (Common (OpenVariant v parent)) = IsTrue (is_name v)
+HasForm p (Common (Release v)) = ⊤
 HasForm p (AddNode s n) = IsTrue (is_name n)
-HasForm p (Grant v k c s n) = HasChannelSlot p (k, c)
-HasForm p (Revoke v k c s) = ⊤
-HasForm p (AddFrame v f n) = IsTrue (is_name f)
-HasForm p (DropFrame v f) = ⊤
-HasForm p (Place v f q) = FitsCluster p q
-HasForm p (Unplace v f q) = ⊤
-HasForm p (AddSignal v f s) = IsTrue (is_name s.name) × IsTrue (is_signal_length s.length)
-HasForm p (DropSignal v f s) = ⊤
+HasForm p (Rows s v what) = IsFormedChange p what
 
 abbrev pub IsFormed : Params → Checked → Type 0
 IsFormed p (checked.Command command) = HasForm p command
@@ -102,32 +115,32 @@ check-form p actor (request.Revoke variant number text supplier) =
     gives_each _ (slot p number) _ (λ k _.
     gives_each _ (channel p text) _ (λ c _. tt)))))
 check-form p actor (request.AddFrame variant frame node) =
-    gives_when _ _ _ _ (λ _.
+    gives_each _ (asking actor) _ (λ _ _.
     gives_each _ (name variant) _ (λ v _.
     gives_bind _ _ (name frame) _ (name-form frame) (λ f h.
     gives_each _ (name node) _ (λ n _. h))))
 check-form p actor (request.DropFrame variant frame) =
-    gives_when _ _ _ _ (λ _.
+    gives_each _ (asking actor) _ (λ _ _.
     gives_each _ (name variant) _ (λ v _.
     gives_each _ (name frame) _ (λ f _. tt)))
 check-form p actor (request.Place variant frame number text base repetition) =
-    gives_when _ _ _ _ (λ _.
+    gives_each _ (asking actor) _ (λ _ _.
     gives_each _ (name variant) _ (λ v _.
     gives_each _ (name frame) _ (λ f _.
     gives_bind _ _ (placement p number text base repetition) _ (placement-form p number text base repetition) (λ q fits. fits))))
 check-form p actor (request.Unplace variant frame number text base repetition) =
-    gives_when _ _ _ _ (λ _.
+    gives_each _ (asking actor) _ (λ _ _.
     gives_each _ (name variant) _ (λ v _.
     gives_each _ (name frame) _ (λ f _.
     gives_each _ (placement p number text base repetition) _ (λ q _. tt))))
 check-form p actor (request.AddSignal variant frame named start length text) =
-    gives_when _ _ _ _ (λ _.
+    gives_each _ (asking actor) _ (λ _ _.
     gives_each _ (name variant) _ (λ v _.
     gives_each _ (name frame) _ (λ f _.
     gives_bind _ _ (name named) _ (name-form named) (λ n h.
     gives_bind _ _ (signal n start length text) _ (signal-form n start length text h) (λ s form. form)))))
 check-form p actor (request.DropSignal variant frame named) =
-    gives_when _ _ _ _ (λ _.
+    gives_each _ (asking actor) _ (λ _ _.
     gives_each _ (name variant) _ (λ v _.
     gives_each _ (name frame) _ (λ f _.
     gives_each _ (name named) _ (λ n _. tt))))

@@ -2,13 +2,12 @@
 use Rattle.std.proofs.Common.{◌≡◌, ◌<◌, ◌≤◌, List, [], All, Some, None, IsTrue, sym, subst, ◌∙◌, inl, inr, arith}
 use Rattle.std.specs.Prelude.{⊤}
 use Rattle.fr_base.specs.Tables.{Table, empty, get, contains, len, insert, only, remove}
-use Rattle.fr_base.specs.Limits.{max_frames, max_placements}
+use Rattle.fr_base.specs.declared.limits.TheConstants.{MAX_FRAMES, MAX_PLACEMENTS}
 use Rattle.fr_base.specs.Keys.{owned, placement_order}
 use Rattle.fr_base.specs.Cells.{Cell, cells_of, has_cell}
 use Rattle.fr_base.specs.Schedule.{first_taken}
 use Rattle.fr_base.specs.Names.{is_name}
-use Rattle.fr_base.specs.Book.{Frame, Variant, granted, schedule_of}
-use Rattle.fr_base.specs.Step.{is_of}
+use Rattle.fr_base.specs.Book.{Frame, Variant, granted, is_of, schedule_of}
 use Rattle.fr_base.specs.Signals.{SignalData}
 use Rattle.fr_base.specs.Layouts.{IsLayout}
 use Rattle.fr_base.specs.Sound.{FitsCluster, IsSoundFrame, IsSoundVariant}
@@ -42,7 +41,7 @@ module _ (p : Params) (nodes : Table owned ⊤) (v : Variant) (sound : IsSoundVa
   unfolding new_frame empty get
   new_frame-apart = record { own = λ q r d h. cc; others = λ l g q r d e at h. cc }
 
-  pub added_variant-sound : p.payload_words ≤ 127 → IsTrue (is_name k.1) → IsTrue (contains nodes (k.0, n)) → len (only (λ j _. is_of k.0 j) v.frames) < max_frames → IsSoundVariant p nodes (record v { frames = insert v.frames k (record { node = n; placements = empty; signals = [] }) })
+  pub added_variant-sound : p.payload_words ≤ 127 → IsTrue (is_name k.1) → IsTrue (contains nodes (k.0, n)) → len (only (λ j _. is_of k.0 j) v.frames) < MAX_FRAMES → IsSoundVariant p nodes (record v { frames = insert v.frames k (record { node = n; placements = empty; signals = [] }) })
   unfolding new_frame
   added_variant-sound few named has room = more_frames-sound p nodes v sound k (new_frame n) (new_frame-sound few named has) new_frame-apart (inr room)
 
@@ -52,7 +51,7 @@ module _ (p : Params) (nodes : Table owned ⊤) (v : Variant) (sound : IsSoundVa
   placed : Frame
   placed = record f { placements = insert f.placements q tt }
 
-  placed-sound : FitsCluster p q → IsTrue (granted v.grants k.0 f.node q) → len f.placements < max_placements → IsSoundFrame p nodes v.grants k placed
+  placed-sound : FitsCluster p q → IsTrue (granted v.grants k.0 f.node q) → len f.placements < MAX_PLACEMENTS → IsSoundFrame p nodes v.grants k placed
   unfolding placed
   placed-sound fits holds few =
       let old = sound.frames k f found in
@@ -61,7 +60,7 @@ module _ (p : Params) (nodes : Table owned ⊤) (v : Variant) (sound : IsSoundVa
         node = old.node;
         fits = λ r h. elim (contains-cases f.placements q tt r h) [ inl e ↦ subst (FitsCluster p) (sym e) fits | inr there ↦ old.fits r there ];
         in_grants = λ r h. elim (contains-cases f.placements q tt r h) [ inl e ↦ subst (λ x. IsTrue (granted v.grants k.0 f.node x)) (sym e) holds | inr there ↦ old.in_grants r there ];
-        limit = len-within f.placements q tt max_placements old.limit (inr few);
+        limit = len-within f.placements q tt MAX_PLACEMENTS old.limit (inr few);
         layout = old.layout;
         signal_names = old.signal_names;
       }
@@ -79,16 +78,16 @@ module _ (p : Params) (nodes : Table owned ⊤) (v : Variant) (sound : IsSoundVa
           ]
           | inr r_old ↦ elim (contains-cases f.placements q tt s in_s) [
             | inl s_new ↦ absurd (clash k f s r c s_new found r_old has_s has_r)
-            | inr s_old ↦ (sound.apart k k f f r s c found found r_old s_old has_r has_s).1
+            | inr s_old ↦ (sound.apart k k f f r s c (record { frame = found; placement = r_old; has = has_r }) (record { frame = found; placement = s_old; has = has_s })).1
           ]
         ];
         others = λ l g r s c other at in_r in_s has_r has_s. elim (contains-cases f.placements q tt r in_r) [
           | inl r_new ↦ clash l g r s c r_new at in_s has_r has_s
-          | inr r_old ↦ other (sym (sound.apart k l f g r s c found at r_old in_s has_r has_s).0)
+          | inr r_old ↦ other (sym (sound.apart k l f g r s c (record { frame = found; placement = r_old; has = has_r }) (record { frame = at; placement = in_s; has = has_s })).0)
         ];
       }
 
-  pub placed_variant-sound : FitsCluster p q → IsTrue (granted v.grants k.0 f.node q) → len f.placements < max_placements → first_taken (schedule_of v.frames) (cells_of q) ≡ None → IsSoundVariant p nodes (record v { frames = insert v.frames k (record f { placements = insert f.placements q tt }) })
+  pub placed_variant-sound : FitsCluster p q → IsTrue (granted v.grants k.0 f.node q) → len f.placements < MAX_PLACEMENTS → first_taken (schedule_of v.frames) (cells_of q) ≡ None → IsSoundVariant p nodes (record v { frames = insert v.frames k (record f { placements = insert f.placements q tt }) })
   unfolding placed
   placed_variant-sound fits holds few free = more_frames-sound p nodes v sound k placed (placed-sound fits holds few) (placed-apart free) (inl (some_there _ f found))
 
@@ -104,7 +103,7 @@ module _ (p : Params) (nodes : Table owned ⊤) (v : Variant) (sound : IsSoundVa
         node = old.node;
         fits = λ r h. old.fits r (had r h);
         in_grants = λ r h. old.in_grants r (had r h);
-        limit = len-remove placement_order f.placements q max_placements old.limit;
+        limit = len-remove placement_order f.placements q MAX_PLACEMENTS old.limit;
         layout = old.layout;
         signal_names = old.signal_names;
       })

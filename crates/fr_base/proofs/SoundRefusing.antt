@@ -1,5 +1,6 @@
 -- What a definition by refusals gives, line by line.
 use Rattle.std.proofs.Common.{◌≡◌, Bool, true, false, not, Option, Some, None, Result, Ok, Err, IfOk, IsTrue, refl}
+use Rattle.std.specs.Prelude.{⊤}
 use Rattle.fr_base.specs.Refusing.{◌>>=◌, ◌>>◌, ◌or◌, refuse◌when◌}
 
 module _ {A B E : Type 0} (P : B → Type 0) where
@@ -27,6 +28,12 @@ module _ {A B E : Type 0} (P : B → Type 0) where
   gives_then (Ok x) s h = h x refl
   gives_then (Err e) s h = tt
 
+  -- after a definition that gave something of which Q holds
+  pub gives_next : (Q : A → Type 0) (r : Result A E) (s : Result B E) → IfOk r Q → ((x : A) → Q x → IfOk s P) → IfOk (r >> s) P
+  unfolding ◌>>◌
+  gives_next Q (Ok x) s q h = h x q
+  gives_next Q (Err e) s q h = tt
+
 module _ {B E : Type 0} (P : B → Type 0) where
   -- after a refusal that did not apply
   pub gives_when : (e : E) (t : Bool) (r : Result B E) → (t ≡ false → IfOk r P) → IfOk ((refuse e when t) >> r) P
@@ -39,3 +46,26 @@ module _ {B E : Type 0} (P : B → Type 0) where
   unfolding refuse◌when◌ ◌>>◌
   gives_unless e true r h = h refl
   gives_unless e false r h = tt
+
+  -- where the last line gave something of which Q holds
+  pub gives_bind_last : (Q : B → Type 0) (r : Result B E) → IfOk r Q → ((x : B) → Q x → P x) → IfOk r P
+  gives_bind_last Q (Ok x) q h = h x q
+  gives_bind_last Q (Err e) q h = tt
+
+  -- where the last line gave a value
+  pub gives_last : (r : Result B E) → ((x : B) → r ≡ Ok x → P x) → IfOk r P
+  gives_last (Ok x) h = h x refl
+  gives_last (Err e) h = tt
+
+module _ {E : Type 0} (P : ⊤ → Type 0) where
+  -- where the last line is a refusal that did not apply
+  pub gives_when_last : (e : E) (t : Bool) → (t ≡ false → P tt) → IfOk (refuse e when t) P
+  unfolding refuse◌when◌
+  gives_when_last e true h = tt
+  gives_when_last e false h = h refl
+
+  -- or one of what does not hold
+  pub gives_unless_last : (e : E) (t : Bool) → (IsTrue t → P tt) → IfOk (refuse e when not t) P
+  unfolding refuse◌when◌
+  gives_unless_last e true h = h refl
+  gives_unless_last e false h = tt

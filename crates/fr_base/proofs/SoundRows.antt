@@ -1,34 +1,34 @@
 -- What keeps a book sound: a row more, or a row less, in one of its tables.
-use Rattle.std.proofs.Common.{◌≡◌, ◌≢◌, ℕ, ◌<◌, ◌≤◌, ◌&&◌, Bool, false, cond, List, [], ◌∷◌, Option, Some, None, is_some, IsTrue, refl, sym, ap, subst, ◌∙◌, ◌⊎◌, inl, inr, arith, true≢false}
+use Rattle.std.proofs.Common.{◌≡◌, ◌≢◌, ℕ, suc, ◌<◌, ◌≤◌, ◌&&◌, Bool, true, false, cond, List, [], ◌∷◌, Option, Some, None, is_some, IsTrue, refl, sym, ap, subst, ◌∙◌, ◌⊎◌, inl, inr, arith, true≢false}
 use Rattle.std.specs.Prelude.{⊤}
 use Rattle.std.specs.Ordering.{eq_by_cmp}
 use Rattle.std.specs.List.{list_all}
-use Rattle.std.specs.FinMap.{nat_cmp-IsAntisymmetric, slice_cmp-IsAntisymmetric}
+use Rattle.std.proofs.lemmas.Slice.Eq.{bytes_eq-Decides}
 use Rattle.std.proofs.lemmas.Bool.{cases_Bool, and_parts, and_from}
 use Rattle.std.proofs.lemmas.Bool.Decides.{Decides-eqb}
 use Rattle.fr_base.specs.Tables.{Table, empty, get, contains, len, insert, only, remove}
-use Rattle.fr_base.specs.Keys.{owned, channel_slots}
-use Rattle.fr_base.specs.Limits.{max_nodes, max_variants, max_depth, max_frames}
+use Rattle.fr_base.specs.Keys.{names, owned, channel_slots}
+use Rattle.fr_base.specs.declared.limits.TheConstants.{MAX_NODES, MAX_VARIANTS, MAX_DEPTH, MAX_FRAMES}
 use Rattle.fr_base.specs.Channels.{channels_in, has_channel}
 use Rattle.fr_base.specs.Cells.{Cell, has_cell}
-use Rattle.fr_base.specs.Cluster.{Cluster, same_text}
-use Rattle.fr_base.specs.Names.{is_name}
-use Rattle.fr_base.specs.Book.{Holder, Frame, Variant, Book, empty_variant, held_by, held_by_node, granted}
-use Rattle.fr_base.specs.Step.{is_of, fills, in_use, with_variant}
-use Rattle.fr_base.specs.Sound.{HasChannelSlot, IsSoundFrame, IsSoundVariant, IsSound}
+use Rattle.fr_base.specs.Cluster.{Cluster}
+use Rattle.fr_base.specs.Names.{is_name, same_text}
+use Rattle.fr_base.specs.Book.{Holder, Frame, Variant, Book, empty_variant, held_by, held_by_node, granted, is_of, own, own_grants}
+use Rattle.fr_base.specs.Step.{fills, in_use, with_variant}
+use Rattle.fr_base.specs.Sound.{HasChannelSlot, IsSent, IsSoundFrame, IsSoundVariant, IsOpenedFrom, IsSound}
 use Rattle.fr_base.specs.declared.channel.Channel.{Channel}
 use Rattle.fr_base.specs.declared.channel.Channels.{Channels}
 use Rattle.fr_base.specs.declared.channel.Channels.TheVariants as channels
 use Rattle.fr_base.specs.declared.name.Name.{Name}
 use Rattle.fr_base.specs.declared.params.Params.{Params}
 use Rattle.fr_base.specs.declared.placement.Placement.{Placement}
-use Rattle.fr_base.proofs.TableLaws.{equal, get-insert}
-use Rattle.fr_base.proofs.SoundTables.{some_there, insert-cases, contains-more, contains-cases, len-within, only-within, remove-stood, get-remove_other, only-remove}
+use Rattle.fr_base.proofs.TableLaws.{equal, get-insert, get-only, kept}
+use Rattle.fr_base.proofs.SoundTables.{some_there, get-passing, same_some, insert-cases, contains-more, contains-cases, len-within, only-within, remove-stood, get-remove_other, only-remove}
 use Rattle.fr_base.proofs.SoundCells.{any_placement}
 
 -- texts that compare as equal are the same
 pub same_text-is : (a b : Name) → IsTrue (same_text a b) → a ≡ b
-same_text-is a b h = slice_cmp-IsAntisymmetric nat_cmp-IsAntisymmetric a b (equal _ h)
+same_text-is a b h = (bytes_eq-Decides a b).0 h
 
 -- who holds a slot and channel with a node is its holder
 pub holder-is : (s n : Name) (o : Option Holder) → IsTrue (held_by_node s n o) → o ≡ Some (record { supplier = s; node = n })
@@ -62,8 +62,16 @@ all_meant channels.AB f g more h =
     and_from _ _ (more _ refl both.0) (and_from _ _ (more _ refl (and_parts _ _ both.1).0) refl)
 all_meant channels.B f g more h = and_from _ _ (more _ refl (and_parts _ _ h).0) refl
 
+-- what is among a supplier's own grants is held by the supplier
+pub own-held : (grants : Table channel_slots Holder) (s : Name) (at : ℕ × Channel) → IsTrue (contains (own_grants s grants) at) → IsTrue (held_by s (get grants at))
+own-held grants s at h = passed (get grants at) (sym (ap is_some (get-only channel_slots (λ _ x. held_by s (Some x)) grants at)) ∙ h)
+  where
+    passed : (o : Option Holder) → IsTrue (is_some (kept (λ _ x. held_by s (Some x)) at o)) → IsTrue (held_by s o)
+    passed None h = cc
+    passed (Some x) h = elim (same_text x.supplier s) as (λ b. IsTrue (is_some (cond b (Some x) None)) → IsTrue b) [ true ↦ λ _. refl | false ↦ λ e. cc ] h
+
 -- where a supplier uses a slot and channel in no placement, its placements lie in the other grants
-still_granted : (grants : Table channel_slots Holder) (frames : Table owned Frame) (at : ℕ × Channel) (s : Name) → IsTrue (held_by s (get grants at)) → in_use s at frames ≡ false →
+still_granted : (grants : Table channel_slots Holder) (frames : Table owned Frame) (at : ℕ × Channel) (s : Name) → IsTrue (contains (own_grants s grants) at) → in_use at (own s frames) ≡ false →
     (k : Name × Name) (f : Frame) (q : Placement) → get frames k ≡ Some f → IsTrue (contains f.placements q) → IsTrue (granted grants k.0 f.node q) → IsTrue (granted (remove grants at) k.0 f.node q)
 unfolding granted in_use
 still_granted grants frames at s holds free k f q there within =
@@ -72,9 +80,9 @@ still_granted grants frames at s holds free k f q there within =
     elim (cases_Bool (eq_by_cmp channel_slots.compare at key)) [
       | inl e ↦
           let same : at ≡ key = channel_slots.exact at key (equal _ e) in
-          let own : IsTrue (same_text k.0 s) = sym (ap (held_by s) (ap (get grants) same ∙ holder-is k.0 f.node (get grants key) h)) ∙ holds in
+          let mine : IsTrue (same_text k.0 s) = sym (ap (held_by s) (ap (get grants) same ∙ holder-is k.0 f.node (get grants key) h)) ∙ own-held grants s at holds in
           let used : IsTrue (fills at q) = ap (λ (x : ℕ × Channel). fills x q) same ∙ and_from _ _ ((Decides-eqb q.slot q.slot).1 refl) meant in
-          absurd (true≢false (sym (any_placement (λ x. same_text x.0.supplier s && fills at x.1) frames k f q there within (and_from _ _ own used)) ∙ free))
+          absurd (true≢false (sym (any_placement (λ x. fills at x.1) (own s frames) k f q (get-passing owned (is_of s) frames k mine ∙ there) within used) ∙ free))
       | inr other ↦ ap (held_by_node k.0 f.node) (get-remove_other channel_slots grants at key other) ∙ h
     ])
 
@@ -100,7 +108,7 @@ module _ (p : Params) (nodes more : Table owned ⊤) (there : (s n : Name) → I
     grant_nodes = λ at h e. there h.supplier h.node (sound.grant_nodes at h e);
     grants_fit = sound.grants_fit;
     frames = λ k f e. frame-more_nodes v.grants v.grants k f (λ q _ h. h) (sound.frames k f e);
-    apart = sound.apart;
+    apart = λ k l f g q r c one two. sound.apart k l f g q r c (record { frame = one.frame; placement = one.placement; has = one.has }) (record { frame = two.frame; placement = two.placement; has = two.has });
     frame_limit = sound.frame_limit;
     depth = sound.depth;
   }
@@ -123,30 +131,28 @@ module _ (p : Params) (nodes : Table owned ⊤) (v : Variant) (sound : IsSoundVa
       | inr old ↦ sound.grants_fit k h old.1
     ];
     frames = λ k f e. frame-more_nodes p nodes nodes (λ s n h. h) v.grants (insert v.grants at x) k f (λ q _. granted-more v.grants at x free k.0 f.node q) (sound.frames k f e);
-    apart = sound.apart;
+    apart = λ k l f g q r c one two. sound.apart k l f g q r c (record { frame = one.frame; placement = one.placement; has = one.has }) (record { frame = two.frame; placement = two.placement; has = two.has });
     frame_limit = sound.frame_limit;
     depth = sound.depth;
   }
 
   module _ (k : Name × Name) (g : Frame) where
     frames_apart : IsApart v k g → (i j : Name × Name) (f h : Frame) (q r : Placement) (c : Cell) →
-        get (insert v.frames k g) i ≡ Some f → get (insert v.frames k g) j ≡ Some h →
-        IsTrue (contains f.placements q) → IsTrue (contains h.placements r) →
-        IsTrue (has_cell q c) → IsTrue (has_cell r c) → (i ≡ j) × (q ≡ r)
-    frames_apart apart i j f h q r c at_i at_j in_f in_h has_q has_r = elim (insert-cases v.frames k g i f at_i) [
-      | inl ni ↦ let in_g = subst (λ (x : Frame). IsTrue (contains x.placements q)) (sym ni.1) in_f in
-          elim (insert-cases v.frames k g j h at_j) [
-            | inl nj ↦ (ni.0 ∙ sym nj.0, apart.own q r c in_g (subst (λ (x : Frame). IsTrue (contains x.placements r)) (sym nj.1) in_h) has_q has_r)
-            | inr oj ↦ absurd (apart.others j h q r c oj.0 oj.1 in_g in_h has_q has_r)
+        IsSent (record v { frames = insert v.frames k g }) i f q c → IsSent (record v { frames = insert v.frames k g }) j h r c → (i ≡ j) × (q ≡ r)
+    frames_apart apart i j f h q r c one two = elim (insert-cases v.frames k g i f one.frame) [
+      | inl ni ↦ let in_g = subst (λ (x : Frame). IsTrue (contains x.placements q)) (sym ni.1) one.placement in
+          elim (insert-cases v.frames k g j h two.frame) [
+            | inl nj ↦ (ni.0 ∙ sym nj.0, apart.own q r c in_g (subst (λ (x : Frame). IsTrue (contains x.placements r)) (sym nj.1) two.placement) one.has two.has)
+            | inr oj ↦ absurd (apart.others j h q r c oj.0 oj.1 in_g two.placement one.has two.has)
           ]
-      | inr oi ↦ elim (insert-cases v.frames k g j h at_j) [
-        | inl nj ↦ absurd (apart.others i f r q c oi.0 oi.1 (subst (λ (x : Frame). IsTrue (contains x.placements r)) (sym nj.1) in_h) in_f has_r has_q)
-        | inr oj ↦ sound.apart i j f h q r c oi.1 oj.1 in_f in_h has_q has_r
+      | inr oi ↦ elim (insert-cases v.frames k g j h two.frame) [
+        | inl nj ↦ absurd (apart.others i f r q c oi.0 oi.1 (subst (λ (x : Frame). IsTrue (contains x.placements r)) (sym nj.1) two.placement) one.placement two.has one.has)
+        | inr oj ↦ sound.apart i j f h q r c (record { frame = oi.1; placement = one.placement; has = one.has }) (record { frame = oj.1; placement = two.placement; has = two.has })
       ]
     ]
 
     -- a frame put in, or changed
-    pub more_frames-sound : IsSoundFrame p nodes v.grants k g → IsApart v k g → IsTrue (contains v.frames k) ⊎ (len (only (λ j _. is_of k.0 j) v.frames) < max_frames) → IsSoundVariant p nodes (record v { frames = insert v.frames k g })
+    pub more_frames-sound : IsSoundFrame p nodes v.grants k g → IsApart v k g → IsTrue (contains v.frames k) ⊎ (len (only (λ j _. is_of k.0 j) v.frames) < MAX_FRAMES) → IsSoundVariant p nodes (record v { frames = insert v.frames k g })
     more_frames-sound frame apart room = record {
       grant_nodes = sound.grant_nodes;
       grants_fit = sound.grants_fit;
@@ -155,9 +161,9 @@ module _ (p : Params) (nodes : Table owned ⊤) (v : Variant) (sound : IsSoundVa
         | inr old ↦ sound.frames j f old.1
       ];
       apart = frames_apart apart;
-      frame_limit = λ s. only-within owned (is_of s) v.frames k g max_frames (sound.frame_limit s) (λ own. elim room [
+      frame_limit = λ s. only-within owned (is_of s) v.frames k g MAX_FRAMES (sound.frame_limit s) (λ own. elim room [
         | inl there ↦ inl there
-        | inr few ↦ inr (subst (λ t. len (only (λ j _. is_of t j) v.frames) < max_frames) (same_text-is k.0 s own) few)
+        | inr few ↦ inr (subst (λ t. len (only (λ j _. is_of t j) v.frames) < MAX_FRAMES) (same_text-is k.0 s own) few)
       ]);
       depth = sound.depth;
     }
@@ -165,12 +171,12 @@ module _ (p : Params) (nodes : Table owned ⊤) (v : Variant) (sound : IsSoundVa
   -- ---- rows fewer, or other marks
 
   -- a variant that is released or not, and begun from another or not
-  pub marked-sound : (parent : Option Name) (depth : ℕ) (released : Bool) → (1 ≤ depth) × (depth ≤ max_depth) → IsSoundVariant p nodes (record v { parent = parent; depth = depth; released = released })
+  pub marked-sound : (parent : Option Name) (depth : ℕ) (released : Bool) → depth ≤ MAX_DEPTH → IsSoundVariant p nodes (record v { parent = parent; depth = depth; released = released })
   marked-sound parent depth released within = record {
     grant_nodes = sound.grant_nodes;
     grants_fit = sound.grants_fit;
     frames = sound.frames;
-    apart = sound.apart;
+    apart = λ k l f g q r c one two. sound.apart k l f g q r c (record { frame = one.frame; placement = one.placement; has = one.has }) (record { frame = two.frame; placement = two.placement; has = two.has });
     frame_limit = sound.frame_limit;
     depth = within;
   }
@@ -183,8 +189,8 @@ module _ (p : Params) (nodes : Table owned ⊤) (v : Variant) (sound : IsSoundVa
         grant_nodes = sound.grant_nodes;
         grants_fit = sound.grants_fit;
         frames = λ j f e. sound.frames j f (stood j f e);
-        apart = λ i j f g q r c at_i at_j. sound.apart i j f g q r c (stood i f at_i) (stood j g at_j);
-        frame_limit = λ s. only-remove owned v.frames k (λ j _. is_of s j) max_frames (sound.frame_limit s);
+        apart = λ i j f g q r c one two. sound.apart i j f g q r c (record { frame = stood i f one.frame; placement = one.placement; has = one.has }) (record { frame = stood j g two.frame; placement = two.placement; has = two.has });
+        frame_limit = λ s. only-remove owned v.frames k (λ j _. is_of s j) MAX_FRAMES (sound.frame_limit s);
         depth = sound.depth;
       }
 
@@ -193,20 +199,20 @@ module _ (p : Params) (nodes : Table owned ⊤) (v : Variant) (sound : IsSoundVa
       IsSoundFrame p nodes v.grants k g → IsSoundVariant p nodes (record v { frames = insert v.frames k g })
   lesser_frame-sound k f g found had fine =
       let apart : IsApart v k g = record {
-        own = λ q r c in_q in_r has_q has_r. (sound.apart k k f f q r c found found (had q in_q) (had r in_r) has_q has_r).1;
-        others = λ l h q r c other at in_q in_r has_q has_r. other (sym (sound.apart k l f h q r c found at (had q in_q) in_r has_q has_r).0);
+        own = λ q r c in_q in_r has_q has_r. (sound.apart k k f f q r c (record { frame = found; placement = had q in_q; has = has_q }) (record { frame = found; placement = had r in_r; has = has_r })).1;
+        others = λ l h q r c other at in_q in_r has_q has_r. other (sym (sound.apart k l f h q r c (record { frame = found; placement = had q in_q; has = has_q }) (record { frame = at; placement = in_r; has = has_r })).0);
       } in
       more_frames-sound k g fine apart (inl (some_there _ f found))
 
   -- a grant that no placement of its holder uses is gone
-  pub revoked-sound : (at : ℕ × Channel) (s : Name) → IsTrue (held_by s (get v.grants at)) → in_use s at v.frames ≡ false → IsSoundVariant p nodes (record v { grants = remove v.grants at })
+  pub revoked-sound : (at : ℕ × Channel) (s : Name) → IsTrue (contains (own_grants s v.grants) at) → in_use at (own s v.frames) ≡ false → IsSoundVariant p nodes (record v { grants = remove v.grants at })
   revoked-sound at s holds free =
       let stood = remove-stood channel_slots v.grants at in
       record {
         grant_nodes = λ k h e. sound.grant_nodes k h (stood k h e);
         grants_fit = λ k h e. sound.grants_fit k h (stood k h e);
         frames = λ k f e. frame-more_nodes p nodes nodes (λ t n h. h) v.grants (remove v.grants at) k f (λ q within. still_granted v.grants v.frames at s holds free k f q e within) (sound.frames k f e);
-        apart = sound.apart;
+        apart = λ k l f g q r c one two. sound.apart k l f g q r c (record { frame = one.frame; placement = one.placement; has = one.has }) (record { frame = two.frame; placement = two.placement; has = two.has });
         frame_limit = sound.frame_limit;
         depth = sound.depth;
       }
@@ -218,40 +224,65 @@ empty_variant-sound p nodes = record {
   grant_nodes = λ at h e. cc;
   grants_fit = λ at h e. cc;
   frames = λ k f e. cc;
-  apart = λ k l f g q r c e. cc;
+  apart = λ k l f g q r c one two. let none : ⊥ = let e = one.frame in cc in absurd none;
   frame_limit = λ s. omega arith;
-  depth = (omega arith, omega arith);
+  depth = omega arith;
 }
 
 -- ---- a book, where a variant is put in or changed, or nodes are more
 
+-- a variant's parent stays where a variant is put in, or changed, if a released one stays released and as deep
+opened_from-more : (variants : Table names Variant) (v : Name) (x : Variant) →
+    ((old : Variant) → get variants v ≡ Some old → IsTrue old.released → IsTrue x.released × (x.depth ≡ old.depth)) →
+    (parent : Option Name) (depth : ℕ) → IsOpenedFrom variants parent depth → IsOpenedFrom (insert variants v x) parent depth
+opened_from-more variants v x keeps None depth h = h
+opened_from-more variants v x keeps (Some p) depth h = elim (cases_Bool (eq_by_cmp names.compare p v)) [
+  | inl e ↦
+      let same : p ≡ v = names.exact p v (equal _ e) in
+      let kept = keeps h.0 (sym (ap (get variants) same) ∙ h.1) h.2 in
+      (x, get-insert variants v x p ∙ ap (λ b. cond b (Some x) (get variants p)) e, kept.0, h.3 ∙ sym (ap suc kept.1))
+  | inr e ↦ (h.0, get-insert variants v x p ∙ ap (λ b. cond b (Some x) (get variants p)) e ∙ h.1, h.2, h.3)
+]
+
 module _ (c : Cluster) (b : Book) (sound : IsSound c b) where
-  pub with_variant-sound : (v : Name) (x : Variant) → IsTrue (is_name v) → IsSoundVariant c.params b.nodes x → IsTrue (contains b.variants v) ⊎ (len b.variants < max_variants) → IsSound c (with_variant b v x)
-  with_variant-sound v x named fine room = record {
+  pub with_variant-sound : (v : Name) (x : Variant) → IsTrue (is_name v) → IsSoundVariant c.params b.nodes x → IsOpenedFrom b.variants x.parent x.depth →
+      ((old : Variant) → get b.variants v ≡ Some old → IsTrue old.released → IsTrue x.released × (x.depth ≡ old.depth)) →
+      IsTrue (contains b.variants v) ⊎ (len b.variants < MAX_VARIANTS) → IsSound c (with_variant b v x)
+  with_variant-sound v x named fine from keeps room = record {
+    cluster = sound.cluster;
     suppliers = sound.suppliers;
     nodes = sound.nodes;
     variants = λ w y e. elim (insert-cases b.variants v x w y e) [
       | inl new ↦ (subst (λ n. IsTrue (is_name n)) (sym new.0) named, subst (IsSoundVariant c.params b.nodes) new.1 fine)
       | inr old ↦ sound.variants w y old.1
     ];
-    supplier_limit = sound.supplier_limit;
+    parents = λ w y e. opened_from-more b.variants v x keeps y.parent y.depth (elim (insert-cases b.variants v x w y e) [
+      | inl new ↦ subst (λ (z : Variant). IsOpenedFrom b.variants z.parent z.depth) new.1 from
+      | inr old ↦ sound.parents w y old.1
+    ]);
     node_limit = sound.node_limit;
-    variant_limit = len-within b.variants v x max_variants sound.variant_limit room;
+    variant_limit = len-within b.variants v x MAX_VARIANTS sound.variant_limit room;
   }
 
-  -- a variant that is there, changed
-  pub changed-sound : (v : Name) (old x : Variant) → get b.variants v ≡ Some old → IsSoundVariant c.params b.nodes x → IsSound c (with_variant b v x)
-  changed-sound v old x e fine = with_variant-sound v x (sound.variants v old e).0 fine (inl (some_there _ old e))
+  -- a variant that is there, changed or released
+  pub changed-sound : (v : Name) (old x : Variant) → get b.variants v ≡ Some old → IsSoundVariant c.params b.nodes x → x.parent ≡ old.parent → x.depth ≡ old.depth →
+      (IsTrue old.released → IsTrue x.released) → IsSound c (with_variant b v x)
+  changed-sound v old x e fine parent depth released =
+      with_variant-sound v x (sound.variants v old e).0 fine
+      (subst (λ (k : Option Name × ℕ). IsOpenedFrom b.variants k.0 k.1) (λ i. (sym parent i, sym depth i)) (sound.parents v old e))
+      (λ there found was. let same = same_some _ _ (sym e ∙ found) in (released (subst (λ (y : Variant). IsTrue y.released) (sym same) was), depth ∙ ap (λ (y : Variant). y.depth) same))
+      (inl (some_there _ old e))
 
-  pub more_nodes-sound : (s n : Name) → IsTrue (is_name n) → IsTrue (contains b.suppliers s) → len (only (λ k _. is_of s k) b.nodes) < max_nodes → IsSound c (record b { nodes = insert b.nodes (s, n) tt })
+  pub more_nodes-sound : (s n : Name) → IsTrue (is_name n) → IsTrue (contains b.suppliers s) → len (own s b.nodes) < MAX_NODES → IsSound c (record b { nodes = insert b.nodes (s, n) tt })
   more_nodes-sound s n named known room = record {
+    cluster = sound.cluster;
     suppliers = sound.suppliers;
     nodes = λ t m h. elim (contains-cases b.nodes (s, n) tt (t, m) h) [
       | inl e ↦ (subst (λ x. IsTrue (is_name x)) (sym (ap (λ (k : Name × Name). k.1) e)) named, subst (λ x. IsTrue (contains b.suppliers x)) (sym (ap (λ (k : Name × Name). k.0) e)) known)
       | inr old ↦ sound.nodes t m old
     ];
     variants = λ v x e. ((sound.variants v x e).0, variant-more_nodes c.params b.nodes (insert b.nodes (s, n) tt) (λ t m h. contains-more b.nodes (s, n) tt (t, m) h) x (sound.variants v x e).1);
-    supplier_limit = sound.supplier_limit;
-    node_limit = λ t. only-within owned (is_of t) b.nodes (s, n) tt max_nodes (sound.node_limit t) (λ own. inr (subst (λ x. len (only (λ k _. is_of x k) b.nodes) < max_nodes) (same_text-is s t own) room));
+    parents = sound.parents;
+    node_limit = λ t. only-within owned (is_of t) b.nodes (s, n) tt MAX_NODES (sound.node_limit t) (λ own. inr (subst (λ x. len (only (λ k _. is_of x k) b.nodes) < MAX_NODES) (same_text-is s t own) room));
     variant_limit = sound.variant_limit;
   }

@@ -2,30 +2,38 @@
 use Rattle.std.proofs.Common.{◌≡◌, ℕ, List, [], ◌∷◌, false, true, Some, None, map, filter, refl, codes}
 use Rattle.std.specs.Prelude.{⊤}
 use Rattle.fr_base.specs.Refusing.{◌>>=◌, ◌>>◌, ◌or◌, refuse◌when◌}
-use Rattle.fr_base.specs.Tables.{empty, get, len, insert, only, remove, from_rows, becomes}
+use Rattle.fr_base.specs.Tables.{empty, get, len, insert, only, remove, from_rows, settle}
 use Rattle.fr_base.specs.Keys.{numbers, names, channel_order, channels_order, owned, channel_slots, placement_order}
 use Rattle.fr_base.specs.Names.{is_name, is_key}
 use Rattle.fr_base.specs.Cycles.{Cycles, is_repetition, is_cycle_set, cycle_count, all_cycles, cycles_of, has_cycle, first_common}
-use Rattle.fr_base.specs.Checks.{name, cycles, slot, channel, channels, placement, signal, parent_name, check}
+use Rattle.fr_base.specs.Checks.{asking, name, cycles, slot, channel, channels, placement, signal, parent_name, check}
 use Rattle.fr_base.specs.Cells.{cells_of, has_cell, cluster_cells}
 use Rattle.fr_base.specs.Schedule.{fill, first_taken, entries}
 use Rattle.fr_base.specs.Cluster.{Cluster}
-use Rattle.fr_base.specs.Book.{Book, empty_variant, opening, granted, placements_of, schedule_of}
-use Rattle.fr_base.specs.Step.{begun, open_variant, release, add_node, grant, in_use, revoke, page_of, cell_taken, add_frame, drop_frame, place, unplace, add_signal, drop_signal, on_frame, by_integrator, by_supplier, change, act, outcome, step}
+use Rattle.fr_base.specs.Book.{Book, empty_variant, suppliers_of, opening, granted, placements_of, schedule_of}
+use Rattle.fr_base.specs.Step.{begun, common, add_node, own_rows, shared_by, in_use, cell_taken, admits_frame, admits, grants_after, frame_after, frames_after, changed, change_rows, done, perform, act, outcome, step}
 use Rattle.fr_base.specs.Queries.{grants_of, frames_of, sendings_of, gaps_of, named, signals_of, shown, reply}
 use Rattle.fr_base.specs.Moments.{ring, moment, moments, gaps, greatest_gap}
 use Rattle.fr_base.specs.Bits.{bits_of}
 use Rattle.fr_base.specs.Layouts as layouts
+use Rattle.fr_base.specs.declared.limits.TheConstants.{MAX_SUPPLIERS, MAX_NODES, MAX_VARIANTS, MAX_DEPTH, MAX_FRAMES, MAX_PLACEMENTS, MAX_SIGNALS, MAX_PAYLOAD_WORDS}
 use Rattle.fr_base.specs.declared.answer.Answer.{Answer}
 use Rattle.fr_base.specs.declared.answer.Answer.TheVariants.{Done, Refused, Grants as Holds, Frames as Framed, Schedule as Sent, Gaps as Longest, Layout as Laid}
 use Rattle.fr_base.specs.declared.channel.Channel.TheVariants as ch
 use Rattle.fr_base.specs.declared.channel.Channels.TheVariants as chs
 use Rattle.fr_base.specs.declared.refusal.Refusal.TheVariants.{UnknownKey, NotYours, BadName, BadCycles, BadSlot, BadChannel, BadSignal, NoVariant, Released, NotReleased, TooDeep, NoSupplier, NoNode, NoFrame, NoSignal, NoPlacement, NotGranted, InUse, Exists, NodeDiffers, Limit, Taken, CellTaken, OutOfPayload, BitTaken}
-use Rattle.fr_base.specs.declared.request.Actor.TheVariants.{Integrator, Supplier}
+use Rattle.fr_base.specs.declared.actor.Actor.TheVariants.{Integrator, Supplier}
 use Rattle.fr_base.specs.declared.request.Ask.{Ask}
 use Rattle.fr_base.specs.declared.request.Request.{Request}
 use Rattle.fr_base.specs.declared.request.Request.TheVariants.{OpenVariant, Release, AddNode, Grant, Revoke, AddFrame, DropFrame, Place, Unplace, AddSignal, DropSignal, Grants, Frames, Schedule, Gaps, Layout}
 use Rattle.fr_base.specs.declared.signal.Order.TheVariants as order
+
+-- the most that a register holds: suppliers, nodes of a supplier, variants, depth, frames of a supplier, placements and signals of
+-- a frame, words of a payload
+pub the_limits :
+    MAX_SUPPLIERS ∷ MAX_NODES ∷ MAX_VARIANTS ∷ MAX_DEPTH ∷ MAX_FRAMES ∷ MAX_PLACEMENTS ∷ MAX_SIGNALS ∷ MAX_PAYLOAD_WORDS ∷ []
+    ≡ 64 ∷ 64 ∷ 64 ∷ 16 ∷ 256 ∷ 8 ∷ 64 ∷ 127 ∷ []
+the_limits = refl
 
 -- the cycles of a base and a repetition
 abbrev cycle_set : ℕ → ℕ → Cycles
@@ -73,7 +81,7 @@ answers asks = answers_from cluster (opening cluster) asks
 
 -- what the rows below unfold
 unfoldable pub a_small_register : ⊤
-unfolding cluster answers answers_from ◌>>=◌ ◌>>◌ ◌or◌ refuse◌when◌ empty get len insert only remove from_rows becomes numbers names channel_order channels_order owned channel_slots placement_order is_name is_key cycle_count all_cycles cycles_of name cycles slot channel channels placement signal parent_name check cells_of has_cell cluster_cells fill first_taken entries empty_variant opening granted placements_of schedule_of begun open_variant release add_node grant in_use revoke page_of cell_taken add_frame drop_frame place unplace add_signal drop_signal on_frame by_integrator by_supplier change grants_of frames_of sendings_of gaps_of named signals_of shown reply ring moment moments gaps greatest_gap bits_of layouts.first_taken layouts.add_signal layouts.remove_signal act outcome step
+unfolding cluster answers answers_from ◌>>=◌ ◌>>◌ ◌or◌ refuse◌when◌ empty get len insert only remove from_rows settle numbers names channel_order channels_order owned channel_slots placement_order is_name is_key cycle_count all_cycles cycles_of asking name cycles slot channel channels placement signal parent_name check cells_of has_cell cluster_cells fill first_taken entries empty_variant suppliers_of opening granted placements_of schedule_of begun common add_node own_rows shared_by in_use cell_taken admits_frame admits grants_after frame_after frames_after changed change_rows done perform grants_of frames_of sendings_of gaps_of named signals_of shown reply ring moment moments gaps greatest_gap bits_of layouts.first_taken_bit layouts.admits_signal act outcome step
 a_small_register = tt
 
 abbrev pub integrator : Request → Ask

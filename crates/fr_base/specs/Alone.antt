@@ -3,16 +3,17 @@ use Rattle.std.specs.Prelude.{ℕ, Bool, true, false, not, ◌&&◌, List, [], �
 use Rattle.std.specs.Option.{option_and_then}
 use Rattle.fr_base.specs.Tables.{get, only, each}
 use Rattle.fr_base.specs.Channels.{channel_of_text}
-use Rattle.fr_base.specs.Cluster.{Cluster, same_text}
-use Rattle.fr_base.specs.Book.{Holder, Variant, Book, Owner, held_by}
-use Rattle.fr_base.specs.Step.{is_of, step}
+use Rattle.fr_base.specs.Cluster.{Cluster}
+use Rattle.fr_base.specs.Names.{same_text}
+use Rattle.fr_base.specs.Book.{Holder, Variant, Book, Owner, own, own_grants}
+use Rattle.fr_base.specs.Step.{step}
 use Rattle.fr_base.specs.declared.name.Name.{Name}
 use Rattle.fr_base.specs.declared.answer.Answer.{Answer}
 use Rattle.fr_base.specs.declared.answer.Answer.TheVariants.{Done, Refused}
 use Rattle.fr_base.specs.declared.refusal.Refusal.{Refusal}
 use Rattle.fr_base.specs.declared.refusal.Refusal.TheVariants.{Taken, Unavailable}
-use Rattle.fr_base.specs.declared.request.Actor.{Actor}
-use Rattle.fr_base.specs.declared.request.Actor.TheVariants.{Integrator, Supplier}
+use Rattle.fr_base.specs.declared.actor.Actor.{Actor}
+use Rattle.fr_base.specs.declared.actor.Actor.TheVariants.{Integrator, Supplier}
 use Rattle.fr_base.specs.declared.request.Ask.{Ask}
 use Rattle.fr_base.specs.declared.request.Request.{Request}
 use Rattle.fr_base.specs.declared.request.Request.TheVariants.{OpenVariant, Release, AddNode, Grant, Revoke}
@@ -21,16 +22,13 @@ use Rattle.fr_base.specs.declared.request.Request.TheVariants.{OpenVariant, Rele
 
 -- a variant with the supplier's grants and frames alone; its parent, its depth and whether it is released are common to all
 unfoldable pub own_variant : Name → Variant → Variant
-own_variant s v = record v {
-  grants = only (λ _ h. held_by s (Some h)) v.grants;
-  frames = only (λ k _. is_of s k) v.frames;
-}
+own_variant s v = record v { grants = own_grants s v.grants; frames = own s v.frames }
 
 -- a supplier's rows of a book: itself with its key, its nodes, and all variants with its grants and frames
 unfoldable pub rows_of : Name → Book → Book
 rows_of s b = record {
   suppliers = only (λ t _. same_text t s) b.suppliers;
-  nodes = only (λ k _. is_of s k) b.nodes;
+  nodes = own s b.nodes;
   variants = each (own_variant s) b.variants;
 }
 
@@ -110,17 +108,8 @@ abbrev pub is_another : Name → Option Holder → Bool
 is_another s None = false
 is_another s (Some h) = not (same_text h.supplier s)
 
--- what refuses an integrator's request beside other suppliers, where it is done in the register of the supplier alone:
--- a Grant is Taken where another supplier holds slot and channel, and nothing else is refused
-abbrev pub refused_beside : Name → Book → Request → Option Refusal
-refused_beside s b (Grant v k channel t n) = if is_another s (holder_at b v k channel) then Some Taken else None
-refused_beside s b _ = None
-
-abbrev pub done_unless : Option Refusal → Answer
-done_unless None = Done
-done_unless (Some e) = Refused e
-
--- the answer beside other suppliers, from the answer in the register of the supplier alone
-abbrev pub beside : Name → Book → Answer → Request → Answer
-beside s b Done request = done_unless (refused_beside s b request)
-beside s b answer request = answer
+-- The answer beside other suppliers, from the answer in the register of the supplier alone: a Grant that is done there is
+-- Taken where another supplier holds slot and channel; all else is answered alike.
+abbrev pub beside : Name → Book → Request → Answer → Answer
+beside s b (Grant v slot channel t n) Done = if is_another s (holder_at b v slot channel) then Refused Taken else Done
+beside s b request answer = answer

@@ -1,12 +1,13 @@
 -- The register's rows, over all suppliers.
 use Rattle.std.specs.Prelude.{ℕ, Bool, false, ◌&&◌, List, map, Option, Some, None, ⊤}
 use Rattle.std.specs.List.{flat_map, list_all}
-use Rattle.fr_base.specs.Tables.{Table, empty, get, from_rows}
+use Rattle.fr_base.specs.Tables.{Table, empty, get, only, from_rows}
 use Rattle.fr_base.specs.Keys.{names, owned, channel_slots, placement_order}
 use Rattle.fr_base.specs.Cells.{Cell}
 use Rattle.fr_base.specs.Channels.{channels_in}
 use Rattle.fr_base.specs.Schedule.{fill}
-use Rattle.fr_base.specs.Cluster.{Cluster, same_text}
+use Rattle.fr_base.specs.Cluster.{Cluster}
+use Rattle.fr_base.specs.Names.{same_text}
 use Rattle.fr_base.specs.Signals.{SignalData}
 use Rattle.fr_base.specs.declared.key.Key.{Key}
 use Rattle.fr_base.specs.declared.name.Name.{Name}
@@ -42,9 +43,13 @@ pub record Book : Type 0 where
 unfoldable pub empty_variant : Variant
 empty_variant = record { parent = None; depth = 1; released = false; grants = empty; frames = empty }
 
+-- the cluster file's suppliers with their keys
+unfoldable pub suppliers_of : Cluster → Table names Key
+suppliers_of c = from_rows (map (λ s. (s.name, s.key)) c.suppliers)
+
 -- the book of a register that was just made: the cluster file's suppliers, and nothing else
 unfoldable pub opening : Cluster → Book
-opening c = record { suppliers = from_rows (map (λ s. (s.name, s.key)) c.suppliers); nodes = empty; variants = empty }
+opening c = record { suppliers = suppliers_of c; nodes = empty; variants = empty }
 
 -- whether slot and channel are held by this supplier
 abbrev pub held_by : Name → Option Holder → Bool
@@ -59,6 +64,22 @@ held_by_node s n (Some h) = same_text h.supplier s && same_text h.node n
 -- whether the supplier's node holds the placement's slot on each of its channels
 unfoldable pub granted : Table channel_slots Holder → Name → Name → Placement → Bool
 granted grants s n q = list_all (λ c. held_by_node s n (get grants (q.slot, c))) (channels_in q.channels)
+
+-- ---- one supplier's own
+
+-- whether a row under this key is the supplier's
+abbrev pub is_of : Name → Name × Name → Bool
+is_of s k = same_text k.0 s
+
+-- the supplier's own nodes, or frames
+abbrev pub own : {V : Type 0} → Name → Table owned V → Table owned V
+own s table = only (λ k _. is_of s k) table
+
+-- the grants that the supplier holds
+abbrev pub own_grants : Name → Table channel_slots Holder → Table channel_slots Holder
+own_grants s grants = only (λ _ h. held_by s (Some h)) grants
+
+-- ---- who sends in which cell
 
 -- the frame that is sent in a cell: its supplier, its name, and its node
 pub record Owner : Type 0 where

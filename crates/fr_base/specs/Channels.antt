@@ -1,6 +1,6 @@
 -- The two channels, their texts, and which of them a cluster has or a frame is sent on.
 use Rattle.std.specs.Prelude.{ℕ, Bool, true, false, List, [], ◌∷◌, codes, Option, Some, None, if◌then◌else◌}
-use Rattle.std.specs.Str.{bytes_eq}
+use Rattle.fr_base.specs.Names.{same_text}
 use Rattle.fr_base.specs.declared.channel.Channel.{Channel}
 use Rattle.fr_base.specs.declared.channel.Channel.TheVariants as channel
 use Rattle.fr_base.specs.declared.channel.Channels.{Channels}
@@ -45,14 +45,14 @@ text_of_channels channels.B = codes "B"
 -- the channel of this text
 abbrev pub channel_of_text : List ℕ → Option Channel
 channel_of_text text =
-    if bytes_eq text (codes "A") then Some channel.A
-    else if bytes_eq text (codes "B") then Some channel.B
+    if same_text text (codes "A") then Some channel.A
+    else if same_text text (codes "B") then Some channel.B
     else None
 
 -- the channels of this text
 abbrev pub channels_of_text : List ℕ → Option Channels
 channels_of_text text =
-    if bytes_eq text (codes "A") then Some channels.A
-    else if bytes_eq text (codes "AB") then Some channels.AB
-    else if bytes_eq text (codes "B") then Some channels.B
+    if same_text text (codes "A") then Some channels.A
+    else if same_text text (codes "AB") then Some channels.AB
+    else if same_text text (codes "B") then Some channels.B
     else None

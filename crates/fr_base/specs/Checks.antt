@@ -13,11 +13,14 @@ use Rattle.fr_base.specs.declared.params.Params.{Params}
 use Rattle.fr_base.specs.declared.placement.Placement.{Placement}
 use Rattle.fr_base.specs.declared.refusal.Refusal.{Refusal}
 use Rattle.fr_base.specs.declared.refusal.Refusal.TheVariants.{NotYours, BadName, BadCycles, BadSlot, BadChannel, BadSignal}
-use Rattle.fr_base.specs.declared.request.Actor.{Actor}
-use Rattle.fr_base.specs.declared.request.Actor.TheVariants.{Integrator, Supplier}
+use Rattle.fr_base.specs.declared.actor.Actor.{Actor}
+use Rattle.fr_base.specs.declared.actor.Actor.TheVariants.{Integrator, Supplier}
 use Rattle.fr_base.specs.declared.request.Request.{Request}
 use Rattle.fr_base.specs.declared.request.Request.TheVariants as request
-use Rattle.fr_base.specs.declared.request.Command.TheVariants.{OpenVariant, Release, AddNode, Grant, Revoke, AddFrame, DropFrame, Place, Unplace, AddSignal, DropSignal}
+use Rattle.fr_base.specs.declared.request.Command.TheVariants.{Common, AddNode, Rows}
+use Rattle.fr_base.specs.declared.request.CommonCommand.TheVariants.{OpenVariant, Release}
+use Rattle.fr_base.specs.declared.request.Change.TheVariants.{Grant, Revoke, Frame}
+use Rattle.fr_base.specs.declared.request.FrameChange.TheVariants.{Add, Drop, Place, Unplace, AddSignal, DropSignal}
 use Rattle.fr_base.specs.declared.request.Query.TheVariants.{Grants, Frames, Schedule, Gaps, Layout}
 use Rattle.fr_base.specs.declared.request.Checked.{Checked}
 use Rattle.fr_base.specs.declared.request.Checked.TheVariants as checked
@@ -25,6 +28,11 @@ use Rattle.fr_base.specs.declared.request.Checked.TheVariants as checked
 abbrev pub is_integrator : Actor → Bool
 is_integrator Integrator = true
 is_integrator (Supplier s) = false
+
+-- the supplier that asks; the integrator may not ask this
+unfoldable pub asking : Actor → Result Name Refusal
+asking Integrator = Err NotYours
+asking (Supplier s) = Ok s
 
 -- a text that is a name
 unfoldable pub name : List ℕ → Result Name Refusal
@@ -81,11 +89,11 @@ check p actor (request.OpenVariant variant parent) = do
   refuse NotYours when not (is_integrator actor)
   v ← name variant
   from ← parent_name parent
-  Ok (checked.Command (OpenVariant v from))
+  Ok (checked.Command (Common (OpenVariant v from)))
 check p actor (request.Release variant) = do
   refuse NotYours when not (is_integrator actor)
   v ← name variant
-  Ok (checked.Command (Release v))
+  Ok (checked.Command (Common (Release v)))
 check p actor (request.AddNode supplier node) = do
   refuse NotYours when not (is_integrator actor)
   s ← name supplier
@@ -98,50 +106,50 @@ check p actor (request.Grant variant number text supplier node) = do
   n ← name node
   k ← slot p number
   c ← channel p text
-  Ok (checked.Command (Grant v k c s n))
+  Ok (checked.Command (Rows s v (Grant k c n)))
 check p actor (request.Revoke variant number text supplier) = do
   refuse NotYours when not (is_integrator actor)
   v ← name variant
   s ← name supplier
   k ← slot p number
   c ← channel p text
-  Ok (checked.Command (Revoke v k c s))
+  Ok (checked.Command (Rows s v (Revoke k c)))
 check p actor (request.AddFrame variant frame node) = do
-  refuse NotYours when is_integrator actor
+  s ← asking actor
   v ← name variant
   f ← name frame
   n ← name node
-  Ok (checked.Command (AddFrame v f n))
+  Ok (checked.Command (Rows s v (Frame f (Add n))))
 check p actor (request.DropFrame variant frame) = do
-  refuse NotYours when is_integrator actor
+  s ← asking actor
   v ← name variant
   f ← name frame
-  Ok (checked.Command (DropFrame v f))
+  Ok (checked.Command (Rows s v (Frame f Drop)))
 check p actor (request.Place variant frame number text base repetition) = do
-  refuse NotYours when is_integrator actor
+  s ← asking actor
   v ← name variant
   f ← name frame
   q ← placement p number text base repetition
-  Ok (checked.Command (Place v f q))
+  Ok (checked.Command (Rows s v (Frame f (Place q))))
 check p actor (request.Unplace variant frame number text base repetition) = do
-  refuse NotYours when is_integrator actor
+  s ← asking actor
   v ← name variant
   f ← name frame
   q ← placement p number text base repetition
-  Ok (checked.Command (Unplace v f q))
+  Ok (checked.Command (Rows s v (Frame f (Unplace q))))
 check p actor (request.AddSignal variant frame named start length text) = do
-  refuse NotYours when is_integrator actor
+  s ← asking actor
   v ← name variant
   f ← name frame
   n ← name named
-  s ← signal n start length text
-  Ok (checked.Command (AddSignal v f s))
+  x ← signal n start length text
+  Ok (checked.Command (Rows s v (Frame f (AddSignal x))))
 check p actor (request.DropSignal variant frame named) = do
-  refuse NotYours when is_integrator actor
+  s ← asking actor
   v ← name variant
   f ← name frame
   n ← name named
-  Ok (checked.Command (DropSignal v f n))
+  Ok (checked.Command (Rows s v (Frame f (DropSignal n))))
 check p actor (request.Grants variant) = do
   v ← name variant
   Ok (checked.Query (Grants v))

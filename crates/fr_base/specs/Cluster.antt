@@ -1,9 +1,11 @@
 -- What a cluster file says.
-use Rattle.std.specs.Prelude.{ℕ, Bool, true, not, ◌&&◌, List, [], ◌∷◌, map, length, nat_le}
-use Rattle.std.specs.List.{list_any}
-use Rattle.std.specs.Ordering.{nat_cmp, is_lt, is_eq}
+use Rattle.std.specs.Prelude.{◌≡◌, ℕ, Bool, true, not, ◌&&◌, List, [], ◌∷◌, map, length, nat_le, Ok, IsTrue}
+use Rattle.std.specs.List.{list_all, list_any}
+use Rattle.std.specs.Ordering.{nat_cmp, is_lt}
 use Rattle.std.specs.Cmp.Lexicographic.{slice_cmp}
-use Rattle.fr_base.specs.Limits.{max_suppliers}
+use Rattle.fr_base.specs.Names.{is_name, is_key, same_text}
+use Rattle.fr_base.specs.Parameters.{check_params}
+use Rattle.fr_base.specs.declared.limits.TheConstants.{MAX_SUPPLIERS}
 use Rattle.fr_base.specs.declared.params.RawParams.{RawParams}
 use Rattle.fr_base.specs.declared.config.Supplier.{Supplier}
 use Rattle.fr_base.specs.declared.key.Key.{Key}
@@ -14,7 +16,7 @@ pub record Cluster : Type 0 where
   pub integrator : Key
   pub suppliers : List Supplier
 
--- whether the text is before the names of the list
+-- whether the text is before the first of these names, if there is one
 abbrev pub is_before : List ℕ → List Supplier → Bool
 is_before name [] = true
 is_before name (s ∷ _) = is_lt (slice_cmp nat_cmp name s.name)
@@ -23,10 +25,6 @@ is_before name (s ∷ _) = is_lt (slice_cmp nat_cmp name s.name)
 abbrev pub names_rise : List Supplier → Bool
 names_rise [] = true
 names_rise (s ∷ rest) = is_before s.name rest && names_rise rest
-
--- whether the two texts are the same
-abbrev pub same_text : List ℕ → List ℕ → Bool
-same_text a b = is_eq (slice_cmp nat_cmp a b)
 
 -- no two of the keys are the same
 abbrev pub keys_differ : List Key → Bool
@@ -40,4 +38,12 @@ keys_of integrator suppliers = integrator ∷ map (λ s. s.key) suppliers
 -- at most 64 suppliers, in byte order of their names, no name twice, and no key twice
 unfoldable pub is_cluster : Key → List Supplier → Bool
 is_cluster integrator suppliers =
-    (nat_le (length suppliers) max_suppliers && names_rise suppliers) && keys_differ (keys_of integrator suppliers)
+    (nat_le (length suppliers) MAX_SUPPLIERS && names_rise suppliers) && keys_differ (keys_of integrator suppliers)
+
+-- what a cluster file gives: parameters without a fault, at most 64 suppliers in order, no name and no key twice, and each
+-- name and each key of its form
+pub record IsWellFormed (c : Cluster) : Type 0 where
+  pub params : check_params c.params ≡ Ok c.params
+  pub cluster : IsTrue (is_cluster c.integrator c.suppliers)
+  pub names : IsTrue (list_all (λ s. is_name s.name) c.suppliers)
+  pub keys : IsTrue (list_all is_key (keys_of c.integrator c.suppliers))

@@ -1,36 +1,25 @@
 -- Laws of the register. Each says of which books it is: any, or sound ones. `IsWellFormed c` is what reading a cluster file gives.
-use Rattle.std.specs.Prelude.{◌≡◌, List, Some, Ok, IsTrue, IsFalse}
-use Rattle.std.specs.List.{list_all}
-use Rattle.fr_base.specs.Tables.{get, contains}
-use Rattle.fr_base.specs.Cells.{Cell, cells_of, has_cell}
+use Rattle.std.specs.Prelude.{◌≡◌, ℕ, List, take, drop, Some, Ok, IsTrue, IsFalse}
+use Rattle.fr_base.specs.Tables.{get}
+use Rattle.fr_base.specs.Cells.{Cell, cells_of}
 use Rattle.fr_base.specs.Schedule.{first_taken}
 use Rattle.fr_base.specs.Checks.{check}
-use Rattle.fr_base.specs.Cluster.{Cluster, is_cluster, keys_of}
-use Rattle.fr_base.specs.Parameters.{check_params}
-use Rattle.fr_base.specs.Names.{is_name, is_key}
+use Rattle.fr_base.specs.Cluster.{Cluster, IsWellFormed}
 use Rattle.fr_base.specs.Book.{Frame, Variant, Book, opening, granted, schedule_of}
 use Rattle.fr_base.specs.Queries.{variant_asked}
 use Rattle.fr_base.specs.Step.{step}
 use Rattle.fr_base.specs.Run.{IsRun}
-use Rattle.fr_base.specs.Sound.{IsSound}
+use Rattle.fr_base.specs.Sound.{IsSent, IsSound}
 use Rattle.fr_base.specs.Alone.{own_variant, rows_of, own_sender, concerns, is_mine, asks_of, answers_of, alone, answers_to, book_after, beside}
 use Rattle.fr_base.specs.declared.answer.Answer.{Answer}
 use Rattle.fr_base.specs.declared.name.Name.{Name}
 use Rattle.fr_base.specs.declared.placement.Placement.{Placement}
-use Rattle.fr_base.specs.declared.request.Actor.{Actor}
-use Rattle.fr_base.specs.declared.request.Actor.TheVariants.{Integrator}
+use Rattle.fr_base.specs.declared.actor.Actor.{Actor}
+use Rattle.fr_base.specs.declared.actor.Actor.TheVariants.{Integrator}
 use Rattle.fr_base.specs.declared.request.Ask.{Ask}
 use Rattle.fr_base.specs.declared.request.Request.{Request}
 use Rattle.fr_base.specs.declared.request.Query.{Query}
 use Rattle.fr_base.specs.declared.request.Checked.TheVariants as checked
-
--- what a cluster file gives: parameters without a fault, at most 64 suppliers in order, no name and no key twice, and each
--- name and each key of its form
-pub record IsWellFormed (c : Cluster) : Type 0 where
-  pub params : check_params c.params ≡ Ok c.params
-  pub cluster : IsTrue (is_cluster c.integrator c.suppliers)
-  pub names : IsTrue (list_all (λ s. is_name s.name) c.suppliers)
-  pub keys : IsTrue (list_all is_key (keys_of c.integrator c.suppliers))
 
 -- A new register is sound.
 abbrev pub OpeningIsSound : Type 0
@@ -38,18 +27,16 @@ OpeningIsSound = (c : Cluster) → IsWellFormed c → IsSound c (opening c)
 
 -- Whoever asks, and whatever is asked, done or refused: a sound book stays sound.
 abbrev pub StepKeepsSound : Type 0
-StepKeepsSound = (c : Cluster) (b : Book) (actor : Actor) (request : Request) → IsWellFormed c → IsSound c b → IsSound c (step c b actor request).book
+StepKeepsSound = (c : Cluster) (b : Book) (actor : Actor) (request : Request) → IsSound c b → IsSound c (step c b actor request).book
 
--- So after any number of requests, in any order, a book that was sound is sound. Each front of a run is a run, so the book is
--- sound at every point.
+-- So after any number of requests, in any order, a book that was sound is sound.
 abbrev pub RunKeepsSound : Type 0
-RunKeepsSound = (c : Cluster) (b last : Book) (asks : List Ask) (answers : List Answer) → IsWellFormed c → IsSound c b → IsRun c b asks answers last → IsSound c last
+RunKeepsSound = (c : Cluster) (b last : Book) (asks : List Ask) (answers : List Answer) → IsSound c b → IsRun c b asks answers last → IsSound c last
 
--- the supplier's frame under this key is sent in the cell, by this one of its placements
-pub record IsSent (v : Variant) (k : Name × Name) (f : Frame) (q : Placement) (cell : Cell) : Type 0 where
-  pub frame : get v.frames k ≡ Some f
-  pub placement : IsTrue (contains f.placements q)
-  pub has : IsTrue (has_cell q cell)
+-- And at every point: each front of a run is a run, to a sound book, and what is left of it is a run from there.
+abbrev pub RunIsSoundThroughout : Type 0
+RunIsSoundThroughout = (c : Cluster) (b last : Book) (asks : List Ask) (answers : List Answer) (n : ℕ) → IsSound c b → IsRun c b asks answers last →
+    (mid : Book) × IsSound c mid × IsRun c b (take n asks) (take n answers) mid × IsRun c mid (drop n asks) (drop n answers) last
 
 -- In a cycle, slot and channel of a variant at most one frame is sent, of all frames of all suppliers, and by one of its
 -- placements alone.
@@ -117,7 +104,7 @@ StepsAreARun = (c : Cluster) (b : Book) (asks : List Ask) → IsRun c b asks (an
 -- commands among them, and ends with the supplier's rows.
 abbrev pub RunIsAlone : Type 0
 RunIsAlone = (c : Cluster) (b last : Book) (asks : List Ask) (answers : List Answer) (s : Name) →
-    IsWellFormed c → IsSound c b → IsRun c b asks answers last →
+    IsSound c b → IsRun c b asks answers last →
     (answers_to (alone s c) (rows_of s b) (asks_of s asks answers) ≡ answers_of s asks answers)
     × (book_after (alone s c) (rows_of s b) (asks_of s asks answers) ≡ rows_of s last)
 
@@ -125,7 +112,7 @@ RunIsAlone = (c : Cluster) (b last : Book) (asks : List Ask) (answers : List Ans
 -- the same answers and end with the same rows of the supplier, whatever else is in them and whatever else is asked.
 abbrev pub EqualViews : Type 0
 EqualViews = (c : Cluster) (b d last end : Book) (asks others : List Ask) (answers replies : List Answer) (s : Name) →
-    IsWellFormed c → IsSound c b → IsSound c d → IsRun c b asks answers last → IsRun c d others replies end →
+    IsSound c b → IsSound c d → IsRun c b asks answers last → IsRun c d others replies end →
     rows_of s b ≡ rows_of s d → asks_of s asks answers ≡ asks_of s others replies →
     (answers_of s asks answers ≡ answers_of s others replies) × (rows_of s last ≡ rows_of s end)
 
@@ -134,4 +121,4 @@ EqualViews = (c : Cluster) (b d last end : Book) (asks others : List Ask) (answe
 -- register accepts is Taken exactly where another supplier holds slot and channel in the variant.
 abbrev pub OneDependence : Type 0
 OneDependence = (c : Cluster) (b : Book) (s : Name) (request : Request) → IsTrue (concerns s request) →
-    (step c b Integrator request).answer ≡ beside s b (step (alone s c) (rows_of s b) Integrator request).answer request
+    (step c b Integrator request).answer ≡ beside s b request (step (alone s c) (rows_of s b) Integrator request).answer

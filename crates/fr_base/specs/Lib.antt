@@ -6,15 +6,16 @@ pub mod FixedText
 pub mod Names
 pub mod Channels
 pub mod Cycles
+pub mod Orders
 pub mod Keys
 pub mod Parameters
-pub mod Limits
 pub mod Cluster
 pub mod Refusals
 pub mod Signals
 pub mod Bits
 pub mod Layouts
 pub mod Checks
+pub mod ImportRows
 pub mod Cells
 pub mod Schedule
 pub mod Moments

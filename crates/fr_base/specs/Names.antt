@@ -1,6 +1,11 @@
--- What is a name, and what is a key.
+-- What a name is, what a key is, and when two texts are the same.
 use Rattle.std.specs.Prelude.{ℕ, Bool, false, ◌&&◌, ◌||◌, ◌==◌, List, [], ◌∷◌, length, nat_le}
 use Rattle.std.specs.List.{list_all}
+use Rattle.std.specs.Str.{bytes_eq}
+
+-- whether the two texts are the same, byte by byte
+abbrev pub same_text : List ℕ → List ℕ → Bool
+same_text a b = bytes_eq a b
 
 -- `A` to `Z` and `a` to `z`
 abbrev pub is_letter : ℕ → Bool

@@ -1,6 +1,7 @@
 -- Which parameters make a cluster, and why others do not.
 use Rattle.std.specs.Prelude.{ℕ, ◌+◌, ◌*◌, ◌==◌, ◌||◌, not, nat_lt, List, codes, Result, Ok}
 use Rattle.fr_base.specs.Refusing.{◌>>◌, refuse◌when◌}
+use Rattle.fr_base.specs.declared.limits.TheConstants.{MAX_PAYLOAD_WORDS}
 use Rattle.fr_base.specs.declared.params.RawParams.{RawParams}
 use Rattle.fr_base.specs.declared.params.ParamFault.{ParamFault}
 use Rattle.fr_base.specs.declared.params.ParamFault.TheVariants.{BadSlots, BadPayload, BadMacroticks, BadSum}
@@ -13,7 +14,7 @@ segments p = p.static_slots * p.slot_macroticks + p.dynamic_macroticks + p.symbo
 unfoldable pub check_params : RawParams → Result RawParams ParamFault
 check_params p = do
   refuse BadSlots when (nat_lt p.static_slots 2 || nat_lt 1023 p.static_slots)
-  refuse BadPayload when (nat_lt 127 p.payload_words)
+  refuse BadPayload when (nat_lt MAX_PAYLOAD_WORDS p.payload_words)
   refuse BadMacroticks when ((p.slot_macroticks == 0) || (p.idle_macroticks == 0) || nat_lt 16000 p.macroticks_per_cycle)
   refuse BadSum when (not (segments p == p.macroticks_per_cycle))
   Ok p

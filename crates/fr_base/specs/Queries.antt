@@ -1,5 +1,5 @@
 -- What a query shows of a variant.
-use Rattle.std.specs.Prelude.{ℕ, ◌==◌, Bool, true, List, map, Result, Ok}
+use Rattle.std.specs.Prelude.{ℕ, ◌==◌, Bool, List, map, Result, Ok}
 use Rattle.std.specs.List.{flat_map}
 use Rattle.fr_base.specs.Refusing.{◌>>=◌, ◌>>◌, ◌or◌, refuse◌when◌}
 use Rattle.fr_base.specs.Tables.{Table, get, len, only}
@@ -8,8 +8,8 @@ use Rattle.fr_base.specs.Cells.{Cell, cluster_cells}
 use Rattle.fr_base.specs.Schedule.{entries}
 use Rattle.fr_base.specs.Moments.{greatest_gap}
 use Rattle.fr_base.specs.Checks.{is_integrator}
-use Rattle.fr_base.specs.Cluster.{same_text}
-use Rattle.fr_base.specs.Book.{Holder, Frame, Variant, Book, Owner, schedule_of}
+use Rattle.fr_base.specs.Names.{same_text}
+use Rattle.fr_base.specs.Book.{Holder, Frame, Variant, Book, Owner, own, own_grants, schedule_of}
 use Rattle.fr_base.specs.declared.channel.Channel.{Channel}
 use Rattle.fr_base.specs.declared.name.Name.{Name}
 use Rattle.fr_base.specs.declared.params.Params.{Params}
@@ -23,23 +23,20 @@ use Rattle.fr_base.specs.declared.answer.GapRow.{GapRow}
 use Rattle.fr_base.specs.declared.answer.SignalRow.{SignalRow}
 use Rattle.fr_base.specs.declared.refusal.Refusal.{Refusal}
 use Rattle.fr_base.specs.declared.refusal.Refusal.TheVariants.{NoVariant, NoFrame}
-use Rattle.fr_base.specs.declared.request.Actor.{Actor}
-use Rattle.fr_base.specs.declared.request.Actor.TheVariants.{Integrator, Supplier}
+use Rattle.fr_base.specs.declared.actor.Actor.{Actor}
+use Rattle.fr_base.specs.declared.actor.Actor.TheVariants.{Integrator, Supplier}
 use Rattle.fr_base.specs.declared.request.Query.{Query}
 use Rattle.fr_base.specs.declared.request.Query.TheVariants.{Grants, Frames, Schedule, Gaps, Layout}
 
--- whether the actor sees the rows of this supplier: its own, and the integrator those of all
-abbrev pub sees : Actor → Name → Bool
-sees Integrator t = true
-sees (Supplier s) t = same_text t s
-
--- the grants that the actor sees
-abbrev pub seen_grants : Actor → Variant → Table channel_slots Holder
-seen_grants actor variant = only (λ _ h. sees actor h.supplier) variant.grants
+-- the grants that the actor sees: a supplier its own, the integrator those of all
+abbrev pub seen_grants : Actor → Table channel_slots Holder → Table channel_slots Holder
+seen_grants Integrator grants = grants
+seen_grants (Supplier s) grants = own_grants s grants
 
 -- the frames that the actor sees
-abbrev pub seen_frames : Actor → Variant → Table owned Frame
-seen_frames actor variant = only (λ k _. sees actor k.0) variant.frames
+abbrev pub seen_frames : Actor → Table owned Frame → Table owned Frame
+seen_frames Integrator frames = frames
+seen_frames (Supplier s) frames = own s frames
 
 -- a frame's placements, in order
 abbrev pub placements_in : Frame → List Placement
@@ -91,13 +88,13 @@ signals_of frames = flat_map signal_rows frames.rows
 
 -- what the actor is shown of the variant
 unfoldable pub shown : Params → Actor → Variant → Query → Result Answer Refusal
-shown p actor variant (Grants v) = Ok (answer.Grants (is_integrator actor) (grants_of (seen_grants actor variant)))
-shown p actor variant (Frames v) = Ok (answer.Frames (is_integrator actor) (frames_of (seen_frames actor variant)))
-shown p actor variant (Schedule v) = Ok (answer.Schedule (is_integrator actor) (sendings_of p (seen_frames actor variant)))
-shown p actor variant (Gaps v) = Ok (answer.Gaps (is_integrator actor) (gaps_of p (seen_frames actor variant)))
+shown p actor variant (Grants v) = Ok (answer.Grants (is_integrator actor) (grants_of (seen_grants actor variant.grants)))
+shown p actor variant (Frames v) = Ok (answer.Frames (is_integrator actor) (frames_of (seen_frames actor variant.frames)))
+shown p actor variant (Schedule v) = Ok (answer.Schedule (is_integrator actor) (sendings_of p (seen_frames actor variant.frames)))
+shown p actor variant (Gaps v) = Ok (answer.Gaps (is_integrator actor) (gaps_of p (seen_frames actor variant.frames)))
 shown p actor variant (Layout v f) = do
-  refuse NoFrame when len (named f (seen_frames actor variant)) == 0
-  Ok (answer.Layout (is_integrator actor) (signals_of (named f (seen_frames actor variant))))
+  refuse NoFrame when len (named f (seen_frames actor variant.frames)) == 0
+  Ok (answer.Layout (is_integrator actor) (signals_of (named f (seen_frames actor variant.frames))))
 
 -- the variant that the query asks about
 abbrev pub variant_asked : Query → Name

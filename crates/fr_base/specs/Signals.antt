@@ -1,6 +1,6 @@
 -- Signals: named runs of payload bits.
 use Rattle.std.specs.Prelude.{ℕ, Bool, ◌&&◌, List, codes, nat_le, Option, Some, None, if◌then◌else◌}
-use Rattle.std.specs.Str.{bytes_eq}
+use Rattle.fr_base.specs.Names.{same_text}
 use Rattle.fr_base.specs.declared.signal.Order.{Order}
 use Rattle.fr_base.specs.declared.signal.Order.TheVariants.{Little, Big}
 
@@ -23,6 +23,6 @@ text_of_order Big = codes "big"
 -- the order of this text
 abbrev pub order_of_text : List ℕ → Option Order
 order_of_text text =
-    if bytes_eq text (codes "little") then Some Little
-    else if bytes_eq text (codes "big") then Some Big
+    if same_text text (codes "little") then Some Little
+    else if same_text text (codes "big") then Some Big
     else None

@@ -56,7 +56,12 @@ from_rows (e ∷ es) = insert (from_rows es) e.0 e.1
 unfoldable pub remove : {K V : Type 0} {o : Order K} → Table o V → K → Table o V
 remove {o = o} t k = only (λ j _. not (eq_by_cmp o.compare k j)) t
 
--- the table after what stands at a key became this, or is gone
-unfoldable pub becomes : {K V : Type 0} {o : Order K} → Table o V → K → Option V → Table o V
-becomes t k (Some v) = insert t k v
-becomes t k None = remove t k
+-- what becomes of a row: this value, or it is gone
+pub data Fate (V : Type 0) : Type 0 where
+  Becomes : V → Fate V
+  Gone : Fate V
+
+-- the table after this became of what stands at a key
+unfoldable pub settle : {K V : Type 0} {o : Order K} → Table o V → K → Fate V → Table o V
+settle t k (Becomes v) = insert t k v
+settle t k Gone = remove t k

@@ -1,20 +1,31 @@
-ghost use Rattle.std.specs.Prelude.{◌≡◌, find, IsTrue, IfSome};
+//! Who asks with which key.
+ghost use Rattle.std.specs.Prelude.{◌≡◌, find, IfSome, IsTrue};
 ghost use Rattle.std.specs.Option.{option_copied};
 ghost use Rattle.fr_base.specs.Actors.{actor_of};
-ghost use Rattle.fr_base.specs.Book.{opening};
-ghost use Rattle.fr_base.specs.Cluster.{same_text};
+ghost use Rattle.fr_base.specs.Book.{Book, suppliers_of};
+ghost use Rattle.fr_base.specs.Names.{same_text};
 ghost use Rattle.fr_base.specs.Step.{knows};
 
 use crate::config::{Config, Supplier};
 use crate::key::Key;
-use crate::request::Actor;
+use crate::name::Name;
+
+/// Who asks: the vehicle's integrator, or one of its suppliers.
+#[derive(Clone, Copy, Debug, PartialEq, Eq)]
+pub enum Actor {
+    /// The integrator, who opens variants, adds nodes and grants slots.
+    Integrator,
+    /// A supplier, who places its frames in the slots granted to its nodes.
+    Supplier(Name),
+}
 
 impl Config {
-    /// Who asks with this key: the integrator, a supplier, or nobody.
+    /// Who asks with this key, where the register's suppliers are the cluster file's: the integrator,
+    /// a supplier, or nobody.
     #[tactic(auto, unfolding(crate::specs::Actors::actor_of))]
     pub fn actor_of(&self, key: &[u8]) -> Option<Actor>
-        ensures value { result ≡ actor_of self.now key.now }
-        ensures known { IfSome result (λ actor. IsTrue (knows (opening self.now) actor)) }
+        ensures value { (b : Book) → b.suppliers ≡ suppliers_of self.now → result ≡ actor_of self.now b key.now }
+        ensures known { (b : Book) → b.suppliers ≡ suppliers_of self.now → IfSome result (λ actor. IsTrue (knows b actor)) }
     {
         if is_text_of(&self.integrator(), key) {
             return Some(Actor::Integrator);
@@ -33,12 +44,8 @@ fn supplier_of<'a>(suppliers: &'a [Supplier], key: &[u8]) -> Option<&'a Supplier
 }
 
 // Whether the bytes are the key's.
-#[tactic(auto, using(crate::proofs::ActorsLemmas::same_bytes))]
 fn is_text_of(key: &Key, bytes: &[u8]) -> bool
     ensures { result ≡ same_text key.now bytes.now }
 {
     key.as_str().as_bytes() == bytes
 }
-
-#[cfg(test)]
-mod tests;

@@ -1,3 +1,4 @@
+//! What a request is answered, and the rows of each report.
 use crate::channel::Channel;
 use crate::name::Name;
 use crate::placement::Placement;

@@ -1,8 +1,10 @@
+//! An import's file, as it was sent.
 ghost use Rattle.std.specs.Prelude.{nat_eq};
 ghost use Rattle.std.specs.Cmp.Lexicographic.{pointwise, nat_list_eq_equiv};
 ghost use Rattle.std.specs.Cmp.{partial_equiv_from_equiv};
 
-use std::alloc::{AllocError, Global};
+use crate::NoMemory;
+use std::alloc::Global;
 use std::marker::Model;
 
 /// The bytes of an import, as they were sent.
@@ -23,7 +25,7 @@ impl Body {
     ghost use Rattle.std.specs.Prelude.{◌≡◌, IfOk};
 
     /// A body of its own with the same bytes.
-    pub fn copy(alloc: Global, bytes: &[u8]) -> Result<Body, AllocError>
+    pub fn copy(alloc: Global, bytes: &[u8]) -> Result<Body, NoMemory>
         ensures { IfOk result (λ b. b ≡ bytes.now) }
     {
         let mut copy = Vec::new(alloc);

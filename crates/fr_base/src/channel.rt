@@ -1,5 +1,6 @@
+//! The two channels of a cluster.
 ghost use Rattle.std.specs.Prelude.{◌≡◌};
-ghost use Rattle.fr_base.specs.Channels.{channel_of_text, channels_of_text, text_of_channel, text_of_channels, has_channel};
+ghost use Rattle.fr_base.specs.Channels.{channel_of_text, channels_in, channels_of_text, text_of_channel, text_of_channels, has_channel};
 
 /// One of the two channels of a FlexRay cluster. In one slot a node may send the same or different data
 /// on A and B (FlexRay Protocol Specification 2.1 Rev. A, chapter 5, media access control).
@@ -70,6 +71,17 @@ impl Channels {
         }
     }
 
+    /// The channels, A before B.
+    pub fn as_slice(self) -> &'static [Channel]
+        ensures { result.now ≡ channels_in self }
+    {
+        match self {
+            Channels::A => &[Channel::A],
+            Channels::AB => &[Channel::A, Channel::B],
+            Channels::B => &[Channel::B],
+        }
+    }
+
     /// Whether the channel is one of them.
     pub fn has(self, channel: Channel) -> bool
         ensures { result ≡ has_channel self channel }
@@ -79,46 +91,5 @@ impl Channels {
             Channels::AB => true,
             Channels::B => channel == Channel::B,
         }
-    }
-}
-
-#[cfg(test)]
-mod tests {
-    use super::{Channel, Channels};
-
-    #[test]
-    fn reads_and_writes(rt: HostRuntime) {
-        assert_eq!(rt; Channel::read("A"), Some(Channel::A));
-        assert_eq!(rt; Channel::read("B"), Some(Channel::B));
-        assert_eq!(rt; Channel::A.as_str(), "A");
-        assert_eq!(rt; Channel::B.as_str(), "B");
-        for text in ["", "a", "AB", "C", "A "] {
-            assert_eq!(rt; Channel::read(text), None, "{text}");
-        }
-        for (text, channels) in [("A", Channels::A), ("AB", Channels::AB), ("B", Channels::B)] {
-            assert_eq!(rt; Channels::read(text), Some(channels));
-            assert_eq!(rt; channels.as_str(), text);
-        }
-        for text in ["", "ab", "BA", "AA", "AB\n"] {
-            assert_eq!(rt; Channels::read(text), None, "{text}");
-        }
-    }
-
-    #[test]
-    fn has(rt: HostRuntime) {
-        for (channels, a, b) in [
-            (Channels::A, true, false),
-            (Channels::AB, true, true),
-            (Channels::B, false, true),
-        ] {
-            assert_eq!(rt; channels.has(Channel::A), a);
-            assert_eq!(rt; channels.has(Channel::B), b);
-        }
-    }
-
-    #[test]
-    fn orders(rt: HostRuntime) {
-        assert!(rt; Channel::A < Channel::B);
-        assert!(rt; Channels::A < Channels::AB && Channels::AB < Channels::B);
     }
 }

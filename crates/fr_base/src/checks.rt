@@ -1,78 +1,85 @@
-ghost use Rattle.std.specs.Prelude.{◌≡◌};
+//! What a request says by itself: checked values, or the first refusal that needs no register.
+ghost use Rattle.std.specs.Prelude.{◌≡◌, not};
 ghost use Rattle.std.specs.List.{list_all};
 ghost use Rattle.fr_base.specs.Channels.{channels_in, has_channel};
-ghost use Rattle.fr_base.specs.Checks.{check, name, cycles, slot, channel, channels, placement, signal, parent_name};
-ghost use Rattle.fr_base.specs.declared.name.Name.{Name};
-ghost use Rattle.fr_base.specs.declared.params.Params.{Params};
+ghost use Rattle.fr_base.specs.Refusing.{refuse◌when◌};
+ghost use Rattle.fr_base.specs.Checks.{asking, is_integrator, check, name, cycles, slot, channel, channels, placement, signal, parent_name};
 
+use crate::actor::Actor;
 use crate::channel::{Channel, Channels};
 use crate::cycles::CycleSet;
 use crate::name::Name;
 use crate::params::Params;
 use crate::placement::Placement;
 use crate::refusal::Refusal;
-use crate::request::{Actor, Checked, Command, Query, Request};
+use crate::request::{Change, Checked, Command, CommonCommand, FrameChange, Query, Request};
 use crate::signal::{Order, Signal};
 use crate::slot::Slot;
 use crate::text::Text;
 
 /// The request with checked values, or the first refusal that it meets by itself, whatever the
 /// register holds: `NotYours`, `BadName`, `BadCycles`, `BadSlot`, `BadChannel`, `BadSignal`, in this order.
+#[tactic(auto, unfolding(crate::proofs::ChecksLemmas::checks_open))]
 pub fn check(params: &Params, actor: &Actor, request: &Request) -> Result<Checked, Refusal>
     ensures { result ≡ check params.now actor.now request.now }
 {
-    match actor {
-        Actor::Integrator => check_from_integrator(params, request),
-        Actor::Supplier(_) => check_from_supplier(params, request),
-    }
-}
-
-// The integrator's request.
-fn check_from_integrator(params: &Params, request: &Request) -> Result<Checked, Refusal>
-    ensures { result ≡ check params.now Actor.Integrator request.now }
-{
     match request {
-        Request::OpenVariant { variant, parent } => open_variant(variant, parent),
-        Request::Release { variant } => release(variant),
-        Request::AddNode { supplier, node } => add_node(supplier, node),
+        Request::OpenVariant { variant, parent } => {
+            integrator(actor)?;
+            let (variant, parent) = (name(variant)?, parent_name(parent)?);
+            Ok(common(CommonCommand::OpenVariant { variant, parent }))
+        }
+        Request::Release { variant } => {
+            integrator(actor)?;
+            let variant = name(variant)?;
+            Ok(common(CommonCommand::Release { variant }))
+        }
+        Request::AddNode { supplier, node } => {
+            integrator(actor)?;
+            let (supplier, node) = (name(supplier)?, name(node)?);
+            Ok(Checked::Command(Command::AddNode { supplier, node }))
+        }
         Request::Grant {
             variant,
-            slot,
-            channel,
+            slot: number,
+            channel: text,
             supplier,
             node,
-        } => grant(params, variant, *slot, channel, supplier, node),
+        } => {
+            integrator(actor)?;
+            let (variant, supplier, node) = (name(variant)?, name(supplier)?, name(node)?);
+            let (slot, channel) = (slot(params, *number)?, channel(params, text)?);
+            let change = Change::Grant {
+                slot,
+                channel,
+                node,
+            };
+            Ok(rows(supplier, variant, change))
+        }
         Request::Revoke {
             variant,
-            slot,
-            channel,
+            slot: number,
+            channel: text,
             supplier,
-        } => revoke(params, variant, *slot, channel, supplier),
-        Request::AddFrame { .. }
-        | Request::DropFrame { .. }
-        | Request::Place { .. }
-        | Request::Unplace { .. }
-        | Request::AddSignal { .. }
-        | Request::DropSignal { .. } => Err(Refusal::NotYours),
-        Request::Grants { variant } => grants(variant),
-        Request::Frames { variant } => frames(variant),
-        Request::Schedule { variant } => schedule(variant),
-        Request::Gaps { variant } => gaps(variant),
-        Request::Layout { variant, frame } => layout(variant, frame),
-    }
-}
-
-// A supplier's request.
-fn check_from_supplier(params: &Params, request: &Request) -> Result<Checked, Refusal>
-    ensures { (s : Name) → result ≡ check params.now (Actor.Supplier s) request.now }
-{
-    match request {
+        } => {
+            integrator(actor)?;
+            let (variant, supplier) = (name(variant)?, name(supplier)?);
+            let (slot, channel) = (slot(params, *number)?, channel(params, text)?);
+            Ok(rows(supplier, variant, Change::Revoke { slot, channel }))
+        }
         Request::AddFrame {
             variant,
             frame,
             node,
-        } => add_frame(variant, frame, node),
-        Request::DropFrame { variant, frame } => drop_frame(variant, frame),
+        } => {
+            let (supplier, variant, frame) = (asking(actor)?, name(variant)?, name(frame)?);
+            let node = name(node)?;
+            Ok(of_frame(supplier, variant, frame, FrameChange::Add { node }))
+        }
+        Request::DropFrame { variant, frame } => {
+            let (supplier, variant, frame) = (asking(actor)?, name(variant)?, name(frame)?);
+            Ok(of_frame(supplier, variant, frame, FrameChange::Drop))
+        }
         Request::Place {
             variant,
             frame,
@@ -80,7 +87,11 @@ fn check_from_supplier(params: &Params, request: &Request) -> Result<Checked, Re
             channels,
             base,
             repetition,
-        } => place(params, variant, frame, *slot, channels, *base, *repetition),
+        } => {
+            let (supplier, variant, frame) = (asking(actor)?, name(variant)?, name(frame)?);
+            let placement = placement(params, *slot, channels, *base, *repetition)?;
+            Ok(of_frame(supplier, variant, frame, FrameChange::Place(placement)))
+        }
         Request::Unplace {
             variant,
             frame,
@@ -88,241 +99,100 @@ fn check_from_supplier(params: &Params, request: &Request) -> Result<Checked, Re
             channels,
             base,
             repetition,
-        } => unplace(params, variant, frame, *slot, channels, *base, *repetition),
+        } => {
+            let (supplier, variant, frame) = (asking(actor)?, name(variant)?, name(frame)?);
+            let placement = placement(params, *slot, channels, *base, *repetition)?;
+            Ok(of_frame(supplier, variant, frame, FrameChange::Unplace(placement)))
+        }
         Request::AddSignal {
             variant,
             frame,
-            signal,
+            signal: text,
             start,
             length,
             order,
-        } => add_signal(variant, frame, signal, *start, *length, order),
+        } => {
+            let (supplier, variant, frame) = (asking(actor)?, name(variant)?, name(frame)?);
+            let signal = signal(name(text)?, *start, *length, order)?;
+            Ok(of_frame(supplier, variant, frame, FrameChange::AddSignal(signal)))
+        }
         Request::DropSignal {
             variant,
             frame,
             signal,
-        } => drop_signal(variant, frame, signal),
-        Request::OpenVariant { .. }
-        | Request::Release { .. }
-        | Request::AddNode { .. }
-        | Request::Grant { .. }
-        | Request::Revoke { .. } => Err(Refusal::NotYours),
-        Request::Grants { variant } => grants(variant),
-        Request::Frames { variant } => frames(variant),
-        Request::Schedule { variant } => schedule(variant),
-        Request::Gaps { variant } => gaps(variant),
-        Request::Layout { variant, frame } => layout(variant, frame),
+        } => {
+            let (supplier, variant, frame) = (asking(actor)?, name(variant)?, name(frame)?);
+            let signal = name(signal)?;
+            Ok(of_frame(supplier, variant, frame, FrameChange::DropSignal(signal)))
+        }
+        Request::Grants { variant } => {
+            let variant = name(variant)?;
+            Ok(Checked::Query(Query::Grants { variant }))
+        }
+        Request::Frames { variant } => {
+            let variant = name(variant)?;
+            Ok(Checked::Query(Query::Frames { variant }))
+        }
+        Request::Schedule { variant } => {
+            let variant = name(variant)?;
+            Ok(Checked::Query(Query::Schedule { variant }))
+        }
+        Request::Gaps { variant } => {
+            let variant = name(variant)?;
+            Ok(Checked::Query(Query::Gaps { variant }))
+        }
+        Request::Layout { variant, frame } => {
+            let (variant, frame) = (name(variant)?, name(frame)?);
+            Ok(Checked::Query(Query::Layout { variant, frame }))
+        }
     }
 }
 
+// Whether the integrator asks.
 #[tactic(auto, unfolding(crate::proofs::ChecksLemmas::checks_open))]
-fn open_variant(variant: &Text, parent: &Option<Text>) -> Result<Checked, Refusal>
-    ensures { (p : Params) → result ≡ check p Actor.Integrator (Request.OpenVariant variant.now parent.now) }
+fn integrator(actor: &Actor) -> Result<(), Refusal>
+    ensures { result ≡ (refuse Refusal.NotYours when not (is_integrator actor.now)) }
 {
-    Ok(Checked::Command(Command::OpenVariant {
-        variant: name(variant)?,
-        parent: parent_name(parent)?,
-    }))
+    match actor {
+        Actor::Integrator => Ok(()),
+        Actor::Supplier(_) => Err(Refusal::NotYours),
+    }
 }
 
-#[tactic(auto, unfolding(crate::proofs::ChecksLemmas::checks_open))]
-fn release(variant: &Text) -> Result<Checked, Refusal>
-    ensures { (p : Params) → result ≡ check p Actor.Integrator (Request.Release variant.now) }
+// The command with checked values.
+fn common(command: CommonCommand) -> Checked
+    ensures { result ≡ Checked.Command (Command.Common command) }
 {
-    Ok(Checked::Command(Command::Release {
-        variant: name(variant)?,
-    }))
+    Checked::Command(Command::Common(command))
 }
 
-#[tactic(auto, unfolding(crate::proofs::ChecksLemmas::checks_open))]
-fn add_node(supplier: &Text, node: &Text) -> Result<Checked, Refusal>
-    ensures { (p : Params) → result ≡ check p Actor.Integrator
-        (Request.AddNode supplier.now node.now) }
+// The change of the supplier's rows in the variant.
+fn rows(supplier: Name, variant: Name, change: Change) -> Checked
+    ensures { result ≡ Checked.Command (Command.Rows supplier variant change) }
 {
-    Ok(Checked::Command(Command::AddNode {
-        supplier: name(supplier)?,
-        node: name(node)?,
-    }))
+    Checked::Command(Command::Rows {
+        supplier,
+        variant,
+        change,
+    })
 }
 
-#[tactic(auto, unfolding(crate::proofs::ChecksLemmas::checks_open))]
-fn grant(
-    params: &Params,
-    variant: &Text,
-    number: u32,
-    text: &Text,
-    supplier: &Text,
-    node: &Text,
-) -> Result<Checked, Refusal>
-    ensures { result ≡ check params.now Actor.Integrator
-        (Request.Grant variant.now number text.now supplier.now node.now) }
+// The change of the supplier's frame in the variant.
+fn of_frame(supplier: Name, variant: Name, frame: Name, change: FrameChange) -> Checked
+    ensures { result ≡ Checked.Command (Command.Rows supplier variant (Change.Frame frame change)) }
 {
-    Ok(Checked::Command(Command::Grant {
-        variant: name(variant)?,
-        supplier: name(supplier)?,
-        node: name(node)?,
-        slot: slot(params, number)?,
-        channel: channel(params, text)?,
-    }))
+    rows(supplier, variant, Change::Frame { frame, change })
 }
 
-#[tactic(auto, unfolding(crate::proofs::ChecksLemmas::checks_open))]
-fn revoke(
-    params: &Params,
-    variant: &Text,
-    number: u32,
-    text: &Text,
-    supplier: &Text,
-) -> Result<Checked, Refusal>
-    ensures { result ≡ check params.now Actor.Integrator
-        (Request.Revoke variant.now number text.now supplier.now) }
+// The supplier that asks.
+#[tactic(auto, unfolding(crate::specs::Checks::asking))]
+fn asking(actor: &Actor) -> Result<Name, Refusal>
+    ensures { result ≡ asking actor.now }
 {
-    Ok(Checked::Command(Command::Revoke {
-        variant: name(variant)?,
-        supplier: name(supplier)?,
-        slot: slot(params, number)?,
-        channel: channel(params, text)?,
-    }))
-}
-
-#[tactic(auto, unfolding(crate::proofs::ChecksLemmas::checks_open))]
-fn add_frame(variant: &Text, frame: &Text, node: &Text) -> Result<Checked, Refusal>
-    ensures { (p : Params) (s : Name) → result ≡ check p (Actor.Supplier s)
-        (Request.AddFrame variant.now frame.now node.now) }
-{
-    Ok(Checked::Command(Command::AddFrame {
-        variant: name(variant)?,
-        frame: name(frame)?,
-        node: name(node)?,
-    }))
-}
-
-#[tactic(auto, unfolding(crate::proofs::ChecksLemmas::checks_open))]
-fn drop_frame(variant: &Text, frame: &Text) -> Result<Checked, Refusal>
-    ensures { (p : Params) (s : Name) → result ≡ check p (Actor.Supplier s)
-        (Request.DropFrame variant.now frame.now) }
-{
-    Ok(Checked::Command(Command::DropFrame {
-        variant: name(variant)?,
-        frame: name(frame)?,
-    }))
-}
-
-#[tactic(auto, unfolding(crate::proofs::ChecksLemmas::checks_open))]
-fn place(
-    params: &Params,
-    variant: &Text,
-    frame: &Text,
-    number: u32,
-    text: &Text,
-    base: u32,
-    repetition: u32,
-) -> Result<Checked, Refusal>
-    ensures { (s : Name) → result ≡ check params.now (Actor.Supplier s)
-        (Request.Place variant.now frame.now number text.now base repetition) }
-{
-    Ok(Checked::Command(Command::Place {
-        variant: name(variant)?,
-        frame: name(frame)?,
-        placement: placement(params, number, text, base, repetition)?,
-    }))
-}
-
-#[tactic(auto, unfolding(crate::proofs::ChecksLemmas::checks_open))]
-fn unplace(
-    params: &Params,
-    variant: &Text,
-    frame: &Text,
-    number: u32,
-    text: &Text,
-    base: u32,
-    repetition: u32,
-) -> Result<Checked, Refusal>
-    ensures { (s : Name) → result ≡ check params.now (Actor.Supplier s)
-        (Request.Unplace variant.now frame.now number text.now base repetition) }
-{
-    Ok(Checked::Command(Command::Unplace {
-        variant: name(variant)?,
-        frame: name(frame)?,
-        placement: placement(params, number, text, base, repetition)?,
-    }))
-}
-
-#[tactic(auto, unfolding(crate::proofs::ChecksLemmas::checks_open))]
-fn add_signal(
-    variant: &Text,
-    frame: &Text,
-    named: &Text,
-    start: u32,
-    length: u32,
-    text: &Text,
-) -> Result<Checked, Refusal>
-    ensures { (p : Params) (s : Name) → result ≡ check p (Actor.Supplier s)
-        (Request.AddSignal variant.now frame.now named.now start length text.now) }
-{
-    Ok(Checked::Command(Command::AddSignal {
-        variant: name(variant)?,
-        frame: name(frame)?,
-        signal: signal(name(named)?, start, length, text)?,
-    }))
-}
-
-#[tactic(auto, unfolding(crate::proofs::ChecksLemmas::checks_open))]
-fn drop_signal(variant: &Text, frame: &Text, named: &Text) -> Result<Checked, Refusal>
-    ensures { (p : Params) (s : Name) → result ≡ check p (Actor.Supplier s)
-        (Request.DropSignal variant.now frame.now named.now) }
-{
-    Ok(Checked::Command(Command::DropSignal {
-        variant: name(variant)?,
-        frame: name(frame)?,
-        signal: name(named)?,
-    }))
-}
-
-#[tactic(auto, unfolding(crate::proofs::ChecksLemmas::checks_open))]
-fn grants(variant: &Text) -> Result<Checked, Refusal>
-    ensures { (p : Params) (a : Actor) → result ≡ check p a (Request.Grants variant.now) }
-{
-    Ok(Checked::Query(Query::Grants {
-        variant: name(variant)?,
-    }))
-}
-
-#[tactic(auto, unfolding(crate::proofs::ChecksLemmas::checks_open))]
-fn frames(variant: &Text) -> Result<Checked, Refusal>
-    ensures { (p : Params) (a : Actor) → result ≡ check p a (Request.Frames variant.now) }
-{
-    Ok(Checked::Query(Query::Frames {
-        variant: name(variant)?,
-    }))
-}
-
-#[tactic(auto, unfolding(crate::proofs::ChecksLemmas::checks_open))]
-fn schedule(variant: &Text) -> Result<Checked, Refusal>
-    ensures { (p : Params) (a : Actor) → result ≡ check p a (Request.Schedule variant.now) }
-{
-    Ok(Checked::Query(Query::Schedule {
-        variant: name(variant)?,
-    }))
-}
-
-#[tactic(auto, unfolding(crate::proofs::ChecksLemmas::checks_open))]
-fn gaps(variant: &Text) -> Result<Checked, Refusal>
-    ensures { (p : Params) (a : Actor) → result ≡ check p a (Request.Gaps variant.now) }
-{
-    Ok(Checked::Query(Query::Gaps {
-        variant: name(variant)?,
-    }))
-}
-
-#[tactic(auto, unfolding(crate::proofs::ChecksLemmas::checks_open))]
-fn layout(variant: &Text, frame: &Text) -> Result<Checked, Refusal>
-    ensures { (p : Params) (a : Actor) → result ≡ check p a (Request.Layout variant.now frame.now) }
-{
-    Ok(Checked::Query(Query::Layout {
-        variant: name(variant)?,
-        frame: name(frame)?,
-    }))
+    match actor {
+        Actor::Integrator => Err(Refusal::NotYours),
+        Actor::Supplier(supplier) => Ok(*supplier),
+    }
 }
 
 // The name that the text is.
@@ -419,6 +289,3 @@ fn has_all(cluster: Channels, wanted: Channels) -> bool
 {
     cluster == Channels::AB || cluster == wanted
 }
-
-#[cfg(test)]
-mod tests;

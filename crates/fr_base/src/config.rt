@@ -1,14 +1,13 @@
-ghost use Rattle.std.specs.Prelude.{◌≡◌, ◌==◌, [], ◌∷◌, ◌++◌, length, IsTrue, OnOk, OnErr};
-ghost use Rattle.fr_base.specs.Cluster.{is_cluster};
+//! What a cluster file says.
+ghost use Rattle.std.specs.Prelude.{◌≡◌, ◌==◌, [], ◌∷◌, ◌++◌, length, OnOk, OnErr};
+ghost use Rattle.fr_base.specs.Cluster.{IsWellFormed};
 
+use crate::NoMemory;
 use crate::key::Key;
 use crate::name::Name;
 use crate::params::Params;
-use std::alloc::{AllocError, Global};
+use std::alloc::Global;
 use std::marker::Model;
-
-/// How many suppliers a cluster has at most.
-pub const MAX_SUPPLIERS: usize = 64;
 
 /// A supplier and its key.
 #[derive(Clone, Copy, Debug, PartialEq, Eq)]
@@ -45,7 +44,7 @@ impl Suppliers {
     }
 
     /// One more supplier at the end. The list stays as it was where memory runs out.
-    pub fn push(&mut self, supplier: Supplier) -> Result<(), AllocError>
+    pub fn push(&mut self, supplier: Supplier) -> Result<(), NoMemory>
         ensures ok { OnOk result (self.new ≡ self.old ++ supplier ∷ []) }
         ensures err { OnErr result (self.new ≡ self.old) }
     {
@@ -86,22 +85,20 @@ pub struct Config {
 }
 
 impl Model for Config {
-    ghost use Rattle.std.specs.Prelude.{IsTrue};
-    ghost use Rattle.fr_base.specs.Cluster.{Cluster, is_cluster};
+    ghost use Rattle.fr_base.specs.Cluster.{Cluster, IsWellFormed};
 
     ghost Value = { Cluster };
 
     ghost view = { λ c. record { params = c.params; integrator = c.integrator; suppliers = c.suppliers } };
 
-    ghost invariant = { λ c. IsTrue (is_cluster c.integrator c.suppliers) };
+    ghost invariant = { λ c. IsWellFormed (record { params = c.params; integrator = c.integrator; suppliers = c.suppliers }) };
 }
 
 impl Config {
     /// A cluster of these parameters, this integrator and these suppliers.
     pub fn new(params: Params, integrator: Key, suppliers: Suppliers) -> Config
-        requires { IsTrue (is_cluster integrator suppliers) }
-        ensures value { result ≡ record { params = params; integrator = integrator; suppliers = suppliers } }
-        ensures cluster { IsTrue (is_cluster result.integrator result.suppliers) }
+        requires { IsWellFormed (record { params = params; integrator = integrator; suppliers = suppliers }) }
+        ensures { result ≡ record { params = params; integrator = integrator; suppliers = suppliers } }
     {
         Config {
             params,
@@ -112,7 +109,8 @@ impl Config {
 
     /// The cluster's parameters.
     pub fn params(&self) -> Params
-        ensures { result ≡ self.now.params }
+        ensures value { result ≡ self.now.params }
+        ensures formed { IsWellFormed self.now }
     {
         self.params
     }
@@ -128,7 +126,7 @@ impl Config {
     /// supplier or the integrator has.
     pub fn suppliers(&self) -> &[Supplier]
         ensures value { result.now ≡ self.now.suppliers }
-        ensures cluster { IsTrue (is_cluster self.now.integrator self.now.suppliers) }
+        ensures formed { IsWellFormed self.now }
     {
         self.suppliers.as_slice()
     }

@@ -1,4 +1,5 @@
-ghost use Rattle.std.specs.Prelude.{◌≡◌, Ok, Err, if◌then◌else◌};
+//! The cycles that a base and a repetition select.
+ghost use Rattle.std.specs.Prelude.{◌≡◌, IsTrue, Ok, Err, if◌then◌else◌};
 
 use std::marker::Model;
 
@@ -54,14 +55,16 @@ impl CycleSet {
 
     /// The least cycle of the set.
     pub fn base(&self) -> u8
-        ensures { result ≡ self.now.base }
+        ensures value { result ≡ self.now.base }
+        ensures is_cycle_set { IsTrue (is_cycle_set cycle_count self.now.base self.now.repetition) }
     {
         self.base
     }
 
     /// Every how many cycles one is in the set.
     pub fn repetition(&self) -> u8
-        ensures { result ≡ self.now.repetition }
+        ensures value { result ≡ self.now.repetition }
+        ensures is_cycle_set { IsTrue (is_cycle_set cycle_count self.now.base self.now.repetition) }
     {
         self.repetition
     }
@@ -85,61 +88,5 @@ impl CycleSet {
             (other, self)
         };
         (sparse.base % dense.repetition == dense.base).then_some(sparse.base)
-    }
-}
-
-#[cfg(test)]
-mod tests {
-    use super::{BadCycles, CycleSet};
-    use std::test::Fail;
-
-    #[test]
-    fn bounds(rt: HostRuntime) -> Result<(), Fail> {
-        for (base, repetition) in [(2, 2), (0, 3), (0, 128), (0, 0)] {
-            assert_eq!(rt;
-                CycleSet::new(base, repetition),
-                Err(BadCycles),
-                "{base} {repetition}"
-            );
-        }
-        for (base, repetition) in [(63, 64), (0, 1)] {
-            let set = CycleSet::new(base, repetition)?;
-            assert_eq!(rt;
-                (u32::from(set.base()), u32::from(set.repetition())),
-                (base, repetition)
-            );
-        }
-        Ok(())
-    }
-
-    #[test]
-    fn contains(rt: HostRuntime) -> Result<(), Fail> {
-        let set = CycleSet::new(1, 2)?;
-        for (cycle, want) in [
-            (0, false),
-            (1, true),
-            (3, true),
-            (62, false),
-            (63, true),
-            (65, false),
-        ] {
-            assert_eq!(rt; set.contains(cycle), want, "{cycle}");
-        }
-        Ok(())
-    }
-
-    #[test]
-    fn least_common_cycle(rt: HostRuntime) -> Result<(), Fail> {
-        for (one, other, want) in [
-            ((1, 2), (3, 4), Some(3)),
-            ((0, 2), (1, 4), None),
-            ((0, 1), (63, 64), Some(63)),
-        ] {
-            let one = CycleSet::new(one.0, one.1)?;
-            let other = CycleSet::new(other.0, other.1)?;
-            assert_eq!(rt; one.first_common(&other), want, "{one:?} {other:?}");
-            assert_eq!(rt; other.first_common(&one), want, "{other:?} {one:?}");
-        }
-        Ok(())
     }
 }

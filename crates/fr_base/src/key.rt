@@ -1,3 +1,4 @@
+//! Keys, by which it is known who asks.
 ghost use Rattle.std.specs.Prelude.{◌≡◌, ◌||◌, IsTrue, Some, None, if◌then◌else◌};
 ghost use Rattle.std.specs.List.{list_all};
 ghost use Rattle.fr_base.specs.Names.{is_key, is_key_byte};
@@ -73,45 +74,5 @@ impl Display for Key {
 
     fn fmt<W: fmt::Write>(&self, f: &mut Formatter<W>) -> fmt::Result {
         Display::fmt(&self.text, f)
-    }
-}
-
-#[cfg(test)]
-mod tests {
-    use super::Key;
-    use std::test::Fail;
-
-    #[test]
-    fn reads_keys_alone(rt: HostRuntime) {
-        for text in [
-            "abcdefgh",
-            "01234567",
-            "abcdefghijklmnopqrstuvwxyz0123456789ABCDEFGHIJKLMNOPQRSTUVWXYZ01",
-        ] {
-            let read = Key::read(text);
-            assert_eq!(rt; read.as_ref().map(|key| key.as_str()), Some(text));
-        }
-        for text in [
-            "",
-            "abcdefg",
-            "abcdefghijklmnopqrstuvwxyz0123456789ABCDEFGHIJKLMNOPQRSTUVWXYZ012",
-            "abcd_efgh",
-            "abcdefgh\n",
-            "abcdefg\u{e4}",
-        ] {
-            assert!(rt; Key::read(text).is_none(), "{text:?}");
-        }
-    }
-
-    #[test]
-    fn compares_and_prints(rt: HostRuntime) -> Result<(), Fail> {
-        let key = Key::read("supplier01").ok_or("no key")?;
-        let next = Key::read("supplier02").ok_or("no key")?;
-        assert!(rt; key < next && key != next && key == key);
-        assert_eq!(rt;
-            format!(in rt.alloc(); "{key} {next:?}")?.as_str(),
-            "supplier01 \"supplier02\""
-        );
-        Ok(())
     }
 }

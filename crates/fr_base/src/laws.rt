@@ -1,4 +1,5 @@
-ghost use Rattle.fr_base.specs.Laws.{EqualViews, FirstTakenIsOwn, HolderSends, OneDependence, OneFrameInACell, OpeningIsAlone, OpeningIsSound, OtherStepLeavesRows, OwnStepIsAlone, ReleaseFreezes, ReleasedAnswersStay, RunIsAlone, RunKeepsSound, ScheduleIsOwn, StepKeepsSound, StepsAreARun};
+//! Laws of the register: functions with nothing to do, whose contracts say what holds of any register.
+ghost use Rattle.fr_base.specs.Laws.{EqualViews, FirstTakenIsOwn, HolderSends, OneDependence, OneFrameInACell, OpeningIsAlone, OpeningIsSound, OtherStepLeavesRows, OwnStepIsAlone, ReleaseFreezes, ReleasedAnswersStay, RunIsAlone, RunIsSoundThroughout, RunKeepsSound, ScheduleIsOwn, StepKeepsSound, StepsAreARun};
 
 /// The book of a new register is sound.
 pub fn opening_is_sound()
@@ -13,6 +14,11 @@ pub fn step_keeps_sound()
 /// Any requests, one after another, leave a sound book sound.
 pub fn run_keeps_sound()
     ensures { RunKeepsSound }
+{}
+
+/// And so does each front of them: the register is sound at every point.
+pub fn run_is_sound_throughout()
+    ensures { RunIsSoundThroughout }
 {}
 
 /// In a sound book at most one frame is sent in a cycle, slot and channel of a variant.

@@ -11,8 +11,10 @@ mod checks;
 mod config;
 mod cycles;
 mod fixed_text;
+mod import;
 mod key;
 mod laws;
+mod limits;
 mod name;
 mod params;
 mod placement;
@@ -23,25 +25,34 @@ mod signal;
 mod slot;
 mod text;
 
+pub use actor::Actor;
 pub use answer::{Answer, FrameRow, GapRow, GrantRow, Sending, SignalRow};
 pub use body::Body;
 pub use channel::{Channel, Channels};
 pub use checks::check;
-pub use config::{Config, MAX_SUPPLIERS, Supplier, Suppliers};
+pub use config::{Config, Supplier, Suppliers};
 pub use cycles::{BadCycles, CYCLE_COUNT, CycleSet};
+pub use import::{Header, MAX_ROWS, Row, RowRead};
 pub use key::Key;
 pub use laws::{
     equal_views, first_taken_is_own, holder_sends, one_dependence, one_frame_in_a_cell,
     opening_is_alone, opening_is_sound, other_step_leaves_rows, own_step_is_alone, release_freezes,
-    released_answers_stay, run_is_alone, run_keeps_sound, schedule_is_own, step_keeps_sound,
-    steps_are_a_run,
+    released_answers_stay, run_is_alone, run_is_sound_throughout, run_keeps_sound, schedule_is_own,
+    step_keeps_sound, steps_are_a_run,
+};
+pub use limits::{
+    MAX_DEPTH, MAX_FRAMES, MAX_NODES, MAX_PAYLOAD_WORDS, MAX_PLACEMENTS, MAX_SIGNALS,
+    MAX_SUPPLIERS, MAX_VARIANTS,
 };
 pub use name::Name;
 pub use params::{ParamFault, Params, RawParams};
 pub use placement::Placement;
 pub use refusal::Refusal;
-pub use request::{Actor, Ask, Checked, Command, Query, Request};
+pub use request::{Ask, Change, Checked, Command, CommonCommand, FrameChange, Query, Request};
 pub use rows::Rows;
 pub use signal::{BadSignal, Order, Signal};
 pub use slot::Slot;
 pub use text::Text;
+
+/// Memory was refused.
+pub type NoMemory = std::alloc::AllocError;

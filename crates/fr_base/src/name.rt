@@ -1,3 +1,4 @@
+//! Names of suppliers, nodes, variants, frames, signals and labels.
 ghost use Rattle.std.specs.Prelude.{◌≡◌, IsTrue, Some, None, if◌then◌else◌};
 ghost use Rattle.std.specs.List.{list_all};
 ghost use Rattle.fr_base.specs.Names.{is_name, is_name_byte, starts_with_letter};
@@ -83,54 +84,5 @@ impl Display for Name {
 
     fn fmt<W: fmt::Write>(&self, f: &mut Formatter<W>) -> fmt::Result {
         Display::fmt(&self.text, f)
-    }
-}
-
-#[cfg(test)]
-mod tests {
-    use super::Name;
-    use std::test::Fail;
-
-    #[test]
-    fn reads_names_alone(rt: HostRuntime) {
-        for text in ["a", "Z9", "f_1_", "abcdefghijklmnopqrstuvwxyz_12345"] {
-            let read = Name::read(text);
-            assert_eq!(rt; read.as_ref().map(|name| name.as_str()), Some(text));
-        }
-        for text in [
-            "",
-            "abcdefghijklmnopqrstuvwxyz_123456",
-            "1f",
-            "_f",
-            "f\n",
-            "f g",
-            "f-g",
-            "f@",
-            "\u{7f}",
-            "f\u{80}",
-            "\u{e4}f",
-            "f\u{ff21}",
-        ] {
-            assert!(rt; Name::read(text).is_none(), "{text:?}");
-        }
-    }
-
-    #[test]
-    fn orders_by_bytes(rt: HostRuntime) {
-        for (low, high) in [("s10", "s2"), ("F", "f"), ("f", "f1"), ("f_", "fa")] {
-            assert!(rt; Name::read(low) < Name::read(high), "{low} {high}");
-        }
-        assert!(rt; Name::read("f") == Name::read("f"));
-        assert!(rt; Name::read("f") != Name::read("F"));
-    }
-
-    #[test]
-    fn prints(rt: HostRuntime) -> Result<(), Fail> {
-        let name = Name::read("f1").ok_or("no name")?;
-        assert_eq!(rt;
-            format!(in rt.alloc(); "{name} {name:>4} {name:?}")?.as_str(),
-            "f1   f1 \"f1\""
-        );
-        Ok(())
     }
 }

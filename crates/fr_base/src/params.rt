@@ -1,3 +1,4 @@
+//! The parameters of a cluster's static segment.
 ghost use Rattle.std.specs.Prelude.{◌≡◌, ◌≤◌, Ok};
 ghost use Rattle.fr_base.specs.Parameters.{check_params, segments, word_of};
 

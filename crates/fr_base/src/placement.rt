@@ -1,3 +1,4 @@
+//! Where a frame is sent.
 use crate::channel::Channels;
 use crate::cycles::CycleSet;
 use crate::slot::Slot;
@@ -14,44 +15,4 @@ pub struct Placement {
     pub channels: Channels,
     /// The cycles.
     pub cycles: CycleSet,
-}
-
-#[cfg(test)]
-mod tests {
-    use super::Placement;
-    use crate::channel::Channels;
-    use crate::cycles::CycleSet;
-    use crate::slot::Slot;
-    use std::test::Fail;
-
-    fn placement(
-        slot: u32,
-        channels: Channels,
-        base: u32,
-        repetition: u32,
-    ) -> Result<Placement, Fail> {
-        Ok(Placement {
-            slot: Slot::new(slot).ok_or("no slot")?,
-            channels,
-            cycles: CycleSet::new(base, repetition)?,
-        })
-    }
-
-    #[test]
-    fn orders_by_slot_channels_base_repetition(rt: HostRuntime) -> Result<(), Fail> {
-        let rising = [
-            placement(1, Channels::A, 1, 2)?,
-            placement(1, Channels::AB, 0, 64)?,
-            placement(1, Channels::B, 0, 2)?,
-            placement(1, Channels::B, 0, 4)?,
-            placement(1, Channels::B, 1, 2)?,
-            placement(2, Channels::A, 0, 1)?,
-        ];
-        assert!(rt;
-            rising
-                .windows(2)
-                .all(|pair| matches!(pair, [low, high] if low < high))
-        );
-        Ok(())
-    }
 }

@@ -1,13 +1,15 @@
+//! Why a request is refused.
+use crate::NoMemory;
 use crate::channel::Channel;
 use crate::name::Name;
-use std::alloc::AllocError;
+use std::alloc::AllocFailed;
 use std::fmt;
 
 /// Why a request was refused. A refusal changes nothing. Where several apply, the first by number is
 /// answered. (Number 29, `BadRow`, is that of an import's row, and wraps the row's own refusal.)
 #[derive(Clone, Copy, Debug, PartialEq, Eq)]
 pub enum Refusal {
-    /// The request's text has not the form of a request.
+    /// The request's text does not have the form of a request.
     BadText,
     /// The key belongs to nobody.
     UnknownKey,
@@ -19,7 +21,7 @@ pub enum Refusal {
     BadCycles,
     /// The slot is 0 or above the cluster's number of static slots.
     BadSlot,
-    /// There is no such channel, or the cluster has it not.
+    /// There is no such channel, or the cluster does not have it.
     BadChannel,
     /// The signal's length is 0 or above 64 bits, or its order is neither `little` nor `big`.
     BadSignal,
@@ -155,13 +157,25 @@ impl fmt::Display for Refusal {
 }
 
 /// Want of memory refuses a request as `Unavailable`.
-impl From<AllocError> for Refusal {
+impl From<NoMemory> for Refusal {
     ghost use Rattle.std.specs.Prelude.{◌≡◌};
     ghost use Rattle.fr_base.specs.declared.refusal.Refusal.TheVariants.{Unavailable};
 
     ghost from_gives = { λ _ refusal. refusal ≡ Unavailable };
 
-    fn from(_refused: AllocError) -> Refusal {
+    fn from(_refused: NoMemory) -> Refusal {
+        Refusal::Unavailable
+    }
+}
+
+/// Want of memory for a value, which is given up.
+impl<T: Drop> From<AllocFailed<T>> for Refusal {
+    ghost use Rattle.std.specs.Prelude.{◌≡◌};
+    ghost use Rattle.fr_base.specs.declared.refusal.Refusal.TheVariants.{Unavailable};
+
+    ghost from_gives = { λ _ refusal. refusal ≡ Unavailable };
+
+    fn from(_refused: AllocFailed<T>) -> Refusal {
         Refusal::Unavailable
     }
 }

@@ -1,18 +1,11 @@
+//! Who asks what: requests as they were sent, and the same with checked values.
+use crate::actor::Actor;
 use crate::channel::Channel;
 use crate::name::Name;
 use crate::placement::Placement;
 use crate::signal::Signal;
 use crate::slot::Slot;
 use crate::text::Text;
-
-/// Who asks: the vehicle's integrator, or one of its suppliers.
-#[derive(Clone, Copy, Debug, PartialEq, Eq)]
-pub enum Actor {
-    /// The integrator, who opens variants, adds nodes and grants slots.
-    Integrator,
-    /// A supplier, who places its frames in the slots granted to its nodes.
-    Supplier(Name),
-}
 
 /// What is asked, with its texts and numbers as they were sent.
 #[derive(Debug, Drop)]
@@ -121,62 +114,70 @@ pub struct Ask {
     pub request: Request,
 }
 
-/// A request that changes the register, with checked values.
+/// A request that changes the register, with checked values, by what it changes: a variant for all, a
+/// supplier's nodes, or one supplier's rows in a variant.
 #[derive(Clone, Copy, Debug, PartialEq, Eq)]
 pub enum Command {
-    OpenVariant {
-        variant: Name,
-        parent: Option<Name>,
-    },
-    Release {
-        variant: Name,
-    },
+    /// The integrator's, common to all suppliers.
+    Common(CommonCommand),
+    /// The integrator gives a supplier a node, in all variants.
     AddNode {
         supplier: Name,
         node: Name,
     },
+    /// A change of one supplier's rows in a variant.
+    Rows {
+        supplier: Name,
+        variant: Name,
+        change: Change,
+    },
+}
+
+/// What the integrator does with a variant, for all suppliers.
+#[derive(Clone, Copy, Debug, PartialEq, Eq)]
+pub enum CommonCommand {
+    /// The variant is opened: empty, or with all rows of a released one.
+    OpenVariant { variant: Name, parent: Option<Name> },
+    /// The variant is frozen.
+    Release { variant: Name },
+}
+
+/// What changes of one supplier's rows in a variant.
+#[derive(Clone, Copy, Debug, PartialEq, Eq)]
+pub enum Change {
+    /// The integrator grants a static slot on a channel, in all cycles, to the supplier's node.
     Grant {
-        variant: Name,
         slot: Slot,
         channel: Channel,
-        supplier: Name,
         node: Name,
     },
+    /// The integrator takes the grant of a static slot on a channel back.
     Revoke {
-        variant: Name,
         slot: Slot,
         channel: Channel,
-        supplier: Name,
     },
-    AddFrame {
-        variant: Name,
+    /// The supplier changes one of its frames.
+    Frame {
         frame: Name,
-        node: Name,
+        change: FrameChange,
     },
-    DropFrame {
-        variant: Name,
-        frame: Name,
-    },
-    Place {
-        variant: Name,
-        frame: Name,
-        placement: Placement,
-    },
-    Unplace {
-        variant: Name,
-        frame: Name,
-        placement: Placement,
-    },
-    AddSignal {
-        variant: Name,
-        frame: Name,
-        signal: Signal,
-    },
-    DropSignal {
-        variant: Name,
-        frame: Name,
-        signal: Name,
-    },
+}
+
+/// What a supplier changes of one of its frames.
+#[derive(Clone, Copy, Debug, PartialEq, Eq)]
+pub enum FrameChange {
+    /// The frame is added; the node sends it.
+    Add { node: Name },
+    /// The frame is dropped, with its placements and signals.
+    Drop,
+    /// The frame is sent in the placement's cells too.
+    Place(Placement),
+    /// The placement is taken back.
+    Unplace(Placement),
+    /// The signal is added to the frame's payload.
+    AddSignal(Signal),
+    /// The signal of this name is dropped.
+    DropSignal(Name),
 }
 
 /// A request that only reads, with checked values.

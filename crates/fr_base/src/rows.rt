@@ -1,4 +1,6 @@
-use std::alloc::{AllocError, Global};
+//! Lists of rows.
+use crate::NoMemory;
+use std::alloc::Global;
 use std::marker::Model;
 
 /// The rows of an answer, in order.
@@ -28,7 +30,7 @@ impl<T> Rows<T> {
     }
 
     /// Adds a row at the end. An error leaves the list as it was.
-    pub fn push(&mut self, row: T) -> Result<(), AllocError>
+    pub fn push(&mut self, row: T) -> Result<(), NoMemory>
     where
         T: Drop,
         ensures ok { OnOk result (self.new ≡ self.old ++ row ∷ []) }
@@ -57,25 +59,5 @@ impl<T> Rows<T> {
         ensures { IsTrue result ↔ (self.now ≡ []) }
     {
         self.rows.is_empty()
-    }
-}
-
-#[cfg(test)]
-mod tests {
-    use super::Rows;
-    use std::test::Fail;
-
-    #[test]
-    fn grows_at_its_end(rt: HostRuntime) -> Result<(), Fail> {
-        let mut rows = Rows::new(rt.alloc());
-        assert!(rt; rows.is_empty() && rows.as_slice().is_empty());
-        assert_eq!(rt; rows.len(), 0);
-        rows.push(7)?;
-        rows.push(3)?;
-        rows.push(7)?;
-        assert!(rt; !rows.is_empty());
-        assert_eq!(rt; rows.len(), 3);
-        assert!(rt; rows.as_slice() == [7, 3, 7].as_slice());
-        Ok(())
     }
 }

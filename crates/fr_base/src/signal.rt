@@ -1,3 +1,4 @@
+//! Signals of a frame's payload.
 ghost use Rattle.std.specs.Prelude.{◌≡◌, ◌≤◌, Ok, Err, if◌then◌else◌};
 ghost use Rattle.fr_base.specs.Signals.{is_signal_length, SignalData};
 
@@ -116,21 +117,5 @@ impl Signal {
         ensures { result ≡ self.order }
     {
         self.order
-    }
-}
-
-#[cfg(test)]
-mod tests {
-    use super::Order;
-
-    #[test]
-    fn reads_and_writes_orders(rt: HostRuntime) {
-        assert_eq!(rt; Order::read("little"), Some(Order::Little));
-        assert_eq!(rt; Order::read("big"), Some(Order::Big));
-        assert_eq!(rt; Order::Little.as_str(), "little");
-        assert_eq!(rt; Order::Big.as_str(), "big");
-        for text in ["", "Little", "big ", "middle"] {
-            assert_eq!(rt; Order::read(text), None, "{text:?}");
-        }
     }
 }

@@ -1,4 +1,5 @@
-ghost use Rattle.std.specs.Prelude.{◌≡◌, Some, None, if◌then◌else◌};
+//! Static slots.
+ghost use Rattle.std.specs.Prelude.{◌≡◌, IsTrue, Some, None, if◌then◌else◌};
 ghost use Rattle.fr_base.specs.Numbers.{is_slot};
 
 use std::marker::Model;
@@ -38,20 +39,9 @@ impl Slot {
 
     /// The slot's number.
     pub fn get(self) -> u32
-        ensures { result ≡ self }
+        ensures value { result ≡ self }
+        ensures is_slot { IsTrue (is_slot self) }
     {
         self.number
-    }
-}
-
-#[cfg(test)]
-mod tests {
-    use super::Slot;
-
-    #[test]
-    fn bounds(rt: HostRuntime) {
-        for (number, want) in [(0, None), (1, Some(1)), (1023, Some(1023)), (1024, None)] {
-            assert_eq!(rt; Slot::new(number).map(|slot| slot.get()), want, "{number}");
-        }
     }
 }

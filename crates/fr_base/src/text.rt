@@ -1,6 +1,8 @@
+//! Texts of requests, as they were sent.
 ghost use Rattle.std.specs.Prelude.{◌≡◌, string_bytes, IfOk};
 
-use std::alloc::{AllocError, Global};
+use crate::NoMemory;
+use std::alloc::Global;
 use std::marker::Model;
 
 /// A text of a request, as it was sent.
@@ -19,7 +21,7 @@ impl Model for Text {
 
 impl Text {
     /// A text of its own with the same bytes.
-    pub fn copy(alloc: Global, text: &str) -> Result<Text, AllocError>
+    pub fn copy(alloc: Global, text: &str) -> Result<Text, NoMemory>
         ensures { IfOk result (λ t. t ≡ text.now) }
     {
         Ok(Text::from(String::from_str(alloc, text)?))
@@ -38,17 +40,5 @@ impl From<String> for Text {
 
     fn from(text: String) -> Text {
         Text { text }
-    }
-}
-
-#[cfg(test)]
-mod tests {
-    use super::*;
-    use std::test::Fail;
-
-    #[test]
-    fn copies(rt: HostRuntime) -> Result<(), Fail> {
-        assert!(rt; Text::copy(rt.alloc(), "Größe_1")?.as_str() == "Größe_1");
-        Ok(())
     }
 }

@@ -1,14 +1,14 @@
 -- An answer is a step of the register, or want of memory.
-use Rattle.std.proofs.Common.{◌≡◌, ap, sym, refl, subst, Ok, Err, IfOk, IsTrue, IsOk, inl, inr, ◌⊎◌}
+use Rattle.std.proofs.Common.{◌≡◌, ap, sym, refl, subst, Result, Ok, Err, IfOk, IsTrue, IsOk, inl, inr, ◌⊎◌}
+use Rattle.std.specs.Prelude.{⊤}
 use Rattle.fr_base.specs.Refusing.{◌>>=◌, ◌>>◌, refuse◌when◌}
 use Rattle.fr_base.specs.Checks.{check}
 use Rattle.fr_base.specs.Cluster.{Cluster}
-use Rattle.fr_base.specs.Book.{Book, opening}
-use Rattle.fr_base.specs.declared.request.Actor.{Actor}
-use Rattle.fr_base.specs.declared.request.Actor.TheVariants.{Integrator, Supplier}
-use Rattle.fr_cli.specs.declared.register.Register.{Register}
+use Rattle.fr_base.specs.Book.{Book}
+use Rattle.fr_base.specs.declared.actor.Actor.{Actor}
+use Rattle.fr_base.specs.declared.name.Name.{Name}
 use Rattle.fr_base.specs.Queries.{reply}
-use Rattle.fr_base.specs.Step.{knows, change, act, outcome, step}
+use Rattle.fr_base.specs.Step.{knows, done, perform, act, outcome, step}
 use Rattle.fr_base.specs.declared.answer.Answer.{Answer}
 use Rattle.fr_base.specs.declared.answer.Answer.TheVariants.{Done, Refused}
 use Rattle.fr_base.specs.declared.refusal.Refusal.{Refusal}
@@ -16,38 +16,49 @@ use Rattle.fr_base.specs.declared.refusal.Refusal.TheVariants.{Unavailable}
 use Rattle.fr_base.specs.declared.request.Ask.{Ask}
 use Rattle.fr_base.specs.declared.request.Request.{Request}
 use Rattle.fr_base.specs.declared.params.Params.{Params}
-use Rattle.fr_base.specs.declared.request.Command.TheVariants.{OpenVariant, Release, AddNode, Grant, Revoke, AddFrame, DropFrame, Place, Unplace, AddSignal, DropSignal}
-use Rattle.fr_base.proofs.SoundChecks.{HasForm, IsFormed, check-form}
-use Rattle.fr_world.specs.Decisions.{IsChecked}
 use Rattle.fr_base.specs.declared.request.Command.{Command}
+use Rattle.fr_base.specs.declared.request.Command.TheVariants.{Common, AddNode, Rows}
+use Rattle.fr_base.specs.declared.request.Change.{Change}
+use Rattle.fr_base.specs.declared.request.Change.TheVariants.{Grant, Revoke, Frame as OfFrame}
+use Rattle.fr_base.specs.declared.request.FrameChange.{FrameChange}
+use Rattle.fr_base.specs.declared.request.FrameChange.TheVariants.{Add, Drop, Place, Unplace, AddSignal, DropSignal}
+use Rattle.fr_base.proofs.SoundChecks.{HasForm, IsFormed, IsFormedChange, IsFormedFrame, check-form}
+use Rattle.fr_world.specs.Decisions.{IsChecked}
 use Rattle.fr_base.specs.declared.request.Query.{Query}
 use Rattle.fr_base.specs.declared.request.Checked.{Checked}
 use Rattle.fr_base.specs.declared.request.Checked.TheVariants as checked
-use Rattle.fr_cli.specs.Answers.{Answers}
-use Rattle.fr_cli.specs.Registers.{book_of}
+use Rattle.fr_cli.specs.Answers.{Answers, Does, Performs}
+use Rattle.fr_cli.specs.Decided.{IsCheckedCommand}
 
--- who was there when the register was made is there now
-pub knows-opening : (b : Register) (a : Actor) → knows (opening b.config) a ≡ knows (book_of b) a
-unfolding opening
-knows-opening b Integrator = refl
-knows-opening b (Supplier s) = refl
+-- a change of the right form is checked
+checked_frame : (p : Params) (f : Name) (change : FrameChange) → IsFormedFrame p f change → IsChecked p (OfFrame f change)
+checked_frame p f (Add n) form = tt
+checked_frame p f Drop form = tt
+checked_frame p f (Place q) form = form
+checked_frame p f (Unplace q) form = tt
+checked_frame p f (AddSignal x) form = form.1
+checked_frame p f (DropSignal n) form = tt
 
-checked_form : (p : Params) (command : Command) → HasForm p command → IsChecked p command
-checked_form p (Place v f q) form = form
-checked_form p (AddSignal v f x) form = form.1
-checked_form p (OpenVariant v parent) form = tt
-checked_form p (Release v) form = tt
+checked_change : (p : Params) (change : Change) → IsFormedChange p change → IsChecked p change
+checked_change p (Grant k c n) form = tt
+checked_change p (Revoke k c) form = tt
+checked_change p (OfFrame f change) form = checked_frame p f change form
+
+checked_form : (p : Params) (command : Command) → HasForm p command → IsCheckedCommand p command
+checked_form p (Common command) form = tt
 checked_form p (AddNode s n) form = tt
-checked_form p (Grant v k c s n) form = tt
-checked_form p (Revoke v k c s) form = tt
-checked_form p (AddFrame v f n) form = tt
-checked_form p (DropFrame v f) form = tt
-checked_form p (Unplace v f q) form = tt
-checked_form p (DropSignal v f x) form = tt
+checked_form p (Rows s v change) form = checked_change p change form
 
 -- a command that passed its check has a placement that fits, and a signal with a length
-pub checked_command : (p : Params) (actor : Actor) (request : Request) (command : Command) → check p actor request ≡ Ok (checked.Command command) → IsChecked p command
+pub checked_command : (p : Params) (actor : Actor) (request : Request) (command : Command) → check p actor request ≡ Ok (checked.Command command) → IsCheckedCommand p command
 checked_command p actor request command said = checked_form p command (subst (λ r. IfOk r (IsFormed p)) said (check-form p actor request))
+
+-- what is done to the rows is a command's outcome
+pub performs : (r : Result ⊤ Refusal) (old new : Book) (said : Result Book Refusal) → Does r old new said → Performs r old new (done said)
+unfolding done ◌>>=◌
+performs (Ok x) old new said does = ap (λ r. r >>= λ after. Ok (record { book = after; answer = Done })) does
+performs (Err e) old new said (same, inl refused) = (same, inl (ap (λ r. r >>= λ after. Ok (record { book = after; answer = Done })) refused))
+performs (Err e) old new said (same, inr lack) = (same, inr lack)
 
 module _ (c : Cluster) (b : Book) (ask : Ask) (known : IsTrue (knows b ask.actor)) where
   -- a step is answered so, and leaves this book
@@ -62,11 +73,11 @@ module _ (c : Cluster) (b : Book) (ask : Ask) (known : IsTrue (knows b ask.actor
   unfolding step outcome ◌>>=◌ ◌>>◌ refuse◌when◌
   answers_refused e said = stepped (Refused e) b (rw (known, said)) (rw (known, said))
 
-  pub answers_done : (command : Command) (new : Book) → check c.params ask.actor ask.request ≡ Ok (checked.Command command) → change c.params b ask.actor command ≡ Ok new → Answers c b ask Done new
+  pub answers_done : (command : Command) (new : Book) → check c.params ask.actor ask.request ≡ Ok (checked.Command command) → perform c.params b command ≡ Ok (record { book = new; answer = Done }) → Answers c b ask Done new
   unfolding step act outcome ◌>>=◌ ◌>>◌ refuse◌when◌
   answers_done command new said made = stepped Done new (rw (known, said, made)) (rw (known, said, made))
 
-  pub answers_refused_command : (command : Command) (new : Book) (e : Refusal) → check c.params ask.actor ask.request ≡ Ok (checked.Command command) → new ≡ b → (change c.params b ask.actor command ≡ Err e) ⊎ (e ≡ Unavailable) → Answers c b ask (Refused e) new
+  pub answers_refused_command : (command : Command) (new : Book) (e : Refusal) → check c.params ask.actor ask.request ≡ Ok (checked.Command command) → new ≡ b → (perform c.params b command ≡ Err e) ⊎ (e ≡ Unavailable) → Answers c b ask (Refused e) new
   unfolding step act outcome ◌>>=◌ ◌>>◌ refuse◌when◌
   answers_refused_command command new e said same (inl made) = stepped (Refused e) new (rw (known, said, made)) (rw (known, said, made) (sym same))
   answers_refused_command command new e said same (inr lack) = lacked (checked.Command command) new e said same lack

@@ -11,12 +11,12 @@ use Rattle.fr_base.specs.Tables.{Table, get, insert, remove}
 use Rattle.fr_base.specs.Keys.{names, owned, placement_order}
 use Rattle.fr_base.specs.Book as register
 use Rattle.fr_base.specs.Signals.{SignalData}
-use Rattle.fr_base.specs.Layouts.{LayoutData, add_signal, remove_signal, with_signal}
+use Rattle.fr_base.specs.Layouts.{LayoutData, add_signal, remove_signal, with_signal, without_signal}
 use Rattle.fr_base.specs.declared.name.Name.{Name}
 use Rattle.fr_base.specs.declared.placement.Placement.{Placement}
 use Rattle.fr_base.specs.declared.refusal.Refusal.{Refusal}
 use Rattle.fr_base.proofs.SoundRefusing.{gives_when, gives_unless, gives_then}
-use Rattle.fr_world.specs.Changes.{change_variant, changed_at, copied, or_empty}
+use Rattle.fr_world.specs.BookEdits.{change_variant, changed_at, copied, or_empty}
 use Rattle.fr_world.specs.Maps.{table_of, set_of}
 use Rattle.fr_world.proofs.AmendSignals.{remove_takes, remove_keeps}
 use Rattle.fr_world.proofs.KeyLaws.{name_cmp, placement_cmp, placements_alike}
@@ -37,16 +37,16 @@ placement_removed placements q sorted = set_of-remove_key placement_cmp placemen
 -- what a layout is with a signal more
 gives_signals : (l : LayoutData) (s : SignalData) → IfOk (add_signal l s) (λ m. m.signals ≡ with_signal s l.signals)
 unfolding add_signal
-gives_signals l s = gives_when _ _ _ _ (λ _. gives_when _ _ _ _ (λ _. gives_unless _ _ _ _ (λ _. gives_then _ _ _ (λ x _. refl))))
+gives_signals l s = gives_then _ _ _ (λ x _. refl)
 
 pub added : (l m : LayoutData) (s : SignalData) → add_signal l s ≡ Ok m → m.signals ≡ with_signal s l.signals
 added l m s e = subst (λ r. IfOk r (λ m. m.signals ≡ with_signal s l.signals)) e (gives_signals l s)
 
 -- and without one
-pub removed : (l m : LayoutData) (name : List ℕ) → remove_signal l name ≡ Ok m → m.signals ≡ filter (λ s. not (bytes_eq s.name name)) l.signals
+pub removed : (l m : LayoutData) (name : List ℕ) → remove_signal l name ≡ Ok m → m.signals ≡ without_signal name l.signals
 removed l m name e = ap (λ (n : LayoutData). n.signals) (remove_takes l m name e)
 
-pub not_removed : (l m : LayoutData) (name : List ℕ) (e : Refusal) → remove_signal l name ≡ Err e → m ≡ l → m.signals ≡ filter (λ s. not (bytes_eq s.name name)) l.signals
+pub not_removed : (l m : LayoutData) (name : List ℕ) (e : Refusal) → remove_signal l name ≡ Err e → m ≡ l → m.signals ≡ without_signal name l.signals
 not_removed l m name e refused same = ap (λ (n : LayoutData). n.signals) (remove_keeps l m name e refused same)
 
 -- what follows from what holds where a call succeeded, and where it failed

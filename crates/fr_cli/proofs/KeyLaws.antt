@@ -3,10 +3,13 @@ use Rattle.std.proofs.Common.{◌≡◌, Ordering, refl, ap, ◌∙◌, true, fa
 use Rattle.std.specs.List.{list_any}
 use Rattle.std.specs.FinMap.Entries.{find}
 use Rattle.fr_base.specs.Tables.{contains, from_rows}
-use Rattle.fr_base.specs.Cluster.{same_text}
+use Rattle.fr_base.specs.Book.{suppliers_of}
+use Rattle.fr_base.specs.Cluster.{Cluster}
+use Rattle.fr_base.specs.Names.{same_text}
 use Rattle.fr_base.specs.Keys.{names}
 use Rattle.fr_base.specs.declared.config.Supplier.{Supplier}
 use Rattle.fr_base.specs.declared.name.Name.{Name}
+use Rattle.std.proofs.lemmas.Map.Text.{is_eq-slice_cmp}
 use Rattle.fr_base.proofs.TableLaws.{get-from_rows}
 use Rattle.fr_world.proofs.KeyLaws as world
 
@@ -21,7 +24,8 @@ find-suppliers : (ss : List Supplier) (n : Name) → is_some (find names.compare
 unfolding names
 find-suppliers [] n = refl
 find-suppliers (s ∷ ss) n =
-    elim (same_text n s.name) as (λ b. is_some (cond b (Some s.key) (find names.compare n (map (λ s. (s.name, s.key)) ss))) ≡ (b || list_any (λ s. same_text n s.name) ss)) [
+    ap (λ b. is_some (cond b (Some s.key) (find names.compare n (map (λ s. (s.name, s.key)) ss)))) (is_eq-slice_cmp n s.name)
+    ∙ elim (same_text n s.name) as (λ b. is_some (cond b (Some s.key) (find names.compare n (map (λ s. (s.name, s.key)) ss))) ≡ (b || list_any (λ s. same_text n s.name) ss)) [
       | true ↦ refl
       | false ↦ find-suppliers ss n
     ]
@@ -29,3 +33,8 @@ find-suppliers (s ∷ ss) n =
 -- whether there is a supplier of this name
 pub contains-suppliers : (ss : List Supplier) (n : Name) → contains {o = names} (from_rows (map (λ s. (s.name, s.key)) ss)) n ≡ list_any (λ s. same_text n s.name) ss
 contains-suppliers ss n = ap is_some (get-from_rows names (map (λ s. (s.name, s.key)) ss) n) ∙ find-suppliers ss n
+
+-- the suppliers of a cluster file among them
+pub contains-cluster : (c : Cluster) (n : Name) → contains (suppliers_of c) n ≡ list_any (λ s. same_text n s.name) c.suppliers
+unfolding suppliers_of
+contains-cluster c n = contains-suppliers c.suppliers n

@@ -6,11 +6,11 @@ pub mod EndingLaws
 pub mod KeptLaws
 pub mod OwnLaws
 pub mod ShownLaws
+pub mod SeenLaws
 pub mod ListLaws
 pub mod PlanLaws
 pub mod ApplyLaws
 pub mod DecideLaws
 pub mod KeyLaws
 pub mod PageOfLaws
-pub mod StepOpen
 pub mod QueryLaws

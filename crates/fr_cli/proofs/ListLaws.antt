@@ -4,12 +4,12 @@ use Rattle.std.specs.Prelude.{⊤}
 use Rattle.std.specs.List.Sorted.{IsStrictlySortedBy}
 use Rattle.std.specs.Map.{keys_of}
 use Rattle.fr_base.specs.Book as book
-use Rattle.fr_base.specs.Cluster.{same_text}
+use Rattle.fr_base.specs.Names.{same_text}
 use Rattle.fr_base.specs.Keys.{names, owned}
-use Rattle.fr_base.specs.Step.{is_of}
+use Rattle.fr_base.specs.Book.{is_of}
 use Rattle.fr_base.specs.Tables.{only}
 use Rattle.fr_base.specs.declared.name.Name.{Name}
-use Rattle.fr_world.specs.Changes.{variants_in}
+use Rattle.fr_world.specs.BookEdits.{variants_in}
 use Rattle.fr_world.specs.Pages.{nodes_in}
 use Rattle.fr_world.specs.declared.variants.VariantRow.{VariantRow}
 use Rattle.fr_world.proofs.MapLaws.{rows-set_of, rows-table_of}

@@ -10,8 +10,8 @@ use Rattle.std.specs.FinMap.Entries.{is_sorted}
 use Rattle.fr_base.specs.Book as book
 use Rattle.fr_base.specs.Book.{held_by}
 use Rattle.fr_base.specs.declared.channel.Channel.{Channel}
-use Rattle.fr_base.specs.Cluster.{same_text}
-use Rattle.fr_base.specs.Step.{is_of}
+use Rattle.fr_base.specs.Names.{same_text}
+use Rattle.fr_base.specs.Book.{is_of}
 use Rattle.fr_base.specs.Tables.{Order, Table, empty, insert, only, from_rows}
 use Rattle.fr_base.specs.declared.name.Name.{Name}
 use Rattle.fr_base.proofs.SoundRows.{same_text-is}

@@ -6,11 +6,11 @@ use Rattle.fr_base.specs.Keys.{owned, channel_slots}
 use Rattle.fr_base.specs.Book as book
 use Rattle.fr_base.specs.Book.{held_by}
 use Rattle.fr_base.specs.Step as step
-use Rattle.fr_base.specs.Step.{is_of}
+use Rattle.fr_base.specs.Book.{is_of}
 use Rattle.fr_base.specs.declared.name.Name.{Name}
 use Rattle.fr_world.specs.Maps.{set_of, table_of}
 use Rattle.fr_world.specs.Pages as pages
-use Rattle.fr_world.specs.Pages.{PageData, frames_data, page_of}
+use Rattle.fr_world.specs.Pages.{PageData, frames_data}
 use Rattle.fr_world.specs.declared.page.ChannelSlot.{ChannelSlot}
 use Rattle.fr_world.specs.declared.page.PageFrame.{PageFrame}
 use Rattle.fr_cli.specs.Plans.{holder_of, frame_of, variant_of}
@@ -38,7 +38,7 @@ pub is_page : (r : Register) (plan : Plan) (s v : Name) (nodes : List Name) (gra
     → table_of channel_slots (λ k. (k.slot, k.channel)) (pages.holder_of s) grants ≡ only (λ _ h. held_by s (Some h)) (table_of channel_slots (λ k. (k.slot, k.channel)) holder_of plan.grants.entries)
     → table_of owned (λ f. (s, f)) frame_of frames ≡ only (λ k _. is_of s k) (table_of owned (λ k. (k.supplier, k.name)) frame_of plan.frames.entries)
     → IsPageOf (record { params = r.config.params; supplier = s; variant = v; released = plan.released; nodes = nodes; grants = grants; frames = frames_data frames }) r.config.params (book_of r) s v (variant_of plan)
-unfolding step.page_of
+unfolding step.own_rows
 is_page r plan s v nodes grants frames same_nodes same_grants same_frames = record {
   params = refl;
   supplier = refl;

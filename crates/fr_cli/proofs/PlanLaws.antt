@@ -1,17 +1,19 @@
 -- The grants and frames of a variant in maps, beside their tables.
-use Rattle.std.proofs.Common.{◌≡◌, ℕ, List, [], ◌∷◌, map, Some, None, option_map, Ordering, refl, sym, ap, ◌∙◌}
+use Rattle.std.proofs.Common.{◌≡◌, ℕ, List, [], ◌∷◌, map, Option, Some, None, option_map, Ordering, refl, sym, ap, ◌∙◌}
 use Rattle.std.specs.Map.{keys_of, lookup, remove_entry, set_value}
 use Rattle.std.specs.BTreeMap.{insert_entry, is_at}
 use Rattle.std.specs.List.{AllZip}
 use Rattle.std.specs.List.Sorted.{IsStrictlySortedBy}
 use Rattle.std.proofs.lemmas.List.Elements.{same_from_all_zip}
-use Rattle.fr_base.specs.Tables.{empty, get, insert, remove, from_rows}
+use Rattle.fr_base.specs.Tables.{Becomes, Gone, empty, get, insert, remove, settle, from_rows}
+use Rattle.fr_base.specs.Step.{frame_after}
+use Rattle.fr_base.specs.declared.request.FrameChange.{FrameChange}
+use Rattle.fr_base.specs.declared.request.FrameChange.TheVariants.{Add, Drop, Place, Unplace, AddSignal, DropSignal}
 use Rattle.fr_base.specs.Keys.{names, owned, channel_slots, placement_order}
 use Rattle.fr_base.specs.Book as register
 use Rattle.fr_base.specs.declared.channel.Channel.{Channel}
 use Rattle.fr_base.specs.declared.name.Name.{Name}
 use Rattle.fr_base.specs.declared.placement.Placement.{Placement}
-use Rattle.fr_world.specs.Changes.{reframed}
 use Rattle.fr_world.specs.Maps.{table_of, set_of}
 use Rattle.fr_world.specs.Pages.{frame_data}
 use Rattle.fr_world.specs.Pages as pages
@@ -19,8 +21,8 @@ use Rattle.fr_world.specs.declared.page.ChannelSlot.{ChannelSlot}
 use Rattle.fr_world.specs.declared.page.PageFrame.{PageFrame}
 use Rattle.fr_world.proofs.KeyLaws.{slot_cmp, slots_alike}
 use Rattle.fr_world.proofs.MapLaws.{get-table_of, table_of-insert_entry, table_of-lent, table_of-lent_same}
-use Rattle.fr_world.proofs.RemoveLaws.{table_of-remove_entry}
-use Rattle.fr_cli.specs.Applied.{grants_of, frames_of}
+use Rattle.fr_world.proofs.RemoveLaws.{remove-none, table_of-remove_entry}
+use Rattle.fr_cli.specs.Applied.{NeedsFrame, grants_of, frames_of}
 use Rattle.fr_cli.specs.Plans.{frame_of, holder_of}
 use Rattle.fr_cli.specs.declared.plan.Holder.{Holder}
 use Rattle.fr_cli.specs.declared.plan.Owned.{Owned}
@@ -96,23 +98,40 @@ module _ (x : register.Variant) (k : Owned) (frames later : List (Owned × PageF
   get_frame : get (frames_of frames) (k.supplier, k.name) ≡ option_map frame_of (lookup (is_at (owned_cmp k)) frames)
   get_frame = get-table_of owned_cmp owned owned_key frame_of owned_alike frames k
 
+  -- the variant with what becomes of the frame
+  abbrev settled : FrameChange → Option register.Frame → register.Variant
+  settled change there = record x { frames = settle (frames_of frames) (k.supplier, k.name) (frame_after change there) }
+
   -- after a frame was changed through what a look-up lent
-  pub frame_lent : (change : register.Frame → register.Frame) (f g : PageFrame) → IsStrictlySortedBy owned_cmp (keys_of frames) → Some f ≡ lookup (is_at (owned_cmp k)) frames →
-      later ≡ set_value (is_at (owned_cmp k)) frames g → frame_of g ≡ change (frame_of f) →
-      with_frames later ≡ reframed (with_frames frames) (k.supplier, k.name) change (get (frames_of frames) (k.supplier, k.name))
+  pub frame_lent : (change : FrameChange) (f g : PageFrame) → IsStrictlySortedBy owned_cmp (keys_of frames) → Some f ≡ lookup (is_at (owned_cmp k)) frames →
+      later ≡ set_value (is_at (owned_cmp k)) frames g → frame_after change (Some (frame_of f)) ≡ Becomes (frame_of g) →
+      with_frames later ≡ settled change (get (frames_of frames) (k.supplier, k.name))
+  unfolding settle
   frame_lent change f g sorted found set made =
-      ap (λ t. record x { frames = t })
-      (table_of-lent owned_cmp owned owned_key frame_of owned_alike frames later k g f sorted found set
-      ∙ ap (insert (frames_of frames) (k.supplier, k.name)) made)
-      ∙ sym (ap (reframed (with_frames frames) (k.supplier, k.name) change) (get_frame ∙ ap (option_map frame_of) (sym found)))
+      ap (λ t. record x { frames = t }) (table_of-lent owned_cmp owned owned_key frame_of owned_alike frames later k g f sorted found set)
+      ∙ sym (ap (λ fate. record x { frames = settle (frames_of frames) (k.supplier, k.name) fate }) (ap (frame_after change) (get_frame ∙ ap (option_map frame_of) (sym found)) ∙ made))
 
   pub frame_lent_same : (f g : PageFrame) → IsStrictlySortedBy owned_cmp (keys_of frames) → Some f ≡ lookup (is_at (owned_cmp k)) frames →
       later ≡ set_value (is_at (owned_cmp k)) frames g → frame_of g ≡ frame_of f → with_frames later ≡ with_frames frames
   frame_lent_same f g sorted found set same =
       ap (λ t. record x { frames = t }) (table_of-lent_same owned_cmp owned owned_key frame_of owned_alike frames later k g f sorted found set same)
 
+  -- a change of a frame that is to be there makes nothing of none
+  none_after : (change : FrameChange) → NeedsFrame change → frame_after change None ≡ Gone
+  unfolding frame_after
+  none_after (Add node) needs = absurd needs
+  none_after Drop needs = refl
+  none_after (Place q) needs = refl
+  none_after (Unplace q) needs = refl
+  none_after (AddSignal s) needs = refl
+  none_after (DropSignal n) needs = refl
+
   -- where there is no such frame
-  pub no_frame : (change : register.Frame → register.Frame) → None ≡ lookup (is_at (owned_cmp k)) frames → later ≡ frames →
-      with_frames later ≡ reframed (with_frames frames) (k.supplier, k.name) change (get (frames_of frames) (k.supplier, k.name))
-  no_frame change none same =
-      ap with_frames same ∙ sym (ap (reframed (with_frames frames) (k.supplier, k.name) change) (get_frame ∙ ap (option_map frame_of) (sym none)))
+  pub no_frame : (change : FrameChange) → NeedsFrame change → None ≡ lookup (is_at (owned_cmp k)) frames → later ≡ frames →
+      with_frames later ≡ settled change (get (frames_of frames) (k.supplier, k.name))
+  unfolding settle
+  no_frame change needs none same =
+      let absent : get (frames_of frames) (k.supplier, k.name) ≡ None = get_frame ∙ ap (option_map frame_of) (sym none) in
+      ap with_frames same
+      ∙ sym (ap (λ t. record x { frames = t }) (remove-none owned (frames_of frames) (k.supplier, k.name) absent))
+      ∙ sym (ap (λ fate. record x { frames = settle (frames_of frames) (k.supplier, k.name) fate }) (ap (frame_after change) absent ∙ none_after change needs))

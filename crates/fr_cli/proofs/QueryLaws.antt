@@ -7,9 +7,10 @@ use Rattle.std.specs.Map.{keys_of}
 use Rattle.std.proofs.lemmas.Bool.{ne_eqb}
 use Rattle.fr_base.specs.Book as book
 use Rattle.fr_base.specs.Cells.{cluster_cells}
-use Rattle.fr_base.specs.Cluster.{Cluster, same_text}
+use Rattle.fr_base.specs.Cluster.{Cluster}
+use Rattle.fr_base.specs.Names.{same_text}
 use Rattle.fr_base.specs.Keys.{owned, channel_slots}
-use Rattle.fr_base.specs.Queries.{frame_row, frames_of, gap_row, gaps_of, grant_row, grants_of, named, reply, sees, sendings_of, shown, signal_rows, signals_of}
+use Rattle.fr_base.specs.Queries.{frame_row, frames_of, gap_row, gaps_of, grant_row, grants_of, named, reply, seen_frames, seen_grants, sendings_of, shown, signal_rows, signals_of}
 use Rattle.fr_base.specs.Refusing.{◌>>=◌, ◌>>◌, ◌or◌, refuse◌when◌}
 use Rattle.fr_base.specs.Sound.{FitsCluster, IsSound}
 use Rattle.fr_base.specs.Tables.{Table, get, len, only}
@@ -19,7 +20,7 @@ use Rattle.fr_base.specs.declared.channel.Channel.{Channel}
 use Rattle.fr_base.specs.declared.name.Name.{Name}
 use Rattle.fr_base.specs.declared.params.Params.{Params}
 use Rattle.fr_base.specs.declared.placement.Placement.{Placement}
-use Rattle.fr_base.specs.declared.request.Actor.{Actor}
+use Rattle.fr_base.specs.declared.actor.Actor.{Actor}
 use Rattle.fr_world.specs.Maps.{table_of}
 use Rattle.fr_world.specs.Sendings.{filled_by, sent_in}
 use Rattle.fr_world.specs.declared.page.ChannelSlot.{ChannelSlot}
@@ -30,6 +31,8 @@ use Rattle.fr_world.proofs.KeyLaws.{slot_cmp, slots_alike}
 use Rattle.fr_world.proofs.MapLaws.{rows-table_of}
 use Rattle.fr_cli.specs.Fitting.{AllFitting, IsFitting}
 use Rattle.fr_cli.specs.Plans.{frame_of, holder_of, variant_of}
+use Rattle.fr_cli.specs.Seen.{sees}
+use Rattle.fr_cli.proofs.SeenLaws.{frames-seen, grants-seen}
 use Rattle.fr_cli.specs.declared.plan.Holder.{Holder}
 use Rattle.fr_cli.specs.declared.plan.Owned.{Owned}
 use Rattle.fr_cli.specs.declared.plan.Plan.{Plan}
@@ -51,12 +54,13 @@ abbrev grant_entry : ChannelSlot × Holder → (ℕ × Channel) × book.Holder
 grant_entry e = ((e.0.slot, e.0.channel), holder_of e.1)
 
 pub grants_of-entries : (a : Actor) (es : List (ChannelSlot × Holder)) → IsStrictlySortedBy slot_cmp (keys_of es)
-    → grants_shown a es ≡ grants_of (only (λ _ h. sees a h.supplier) (table_of channel_slots (λ k. (k.slot, k.channel)) holder_of es))
+    → grants_shown a es ≡ grants_of (seen_grants a (table_of channel_slots (λ k. (k.slot, k.channel)) holder_of es))
 unfolding grants_of only
 grants_of-entries a es h =
     sym (shown-rows grant_entry (λ e. sees a e.1.supplier) (λ e. grant_row e ∷ []) es)
     ∙ sym (map-flat grant_row (filter (λ e. sees a e.1.supplier) (map grant_entry es)))
     ∙ ap (λ rs. map grant_row (filter (λ e. sees a e.1.supplier) rs)) (sym (rows-table_of slot_cmp channel_slots (λ k. (k.slot, k.channel)) holder_of slots_alike es h))
+    ∙ ap (λ (t : Table channel_slots book.Holder). map grant_row t.rows) (grants-seen a (table_of channel_slots (λ k. (k.slot, k.channel)) holder_of es))
 
 -- ---- frames
 
@@ -84,14 +88,14 @@ frames_shown-rows a f es h =
     ∙ ap (λ rs. flat_map f (filter (λ e. sees a e.0.0) rs)) (rows-frames es h)
 
 pub frames_of-entries : (a : Actor) (es : List (Owned × PageFrame)) → IsStrictlySortedBy owned_cmp (keys_of es)
-    → frames_shown a (λ e. frame_row e ∷ []) es ≡ frames_of (only (λ k _. sees a k.0) (frames_table es))
+    → frames_shown a (λ e. frame_row e ∷ []) es ≡ frames_of (seen_frames a (frames_table es))
 unfolding frames_of
-frames_of-entries a es h = frames_shown-rows a (λ e. frame_row e ∷ []) es h ∙ sym (map-flat frame_row (only (λ k _. sees a k.0) (frames_table es)).rows)
+frames_of-entries a es h = frames_shown-rows a (λ e. frame_row e ∷ []) es h ∙ sym (map-flat frame_row (only (λ k _. sees a k.0) (frames_table es)).rows) ∙ ap (λ (t : Table owned book.Frame). map frame_row t.rows) (frames-seen a (frames_table es))
 
 pub gaps_of-entries : (p : Params) (a : Actor) (es : List (Owned × PageFrame)) → IsStrictlySortedBy owned_cmp (keys_of es)
-    → frames_shown a (λ e. gap_row p e ∷ []) es ≡ gaps_of p (only (λ k _. sees a k.0) (frames_table es))
+    → frames_shown a (λ e. gap_row p e ∷ []) es ≡ gaps_of p (seen_frames a (frames_table es))
 unfolding gaps_of
-gaps_of-entries p a es h = frames_shown-rows a (λ e. gap_row p e ∷ []) es h ∙ sym (map-flat (gap_row p) (only (λ k _. sees a k.0) (frames_table es)).rows)
+gaps_of-entries p a es h = frames_shown-rows a (λ e. gap_row p e ∷ []) es h ∙ sym (map-flat (gap_row p) (only (λ k _. sees a k.0) (frames_table es)).rows) ∙ ap (λ (t : Table owned book.Frame). map (gap_row p) t.rows) (frames-seen a (frames_table es))
 
 -- ---- the schedule
 
@@ -100,9 +104,9 @@ abbrev pub fillings_shown : Actor → List (Owned × PageFrame) → List (book.O
 fillings_shown a es = frames_shown a (λ e. filled_by e.0 e.1) es
 
 pub placements_of-entries : (a : Actor) (es : List (Owned × PageFrame)) → IsStrictlySortedBy owned_cmp (keys_of es)
-    → fillings_shown a es ≡ book.placements_of (only (λ k _. sees a k.0) (frames_table es))
+    → fillings_shown a es ≡ book.placements_of (seen_frames a (frames_table es))
 unfolding book.placements_of
-placements_of-entries a es h = frames_shown-rows a (λ e. filled_by e.0 e.1) es h
+placements_of-entries a es h = frames_shown-rows a (λ e. filled_by e.0 e.1) es h ∙ ap (λ (t : Table owned book.Frame). flat_map (λ e. filled_by e.0 e.1) t.rows) (frames-seen a (frames_table es))
 
 pub sendings_of-sent : (p : Params) (frames : Table owned book.Frame) (fs : List (book.Owner × Placement)) → fs ≡ book.placements_of frames → sent_in fs (cluster_cells p) ≡ sendings_of p frames
 unfolding sendings_of sent_in book.schedule_of
@@ -126,14 +130,15 @@ abbrev of_name : Actor → Name → FrameEntry → Bool
 of_name a n e = sees a e.0.0 && same_text e.0.1 n
 
 rows-named : (a : Actor) (n : Name) (es : List (Owned × PageFrame)) → IsStrictlySortedBy owned_cmp (keys_of es)
-    → filter (of_name a n) (map frame_entry es) ≡ (named n (only (λ k _. sees a k.0) (frames_table es))).rows
+    → filter (of_name a n) (map frame_entry es) ≡ (named n (seen_frames a (frames_table es))).rows
 unfolding named only
 rows-named a n es h =
     filter-both (λ (e : FrameEntry). sees a e.0.0) (λ e. same_text e.0.1 n) (map frame_entry es)
     ∙ ap (λ rs. filter (λ e. same_text e.0.1 n) (filter (λ e. sees a e.0.0) rs)) (rows-frames es h)
+    ∙ ap (λ (t : Table owned book.Frame). filter (λ e. same_text e.0.1 n) t.rows) (frames-seen a (frames_table es))
 
 pub signals_of-entries : (a : Actor) (n : Name) (es : List (Owned × PageFrame)) → IsStrictlySortedBy owned_cmp (keys_of es)
-    → signals_shown a n es ≡ signals_of (named n (only (λ k _. sees a k.0) (frames_table es)))
+    → signals_shown a n es ≡ signals_of (named n (seen_frames a (frames_table es)))
 unfolding signals_of
 signals_of-entries a n es h =
     sym (shown-rows frame_entry (of_name a n) signal_rows es) ∙ ap (flat_map signal_rows) (rows-named a n es h)
@@ -149,7 +154,7 @@ none_left a n (e ∷ es) =
 
 -- no frame of this name is among those that the actor sees
 pub len-named : (a : Actor) (n : Name) (es : List (Owned × PageFrame)) → IsStrictlySortedBy owned_cmp (keys_of es)
-    → not (list_any (λ k. sees a k.supplier && same_text k.name n) (keys_of es)) ≡ (len (named n (only (λ k _. sees a k.0) (frames_table es))) == 0)
+    → not (list_any (λ k. sees a k.supplier && same_text k.name n) (keys_of es)) ≡ (len (named n (seen_frames a (frames_table es))) == 0)
 unfolding len
 len-named a n es h = none_left a n es ∙ ap (λ (rs : List FrameEntry). length rs == 0) (rows-named a n es h)
 

@@ -2,10 +2,10 @@
 use Rattle.std.specs.Prelude.{◌≡◌, ◌⊎◌, Result, Ok, Err, ⊤}
 use Rattle.fr_base.specs.Cluster.{Cluster}
 use Rattle.fr_base.specs.Book.{Book}
-use Rattle.fr_base.specs.Step.{step}
+use Rattle.fr_base.specs.Step.{Outcome, step}
 use Rattle.fr_base.specs.Run.{MayLack}
 use Rattle.fr_base.specs.declared.answer.Answer.{Answer}
-use Rattle.fr_base.specs.declared.answer.Answer.TheVariants.{Refused}
+use Rattle.fr_base.specs.declared.answer.Answer.TheVariants.{Done, Refused}
 use Rattle.fr_base.specs.declared.request.Ask.{Ask}
 use Rattle.fr_base.specs.declared.refusal.Refusal.{Refusal}
 use Rattle.fr_base.specs.declared.refusal.Refusal.TheVariants.{Unavailable}
@@ -14,6 +14,11 @@ use Rattle.fr_base.specs.declared.refusal.Refusal.TheVariants.{Unavailable}
 abbrev pub Does : Result ⊤ Refusal → Book → Book → Result Book Refusal → Type 0
 Does (Ok _) old new said = said ≡ Ok new
 Does (Err e) old new said = (new ≡ old) × ((said ≡ Err e) ⊎ (e ≡ Unavailable))
+
+-- The same of a command, which is answered Done where it was done.
+abbrev pub Performs : Result ⊤ Refusal → Book → Book → Result Outcome Refusal → Type 0
+Performs (Ok _) old new said = said ≡ Ok (record { book = new; answer = Done })
+Performs (Err e) old new said = (new ≡ old) × ((said ≡ Err e) ⊎ (e ≡ Unavailable))
 
 -- From the old book the request may be answered so, and then the book is the new one: it is a step,
 -- or it is answered Unavailable where that may be, and changes nothing.

@@ -1,10 +1,11 @@
--- What a request's line asks.
+-- What a request's line asks, as the book stands.
 use Rattle.std.specs.Prelude.{ℕ, List, Option, Some, None, Result, Ok, Err}
 use Rattle.fr_base.specs.Actors.{actor_of}
+use Rattle.fr_base.specs.Book.{Book}
 use Rattle.fr_base.specs.Cluster.{Cluster}
+use Rattle.fr_base.specs.declared.actor.Actor.{Actor}
 use Rattle.fr_base.specs.declared.refusal.Refusal.{Refusal}
 use Rattle.fr_base.specs.declared.refusal.Refusal.TheVariants.{BadText, UnknownKey}
-use Rattle.fr_base.specs.declared.request.Actor.{Actor}
 use Rattle.fr_base.specs.declared.request.Ask.{Ask}
 use Rattle.fr_base.specs.declared.request.Request.{Request}
 use Rattle.fr_text.specs.RequestText.{request_of}
@@ -21,10 +22,10 @@ asked None actor = Err BadText
 asked (Some request) actor = asked_by actor request
 
 -- a line without a space, or whose text is no request, is refused before its key is looked up
-abbrev pub ask_of : Cluster → Option (List ℕ × List ℕ) → Result Ask Refusal
-ask_of cluster None = Err BadText
-ask_of cluster (Some (key, text)) = asked (request_of text) (actor_of cluster key)
+abbrev pub ask_of : Cluster → Book → Option (List ℕ × List ℕ) → Result Ask Refusal
+ask_of c b None = Err BadText
+ask_of c b (Some (key, text)) = asked (request_of text) (actor_of c b key)
 
 -- who asks what by the line
-unfoldable pub ask_in : Cluster → List ℕ → Result Ask Refusal
-ask_in cluster line = ask_of cluster (key_and_text line)
+unfoldable pub ask_in : Cluster → Book → List ℕ → Result Ask Refusal
+ask_in c b line = ask_of c b (key_and_text line)

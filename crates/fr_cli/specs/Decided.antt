@@ -1,14 +1,17 @@
--- What is asked before a supplier's page decides.
-use Rattle.std.specs.Prelude.{◌≡◌, ℕ, not, Result, Ok}
+-- What is asked of all rows, before and after a supplier's page decides.
+use Rattle.std.specs.Prelude.{Bool, false, not, Result, Ok, ⊤}
 use Rattle.fr_base.specs.Refusing.{◌>>=◌, ◌>>◌, ◌or◌, refuse◌when◌}
 use Rattle.fr_base.specs.Tables.{get, contains}
 use Rattle.fr_base.specs.Book.{Variant, Book}
 use Rattle.fr_base.specs.declared.name.Name.{Name}
-use Rattle.fr_base.specs.declared.channel.Channel.{Channel}
+use Rattle.fr_base.specs.declared.params.Params.{Params}
 use Rattle.fr_base.specs.declared.refusal.Refusal.{Refusal}
 use Rattle.fr_base.specs.declared.refusal.Refusal.TheVariants.{NoVariant, Released, NoSupplier}
 use Rattle.fr_base.specs.declared.request.Command.{Command}
-use Rattle.fr_base.specs.declared.request.Command.TheVariants.{Grant, Revoke}
+use Rattle.fr_base.specs.declared.request.Command.TheVariants.{Rows}
+use Rattle.fr_base.specs.declared.request.Change.{Change}
+use Rattle.fr_base.specs.declared.request.Change.TheVariants.{Grant, Revoke, Frame}
+use Rattle.fr_world.specs.Decisions.{IsChecked}
 
 -- the variant, where it is open and the supplier is there
 unfoldable pub open_to : Book → Name → Name → Result Variant Refusal
@@ -18,12 +21,13 @@ open_to b s v = do
   refuse NoSupplier when not (contains b.suppliers s)
   Ok x
 
--- The command is a grant of slot and channel in the variant to the supplier.
-abbrev pub IsGrant : Command → Name → ℕ × Channel → Name → Type 0
-IsGrant (Grant w k c t n) v at s = (w ≡ v) × ((k, c) ≡ at) × (t ≡ s)
-IsGrant _ v at s = ⊥
+-- whether what is to be granted is held
+abbrev pub is_taken : Variant → Change → Bool
+is_taken x (Grant slot channel node) = contains x.grants (slot, channel)
+is_taken x (Revoke slot channel) = false
+is_taken x (Frame f change) = false
 
--- The command is the end of a grant in the variant to the supplier.
-abbrev pub IsRevoke : Command → Name → Name → Type 0
-IsRevoke (Revoke w k c t) v s = (w ≡ v) × (t ≡ s)
-IsRevoke _ v s = ⊥
+-- A change in the command has a placement that fits the cluster, or a signal that has a length.
+abbrev pub IsCheckedCommand : Params → Command → Type 0
+IsCheckedCommand p (Rows s v change) = IsChecked p change
+IsCheckedCommand p _ = ⊤

@@ -1,6 +1,6 @@
 -- Variants whose frames' gaps can be told.
 use Rattle.std.specs.Prelude.{◌≡◌, ◌≤◌, All, Some}
-use Rattle.fr_base.specs.Limits.{max_placements}
+use Rattle.fr_base.specs.declared.limits.TheConstants.{MAX_PLACEMENTS}
 use Rattle.fr_base.specs.Tables.{get, len}
 use Rattle.fr_base.specs.Book.{Frame, Variant}
 use Rattle.fr_base.specs.Queries.{placements_in}
@@ -10,7 +10,7 @@ use Rattle.fr_base.specs.declared.params.Params.{Params}
 
 -- the frame has at most 8 placements, which fit the cluster
 pub record IsFitting (p : Params) (f : Frame) : Type 0 where
-  pub few : len f.placements ≤ max_placements
+  pub few : len f.placements ≤ MAX_PLACEMENTS
   pub fits : All (FitsCluster p) (placements_in f)
 
 -- each frame's placements are few and fit the cluster

@@ -2,6 +2,7 @@ pub mod Script
 pub mod ScriptFault
 pub mod Asked
 pub mod Output
+pub mod Laws
 pub mod Words
 pub mod Endings
 pub mod Plans
@@ -11,4 +12,5 @@ pub mod Applied
 pub mod Decided
 pub mod Answers
 pub mod Fitting
+pub mod Seen
 pub mod Runs

@@ -1,49 +1,39 @@
 -- What the run of a script writes.
-use Rattle.std.specs.Prelude.{◌≡◌, ℕ, List, [], ◌∷◌, ◌++◌, map, codes, Option, Some, Result, Ok, Err, option_map}
+use Rattle.std.specs.Prelude.{◌≡◌, ◌≤◌, ℕ, List, [], ◌∷◌, ◌++◌, length, codes, Option, Some, Result, Ok, option_map}
 use Rattle.std.specs.List.{flat_map}
 use Rattle.fr_base.specs.Book.{Book, opening}
 use Rattle.fr_base.specs.Cluster.{Cluster}
-use Rattle.fr_base.specs.Run.{IsRun}
+use Rattle.fr_base.specs.Cluster.{IsWellFormed}
 use Rattle.fr_base.specs.Sound.{IsSound}
 use Rattle.fr_base.specs.declared.answer.Answer.{Answer}
-use Rattle.fr_base.specs.declared.answer.Answer.TheVariants.{Refused}
-use Rattle.fr_base.specs.declared.refusal.Refusal.{Refusal}
-use Rattle.fr_base.specs.declared.request.Ask.{Ask}
 use Rattle.fr_text.specs.AnswerText.{text_of}
+use Rattle.fr_cli.specs.Answers.{Replied}
 use Rattle.fr_cli.specs.Asked.{ask_in}
 use Rattle.fr_text.specs.ClusterFile.{config_of}
-use Rattle.fr_cli.specs.Script.{parts_of, request_lines}
+use Rattle.fr_cli.specs.Script.{max_script, parts_of, request_lines}
 use Rattle.fr_text.specs.declared.cluster_file.ConfigFault.{ConfigFault}
 
--- what each of the lines asks, or the refusal of a line that asks nothing
-abbrev pub read_lines : Cluster → List (List ℕ) → List (Result Ask Refusal)
-read_lines c lines = map (ask_in c) lines
-
--- the asks among them
-abbrev pub asks_of : List (Result Ask Refusal) → List Ask
-asks_of [] = []
-asks_of (Ok ask ∷ read) = ask ∷ asks_of read
-asks_of (Err refusal ∷ read) = asks_of read
-
--- one answer for each line: an ask has the next of these answers, and a line that asks nothing is refused in its place
-abbrev pub answers_of : List (Result Ask Refusal) → List Answer → List Answer
-answers_of [] answers = []
-answers_of (Err refusal ∷ read) answers = Refused refusal ∷ answers_of read answers
-answers_of (Ok ask ∷ read) (answer ∷ answers) = answer ∷ answers_of read answers
-answers_of (Ok ask ∷ read) [] = []
+-- From this book the lines may be answered so, one after another, and then the book is the last: what a line asks, as the
+-- book then stands, is answered; a line that asks nothing is refused, and changes nothing.
+abbrev pub AreAnswered : Cluster → Book → List (List ℕ) → List Answer → Book → Type 0
+AreAnswered c b [] [] last = last ≡ b
+AreAnswered c b (line ∷ lines) (answer ∷ answers) last =
+    (next : Book) × Replied c b (ask_in c b line) answer next × AreAnswered c next lines answers last
+AreAnswered c b [] (_ ∷ _) last = ⊥
+AreAnswered c b (_ ∷ _) [] last = ⊥
 
 -- each answer on a line of its own
 abbrev pub text_of_answers : List Answer → List ℕ
 text_of_answers answers = flat_map (λ answer. text_of answer ++ codes "\n") answers
 
--- The bytes answer the lines: from the register that was just made the asks among them may be answered so, one after
--- another, the register that is then reached is sound, and the bytes are the text of one answer for each line.
+-- The bytes answer the lines: from the register that was just made the lines may be answered so, the register that is then
+-- reached is sound, and the bytes are the text of one answer for each line.
 pub record IsAnswered (c : Cluster) (lines : List (List ℕ)) (written : List ℕ) : Type 0 where
   pub answers : List Answer
   pub last : Book
-  pub run : IsRun c (opening c) (asks_of (read_lines c lines)) answers last
+  pub answered : AreAnswered c (opening c) lines answers last
   pub sound : IsSound c last
-  pub bytes : written ≡ text_of_answers (answers_of (read_lines c lines) answers)
+  pub bytes : written ≡ text_of_answers answers
 
 -- The bytes answer the lines up to those that are left.
 pub record IsAnsweredTo (c : Cluster) (lines left : List (List ℕ)) (written : List ℕ) : Type 0 where
@@ -59,9 +49,12 @@ cluster_in script = option_map (λ parts. config_of parts.0) (parts_of script)
 abbrev pub lines_in : List ℕ → Option (List (List ℕ))
 lines_in script = option_map (λ parts. request_lines parts.1) (parts_of script)
 
--- The bytes answer the script's requests up to those that are left.
+-- The bytes answer the script's requests up to those that are left. The script is not too long, and the cluster that its
+-- file says is well formed, so that the laws of soundness and of runs hold of its register.
 pub record IsOutputTo (script : List ℕ) (left : List (List ℕ)) (written : List ℕ) : Type 0 where
+  pub size : length script ≤ max_script
   pub cluster : Cluster
+  pub formed : IsWellFormed cluster
   pub lines : List (List ℕ)
   pub file : cluster_in script ≡ Some (Ok cluster)
   pub requests : lines_in script ≡ Some lines

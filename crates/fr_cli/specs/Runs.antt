@@ -4,12 +4,9 @@ use Rattle.std.specs.Io.KnownBytes.{Appends, IsAtEnd, Keeps}
 use Rattle.fr_text.specs.declared.cluster_file.ConfigFault.{ConfigFault}
 use Rattle.fr_text.specs.declared.cluster_file.ConfigFault.TheVariants as cluster
 use Rattle.fr_cli.specs.Output.{IsCutShort, IsOutput, LacksMemory, cluster_in}
+use Rattle.fr_cli.specs.Script.{max_script}
 use Rattle.fr_cli.specs.declared.script_fault.ScriptFault.{ScriptFault}
 use Rattle.fr_cli.specs.declared.script_fault.ScriptFault.TheVariants.{TooLong, TooManyReads, ReadFailed, NoSeparator, Config, Unavailable, NoMemory, WriteFailed}
-
--- how many bytes a script has at most
-abbrev pub max_script : ℕ
-max_script = 16777216
 
 -- The run ended so: the reader had this script and has this left, and the writer had the old bytes and has the new ones.
 pub record IsRunOf (script left old new : Option (List ℕ)) (done : Result ⊤ ScriptFault) : Type 0 where

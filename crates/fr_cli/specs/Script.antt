@@ -4,6 +4,10 @@ use Rattle.std.specs.List.{list_any, concat, before_first, after_first}
 use Rattle.std.specs.Str.{bytes_eq}
 use Rattle.std.specs.Str.Lines.{lines}
 
+-- how many bytes a script has at most
+abbrev pub max_script : ℕ
+max_script = 16777216
+
 -- a byte at the front of the first line: a line feed there is a line of its own
 abbrev pub onto_first_line : ℕ → List (List ℕ) → List (List ℕ)
 onto_first_line b [] = (b ∷ []) ∷ []

@@ -1,6 +1,5 @@
 //! How the register answers a request.
 ghost use Rattle.std.specs.Prelude.{◌≡◌, IsTrue};
-ghost use Rattle.fr_base.specs.Book.{opening};
 ghost use Rattle.fr_base.specs.Sound.{IsSound};
 ghost use Rattle.fr_base.specs.Step.{knows};
 ghost use Rattle.fr_cli.specs.Answers.{Answers};
@@ -13,13 +12,13 @@ use std::alloc::Global;
 impl Register {
     /// Answers a request of the integrator's or of a supplier's that is there.
     pub(crate) fn answer(&mut self, alloc: Global, ask: &Ask) -> Answer
-        requires known { IsTrue (knows (opening self.old.config) ask.now.actor) }
+        requires known { IsTrue (knows (book_of self.old) ask.now.actor) }
         requires sound { IsSound self.old.config (book_of self.old) }
         ensures config { self.new.config ≡ self.old.config }
         ensures answers { Answers self.old.config (book_of self.old) ask.now result (book_of self.new) }
     {
         match check(&self.config.params(), &ask.actor, &ask.request) {
-            Ok(Checked::Command(command)) => match self.change(alloc, &ask.actor, &command) {
+            Ok(Checked::Command(command)) => match self.change(alloc, &command) {
                 Ok(()) => Answer::Done,
                 Err(refusal) => Answer::Refused(refusal),
             },

@@ -4,7 +4,7 @@ ghost use Rattle.std.specs.Option.{option_and_then};
 ghost use Rattle.fr_base.specs.Tables.{get, insert};
 ghost use Rattle.fr_base.specs.Step.{with_variant};
 ghost use Rattle.fr_base.specs.declared.refusal.Refusal.TheVariants.{Unavailable};
-ghost use Rattle.fr_world.specs.Changes.{change_variant, changed, changes, copied};
+ghost use Rattle.fr_world.specs.BookEdits.{all_applied, applied, change_variant, copied};
 ghost use Rattle.fr_cli.specs.Applied.{variant_edited};
 ghost use Rattle.fr_cli.specs.Plans.{variant_of};
 ghost use Rattle.fr_cli.specs.Registers.{book_of};
@@ -23,7 +23,7 @@ impl Register {
     pub(crate) fn apply_all(&mut self, alloc: Global, edits: &[Edit]) -> Result<(), Refusal>
         requires { length edits.now ≤ 1 }
         ensures config { self.new.config ≡ self.old.config }
-        ensures ok { OnOk result (book_of self.new ≡ changes (book_of self.old) edits.now) }
+        ensures ok { OnOk result (book_of self.new ≡ all_applied (book_of self.old) edits.now) }
         ensures err { OnErr result ((book_of self.new ≡ book_of self.old) × (result ≡ Err Unavailable)) }
     {
         match edits.first() {
@@ -35,10 +35,10 @@ impl Register {
     /// Makes the edit. A change of a variant or frame that is not there changes nothing.
     /// `Unavailable` where memory is refused or a signal cannot stand with the frame's others, which
     /// changes nothing.
-    #[tactic(auto, unfolding(fr_world::specs::Changes::changed, crate::specs::Applied::variant_edited, crate::specs::Applied::frames_edited, fr_world::specs::Amends::frame_edited))]
+    #[tactic(auto, unfolding(fr_world::specs::BookEdits::applied, crate::specs::Applied::variant_edited))]
     pub(crate) fn apply(&mut self, alloc: Global, edit: &Edit) -> Result<(), Refusal>
         ensures config { self.new.config ≡ self.old.config }
-        ensures ok { OnOk result (book_of self.new ≡ changed (book_of self.old) edit.now) }
+        ensures ok { OnOk result (book_of self.new ≡ applied (book_of self.old) edit.now) }
         ensures err { OnErr result ((book_of self.new ≡ book_of self.old) × (result ≡ Err Unavailable)) }
     {
         match edit {
@@ -48,15 +48,9 @@ impl Register {
                 depth,
             } => self.new_variant(alloc, *variant, parent, *depth),
             Edit::NewNode { supplier, node } => self.new_node(*supplier, *node),
-            Edit::SetReleased { variant }
-            | Edit::PutGrant { variant, .. }
-            | Edit::EndGrant { variant, .. }
-            | Edit::NewFrame { variant, .. }
-            | Edit::EndFrame { variant, .. }
-            | Edit::PutPlacement { variant, .. }
-            | Edit::EndPlacement { variant, .. }
-            | Edit::PutSignal { variant, .. }
-            | Edit::EndSignal { variant, .. } => self.change_variant(alloc, *variant, edit),
+            Edit::SetReleased { variant } | Edit::Rows { variant, .. } => {
+                self.change_variant(alloc, *variant, edit)
+            }
             Edit::KeepImport { .. } => Ok(()),
         }
     }
@@ -67,10 +61,8 @@ impl Register {
         ensures ok { OnOk result (book_of self.new ≡ record (book_of self.old) { nodes = insert (book_of self.old).nodes (supplier, name) tt }) }
         ensures err { OnErr result ((book_of self.new ≡ book_of self.old) × (result ≡ Err Unavailable)) }
     {
-        match self.nodes.insert(Owned { supplier, name }) {
-            Ok(_) => Ok(()),
-            Err(_) => Err(Refusal::Unavailable),
-        }
+        self.nodes.insert(Owned { supplier, name })?;
+        Ok(())
     }
 
     // The variant is there, with its parent's rows or with none, and is not released.
@@ -86,10 +78,8 @@ impl Register {
         ensures err { OnErr result ((book_of self.new ≡ book_of self.old) × (result ≡ Err Unavailable)) }
     {
         let plan = self.begun(alloc, parent, depth)?;
-        match self.variants.insert(variant, plan) {
-            Ok(_) => Ok(()),
-            Err(_) => Err(Refusal::Unavailable),
-        }
+        self.variants.insert(variant, plan)?;
+        Ok(())
     }
 
     // What a new variant begins as.

@@ -1,11 +1,14 @@
-ghost use Rattle.std.specs.Prelude.{◌≡◌, ◌↔◌, ℕ, List, ◌+◌, ◌<◌, ◌≤◌, ◌++◌, length, vec_len, IfSome, IfOk, IfErr, OnOk, IsErrOf};
+//! A whole input, read within bounds: that of a script.
+ghost use Rattle.std.specs.Prelude.{◌≡◌, ◌↔◌, ℕ, List, ◌+◌, ◌<◌, ◌≤◌, ◌++◌, length, vec_len, IfSome, IfOk, IfErr, OnOk, IsErrOf, IsOk};
 ghost use Rattle.std.specs.Io.KnownBytes.{Consumes, IsAtEnd};
+ghost use Rattle.std.specs.IoError.{error_kind};
 ghost use Rattle.fr_cli.specs.ScriptFault.{script_fault_of};
 ghost use Rattle.fr_cli.specs.declared.input.InputFault.{InputFault};
 
 use crate::script_fault::ScriptFault;
-use std::alloc::{AllocError, Global};
-use std::io::{ErrorKind, Read};
+use fr_base::NoMemory;
+use std::alloc::Global;
+use std::io::{Error, ErrorKind, Read};
 
 /// The most bytes that a script may have.
 pub const SCRIPT_BYTES: usize = 16_777_216;
@@ -38,12 +41,12 @@ pub enum InputFault {
     NoMemory,
 }
 
-impl From<AllocError> for InputFault {
+impl From<NoMemory> for InputFault {
     ghost use Rattle.fr_cli.specs.declared.input.InputFault.TheVariants.{NoMemory};
 
     ghost from_gives = { λ _ fault. fault ≡ NoMemory };
 
-    fn from(_error: AllocError) -> Self {
+    fn from(_refused: NoMemory) -> Self {
         Self::NoMemory
     }
 }
@@ -100,14 +103,24 @@ pub fn read_within<R: Read>(
         match reader.read(&mut piece) {
             Ok(0) => return Ok(input),
             Ok(n) => append(&mut input, &piece[..n], bounds.bytes)?,
-            Err(error) if error.kind() == ErrorKind::Interrupted => {}
-            Err(_) => return Err(InputFault::ReadFailed),
+            Err(error) => try_again(&error)?,
         }
     }
     Err(InputFault::TooManyReads)
 }
 
-/// Adds a piece to the input's end, unless the input were then longer than the bound.
+// Whether a read that failed so is tried again: it is, where it was interrupted.
+fn try_again(error: &Error) -> Result<(), InputFault>
+    ensures ok { IsOk result ↔ (error_kind error.now ≡ ErrorKind.Interrupted) }
+    ensures fault { IfErr result (λ fault. fault ≡ InputFault.ReadFailed) }
+{
+    match error.kind() {
+        ErrorKind::Interrupted => Ok(()),
+        _ => Err(InputFault::ReadFailed),
+    }
+}
+
+// Adds a piece to the input's end, unless the input were then longer than the bound.
 fn append(input: &mut Vec<u8>, piece: &[u8], bound: usize) -> Result<(), InputFault>
     requires { vec_len input.old ≤ bound }
     ensures ok { OnOk result (input.new.items ≡ input.old.items ++ piece.now) }
@@ -120,6 +133,3 @@ fn append(input: &mut Vec<u8>, piece: &[u8], bound: usize) -> Result<(), InputFa
     input.extend_from_slice(piece)?;
     Ok(())
 }
-
-#[cfg(test)]
-mod tests;

@@ -1,3 +1,4 @@
+//! The parts of a script, and the lines of its requests.
 ghost use Rattle.std.specs.Prelude.{◌≡◌, ◌↔◌, ◌==◌, ℕ, List, [], ◌∷◌, ◌++◌, IsNone, IfSome, codes, position};
 ghost use Rattle.std.specs.Option.{option_map};
 ghost use Rattle.std.specs.Str.{bytes_eq};
@@ -111,6 +112,3 @@ fn index_of(bytes: &[u8], byte: u8) -> Option<usize>
 {
     bytes.iter().position(|b| *b == byte)
 }
-
-#[cfg(test)]
-mod tests;

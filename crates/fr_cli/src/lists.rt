@@ -1,17 +1,28 @@
-ghost use Rattle.std.specs.Prelude.{◌≡◌, IfOk};
+//! Lists of the register's rows, and who asks with a key.
+ghost use Rattle.std.specs.Prelude.{◌≡◌, IfOk, IfSome, IsTrue};
+ghost use Rattle.fr_base.specs.Actors.{actor_of};
+ghost use Rattle.fr_base.specs.Step.{knows};
 ghost use Rattle.std.specs.List.{list_any};
-ghost use Rattle.fr_base.specs.Cluster.{same_text};
+ghost use Rattle.fr_base.specs.Names.{same_text};
 ghost use Rattle.fr_base.specs.Tables.{contains};
-ghost use Rattle.fr_world.specs.Changes.{variants_in};
+ghost use Rattle.fr_world.specs.BookEdits.{variants_in};
 ghost use Rattle.fr_world.specs.Pages.{nodes_in};
 ghost use Rattle.fr_cli.specs.Registers.{book_of};
 
 use crate::register::Register;
-use fr_base::{Name, Supplier};
+use fr_base::{Actor, Name, Supplier};
 use fr_world::VariantRow;
 use std::alloc::{AllocError, Global};
 
 impl Register {
+    /// Who asks with this key.
+    pub(crate) fn actor_of(&self, key: &[u8]) -> Option<Actor>
+        ensures value { result ≡ actor_of self.now.config (book_of self.now) key.now }
+        ensures known { IfSome result (λ actor. IsTrue (knows (book_of self.now) actor)) }
+    {
+        self.config.actor_of(key)
+    }
+
     /// Whether there is such a supplier.
     pub(crate) fn has_supplier(&self, supplier: Name) -> bool
         ensures { result ≡ contains (book_of self.now).suppliers supplier }
@@ -58,7 +69,6 @@ fn is_named(suppliers: &[Supplier], name: Name) -> bool
         .any(|supplier| is_same(name, supplier.name))
 }
 
-#[tactic(auto, using(fr_base::proofs::ActorsLemmas::same_bytes))]
 fn is_same(name: Name, other: Name) -> bool
     ensures { result ≡ same_text name other }
 {

@@ -5,6 +5,7 @@ mod answers;
 mod apply;
 mod changes;
 mod input;
+mod laws;
 mod lines;
 mod lists;
 mod output;
@@ -16,6 +17,7 @@ mod register;
 mod script;
 mod script_fault;
 
+use crate::output::Output;
 use crate::program::{Job, perform, read_words, status_of};
 use crate::script_fault::ScriptFault;
 use std::env;
@@ -33,7 +35,7 @@ fn run(rt: &HostRuntime) -> u8 {
     let job = match words(rt) {
         Ok(words) => read_words(&words),
         Err(error) if error.kind() == ErrorKind::OutOfMemory => {
-            return status_of(Err(ScriptFault::NoMemory), &mut err);
+            return status_of(Err(ScriptFault::NoMemory), &mut Output::new(&mut err));
         }
         Err(_) => Job::Usage,
     };

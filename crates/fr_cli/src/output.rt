@@ -1,11 +1,12 @@
+//! Text written whole to a writer: a write that is interrupted is tried again.
 ghost use Rattle.std.specs.Prelude.{◌≡◌, ◌↔◌, ℕ, ◌+◌, ◌<◌, ◌≤◌, take, length, OnOk, OnErr, IsOk};
 ghost use Rattle.std.specs.Io.KnownBytes.{Appends, Keeps};
+ghost use Rattle.std.specs.IoError.{error_kind};
 
 use crate::script_fault::ScriptFault;
-use std::io::{ErrorKind, Write};
-use std::marker::Model;
+use std::io::{Error, ErrorKind, Write};
 
-/// How many interrupted writes of a run are tried again.
+/// How many interrupted writes of an output are tried again.
 pub const WRITE_RETRIES: u32 = 1_000;
 
 /// A text was not written whole: a write failed, took nothing of a piece that is not empty, or was
@@ -23,78 +24,68 @@ impl From<WriteFailed> for ScriptFault {
     }
 }
 
-/// How many more interrupted writes of a run are tried again.
-#[derive(Debug, Drop)]
-pub struct Retries {
-    left: u32,
+/// A writer, and how many more of its interrupted writes are tried again. It alone has the writer, so all
+/// that is written shares these retries.
+#[derive(Drop)]
+pub struct Output<'a, W> {
+    writer: &'a mut W,
+    retries: u32,
 }
 
-impl Model for Retries {
-    ghost use Rattle.std.specs.Prelude.{ℕ, ◌≤◌};
-
-    ghost Value = { ℕ };
-
-    ghost view = { λ r. r.left };
-
-    ghost invariant = { λ r. r.left ≤ 1000 };
-}
-
-impl Retries {
-    /// Those of a run that begins, [`WRITE_RETRIES`] of them.
-    pub fn new() -> Self
-        ensures { result ≡ WRITE_RETRIES }
+impl<'a, W: Write> Output<'a, W> {
+    /// The output of a writer, with [`WRITE_RETRIES`] retries.
+    pub fn new(writer: &'a mut W) -> Output<'a, W>
+        ensures same { result.writer.ghost_name ≡ writer.entry.ghost_name }
+        ensures holds { result.writer.now ≡ writer.old }
+        ensures retries { result.retries ≡ WRITE_RETRIES }
     {
-        Retries {
-            left: WRITE_RETRIES,
+        Output {
+            writer,
+            retries: WRITE_RETRIES,
         }
     }
 
-    /// Uses one up. Fails where none is left.
-    fn spend(&mut self) -> Result<(), WriteFailed>
-        ensures ok { OnOk result (self.new + 1 ≡ self.old) }
-        ensures err { OnErr result (self.new ≡ self.old) }
-        ensures left { IsOk result ↔ (0 < self.old) }
+    /// Writes all the bytes. A write that is interrupted is tried again, as long as a retry is left.
+    pub fn write_all(&mut self, bytes: &[u8]) -> Result<(), WriteFailed>
+        ensures ok { OnOk result (Appends (W.contents self.old.writer.now) (W.contents self.new.writer.now) bytes.now) }
+
+        // A front of the bytes was written, and not all of them.
+        ensures err { OnErr result ((n : ℕ) × (n < length bytes.now)
+            × Appends (W.contents self.old.writer.now) (W.contents self.new.writer.now) (take n bytes.now)) }
+        ensures retries { self.new.retries ≤ self.old.retries }
+        ensures same { self.new.writer.ghost_name ≡ self.old.writer.ghost_name }
     {
-        if self.left == 0 {
-            return Err(WriteFailed);
+        let mut rest = bytes;
+        while !rest.is_empty() {
+            match self.writer.write(rest) {
+                Ok(0) => return Err(WriteFailed),
+                Ok(n) => rest = &rest[n..],
+                Err(error) => self.try_again(&error)?,
+            }
         }
-        self.left -= 1;
         Ok(())
     }
-}
 
-/// Writes all the bytes. A write that is interrupted is tried again, as long as the run has a
-/// retry left.
-pub fn write_all<W: Write>(
-    writer: &mut W,
-    retries: &mut Retries,
-    bytes: &[u8],
-) -> Result<(), WriteFailed>
-    ensures ok { OnOk result (Appends (W.contents writer.old) (W.contents writer.new) bytes.now) }
-
-    // A front of the bytes was written, and not all of them.
-    ensures err { OnErr result ((n : ℕ) × (n < length bytes.now)
-        × Appends (W.contents writer.old) (W.contents writer.new) (take n bytes.now)) }
-    ensures retries { retries.new ≤ retries.old }
-{
-    let mut rest = bytes;
-    while !rest.is_empty() {
-        match writer.write(rest) {
-            Ok(0) => return Err(WriteFailed),
-            Ok(n) => rest = &rest[n..],
-            Err(error) if error.kind() == ErrorKind::Interrupted => retries.spend()?,
-            Err(_) => return Err(WriteFailed),
+    // Uses up a retry for a write that failed so: one that was interrupted, where a retry is left.
+    fn try_again(&mut self, error: &Error) -> Result<(), WriteFailed>
+        ensures ok { OnOk result (self.new.retries + 1 ≡ self.old.retries) }
+        ensures err { OnErr result (self.new.retries ≡ self.old.retries) }
+        ensures again { IsOk result ↔ ((error_kind error.now ≡ ErrorKind.Interrupted) × (0 < self.old.retries)) }
+        ensures same { self.new.writer ≡ self.old.writer }
+    {
+        if error.kind() != ErrorKind::Interrupted || self.retries == 0 {
+            return Err(WriteFailed);
         }
+        self.retries -= 1;
+        Ok(())
     }
-    Ok(())
-}
 
-/// Flushes the writer, at the end of a run. What it holds stays.
-pub fn flush<W: Write>(writer: &mut W) -> Result<(), WriteFailed>
-    ensures { Keeps (W.contents writer.old) (W.contents writer.new) }
-{
-    writer.flush().map_err(|_| WriteFailed)
+    /// Flushes the writer. What it holds stays.
+    pub fn flush(&mut self) -> Result<(), WriteFailed>
+        ensures holds { Keeps (W.contents self.old.writer.now) (W.contents self.new.writer.now) }
+        ensures retries { self.new.retries ≡ self.old.retries }
+        ensures same { self.new.writer.ghost_name ≡ self.old.writer.ghost_name }
+    {
+        self.writer.flush().map_err(|_| WriteFailed)
+    }
 }
-
-#[cfg(test)]
-mod tests;

@@ -1,7 +1,8 @@
+//! A supplier's rows among all, as a page.
 ghost use Rattle.std.specs.Prelude.{◌≡◌, Err, IfOk, IfSome, OnErr, OnOk};
 ghost use Rattle.fr_base.specs.Keys.{owned, channel_slots};
 ghost use Rattle.fr_base.specs.Book.{held_by};
-ghost use Rattle.fr_base.specs.Step.{is_of};
+ghost use Rattle.fr_base.specs.Book.{is_of};
 ghost use Rattle.fr_base.specs.Tables.{only};
 ghost use Rattle.fr_world.specs.Maps.{set_of, table_of};
 ghost use Rattle.fr_world.specs.Pages as pages;

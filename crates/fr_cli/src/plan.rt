@@ -1,5 +1,6 @@
+//! The rows of one variant.
 ghost use Rattle.std.specs.Prelude.{◌≡◌};
-ghost use Rattle.fr_base.specs.Cluster.{same_text};
+ghost use Rattle.fr_base.specs.Names.{same_text};
 
 use fr_base::Name;
 use fr_world::{ChannelSlot, PageFrame};

@@ -6,7 +6,7 @@ ghost use Rattle.fr_cli.specs.Runs.{IsRunOf};
 ghost use Rattle.fr_cli.specs.Words.{is_help, job_of};
 ghost use Rattle.fr_cli.specs.declared.script_fault.ScriptFault.{ScriptFault};
 
-use crate::output::{Retries, WriteFailed, write_all};
+use crate::output::{Output, WriteFailed};
 use crate::script::run_script;
 use crate::script_fault::ScriptFault;
 use std::alloc::Global;
@@ -73,20 +73,25 @@ pub fn perform<R: Read, O: Write, E: Write>(
     ensures usage { job ≡ Job.Usage → (result ≡ 2) × Keeps (O.contents out.old) (O.contents out.new)
         × AppendsFront (E.contents err.old) (E.contents err.new) USAGE.now }
 {
+    let mut err = Output::new(err);
     match job {
-        Job::Run => status_of(run_script(alloc, input, out), err),
-        Job::Help => status_of(print(USAGE, out).map_err(ScriptFault::from), err),
+        Job::Run => status_of(run_script(alloc, input, out), &mut err),
+        Job::Help => {
+            let done = print(USAGE, &mut Output::new(out));
+            status_of(done.map_err(ScriptFault::from), &mut err)
+        }
         Job::Usage => {
-            let _ = print(USAGE, err);
+            let _ = print(USAGE, &mut err);
             2
         }
     }
 }
 
 /// The status of a job that ended so. The fault's word is printed.
-pub fn status_of<E: Write>(done: Result<(), ScriptFault>, err: &mut E) -> u8
+pub fn status_of<E: Write>(done: Result<(), ScriptFault>, err: &mut Output<'_, E>) -> u8
     ensures status { result ≡ status_of done }
-    ensures tells { Tells (E.contents err.old) (E.contents err.new) done }
+    ensures tells { Tells (E.contents err.old.writer.now) (E.contents err.new.writer.now) done }
+    ensures same { err.new.writer.ghost_name ≡ err.old.writer.ghost_name }
 {
     match done {
         Ok(()) => 0,
@@ -98,22 +103,20 @@ pub fn status_of<E: Write>(done: Result<(), ScriptFault>, err: &mut E) -> u8
 }
 
 // Writes the text.
-fn print<W: Write>(text: &str, out: &mut W) -> Result<(), WriteFailed>
-    ensures ok { OnOk result (Appends (W.contents out.old) (W.contents out.new) text.now) }
-    ensures front { AppendsFront (W.contents out.old) (W.contents out.new) text.now }
+fn print<W: Write>(text: &str, output: &mut Output<'_, W>) -> Result<(), WriteFailed>
+    ensures ok { OnOk result (Appends (W.contents output.old.writer.now) (W.contents output.new.writer.now) text.now) }
+    ensures front { AppendsFront (W.contents output.old.writer.now) (W.contents output.new.writer.now) text.now }
+    ensures same { output.new.writer.ghost_name ≡ output.old.writer.ghost_name }
 {
-    write_all(out, &mut Retries::new(), text.as_bytes())
+    output.write_all(text.as_bytes())
 }
 
 // Writes the fault's line.
-fn print_fault<W: Write>(fault: ScriptFault, out: &mut W) -> Result<(), WriteFailed>
-    ensures front { AppendsFront (W.contents out.old) (W.contents out.new) (fault_line fault) }
+fn print_fault<W: Write>(fault: ScriptFault, output: &mut Output<'_, W>) -> Result<(), WriteFailed>
+    ensures front { AppendsFront (W.contents output.old.writer.now) (W.contents output.new.writer.now) (fault_line fault) }
+    ensures same { output.new.writer.ghost_name ≡ output.old.writer.ghost_name }
 {
-    let mut retries = Retries::new();
-    write_all(out, &mut retries, b"slotplan: ")?;
-    write_all(out, &mut retries, fault.word().as_bytes())?;
-    write_all(out, &mut retries, b"\n")
+    output.write_all(b"slotplan: ")?;
+    output.write_all(fault.word().as_bytes())?;
+    output.write_all(b"\n")
 }
-
-#[cfg(test)]
-mod tests;

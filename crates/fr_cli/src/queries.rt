@@ -1,7 +1,8 @@
 //! What the register answers to queries.
 ghost use Rattle.std.specs.Prelude.{◌≡◌, ◌⊎◌, IfErr, IfOk, option_map};
 ghost use Rattle.fr_base.specs.Checks.{is_integrator};
-ghost use Rattle.fr_base.specs.Queries.{reply, sees, shown, variant_asked};
+ghost use Rattle.fr_base.specs.Queries.{reply, shown, variant_asked};
+ghost use Rattle.fr_cli.specs.Seen.{sees};
 ghost use Rattle.fr_base.specs.Sound.{IsSound};
 ghost use Rattle.fr_base.specs.Tables.{get};
 ghost use Rattle.fr_base.specs.declared.refusal.Refusal.TheVariants.{Unavailable};

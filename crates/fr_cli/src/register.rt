@@ -1,3 +1,4 @@
+//! The register's rows.
 ghost use Rattle.std.specs.Prelude.{◌≡◌, []};
 ghost use Rattle.fr_base.specs.Book.{opening};
 ghost use Rattle.fr_cli.specs.Registers.{book_of};

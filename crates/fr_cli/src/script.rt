@@ -1,26 +1,25 @@
 //! Runs a script: reads it, and writes the answer to each of its requests.
-ghost use Rattle.std.specs.Prelude.{◌≡◌, ◌⊎◌, ◌<◌, ◌++◌, ◌∷◌, ℕ, List, [], codes, length, Some, None, Ok, Err, IfErr, IfOk, IfSome, IsErrOf, IsOk, IsTrue, OnOk};
-ghost use Rattle.std.specs.Io.KnownBytes.{Appends, IsAtEnd, Keeps};
-ghost use Rattle.fr_base.specs.Book.{opening};
+ghost use Rattle.std.specs.Prelude.{◌≡◌, ◌⊎◌, ◌++◌, ◌∷◌, ℕ, List, [], codes, Err, IfErr, IfOk, IsErrOf, IsTrue, OnOk};
+ghost use Rattle.std.specs.Io.KnownBytes.{Appends};
 ghost use Rattle.fr_base.specs.Step.{knows};
 ghost use Rattle.fr_base.specs.Sound.{IsSound};
-ghost use Rattle.fr_base.specs.Laws.{IsWellFormed};
+ghost use Rattle.fr_base.specs.Cluster.{IsWellFormed};
 ghost use Rattle.fr_cli.specs.Asked.{ask_in};
 ghost use Rattle.fr_cli.specs.Answers.{Replied};
 ghost use Rattle.fr_cli.specs.Registers.{book_of};
-ghost use Rattle.fr_cli.specs.Output.{IsAnsweredTo, IsCutShort, IsOutput, LacksMemory, cluster_in};
+ghost use Rattle.fr_cli.specs.Output.{IsAnsweredTo};
+ghost use Rattle.fr_cli.specs.Runs.{IsRunOf};
 ghost use Rattle.fr_cli.specs.Script.{request_lines};
 ghost use Rattle.fr_text.specs.AnswerText.{text_of};
-ghost use Rattle.fr_text.specs.declared.cluster_file.ConfigFault.{ConfigFault};
 
-use crate::input::{SCRIPT_BYTES, read_all};
+use crate::input::read_all;
 use crate::lines::{RequestLines, key_and_text, split_script};
-use crate::output::{Retries, flush, write_all};
+use crate::output::Output;
 use crate::register::Register;
 use crate::script_fault::ScriptFault;
-use fr_base::{Answer, Ask, Config, Refusal};
-use fr_text::{ConfigFault, append_answer, read_command, read_config};
-use std::alloc::{AllocError, Global};
+use fr_base::{Answer, Ask, Config, NoMemory, Refusal};
+use fr_text::{read_command, read_config, write_answer};
+use std::alloc::Global;
 use std::io::{Read, Write};
 
 /// Reads a whole script, and answers its requests in order, each on a line of its own. What it
@@ -32,28 +31,13 @@ pub fn run_script<R: Read, W: Write>(
     reader: &mut R,
     writer: &mut W,
 ) -> Result<(), ScriptFault>
-    ensures output { OnOk result (IfSome (R.remaining reader.old) (λ script. (written : List ℕ)
-        × Appends (W.contents writer.old) (W.contents writer.new) written × IsOutput script written)) }
-    ensures whole_script { OnOk result (IsAtEnd (R.remaining reader.new)) }
-    ensures too_long { IsErrOf result ScriptFault.TooLong → Keeps (W.contents writer.old) (W.contents writer.new)
-        × IfSome (R.remaining reader.old) (λ script. SCRIPT_BYTES < length script) }
-    ensures too_many_reads { IsErrOf result ScriptFault.TooManyReads → Keeps (W.contents writer.old) (W.contents writer.new) }
-    ensures read_failed { IsErrOf result ScriptFault.ReadFailed → Keeps (W.contents writer.old) (W.contents writer.new) }
-    ensures no_separator { IsErrOf result ScriptFault.NoSeparator → Keeps (W.contents writer.old) (W.contents writer.new)
-        × IsAtEnd (R.remaining reader.new) × IfSome (R.remaining reader.old) (λ script. cluster_in script ≡ None) }
-    ensures config { (fault : ConfigFault) → IsErrOf result (ScriptFault.Config fault) → Keeps (W.contents writer.old) (W.contents writer.new)
-        × IfSome (R.remaining reader.old) (λ script. (cluster_in script ≡ Some (Err fault)) ⊎ (fault ≡ ConfigFault.NoMemory)) }
-    ensures no_memory { IsErrOf result ScriptFault.NoMemory → Keeps (W.contents writer.old) (W.contents writer.new)
-        ⊎ IfSome (R.remaining reader.old) (λ script. (written : List ℕ)
-        × Appends (W.contents writer.old) (W.contents writer.new) written × LacksMemory script written) }
-    ensures write_failed { IsErrOf result ScriptFault.WriteFailed → IfSome (R.remaining reader.old) (λ script. (written : List ℕ)
-        × Appends (W.contents writer.old) (W.contents writer.new) written × IsCutShort script written) }
-    ensures available { IsErrOf result ScriptFault.Unavailable → ⊥ }
+    ensures { IsRunOf (R.remaining reader.old) (R.remaining reader.new) (W.contents writer.old) (W.contents writer.new) result }
 {
     let script = read_all(alloc, reader)?;
     let (cluster, requests) = split_script(&script).ok_or(ScriptFault::NoSeparator)?;
     let config = read_config(alloc, cluster)?;
-    answer_requests(alloc, config, requests, writer)
+    let mut output = Output::new(writer);
+    answer_requests(alloc, config, requests, &mut output)
 }
 
 // Writes the answer to each request, before the next one is read.
@@ -61,37 +45,36 @@ fn answer_requests<W: Write>(
     alloc: Global,
     config: Config,
     requests: &[u8],
-    writer: &mut W,
+    output: &mut Output<'_, W>,
 ) -> Result<(), ScriptFault>
     requires { IsWellFormed config }
-    ensures all { OnOk result ((written : List ℕ) × Appends (W.contents writer.old) (W.contents writer.new) written
+    ensures all { OnOk result ((written : List ℕ) × Appends (W.contents output.old.writer.now) (W.contents output.new.writer.now) written
         × IsAnsweredTo config (request_lines requests.now) [] written) }
     ensures no_memory { IsErrOf result ScriptFault.NoMemory → (line : List ℕ) × (left : List (List ℕ)) × (written : List ℕ)
-        × Appends (W.contents writer.old) (W.contents writer.new) written
+        × Appends (W.contents output.old.writer.now) (W.contents output.new.writer.now) written
         × IsAnsweredTo config (request_lines requests.now) (line ∷ left) written }
     ensures write_failed { IsErrOf result ScriptFault.WriteFailed → (left : List (List ℕ)) × (missing : List ℕ) × (written : List ℕ)
-        × Appends (W.contents writer.old) (W.contents writer.new) written
+        × Appends (W.contents output.old.writer.now) (W.contents output.new.writer.now) written
         × IsAnsweredTo config (request_lines requests.now) left (written ++ missing) }
     ensures faults { IfErr result (λ fault. (fault ≡ ScriptFault.NoMemory) ⊎ (fault ≡ ScriptFault.WriteFailed)) }
+    ensures same { output.new.writer.ghost_name ≡ output.old.writer.ghost_name }
 {
     let mut register = Register::new(alloc, config);
-    let mut retries = Retries::new();
-    let mut text = Vec::new(alloc);
     for line in RequestLines::new(requests) {
         let answer = answer_line(alloc, &mut register, line)?;
-        set_line(answer, &mut text)?;
-        write_all(writer, &mut retries, &text)?;
+        let text = text_line(alloc, answer)?;
+        output.write_all(&text)?;
     }
-    Ok(flush(writer)?)
+    Ok(output.flush()?)
 }
 
-// The buffer has the answer's text, on a line of its own, in place of what it had.
-fn set_line(answer: Answer, text: &mut Vec<u8>) -> Result<(), AllocError>
-    ensures { OnOk result (text.new.items ≡ text_of answer ++ codes "\n") }
+// The answer's text, on a line of its own.
+fn text_line(alloc: Global, answer: Answer) -> Result<Vec<u8>, NoMemory>
+    ensures { IfOk result (λ text. text.items ≡ text_of answer ++ codes "\n") }
 {
-    text.clear();
-    append_answer(&answer, text)?;
-    text.extend_from_slice(b"\n")
+    let mut text = write_answer(alloc, &answer)?;
+    text.push(b'\n')?;
+    Ok(text)
 }
 
 // The answer to a request's line, which may change the register.
@@ -100,10 +83,10 @@ fn answer_line(alloc: Global, register: &mut Register, line: &[u8]) -> Result<An
     requires sound { IsSound register.old.config (book_of register.old) }
     ensures config { register.new.config ≡ register.old.config }
     ensures replied { IfOk result (λ answer.
-        Replied register.old.config (book_of register.old) (ask_in register.old.config line.now) answer (book_of register.new)) }
+        Replied register.old.config (book_of register.old) (ask_in register.old.config (book_of register.old) line.now) answer (book_of register.new)) }
     ensures fault { IfErr result (λ fault. fault ≡ ScriptFault.NoMemory) }
 {
-    match read_ask(alloc, &register.config, line) {
+    match read_ask(alloc, register, line) {
         Ok(ask) => Ok(register.answer(alloc, &ask)),
         Err(Refusal::Unavailable) => Err(ScriptFault::NoMemory),
         Err(refusal) => Ok(Answer::Refused(refusal)),
@@ -113,13 +96,13 @@ fn answer_line(alloc: Global, register: &mut Register, line: &[u8]) -> Result<An
 // Who asks what, by a request's line: `BadText` comes before `UnknownKey`. Want of memory is
 // `Unavailable`.
 #[tactic(auto, unfolding(crate::specs::Asked::ask_in))]
-fn read_ask(alloc: Global, config: &Config, line: &[u8]) -> Result<Ask, Refusal>
-    ensures asked { (result ≡ Err Refusal.Unavailable) ⊎ (result ≡ ask_in config.now line.now) }
-    ensures known { IfOk result (λ ask. IsTrue (knows (opening config.now) ask.actor)) }
+fn read_ask(alloc: Global, register: &Register, line: &[u8]) -> Result<Ask, Refusal>
+    ensures asked { (result ≡ Err Refusal.Unavailable) ⊎ (result ≡ ask_in register.now.config (book_of register.now) line.now) }
+    ensures known { IfOk result (λ ask. IsTrue (knows (book_of register.now) ask.actor)) }
 {
     let (key, text) = key_and_text(line).ok_or(Refusal::BadText)?;
     let request = read_command(alloc, text)?;
-    let actor = config.actor_of(key).ok_or(Refusal::UnknownKey)?;
+    let actor = register.actor_of(key).ok_or(Refusal::UnknownKey)?;
     Ok(Ask { actor, request })
 }
 

@@ -1,8 +1,9 @@
+//! Why a script's run ended early, and the word for it.
 ghost use Rattle.std.specs.Prelude.{◌≡◌, Some};
 ghost use Rattle.fr_cli.specs.ScriptFault.{script_fault_word};
 
+use fr_base::NoMemory;
 use fr_text::ConfigFault;
-use std::alloc::AllocError;
 use std::fmt;
 
 /// Why the run of a script ended before all its lines were answered.
@@ -54,12 +55,12 @@ impl From<ConfigFault> for ScriptFault {
     }
 }
 
-impl From<AllocError> for ScriptFault {
+impl From<NoMemory> for ScriptFault {
     ghost use Rattle.fr_cli.specs.declared.script_fault.ScriptFault.TheVariants.{NoMemory};
 
     ghost from_gives = { λ _ fault. fault ≡ NoMemory };
 
-    fn from(_error: AllocError) -> Self {
+    fn from(_refused: NoMemory) -> Self {
         Self::NoMemory
     }
 }
@@ -69,30 +70,5 @@ impl fmt::Display for ScriptFault {
 
     fn fmt<W: fmt::Write>(&self, f: &mut fmt::Formatter<W>) -> fmt::Result {
         f.write_str(self.word())
-    }
-}
-
-#[cfg(test)]
-mod tests {
-    use super::{ConfigFault, ScriptFault};
-    use std::test::Fail;
-
-    #[test]
-    fn a_fault_prints_its_word(rt: HostRuntime) -> Result<(), Fail> {
-        let words = [
-            (ScriptFault::TooLong, "TooLong"),
-            (ScriptFault::TooManyReads, "TooManyReads"),
-            (ScriptFault::ReadFailed, "ReadFailed"),
-            (ScriptFault::NoSeparator, "NoSeparator"),
-            (ScriptFault::Config(ConfigFault::KeyTwice), "KeyTwice"),
-            (ScriptFault::Unavailable, "Unavailable"),
-            (ScriptFault::NoMemory, "NoMemory"),
-            (ScriptFault::WriteFailed, "WriteFailed"),
-        ];
-        for (fault, word) in words {
-            let printed = format!(in rt.alloc(); "{fault}")?;
-            assert_eq!(rt; printed.as_str(), word);
-        }
-        Ok(())
     }
 }

@@ -16,7 +16,7 @@ use Rattle.std.proofs.lemmas.Slice.Eq.{bytes_eq-Decides}
 use Rattle.fr_base.specs.Refusing.{◌>>=◌, ◌>>◌, refuse◌when◌}
 use Rattle.fr_base.specs.Signals.{SignalData, is_signal_length}
 use Rattle.fr_base.specs.Bits.{bits_of, uses, entry_of}
-use Rattle.fr_base.specs.Layouts.{LayoutData, IsLayout, AreApart, lies_inside, has_signal, user_of, taken_at, first_taken, bit_taken, with_signal, add_signal, remove_signal}
+use Rattle.fr_base.specs.Layouts.{LayoutData, IsLayout, AreApart, lies_inside, has_signal, user_of, taken_at, first_taken_bit, bit_taken, with_signal, admits_signal, add_signal, remove_signal}
 use Rattle.fr_base.specs.declared.refusal.Refusal.{Refusal}
 use Rattle.fr_base.specs.declared.refusal.Refusal.TheVariants.{Exists, Limit, NoSignal, OutOfPayload, BitTaken}
 use Rattle.fr_base.proofs.LayoutLaws.{is_some-user_of, AllPairs-tail, AllPairs-head, taken_test, first_taken_is, empty-layout, with_signal-layout, filter-layout}
@@ -129,43 +129,55 @@ adding exists full inside taken layout = do
 abbrev pub extended : LayoutData → SignalData → LayoutData
 extended l s = record l { signals = with_signal s l.signals }
 
-adding_is : (l : LayoutData) (s : SignalData) → add_signal l s ≡ adding (has_signal l.signals s.name) (leb 64 (length l.signals)) (lies_inside l.words s) (first_taken l s) (extended l s)
-unfolding add_signal
-adding_is l s = refl
+-- refusals and what follows them, in either grouping
+grouped : {A B C : Type 0} (r : Result A Refusal) (u : Result B Refusal) (v : Result C Refusal) → ((r >> u) >> v) ≡ (r >> (u >> v))
+unfolding ◌>>◌
+grouped (Ok x) u v = refl
+grouped (Err e) u v = refl
+
+adding_is : (l : LayoutData) (s : SignalData) → add_signal l s ≡ adding (has_signal l.signals s.name) (leb 64 (length l.signals)) (lies_inside l.words s) (first_taken_bit l s) (extended l s)
+unfolding add_signal admits_signal
+adding_is l s =
+    let last = Ok (extended l s) in
+    grouped (refuse Exists when has_signal l.signals s.name) _ last
+    ∙ ap (λ r. (refuse Exists when has_signal l.signals s.name) >> r) (
+    grouped (refuse Limit when leb 64 (length l.signals)) _ last
+    ∙ ap (λ r. (refuse Limit when leb 64 (length l.signals)) >> r) (
+    grouped (refuse OutOfPayload when not (lies_inside l.words s)) (bit_taken (first_taken_bit l s)) last))
 
 -- what an accepted signal has passed
 pub record Admitted (l : LayoutData) (s : SignalData) : Type 0 where
   pub fresh : has_signal l.signals s.name ≡ false
   pub room : leb 64 (length l.signals) ≡ false
   pub inside : lies_inside l.words s ≡ true
-  pub free : first_taken l s ≡ None
+  pub free : first_taken_bit l s ≡ None
   pub done : add_signal l s ≡ Ok (extended l s)
 
 pub add_exists : (l : LayoutData) (s : SignalData) → has_signal l.signals s.name ≡ true → add_signal l s ≡ Err Exists
 unfolding ◌>>=◌ ◌>>◌ refuse◌when◌
-add_exists l s exists = adding_is l s ∙ ap (λ a. adding a (leb 64 (length l.signals)) (lies_inside l.words s) (first_taken l s) (extended l s)) exists
+add_exists l s exists = adding_is l s ∙ ap (λ a. adding a (leb 64 (length l.signals)) (lies_inside l.words s) (first_taken_bit l s) (extended l s)) exists
 
 pub add_limit : (l : LayoutData) (s : SignalData) → has_signal l.signals s.name ≡ false → leb 64 (length l.signals) ≡ true → add_signal l s ≡ Err Limit
 unfolding ◌>>=◌ ◌>>◌ refuse◌when◌
 add_limit l s fresh full =
     adding_is l s
-    ∙ (ap (λ a. adding a (leb 64 (length l.signals)) (lies_inside l.words s) (first_taken l s) (extended l s)) fresh
-    ∙ ap (λ b. adding false b (lies_inside l.words s) (first_taken l s) (extended l s)) full)
+    ∙ (ap (λ a. adding a (leb 64 (length l.signals)) (lies_inside l.words s) (first_taken_bit l s) (extended l s)) fresh
+    ∙ ap (λ b. adding false b (lies_inside l.words s) (first_taken_bit l s) (extended l s)) full)
 
 pub add_outside : (l : LayoutData) (s : SignalData) → has_signal l.signals s.name ≡ false → leb 64 (length l.signals) ≡ false → lies_inside l.words s ≡ false → add_signal l s ≡ Err OutOfPayload
 unfolding ◌>>=◌ ◌>>◌ refuse◌when◌
 add_outside l s fresh room outside =
     adding_is l s
-    ∙ (ap (λ a. adding a (leb 64 (length l.signals)) (lies_inside l.words s) (first_taken l s) (extended l s)) fresh
-    ∙ (ap (λ b. adding false b (lies_inside l.words s) (first_taken l s) (extended l s)) room
-    ∙ ap (λ c. adding false false c (first_taken l s) (extended l s)) outside))
+    ∙ (ap (λ a. adding a (leb 64 (length l.signals)) (lies_inside l.words s) (first_taken_bit l s) (extended l s)) fresh
+    ∙ (ap (λ b. adding false b (lies_inside l.words s) (first_taken_bit l s) (extended l s)) room
+    ∙ ap (λ c. adding false false c (first_taken_bit l s) (extended l s)) outside))
 
-adding_bits : (l : LayoutData) (s : SignalData) → has_signal l.signals s.name ≡ false → leb 64 (length l.signals) ≡ false → lies_inside l.words s ≡ true → add_signal l s ≡ adding false false true (first_taken l s) (extended l s)
+adding_bits : (l : LayoutData) (s : SignalData) → has_signal l.signals s.name ≡ false → leb 64 (length l.signals) ≡ false → lies_inside l.words s ≡ true → add_signal l s ≡ adding false false true (first_taken_bit l s) (extended l s)
 adding_bits l s fresh room inside =
     adding_is l s
-    ∙ (ap (λ a. adding a (leb 64 (length l.signals)) (lies_inside l.words s) (first_taken l s) (extended l s)) fresh
-    ∙ (ap (λ b. adding false b (lies_inside l.words s) (first_taken l s) (extended l s)) room
-    ∙ ap (λ c. adding false false c (first_taken l s) (extended l s)) inside))
+    ∙ (ap (λ a. adding a (leb 64 (length l.signals)) (lies_inside l.words s) (first_taken_bit l s) (extended l s)) fresh
+    ∙ (ap (λ b. adding false b (lies_inside l.words s) (first_taken_bit l s) (extended l s)) room
+    ∙ ap (λ c. adding false false c (first_taken_bit l s) (extended l s)) inside))
 
 adding_none : (o : Option (ℕ × List ℕ)) (l : LayoutData) → o ≡ None → adding false false true o l ≡ Ok l
 unfolding ◌>>=◌ ◌>>◌ refuse◌when◌
@@ -178,9 +190,9 @@ adding_some (Some taken) l e h = cc
 
 -- the last question: is a bit taken?
 pub add_last : {U : Type 0} (l : LayoutData) (s : SignalData) (r : Result U Refusal) → has_signal l.signals s.name ≡ false → leb 64 (length l.signals) ≡ false → lies_inside l.words s ≡ true →
-    MatchResult r (λ _. first_taken l s ≡ None) (λ e. bit_taken (first_taken l s) ≡ Err e) → MatchResult r (λ _. IsOk (add_signal l s)) (λ e. add_signal l s ≡ Err e)
-add_last l s (Ok x) fresh room inside free = ap is_ok (adding_bits l s fresh room inside ∙ adding_none (first_taken l s) (extended l s) free)
-add_last l s (Err e) fresh room inside taken = adding_bits l s fresh room inside ∙ adding_some (first_taken l s) (extended l s) e taken
+    MatchResult r (λ _. first_taken_bit l s ≡ None) (λ e. bit_taken (first_taken_bit l s) ≡ Err e) → MatchResult r (λ _. IsOk (add_signal l s)) (λ e. add_signal l s ≡ Err e)
+add_last l s (Ok x) fresh room inside free = ap is_ok (adding_bits l s fresh room inside ∙ adding_none (first_taken_bit l s) (extended l s) free)
+add_last l s (Err e) fresh room inside taken = adding_bits l s fresh room inside ∙ adding_some (first_taken_bit l s) (extended l s) e taken
 
 passed : (a b c : Bool) (o : Option (ℕ × List ℕ)) (l : LayoutData) → is_ok (adding a b c o l) ≡ true → (a ≡ false) × (b ≡ false) × (c ≡ true) × (o ≡ None)
 unfolding ◌>>=◌ ◌>>◌ refuse◌when◌
@@ -192,13 +204,13 @@ passed false false true None l h = (refl, refl, refl, refl)
 
 pub admitted : (l : LayoutData) (s : SignalData) → IsOk (add_signal l s) → Admitted l s
 admitted l s h =
-    let facts = passed (has_signal l.signals s.name) (leb 64 (length l.signals)) (lies_inside l.words s) (first_taken l s) (extended l s) (sym (ap is_ok (adding_is l s)) ∙ h) in
+    let facts = passed (has_signal l.signals s.name) (leb 64 (length l.signals)) (lies_inside l.words s) (first_taken_bit l s) (extended l s) (sym (ap is_ok (adding_is l s)) ∙ h) in
     record {
       fresh = facts.0;
       room = facts.1;
       inside = facts.2;
       free = facts.3;
-      done = adding_bits l s facts.0 facts.1 facts.2 ∙ adding_none (first_taken l s) (extended l s) facts.3;
+      done = adding_bits l s facts.0 facts.1 facts.2 ∙ adding_none (first_taken_bit l s) (extended l s) facts.3;
     }
 
 -- ---- the least bit that is taken
@@ -223,14 +235,14 @@ test_false l used s q kept free = by_tests (uses s q) (is_some (user_of l.signal
     by_tests true false e f = refl
     by_tests true true e f = absurd (free e (kept.bits q ∙ ap number f))
 
-pub taken_none : (l : LayoutData) (used : List ℕ) (s : SignalData) → IsKept l used → ((p : ℕ) → IsTrue (uses s p) → word_bit used p ≡ 0) → first_taken l s ≡ None
+pub taken_none : (l : LayoutData) (used : List ℕ) (s : SignalData) → IsKept l used → ((p : ℕ) → IsTrue (uses s p) → word_bit used p ≡ 0) → first_taken_bit l s ≡ None
 taken_none l used s kept free =
     first_taken_is l s
     ∙ ap (option_and_then (taken_at l.signals))
     (find_nothing (taken_test l s) 0 (16 * l.words) (λ q. test_false l used s q kept (λ u e. absurd (omega (arith, free q u, e)))))
 
 pub taken_some : (l : LayoutData) (used : List ℕ) (s t : SignalData) (p : ℕ) → IsKept l used → IsTrue (lies_inside l.words s) → IsTrue (uses s p) → word_bit used p ≡ 1 →
-    ((q : ℕ) → IsTrue (uses s q) → word_bit used q ≡ 1 → p ≤ q) → user_of l.signals p ≡ Some t → bit_taken (first_taken l s) ≡ Err (BitTaken p t.name)
+    ((q : ℕ) → IsTrue (uses s q) → word_bit used q ≡ 1 → p ≤ q) → user_of l.signals p ≡ Some t → bit_taken (first_taken_bit l s) ≡ Err (BitTaken p t.name)
 unfolding taken_test
 taken_some l used s t p kept inside here bit least user =
     let entry = uses_entry s p here in

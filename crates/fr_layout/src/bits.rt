@@ -1,3 +1,4 @@
+//! Where the bits of a signal lie in a payload.
 ghost use Rattle.std.specs.Prelude.{◌≡◌, ◌<◌, ◌*◌, ◌^◌, slice_index};
 ghost use Rattle.fr_base.specs.Bits.{bits_of, uses};
 ghost use Rattle.fr_base.specs.Layouts.{lies_inside};

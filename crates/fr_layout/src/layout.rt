@@ -1,5 +1,6 @@
+//! The layout of a frame's payload: its signals, added and removed, and their values packed and unpacked.
 ghost use Rattle.std.specs.Prelude.{◌≡◌, ◌≤◌, [], Ok, Err, None, IsTrue, IfErr, IfOk, IsOk, MatchResult, OnErr, OnOk};
-ghost use Rattle.fr_base.specs.Layouts.{add_signal, bit_taken, first_taken, IsLayout, lies_inside, remove_signal};
+ghost use Rattle.fr_base.specs.Layouts.{add_signal, bit_taken, first_taken_bit, IsLayout, lies_inside, remove_signal};
 ghost use Rattle.fr_base.specs.declared.refusal.Refusal.TheVariants.{Unavailable};
 ghost use Rattle.fr_layout.specs.Packing.{FailsAs, packed, unpacked};
 ghost use Rattle.fr_layout.specs.declared.pack_fault.PackFault.TheVariants.{NoMemory};
@@ -159,7 +160,7 @@ impl Layout {
     /// Refuses the signal, which lies inside the payload, where one of its bits is used.
     fn first_taken(&self, signal: Signal) -> Result<(), Refusal>
         requires { IsTrue (lies_inside self.now.words signal) }
-        ensures { MatchResult result (λ _. first_taken self.now signal ≡ None) (λ e. bit_taken (first_taken self.now signal) ≡ Err e) }
+        ensures { MatchResult result (λ _. first_taken_bit self.now signal ≡ None) (λ e. bit_taken (first_taken_bit self.now signal) ≡ Err e) }
     {
         match self.used.least_used(signal) {
             None => Ok(()),
@@ -174,7 +175,5 @@ impl Layout {
     }
 }
 
-#[cfg(test)]
-mod table;
 #[cfg(test)]
 mod tests;

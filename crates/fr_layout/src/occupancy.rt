@@ -1,3 +1,4 @@
+//! Which bits of a payload are used.
 ghost use Rattle.std.specs.Prelude.{◌≡◌, ◌==◌, ◌<◌, ◌≤◌, ℕ, All, IsTrue, IfNone, IfSome, if◌then◌else◌, length, replicate};
 ghost use Rattle.fr_base.specs.Signals.{is_signal_length};
 ghost use Rattle.fr_base.specs.Bits.{bits_of, uses};

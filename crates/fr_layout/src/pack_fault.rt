@@ -1,3 +1,4 @@
+//! Why values were not packed, or bytes not unpacked.
 use std::alloc::AllocError;
 
 /// Why values were not packed into a payload, or not unpacked from it.

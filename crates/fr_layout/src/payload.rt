@@ -1,3 +1,4 @@
+//! One signal's value, read and written in the bytes of a payload.
 ghost use Rattle.std.specs.Prelude.{◌≡◌, ◌==◌, ◌<◌, ◌*◌, ℕ, length, All, IsTrue, if◌then◌else◌};
 ghost use Rattle.std.specs.Option.{option_map_or};
 ghost use Rattle.std.specs.Int.{bit_at};

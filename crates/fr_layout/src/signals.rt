@@ -1,3 +1,4 @@
+//! Lists of signals: look-ups by name, bit and start, and the values of all in a payload.
 ghost use Rattle.std.specs.Prelude.{◌≡◌, ◌==◌, ◌<◌, ◌≤◌, ◌*◌, ◌^◌, ℕ, length, All, AllPairs, IsTrue, IfNone, IfSome, map, IfOk, Some, min, nat_le, nat_lt, position, unwrap_or};
 ghost use Rattle.std.specs.Option.{option_map_or};
 ghost use Rattle.std.specs.Str.{bytes_eq};

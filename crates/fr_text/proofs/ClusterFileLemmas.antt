@@ -20,7 +20,8 @@ use Rattle.toml.specs.Parse.{parse_document}
 use Rattle.std.proofs.lemmas.List.{length-map}
 use Rattle.std.proofs.lemmas.Grind.{common_steps}
 use Rattle.toml.proofs.Views.{Entry}
-use Rattle.fr_base.specs.Cluster.{Cluster, names_rise, is_cluster, same_text, keys_of, keys_differ}
+use Rattle.fr_base.specs.Cluster.{Cluster, names_rise, is_cluster, keys_of, keys_differ}
+use Rattle.fr_base.specs.Names.{same_text}
 use Rattle.fr_base.specs.Names.{is_name, is_key}
 use Rattle.fr_base.specs.Parameters.{check_params}
 use Rattle.fr_base.specs.declared.params.RawParams.{RawParams}
@@ -136,7 +137,7 @@ pub ruleset table_keys = (has_only_file_keys-view)
 -- whether one of the suppliers has the key
 pub has_key-keys : (key : List ℕ) (suppliers : List Supplier) → list_any (λ s. bytes_eq key s.key) suppliers ≡ list_any (same_text key) (map (λ s. s.key) suppliers)
 has_key-keys key [] = refl
-has_key-keys key (s ∷ suppliers) = rw (is_eq-slice_cmp key s.key, has_key-keys key suppliers)
+has_key-keys key (s ∷ suppliers) = rw (has_key-keys key suppliers) refl
 
 -- one more key
 pub keys_differ-step : (key : List ℕ) (s : Supplier) (suppliers : List Supplier) → keys_differ (keys_of key (s ∷ suppliers)) ≡ (not (list_any (λ t. bytes_eq key t.key) (s ∷ suppliers)) && keys_differ (keys_of s.key suppliers))

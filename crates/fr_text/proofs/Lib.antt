@@ -1,6 +1,7 @@
 pub mod ClusterFileLemmas
 pub mod WellFormedLaws
 pub mod FieldsLemmas
+pub mod ImportTextLemmas
 pub mod WordsLemmas
 pub mod ReportLemmas
 pub mod AnswerTextLemmas

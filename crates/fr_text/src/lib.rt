@@ -5,6 +5,7 @@
 mod answer_text;
 mod cluster_file;
 mod fields;
+mod import_text;
 mod laws;
 mod report;
 mod request_text;
@@ -13,6 +14,7 @@ mod words;
 
 pub use answer_text::{append_answer, write_answer};
 pub use cluster_file::{ConfigFault, read_config};
+pub use import_text::read_import;
 pub use laws::written_is_read_back;
 pub use report::{write_gaps, write_layout, write_lines, write_schedule};
 pub use request_text::read_command;
@@ -20,5 +22,7 @@ pub use request_text::read_command;
 /// An allocation failed.
 pub type NoMemory = std::alloc::AllocError;
 
+#[cfg(test)]
+mod fixture;
 #[cfg(test)]
 mod tests;

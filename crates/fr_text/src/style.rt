@@ -1,3 +1,4 @@
+//! How the lines of a report are set: as texts of JSON, or each with a line feed.
 /// How the lines of a report are set.
 #[derive(Clone, Copy)]
 pub(crate) enum Style {

@@ -1,5 +1,5 @@
 -- Signals that make a layout with one more, so that it is added; and signals of which one is removed.
-use Rattle.std.proofs.Common.{◌≡◌, ◌≢◌, ℕ, ◌*◌, ◌<◌, Bool, true, false, not, ◌&&◌, ◌||◌, cond, List, [], ◌∷◌, length, filter, Some, None, is_some, Result, Ok, Err, refl, sym, ap, subst, ◌∙◌, arith, ltb, All, AllPairs, IsTrue}
+use Rattle.std.proofs.Common.{◌≡◌, ◌≢◌, ℕ, ◌*◌, ◌<◌, Bool, true, false, not, ◌&&◌, ◌||◌, cond, List, [], ◌∷◌, length, Some, None, is_some, Result, Ok, Err, refl, sym, ap, subst, ◌∙◌, arith, ltb, All, AllPairs, IsTrue}
 use Rattle.std.specs.List.{list_any, range_with_len, find}
 use Rattle.std.specs.Option.{option_and_then}
 use Rattle.std.specs.Prelude.{nat_le, MatchResult}
@@ -7,11 +7,11 @@ use Rattle.std.specs.Str.{bytes_eq}
 use Rattle.std.proofs.lemmas.Bool.{leb-true}
 use Rattle.std.proofs.lemmas.List.Elements.{All-cons, All-head, All-tail}
 use Rattle.std.proofs.lemmas.Slice.Eq.{bytes_eq-Decides}
-use Rattle.fr_base.specs.Limits.{max_signals}
+use Rattle.fr_base.specs.declared.limits.TheConstants.{MAX_SIGNALS}
 use Rattle.fr_base.specs.Refusing.{◌>>◌, refuse◌when◌}
 use Rattle.fr_base.specs.Signals.{SignalData}
 use Rattle.fr_base.specs.Bits.{uses}
-use Rattle.fr_base.specs.Layouts.{LayoutData, IsLayout, AreApart, lies_inside, has_signal, user_of, taken_at, first_taken, with_signal, add_signal, remove_signal}
+use Rattle.fr_base.specs.Layouts.{LayoutData, IsLayout, AreApart, lies_inside, has_signal, user_of, taken_at, first_taken_bit, with_signal, without_signal, admits_signal, add_signal, remove_signal}
 use Rattle.fr_base.specs.declared.refusal.Refusal.{Refusal}
 use Rattle.fr_base.specs.declared.refusal.Refusal.TheVariants.{NoSignal}
 use Rattle.fr_base.proofs.LayoutLaws.{AllPairs-head, AllPairs-tail, is_some-user_of, length-with_signal}
@@ -58,20 +58,20 @@ not_both : (a b : Bool) → (a ≡ true → b ≡ false) → (a && b) ≡ false
 not_both true b h = h refl
 not_both false b h = refl
 
-free : (l : LayoutData) (s : SignalData) → All (AreApart s) l.signals → first_taken l s ≡ None
-unfolding first_taken
+free : (l : LayoutData) (s : SignalData) → All (AreApart s) l.signals → first_taken_bit l s ≡ None
+unfolding first_taken_bit
 free l s apart =
     ap (option_and_then (taken_at l.signals))
     (find_none (λ p. uses s p && is_some (user_of l.signals p)) (range_with_len 0 (16 * l.words)) (λ p.
     not_both (uses s p) (is_some (user_of l.signals p)) (λ used.
     is_some-user_of l.signals p ∙ none_has (λ t. uses t p) l.signals (λ k d within. not_true _ (λ e. apart k d within p used e)))))
 
-room : (n : ℕ) → n < max_signals → nat_le max_signals n ≡ false
-room n h = not_true _ (λ e. omega (arith, leb-true max_signals n e))
+room : (n : ℕ) → n < MAX_SIGNALS → nat_le MAX_SIGNALS n ≡ false
+room n h = not_true _ (λ e. omega (arith, leb-true MAX_SIGNALS n e))
 
-added : (l : LayoutData) (s : SignalData) → has_signal l.signals s.name ≡ false → nat_le max_signals (length l.signals) ≡ false → lies_inside l.words s ≡ true → first_taken l s ≡ None →
+added : (l : LayoutData) (s : SignalData) → has_signal l.signals s.name ≡ false → nat_le MAX_SIGNALS (length l.signals) ≡ false → lies_inside l.words s ≡ true → first_taken_bit l s ≡ None →
     add_signal l s ≡ Ok (record l { signals = with_signal s l.signals })
-unfolding add_signal ◌>>◌ refuse◌when◌
+unfolding add_signal admits_signal ◌>>◌ refuse◌when◌
 added l s fresh few inside free =
     let rest : Result LayoutData Refusal = Ok (record l { signals = with_signal s l.signals }) in
     rw (fresh, few, inside, free)
@@ -87,14 +87,14 @@ add_takes l s h =
 -- ---- what is left where a signal was removed, or was not there
 
 abbrev without : LayoutData → List ℕ → LayoutData
-without l name = record l { signals = filter (λ s. not (bytes_eq s.name name)) l.signals }
+without l name = record l { signals = without_signal name l.signals }
 
-none_left_out : (name : List ℕ) (xs : List SignalData) → has_signal xs name ≡ false → filter (λ s. not (bytes_eq s.name name)) xs ≡ xs
+none_left_out : (name : List ℕ) (xs : List SignalData) → has_signal xs name ≡ false → without_signal name xs ≡ xs
 none_left_out name [] h = refl
 none_left_out name (x ∷ xs) h = by_test (bytes_eq x.name name) h (none_left_out name xs)
   where
-    by_test : (b : Bool) → (b || has_signal xs name) ≡ false → (has_signal xs name ≡ false → filter (λ s. not (bytes_eq s.name name)) xs ≡ xs) →
-        cond (not b) (x ∷ filter (λ s. not (bytes_eq s.name name)) xs) (filter (λ s. not (bytes_eq s.name name)) xs) ≡ x ∷ xs
+    by_test : (b : Bool) → (b || has_signal xs name) ≡ false → (has_signal xs name ≡ false → without_signal name xs ≡ xs) →
+        cond (not b) (x ∷ without_signal name xs) (without_signal name xs) ≡ x ∷ xs
     by_test true h rest = cc
     by_test false h rest = ap (λ ys. x ∷ ys) (rest h)
 

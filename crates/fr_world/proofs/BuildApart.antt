@@ -18,14 +18,14 @@ use Rattle.fr_base.proofs.SoundCells.{same_cell-is}
 use Rattle.fr_base.proofs.LayoutLaws.{is_some-find}
 use Rattle.fr_world.specs.Building.{meet, meets_next, none_meets}
 use Rattle.fr_world.specs.Pages.{AreApart}
-use Rattle.fr_world.specs.Spots.{spot_of}
+use Rattle.fr_world.specs.CycleChannels.{cycle_channel}
 use Rattle.fr_world.proofs.MapLaws.{is_some-map}
 use Rattle.fr_world.proofs.SharedLaws.{no_slot}
 
 -- what the comparison of two placements shows
-pub shown_meeting : (q r : Placement) → is_some (option_map spot_of (find (has_cell r) (cells_of q))) ≡ meet q r
+pub shown_meeting : (q r : Placement) → is_some (option_map cycle_channel (find (has_cell r) (cells_of q))) ≡ meet q r
 unfolding meet
-shown_meeting q r = is_some-map spot_of (find (has_cell r) (cells_of q))
+shown_meeting q r = is_some-map cycle_channel (find (has_cell r) (cells_of q))
 
 -- ---- two placements
 

@@ -1,28 +1,27 @@
 -- A page's frames: what holds a grant, and what the tests of a frame decide.
-use Rattle.std.proofs.Common.{◌≡◌, ℕ, Bool, true, false, ◌&&◌, length, List, [], ◌∷◌, map, Option, Some, None, option_map, IsTrue, refl, sym, ap, subst, ◌∙◌, arith}
+use Rattle.std.proofs.Common.{◌≡◌, ℕ, Bool, false, ◌&&◌, length, List, [], ◌∷◌, map, Option, Some, None, option_map, IsTrue, refl, sym, ap, subst, ◌∙◌, arith}
 use Rattle.std.specs.Prelude.{◌==◌, nat_le}
 use Rattle.std.specs.Bool.{Decides}
 use Rattle.std.specs.BTreeMap.{is_at}
-use Rattle.std.specs.Cmp.{tied_itself}
 use Rattle.std.specs.List.{All, AllByRecursion, list_all}
 use Rattle.std.specs.List.Sorted.{IsStrictlySortedBy}
 use Rattle.std.specs.Map.{lookup, values_of}
-use Rattle.std.specs.Ordering.{is_eq}
 use Rattle.std.proofs.lemmas.Bool.{and_parts, and_from, eq-eqb, eqb-true, le-leb, leb-true}
 use Rattle.std.proofs.lemmas.Bool.Decides.{Decides-and, Decides-by_and}
 use Rattle.std.proofs.lemmas.List.Elements.{All-from_recursion, All-map, recursion_from_All}
 use Rattle.fr_base.specs.Book.{granted, held_by_node}
-use Rattle.fr_base.specs.Cluster.{same_text}
-use Rattle.fr_base.specs.Keys.{channel_slots, names, placement_order}
+use Rattle.fr_base.specs.Names.{same_text}
+use Rattle.fr_base.specs.Keys.{channel_slots, placement_order}
 use Rattle.fr_base.specs.Layouts.{IsLayout}
 use Rattle.fr_base.specs.Queries.{placements_in}
 use Rattle.fr_base.specs.Sound.{FitsCluster}
-use Rattle.fr_base.specs.Step.{Page}
+use Rattle.fr_base.specs.Step.{OwnRows}
 use Rattle.fr_base.specs.Tables.{get, len}
 use Rattle.fr_base.specs.declared.channel.Channel.{Channel}
 use Rattle.fr_base.specs.declared.name.Name.{Name}
 use Rattle.fr_base.specs.declared.params.Params.{Params}
 use Rattle.fr_base.specs.declared.placement.Placement.{Placement}
+use Rattle.fr_base.proofs.AloneCells.{same_text-itself}
 use Rattle.fr_world.specs.Building.{fits, is_placed, IsKeptFrame}
 use Rattle.fr_world.specs.Maps.{table_of}
 use Rattle.fr_world.specs.Pages.{FrameData, frame_of, holder_of}
@@ -32,10 +31,6 @@ use Rattle.fr_world.proofs.MapLaws.{get-table_of, len-set_of, rows-set_of, set_r
 
 -- ---- grants
 
-same_itself : (s : Name) → same_text s s ≡ true
-unfolding names
-same_itself s = ap is_eq (tied_itself names.total s)
-
 -- whether the node in the entries at a slot and channel is this one
 abbrev is_holder : Name → Option Name → Bool
 is_holder n None = false
@@ -43,7 +38,7 @@ is_holder n (Some h) = same_text h n
 
 held_as : (s n : Name) (o : Option Name) → is_holder n o ≡ held_by_node s n (option_map (holder_of s) o)
 held_as s n None = refl
-held_as s n (Some h) = ap (λ b. b && same_text h n) (sym (same_itself s))
+held_as s n (Some h) = ap (λ b. b && same_text h n) (sym (same_text-itself s))
 
 -- what is found in the entries is what the register's grants say
 pub held : (s n : Name) (es : List (ChannelSlot × Name)) (k : ℕ) (c : Channel) → is_holder n (lookup (is_at (slot_cmp (record { slot = k; channel = c }))) es)
@@ -73,11 +68,11 @@ fits_decided p q = (
   λ f. and_from _ _ (le-leb _ _ f.from_one) (and_from _ _ (le-leb _ _ f.to_last) (and_from _ _ f.channels f.cycles)),
 )
 
-placed_decided : (page : Page) (n : Name) (q : Placement) → Decides (is_placed page n q) (FitsCluster page.params q × IsTrue (granted page.grants page.supplier n q))
+placed_decided : (page : OwnRows) (n : Name) (q : Placement) → Decides (is_placed page n q) (FitsCluster page.params q × IsTrue (granted page.grants page.supplier n q))
 unfolding is_placed
 placed_decided page n q = Decides-and (fits page.params q) (granted page.grants page.supplier n q) (fits_decided page.params q) (λ h. h, λ h. h)
 
-all_placed : (page : Page) (n : Name) (qs : List Placement) → Decides (list_all (is_placed page n) qs) (All (λ q. FitsCluster page.params q × IsTrue (granted page.grants page.supplier n q)) qs)
+all_placed : (page : OwnRows) (n : Name) (qs : List Placement) → Decides (list_all (is_placed page n) qs) (All (λ q. FitsCluster page.params q × IsTrue (granted page.grants page.supplier n q)) qs)
 all_placed page n qs = Decides-by_and (is_placed page n) (λ q. FitsCluster page.params q × IsTrue (granted page.grants page.supplier n q)) (list_all (is_placed page n)) (placed_decided page n) refl (λ x xs. refl) qs
 
 keys_again : (qs : List Placement) → map (λ q. q.0) (set_rows placement_cmp placement_order (λ q. q) placements_alike qs) ≡ qs
@@ -91,7 +86,7 @@ placements_in-frame_of f ordered = ap (map (λ q. q.0)) (rows-set_of placement_c
 -- ---- a frame
 
 -- the tests of a frame's rows
-pub frame_decided : (page : Page) (f : FrameData) (few whole placed : Bool) → IsStrictlySortedBy placement_cmp f.placements → IsLayout f.layout →
+pub frame_decided : (page : OwnRows) (f : FrameData) (few whole placed : Bool) → IsStrictlySortedBy placement_cmp f.placements → IsLayout f.layout →
     few ≡ nat_le (length f.placements) 8 → whole ≡ (f.layout.words == page.params.payload_words) → placed ≡ list_all (is_placed page f.node) f.placements → Decides (few && (whole && placed)) (IsKeptFrame page f)
 frame_decided page f few whole placed ordered sound is_few is_whole is_placed =
     let qs = placements_in-frame_of f ordered in

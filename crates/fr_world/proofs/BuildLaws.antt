@@ -23,7 +23,7 @@ use Rattle.fr_base.specs.declared.placement.Placement.{Placement}
 use Rattle.fr_base.proofs.SoundTables.{same_key, same_some}
 use Rattle.fr_base.proofs.TableLaws.{equal, none_above}
 use Rattle.fr_world.specs.Building.{IsKeptFrame}
-use Rattle.fr_world.specs.Pages.{AreApart, IsKept, IsPageFrame, frame_data, frame_of, frames_data, page_of, rows_data}
+use Rattle.fr_world.specs.Pages.{AreApart, IsKept, IsPageFrame, frame_data, frame_of, frames_data, own_rows_of, rows_data}
 use Rattle.fr_world.specs.declared.page.PageFrame.{PageFrame}
 use Rattle.fr_world.specs.declared.page.PageRows.{PageRows}
 use Rattle.fr_world.proofs.BuildFrames.{All-from_map}
@@ -98,44 +98,44 @@ module _ (r : PageRows) (nodes_rise : IsStrictlySortedBy name_cmp r.nodes.keys) 
   rise : IsStrictlySortedBy name_cmp (keys_of (frames_data r.frames.entries))
   rise = subst (IsStrictlySortedBy name_cmp) (sym (keys-frames_data r.frames.entries)) frames_rise
 
-  frame_rows : (page_of (rows_data r)).frames.rows ≡ map (frame_row r.supplier) r.frames.entries
+  frame_rows : (own_rows_of (rows_data r)).frames.rows ≡ map (frame_row r.supplier) r.frames.entries
   frame_rows = rows-table_of name_cmp owned (λ f. (r.supplier, f)) frame_of (own_alike r.supplier) (frames_data r.frames.entries) rise ∙ map-map _ _ r.frames.entries
 
-  count_nodes : len (page_of (rows_data r)).nodes ≡ length r.nodes.keys
+  count_nodes : len (own_rows_of (rows_data r)).nodes ≡ length r.nodes.keys
   count_nodes = len-set_of name_cmp owned (λ n. (r.supplier, n)) (own_alike r.supplier) r.nodes.keys nodes_rise
 
-  count_frames : len (page_of (rows_data r)).frames ≡ length r.frames.entries
+  count_frames : len (own_rows_of (rows_data r)).frames ≡ length r.frames.entries
   count_frames = len-table_of name_cmp owned (λ f. (r.supplier, f)) frame_of (own_alike r.supplier) (frames_data r.frames.entries) rise ∙ length-map r.frames.entries _
 
-  all_placements : map (λ (x : Owner × Placement). x.1) (placements_of (page_of (rows_data r)).frames) ≡ flat_map (λ e. placements_in (frame_of (frame_data e.1))) r.frames.entries
+  all_placements : map (λ (x : Owner × Placement). x.1) (placements_of (own_rows_of (rows_data r)).frames) ≡ flat_map (λ e. placements_in (frame_of (frame_data e.1))) r.frames.entries
   unfolding placements_of
   all_placements =
-      without_owners (page_of (rows_data r)).frames.rows
+      without_owners (own_rows_of (rows_data r)).frames.rows
       ∙ ap (flat_map (λ row. placements_in row.1)) frame_rows
       ∙ flat_map-map (λ row. placements_in row.1) (frame_row r.supplier) r.frames.entries
 
   abbrev Frames : Type 0
-  Frames = All (λ e. IsKeptFrame (page_of (rows_data r)) (frame_data e.1)) r.frames.entries
+  Frames = All (λ e. IsKeptFrame (own_rows_of (rows_data r)) (frame_data e.1)) r.frames.entries
 
   kept_frames : IsKept (rows_data r) → Frames
   kept_frames kept =
-      let each = All-from_map (λ e. IsPageFrame (page_of (rows_data r)) e.1) (frame_row r.supplier) r.frames.entries
-      (subst (All (λ e. IsPageFrame (page_of (rows_data r)) e.1)) frame_rows (all_rows owned (IsPageFrame (page_of (rows_data r))) (page_of (rows_data r)).frames kept.page.each)) in
+      let each = All-from_map (λ e. IsPageFrame (own_rows_of (rows_data r)) e.1) (frame_row r.supplier) r.frames.entries
+      (subst (All (λ e. IsPageFrame (own_rows_of (rows_data r)) e.1)) frame_rows (all_rows owned (IsPageFrame (own_rows_of (rows_data r))) (own_rows_of (rows_data r)).frames kept.page.each)) in
       let words = All-from_map (λ e. e.1.layout.words ≡ r.params.payload_words) (λ e. (e.0, frame_data e.1)) r.frames.entries kept.words in
       let placements = All-from_map (λ e. IsStrictlySortedBy placement_order.compare e.1.placements) (λ e. (e.0, frame_data e.1)) r.frames.entries kept.order.frames.placements in
       λ i d low. (each i d low, words i d low, placements i d low)
 
   kept_cells : IsKept (rows_data r) → AllPairs AreApart (flat_map (λ e. placements_in (frame_of (frame_data e.1))) r.frames.entries)
-  kept_cells kept = subst (AllPairs AreApart) all_placements (AllPairs-map AreApart (λ x. x.1) (placements_of (page_of (rows_data r)).frames) kept.page.apart)
+  kept_cells kept = subst (AllPairs AreApart) all_placements (AllPairs-map AreApart (λ x. x.1) (placements_of (own_rows_of (rows_data r)).frames) kept.page.apart)
 
   kept : length r.nodes.keys ≤ 64 → length r.frames.entries ≤ 256 → Frames → AllPairs AreApart (flat_map (λ e. placements_in (frame_of (frame_data e.1))) r.frames.entries) → IsKept (rows_data r)
   kept nodes frames each cells = record {
     page = record {
       nodes = omega (arith, count_nodes, nodes);
       frames = omega (arith, count_frames, frames);
-      each = each_row owned (IsPageFrame (page_of (rows_data r))) (page_of (rows_data r)).frames
-          (subst (All (λ e. IsPageFrame (page_of (rows_data r)) e.1)) (sym frame_rows) (All-map (λ e. IsPageFrame (page_of (rows_data r)) e.1) (frame_row r.supplier) r.frames.entries (λ i d low. (each i d low).0)));
-      apart = AllPairs-from_map AreApart (λ x. x.1) (placements_of (page_of (rows_data r)).frames) (subst (AllPairs AreApart) (sym all_placements) cells);
+      each = each_row owned (IsPageFrame (own_rows_of (rows_data r))) (own_rows_of (rows_data r)).frames
+          (subst (All (λ e. IsPageFrame (own_rows_of (rows_data r)) e.1)) (sym frame_rows) (All-map (λ e. IsPageFrame (own_rows_of (rows_data r)) e.1) (frame_row r.supplier) r.frames.entries (λ i d low. (each i d low).0)));
+      apart = AllPairs-from_map AreApart (λ x. x.1) (placements_of (own_rows_of (rows_data r)).frames) (subst (AllPairs AreApart) (sym all_placements) cells);
     };
     words = All-map (λ e. e.1.layout.words ≡ r.params.payload_words) (λ e. (e.0, frame_data e.1)) r.frames.entries (λ i d low. (each i d low).1);
     order = record {

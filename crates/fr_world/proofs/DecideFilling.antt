@@ -21,7 +21,7 @@ use Rattle.fr_base.specs.declared.placement.Placement.{Placement}
 use Rattle.fr_world.specs.declared.page.PageFrame.{PageFrame}
 use Rattle.fr_world.specs.Decisions.{filled_by, taken_by}
 use Rattle.fr_world.specs.Occupancies.{first_taken_cell, is_free, taken_cell}
-use Rattle.fr_world.specs.Pages.{AreApart, IsKept, PageData, frame_data, frames_data, frame_of, page_of}
+use Rattle.fr_world.specs.Pages.{AreApart, IsKept, PageData, frame_data, frames_data, frame_of, own_rows_of}
 use Rattle.fr_world.proofs.DecideRows.{frame_rows, frames-rows}
 use Rattle.fr_world.proofs.KeyLaws.{name_cmp}
 
@@ -110,7 +110,7 @@ named-frames s (e ∷ es) =
     map-append named (entries_of ((s, e.0), frame_of (frame_data e.1))) (flat_map entries_of (frame_rows s (frames_data es)))
     ∙ (λ i. named-entries (record { supplier = s; frame = e.0; node = e.1.node }) (frame_of (frame_data e.1)).placements.rows i ++ named-frames s es i)
 
-pub named-page : (rows : PageData) (es : List (Name × PageFrame)) → frames_data es ≡ rows.frames → IsStrictlySortedBy name_cmp (keys_of es) → map named (placements_of (page_of rows).frames) ≡ filled_in es
+pub named-page : (rows : PageData) (es : List (Name × PageFrame)) → frames_data es ≡ rows.frames → IsStrictlySortedBy name_cmp (keys_of es) → map named (placements_of (own_rows_of rows).frames) ≡ filled_in es
 unfolding placements_of
 named-page rows es e h = ap (λ rs. map named (flat_map entries_of rs)) (frames-rows rows es e h) ∙ named-frames rows.supplier es
 
@@ -129,7 +129,7 @@ frames-apart es e rest apart =
 
 -- a page's placements are apart
 pub page-apart : (rows : PageData) (es : List (Name × PageFrame)) → frames_data es ≡ rows.frames → IsStrictlySortedBy name_cmp (keys_of es) → IsKept rows → Apart (filled_in es)
-page-apart rows es e h kept = subst Apart (named-page rows es e h) (pairs-map (λ x y. AreApart x.1 y.1) named (placements_of (page_of rows).frames) kept.page.apart)
+page-apart rows es e h kept = subst Apart (named-page rows es e h) (pairs-map (λ x y. AreApart x.1 y.1) named (placements_of (own_rows_of rows).frames) kept.page.apart)
 
 -- ---- the first taken cell, with its frame
 
@@ -154,6 +154,6 @@ taken-named xs (d ∷ ds) = elim (option_is (fill xs d)) [
 ]
 
 pub taken-page : (rows : PageData) (es : List (Name × PageFrame)) (q : Placement) → frames_data es ≡ rows.frames → IsStrictlySortedBy name_cmp (keys_of es) →
-    first_taken_cell (filled_in es) q ≡ option_map taken_by (first_taken (schedule_of (page_of rows).frames) (cells_of q))
+    first_taken_cell (filled_in es) q ≡ option_map taken_by (first_taken (schedule_of (own_rows_of rows).frames) (cells_of q))
 unfolding first_taken_cell schedule_of
-taken-page rows es q e h = ap (λ ps. option_map taken_cell (first_taken (fill ps) (cells_of q))) (sym (named-page rows es e h)) ∙ taken-named (placements_of (page_of rows).frames) (cells_of q)
+taken-page rows es q e h = ap (λ ps. option_map taken_cell (first_taken (fill ps) (cells_of q))) (sym (named-page rows es e h)) ∙ taken-named (placements_of (own_rows_of rows).frames) (cells_of q)

@@ -1,5 +1,5 @@
--- What an edit adds is new on the page, and what it takes out is there.
-use Rattle.std.proofs.Common.{◌≡◌, ℕ, ◌<◌, ◌≤◌, ◌||◌, Bool, true, false, List, [], ◌∷◌, map, Option, Some, None, is_some, IfOk, IsTrue, refl, sym, ap, ◌∙◌, inl, inr, arith, leb, true≢false}
+-- A placement and a signal that a page admits are new.
+use Rattle.std.proofs.Common.{◌≡◌, ℕ, ◌<◌, ◌≤◌, ◌||◌, Bool, true, false, List, [], ◌∷◌, Some, None, IfOk, IsTrue, sym, ap, ◌∙◌, inl, inr, arith, leb, true≢false}
 use Rattle.std.specs.Prelude.{nat_eq}
 use Rattle.std.specs.Ordering.{is_eq}
 use Rattle.std.specs.Cmp.{tied_itself, on_total, then_total, nat_cmp_total}
@@ -9,11 +9,9 @@ use Rattle.std.proofs.lemmas.Bool.{and_parts, cases_Bool, eq-eqb, eqb-true, ltb-
 use Rattle.fr_base.specs.Cells.{Cell, cells_in, cells_of, has_cell, same_cell}
 use Rattle.fr_base.specs.Channels.{channel_number, channels_in}
 use Rattle.fr_base.specs.Cycles.{Cycles, cycle_count, cycles_of, has_cycle, is_cycle_set, is_repetition}
-use Rattle.fr_base.specs.Book.{Frame, Holder, held_by, schedule_of}
-use Rattle.fr_base.specs.Cluster.{same_text}
-use Rattle.fr_base.specs.Keys.{owned, channel_slots}
-use Rattle.fr_base.specs.Layouts as layouts
-use Rattle.fr_base.specs.Layouts.{LayoutData, has_signal}
+use Rattle.fr_base.specs.Book.{Frame, schedule_of}
+use Rattle.fr_base.specs.Keys.{owned}
+use Rattle.fr_base.specs.Layouts.{LayoutData, has_signal, admits_signal}
 use Rattle.fr_base.specs.Schedule.{first_taken}
 use Rattle.fr_base.specs.Signals.{SignalData}
 use Rattle.fr_base.specs.Sound.{FitsCluster}
@@ -25,15 +23,9 @@ use Rattle.fr_base.specs.declared.channel.Channels.TheVariants as channels
 use Rattle.fr_base.specs.declared.name.Name.{Name}
 use Rattle.fr_base.specs.declared.params.Params.{Params}
 use Rattle.fr_base.specs.declared.placement.Placement.{Placement}
-use Rattle.fr_base.proofs.AloneCells.{same_text-itself}
 use Rattle.fr_base.proofs.CycleLemmas.{divisor_within, has_cycle-in}
 use Rattle.fr_base.proofs.SoundCells.{free_cells}
-use Rattle.fr_base.proofs.SoundRefusing.{gives_then, gives_unless, gives_when}
-use Rattle.fr_base.proofs.TableLaws.{get-from_rows}
-use Rattle.fr_world.specs.Maps.{table_of}
-use Rattle.fr_world.specs.Pages.{PageData, holder_of, page_of}
-use Rattle.fr_world.proofs.AmongLaws.{map-In}
-use Rattle.fr_world.proofs.ApartLaws.{find-In}
+use Rattle.fr_base.proofs.SoundRefusing.{gives_last, gives_unless, gives_when}
 
 -- ---- a placement that fits the cluster has a cell
 
@@ -73,35 +65,12 @@ new_placement p frames k f q fits found free = elim (cases_Bool (contains f.plac
   | inr new ↦ new
 ]
 
--- ---- grants
-
--- the grants of a page are its supplier's
-pub own-grant : (rows : PageData) (at : ℕ × Channel) (h : Holder) → get (page_of rows).grants at ≡ Some h → h.supplier ≡ rows.supplier
-unfolding table_of
-own-grant rows at h there =
-    let keyed : List ((ℕ × Channel) × Holder) = map (λ e. ((e.0.slot, e.0.channel), holder_of rows.supplier e.1)) rows.grants in
-    let found = map-In (λ e. ((e.0.slot, e.0.channel), holder_of rows.supplier e.1)) (at, h) rows.grants (find-In channel_slots keyed at h (sym (get-from_rows channel_slots keyed at) ∙ there)) in
-    ap (λ (x : (ℕ × Channel) × Holder). x.1.supplier) (sym found.2)
-
--- what the supplier does not hold, nobody holds there
-pub new_grant : (s : Name) (o : Option Holder) → ((h : Holder) → o ≡ Some h → h.supplier ≡ s) → held_by s o ≡ false → is_some o ≡ false
-new_grant s None own free = refl
-new_grant s (Some h) own free = absurd (true≢false (sym (ap (λ t. same_text t s) (own h refl) ∙ same_text-itself s) ∙ free))
-
-pub held_there : (s : Name) (o : Option Holder) → IsTrue (held_by s o) → IsTrue (is_some o)
-held_there s None h = h
-held_there s (Some h) own = refl
-
 -- ---- signals
 
-pub new_signal : (l : LayoutData) (s : SignalData) → IfOk (layouts.add_signal l s) (λ m. has_signal l.signals s.name ≡ false)
-unfolding layouts.add_signal
+pub new_signal : (l : LayoutData) (s : SignalData) → IfOk (admits_signal l s) (λ _. has_signal l.signals s.name ≡ false)
+unfolding admits_signal
 new_signal l s =
     gives_when _ _ _ _ (λ new.
     gives_when _ _ _ _ (λ _.
     gives_unless _ _ _ _ (λ _.
-    gives_then _ _ _ (λ _ _. new))))
-
-pub signal_there : (l : LayoutData) (name : List ℕ) → IfOk (layouts.remove_signal l name) (λ m. IsTrue (has_signal l.signals name))
-unfolding layouts.remove_signal
-signal_there l name = gives_unless _ _ _ _ (λ there. there)
+    gives_last _ _ (λ _ _. new))))

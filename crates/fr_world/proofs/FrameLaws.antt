@@ -3,7 +3,7 @@ use Rattle.std.proofs.Common.{◌≡◌, ℕ, suc, refl, true, false, ◌+◌, �
 use Rattle.std.specs.List.Sorted.{IsStrictlySortedBy}
 use Rattle.std.proofs.lemmas.List.{length-set, length-append, length-take-le, take_more_set}
 use Rattle.fr_base.specs.Keys.{placement_order}
-use Rattle.fr_base.specs.Limits.{max_placements}
+use Rattle.fr_base.specs.declared.limits.TheConstants.{MAX_PLACEMENTS}
 use Rattle.fr_base.specs.Moments.{greatest_gap}
 use Rattle.fr_base.specs.Queries.{placements_in}
 use Rattle.fr_base.specs.Tables.{len}
@@ -13,14 +13,14 @@ use Rattle.fr_world.specs.Pages.{FrameData, frame_of}
 use Rattle.fr_world.proofs.KeyLaws.{placement_cmp, placements_alike}
 use Rattle.fr_world.proofs.MapLaws.{len-set_of}
 use Rattle.fr_world.proofs.WalkLaws.{greatest_gap-nil}
-use Rattle.fr_world.proofs.PlacedLaws.{placements_in-keys}
+use Rattle.fr_world.proofs.TriggeringLaws.{placements_in-keys}
 
 -- there are no more keys than placements
-few_keys : (f : FrameData) → IsStrictlySortedBy placement_cmp f.placements → len (frame_of f).placements ≤ max_placements → length f.placements ≤ 8
+few_keys : (f : FrameData) → IsStrictlySortedBy placement_cmp f.placements → len (frame_of f).placements ≤ MAX_PLACEMENTS → length f.placements ≤ 8
 few_keys f h l = subst (λ n. n ≤ 8) (len-set_of placement_cmp placement_order (λ q. q) placements_alike f.placements h) l
 
 -- there is room for one more
-pub room-below : (f : FrameData) (left rest room : List Placement) (n : ℕ) (q : Placement) → IsStrictlySortedBy placement_cmp f.placements → len (frame_of f).placements ≤ max_placements
+pub room-below : (f : FrameData) (left rest room : List Placement) (n : ℕ) (q : Placement) → IsStrictlySortedBy placement_cmp f.placements → len (frame_of f).placements ≤ MAX_PLACEMENTS
     → length room ≡ 8 → n ≤ 8 → left ≡ q ∷ rest → take n room ++ left ≡ f.placements → n < 8
 room-below f left rest room n q o few size l e h =
     let front : length (take n room) ≡ n = length-take-le n room (omega (arith, size, l)) in

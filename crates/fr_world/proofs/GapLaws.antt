@@ -5,7 +5,7 @@ use Rattle.std.specs.Option.{option_map_or}
 use Rattle.std.specs.Prelude.{IfSome}
 use Rattle.std.proofs.lemmas.Bool.{cases_lt, lt-ltb, le-ltb}
 use Rattle.fr_base.specs.Moments.{distance, least, greatest, gaps}
-use Rattle.fr_world.specs.declared.gap.Met.{Met}
+use Rattle.fr_world.specs.declared.gap.Moments.{Moments}
 use Rattle.fr_world.proofs.AmongLaws.{In, In-map, map-In, In-filter_map, filter_map-In}
 
 -- ---- the least and the greatest
@@ -104,7 +104,7 @@ distance-round length from to h = rw (le-ltb from to h) refl
 -- ---- moments that are met in rising order
 
 -- of some moments the first, the last, and the greatest step from one to the next
-pub record IsMet (M : ℕ → Type 0) (m : Met) : Type 0 where
+pub record IsMet (M : ℕ → Type 0) (m : Moments) : Type 0 where
   pub first : M m.first
   pub last : M m.last
   pub within : (x : ℕ) → M x → (m.first ≤ x) × (x ≤ m.last)
@@ -112,12 +112,12 @@ pub record IsMet (M : ℕ → Type 0) (m : Met) : Type 0 where
   pub wide : (m.step ≡ 0) ⊎ ((x : ℕ) × M x × (x + m.step ≤ m.last) × ((y : ℕ) → M y → (y ≤ x) ⊎ (x + m.step ≤ y)))
 
 -- what is kept of the moments
-abbrev pub Keeps : (ℕ → Type 0) → Option Met → Type 0
+abbrev pub Keeps : (ℕ → Type 0) → Option Moments → Type 0
 Keeps M None = (x : ℕ) → M x → ⊥
 Keeps M (Some m) = IsMet M m
 
 -- it is the same for the same moments
-pub Keeps-same : (M N : ℕ → Type 0) (o : Option Met) → ((x : ℕ) → M x → N x) → ((x : ℕ) → N x → M x) → Keeps M o → Keeps N o
+pub Keeps-same : (M N : ℕ → Type 0) (o : Option Moments) → ((x : ℕ) → M x → N x) → ((x : ℕ) → N x → M x) → Keeps M o → Keeps N o
 Keeps-same M N None to back none = λ x n. none x (back x n)
 Keeps-same M N (Some m) to back met = record {
   first = to m.first met.first;
@@ -128,15 +128,15 @@ Keeps-same M N (Some m) to back met = record {
 }
 
 -- the last moment is met
-pub Keeps-last : (M : ℕ → Type 0) (o : Option Met) (at : ℕ) → ((x : ℕ) → M x → x ≤ at) → Keeps M o → IfSome o (λ m. m.last ≤ at)
+pub Keeps-last : (M : ℕ → Type 0) (o : Option Moments) (at : ℕ) → ((x : ℕ) → M x → x ≤ at) → Keeps M o → IfSome o (λ m. m.last ≤ at)
 Keeps-last M None at all none = tt
 Keeps-last M (Some m) at all met = all m.last met.last
 
 -- what is kept with a moment more
-abbrev pub kept_with : ℕ → Option Met → Met
+abbrev pub kept_with : ℕ → Option Moments → Moments
 kept_with at met = option_map_or (λ m. record { first = m.first; last = at; step = max m.step (at - m.last) }) met (record { first = at; last = at; step = 0 })
 
-pub Keeps-more : (M N : ℕ → Type 0) (o : Option Met) (at : ℕ) → ((x : ℕ) → M x → x ≤ at) → ((x : ℕ) → M x → N x) → N at → ((x : ℕ) → N x → M x ⊎ (x ≡ at)) →
+pub Keeps-more : (M N : ℕ → Type 0) (o : Option Moments) (at : ℕ) → ((x : ℕ) → M x → x ≤ at) → ((x : ℕ) → M x → N x) → N at → ((x : ℕ) → N x → M x ⊎ (x ≡ at)) →
     Keeps M o → Keeps N (Some (kept_with at o))
 Keeps-more M N None at all to here back none = record {
   first = here;
@@ -179,7 +179,7 @@ Keeps-more M N (Some m) at all to here back met =
     }
 
 -- where moments are met, the greatest gap is a step or the way from the last one round to the first
-pub Keeps-greatest : (length : ℕ) (moments : List ℕ) (m : Met) → m.last ≤ length → IsMet (λ x. In x moments) m →
+pub Keeps-greatest : (length : ℕ) (moments : List ℕ) (m : Moments) → m.last ≤ length → IsMet (λ x. In x moments) m →
     greatest (gaps length moments) ≡ Some (max m.step ((length - m.last) + m.first))
 Keeps-greatest length moments m inside met =
     let M : ℕ → Type 0 = λ x. In x moments in

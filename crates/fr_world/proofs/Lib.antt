@@ -13,7 +13,7 @@ pub mod LeadsLaws
 pub mod PageLaws
 pub mod StepLaws
 pub mod ScheduleLaws
-pub mod PlacedLaws
+pub mod TriggeringLaws
 pub mod FrameLaws
 pub mod IntegratorLaws
 pub mod RemoveLaws

@@ -15,8 +15,8 @@ use Rattle.fr_base.specs.Channels.{channels_in}
 use Rattle.fr_base.specs.Cluster.{Cluster}
 use Rattle.fr_base.specs.Book.{Frame, Holder, Variant, Book, held_by, held_by_node, granted}
 use Rattle.fr_base.specs.Queries.{placements_in}
-use Rattle.fr_base.specs.Step as register
-use Rattle.fr_base.specs.Step.{is_of, layout_of}
+use Rattle.fr_base.specs.Book.{is_of}
+use Rattle.fr_base.specs.Step.{own_rows, layout_of}
 use Rattle.fr_base.specs.Sound.{FitsCluster, IsSoundVariant, IsSound}
 use Rattle.fr_base.specs.declared.channel.Channel.{Channel}
 use Rattle.fr_base.specs.declared.name.Name.{Name}
@@ -26,7 +26,7 @@ use Rattle.fr_base.proofs.TableLaws.{same_rows, rows-from_rows, get-only, kept}
 use Rattle.fr_base.proofs.SoundTables.{only-stood}
 use Rattle.fr_base.proofs.SoundRows.{same_text-is, all_more}
 use Rattle.fr_world.specs.Maps.{table_of, set_of}
-use Rattle.fr_world.specs.Pages.{FrameData, IsInOrder, compare_slots, frame_of, holder_of, page_of, IsPageFrame, IsPage, IsKept, nodes_in, grants_in, frames_in, page_in}
+use Rattle.fr_world.specs.Pages.{FrameData, IsInOrder, compare_slots, frame_of, holder_of, own_rows_of, IsPageFrame, IsPage, IsKept, nodes_in, grants_in, frames_in, page_in}
 use Rattle.fr_world.proofs.KeyLaws.{own_alike}
 use Rattle.fr_world.proofs.AmongLaws.{In, map-In}
 use Rattle.fr_world.proofs.ApartLaws.{In-All, contained-all, none_shared-pairs}
@@ -83,8 +83,8 @@ module _ (p : Params) (s : Name) (x : Variant) where
       (λ e. (e.0.1, record { node = e.1.node; placements = placements_in e.1; layout = layout_of p e.1 })) (λ e. ((s, e.0), frame_of e.1))
       (λ e own i. ((sym (same_text-is e.0.0 s own) i, e.0.1), record { node = e.1.node; placements = placements-back e.1 i; signals = e.1.signals }))
 
-pub rows-registers : (c : Cluster) (b : Book) (s v : Name) (x : Variant) → page_of (page_in c.params b s v x) ≡ register.page_of c.params b s x
-unfolding register.page_of
+pub rows-registers : (c : Cluster) (b : Book) (s v : Name) (x : Variant) → own_rows_of (page_in c.params b s v x) ≡ own_rows c.params b s x
+unfolding own_rows
 rows-registers c b s v x = λ i. record {
   params = c.params;
   supplier = s;
@@ -120,8 +120,8 @@ module _ (c : Cluster) (b : Book) (s v : Name) (x : Variant) (sound : IsSound c 
     | inr other ↦ let none : None ≡ Some f = sym (ap (λ t. cond t (Some g) None) other) ∙ e in cc
   ]
 
-  frame-page : (k : Name × Name) (f : Frame) → get (only (λ j _. is_of s j) x.frames) k ≡ Some f → IsPageFrame (register.page_of c.params b s x) f
-  unfolding register.page_of
+  frame-page : (k : Name × Name) (f : Frame) → get (only (λ j _. is_of s j) x.frames) k ≡ Some f → IsPageFrame (own_rows c.params b s x) f
+  unfolding own_rows
   frame-page k f at =
       let old = fine.frames k f (only-stood owned (λ j _. is_of s j) x.frames k f at) in
       let own : k.0 ≡ s = own_key k (get x.frames k) f (sym (get-only owned (λ j _. is_of s j) x.frames k) ∙ at) in
@@ -132,15 +132,16 @@ module _ (c : Cluster) (b : Book) (s v : Name) (x : Variant) (sound : IsSound c 
         layout = old.layout;
       }
 
-  sound-page : IsPage (register.page_of c.params b s x)
-  unfolding register.page_of
+  sound-page : IsPage (own_rows c.params b s x)
+  unfolding own_rows
   sound-page =
       let stood = only-stood owned (λ j _. is_of s j) x.frames in
       record {
         nodes = sound.node_limit s;
         frames = fine.frame_limit s;
         each = frame-page;
-        apart = none_shared-pairs (only (λ j _. is_of s j) x.frames) (λ k l f g q r d at_k at_l. fine.apart k l f g q r d (stood k f at_k) (stood l g at_l));
+        apart = none_shared-pairs (only (λ j _. is_of s j) x.frames) (λ k l f g q r d at_k at_l in_f in_g has_q has_r.
+            fine.apart k l f g q r d (record { frame = stood k f at_k; placement = in_f; has = has_q }) (record { frame = stood l g at_l; placement = in_g; has = has_r }));
       }
 
 -- each layout is that of the cluster's payload

@@ -1,5 +1,5 @@
 -- What is left of a `BTreeMap`'s entries and a `BTreeSet`'s keys after one was removed, as tables.
-use Rattle.std.proofs.Common.{◌≡◌, Bool, true, false, not, cond, List, [], ◌∷◌, map, filter, refl, sym, ap, subst, ◌∙◌, Ordering, Less, Equal}
+use Rattle.std.proofs.Common.{◌≡◌, Bool, true, false, not, cond, List, [], ◌∷◌, map, filter, Option, Some, None, refl, sym, ap, subst, ◌∙◌, inl, inr, Ordering, Less, Equal}
 use Rattle.std.specs.Prelude.{T, ⊤}
 use Rattle.std.specs.Ordering.{is_eq, eq_by_cmp}
 use Rattle.std.specs.FinMap.Entries.{is_sorted}
@@ -8,9 +8,10 @@ use Rattle.std.specs.Set.{remove_key}
 use Rattle.std.specs.BTreeMap.{is_at}
 use Rattle.std.specs.List.{AllByRecursion}
 use Rattle.std.specs.List.Sorted.{IsStrictlySortedBy}
+use Rattle.std.proofs.lemmas.Bool.{cases_Bool}
 use Rattle.fr_base.specs.TableRows.{is_sorted-filter}
-use Rattle.fr_base.specs.Tables.{Order, from_rows, only, remove}
-use Rattle.fr_base.proofs.TableLaws.{equal, same_rows, rows-from_rows}
+use Rattle.fr_base.specs.Tables.{Order, Table, from_rows, get, only, remove}
+use Rattle.fr_base.proofs.TableLaws.{equal, get-only, kept, same_rows, same_table, rows-from_rows}
 use Rattle.fr_world.specs.Maps.{table_of, set_of}
 use Rattle.fr_world.proofs.MapLaws.{rows, sorted, set_rows}
 
@@ -88,3 +89,21 @@ module _ {J K : Type 0} (cmp : J → J → Ordering) (o : Order K) (key : J → 
       ∙ ap (table_of o key unit) (units-remove (is_at (cmp k)) ks)
       ∙ table_of-remove_entry cmp o key alike unit (units ks) k (subst (IsStrictlySortedBy cmp) (sym (keys-units ks)) h)
       ∙ ap (λ t. remove t (key k)) (table_of-units ks)
+
+-- where nothing stands nothing is removed
+pub remove-none : {K V : Type 0} (o : Order K) (t : Table o V) (k : K) → get t k ≡ None → remove t k ≡ t
+unfolding remove
+remove-none {K = K} {V = V} o t k none = same_table _ _ (λ q. get-only o kept_row t q ∙ still q)
+  where
+    kept_row : K → V → Bool
+    kept_row j _ = not (eq_by_cmp o.compare k j)
+
+    other_key : (q : K) (x : Option V) → eq_by_cmp o.compare k q ≡ false → kept kept_row q x ≡ x
+    other_key q None e = refl
+    other_key q (Some v) e = ap (λ b. cond (not b) (Some v) None) e
+
+    still : (q : K) → kept kept_row q (get t q) ≡ get t q
+    still q = elim (cases_Bool (eq_by_cmp o.compare k q)) [
+      | inl e ↦ let absent : get t q ≡ None = ap (get t) (sym (o.exact k q (equal _ e))) ∙ none in ap (kept kept_row q) absent ∙ sym absent
+      | inr e ↦ other_key q (get t q) e
+    ]

@@ -9,7 +9,7 @@ use Rattle.fr_base.specs.Schedule.{fill, first_taken}
 use Rattle.fr_base.specs.declared.name.Name.{Name}
 use Rattle.fr_base.specs.declared.placement.Placement.{Placement}
 use Rattle.fr_world.specs.Occupancies.{taken_cell, first_taken_cell, is_free, is_pair, without}
-use Rattle.fr_world.specs.Spots.{spot_of, taken_of, earlier}
+use Rattle.fr_world.specs.CycleChannels.{cycle_channel, taken_of, earlier}
 use Rattle.fr_world.specs.declared.occupancy.TakenCell.{TakenCell}
 use Rattle.fr_world.specs.declared.row_occupancy.Row.{Row}
 use Rattle.fr_world.specs.declared.row_occupancy.Taken.{Taken}
@@ -23,7 +23,7 @@ pairs rows = map pair_of rows
 
 -- one row more
 pub taken_among-row : (rows : List Row) (i : ℕ) (row : Row) (q : Placement) → i < length rows → row ≡ get_or rows i row
-    → taken_among (pairs (take (i + 1) rows)) q ≡ earlier (taken_among (pairs (take i rows)) q) (taken_by row.frame (option_map spot_of (find (has_cell row.placement) (cells_of q))))
+    → taken_among (pairs (take (i + 1) rows)) q ≡ earlier (taken_among (pairs (take i rows)) q) (taken_by row.frame (option_map cycle_channel (find (has_cell row.placement) (cells_of q))))
 taken_among-row rows i row q l e =
     let next : take (suc i) rows ≡ take i rows ++ row ∷ [] = take-suc rows i row l ∙ ap (λ r. take i rows ++ r ∷ []) (sym e) in
     ap (λ n. taken_among (pairs (take n rows)) q) (add-one i)

@@ -15,14 +15,14 @@ use Rattle.fr_base.specs.Numbers.{is_slot}
 use Rattle.fr_base.specs.Schedule.{entries, fill}
 use Rattle.fr_base.specs.Queries.{sending, sendings_of}
 use Rattle.fr_base.specs.Keys.{owned}
-use Rattle.fr_base.specs.Step.{Page}
+use Rattle.fr_base.specs.Step.{OwnRows}
 use Rattle.fr_base.specs.Tables.{Table}
 use Rattle.fr_base.specs.declared.answer.Sending.{Sending}
 use Rattle.fr_base.specs.declared.channel.Channel.{Channel}
 use Rattle.fr_base.specs.declared.params.Params.{Params}
 use Rattle.fr_base.specs.declared.placement.Placement.{Placement}
 use Rattle.fr_world.specs.Sendings.{cycle_cells, filled, is_due, is_used, page_sendings, sent_in}
-use Rattle.fr_world.specs.declared.placed.Placed.{Placed}
+use Rattle.fr_world.specs.declared.frame_triggering.FrameTriggering.{FrameTriggering}
 use Rattle.fr_world.proofs.SharedLaws.{has_cell-parts}
 
 abbrev pub cell : ℕ → ℕ → Channel → Cell
@@ -74,6 +74,25 @@ cells-slots k chs xs ys =
     ∙ flat_map-append (λ slot. map (λ x. cell k slot x) chs) xs ys
     ∙ (λ i. sym (append-nil (slot_cells k chs xs)) i ++ sym (append-nil (slot_cells k chs ys)) i)
 
+-- the cells of a slot in a cycle
+abbrev pub column : ℕ → ℕ → List Channel → List Cell
+column k slot chs = map (λ x. cell k slot x) chs
+
+pub cells-column : (k slot : ℕ) (chs : List Channel) → cells_in (k ∷ []) (slot ∷ []) chs ≡ column k slot chs
+cells-column k slot chs = append-nil (column k slot chs ++ []) ∙ append-nil (column k slot chs)
+
+-- one channel more of a slot: what is sent there, if anything is
+pub sent-channel : (fs gs : List (book.Owner × Placement)) (k slot : ℕ) (chs : List Channel) (i : ℕ) (x y : Channel) (old mid new : List Sending) (r : Option Sending) → i < length chs → x ≡ get_or chs i y
+    → mid ≡ old ++ sent_in fs (column k slot (take i chs))
+    → r ≡ option_map (λ o. sending (cell k slot x, o)) (fill gs (cell k slot x)) → gs ≡ fs
+    → new ≡ mid ++ cons_option r []
+    → new ≡ old ++ sent_in fs (column k slot (take (i + 1) chs))
+sent-channel fs gs k slot chs i x y old mid new r l e h found same g =
+    sent-more fs old mid new _ (cell k slot x ∷ []) h
+    (g ∙ ap (λ sent. mid ++ sent) (ap (λ sent. cons_option sent []) found ∙ sym (sent-cell gs (cell k slot x)) ∙ ap (λ hs. sent_in hs (cell k slot x ∷ [])) same))
+    ∙ ap (λ cells. old ++ sent_in fs cells)
+    (sym (map-append (λ x. cell k slot x) (take i chs) (x ∷ [])) ∙ ap (column k slot) (ap (λ z. take i chs ++ z ∷ []) e ∙ sym (take_more chs i y l)))
+
 -- one slot more of a cycle
 pub sent-slot : (fs : List (book.Owner × Placement)) (k : ℕ) (chs : List Channel) (slots : List ℕ) (i slot : ℕ) (old mid new : List Sending) → i < length slots → slot ≡ get_or slots i slot
     → mid ≡ old ++ sent_in fs (cells_in (k ∷ []) (take i slots) chs)
@@ -97,23 +116,23 @@ sent-cycle fs slots chs mid new k n f h g =
 -- ---- what is not in a cycle or a slot
 
 -- who sends in a placement's cells
-abbrev pub owner_in : Placed → book.Owner
+abbrev pub owner_in : FrameTriggering → book.Owner
 owner_in p = record { supplier = p.supplier; frame = p.frame; node = p.node }
 
-undue : (k slot : ℕ) (x : Channel) (p : Placed) → is_due k p ≡ false → has_cell p.placement (cell k slot x) ≡ false
+undue : (k slot : ℕ) (x : Channel) (p : FrameTriggering) → is_due k p ≡ false → has_cell p.placement (cell k slot x) ≡ false
 undue k slot x p e = has_cell-parts p.placement (cell k slot x) ∙ and_right _ _ e
 
-elsewhere : (k slot : ℕ) (x : Channel) (p : Placed) → eqb slot p.placement.slot ≡ false → has_cell p.placement (cell k slot x) ≡ false
+elsewhere : (k slot : ℕ) (x : Channel) (p : FrameTriggering) → eqb slot p.placement.slot ≡ false → has_cell p.placement (cell k slot x) ≡ false
 elsewhere k slot x p e =
     has_cell-parts p.placement (cell k slot x)
     ∙ ap (λ b. (b && has_channel p.placement.channels x) && has_cycle p.placement.cycles k) e
 
 -- the placements of the cycle fill its cells as all do
-fill-due : (k slot : ℕ) (x : Channel) (ps : List Placed) → fill (filled (filter (is_due k) ps)) (cell k slot x) ≡ fill (filled ps) (cell k slot x)
+fill-due : (k slot : ℕ) (x : Channel) (ps : List FrameTriggering) → fill (filled (filter (is_due k) ps)) (cell k slot x) ≡ fill (filled ps) (cell k slot x)
 unfolding fill
 fill-due k slot x [] = refl
 fill-due k slot x (p ∷ ps) =
-    let due : List Placed = filter (is_due k) ps in
+    let due : List FrameTriggering = filter (is_due k) ps in
     let c : Cell = cell k slot x in
     elim (is_due k p) as (λ b. (b ≡ false → has_cell p.placement c ≡ false) → fill (filled (cond b (p ∷ due) due)) c ≡ cond (has_cell p.placement c) (Some (owner_in p)) (fill (filled ps) c)) [
       | true ↦ λ h. ap (λ r. cond (has_cell p.placement c) (Some (owner_in p)) r) (fill-due k slot x ps)
@@ -128,7 +147,7 @@ true_is_not : true ≡ false → ⊥
 true_is_not e = cc
 
 -- a slot without a placement has no filled cell
-fill-unused : (ps : List Placed) (k slot : ℕ) (x : Channel) → is_used ps slot ≡ false → fill (filled ps) (cell k slot x) ≡ None
+fill-unused : (ps : List FrameTriggering) (k slot : ℕ) (x : Channel) → is_used ps slot ≡ false → fill (filled ps) (cell k slot x) ≡ None
 unfolding fill
 fill-unused [] k slot x e = refl
 fill-unused (p ∷ ps) k slot x e =
@@ -137,12 +156,6 @@ fill-unused (p ∷ ps) k slot x e =
       | true ↦ λ f h. absurd (true_is_not f)
       | false ↦ λ f h. ap (λ b. cond b (Some (owner_in p)) (fill (filled ps) c)) (h refl) ∙ fill-unused ps k slot x f
     ] e (elsewhere k slot x p)
-
-abbrev column : ℕ → ℕ → List Channel → List Cell
-column k slot chs = map (λ x. cell k slot x) chs
-
-cells-column : (k slot : ℕ) (chs : List Channel) → cells_in (k ∷ []) (slot ∷ []) chs ≡ column k slot chs
-cells-column k slot chs = append-nil (column k slot chs ++ []) ∙ append-nil (column k slot chs)
 
 -- where owners fill a slot's cells alike, the same is sent there
 sent-alike : (fs gs : List (book.Owner × Placement)) (k slot : ℕ) (chs : List Channel) → ((x : Channel) → fill fs (cell k slot x) ≡ fill gs (cell k slot x)) → sent_in fs (column k slot chs) ≡ sent_in gs (column k slot chs)
@@ -160,17 +173,17 @@ sent-empty [] = refl
 sent-empty (c ∷ cells) = sent-empty cells
 
 -- of a cycle's cells the cycle's placements alone are asked
-pub sent-due : (k slot : ℕ) (chs : List Channel) (ps : List Placed) → sent_in (filled (filter (is_due k) ps)) (cells_in (k ∷ []) (slot ∷ []) chs) ≡ sent_in (filled ps) (cells_in (k ∷ []) (slot ∷ []) chs)
+pub sent-due : (k slot : ℕ) (chs : List Channel) (ps : List FrameTriggering) → sent_in (filled (filter (is_due k) ps)) (cells_in (k ∷ []) (slot ∷ []) chs) ≡ sent_in (filled ps) (cells_in (k ∷ []) (slot ∷ []) chs)
 sent-due k slot chs ps =
     ap (sent_in (filled (filter (is_due k) ps))) (cells-column k slot chs)
     ∙ sent-alike (filled (filter (is_due k) ps)) (filled ps) k slot chs (λ x. fill-due k slot x ps)
     ∙ ap (sent_in (filled ps)) (sym (cells-column k slot chs))
 
-sent-unused : (ps : List Placed) (k slot : ℕ) (chs : List Channel) → is_used ps slot ≡ false → sent_in (filled ps) (column k slot chs) ≡ []
+sent-unused : (ps : List FrameTriggering) (k slot : ℕ) (chs : List Channel) → is_used ps slot ≡ false → sent_in (filled ps) (column k slot chs) ≡ []
 sent-unused ps k slot chs e = sent-alike (filled ps) [] k slot chs (λ x. fill-unused ps k slot x e ∙ fill-nothing (cell k slot x)) ∙ sent-empty (column k slot chs)
 
 -- a cycle's slots without a placement can be left out
-sent-used : (ps : List Placed) (k : ℕ) (chs : List Channel) (slots : List ℕ) → sent_in (filled ps) (slot_cells k chs (filter (is_used ps) slots)) ≡ sent_in (filled ps) (slot_cells k chs slots)
+sent-used : (ps : List FrameTriggering) (k : ℕ) (chs : List Channel) (slots : List ℕ) → sent_in (filled ps) (slot_cells k chs (filter (is_used ps) slots)) ≡ sent_in (filled ps) (slot_cells k chs slots)
 sent-used ps k chs [] = refl
 sent-used ps k chs (slot ∷ slots) =
     let used : List ℕ = filter (is_used ps) slots in
@@ -179,7 +192,7 @@ sent-used ps k chs (slot ∷ slots) =
       | false ↦ λ h. sent-used ps k chs slots ∙ ap (λ front. front ++ sent_in (filled ps) (slot_cells k chs slots)) (sym (h refl)) ∙ sym (sent-append (filled ps) (column k slot chs) (slot_cells k chs slots))
     ] (sent-unused ps k slot chs)
 
-sent-used-slots : (ps : List Placed) (ks : List ℕ) (chs : List Channel) (slots : List ℕ) → sent_in (filled ps) (cells_in ks (filter (is_used ps) slots) chs) ≡ sent_in (filled ps) (cells_in ks slots chs)
+sent-used-slots : (ps : List FrameTriggering) (ks : List ℕ) (chs : List Channel) (slots : List ℕ) → sent_in (filled ps) (cells_in ks (filter (is_used ps) slots) chs) ≡ sent_in (filled ps) (cells_in ks slots chs)
 sent-used-slots ps [] chs slots = refl
 sent-used-slots ps (k ∷ ks) chs slots =
     sent-append (filled ps) (slot_cells k chs (filter (is_used ps) slots)) (cells_in ks (filter (is_used ps) slots) chs)
@@ -187,7 +200,7 @@ sent-used-slots ps (k ∷ ks) chs slots =
     ∙ sym (sent-append (filled ps) (slot_cells k chs slots) (cells_in ks slots chs))
 
 -- after the last cycle that is the whole schedule
-pub sent-all : (p : Params) (ps : List Placed) (used : List ℕ) (rows : List Sending) (n : ℕ) → n ≡ 64 → used ≡ filter (is_used ps) (slots_of p)
+pub sent-all : (p : Params) (ps : List FrameTriggering) (used : List ℕ) (rows : List Sending) (n : ℕ) → n ≡ 64 → used ≡ filter (is_used ps) (slots_of p)
     → rows ≡ sent_in (filled ps) (cells_in (range_with_len 0 n) used (channels_in p.channels)) → rows ≡ sent_in (filled ps) (cluster_cells p)
 unfolding cluster_cells all_cycles cycle_count
 sent-all p ps used rows n e u h =
@@ -196,14 +209,25 @@ sent-all p ps used rows n e u h =
     ∙ ap (λ n. sent_in (filled ps) (cells_in (range_with_len 0 n) (slots_of p) (channels_in p.channels))) e
 
 -- and of one cycle
-pub sent-one : (p : Params) (ps : List Placed) (used : List ℕ) (k : ℕ) → used ≡ filter (is_used ps) (slots_of p)
+pub sent-one : (p : Params) (ps : List FrameTriggering) (used : List ℕ) (k : ℕ) → used ≡ filter (is_used ps) (slots_of p)
     → sent_in (filled ps) (cells_in (k ∷ []) used (channels_in p.channels)) ≡ sent_in (filled ps) (cycle_cells p k)
 sent-one p ps used k u =
     ap (λ slots. sent_in (filled ps) (cells_in (k ∷ []) slots (channels_in p.channels))) u
     ∙ sent-used-slots ps (k ∷ []) (channels_in p.channels) (slots_of p)
 
--- one slot more, if a placement is in it
-pub used-more : (ps : List Placed) (old new : List ℕ) (number m n : ℕ) → number ≡ 1 + m → n ≡ suc m
+-- the slot of a number, if a placement is in it
+pub used-one : (ps : List FrameTriggering) (old new : List ℕ) (slot number : ℕ) → Some slot ≡ Some number → is_used ps slot ≡ true → new ≡ old ++ slot ∷ [] → new ≡ old ++ filter (is_used ps) (number ∷ [])
+used-one ps old new slot number is used e =
+    let same : slot ≡ number = cc in
+    e ∙ ap (λ xs. old ++ xs) (ap (λ b. cond b (slot ∷ []) []) (sym used) ∙ ap (λ n. filter (is_used ps) (n ∷ [])) same)
+
+pub used-none : (ps : List FrameTriggering) (old new : List ℕ) (slot number : ℕ) → Some slot ≡ Some number → is_used ps slot ≡ false → new ≡ old → new ≡ old ++ filter (is_used ps) (number ∷ [])
+used-none ps old new slot number is unused e =
+    let same : slot ≡ number = cc in
+    e ∙ sym (append-nil old) ∙ ap (λ xs. old ++ xs) (ap (λ b. cond b (slot ∷ []) []) (sym unused) ∙ ap (λ n. filter (is_used ps) (n ∷ [])) same)
+
+-- one slot more
+pub used-more : (ps : List FrameTriggering) (old new : List ℕ) (number m n : ℕ) → number ≡ 1 + m → n ≡ suc m
     → old ≡ filter (is_used ps) (range_with_len 1 m)
     → new ≡ old ++ filter (is_used ps) (number ∷ [])
     → new ≡ filter (is_used ps) (range_with_len 1 n)
@@ -215,21 +239,21 @@ used-more ps old new number m n e f h g =
 
 -- ---- who sends in a cell, placement by placement
 
-fill-at : (c : Cell) (ps : List Placed) (i : ℕ) (p : Placed) → i < length ps → p ≡ get_or ps i p → fill (filled (drop i ps)) c ≡ cond (has_cell p.placement c) (Some (owner_in p)) (fill (filled (drop (i + 1) ps)) c)
+fill-at : (c : Cell) (ps : List FrameTriggering) (i : ℕ) (p : FrameTriggering) → i < length ps → p ≡ get_or ps i p → fill (filled (drop i ps)) c ≡ cond (has_cell p.placement c) (Some (owner_in p)) (fill (filled (drop (i + 1) ps)) c)
 unfolding fill
 fill-at c ps i p l e =
     at_drop_more (λ rest. fill (filled rest) c) ps i p l
     ∙ ap (λ q. cond (has_cell q.placement c) (Some (owner_in q)) (fill (filled (drop (i + 1) ps)) c)) (sym e)
 
-pub fill-here : (c : Cell) (ps : List Placed) (i : ℕ) (p : Placed) → i < length ps → p ≡ get_or ps i p → has_cell p.placement c ≡ true → fill (filled (drop i ps)) c ≡ fill (filled ps) c → Some (sending (c, owner_in p)) ≡ option_map (λ o. sending (c, o)) (fill (filled ps) c)
+pub fill-here : (c : Cell) (ps : List FrameTriggering) (i : ℕ) (p : FrameTriggering) → i < length ps → p ≡ get_or ps i p → has_cell p.placement c ≡ true → fill (filled (drop i ps)) c ≡ fill (filled ps) c → Some (sending (c, owner_in p)) ≡ option_map (λ o. sending (c, o)) (fill (filled ps) c)
 fill-here c ps i p l e t h =
     ap (option_map (λ o. sending (c, o)))
     (ap (λ b. cond b (Some (owner_in p)) (fill (filled (drop (i + 1) ps)) c)) (sym t) ∙ sym (fill-at c ps i p l e) ∙ h)
 
-pub fill-later : (c : Cell) (ps : List Placed) (i : ℕ) (p : Placed) → i < length ps → p ≡ get_or ps i p → has_cell p.placement c ≡ false → fill (filled (drop i ps)) c ≡ fill (filled ps) c → fill (filled (drop (i + 1) ps)) c ≡ fill (filled ps) c
+pub fill-later : (c : Cell) (ps : List FrameTriggering) (i : ℕ) (p : FrameTriggering) → i < length ps → p ≡ get_or ps i p → has_cell p.placement c ≡ false → fill (filled (drop i ps)) c ≡ fill (filled ps) c → fill (filled (drop (i + 1) ps)) c ≡ fill (filled ps) c
 fill-later c ps i p l e t h = ap (λ b. cond b (Some (owner_in p)) (fill (filled (drop (i + 1) ps)) c)) (sym t) ∙ sym (fill-at c ps i p l e) ∙ h
 
-pub fill-nowhere : (c : Cell) (ps : List Placed) (i : ℕ) → length ps ≤ i → fill (filled (drop i ps)) c ≡ fill (filled ps) c → None ≡ option_map (λ o. sending (c, o)) (fill (filled ps) c)
+pub fill-nowhere : (c : Cell) (ps : List FrameTriggering) (i : ℕ) → length ps ≤ i → fill (filled (drop i ps)) c ≡ fill (filled ps) c → None ≡ option_map (λ o. sending (c, o)) (fill (filled ps) c)
 fill-nowhere c ps i l h = ap (option_map (λ o. sending (c, o))) (fill-nothing c ∙ ap (λ rest. fill (filled rest) c) (sym (drop_all i ps l)) ∙ h)
 
 is_slot-within : (number : ℕ) → 1 ≤ number → number ≤ 1023 → is_slot number ≡ true
@@ -238,9 +262,6 @@ is_slot-within number l h = and_from (nat_le 1 number) (nat_le number 1023) (gri
 -- a number within the bounds is a slot's
 pub slot-within : (number : ℕ) (r : Option ℕ) → 1 ≤ number → number ≤ 1023 → r ≡ cond (is_slot number) (Some number) None → r ≡ Some number
 slot-within number r l h e = e ∙ ap (λ b. cond b (Some number) None) (is_slot-within number l h)
-
-pub same_slot : (slot number : ℕ) → Some slot ≡ Some number → slot ≡ number
-same_slot slot number e = cc
 
 pub some_slot : (r : Option ℕ) (number : ℕ) → r ≡ Some number → r ≡ None → ⊥
 some_slot r number e f = cc
@@ -253,6 +274,6 @@ unfolding sendings_of sent_in book.schedule_of
 sendings_of-sent p frames fs e = ap (λ gs. map sending (entries (fill gs) (cluster_cells p))) e
 
 -- and those of a page in the cells of a cycle
-pub page_sendings-sent : (page : Page) (fs : List (book.Owner × Placement)) (k : ℕ) → fs ≡ book.placements_of page.frames → sent_in fs (cycle_cells page.params k) ≡ page_sendings page k
+pub page_sendings-sent : (page : OwnRows) (fs : List (book.Owner × Placement)) (k : ℕ) → fs ≡ book.placements_of page.frames → sent_in fs (cycle_cells page.params k) ≡ page_sendings page k
 unfolding page_sendings sent_in book.schedule_of
 page_sendings-sent page fs k e = ap (λ gs. map sending (entries (fill gs) (cycle_cells page.params k))) e

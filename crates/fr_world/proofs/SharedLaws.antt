@@ -12,8 +12,8 @@ use Rattle.fr_base.specs.declared.channel.Channel.TheVariants as channel
 use Rattle.fr_base.specs.declared.channel.Channels.{Channels}
 use Rattle.fr_base.specs.declared.channel.Channels.TheVariants as channels
 use Rattle.fr_base.specs.declared.placement.Placement.{Placement}
-use Rattle.fr_world.specs.Spots.{spot_of}
-use Rattle.fr_world.specs.declared.spot.Spot.{Spot}
+use Rattle.fr_world.specs.CycleChannels.{cycle_channel}
+use Rattle.fr_world.specs.declared.cycle_channel.CycleChannel.{CycleChannel}
 
 abbrev cell : ℕ → ℕ → Channel → Cell
 cell k slot x = record { cycle = k; slot = slot; channel = x }
@@ -139,36 +139,36 @@ find-has_cell q p = (λ i. find (λ c. has_cell-parts p c i) (cells_of q)) ∙ f
 
 -- ---- what the comparison of two placements answers
 
-abbrev answer : Placement → Placement → Option Spot
-answer q p = option_map spot_of (find (has_cell p) (cells_of q))
+abbrev answer : Placement → Placement → Option CycleChannel
+answer q p = option_map cycle_channel (find (has_cell p) (cells_of q))
 
-parts : (q p : Placement) (s : Bool) (x : Option Channel) (k : Option ℕ) → eqb q.slot p.slot ≡ s → find (has_channel p.channels) (channels_in q.channels) ≡ x → first_common q.cycles p.cycles ≡ k → answer q p ≡ option_map spot_of (shared s q.slot x k)
-parts q p s x k es ex ek = ap (option_map spot_of) (find-has_cell q p ∙ (λ i. shared (es i) q.slot (ex i) (ek i)))
+parts : (q p : Placement) (s : Bool) (x : Option Channel) (k : Option ℕ) → eqb q.slot p.slot ≡ s → find (has_channel p.channels) (channels_in q.channels) ≡ x → first_common q.cycles p.cycles ≡ k → answer q p ≡ option_map cycle_channel (shared s q.slot x k)
+parts q p s x k es ex ek = ap (option_map cycle_channel) (find-has_cell q p ∙ (λ i. shared (es i) q.slot (ex i) (ek i)))
 
 -- of another slot: none
 pub no_slot : (q p : Placement) → eqb q.slot p.slot ≡ false → None ≡ answer q p
 no_slot q p e = sym (parts q p false _ _ e refl refl)
 
-none_spot : (s : Bool) (slot : ℕ) (k : Option ℕ) → None ≡ option_map spot_of (shared s slot None k)
-none_spot false slot k = refl
-none_spot true slot k = refl
+none_common : (s : Bool) (slot : ℕ) (k : Option ℕ) → None ≡ option_map cycle_channel (shared s slot None k)
+none_common false slot k = refl
+none_common true slot k = refl
 
-no_cycle_spot : (s : Bool) (slot : ℕ) (x : Option Channel) → None ≡ option_map spot_of (shared s slot x None)
-no_cycle_spot false slot x = refl
-no_cycle_spot true slot None = refl
-no_cycle_spot true slot (Some x) = refl
+no_cycle_common : (s : Bool) (slot : ℕ) (x : Option Channel) → None ≡ option_map cycle_channel (shared s slot x None)
+no_cycle_common false slot x = refl
+no_cycle_common true slot None = refl
+no_cycle_common true slot (Some x) = refl
 
 -- on no channel that both have: none
 pub no_channel : (q p : Placement) → find (has_channel p.channels) (channels_in q.channels) ≡ None → None ≡ answer q p
-no_channel q p e = none_spot (eqb q.slot p.slot) q.slot (first_common q.cycles p.cycles) ∙ sym (parts q p _ None _ refl e refl)
+no_channel q p e = none_common (eqb q.slot p.slot) q.slot (first_common q.cycles p.cycles) ∙ sym (parts q p _ None _ refl e refl)
 
 -- in no cycle that both have: none
 pub no_cycle : (q p : Placement) → first_common q.cycles p.cycles ≡ None → None ≡ answer q p
-no_cycle q p e = no_cycle_spot (eqb q.slot p.slot) q.slot (find (has_channel p.channels) (channels_in q.channels)) ∙ sym (parts q p _ _ None refl refl e)
+no_cycle q p e = no_cycle_common (eqb q.slot p.slot) q.slot (find (has_channel p.channels) (channels_in q.channels)) ∙ sym (parts q p _ _ None refl refl e)
 
 -- else the first channel and the first cycle that both have
-pub both_spot : (q p : Placement) (x : Channel) (k : ℕ) → eqb q.slot p.slot ≡ true → find (has_channel p.channels) (channels_in q.channels) ≡ Some x → first_common q.cycles p.cycles ≡ Some k → Some (record { cycle = k; channel = x }) ≡ answer q p
-both_spot q p x k es ex ek = sym (parts q p true (Some x) (Some k) es ex ek)
+pub both_common : (q p : Placement) (x : Channel) (k : ℕ) → eqb q.slot p.slot ≡ true → find (has_channel p.channels) (channels_in q.channels) ≡ Some x → first_common q.cycles p.cycles ≡ Some k → Some (record { cycle = k; channel = x }) ≡ answer q p
+both_common q p x k es ex ek = sym (parts q p true (Some x) (Some k) es ex ek)
 
 pub differ : (b : Bool) → not b ≡ true → b ≡ false
 differ true e = cc

@@ -15,7 +15,7 @@ use Rattle.fr_base.specs.Sound.{FitsCluster}
 use Rattle.fr_base.specs.declared.params.Params.{Params}
 use Rattle.fr_base.specs.declared.placement.Placement.{Placement}
 use Rattle.fr_base.proofs.CycleLemmas.{below-has_cycle}
-use Rattle.fr_world.specs.declared.gap.Met.{Met}
+use Rattle.fr_world.specs.declared.gap.Moments.{Moments}
 use Rattle.fr_world.proofs.GapLaws.{Keeps, Keeps-greatest, Keeps-last, Keeps-more, Keeps-none, Keeps-same, kept_with}
 use Rattle.fr_world.proofs.AmongLaws.{In, In-Contains, Contains-In}
 use Rattle.fr_world.proofs.MomentLaws.{IsSent, moment_at, In-moments, moments-In}
@@ -56,14 +56,14 @@ IsSeen-more_cases p qs k i x q inside is seen = elim seen.before [
 ]
 
 -- what is kept of the moments gone through so far
-abbrev pub Sees : Params → List Placement → ℕ → ℕ → Option Met → Type 0
+abbrev pub Sees : Params → List Placement → ℕ → ℕ → Option Moments → Type 0
 Sees p qs k i met = Keeps (IsSeen p qs k i) met
 
 pub Sees-none : (p : Params) (qs : List Placement) → Sees p qs 0 0 None
 Sees-none p qs = IsSeen-none p qs
 
 -- after a placement that is not sent in the cycle
-pub Sees-skip : (p : Params) (qs : List Placement) (k i : ℕ) (q : Placement) (met : Option Met) → i < length qs → q ≡ get_or qs i q → has_cycle q.cycles k ≡ false → Sees p qs k i met → Sees p qs k (i + 1) met
+pub Sees-skip : (p : Params) (qs : List Placement) (k i : ℕ) (q : Placement) (met : Option Moments) → i < length qs → q ≡ get_or qs i q → has_cycle q.cycles k ≡ false → Sees p qs k i met → Sees p qs k (i + 1) met
 Sees-skip p qs k i q met inside is off sees =
     Keeps-same (IsSeen p qs k i) (IsSeen p qs k (i + 1)) met
     (λ x seen. IsSeen-kept p qs k i x q inside is seen)
@@ -71,7 +71,7 @@ Sees-skip p qs k i q met inside is off sees =
     sees
 
 -- after the last placement of the cycle
-pub Sees-cycle : (p : Params) (qs : List Placement) (k n : ℕ) (met : Option Met) → n ≡ length qs → Sees p qs k n met → Sees p qs (k + 1) 0 met
+pub Sees-cycle : (p : Params) (qs : List Placement) (k n : ℕ) (met : Option Moments) → n ≡ length qs → Sees p qs k n met → Sees p qs (k + 1) 0 met
 Sees-cycle p qs k n met all sees =
     let whole : take n qs ≡ qs = take_all n qs (omega arith) in
     Keeps-same (IsSeen p qs k n) (IsSeen p qs (k + 1) 0) met
@@ -173,12 +173,12 @@ seen_below p qs k i x q are inside is seen =
     ]
 
 -- the last moment is not after that of the next placement
-pub Sees-last : (p : Params) (qs : List Placement) (k i at : ℕ) (q : Placement) (met : Option Met) → AreRising p qs → i < length qs → q ≡ get_or qs i q → at ≡ moment_at p k q.slot →
+pub Sees-last : (p : Params) (qs : List Placement) (k i at : ℕ) (q : Placement) (met : Option Moments) → AreRising p qs → i < length qs → q ≡ get_or qs i q → at ≡ moment_at p k q.slot →
     Sees p qs k i met → IfSome met (λ m. m.last ≤ at)
 Sees-last p qs k i at q met are inside is here sees = Keeps-last (IsSeen p qs k i) met at (λ x seen. omega (arith, seen_below p qs k i x q are inside is seen)) sees
 
 -- after a placement that is sent in the cycle
-pub Sees-more : (p : Params) (qs : List Placement) (k i at : ℕ) (q : Placement) (met : Option Met) → AreRising p qs → i < length qs → q ≡ get_or qs i q → at ≡ moment_at p k q.slot → has_cycle q.cycles k ≡ true →
+pub Sees-more : (p : Params) (qs : List Placement) (k i at : ℕ) (q : Placement) (met : Option Moments) → AreRising p qs → i < length qs → q ≡ get_or qs i q → at ≡ moment_at p k q.slot → has_cycle q.cycles k ≡ true →
     Sees p qs k i met → Sees p qs k (i + 1) (Some (kept_with at met))
 Sees-more p qs k i at q met are inside is here on sees =
     Keeps-more (IsSeen p qs k i) (IsSeen p qs k (i + 1)) met at
@@ -213,11 +213,11 @@ In-seen p ps qs x moved i =
       before = inl (below-has_cycle found.0.cycles found.1 found.3.cycle, Contains-permutation ps qs found.0 moved (Contains-In found.0 ps found.2));
     }
 
-pub Sees-end : (p : Params) (qs : List Placement) (k : ℕ) (met end : Option Met) → k ≡ 64 → met ≡ end → Sees p qs k 0 met → Sees p qs 64 0 end
+pub Sees-end : (p : Params) (qs : List Placement) (k : ℕ) (met end : Option Moments) → k ≡ 64 → met ≡ end → Sees p qs k 0 met → Sees p qs 64 0 end
 Sees-end p qs k met end last is sees = subst (λ j. Sees p qs j 0 end) last (subst (λ m. Sees p qs k 0 m) is sees)
 
 -- they lie on the ring
-pub Sees-inside : (p : Params) (qs : List Placement) (m : Met) → AreRising p qs → Sees p qs 64 0 (Some m) → (m.first ≤ m.last) × (m.last ≤ 64 * p.macroticks_per_cycle)
+pub Sees-inside : (p : Params) (qs : List Placement) (m : Moments) → AreRising p qs → Sees p qs 64 0 (Some m) → (m.first ≤ m.last) × (m.last ≤ 64 * p.macroticks_per_cycle)
 Sees-inside p qs m are met =
     let last = met.last in (
       (met.within m.last last).0,
@@ -229,7 +229,7 @@ Sees-inside p qs m are met =
       ],
     )
 
-pub Sees-greatest : (p : Params) (ps qs : List Placement) (m : Met) → IsPermutation ps qs → AreRising p qs → Sees p qs 64 0 (Some m) →
+pub Sees-greatest : (p : Params) (ps qs : List Placement) (m : Moments) → IsPermutation ps qs → AreRising p qs → Sees p qs 64 0 (Some m) →
     greatest_gap p ps ≡ Some (max m.step ((64 * p.macroticks_per_cycle - m.last) + m.first))
 unfolding greatest_gap ring cycle_count
 Sees-greatest p ps qs m moved are met =

@@ -10,7 +10,7 @@ use Rattle.fr_base.specs.Book.{granted}
 use Rattle.fr_base.specs.declared.name.Name.{Name}
 use Rattle.fr_base.specs.declared.params.Params.{Params}
 use Rattle.fr_base.specs.declared.placement.Placement.{Placement}
-use Rattle.fr_base.specs.Step.{Page}
+use Rattle.fr_base.specs.Step.{OwnRows}
 use Rattle.fr_world.specs.Pages.{FrameData, IsPageFrame, frame_of}
 
 -- whether the cluster has the placement's slot and channels, and its cycles are a set of cycles
@@ -20,11 +20,11 @@ fits p q =
     && (list_all (has_channel p.channels) (channels_in q.channels) && is_cycle_set cycle_count q.cycles.base q.cycles.repetition))
 
 -- and it lies in grants to the node
-unfoldable pub is_placed : Page → Name → Placement → Bool
+unfoldable pub is_placed : OwnRows → Name → Placement → Bool
 is_placed page n q = fits page.params q && granted page.grants page.supplier n q
 
 -- the frame is a page's, its layout is that of the cluster's payload, and its placements stand in order
-abbrev pub IsKeptFrame : Page → FrameData → Type 0
+abbrev pub IsKeptFrame : OwnRows → FrameData → Type 0
 IsKeptFrame page f = IsPageFrame page (frame_of f) × (f.layout.words ≡ page.params.payload_words) × IsStrictlySortedBy placement_order.compare f.placements
 
 -- whether a cell lies in both placements

@@ -1,13 +1,13 @@
 -- What OpenVariant and Release are decided to, by the list of variants.
-use Rattle.std.specs.Prelude.{ℕ, suc, not, List, length, find, nat_le, Option, Some, None, is_some, Result, Ok, Err, ⊤}
-use Rattle.fr_base.specs.Limits.{max_variants, max_depth}
+use Rattle.std.specs.Prelude.{ℕ, suc, not, List, length, find, nat_le, Option, Some, None, is_some, Result, Ok}
 use Rattle.fr_base.specs.Refusing.{◌>>=◌, ◌>>◌, ◌or◌, refuse◌when◌}
-use Rattle.fr_base.specs.Cluster.{same_text}
+use Rattle.fr_base.specs.Names.{same_text}
+use Rattle.fr_base.specs.declared.limits.TheConstants.{MAX_VARIANTS, MAX_DEPTH}
 use Rattle.fr_base.specs.declared.name.Name.{Name}
 use Rattle.fr_base.specs.declared.refusal.Refusal.{Refusal}
-use Rattle.fr_base.specs.declared.refusal.Refusal.TheVariants.{NotYours, NoVariant, Released, NotReleased, TooDeep, Exists, Limit}
-use Rattle.fr_base.specs.declared.request.Command.{Command}
-use Rattle.fr_base.specs.declared.request.Command.TheVariants.{OpenVariant, Release}
+use Rattle.fr_base.specs.declared.refusal.Refusal.TheVariants.{NoVariant, Released, NotReleased, TooDeep, Exists, Limit}
+use Rattle.fr_base.specs.declared.request.CommonCommand.{CommonCommand}
+use Rattle.fr_base.specs.declared.request.CommonCommand.TheVariants.{OpenVariant, Release}
 use Rattle.fr_world.specs.declared.variants.VariantRow.{VariantRow}
 use Rattle.fr_world.specs.declared.edit.Edit.{Edit}
 use Rattle.fr_world.specs.declared.edit.Edit.TheVariants.{NewVariant, SetReleased}
@@ -22,24 +22,17 @@ depth_after variants None = Ok 1
 depth_after variants (Some parent) = do
   row ← row_of variants parent or NoVariant
   refuse NotReleased when not row.released
-  refuse TooDeep when nat_le max_depth row.depth
+  refuse TooDeep when nat_le MAX_DEPTH row.depth
   Ok (suc row.depth)
 
 -- the edit, or the first refusal
-unfoldable pub common : List VariantRow → Command → Result Edit Refusal
-common variants (OpenVariant v parent) = do
+unfoldable pub common_edit : List VariantRow → CommonCommand → Result Edit Refusal
+common_edit variants (OpenVariant v parent) = do
   depth ← depth_after variants parent
   refuse Exists when is_some (row_of variants v)
-  refuse Limit when nat_le max_variants (length variants)
+  refuse Limit when nat_le MAX_VARIANTS (length variants)
   Ok (NewVariant v parent depth)
-common variants (Release v) = do
+common_edit variants (Release v) = do
   row ← row_of variants v or NoVariant
   refuse Released when row.released
   Ok (SetReleased v)
-common variants _ = Err NotYours
-
--- the command is the integrator's on all suppliers
-abbrev pub IsCommon : Command → Type 0
-IsCommon (OpenVariant v parent) = ⊤
-IsCommon (Release v) = ⊤
-IsCommon _ = ⊥

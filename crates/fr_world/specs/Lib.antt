@@ -2,9 +2,9 @@ pub mod Maps
 pub mod Pages
 pub mod Decisions
 pub mod Edits
-pub mod Changes
+pub mod BookEdits
 pub mod Laws
-pub mod Spots
+pub mod CycleChannels
 pub mod Occupancies
 pub mod Common
 pub mod Nodes

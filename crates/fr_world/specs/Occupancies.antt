@@ -3,7 +3,7 @@ use Rattle.std.specs.Prelude.{Bool, not, ◌&&◌, List, filter, Option, is_none
 use Rattle.std.specs.Ordering.{is_eq}
 use Rattle.fr_base.specs.Keys.{placement_order}
 use Rattle.fr_base.specs.Cells.{Cell, cells_of}
-use Rattle.fr_base.specs.Cluster.{same_text}
+use Rattle.fr_base.specs.Names.{same_text}
 use Rattle.fr_base.specs.Schedule.{fill, first_taken}
 use Rattle.fr_base.specs.declared.name.Name.{Name}
 use Rattle.fr_base.specs.declared.placement.Placement.{Placement}

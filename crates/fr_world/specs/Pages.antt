@@ -1,19 +1,19 @@
--- A supplier's rows in a variant as lists, the register's page that they stand for, and which rows a page may have.
+-- A page: a supplier's rows in a variant as lists, what they stand for in the register, and which rows a page may have.
 use Rattle.std.specs.Prelude.{◌≡◌, ◌≤◌, Bool, List, map, IsTrue, All, AllPairs, Some}
 use Rattle.std.specs.declared.cmp.Ordering.{Ordering}
 use Rattle.std.specs.Ordering.{on}
 use Rattle.std.specs.List.Sorted.{IsStrictlySortedBy}
 use Rattle.std.specs.Map.{keys_of}
-use Rattle.fr_base.specs.Limits.{max_nodes, max_frames, max_placements}
-use Rattle.fr_base.specs.Tables.{get, len, only}
+use Rattle.fr_base.specs.Tables.{get, len}
 use Rattle.fr_base.specs.Keys.{names, owned, channel_slots, placement_order}
 use Rattle.fr_base.specs.Cells.{Cell, has_cell}
 use Rattle.fr_base.specs.Layouts.{LayoutData, IsLayout}
 use Rattle.fr_base.specs.Book as book
-use Rattle.fr_base.specs.Book.{held_by, granted, placements_of}
-use Rattle.fr_base.specs.Step.{Page, is_of, layout_of}
+use Rattle.fr_base.specs.Book.{own, own_grants, granted, placements_of}
+use Rattle.fr_base.specs.Step.{OwnRows, layout_of}
 use Rattle.fr_base.specs.Queries.{placements_in}
 use Rattle.fr_base.specs.Sound.{FitsCluster}
+use Rattle.fr_base.specs.declared.limits.TheConstants.{MAX_NODES, MAX_FRAMES, MAX_PLACEMENTS}
 use Rattle.fr_base.specs.declared.name.Name.{Name}
 use Rattle.fr_base.specs.declared.params.Params.{Params}
 use Rattle.fr_base.specs.declared.placement.Placement.{Placement}
@@ -62,9 +62,9 @@ frame_of f = record { node = f.node; placements = set_of placement_order (λ q. 
 abbrev pub holder_of : Name → Name → book.Holder
 holder_of s n = record { supplier = s; node = n }
 
--- the register's page that the rows stand for
-abbrev pub page_of : PageData → Page
-page_of rows = record {
+-- what they stand for
+abbrev pub own_rows_of : PageData → OwnRows
+own_rows_of rows = record {
   params = rows.params;
   supplier = rows.supplier;
   nodes = set_of owned (λ n. (rows.supplier, n)) rows.nodes;
@@ -77,16 +77,16 @@ abbrev pub AreApart : Placement → Placement → Type 0
 AreApart q r = (c : Cell) → IsTrue (has_cell q c) → ¬ IsTrue (has_cell r c)
 
 -- a frame's placements are few, fit the cluster and lie in grants to its node, and its signals make a layout of the payload
-pub record IsPageFrame (page : Page) (f : book.Frame) : Type 0 where
-  pub few : len f.placements ≤ max_placements
+pub record IsPageFrame (page : OwnRows) (f : book.Frame) : Type 0 where
+  pub few : len f.placements ≤ MAX_PLACEMENTS
   pub fits : All (FitsCluster page.params) (placements_in f)
   pub in_grants : All (λ q. IsTrue (granted page.grants page.supplier f.node q)) (placements_in f)
   pub layout : IsLayout (layout_of page.params f)
 
 -- the limits are kept, each frame is in order, and no two placements share a cell
-pub record IsPage (page : Page) : Type 0 where
-  pub nodes : len page.nodes ≤ max_nodes
-  pub frames : len page.frames ≤ max_frames
+pub record IsPage (page : OwnRows) : Type 0 where
+  pub nodes : len page.nodes ≤ MAX_NODES
+  pub frames : len page.frames ≤ MAX_FRAMES
   pub each : (k : Name × Name) (f : book.Frame) → get page.frames k ≡ Some f → IsPageFrame page f
   pub apart : AllPairs (λ x y. AreApart x.1 y.1) (placements_of page.frames)
 
@@ -107,7 +107,7 @@ pub record IsInOrder (rows : PageData) : Type 0 where
 
 -- the rows are a page's, each layout is that of the cluster's payload, and the rows stand in order
 pub record IsKept (rows : PageData) : Type 0 where
-  pub page : IsPage (page_of rows)
+  pub page : IsPage (own_rows_of rows)
   pub words : All (λ e. e.1.layout.words ≡ rows.params.payload_words) rows.frames
   pub order : IsInOrder rows
 
@@ -115,16 +115,16 @@ pub record IsKept (rows : PageData) : Type 0 where
 
 -- the nodes of a supplier, in order
 unfoldable pub nodes_in : book.Book → Name → List Name
-nodes_in b s = map (λ e. e.0.1) (only (λ k _. is_of s k) b.nodes).rows
+nodes_in b s = map (λ e. e.0.1) (own s b.nodes).rows
 
 -- which of its nodes holds which slot and channel, by slot and channel
 unfoldable pub grants_in : Name → book.Variant → List (ChannelSlot × Name)
-grants_in s x = map (λ e. (record { slot = e.0.0; channel = e.0.1 }, e.1.node)) (only (λ _ h. held_by s (Some h)) x.grants).rows
+grants_in s x = map (λ e. (record { slot = e.0.0; channel = e.0.1 }, e.1.node)) (own_grants s x.grants).rows
 
 -- its frames, by their names
 unfoldable pub frames_in : Params → Name → book.Variant → List (Name × FrameData)
 frames_in p s x =
-    map (λ e. (e.0.1, record { node = e.1.node; placements = placements_in e.1; layout = layout_of p e.1 })) (only (λ k _. is_of s k) x.frames).rows
+    map (λ e. (e.0.1, record { node = e.1.node; placements = placements_in e.1; layout = layout_of p e.1 })) (own s x.frames).rows
 
 -- the rows of a supplier in a variant of the register
 abbrev pub page_in : Params → book.Book → Name → Name → book.Variant → PageData

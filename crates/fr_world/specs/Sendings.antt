@@ -7,32 +7,32 @@ use Rattle.fr_base.specs.Cycles.{has_cycle}
 use Rattle.fr_base.specs.Schedule.{entries, fill}
 use Rattle.fr_base.specs.Book.{Frame, Owner, schedule_of}
 use Rattle.fr_base.specs.Queries.{sending}
-use Rattle.fr_base.specs.Step.{Page}
+use Rattle.fr_base.specs.Step.{OwnRows}
 use Rattle.fr_base.specs.declared.answer.Sending.{Sending}
 use Rattle.fr_base.specs.declared.name.Name.{Name}
 use Rattle.fr_base.specs.declared.params.Params.{Params}
 use Rattle.fr_base.specs.declared.placement.Placement.{Placement}
-use Rattle.fr_world.specs.declared.placed.Placed.{Placed}
+use Rattle.fr_world.specs.declared.frame_triggering.FrameTriggering.{FrameTriggering}
 
 -- the latter list begins with the former
 abbrev pub Extends : {A : Type 0} → List A → List A → Type 0
 Extends {A} old new = (more : List A) × (new ≡ old ++ more)
 
 -- the placements, each with its owner
-abbrev pub filled : List Placed → List (Owner × Placement)
-filled placed = map (λ p. (record { supplier = p.supplier; frame = p.frame; node = p.node }, p.placement)) placed
+abbrev pub filled : List FrameTriggering → List (Owner × Placement)
+filled triggerings = map (λ p. (record { supplier = p.supplier; frame = p.frame; node = p.node }, p.placement)) triggerings
 
 -- the frame's placements, each with its owner
 abbrev pub filled_by : Name × Name → Frame → List (Owner × Placement)
 filled_by k f = map (λ row. (record { supplier = k.0; frame = k.1; node = f.node }, row.0)) f.placements.rows
 
 -- whether it is sent in the cycle
-abbrev pub is_due : ℕ → Placed → Bool
+abbrev pub is_due : ℕ → FrameTriggering → Bool
 is_due cycle p = has_cycle p.placement.cycles cycle
 
 -- whether one of them is in the slot
-abbrev pub is_used : List Placed → ℕ → Bool
-is_used placed slot = list_any (λ p. slot == p.placement.slot) placed
+abbrev pub is_used : List FrameTriggering → ℕ → Bool
+is_used triggerings slot = list_any (λ p. slot == p.placement.slot) triggerings
 
 -- the cluster's cells of a cycle, by slot and channel
 abbrev pub cycle_cells : Params → ℕ → List Cell
@@ -43,5 +43,5 @@ unfoldable pub sent_in : List (Owner × Placement) → List Cell → List Sendin
 sent_in filled cells = map sending (entries (fill filled) cells)
 
 -- what the page's frames send in the cycle, by slot and channel
-unfoldable pub page_sendings : Page → ℕ → List Sending
+unfoldable pub page_sendings : OwnRows → ℕ → List Sending
 page_sendings page cycle = map sending (entries (schedule_of page.frames) (cycle_cells page.params cycle))

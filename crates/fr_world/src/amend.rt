@@ -1,63 +1,65 @@
 //! What an edit makes of a page: only the rows that it names change.
-ghost use Rattle.std.specs.Prelude.{◌≡◌, ℕ, ◌≤◌, ◌||◌, [], not, filter, Err, IfSome, OnOk, OnErr};
-ghost use Rattle.std.specs.Str.{bytes_eq};
-ghost use Rattle.fr_base.specs.Tables.{empty, get, insert, remove};
-ghost use Rattle.std.specs.List.Sorted.{IsStrictlySortedBy};
-ghost use Rattle.std.specs.Map.{keys_of};
+ghost use Rattle.std.specs.Prelude.{◌≡◌, ◌≤◌, ◌||◌, not, filter, Err, IfSome, OnOk, OnErr};
 ghost use Rattle.fr_base.specs.Keys.{names, placement_order};
-ghost use Rattle.fr_base.specs.Layouts.{IsLayout, with_signal};
+ghost use Rattle.fr_base.specs.Layouts.{IsLayout, with_signal, without_signal};
+ghost use Rattle.fr_base.specs.Tables.{insert, remove};
 ghost use Rattle.fr_base.specs.declared.name.Name.{Name as NameText};
 ghost use Rattle.fr_base.specs.declared.refusal.Refusal.TheVariants.{Unavailable};
-ghost use Rattle.fr_world.specs.Maps.{set_of};
-ghost use Rattle.fr_world.specs.Amends.{HaveWords, LeavesLayout, as_frame, frame_at, frame_edited, frames_edited, frames_of, grants_of, nodes_of};
+ghost use Rattle.std.specs.List.Sorted.{IsStrictlySortedBy};
+ghost use Rattle.std.specs.Map.{keys_of};
+ghost use Rattle.fr_world.specs.Amends.{AreChanged, LeavesLayout, frame_at, grants_of, nodes_of};
 ghost use Rattle.fr_world.specs.Edits.{Takes, edited, releases};
-ghost use Rattle.fr_world.specs.Pages.{AreInOrder, compare_slots, frame_data, frames_data, holder_of, page_of};
+ghost use Rattle.fr_world.specs.Maps.{set_of};
+ghost use Rattle.fr_world.specs.Pages.{compare_slots, frames_data, holder_of, own_rows_of};
 
 use crate::edit::Edit;
 use crate::page::{ChannelSlot, Page, PageFrame};
-use fr_base::{Channel, Name, Placement, Refusal, Signal, Slot};
+use fr_base::{Change, FrameChange, Name, Placement, Refusal, Signal};
 use fr_layout::Layout;
 use std::alloc::Global;
 use std::collections::{BTreeMap, BTreeSet};
 
 impl Page {
-    /// Makes the edit, which is of one of the page's rows and leaves rows that a page has. A row that is
-    /// put takes the place of one with its key; what is not there does not change. `Unavailable` where
+    /// Makes the edit, which is of the page's rows and leaves rows that a page has. A row that is put
+    /// takes the place of one with its key; what is not there does not change. `Unavailable` where
     /// memory is refused, which changes nothing.
     pub fn amend(&mut self, alloc: Global, edit: &Edit) -> Result<(), Refusal>
-        requires takes { Takes self.old.variant (page_of self.old) edit.now }
-        ensures page { OnOk result (page_of self.new ≡ edited (page_of self.old) edit.now) }
+        requires takes { Takes self.old.variant (own_rows_of self.old) edit.now }
+        ensures page { OnOk result (own_rows_of self.new ≡ edited (own_rows_of self.old) edit.now) }
         ensures rest { OnOk result ((self.new.supplier ≡ self.old.supplier) × (self.new.variant ≡ self.old.variant) × (self.new.released ≡ (releases edit.now || self.old.released))) }
         ensures err { OnErr result ((self.new ≡ self.old) × (result ≡ Err Unavailable)) }
     {
         match edit {
             Edit::SetReleased { .. } => {
-                self.released = true;
+                self.rows.released = true;
                 Ok(())
             }
-            Edit::NewNode { node, .. } => put_node(&mut self.nodes, *node),
-            Edit::PutGrant {
-                slot,
-                channel,
-                node,
-                ..
-            } => put_grant(&mut self.grants, at(*slot, *channel), *node),
-            Edit::EndGrant { slot, channel, .. } => {
-                end_grant(&mut self.grants, at(*slot, *channel));
-                Ok(())
-            }
-            Edit::NewFrame { frame, node, .. } => {
-                let words = self.params.payload_words();
-                new_frame(&mut self.frames, alloc, words, *frame, *node)
-            }
-            Edit::EndFrame { frame, .. } => {
-                end_frame(&mut self.frames, *frame);
-                Ok(())
-            }
-            Edit::PutPlacement { frame, .. }
-            | Edit::EndPlacement { frame, .. }
-            | Edit::PutSignal { frame, .. }
-            | Edit::EndSignal { frame, .. } => change_frame(&mut self.frames, *frame, edit),
+            Edit::NewNode { node, .. } => put_node(&mut self.rows.nodes, *node),
+            Edit::Rows { change, .. } => match change {
+                Change::Grant {
+                    slot,
+                    channel,
+                    node,
+                } => {
+                    let at = ChannelSlot {
+                        slot: *slot,
+                        channel: *channel,
+                    };
+                    put_grant(&mut self.rows.grants, at, *node)
+                }
+                Change::Revoke { slot, channel } => {
+                    let at = ChannelSlot {
+                        slot: *slot,
+                        channel: *channel,
+                    };
+                    end_grant(&mut self.rows.grants, at);
+                    Ok(())
+                }
+                Change::Frame { frame, change } => {
+                    let words = self.rows.params.payload_words();
+                    change_frame(&mut self.rows.frames, alloc, words, *frame, change)
+                }
+            },
             Edit::NewVariant { .. } | Edit::KeepImport { .. } => Ok(()),
         }
     }
@@ -70,17 +72,8 @@ fn put_node(nodes: &mut BTreeSet<Name>, node: Name) -> Result<(), Refusal>
     ensures order { IsStrictlySortedBy names.compare nodes.new.keys }
     ensures err { OnErr result ((nodes.new.keys ≡ nodes.old.keys) × (result ≡ Err Unavailable)) }
 {
-    match nodes.insert(node) {
-        Ok(_) => Ok(()),
-        Err(_) => Err(Refusal::Unavailable),
-    }
-}
-
-// The slot on the channel.
-fn at(slot: Slot, channel: Channel) -> ChannelSlot
-    ensures { result ≡ record { slot = slot; channel = channel } }
-{
-    ChannelSlot { slot, channel }
+    nodes.insert(node)?;
+    Ok(())
 }
 
 // The node holds slot and channel.
@@ -94,10 +87,8 @@ fn put_grant(
     ensures order { IsStrictlySortedBy compare_slots (keys_of grants.new.entries) }
     ensures err { OnErr result ((grants.new.entries ≡ grants.old.entries) × (result ≡ Err Unavailable)) }
 {
-    match grants.insert(at, node) {
-        Ok(_) => Ok(()),
-        Err(_) => Err(Refusal::Unavailable),
-    }
+    grants.insert(at, node)?;
+    Ok(())
 }
 
 // No node holds slot and channel.
@@ -111,83 +102,57 @@ fn end_grant(grants: &mut BTreeMap<ChannelSlot, Name>, at: ChannelSlot)
     grants.remove(&at);
 }
 
-// The frame is there, without placements and signals.
-#[tactic(auto, using(crate::proofs::AmendLaws::insert_frame, crate::proofs::AmendLaws::words_insert, crate::proofs::AmendLaws::no_placements))]
-fn new_frame(
+// Makes the change of the frame of this name, in a payload of so many words.
+fn change_frame(
     frames: &mut BTreeMap<Name, PageFrame>,
     alloc: Global,
     words: u32,
     name: Name,
-    node: Name,
+    change: &FrameChange,
 ) -> Result<(), Refusal>
-    requires { words ≤ 127 }
-    ensures table { OnOk result ((s : NameText) → frames_of s frames.new.entries ≡ insert (frames_of s frames.old.entries) (s, name) (record { node = node; placements = empty; signals = [] })) }
-    ensures words { OnOk result (HaveWords words frames.old.entries → HaveWords words frames.new.entries) }
-    ensures order { OnOk result (AreInOrder (frames_data frames.old.entries) → AreInOrder (frames_data frames.new.entries)) }
-    ensures err { OnErr result ((frames.new.entries ≡ frames.old.entries) × (result ≡ Err Unavailable)) }
-{
-    let frame = PageFrame {
-        node,
-        placements: BTreeSet::new(alloc),
-        layout: Layout::new(alloc, words),
-    };
-    match frames.insert(name, frame) {
-        Ok(_) => Ok(()),
-        Err(_) => Err(Refusal::Unavailable),
-    }
-}
-
-// The frame is gone.
-#[tactic(auto, using(crate::proofs::AmendLaws::remove_frame, crate::proofs::AmendLaws::words_remove))]
-fn end_frame(frames: &mut BTreeMap<Name, PageFrame>, name: Name)
-    ensures table { (s : NameText) → frames_of s frames.new.entries ≡ remove (frames_of s frames.old.entries) (s, name) }
-    ensures words { (words : ℕ) → HaveWords words frames.old.entries → HaveWords words frames.new.entries }
-    ensures order { AreInOrder (frames_data frames.old.entries) → AreInOrder (frames_data frames.new.entries) }
+    requires words { words ≤ 127 }
+    requires leaves { IfSome (frame_at name frames.old.entries) (LeavesLayout change.now) }
+    ensures ok { OnOk result (AreChanged words name change.now frames.old.entries frames.new.entries) }
+    ensures err { OnErr result ((frames_data frames.new.entries ≡ frames_data frames.old.entries) × (result ≡ Err Unavailable)) }
 {
     // Gives the proof that the keys are in order.
     let _len = frames.len();
-    frames.remove(&name);
-}
-
-// Makes the edit of the frame's rows, if the frame is there.
-fn change_frame(
-    frames: &mut BTreeMap<Name, PageFrame>,
-    name: Name,
-    edit: &Edit,
-) -> Result<(), Refusal>
-    requires { IfSome (frame_at name frames.old.entries) (LeavesLayout edit.now) }
-    ensures table { OnOk result ((s : NameText) → frames_of s frames.new.entries ≡ frames_edited (frames_of s frames.old.entries) (s, name) edit.now (get (frames_of s frames.old.entries) (s, name))) }
-    ensures words { (words : ℕ) → HaveWords words frames.old.entries → HaveWords words frames.new.entries }
-    ensures order { AreInOrder (frames_data frames.old.entries) → AreInOrder (frames_data frames.new.entries) }
-    ensures err { OnErr result ((frames_data frames.new.entries ≡ frames_data frames.old.entries) × (result ≡ Err Unavailable)) }
-{
-    match frames.get_mut(&name) {
-        Some(frame) => change(frame, edit),
-        None => Ok(()),
-    }
-}
-
-// Makes the edit, if it is one of a frame's rows.
-#[tactic(auto, unfolding(crate::specs::Amends::frame_edited))]
-fn change(frame: &mut PageFrame, edit: &Edit) -> Result<(), Refusal>
-    requires { LeavesLayout edit.now frame.old }
-    ensures frame { OnOk result (as_frame frame.new ≡ frame_edited edit.now (as_frame frame.old)) }
-    ensures words { frame.new.layout.words ≡ frame.old.layout.words }
-    ensures order { IsStrictlySortedBy placement_order.compare frame.old.placements.keys → IsStrictlySortedBy placement_order.compare frame.new.placements.keys }
-    ensures err { OnErr result ((frame_data frame.new ≡ frame_data frame.old) × (result ≡ Err Unavailable)) }
-{
-    match edit {
-        Edit::PutPlacement { placement, .. } => { put_placement(&mut frame.placements, *placement) }
-        Edit::EndPlacement { placement, .. } => {
-            end_placement(&mut frame.placements, placement);
+    match change {
+        FrameChange::Add { node } => {
+            let frame = PageFrame {
+                node: *node,
+                placements: BTreeSet::new(alloc),
+                layout: Layout::new(alloc, words),
+            };
+            frames.insert(name, frame)?;
             Ok(())
         }
-        Edit::PutSignal { signal, .. } => put_signal(&mut frame.layout, *signal),
-        Edit::EndSignal { signal, .. } => {
-            end_signal(&mut frame.layout, *signal);
+        FrameChange::Drop => {
+            frames.remove(&name);
             Ok(())
         }
-        _ => Ok(()),
+        FrameChange::Place(placement) => match frames.get_mut(&name) {
+            Some(frame) => put_placement(&mut frame.placements, *placement),
+            None => Ok(()),
+        },
+        FrameChange::Unplace(placement) => match frames.get_mut(&name) {
+            Some(frame) => {
+                end_placement(&mut frame.placements, placement);
+                Ok(())
+            }
+            None => Ok(()),
+        },
+        FrameChange::AddSignal(signal) => match frames.get_mut(&name) {
+            Some(frame) => put_signal(&mut frame.layout, *signal),
+            None => Ok(()),
+        },
+        FrameChange::DropSignal(signal) => match frames.get_mut(&name) {
+            Some(frame) => {
+                end_signal(&mut frame.layout, *signal);
+                Ok(())
+            }
+            None => Ok(()),
+        },
     }
 }
 
@@ -198,10 +163,8 @@ fn put_placement(placements: &mut BTreeSet<Placement>, placement: Placement) -> 
     ensures order { IsStrictlySortedBy placement_order.compare placements.new.keys }
     ensures err { OnErr result ((placements.new.keys ≡ placements.old.keys) × (result ≡ Err Unavailable)) }
 {
-    match placements.insert(placement) {
-        Ok(_) => Ok(()),
-        Err(_) => Err(Refusal::Unavailable),
-    }
+    placements.insert(placement)?;
+    Ok(())
 }
 
 // The placement is none of these.
@@ -228,10 +191,7 @@ fn put_signal(layout: &mut Layout, signal: Signal) -> Result<(), Refusal>
 // The layout has no signal of this name.
 #[tactic(auto, using(crate::proofs::AmendSignals::remove_takes, crate::proofs::AmendSignals::remove_keeps))]
 fn end_signal(layout: &mut Layout, name: Name)
-    ensures { layout.new ≡ record layout.old { signals = filter (λ s. not (bytes_eq s.name name)) layout.old.signals } }
+    ensures { layout.new ≡ record layout.old { signals = without_signal name layout.old.signals } }
 {
     let _ = layout.remove(name);
 }
-
-#[cfg(test)]
-mod tests;

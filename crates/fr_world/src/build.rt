@@ -9,22 +9,17 @@ mod placements;
 
 use crate::page::{Page, PageRows};
 use apart::no_cell_twice;
+use fr_base::{MAX_FRAMES, MAX_NODES, NoMemory};
 use frames::are_frames;
 use placements::placements_of;
-use std::alloc::{AllocError, Global};
-
-/// The most nodes that a supplier has.
-const MAX_NODES: usize = 64;
-
-/// The most frames that a supplier has in a variant.
-const MAX_FRAMES: usize = 256;
+use std::alloc::Global;
 
 impl Page {
     /// The page of these rows. `None` where they are not a page's: more than 64 nodes or 256 frames, or
     /// in a frame more than 8 placements, a layout of another payload than the cluster's, a placement
-    /// past the static slots, on a channel that the cluster has not, or without a grant to the frame's
+    /// past the static slots, on a channel the cluster does not have, or without a grant to the frame's
     /// node; or a cell in two placements. Without a page the rows are given up.
-    pub fn build(alloc: Global, rows: PageRows) -> Result<Option<Page>, AllocError>
+    pub fn build(alloc: Global, rows: PageRows) -> Result<Option<Page>, NoMemory>
         ensures page { IfOk result (λ built. IfSome built (λ page. page ≡ rows_data rows)) }
         ensures kept { IfOk result (λ built. IfSome built (λ page. IsKept (rows_data rows))) }
         ensures none { IfOk result (λ built. IfNone built (¬ IsKept (rows_data rows))) }
@@ -32,20 +27,12 @@ impl Page {
         if !is_kept(alloc, &rows)? {
             return Ok(None);
         }
-        Ok(Some(Page {
-            params: rows.params,
-            supplier: rows.supplier,
-            variant: rows.variant,
-            released: rows.released,
-            nodes: rows.nodes,
-            grants: rows.grants,
-            frames: rows.frames,
-        }))
+        Ok(Some(Page { rows }))
     }
 }
 
 // Whether the rows are a page's.
-fn is_kept(alloc: Global, rows: &PageRows) -> Result<bool, AllocError>
+fn is_kept(alloc: Global, rows: &PageRows) -> Result<bool, NoMemory>
     ensures { IfOk result (λ is. Decides is (IsKept (rows_data rows.now))) }
 {
     let nodes = rows.nodes.len();
@@ -57,6 +44,3 @@ fn is_kept(alloc: Global, rows: &PageRows) -> Result<bool, AllocError>
     }
     Ok(no_cell_twice(placements_of(alloc, rows)?))
 }
-
-#[cfg(test)]
-mod tests;

@@ -1,10 +1,9 @@
-//! What a command decides on a supplier's page.
-ghost use Rattle.std.specs.Prelude.{◌≡◌, ◌⊎◌, ◌∷◌, [], false, Ok, Err, IfOk, IfErr, MatchResult};
+//! What a change of a supplier's rows is decided to, on the supplier's page.
+ghost use Rattle.std.specs.Prelude.{◌≡◌, ◌⊎◌, Ok, Err, IfOk, IfErr};
 ghost use Rattle.fr_base.specs.declared.refusal.Refusal.TheVariants.{Unavailable};
-ghost use Rattle.fr_base.specs.Step.{Page as RegisterPage};
-ghost use Rattle.fr_world.specs.Decisions.{IsChecked, IsFor, decided, decision};
-ghost use Rattle.fr_world.specs.Edits.{Leads};
-ghost use Rattle.fr_world.specs.Pages.{page_of};
+ghost use Rattle.fr_world.specs.Decisions.{IsChecked, admits_alone, decision};
+ghost use Rattle.fr_world.specs.Edits.{Leads, rows_after};
+ghost use Rattle.fr_world.specs.Pages.{own_rows_of};
 
 mod filling;
 mod frames;
@@ -15,15 +14,11 @@ mod signals;
 
 use crate::edit::Edit;
 use crate::page::Page;
-use fr_base::{Command, Refusal};
-use frames::{add_frame, drop_frame};
-use grants::{grant, revoke};
-use placements::{place, unplace};
-use signals::{add_signal, drop_signal};
+use fr_base::{Change, FrameChange, Name, Refusal};
 use std::alloc::Global;
 
-/// The edits that a supplier's command, or a grant to the supplier or its end, makes of the page; or the
-/// first refusal that applies. `Released` comes before all others, and then, of
+/// The edits that a change of the page's rows makes, or the first refusal that applies. `Released` comes
+/// before all others, and then, of
 ///
 /// - a grant: `NoNode`, `Exists`, `NodeDiffers`; whether another supplier holds slot and channel is not
 ///   asked here;
@@ -37,78 +32,59 @@ use std::alloc::Global;
 ///
 /// `Unavailable` where memory is refused.
 #[tactic(auto, using(crate::proofs::DecideAll::decision_released))]
-pub fn decide(alloc: Global, page: &Page, command: &Command) -> Result<Vec<Edit>, Refusal>
-    requires decides { IsFor page.now.supplier page.now.variant command.now }
-    requires checked { IsChecked page.now.params command.now }
-    ensures edits { IfOk result (λ edits. decision page.now command.now ≡ Ok edits.items) }
-    ensures leads { IfOk result (λ edits. (last : RegisterPage) × (decided page.now command.now ≡ Ok last)
-        × Leads page.now.variant (page_of page.now) edits.items last) }
-    ensures refusal { IfErr result (λ e. (e ≡ Unavailable) ⊎ (decision page.now command.now ≡ Err e)) }
+pub fn decide(alloc: Global, page: &Page, change: &Change) -> Result<Vec<Edit>, Refusal>
+    requires checked { IsChecked page.now.params change.now }
+    ensures edits { IfOk result (λ edits. decision page.now change.now ≡ Ok edits.items) }
+    ensures leads { IfOk result (λ edits. Leads page.now.variant (own_rows_of page.now) edits.items (rows_after change.now (own_rows_of page.now))) }
+    ensures refusal { IfErr result (λ e. (e ≡ Unavailable) ⊎ (decision page.now change.now ≡ Err e)) }
 {
     if page.released() {
         return Err(Refusal::Released);
     }
     // They give the proof that the parameters make a cluster, and that the page's rows are kept.
     let (_raw, _frames) = (page.params().raw(), page.frames());
-    let edit = edit_for(alloc, page, command)?;
-    match vec![in alloc; edit] {
-        Ok(edits) => Ok(edits),
-        Err(_) => Err(Refusal::Unavailable),
-    }
+    admit(alloc, page, change)?;
+    let edit = Edit::Rows {
+        supplier: page.supplier(),
+        variant: page.variant(),
+        change: *change,
+    };
+    Ok(vec![in alloc; edit]?)
 }
 
-// The one edit of the command in a variant that is open.
-fn edit_for(alloc: Global, page: &Page, command: &Command) -> Result<Edit, Refusal>
-    requires open { page.now.released ≡ false }
-    ensures { MatchResult result
-        (λ edit. decision page.now command.now ≡ Ok (edit ∷ []))
-        (λ e. (e ≡ Unavailable) ⊎ (decision page.now command.now ≡ Err e)) }
+// The first refusal of the change in a variant that is open, if there is one; `Unavailable` where memory
+// is refused.
+fn admit(alloc: Global, page: &Page, change: &Change) -> Result<(), Refusal>
+    ensures { (result ≡ Err Unavailable) ⊎ (result ≡ admits_alone (own_rows_of page.now) change.now) }
 {
-    match command {
-        Command::Grant {
-            variant,
+    match change {
+        Change::Grant {
             slot,
             channel,
             node,
-            ..
-        } => grant(page, *variant, *slot, *channel, *node),
-        Command::Revoke {
-            variant,
-            slot,
-            channel,
-            ..
-        } => revoke(page, *variant, *slot, *channel),
-        Command::AddFrame {
-            variant,
-            frame,
-            node,
-        } => add_frame(page, *variant, *frame, *node),
-        Command::DropFrame { variant, frame } => drop_frame(page, *variant, *frame),
-        Command::Place {
-            variant,
-            frame,
-            placement,
-        } => place(alloc, page, *variant, *frame, placement),
-        Command::Unplace {
-            variant,
-            frame,
-            placement,
-        } => unplace(page, *variant, *frame, placement),
-        Command::AddSignal {
-            variant,
-            frame,
-            signal,
-        } => add_signal(page, *variant, *frame, signal),
-        Command::DropSignal {
-            variant,
-            frame,
-            signal,
-        } => drop_signal(page, *variant, *frame, *signal),
-        Command::OpenVariant { .. } | Command::Release { .. } | Command::AddNode { .. } => {
-            Err(Refusal::NotYours)
-        }
+        } => grants::admit_grant(page, *slot, *channel, *node),
+        Change::Revoke { slot, channel } => grants::admit_end(page, *slot, *channel),
+        Change::Frame { frame, change } => admit_frame_change(alloc, page, *frame, change),
     }
 }
 
-#[cfg(test)]
-mod tests;
+// So for a change of the frame of this name.
+fn admit_frame_change(
+    alloc: Global,
+    page: &Page,
+    frame: Name,
+    change: &FrameChange,
+) -> Result<(), Refusal>
+    ensures { (result ≡ Err Unavailable) ⊎ (result ≡ admits_alone (own_rows_of page.now) (Change.Frame frame change.now)) }
+{
+    match change {
+        FrameChange::Add { node } => frames::admit_frame(page, frame, *node),
+        FrameChange::Drop => frames::admit_drop(page, frame),
+        FrameChange::Place(placement) => {
+            placements::admit_placement(alloc, page, frame, placement)
+        }
+        FrameChange::Unplace(placement) => placements::admit_end(page, frame, placement),
+        FrameChange::AddSignal(signal) => signals::admit_signal(page, frame, signal),
+        FrameChange::DropSignal(signal) => signals::admit_end(page, frame, *signal),
+    }
+}

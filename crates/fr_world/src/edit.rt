@@ -1,6 +1,7 @@
-use fr_base::{Body, Channel, Name, Placement, Signal, Slot};
+//! The changes of which the register's rows are made.
+use fr_base::{Body, Change, Name};
 
-/// A change of one row, with the row's key and, where it adds the row, all of it.
+/// A change of the register's rows, with their keys and, where it adds a row, all of it.
 #[derive(Debug, Drop, PartialEq, Eq)]
 pub enum Edit {
     /// A variant, empty or with all rows of its parent. One without a parent has depth 1, another one
@@ -19,60 +20,11 @@ pub enum Edit {
         supplier: Name,
         node: Name,
     },
-    /// The slot on the channel is granted to the supplier's node.
-    PutGrant {
-        variant: Name,
-        slot: Slot,
-        channel: Channel,
+    /// What changes of the supplier's rows in the variant.
+    Rows {
         supplier: Name,
-        node: Name,
-    },
-    /// The slot on the channel is no longer granted.
-    EndGrant {
         variant: Name,
-        slot: Slot,
-        channel: Channel,
-    },
-    /// A frame without placements and signals.
-    NewFrame {
-        variant: Name,
-        supplier: Name,
-        frame: Name,
-        node: Name,
-    },
-    /// The frame goes, with its placements and signals.
-    EndFrame {
-        variant: Name,
-        supplier: Name,
-        frame: Name,
-    },
-    /// The frame is sent in the placement's cells too.
-    PutPlacement {
-        variant: Name,
-        supplier: Name,
-        frame: Name,
-        placement: Placement,
-    },
-    /// The frame has this placement no longer.
-    EndPlacement {
-        variant: Name,
-        supplier: Name,
-        frame: Name,
-        placement: Placement,
-    },
-    /// The signal is in the frame's payload.
-    PutSignal {
-        variant: Name,
-        supplier: Name,
-        frame: Name,
-        signal: Signal,
-    },
-    /// The signal of this name goes out of the frame's payload.
-    EndSignal {
-        variant: Name,
-        supplier: Name,
-        frame: Name,
-        signal: Name,
+        change: Change,
     },
     /// A supplier's import, with the number of its rows.
     KeepImport {

@@ -1,5 +1,6 @@
+//! The rows of one frame that queries show.
 ghost use Rattle.std.specs.Prelude.{◌≡◌, ◌≤◌, ◌++◌, All, IfOk, OnErr, OnOk};
-ghost use Rattle.fr_base.specs.Limits.{max_placements};
+ghost use Rattle.fr_base.specs.declared.limits.TheConstants.{MAX_PLACEMENTS};
 ghost use Rattle.fr_base.specs.Moments.{greatest_gap};
 ghost use Rattle.fr_base.specs.Queries.{frame_row, gap_row, placements_in, signal_rows};
 ghost use Rattle.fr_base.specs.Sound.{FitsCluster};
@@ -8,10 +9,10 @@ ghost use Rattle.fr_base.specs.declared.name.Name.{Name as NameText};
 ghost use Rattle.fr_world.specs.Pages.{frame_data, frame_of};
 ghost use Rattle.fr_world.specs.Sendings.{Extends};
 
-use crate::gap::{MAX_PLACEMENTS, greatest_gap};
+use crate::gap::greatest_gap;
 use crate::page::PageFrame;
-use fr_base::{FrameRow, GapRow, Name, Params, Rows, SignalRow};
-use std::alloc::{AllocError, Global};
+use fr_base::{FrameRow, GapRow, MAX_PLACEMENTS, Name, NoMemory, Params, Rows, SignalRow};
+use std::alloc::Global;
 
 /// The row of a supplier's frame of this name: its node and its placements, in order.
 pub fn frame_row(
@@ -19,7 +20,7 @@ pub fn frame_row(
     supplier: Name,
     name: Name,
     frame: &PageFrame,
-) -> Result<FrameRow, AllocError>
+) -> Result<FrameRow, NoMemory>
     ensures { IfOk result (λ row. row ≡ frame_row ((supplier, name), frame_of (frame_data frame.now))) }
 {
     let mut placements = Rows::new(alloc);
@@ -37,7 +38,7 @@ pub fn frame_row(
 /// The greatest gap of a supplier's frame of this name, in macroticks; none where nothing is placed. The
 /// frame has at most 8 placements, which fit the parameters. It takes no memory.
 pub fn gap_row(params: &Params, supplier: Name, name: Name, frame: &PageFrame) -> GapRow
-    requires few { len (frame_of (frame_data frame.now)).placements ≤ max_placements }
+    requires few { len (frame_of (frame_data frame.now)).placements ≤ MAX_PLACEMENTS }
     requires fits { All (FitsCluster params.now) (placements_in (frame_of (frame_data frame.now))) }
     ensures { result ≡ gap_row params.now ((supplier, name), frame_of (frame_data frame.now)) }
 {
@@ -54,7 +55,7 @@ pub fn push_signal_rows(
     supplier: Name,
     frame: &PageFrame,
     rows: &mut Rows<SignalRow>,
-) -> Result<(), AllocError>
+) -> Result<(), NoMemory>
     // a signal's row does not name its frame, so any name will do
     ensures ok { (name : NameText) → OnOk result (rows.new ≡ rows.old ++ signal_rows ((supplier, name), frame_of (frame_data frame.now))) }
     ensures err { OnErr result (Extends rows.old rows.new) }
@@ -70,7 +71,7 @@ pub fn push_signal_rows(
 
 // The greatest gap of the frame's placements.
 fn gap_of(params: &Params, frame: &PageFrame) -> Option<u32>
-    requires few { len (frame_of (frame_data frame.now)).placements ≤ max_placements }
+    requires few { len (frame_of (frame_data frame.now)).placements ≤ MAX_PLACEMENTS }
     requires fits { All (FitsCluster params.now) (placements_in (frame_of (frame_data frame.now))) }
     ensures { result ≡ greatest_gap params.now (placements_in (frame_of (frame_data frame.now))) }
 {
@@ -82,6 +83,3 @@ fn gap_of(params: &Params, frame: &PageFrame) -> Option<u32>
     }
     greatest_gap(params, &room[..count])
 }
-
-#[cfg(test)]
-mod tests;

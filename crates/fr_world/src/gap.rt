@@ -1,19 +1,17 @@
+//! The greatest gap of a frame's placements.
 ghost use Rattle.std.specs.Prelude.{◌≡◌, ◌+◌, ◌-◌, ◌≤◌, All, IfSome, length, max};
 ghost use Rattle.std.specs.Option.{option_map_or};
-ghost use Rattle.fr_base.specs.Limits.{max_placements};
+ghost use Rattle.fr_base.specs.declared.limits.TheConstants.{MAX_PLACEMENTS};
 ghost use Rattle.fr_base.specs.Moments.{greatest_gap};
 ghost use Rattle.fr_base.specs.Sound.{FitsCluster};
 
-use fr_base::{CYCLE_COUNT, Params, Placement};
-
-/// How many placements a frame has at most.
-pub(crate) const MAX_PLACEMENTS: usize = 8;
+use fr_base::{CYCLE_COUNT, MAX_PLACEMENTS, Params, Placement};
 
 /// The longest time from a moment at which a frame with these placements is sent to the next such moment,
 /// in macroticks on the ring of all cycles. A moment is the start of a slot, so cells on A and on B at once
 /// count once; a lone moment's gap is the whole ring. Where nothing is placed there is none.
 pub fn greatest_gap(params: &Params, placements: &[Placement]) -> Option<u32>
-    requires few { length placements.now ≤ max_placements }
+    requires few { length placements.now ≤ MAX_PLACEMENTS }
     requires fits { All (FitsCluster params.now) placements.now }
     ensures { result ≡ greatest_gap params.now placements.now }
 {
@@ -23,43 +21,43 @@ pub fn greatest_gap(params: &Params, placements: &[Placement]) -> Option<u32>
     let by_slot = &mut room[..placements.len()];
     by_slot.copy_from_slice(placements);
     by_slot.sort_unstable_by_key(|placement| placement.slot.get());
-    let mut met = None;
+    let mut moments = None;
     for cycle in 0..CYCLE_COUNT {
         for placement in by_slot.iter() {
             if placement.cycles.contains(cycle as u8) {
                 let moment = cycle * cycle_length + (placement.slot.get() - 1) * slot_length;
-                met = Some(Met::next(met, moment));
+                moments = Some(Moments::next(moments, moment));
             }
         }
     }
-    Some(met?.greatest_gap(CYCLE_COUNT * cycle_length))
+    Some(moments?.greatest_gap(CYCLE_COUNT * cycle_length))
 }
 
-/// What is kept of the moments that were met, in rising order: the first one, the last one, and the
-/// greatest step from one to the next.
+/// The moments so far, in rising order: the first one, the last one, and the greatest step from one to
+/// the next.
 #[derive(Clone, Copy, Debug)]
-struct Met {
+struct Moments {
     first: u32,
     last: u32,
     step: u32,
 }
 
-impl Met {
-    /// What is kept once a moment more is met, which is none before the last one.
-    fn next(met: Option<Met>, moment: u32) -> Met
-        requires { IfSome met (λ m. m.last ≤ moment) }
-        ensures { result ≡ option_map_or (λ m. record { first = m.first; last = moment; step = max m.step (moment - m.last) }) met (record { first = moment; last = moment; step = 0 }) }
+impl Moments {
+    /// With one moment more, which is none before the last one.
+    fn next(moments: Option<Moments>, moment: u32) -> Moments
+        requires { IfSome moments (λ m. m.last ≤ moment) }
+        ensures { result ≡ option_map_or (λ m. record { first = m.first; last = moment; step = max m.step (moment - m.last) }) moments (record { first = moment; last = moment; step = 0 }) }
     {
-        match met {
-            None => Met {
+        match moments {
+            None => Moments {
                 first: moment,
                 last: moment,
                 step: 0,
             },
-            Some(met) => Met {
-                first: met.first,
+            Some(moments) => Moments {
+                first: moments.first,
                 last: moment,
-                step: met.step.max(moment - met.last),
+                step: moments.step.max(moment - moments.last),
             },
         }
     }
@@ -73,6 +71,3 @@ impl Met {
         self.step.max(ring - self.last + self.first)
     }
 }
-
-#[cfg(test)]
-mod tests;

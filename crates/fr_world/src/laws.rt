@@ -1,3 +1,4 @@
+//! Laws of pages: what is decided on one is the register's step.
 ghost use Rattle.fr_world.specs.Laws.{CommonDecides, DecisionLeads, EditsAgree, GrantDecides, NodeDecides, OthersStay, RevokeDecides, RowsAreTheRegisters, SoundRowsAreAPage, SupplierDecides};
 
 /// In a sound book a supplier's rows of a variant are a page's.

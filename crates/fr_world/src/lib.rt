@@ -4,25 +4,28 @@
 
 mod amend;
 mod build;
+mod cycle_channel;
 mod decision;
 mod edit;
+#[cfg(test)]
+mod fixture;
 mod frame_rows;
+mod frame_triggering;
 mod gap;
+mod grants;
 mod laws;
 mod nodes;
 mod occupancy;
 mod page;
 mod page_sendings;
-mod placed;
 mod row_occupancy;
-mod same;
 mod sendings;
-mod spot;
 mod variants;
 
 pub use decision::decide;
 pub use edit::Edit;
 pub use frame_rows::{frame_row, gap_row, push_signal_rows};
+pub use frame_triggering::{FrameTriggering, push_frame};
 pub use gap::greatest_gap;
 pub use laws::{
     common_decides, decision_leads, edits_agree, grant_decides, node_decides, others_stay,
@@ -32,7 +35,6 @@ pub use nodes::decide_node;
 pub use occupancy::{Occupancy, TakenCell};
 pub use page::{ChannelSlot, Page, PageFrame, PageRows};
 pub use page_sendings::sent;
-pub use placed::{Placed, push_frame};
 pub use row_occupancy::RowOccupancy;
 pub use sendings::schedule;
 pub use variants::{VariantRow, decide_common};

@@ -1,14 +1,11 @@
-ghost use Rattle.std.specs.Prelude.{◌≡◌, ◌==◌};
+//! What the integrator's command that gives a supplier a node decides.
+ghost use Rattle.std.specs.Prelude.{◌≡◌};
 ghost use Rattle.std.specs.List.{list_any};
-ghost use Rattle.fr_base.specs.Cluster.{same_text};
+ghost use Rattle.fr_base.specs.Names.{same_text};
 ghost use Rattle.fr_world.specs.Nodes.{new_node};
 
 use crate::edit::Edit;
-use crate::same::is_same;
-use fr_base::{Name, Refusal};
-
-/// The most nodes that a supplier has.
-const MAX_NODES: usize = 64;
+use fr_base::{MAX_NODES, Name, Refusal};
 
 /// The edit that gives the supplier, who has these nodes, the node, or the first refusal: `Exists`,
 /// `Limit`. It takes no memory.
@@ -29,8 +26,5 @@ pub fn decide_node(supplier: Name, nodes: &[Name], node: Name) -> Result<Edit, R
 fn has(names: &[Name], name: Name) -> bool
     ensures { result ≡ list_any (λ other. same_text other name) names.now }
 {
-    names.iter().any(|other| is_same(*other, name))
+    names.iter().any(|other| *other == name)
 }
-
-#[cfg(test)]
-mod tests;

@@ -1,3 +1,4 @@
+//! Which cells are filled.
 use fr_base::{Channel, Name, Placement, Refusal};
 
 /// A filled cell of a slot, and the frame that is sent there.

@@ -1,6 +1,6 @@
-use fr_base::{Channel, Name, Params, Placement, Slot};
+//! A supplier's rows in a variant.
+use fr_base::{Channel, Name, NoMemory, Params, Placement, Slot};
 use fr_layout::Layout;
-use std::alloc::AllocError;
 use std::collections::{BTreeMap, BTreeSet};
 use std::marker::Model;
 
@@ -31,7 +31,7 @@ impl Clone for PageFrame {
 
     ghost is_clone = { λ f g. frame_data g ≡ frame_data f };
 
-    fn clone(&self) -> Result<PageFrame, AllocError> {
+    fn clone(&self) -> Result<PageFrame, NoMemory> {
         Ok(PageFrame {
             node: self.node,
             placements: self.placements.clone()?,
@@ -65,39 +65,17 @@ pub struct PageRows {
 /// nodes of its grants and frames are among its nodes is not asked.
 #[derive(Drop)]
 pub struct Page {
-    pub(crate) params: Params,
-    pub(crate) supplier: Name,
-    pub(crate) variant: Name,
-    pub(crate) released: bool,
-    pub(crate) nodes: BTreeSet<Name>,
-    pub(crate) grants: BTreeMap<ChannelSlot, Name>,
-    pub(crate) frames: BTreeMap<Name, PageFrame>,
+    pub(crate) rows: PageRows,
 }
 
 impl Model for Page {
-    ghost use Rattle.fr_world.specs.Pages.{IsKept, PageData, frames_data};
+    ghost use Rattle.fr_world.specs.Pages.{IsKept, PageData, rows_data};
 
     ghost Value = { PageData };
 
-    ghost view = { λ p. record {
-      params = p.params;
-      supplier = p.supplier;
-      variant = p.variant;
-      released = p.released;
-      nodes = p.nodes.keys;
-      grants = p.grants.entries;
-      frames = frames_data p.frames.entries;
-    } };
+    ghost view = { λ p. rows_data p.rows };
 
-    ghost invariant = { λ p. IsKept (record {
-      params = p.params;
-      supplier = p.supplier;
-      variant = p.variant;
-      released = p.released;
-      nodes = p.nodes.keys;
-      grants = p.grants.entries;
-      frames = frames_data p.frames.entries;
-    }) };
+    ghost invariant = { λ p. IsKept (rows_data p.rows) };
 }
 
 impl Page {
@@ -108,42 +86,42 @@ impl Page {
     pub fn params(&self) -> Params
         ensures { result ≡ self.now.params }
     {
-        self.params
+        self.rows.params
     }
 
     /// The supplier whose rows they are.
     pub fn supplier(&self) -> Name
         ensures { result ≡ self.now.supplier }
     {
-        self.supplier
+        self.rows.supplier
     }
 
     /// The variant.
     pub fn variant(&self) -> Name
         ensures { result ≡ self.now.variant }
     {
-        self.variant
+        self.rows.variant
     }
 
     /// Whether the variant is released.
     pub fn released(&self) -> bool
         ensures { result ≡ self.now.released }
     {
-        self.released
+        self.rows.released
     }
 
     /// The supplier's nodes.
     pub fn nodes(&self) -> &BTreeSet<Name>
         ensures { result.now.keys ≡ self.now.nodes }
     {
-        &self.nodes
+        &self.rows.nodes
     }
 
     /// Which of the nodes holds which slot and channel.
     pub fn grants(&self) -> &BTreeMap<ChannelSlot, Name>
         ensures { result.now.entries ≡ self.now.grants }
     {
-        &self.grants
+        &self.rows.grants
     }
 
     /// The supplier's frames.
@@ -151,6 +129,6 @@ impl Page {
         ensures value { frames_data result.now.entries ≡ self.now.frames }
         ensures kept { IsKept self.now }
     {
-        &self.frames
+        &self.rows.frames
     }
 }

@@ -1,10 +1,10 @@
 //! Occupied cells as a list of placements, which are compared one by one.
 ghost use Rattle.std.specs.Prelude.{◌≡◌, [], map, not};
 ghost use Rattle.fr_world.specs.Occupancies.{is_pair};
-ghost use Rattle.fr_world.specs.Spots.{earlier};
+ghost use Rattle.fr_world.specs.CycleChannels.{earlier};
 
+use crate::cycle_channel::{CycleChannel, first_shared};
 use crate::occupancy::{Occupancy, TakenCell};
-use crate::spot::{Spot, first_shared};
 use fr_base::{Name, Placement, Refusal};
 use std::alloc::Global;
 
@@ -15,10 +15,10 @@ struct Row {
     placement: Placement,
 }
 
-// A filled spot, and the frame that is sent there.
+// A filled cell's cycle and channel, and the frame that is sent there.
 #[derive(Clone, Copy)]
 pub(crate) struct Taken {
-    at: Spot,
+    at: CycleChannel,
     frame: Name,
 }
 
@@ -69,14 +69,11 @@ impl Occupancy for RowOccupancy {
     }
 
     fn fill(&mut self, frame: Name, placement: &Placement) -> Result<(), Refusal> {
-        let row = Row {
+        self.rows.push(Row {
             frame,
             placement: *placement,
-        };
-        match self.rows.push(row) {
-            Ok(()) => Ok(()),
-            Err(_) => Err(Refusal::Unavailable),
-        }
+        })?;
+        Ok(())
     }
 
     fn clear(&mut self, frame: Name, placement: &Placement) {
@@ -89,14 +86,14 @@ impl Occupancy for RowOccupancy {
 }
 
 // Whether the row is that of this frame and placement.
-#[tactic(auto, using(fr_base::proofs::ActorsLemmas::same_bytes, crate::proofs::KeyLaws::placements_alike))]
+#[tactic(auto, using(crate::proofs::KeyLaws::placements_alike))]
 fn is_row(row: &Row, frame: Name, placement: &Placement) -> bool
     ensures { result ≡ is_pair frame placement.now (row.now.frame, row.now.placement) }
 {
     row.frame == frame && row.placement.cmp(placement).is_eq()
 }
 
-// The one of the lesser spot; the former at a tie.
+// The one of the earlier cell; the former at a tie.
 fn first_of(former: Option<Taken>, latter: Option<Taken>) -> Option<Taken>
     ensures { result ≡ earlier former latter }
 {
@@ -105,6 +102,3 @@ fn first_of(former: Option<Taken>, latter: Option<Taken>) -> Option<Taken>
         (x, y) => x.or(y),
     }
 }
-
-#[cfg(test)]
-mod tests;

@@ -1,249 +1,193 @@
-//! The first script's page: what commands make of it, and what its frame sends.
-ghost use Rattle.std.specs.Bool.{OnTrue};
-ghost use Rattle.fr_base.specs.Sound.{FitsCluster};
-ghost use Rattle.fr_world.specs.Decisions.{IsChecked, IsFor};
+//! What the check would let pass: a call that lacks memory though there is enough, or from some size on;
+//! and cells that a table from outside the register says are taken.
+ghost use Rattle.std.specs.Prelude.{◌≡◌};
+ghost use Rattle.fr_world.specs.Decisions.{IsChecked};
 
 use crate::decision::decide;
 use crate::edit::Edit;
-use crate::nodes::decide_node;
-use crate::occupancy::Occupancy;
-use crate::page::{ChannelSlot, Page, PageFrame, PageRows};
+use crate::fixture::{fits, frame, grant, name, no_rows, placement, signal, slot};
+use crate::frame_rows::{frame_row, push_signal_rows};
+use crate::frame_triggering::push_frame;
+use crate::occupancy::{Occupancy, TakenCell};
+use crate::page::Page;
 use crate::page_sendings::sent;
 use crate::row_occupancy::RowOccupancy;
-use crate::variants::decide_common;
-use fr_base::{
-    Channel, Channels, Command, CycleSet, Name, Params, Placement, RawParams, Refusal, Sending,
-    Slot,
-};
-use fr_layout::Layout;
+use crate::sendings::schedule;
+use fr_base::{Change, Channel, Channels, FrameChange, MAX_NODES, Name, Placement, Rows, Signal};
 use std::alloc::Global;
-use std::collections::{BTreeMap, BTreeSet};
 use std::test::Fail;
 
-fn name(text: &str) -> Result<Name, Fail> {
-    Ok(Name::read(text).ok_or("name")?)
-}
-
-fn slot() -> Result<Slot, Fail> {
-    Ok(Slot::new(1).ok_or("slot")?)
-}
-
-// Slot 1 on A.
-fn at(base: u32, repetition: u32) -> Result<Placement, Fail> {
-    Ok(Placement {
-        slot: slot()?,
-        channels: Channels::A,
-        cycles: CycleSet::new(base, repetition)?,
-    })
-}
-
-// 4 slots, and a payload of one word.
-fn params() -> Result<Params, Fail> {
-    Ok(Params::check(RawParams {
-        channels: Channels::AB,
-        static_slots: 4,
-        slot_macroticks: 10,
-        dynamic_macroticks: 40,
-        symbol_macroticks: 10,
-        idle_macroticks: 10,
-        macroticks_per_cycle: 100,
-        payload_words: 1,
-    })
-    .map_err(|fault| fault.word())?)
-}
-
-// The frame is sent in cycle 0.
-fn frame(alloc: Global, node: Name) -> Result<PageFrame, Fail> {
-    let mut placements = BTreeSet::new(alloc);
-    placements.insert(at(0, 64)?)?;
-    Ok(PageFrame {
-        node,
-        placements,
-        layout: Layout::new(alloc, 1),
-    })
-}
-
-// Node `n1` of `s1` holds slot 1 on A, and sends the frame `f1`.
-fn first_page(alloc: Global) -> Result<Page, Fail> {
-    let node = name("n1")?;
-    let held = ChannelSlot {
-        slot: slot()?,
-        channel: Channel::A,
-    };
-    let mut rows = PageRows {
-        params: params()?,
-        supplier: name("s1")?,
-        variant: name("v1")?,
-        released: false,
-        nodes: BTreeSet::new(alloc),
-        grants: BTreeMap::new(alloc),
-        frames: BTreeMap::new(alloc),
-    };
-    rows.nodes.insert(node)?;
-    rows.grants.insert(held, node)?;
-    rows.frames.insert(name("f1")?, frame(alloc, node)?)?;
-    Ok(Page::build(alloc, rows)?.ok_or("page")?)
-}
-
-// Decides the command on the page, and makes its edit.
-fn run(page: &mut Page, alloc: Global, command: &Command) -> Result<Option<Edit>, Refusal>
-    requires decides { IsFor page.old.supplier page.old.variant command.now }
-    requires checked { IsChecked page.old.params command.now }
+// Decides the change on the page, and makes its edit.
+fn run(page: &mut Page, alloc: Global, change: &Change) -> Result<(), Fail>
+    requires checked { IsChecked page.old.params change.now }
 {
-    let mut edits = decide(alloc, page, command)?;
-    if let Some(edit) = edits.first() {
-        page.amend(alloc, edit)?;
-    }
-    Ok(edits.pop())
+    let edits = decide(alloc, page, change)?;
+    let edit = edits.first().ok_or("edit")?;
+    Ok(page.amend(alloc, edit)?)
 }
 
-// The edit of a command, or its refusal.
-type Answered = Result<Option<Edit>, Refusal>;
-
-// Whether the cluster of the page has the placement.
-fn fits(page: &Page, placement: &Placement) -> bool
-    ensures { OnTrue result (FitsCluster page.now.params placement.now) }
+fn change_frame(
+    page: &mut Page,
+    alloc: Global,
+    frame: Name,
+    change: FrameChange,
+) -> Result<(), Fail>
+    requires checked { IsChecked page.old.params (Change.Frame frame change) }
 {
-    let params = page.params();
-    let slot = placement.slot.get();
-    let base = u32::from(placement.cycles.base());
-    let repetition = u32::from(placement.cycles.repetition());
-    params.channels() == Channels::AB
-        && slot >= 1
-        && slot <= params.static_slots()
-        && CycleSet::new(base, repetition).is_ok()
+    run(page, alloc, &Change::Frame { frame, change })
 }
 
-fn place(page: &mut Page, alloc: Global, placement: &Placement) -> Result<Answered, Fail> {
-    if !fits(page, placement) {
+fn place(page: &mut Page, alloc: Global, frame: Name, placement: Placement) -> Result<(), Fail> {
+    if !fits(&page.params(), &placement) {
         return Err(Fail::from("no placement of the cluster"));
     }
-    let command = Command::Place {
-        variant: page.variant(),
-        frame: name("f1")?,
-        placement: *placement,
-    };
-    Ok(run(page, alloc, &command))
+    change_frame(page, alloc, frame, FrameChange::Place(placement))
 }
 
-fn unplace(page: &mut Page, alloc: Global, placement: &Placement) -> Result<Answered, Fail> {
-    let command = Command::Unplace {
-        variant: page.variant(),
-        frame: name("f1")?,
-        placement: *placement,
-    };
-    Ok(run(page, alloc, &command))
+fn add_signal(page: &mut Page, alloc: Global, frame: Name, signal: Signal) -> Result<(), Fail> {
+    // Gives the proof that the length is a signal's.
+    let _length = signal.length();
+    change_frame(page, alloc, frame, FrameChange::AddSignal(signal))
 }
 
-fn drop_frame(page: &mut Page, alloc: Global) -> Result<Answered, Fail> {
-    let command = Command::DropFrame {
-        variant: page.variant(),
-        frame: name("f1")?,
-    };
-    Ok(run(page, alloc, &command))
+// Gives the page the node.
+fn add_node(page: &mut Page, alloc: Global, node: Name) -> Result<(), Fail> {
+    // Gives the proof that the rows are a page's.
+    let _frames = page.frames();
+    if page.nodes().len() >= MAX_NODES {
+        return Err(Fail::from("too many nodes"));
+    }
+    let supplier = page.supplier();
+    Ok(page.amend(alloc, &Edit::NewNode { supplier, node })?)
 }
 
-fn revoke(page: &mut Page, alloc: Global) -> Result<Answered, Fail> {
-    let command = Command::Revoke {
-        variant: page.variant(),
-        slot: slot()?,
-        channel: Channel::A,
-        supplier: page.supplier(),
-    };
-    Ok(run(page, alloc, &command))
+fn release(page: &mut Page, alloc: Global) -> Result<(), Fail> {
+    // Gives the proof that the rows are a page's.
+    let _frames = page.frames();
+    let variant = page.variant();
+    Ok(page.amend(alloc, &Edit::SetReleased { variant })?)
 }
 
-// The frame is sent in this cycle.
-fn sending(cycle: u8) -> Result<Sending, Fail> {
-    Ok(Sending {
-        cycle,
-        slot: slot()?,
-        channel: Channel::A,
-        frame: name("f1")?,
-        node: name("n1")?,
-        supplier: name("s1")?,
-    })
-}
-
-fn sends(alloc: Global, page: &Page, cycle: u8) -> Result<bool, Fail> {
-    let rows = sent(alloc, page, cycle)?;
-    Ok(rows.as_slice() == [sending(cycle)?].as_slice())
+// Each change of a frame of `n1`, which holds slot 1 on A.
+fn a_frame_comes_and_goes(page: &mut Page, alloc: Global) -> Result<(), Fail> {
+    let node = name("n1")?;
+    let f1 = name("f1")?;
+    let at = placement(1, Channels::A, 0, 64)?;
+    change_frame(page, alloc, f1, FrameChange::Add { node })?;
+    place(page, alloc, f1, at)?;
+    add_signal(page, alloc, f1, signal("x", 0)?)?;
+    change_frame(page, alloc, f1, FrameChange::DropSignal(name("x")?))?;
+    change_frame(page, alloc, f1, FrameChange::Unplace(at))?;
+    change_frame(page, alloc, f1, FrameChange::Drop)
 }
 
 // With ample memory each call succeeds.
 #[test]
 fn world_calls_succeed(rt: HostRuntime) -> Result<(), Fail> {
     let alloc = rt.alloc();
-    let mut page = first_page(alloc)?;
-    let placed = Edit::PutPlacement {
-        variant: name("v1")?,
-        supplier: name("s1")?,
-        frame: name("f1")?,
-        placement: at(1, 64)?,
+    let mut page = Page::build(alloc, no_rows(alloc)?)?.ok_or("page")?;
+    let node = name("n1")?;
+    add_node(&mut page, alloc, node)?;
+    let (slot, channel) = (slot(1)?, Channel::A);
+    let grant = Change::Grant {
+        slot,
+        channel,
+        node,
     };
-    assert!(rt; place(&mut page, alloc, &at(1, 64)?)? == Ok(Some(placed)));
-    assert!(rt; sends(alloc, &page, 0)?);
-    assert!(rt; sends(alloc, &page, 1)?);
-    assert!(rt; sent(alloc, &page, 2)?.is_empty());
+    run(&mut page, alloc, &grant)?;
+    a_frame_comes_and_goes(&mut page, alloc)?;
+    run(&mut page, alloc, &Change::Revoke { slot, channel })?;
+    assert!(rt; page.grants().is_empty() && page.frames().is_empty());
+    release(&mut page, alloc)?;
+    assert!(rt; page.released());
     Ok(())
 }
 
-// The frame fills the placement's cells.
-fn fill(cells: &mut RowOccupancy, frame: Name, placement: &Placement) -> Result<(), Fail> {
-    if cells.free(placement) {
-        Ok(cells.fill(frame, placement)?)
-    } else {
-        Err(Fail::from("a cell is filled"))
+// 256 frames, each in a slot of its own, of which all but the last have 8 placements; the first one has
+// 64 signals.
+fn full_page(alloc: Global) -> Result<Page, Fail> {
+    let mut rows = no_rows(alloc)?;
+    for index in 1..=64 {
+        let node = format!(in alloc; "n{index}")?;
+        rows.nodes.insert(name(&node)?)?;
     }
+    for number in 1..=1023 {
+        grant(&mut rows, number, Channel::A)?;
+        grant(&mut rows, number, Channel::B)?;
+    }
+    for number in 1..=256 {
+        let mut row = frame(alloc)?;
+        for base in 0..8 {
+            if base < 7 || number < 256 {
+                row.placements
+                    .insert(placement(number, Channels::AB, base, 64)?)?;
+            }
+        }
+        let text = format!(in alloc; "f{number}")?;
+        rows.frames.insert(name(&text)?, row)?;
+    }
+    let first = rows.frames.get_mut(&name("f1")?).ok_or("f1")?;
+    for index in 0..64 {
+        let text = format!(in alloc; "x{index}")?;
+        first.layout.add(signal(&text, index * 4)?)?;
+    }
+    Ok(Page::build(alloc, rows)?.ok_or("page")?)
+}
+
+// So it does at the limits.
+#[test]
+fn a_full_page(rt: HostRuntime) -> Result<(), Fail> {
+    let alloc = rt.alloc();
+    let mut page = full_page(alloc)?;
+    let last = placement(256, Channels::AB, 7, 64)?;
+    place(&mut page, alloc, name("f256")?, last)?;
+    assert_eq!(rt; sent(alloc, &page, 7)?.len(), 512);
+    let (supplier, f1) = (page.supplier(), name("f1")?);
+    let row = page.frames().get(&f1).ok_or("f1")?.clone()?;
+    let mut signals = Rows::new(alloc);
+    push_signal_rows(supplier, &row, &mut signals)?;
+    assert_eq!(rt; signals.len(), 64);
+    assert_eq!(rt; frame_row(alloc, supplier, f1, &row)?.placements.len(), 8);
+    let mut triggerings = Vec::new(alloc);
+    for (name, row) in page.frames().iter() {
+        push_frame(supplier, *name, row, &mut triggerings)?;
+    }
+    assert_eq!(rt; schedule(alloc, &page.params(), &triggerings)?.len(), 4096);
+    Ok(())
+}
+
+// Fills the cells, which have to be free.
+fn fill(cells: &mut RowOccupancy, text: &str, placement: &Placement) -> Result<(), Fail> {
+    if !cells.free(placement) {
+        return Err(Fail::from("a cell is filled"));
+    }
+    Ok(cells.fill(name(text)?, placement)?)
+}
+
+// A cell of slot 1.
+fn taken(cycle: u8, channel: Channel, text: &str) -> Result<Option<TakenCell>, Fail> {
+    Ok(Some(TakenCell {
+        cycle,
+        channel,
+        frame: name(text)?,
+    }))
 }
 
 #[test]
-fn cells_are_filled(rt: HostRuntime) -> Result<(), Fail> {
+fn cells_taken_on_a_and_b(rt: HostRuntime) -> Result<(), Fail> {
     let mut cells = RowOccupancy::new(rt.alloc());
-    fill(&mut cells, name("f1")?, &at(0, 64)?)?;
-    fill(&mut cells, name("f1")?, &at(1, 64)?)?;
-    assert!(rt; !cells.free(&at(1, 2)?));
-    assert!(rt; cells.free(&at(2, 64)?));
-    Ok(())
-}
-
-#[test]
-fn variants_and_nodes_begin(rt: HostRuntime) -> Result<(), Fail> {
-    let (variant, supplier, node) = (name("v1")?, name("s1")?, name("n1")?);
-    let begun = Edit::NewVariant {
-        variant,
-        parent: None,
-        depth: 1,
-    };
-    let open = Command::OpenVariant {
-        variant,
-        parent: None,
-    };
-    assert!(rt; decide_common(&[], &open) == Ok(begun));
-    assert!(rt; decide_node(supplier, &[], node) == Ok(Edit::NewNode { supplier, node }));
-    Ok(())
-}
-
-#[test]
-fn revoked_when_unplaced(rt: HostRuntime) -> Result<(), Fail> {
-    let alloc = rt.alloc();
-    let mut page = first_page(alloc)?;
-    assert!(rt; revoke(&mut page, alloc)? == Err(Refusal::InUse));
-    assert!(rt; unplace(&mut page, alloc, &at(0, 64)?)?.is_ok());
-    assert!(rt; revoke(&mut page, alloc)?.is_ok());
-    assert!(rt; page.grants().is_empty());
-    assert!(rt; revoke(&mut page, alloc)? == Err(Refusal::NotGranted));
-    Ok(())
-}
-
-#[test]
-fn dropped_once(rt: HostRuntime) -> Result<(), Fail> {
-    let alloc = rt.alloc();
-    let mut page = first_page(alloc)?;
-    assert!(rt; unplace(&mut page, alloc, &at(0, 32)?)? == Err(Refusal::NoPlacement));
-    assert!(rt; drop_frame(&mut page, alloc)?.is_ok());
-    assert!(rt; sent(alloc, &page, 0)?.is_empty());
-    assert!(rt; drop_frame(&mut page, alloc)? == Err(Refusal::NoFrame));
-    assert!(rt; unplace(&mut page, alloc, &at(0, 64)?)? == Err(Refusal::NoFrame));
+    let f = placement(1, Channels::AB, 0, 2)?;
+    let on_b = placement(1, Channels::B, 2, 4)?;
+    let both = placement(1, Channels::AB, 2, 4)?;
+    fill(&mut cells, "f", &f)?;
+    assert_eq!(rt; cells.first_taken(&on_b), taken(2, Channel::B, "f")?);
+    assert_eq!(rt; cells.first_taken(&both), taken(2, Channel::A, "f")?);
+    fill(&mut cells, "g", &placement(1, Channels::A, 1, 2)?)?;
+    cells.clear(name("f")?, &f);
+    assert!(rt; cells.free(&both));
+    assert_eq!(rt;
+        cells.first_taken(&placement(1, Channels::AB, 0, 1)?),
+        taken(1, Channel::A, "g")?
+    );
     Ok(())
 }

@@ -1,16 +1,9 @@
 //! What the integrator's commands on all suppliers decide.
 ghost use Rattle.std.specs.Prelude.{◌≡◌, option_map};
-ghost use Rattle.fr_world.specs.Common.{IsCommon, common, depth_after, row_of};
+ghost use Rattle.fr_world.specs.Common.{common_edit, depth_after, row_of};
 
 use crate::edit::Edit;
-use crate::same::is_same;
-use fr_base::{Command, Name, Refusal};
-
-/// The most variants that a register has.
-const MAX_VARIANTS: usize = 64;
-
-/// The greatest depth of a variant.
-const MAX_DEPTH: u32 = 16;
+use fr_base::{CommonCommand, MAX_DEPTH, MAX_VARIANTS, Name, Refusal};
 
 /// A variant of the register, without the rows in it.
 #[derive(Clone, Copy, Debug, PartialEq, Eq)]
@@ -28,15 +21,14 @@ pub struct VariantRow {
 /// The edit that opens or releases a variant of the register, or the first refusal: for a new one
 /// `NoVariant`, `NotReleased` and `TooDeep` of its parent, then `Exists` and `Limit`; for a release
 /// `NoVariant` and `Released`. It takes no memory.
-#[tactic(auto, unfolding(crate::proofs::CommonLaws::common_open))]
-pub fn decide_common(variants: &[VariantRow], command: &Command) -> Result<Edit, Refusal>
-    requires { IsCommon command.now }
-    ensures { result ≡ common variants.now command.now }
+pub fn decide_common(variants: &[VariantRow], command: &CommonCommand) -> Result<Edit, Refusal>
+    ensures { result ≡ common_edit variants.now command.now }
 {
     match command {
-        Command::OpenVariant { variant, parent } => open_variant(variants, *variant, parent),
-        Command::Release { variant } => release(variants, *variant),
-        _ => Err(Refusal::NotYours),
+        CommonCommand::OpenVariant { variant, parent } => {
+            open_variant(variants, *variant, parent)
+        }
+        CommonCommand::Release { variant } => release(variants, *variant),
     }
 }
 
@@ -46,7 +38,7 @@ fn open_variant(
     variant: Name,
     parent: &Option<Name>,
 ) -> Result<Edit, Refusal>
-    ensures { result ≡ common variants.now (Command.OpenVariant variant parent.now) }
+    ensures { result ≡ common_edit variants.now (CommonCommand.OpenVariant variant parent.now) }
 {
     let depth = depth_after(variants, parent)?;
     if find(variants, variant).is_some() {
@@ -64,7 +56,7 @@ fn open_variant(
 
 #[tactic(auto, unfolding(crate::proofs::CommonLaws::common_open))]
 fn release(variants: &[VariantRow], variant: Name) -> Result<Edit, Refusal>
-    ensures { result ≡ common variants.now (Command.Release variant) }
+    ensures { result ≡ common_edit variants.now (CommonCommand.Release variant) }
 {
     let row = find(variants, variant).ok_or(Refusal::NoVariant)?;
     if row.released {
@@ -95,8 +87,5 @@ fn depth_after(variants: &[VariantRow], parent: &Option<Name>) -> Result<u32, Re
 fn find(variants: &[VariantRow], variant: Name) -> Option<&VariantRow>
     ensures { option_map (λ row. row.now) result ≡ row_of variants.now variant }
 {
-    variants.iter().find(|row| is_same(row.variant, variant))
+    variants.iter().find(|row| row.variant == variant)
 }
-
-#[cfg(test)]
-mod tests;

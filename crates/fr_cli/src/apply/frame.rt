@@ -1,38 +1,39 @@
-//! What an edit makes of a frame's rows.
-ghost use Rattle.std.specs.Prelude.{◌≡◌, not, filter, Err, OnErr, OnOk};
-ghost use Rattle.std.specs.Str.{bytes_eq};
-ghost use Rattle.fr_base.specs.Tables.{insert, remove};
+//! What a change makes of a frame's rows.
+ghost use Rattle.std.specs.Prelude.{◌≡◌, Some, Err, OnErr, OnOk};
+ghost use Rattle.fr_base.specs.Tables.{Becomes, insert, remove};
 ghost use Rattle.fr_base.specs.Keys.{placement_order};
-ghost use Rattle.fr_base.specs.Layouts.{with_signal};
+ghost use Rattle.fr_base.specs.Layouts.{with_signal, without_signal};
+ghost use Rattle.fr_base.specs.Step.{frame_after};
 ghost use Rattle.fr_base.specs.declared.refusal.Refusal.TheVariants.{Unavailable};
 ghost use Rattle.fr_world.specs.Maps.{set_of};
-ghost use Rattle.fr_world.specs.Amends.{frame_edited};
+ghost use Rattle.fr_cli.specs.Applied.{NeedsFrame};
 ghost use Rattle.fr_cli.specs.Plans.{frame_of};
 
-use fr_base::{Name, Placement, Refusal, Signal};
+use fr_base::{FrameChange, Name, Placement, Refusal, Signal};
 use fr_layout::Layout;
-use fr_world::{Edit, PageFrame};
+use fr_world::PageFrame;
 use std::collections::BTreeSet;
 
-/// Makes the edit of the frame's rows. `Unavailable` where memory is refused or the signal cannot
+/// Makes the change of the frame's rows. `Unavailable` where memory is refused or the signal cannot
 /// stand with the others, which changes nothing.
-#[tactic(auto, unfolding(fr_world::specs::Amends::frame_edited))]
-pub(crate) fn change_frame(frame: &mut PageFrame, edit: &Edit) -> Result<(), Refusal>
-    ensures ok { OnOk result (frame_of frame.new ≡ frame_edited edit.now (frame_of frame.old)) }
+#[tactic(auto, unfolding(fr_base::specs::Step::frame_after))]
+pub(crate) fn change_frame(frame: &mut PageFrame, change: &FrameChange) -> Result<(), Refusal>
+    requires { NeedsFrame change.now }
+    ensures ok { OnOk result (frame_after change.now (Some (frame_of frame.old)) ≡ Becomes (frame_of frame.new)) }
     ensures err { OnErr result ((frame_of frame.new ≡ frame_of frame.old) × (result ≡ Err Unavailable)) }
 {
-    match edit {
-        Edit::PutPlacement { placement, .. } => put_placement(&mut frame.placements, placement),
-        Edit::EndPlacement { placement, .. } => {
+    match change {
+        FrameChange::Place(placement) => put_placement(&mut frame.placements, placement),
+        FrameChange::Unplace(placement) => {
             end_placement(&mut frame.placements, placement);
             Ok(())
         }
-        Edit::PutSignal { signal, .. } => put_signal(&mut frame.layout, signal),
-        Edit::EndSignal { signal, .. } => {
+        FrameChange::AddSignal(signal) => put_signal(&mut frame.layout, signal),
+        FrameChange::DropSignal(signal) => {
             end_signal(&mut frame.layout, *signal);
             Ok(())
         }
-        _ => Ok(()),
+        FrameChange::Add { .. } | FrameChange::Drop => unreachable!(),
     }
 }
 
@@ -41,10 +42,8 @@ fn put_placement(placements: &mut BTreeSet<Placement>, placement: &Placement) ->
     ensures ok { OnOk result (set_of placement_order (λ q. q) placements.new.keys ≡ insert (set_of placement_order (λ q. q) placements.old.keys) placement.now tt) }
     ensures err { OnErr result ((placements.new.keys ≡ placements.old.keys) × (result ≡ Err Unavailable)) }
 {
-    match placements.insert(*placement) {
-        Ok(_) => Ok(()),
-        Err(_) => Err(Refusal::Unavailable),
-    }
+    placements.insert(*placement)?;
+    Ok(())
 }
 
 #[tactic(auto, using(crate::proofs::ApplyLaws::placement_removed))]
@@ -69,7 +68,7 @@ fn put_signal(layout: &mut Layout, signal: &Signal) -> Result<(), Refusal>
 
 #[tactic(auto, using(crate::proofs::ApplyLaws::removed, crate::proofs::ApplyLaws::not_removed))]
 fn end_signal(layout: &mut Layout, name: Name)
-    ensures { layout.new.signals ≡ filter (λ s. not (bytes_eq s.name name)) layout.old.signals }
+    ensures { layout.new.signals ≡ without_signal name layout.old.signals }
 {
     let _ = layout.remove(name);
 }

@@ -1,16 +1,15 @@
 //! What an edit makes of a variant's rows.
 ghost use Rattle.std.specs.Prelude.{◌≡◌, ◌≤◌, [], Err, IfOk, OnErr, OnOk, false};
 ghost use Rattle.fr_base.specs.Book.{empty_variant};
-ghost use Rattle.fr_base.specs.Tables.{empty, get, insert, remove};
+ghost use Rattle.fr_base.specs.Tables.{empty, get, insert, remove, settle};
 ghost use Rattle.fr_base.specs.declared.refusal.Refusal.TheVariants.{Unavailable};
-ghost use Rattle.fr_world.specs.Amends.{frame_edited};
-ghost use Rattle.fr_world.specs.Changes.{reframed};
-ghost use Rattle.fr_cli.specs.Applied.{frames_edited, frames_of, grants_of, variant_edited};
+ghost use Rattle.fr_base.specs.Step.{frame_after};
+ghost use Rattle.fr_cli.specs.Applied.{NeedsFrame, frames_of, grants_of, variant_edited};
 ghost use Rattle.fr_cli.specs.Plans.{holder_of, variant_of};
 
 use crate::apply::frame::change_frame;
 use crate::plan::{Holder, Owned, Plan};
-use fr_base::{Channel, Name, Refusal, Slot};
+use fr_base::{Change, Channel, FrameChange, Name, Refusal, Slot};
 use fr_layout::Layout;
 use fr_world::{ChannelSlot, Edit, PageFrame};
 use std::alloc::{AllocError, Global};
@@ -47,7 +46,7 @@ impl Plan {
 
     /// Makes the edit of the variant's rows, under a payload of so many words. `Unavailable` where
     /// memory is refused or a signal cannot stand with the others, which changes nothing.
-    #[tactic(auto, unfolding(crate::specs::Applied::variant_edited))]
+    #[tactic(auto, unfolding(crate::specs::Applied::variant_edited, fr_base::specs::Step::changed, fr_base::specs::Step::grants_after, fr_base::specs::Step::frames_after))]
     pub(crate) fn change(&mut self, alloc: Global, words: u32, edit: &Edit) -> Result<(), Refusal>
         requires { words ≤ 127 }
         ensures ok { OnOk result (variant_of self.new ≡ variant_edited edit.now (variant_of self.old)) }
@@ -58,87 +57,68 @@ impl Plan {
                 self.released = true;
                 Ok(())
             }
-            Edit::PutGrant {
-                slot,
-                channel,
+            Edit::Rows {
                 supplier,
-                node,
+                change,
                 ..
-            } => put_grant(
-                &mut self.grants,
-                at(*slot, *channel),
-                Holder {
-                    supplier: *supplier,
-                    node: *node,
-                },
-            ),
-            Edit::EndGrant { slot, channel, .. } => {
-                end_grant(&mut self.grants, at(*slot, *channel));
-                Ok(())
-            }
-            _ => self.change_frames(alloc, words, edit),
+            } => match change {
+                Change::Grant {
+                    slot,
+                    channel,
+                    node,
+                } => {
+                    let holder = Holder {
+                        supplier: *supplier,
+                        node: *node,
+                    };
+                    put_grant(&mut self.grants, at(*slot, *channel), holder)
+                }
+                Change::Revoke { slot, channel } => {
+                    end_grant(&mut self.grants, at(*slot, *channel));
+                    Ok(())
+                }
+                Change::Frame { frame, change } => {
+                    self.change_frame(alloc, words, owned(supplier, frame), change)
+                }
+            },
+            Edit::NewVariant { .. } | Edit::NewNode { .. } | Edit::KeepImport { .. } => Ok(()),
         }
     }
 
-    // Makes the edit, if it is one of the variant's frames.
-    #[tactic(auto, unfolding(crate::specs::Applied::frames_edited))]
-    fn change_frames(&mut self, alloc: Global, words: u32, edit: &Edit) -> Result<(), Refusal>
+    // Makes the change of the frame.
+    #[tactic(auto, unfolding(fr_base::specs::Step::frame_after, fr_base::specs::Tables::settle))]
+    fn change_frame(
+        &mut self,
+        alloc: Global,
+        words: u32,
+        key: Owned,
+        change: &FrameChange,
+    ) -> Result<(), Refusal>
         requires { words ≤ 127 }
-        ensures ok { OnOk result (variant_of self.new ≡ frames_edited edit.now (variant_of self.old)) }
+        ensures ok { OnOk result (variant_of self.new ≡ record (variant_of self.old) { frames = settle (variant_of self.old).frames (key.supplier, key.name) (frame_after change.now (get (variant_of self.old).frames (key.supplier, key.name))) }) }
         ensures err { OnErr result ((variant_of self.new ≡ variant_of self.old) × (result ≡ Err Unavailable)) }
     {
-        match edit {
-            Edit::NewFrame {
-                supplier,
-                frame,
-                node,
-                ..
-            } => new_frame(
-                &mut self.frames,
-                alloc,
-                words,
-                owned(supplier, frame),
-                *node,
-            ),
-            Edit::EndFrame {
-                supplier,
-                frame,
-                ..
-            } => {
-                end_frame(&mut self.frames, owned(supplier, frame));
+        match change {
+            FrameChange::Add { node } => new_frame(&mut self.frames, alloc, words, key, *node),
+            FrameChange::Drop => {
+                end_frame(&mut self.frames, key);
                 Ok(())
             }
-            Edit::PutPlacement {
-                supplier,
-                frame,
-                ..
-            }
-            | Edit::EndPlacement {
-                supplier,
-                frame,
-                ..
-            }
-            | Edit::PutSignal {
-                supplier,
-                frame,
-                ..
-            }
-            | Edit::EndSignal {
-                supplier,
-                frame,
-                ..
-            } => self.change_frame(owned(supplier, frame), edit),
-            _ => Ok(()),
+            FrameChange::Place(_)
+            | FrameChange::Unplace(_)
+            | FrameChange::AddSignal(_)
+            | FrameChange::DropSignal(_) => self.change_there(key, change),
         }
     }
 
-    // Makes the edit of the frame's rows, if the frame is there.
-    fn change_frame(&mut self, key: Owned, edit: &Edit) -> Result<(), Refusal>
-        ensures ok { OnOk result (variant_of self.new ≡ reframed (variant_of self.old) (key.supplier, key.name) (frame_edited edit.now) (get (variant_of self.old).frames (key.supplier, key.name))) }
+    // Makes the change of the frame's rows, if the frame is there.
+    fn change_there(&mut self, key: Owned, change: &FrameChange) -> Result<(), Refusal>
+        requires { NeedsFrame change.now }
+        ensures ok { OnOk result (variant_of self.new ≡ record (variant_of self.old) { frames = settle (variant_of self.old).frames (key.supplier, key.name) (frame_after change.now (get (variant_of self.old).frames (key.supplier, key.name))) }) }
         ensures err { OnErr result ((variant_of self.new ≡ variant_of self.old) × (result ≡ Err Unavailable)) }
     {
         match self.frames.get_mut(&key) {
-            Some(frame) => change_frame(frame, edit),
+            Some(frame) => change_frame(frame, change),
             None => Ok(()),
         }
     }
@@ -169,10 +149,8 @@ fn put_grant(
     ensures ok { OnOk result (grants_of grants.new.entries ≡ insert (grants_of grants.old.entries) (at.slot, at.channel) (holder_of holder)) }
     ensures err { OnErr result ((grants.new.entries ≡ grants.old.entries) × (result ≡ Err Unavailable)) }
 {
-    match grants.insert(at, holder) {
-        Ok(_) => Ok(()),
-        Err(_) => Err(Refusal::Unavailable),
-    }
+    grants.insert(at, holder)?;
+    Ok(())
 }
 
 // Nobody has slot and channel.
@@ -203,10 +181,8 @@ fn new_frame(
         placements: BTreeSet::new(alloc),
         layout: Layout::new(alloc, words),
     };
-    match frames.insert(key, frame) {
-        Ok(_) => Ok(()),
-        Err(_) => Err(Refusal::Unavailable),
-    }
+    frames.insert(key, frame)?;
+    Ok(())
 }
 
 // The frame is gone, with its placements and signals.

@@ -1,3 +1,4 @@
+//! What a query of frames shows.
 ghost use Rattle.std.specs.Prelude.{◌≡◌, IfOk};
 ghost use Rattle.fr_base.specs.Queries.{frames_of, seen_frames};
 ghost use Rattle.fr_cli.specs.Plans.{variant_of};
@@ -15,7 +16,7 @@ impl Plan {
         alloc: Global,
         actor: &Actor,
     ) -> Result<Rows<FrameRow>, AllocError>
-        ensures { IfOk result (λ rows. rows ≡ frames_of (seen_frames actor.now (variant_of self.now))) }
+        ensures { IfOk result (λ rows. rows ≡ frames_of (seen_frames actor.now (variant_of self.now).frames)) }
     {
         let mut rows = Rows::new(alloc);
         for (key, frame) in self.frames.iter() {

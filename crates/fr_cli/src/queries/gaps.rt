@@ -1,3 +1,4 @@
+//! What a query of gaps shows.
 ghost use Rattle.std.specs.Prelude.{◌≡◌, IfOk};
 ghost use Rattle.fr_base.specs.Queries.{gaps_of, seen_frames};
 ghost use Rattle.fr_cli.specs.Fitting.{AllFitting};
@@ -18,7 +19,7 @@ impl Plan {
         actor: &Actor,
     ) -> Result<Rows<GapRow>, AllocError>
         requires fitting { AllFitting params.now (variant_of self.now) }
-        ensures { IfOk result (λ rows. rows ≡ gaps_of params.now (seen_frames actor.now (variant_of self.now))) }
+        ensures { IfOk result (λ rows. rows ≡ gaps_of params.now (seen_frames actor.now (variant_of self.now).frames)) }
     {
         let mut rows = Rows::new(alloc);
         for (key, frame) in self.frames.iter() {

@@ -1,3 +1,4 @@
+//! What a query of grants shows.
 ghost use Rattle.std.specs.Prelude.{◌≡◌, IfOk};
 ghost use Rattle.fr_base.specs.Queries.{grants_of, seen_grants};
 ghost use Rattle.fr_cli.specs.Plans.{variant_of};
@@ -14,7 +15,7 @@ impl Plan {
         alloc: Global,
         actor: &Actor,
     ) -> Result<Rows<GrantRow>, AllocError>
-        ensures { IfOk result (λ rows. rows ≡ grants_of (seen_grants actor.now (variant_of self.now))) }
+        ensures { IfOk result (λ rows. rows ≡ grants_of (seen_grants actor.now (variant_of self.now).grants)) }
     {
         let mut rows = Rows::new(alloc);
         for (at, holder) in self.grants.iter() {

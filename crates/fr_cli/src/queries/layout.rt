@@ -1,7 +1,9 @@
+//! What a query of a frame's layout shows.
 ghost use Rattle.std.specs.Prelude.{◌≡◌, ◌==◌, ◌&&◌, IfOk};
 ghost use Rattle.std.specs.List.{list_any};
-ghost use Rattle.fr_base.specs.Cluster.{same_text};
-ghost use Rattle.fr_base.specs.Queries.{named, seen_frames, sees, signals_of};
+ghost use Rattle.fr_base.specs.Names.{same_text};
+ghost use Rattle.fr_base.specs.Queries.{named, seen_frames, signals_of};
+ghost use Rattle.fr_cli.specs.Seen.{sees};
 ghost use Rattle.fr_base.specs.Tables.{len};
 ghost use Rattle.fr_cli.specs.Plans.{variant_of};
 
@@ -15,7 +17,7 @@ use std::collections::btree_map::Keys;
 impl Plan {
     /// Whether the actor sees no frame of this name.
     pub(crate) fn hides_frame(&self, actor: &Actor, name: Name) -> bool
-        ensures { result ≡ (len (named name (seen_frames actor.now (variant_of self.now))) == 0) }
+        ensures { result ≡ (len (named name (seen_frames actor.now (variant_of self.now).frames)) == 0) }
     {
         !is_any_shown(self.frames.keys(), actor, name)
     }
@@ -27,7 +29,7 @@ impl Plan {
         actor: &Actor,
         name: Name,
     ) -> Result<Rows<SignalRow>, AllocError>
-        ensures { IfOk result (λ rows. rows ≡ signals_of (named name (seen_frames actor.now (variant_of self.now)))) }
+        ensures { IfOk result (λ rows. rows ≡ signals_of (named name (seen_frames actor.now (variant_of self.now).frames))) }
     {
         let mut rows = Rows::new(alloc);
         for (key, frame) in self.frames.iter() {
@@ -53,7 +55,6 @@ fn is_shown(key: &Owned, actor: &Actor, name: Name) -> bool
     sees(actor, &key.supplier) && is_same(key.name, name)
 }
 
-#[tactic(auto, using(fr_base::proofs::ActorsLemmas::same_bytes))]
 fn is_same(name: Name, other: Name) -> bool
     ensures { result ≡ same_text name other }
 {

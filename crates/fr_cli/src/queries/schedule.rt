@@ -1,3 +1,4 @@
+//! What a query of the schedule shows.
 ghost use Rattle.std.specs.Prelude.{◌≡◌, IfOk};
 ghost use Rattle.fr_base.specs.Book.{placements_of};
 ghost use Rattle.fr_base.specs.Queries.{seen_frames, sendings_of};
@@ -7,7 +8,7 @@ ghost use Rattle.fr_cli.specs.Plans.{variant_of};
 use super::sees;
 use crate::plan::Plan;
 use fr_base::{Actor, Params, Rows, Sending};
-use fr_world::{Placed, push_frame, schedule};
+use fr_world::{FrameTriggering, push_frame, schedule};
 use std::alloc::{AllocError, Global};
 
 impl Plan {
@@ -19,15 +20,15 @@ impl Plan {
         params: &Params,
         actor: &Actor,
     ) -> Result<Rows<Sending>, AllocError>
-        ensures { IfOk result (λ rows. rows ≡ sendings_of params.now (seen_frames actor.now (variant_of self.now))) }
+        ensures { IfOk result (λ rows. rows ≡ sendings_of params.now (seen_frames actor.now (variant_of self.now).frames)) }
     {
         let placed = self.placed(alloc, actor)?;
         schedule(alloc, params, &placed)
     }
 
     // The placements of the frames that the actor sees.
-    fn placed(&self, alloc: Global, actor: &Actor) -> Result<Vec<Placed>, AllocError>
-        ensures { IfOk result (λ placed. filled placed.items ≡ placements_of (seen_frames actor.now (variant_of self.now))) }
+    fn placed(&self, alloc: Global, actor: &Actor) -> Result<Vec<FrameTriggering>, AllocError>
+        ensures { IfOk result (λ placed. filled placed.items ≡ placements_of (seen_frames actor.now (variant_of self.now).frames)) }
     {
         let mut placed = Vec::new(alloc);
         for (key, frame) in self.frames.iter() {

@@ -1,115 +1,228 @@
+//! Runs of a script from readers and to writers that are interrupted or fail. No contract says which of
+//! their errors are tried again, and how often.
+
 use super::run_script;
 use crate::script_fault::ScriptFault;
-use fr_text::ConfigFault;
-use std::alloc::{AllocError, Global};
-use std::process::Abort;
+use std::alloc::Global;
+use std::io;
+use std::io::{ErrorKind, Read, Write};
 
-mod bounds;
-mod powertrain;
-mod refused;
-mod reports;
-mod rows;
-mod signals;
-mod streams;
-mod variants;
-
-const CLUSTER: &str = r#"channels = "AB"
-static_slots = 4
-slot_macroticks = 10
-dynamic_macroticks = 40
-symbol_macroticks = 10
-idle_macroticks = 10
-macroticks_per_cycle = 100
+const SCRIPT: &[u8] = br#"channels = "AB"
+static_slots = 2
+slot_macroticks = 1
+dynamic_macroticks = 0
+symbol_macroticks = 0
+idle_macroticks = 1
+macroticks_per_cycle = 3
 payload_words = 1
 integrator = "integrator1"
-
 [suppliers]
 s1 = "supplier01"
-s2 = "supplier02"
+---
+integrator1 {"do":"open_variant","variant":"v1"}
+integrator1 {"do":"add_node","supplier":"s1","node":"n1"}
+supplier01 {"do":"add_frame","variant":"v1","frame":"f1","node":"n1"}
+supplier01 {"do":"frames","variant":"v1"}
 "#;
 
-const DONE: &str = r#"{"ok":"done"}"#;
+const ANSWERS: &[u8] = br#"{"ok":"done"}
+{"ok":"done"}
+{"ok":"done"}
+{"lines":["FRAME f1 n1"],"ok":"frames"}
+"#;
 
-const OPEN_V1: &str = r#"integrator1 {"do":"open_variant","variant":"v1"}"#;
+/// The most bytes of one read or write.
+const PIECE: usize = 7;
 
-const NODE_N1: &str = r#"integrator1 {"do":"add_node","supplier":"s1","node":"n1"}"#;
+/// Kinds of errors after which nothing is tried again.
+const FAILURES: [ErrorKind; 9] = [
+    ErrorKind::BrokenPipe,
+    ErrorKind::ConnectionReset,
+    ErrorKind::IsADirectory,
+    ErrorKind::Other,
+    ErrorKind::PermissionDenied,
+    ErrorKind::StorageFull,
+    ErrorKind::TimedOut,
+    ErrorKind::UnexpectedEof,
+    ErrorKind::WouldBlock,
+];
 
-const GRANT_1_A: &str =
-    r#"integrator1 {"do":"grant","variant":"v1","slot":1,"channel":"A","supplier":"s1","node":"n1"}"#;
-
-const FRAME_F1: &str = r#"supplier01 {"do":"add_frame","variant":"v1","frame":"f1","node":"n1"}"#;
-
-const PLACE_F1: &str =
-    r#"supplier01 {"do":"place","variant":"v1","frame":"f1","slot":1,"channels":"A","base":0,"repetition":64}"#;
-
-const SCHEDULE: &str = r#"supplier01 {"do":"schedule","variant":"v1"}"#;
-
-const F1_IN_CYCLE_0: &str = r#"{"lines":["00 0001 A f1 n1"],"ok":"schedule"}"#;
-
-/// A variant, a node, a grant and a frame.
-const BASE: [&str; 4] = [OPEN_V1, NODE_N1, GRANT_1_A, FRAME_F1];
-
-/// The requests of a script, and the answers that are to be written.
+/// A reader of the script that has an error, once, before its last bytes.
 #[derive(Drop)]
-struct Sheet {
-    requests: String,
-    answers: String,
+struct Source {
+    rest: &'static [u8],
+    error: Option<ErrorKind>,
 }
 
-impl Sheet {
-    /// Begins with these requests, each of which is done.
-    fn new(alloc: Global, requests: &[&str]) -> Result<Sheet, AllocError> {
-        let mut sheet = Sheet {
-            requests: String::new(alloc),
-            answers: String::new(alloc),
-        };
-        for request in requests {
-            sheet.ask(request, DONE)?;
+impl Source {
+    fn new(error: Option<ErrorKind>) -> Source {
+        Source {
+            rest: SCRIPT,
+            error,
         }
-        Ok(sheet)
     }
+}
 
-    fn ask(&mut self, request: &str, answer: &str) -> Result<(), AllocError> {
-        self.requests.push_str(request)?;
-        self.requests.push('\n')?;
-        self.answers.push_str(answer)?;
-        self.answers.push('\n')
-    }
-
-    /// What stands before and after each word make a request of it.
-    fn ask_each(
-        &mut self,
-        before: &str,
-        words: &[(&str, &str)],
-        after: &str,
-    ) -> Result<(), AllocError> {
-        for (word, answer) in words {
-            self.requests.push_str(before)?;
-            self.requests.push_str(word)?;
-            self.ask(after, answer)?;
+impl Read for Source {
+    fn read(&mut self, buf: &mut [u8]) -> io::Result<usize> {
+        if self.rest.len() < PIECE {
+            if let Some(kind) = self.error.take() {
+                return Err(io::Error::from(kind));
+            }
         }
-        Ok(())
-    }
-
-    /// The script of these requests, on the cluster of two suppliers.
-    fn script(&self, alloc: Global) -> Result<String, AllocError> {
-        let requests = self.requests.as_str();
-        format!(in alloc; "{CLUSTER}---\n{requests}")
+        let n = self.rest.len().min(buf.len()).min(PIECE);
+        let (given, rest) = self.rest.split_at(n);
+        buf[..n].copy_from_slice(given);
+        self.rest = rest;
+        Ok(n)
     }
 }
 
-/// What the run of a script writes, and how it ends.
-fn run(alloc: Global, script: &[u8]) -> (Vec<u8>, Result<(), ScriptFault>) {
-    let mut written = Vec::new(alloc);
-    let mut reader = script;
-    let done = run_script(alloc, &mut reader, &mut written);
-    (written, done)
+/// A reader of line feeds, one a read, that is interrupted at every other read until its end.
+#[derive(Drop)]
+struct Feeds {
+    reads: u32,
+    end: u32,
 }
 
-fn check(rt: &(impl Abort + AllocGlobal), sheet: &Sheet) -> Result<(), AllocError> {
-    let script = sheet.script(rt.alloc())?;
-    let (written, done) = run(rt.alloc(), script.as_bytes());
+impl Read for Feeds {
+    fn read(&mut self, buf: &mut [u8]) -> io::Result<usize> {
+        self.reads = self.reads.saturating_add(1);
+        if self.reads >= self.end || buf.is_empty() {
+            return Ok(0);
+        }
+        if self.reads % 2 == 0 {
+            return Err(io::Error::from(ErrorKind::Interrupted));
+        }
+        buf[0] = b'\n';
+        Ok(1)
+    }
+}
+
+/// A writer that keeps what it took.
+#[derive(Drop)]
+struct Sink {
+    taken: Vec<u8>,
+    /// How many writes are interrupted before each line, and how many more before this one.
+    interruptions: u32,
+    waits: u32,
+    /// The error that it has, once, before its last bytes; as `WriteZero`, that it takes nothing.
+    error: Option<ErrorKind>,
+    /// What a flush answers.
+    flush_error: Option<ErrorKind>,
+}
+
+impl Sink {
+    fn new(alloc: Global) -> Sink {
+        Sink {
+            taken: Vec::new(alloc),
+            interruptions: 0,
+            waits: 0,
+            error: None,
+            flush_error: None,
+        }
+    }
+}
+
+impl Write for Sink {
+    fn write(&mut self, buf: &[u8]) -> io::Result<usize> {
+        if self.waits > 0 {
+            self.waits -= 1;
+            return Err(io::Error::from(ErrorKind::Interrupted));
+        }
+        if buf.len() < PIECE {
+            match self.error.take() {
+                Some(ErrorKind::WriteZero) => return Ok(0),
+                Some(kind) => return Err(io::Error::from(kind)),
+                None => {}
+            }
+        }
+        let piece = &buf[..buf.len().min(PIECE)];
+        self.taken.extend_from_slice(piece)?;
+        if piece.ends_with(b"\n") {
+            self.waits = self.interruptions;
+        }
+        Ok(piece.len())
+    }
+
+    fn flush(&mut self) -> io::Result<()> {
+        match self.flush_error {
+            Some(kind) => Err(io::Error::from(kind)),
+            None => Ok(()),
+        }
+    }
+}
+
+#[test]
+fn office_succeeds_where_memory_is_ample(rt: HostRuntime) {
+    let mut writer = Sink::new(rt.alloc());
+    let done = run_script(rt.alloc(), &mut Source::new(None), &mut writer);
     assert_eq!(rt; done, Ok(()));
-    assert_eq!(rt; str::from_utf8(&written), Ok(sheet.answers.as_str()));
-    Ok(())
+    assert_eq!(rt; writer.taken.as_slice(), ANSWERS);
+}
+
+#[test]
+fn only_an_interrupted_read_is_tried_again(rt: HostRuntime) {
+    let mut writer = Sink::new(rt.alloc());
+    let mut reader = Source::new(Some(ErrorKind::Interrupted));
+    assert_eq!(rt; run_script(rt.alloc(), &mut reader, &mut writer), Ok(()));
+    assert_eq!(rt; writer.taken.as_slice(), ANSWERS);
+    for kind in FAILURES {
+        let mut writer = Sink::new(rt.alloc());
+        let done = run_script(rt.alloc(), &mut Source::new(Some(kind)), &mut writer);
+        assert_eq!(rt; done, Err(ScriptFault::ReadFailed), "{kind:?}");
+        assert!(rt; writer.taken.is_empty());
+    }
+}
+
+#[test]
+fn a_script_takes_at_most_twenty_million_reads(rt: HostRuntime) {
+    let cases = [
+        (20_000_000, ScriptFault::NoSeparator),
+        (20_000_001, ScriptFault::TooManyReads),
+    ];
+    for (end, fault) in cases {
+        let mut reader = Feeds { reads: 0, end };
+        let done = run_script(rt.alloc(), &mut reader, &mut Sink::new(rt.alloc()));
+        assert_eq!(rt; done, Err(fault));
+        assert_eq!(rt; reader.reads, 20_000_000);
+    }
+}
+
+#[test]
+fn only_an_interrupted_write_is_tried_again(rt: HostRuntime) {
+    let mut writer = Sink::new(rt.alloc());
+    writer.error = Some(ErrorKind::Interrupted);
+    let done = run_script(rt.alloc(), &mut Source::new(None), &mut writer);
+    assert_eq!(rt; done, Ok(()));
+    assert_eq!(rt; writer.taken.as_slice(), ANSWERS);
+    for kind in FAILURES.iter().chain([ErrorKind::WriteZero].iter()) {
+        let mut writer = Sink::new(rt.alloc());
+        writer.error = Some(*kind);
+        let done = run_script(rt.alloc(), &mut Source::new(None), &mut writer);
+        assert_eq!(rt; done, Err(ScriptFault::WriteFailed), "{kind:?}");
+        assert!(rt; writer.taken.len() < ANSWERS.len());
+    }
+    let mut writer = Sink::new(rt.alloc());
+    writer.flush_error = Some(ErrorKind::StorageFull);
+    let done = run_script(rt.alloc(), &mut Source::new(None), &mut writer);
+    assert_eq!(rt; done, Err(ScriptFault::WriteFailed));
+}
+
+#[test]
+fn the_retries_of_a_run_are_a_thousand(rt: HostRuntime) {
+    // The interrupted writes before each of the four lines, how the run ends, and how many bytes it wrote.
+    let front = ANSWERS.len() - b"{\"lines\":[\"FRAME f1 n1\"],\"ok\":\"frames\"}\n".len();
+    let cases = [
+        (250, Ok(()), ANSWERS.len()),
+        (251, Err(ScriptFault::WriteFailed), front),
+        (u32::MAX, Err(ScriptFault::WriteFailed), 0),
+    ];
+    for (interruptions, ending, written) in cases {
+        let mut writer = Sink::new(rt.alloc());
+        (writer.interruptions, writer.waits) = (interruptions, interruptions);
+        let done = run_script(rt.alloc(), &mut Source::new(None), &mut writer);
+        assert_eq!(rt; done, ending);
+        assert_eq!(rt; writer.taken.as_slice(), &ANSWERS[..written]);
+    }
 }

@@ -1,8 +1,6 @@
-use super::table::ROWS;
+//! What the contracts leave open: bytes packed by a tool that is not ours, and that calls succeed.
 use super::*;
-use crate::laws::unpack_undoes_pack;
-use fr_base::{BadSignal, Order};
-use std::process::Abort;
+use fr_base::Order;
 use std::test::Fail;
 
 fn signal(name: &str, start: u32, length: u32, order: Order) -> Result<Signal, Fail> {
@@ -10,219 +8,83 @@ fn signal(name: &str, start: u32, length: u32, order: Order) -> Result<Signal, F
     Ok(Signal::new(name, start, length, order)?)
 }
 
-/// One word with `y`, big, and `x`, little, which together have all its bits.
-fn both(alloc: Global) -> Result<Layout, Fail> {
-    let mut layout = Layout::new(alloc, 1);
-    layout.add(signal("x", 4, 8, Order::Little)?)?;
-    layout.add(signal("y", 3, 8, Order::Big)?)?;
-    Ok(layout)
-}
+/// A signal alone in a payload of ten bytes: its start, length and value, and the first eight and the last
+/// two of those bytes, each as a number whose first byte is the most significant one.
+type Packed = (u32, u32, u64, u64, u16);
 
-#[test]
-fn layout_and_text_calls_succeed(rt: HostRuntime) -> Result<(), Fail> {
-    let mut layout = Layout::new(rt.alloc(), 127);
-    assert_eq!(rt; layout.words(), 127);
-    let last = signal("last", 2031, 1, Order::Little)?;
-    assert_eq!(rt; layout.admits(&last), Ok(()));
-    layout.add(last)?;
-    assert_eq!(rt; layout.signals(), [last].as_slice());
-    let bytes = layout.pack(rt.alloc(), &[1])?;
-    assert_eq!(rt; bytes.len(), 254);
-    assert_eq!(rt; bytes.last(), Some(&0x80));
-    assert_eq!(rt;
-        layout.unpack(rt.alloc(), &bytes)?.as_slice(),
-        [1].as_slice()
-    );
-    layout.remove(last.name())?;
-    assert_eq!(rt; layout.signals().len(), 0);
-    unpack_undoes_pack();
-    Ok(())
-}
+/// Packed by bitstruct 8.15.1 (Debian's package python3-bitstruct), of which each payload is a number whose
+/// fields follow one another from its most significant bit on. In little order it has the bits after the
+/// signal first, and its bytes are turned round: `pack("p57u8p15", value)[::-1]` for start 15 and length 8.
+static LITTLE: [Packed; 7] = [
+    (0, 1, 0x1, 0x0100000000000000, 0x0000),
+    (15, 8, 0xB5, 0x00805A0000000000, 0x0000),
+    (0, 13, 0x16B9, 0xB916000000000000, 0x0000),
+    (7, 14, 0x2D71, 0x80B8160000000000, 0x0000),
+    (8, 27, 0x5AE1CD3, 0x00D31CAE05000000, 0x0000),
+    (7, 62, 0x2D70E69B4BE07915, 0x808A3CF0A54D73B8, 0x1600),
+    (15, 64, 0xB5C39A6D2F81E457, 0x00802BF2C09736CD, 0xE15A),
+];
 
-#[test]
-fn clone_stands_alone(rt: HostRuntime) -> Result<(), Fail> {
-    let layout = both(rt.alloc())?;
-    let mut copy = layout.clone()?;
-    assert_eq!(rt; copy.signals(), layout.signals());
-    let again = signal("z", 0, 4, Order::Little)?;
-    assert_eq!(rt; copy.admits(&again).err(), layout.admits(&again).err());
-    copy.remove(Name::read("x").ok_or("no name")?)?;
-    assert_eq!(rt; copy.signals().len(), 1);
-    assert_eq!(rt; layout.signals().len(), 2);
-    Ok(())
-}
+/// Packed by bitstruct too, with as many bits before the signal as stand before its start where each
+/// byte's most significant bit is counted first: `pack("p15u13p52", value)` for start 8 and length 13.
+static BIG: [Packed; 7] = [
+    (8, 1, 0x1, 0x0001000000000000, 0x0000),
+    (7, 8, 0xB5, 0xB500000000000000, 0x0000),
+    (8, 13, 0x16B9, 0x00016B9000000000, 0x0000),
+    (15, 14, 0x2D71, 0x00B5C40000000000, 0x0000),
+    (0, 27, 0x5AE1CD3, 0x016B8734C0000000, 0x0000),
+    (15, 62, 0x2D70E69B4BE07915, 0x00B5C39A6D2F81E4, 0x5400),
+    (7, 64, 0xB5C39A6D2F81E457, 0xB5C39A6D2F81E457, 0x0000),
+];
 
-#[test]
-fn both_orders_packed(rt: HostRuntime) -> Result<(), Fail> {
-    let alone = [
-        (signal("y", 3, 8, Order::Big)?, [0x0a, 0xb0]),
-        (signal("x", 4, 8, Order::Little)?, [0xb0, 0x0a]),
-    ];
-    for (signal, bytes) in alone {
-        let mut layout = Layout::new(rt.alloc(), 1);
-        layout.add(signal)?;
-        assert_eq!(rt;
-            layout.pack(rt.alloc(), &[171])?.as_slice(),
-            bytes.as_slice()
-        );
-    }
-    let layout = both(rt.alloc())?;
-    assert_eq!(rt;
-        layout.pack(rt.alloc(), &[171, 171])?.as_slice(),
-        [0xba, 0xba].as_slice()
-    );
-    assert_eq!(rt;
-        layout.unpack(rt.alloc(), &[0xba, 0xba])?.as_slice(),
-        [171, 171].as_slice()
-    );
-    Ok(())
-}
-
-#[test]
-fn values_refused(rt: HostRuntime) -> Result<(), Fail> {
-    let layout = both(rt.alloc())?;
-    for (values, fault) in [
-        ([256, 0].as_slice(), PackFault::TooLarge { index: 0 }),
-        ([255, 256].as_slice(), PackFault::TooLarge { index: 1 }),
-        ([171].as_slice(), PackFault::WrongCount),
-        ([256, 0, 0].as_slice(), PackFault::WrongCount),
-    ] {
-        assert_eq!(rt; layout.pack(rt.alloc(), values).err(), Some(fault));
-    }
-    assert_eq!(rt;
-        layout.unpack(rt.alloc(), &[0, 0, 0]).err(),
-        Some(PackFault::WrongLength)
-    );
-    Ok(())
-}
-
-#[test]
-fn signals_end_in_the_payload(rt: HostRuntime) -> Result<(), Fail> {
-    let word = Layout::new(rt.alloc(), 1);
-    assert_eq!(rt; word.admits(&signal("z", 15, 1, Order::Little)?), Ok(()));
-    let nothing = Layout::new(rt.alloc(), 0);
-    for (layout, start, length, order) in [
-        (&word, 15, 2, Order::Little),
-        (&word, 8, 2, Order::Big),
-        (&word, u32::MAX, 64, Order::Little),
-        (&word, u32::MAX, 64, Order::Big),
-        (&nothing, 0, 1, Order::Little),
-        (&nothing, 0, 1, Order::Big),
-    ] {
-        assert_eq!(rt;
-            layout.admits(&signal("z", start, length, order)?),
-            Err(Refusal::OutOfPayload)
-        );
-    }
-    Ok(())
-}
-
-#[test]
-fn signals_refused(rt: HostRuntime) -> Result<(), Fail> {
-    let name = Name::read("z").ok_or("no name")?;
-    for length in [0, 65] {
-        assert_eq!(rt;
-            Signal::new(name, 0, length, Order::Big).err(),
-            Some(BadSignal)
-        );
-    }
-    let mut layout = both(rt.alloc())?;
-    for (start, length, order, bit, user) in [
-        (11, 1, Order::Little, 11, "x"),
-        (0, 16, Order::Little, 0, "y"),
-        (7, 16, Order::Big, 0, "y"),
-    ] {
-        let signal = Name::read(user).ok_or("no name")?;
-        assert_eq!(rt;
-            layout.add(Signal::new(name, start, length, order)?),
-            Err(Refusal::BitTaken { bit, signal })
-        );
-    }
-    let again = signal("x", 0, 1, Order::Little)?;
-    assert_eq!(rt; layout.add(again), Err(Refusal::Exists));
-    assert_eq!(rt; layout.remove(name), Err(Refusal::NoSignal));
-    assert_eq!(rt; layout.signals().len(), 2);
-    layout.remove(again.name())?;
-    layout.add(signal("z", 4, 8, Order::Little)?)?;
-    Ok(())
+/// Whether the signal's value is packed into those bytes, and unpacked from them.
+fn is_packed(alloc: Global, order: Order, packed: &Packed) -> Result<bool, Fail> {
+    let (start, length, value, first, last) = *packed;
+    let mut layout = Layout::new(alloc, 5);
+    layout.add(signal("s", start, length, order)?)?;
+    let bytes = layout.pack(alloc, &[value])?;
+    let values = layout.unpack(alloc, &bytes)?;
+    Ok(
+        values.as_slice() == [value].as_slice()
+            && bytes.starts_with(&first.to_be_bytes())
+            && bytes.ends_with(&last.to_be_bytes()),
+    )
 }
 
 #[test]
 fn packs_as_bitstruct_does(rt: HostRuntime) -> Result<(), Fail> {
-    for (order, start, length, value, first, last) in &ROWS {
-        let mut layout = Layout::new(rt.alloc(), 5);
-        layout.add(signal("s", *start, *length, *order)?)?;
-        let bytes = layout.pack(rt.alloc(), &[*value])?;
-        assert_eq!(rt; bytes.len(), 10);
-        assert_eq!(rt; &bytes[..8], first.to_be_bytes().as_slice());
-        assert_eq!(rt; &bytes[8..], last.to_be_bytes().as_slice());
-        assert_eq!(rt;
-            layout.unpack(rt.alloc(), &bytes)?.as_slice(),
-            [*value].as_slice()
+    for packed in &LITTLE {
+        assert!(rt;
+            is_packed(rt.alloc(), Order::Little, packed)?,
+            "little {packed:?}"
+        );
+    }
+    for packed in &BIG {
+        assert!(rt;
+            is_packed(rt.alloc(), Order::Big, packed)?,
+            "big {packed:?}"
         );
     }
     Ok(())
 }
 
-/// One word with a signal of one bit at each bit of its first byte. An addition that is refused memory
-/// changes nothing, and is done again.
-fn one_byte(rt: &impl Abort, alloc: Global) -> Result<Layout, Fail> {
-    let mut layout = Layout::new(alloc, 1);
-    for (start, name) in (0..8).zip(["a", "b", "c", "d", "e", "f", "g", "h"]) {
-        let added = signal(name, start, 1, Order::Little)?;
-        let before = layout.signals().len();
-        if let Err(refusal) = layout.add(added) {
-            assert_eq!(rt; refusal, Refusal::Unavailable);
-            assert_eq!(rt; layout.signals().len(), before);
-            assert_eq!(rt; layout.admits(&added), Ok(()));
-            layout.add(added)?;
-        }
-    }
-    Ok(layout)
-}
-
-/// With any one allocation refused, what a call refuses leaves the layout as it was.
+/// With ample memory each call succeeds, up to 64 signals in 127 words.
 #[test]
-fn refused_memory_changes_nothing(rt: HostRuntime) -> Result<(), Fail> {
-    let layout = one_byte(&rt, rt.alloc())?;
-    let values = [1, 0, 1, 1, 0, 0, 0, 1];
-    let bytes = match layout.pack(rt.alloc(), &values) {
-        Ok(bytes) => bytes,
-        Err(fault) => {
-            assert_eq!(rt; fault, PackFault::NoMemory);
-            layout.pack(rt.alloc(), &values)?
-        }
-    };
-    assert_eq!(rt; bytes.as_slice(), [0x8d, 0].as_slice());
-    let again = match layout.unpack(rt.alloc(), &bytes) {
-        Ok(again) => again,
-        Err(fault) => {
-            assert_eq!(rt; fault, PackFault::NoMemory);
-            layout.unpack(rt.alloc(), &bytes)?
-        }
-    };
-    assert_eq!(rt; again.as_slice(), values.as_slice());
-    Ok(())
-}
-
-#[test]
-fn sixty_four_signals_are_the_limit(rt: HostRuntime) -> Result<(), Fail> {
-    let mut layout = Layout::new(rt.alloc(), 5);
-    for start in 0..64 {
-        let text = format!(in rt.alloc(); "s{start}")?;
-        layout.add(signal(&text, start, 1, Order::Little)?)?;
+fn layout_and_text_calls_succeed(rt: HostRuntime) -> Result<(), Fail> {
+    let mut layout = Layout::new(rt.alloc(), 127);
+    for index in 0..64 {
+        let name = format!(in rt.alloc(); "s{index}")?;
+        let added = signal(&name, 31 * index, 31, Order::Little)?;
+        assert_eq!(rt; layout.admits(&added), Ok(()));
+        layout.add(added)?;
     }
-    assert_eq!(rt;
-        layout.add(signal("s64", 64, 1, Order::Little)?),
-        Err(Refusal::Limit)
-    );
-    assert_eq!(rt;
-        layout.add(signal("s0", 64, 1, Order::Little)?),
-        Err(Refusal::Exists)
-    );
-    assert_eq!(rt;
-        layout.add(signal("s65", 80, 1, Order::Little)?),
-        Err(Refusal::Limit)
-    );
+    let mut values = [0x2aaa_aaaa; 64];
+    values[63] = 0x7fff_ffff;
+    let bytes = layout.pack(rt.alloc(), &values)?;
+    assert_eq!(rt; bytes.len(), 254);
+    let unpacked = layout.clone()?.unpack(rt.alloc(), &bytes)?;
+    assert_eq!(rt; unpacked.as_slice(), values.as_slice());
+    layout.remove(Name::read("s63").ok_or("no name")?)?;
+    assert_eq!(rt; layout.signals().len(), 63);
     Ok(())
 }

@@ -6,7 +6,7 @@ ghost use Rattle.std.specs.List.Sorted.{IsNonDecreasingBy};
 ghost use Rattle.fr_world.specs.Pages.{AreApart};
 ghost use Rattle.fr_world.specs.Building.{meet, meets_next};
 
-use crate::spot::first_shared;
+use crate::cycle_channel::first_shared;
 use fr_base::Placement;
 
 /// Whether no cell lies in two of the placements, which may stand in any order.

@@ -4,11 +4,11 @@ ghost use Rattle.fr_base.specs.Queries.{placements_in};
 ghost use Rattle.fr_world.specs.Pages.{frame_data, frame_of};
 
 use crate::page::{PageFrame, PageRows};
-use fr_base::Placement;
-use std::alloc::{AllocError, Global};
+use fr_base::{NoMemory, Placement};
+use std::alloc::Global;
 
 /// The placements of all the frames, frame by frame.
-pub(super) fn placements_of(alloc: Global, rows: &PageRows) -> Result<Vec<Placement>, AllocError>
+pub(super) fn placements_of(alloc: Global, rows: &PageRows) -> Result<Vec<Placement>, NoMemory>
     ensures { IfOk result (λ placements. placements.items ≡ flat_map (λ e. placements_in (frame_of (frame_data e.1))) rows.now.frames.entries) }
 {
     let mut all = Vec::new(alloc);
@@ -19,7 +19,7 @@ pub(super) fn placements_of(alloc: Global, rows: &PageRows) -> Result<Vec<Placem
 }
 
 // Appends the frame's placements.
-fn append(all: &mut Vec<Placement>, frame: &PageFrame) -> Result<(), AllocError>
+fn append(all: &mut Vec<Placement>, frame: &PageFrame) -> Result<(), NoMemory>
     ensures { OnOk result (all.new.items ≡ all.old.items ++ placements_in (frame_of (frame_data frame.now))) }
 {
     for placement in &frame.placements {

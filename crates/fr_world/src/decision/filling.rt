@@ -5,7 +5,7 @@ ghost use Rattle.fr_base.specs.Cells.{cells_of};
 ghost use Rattle.fr_base.specs.Schedule.{first_taken};
 ghost use Rattle.fr_base.specs.declared.refusal.Refusal.TheVariants.{Unavailable};
 ghost use Rattle.fr_world.specs.Decisions.{filled_by, taken_by};
-ghost use Rattle.fr_world.specs.Pages.{AreApart, frame_data, frame_of, page_of};
+ghost use Rattle.fr_world.specs.Pages.{AreApart, frame_data, frame_of, own_rows_of};
 
 use crate::occupancy::{Occupancy, TakenCell};
 use crate::page::{Page, PageFrame};
@@ -20,7 +20,7 @@ pub(super) fn first_taken<O: Occupancy>(
 ) -> Result<Option<TakenCell>, Refusal>
     requires { O.pairs occupancy.old ≡ [] }
     ensures ok { IfOk result
-        (λ taken. taken ≡ option_map taken_by (first_taken (schedule_of (page_of page.now).frames) (cells_of placement.now))) }
+        (λ taken. taken ≡ option_map taken_by (first_taken (schedule_of (own_rows_of page.now).frames) (cells_of placement.now))) }
     ensures err { IfErr result (λ e. e ≡ Unavailable) }
 {
     for (name, frame) in page.frames() {

@@ -1,26 +1,16 @@
-//! Whether a frame, or the end of one, is refused.
+//! Whether a new frame, or the end of one, is refused.
 ghost use Rattle.std.specs.Prelude.{◌≡◌};
-ghost use Rattle.fr_world.specs.Decisions.{admitted};
-ghost use Rattle.fr_world.specs.Pages.{page_of};
+ghost use Rattle.fr_world.specs.Decisions.{admits_alone};
+ghost use Rattle.fr_world.specs.Pages.{own_rows_of};
 
 use super::rows::{frame_named, has_node};
-use crate::edit::Edit;
 use crate::page::Page;
-use fr_base::{Command, Name, Refusal};
+use fr_base::{Change, FrameChange, MAX_FRAMES, Name, Refusal};
 
-/// The most frames that a supplier has in a variant.
-const MAX_FRAMES: usize = 256;
-
-/// The new frame that the node sends, or `NoNode`, `Exists`, `Limit`.
+/// `NoNode`, `Exists` or `Limit`, where one refuses a new frame that the node sends.
 #[tactic(auto, unfolding(crate::proofs::DecideRows::decide_open))]
-pub(super) fn add_frame(
-    page: &Page,
-    variant: Name,
-    frame: Name,
-    node: Name,
-) -> Result<Edit, Refusal>
-    ensures { result ≡ admitted (page_of page.now) (Command.AddFrame variant frame node)
-        (Edit.NewFrame variant page.now.supplier frame node) }
+pub(super) fn admit_frame(page: &Page, frame: Name, node: Name) -> Result<(), Refusal>
+    ensures { result ≡ admits_alone (own_rows_of page.now) (Change.Frame frame (FrameChange.Add node)) }
 {
     if !has_node(page, node) {
         return Err(Refusal::NoNode);
@@ -31,26 +21,16 @@ pub(super) fn add_frame(
     if page.frames().len() >= MAX_FRAMES {
         return Err(Refusal::Limit);
     }
-    Ok(Edit::NewFrame {
-        variant,
-        supplier: page.supplier(),
-        frame,
-        node,
-    })
+    Ok(())
 }
 
-/// The end of the frame, or `NoFrame`.
+/// `NoFrame`, where it refuses the end of the frame.
 #[tactic(auto, unfolding(crate::proofs::DecideRows::decide_open))]
-pub(super) fn drop_frame(page: &Page, variant: Name, frame: Name) -> Result<Edit, Refusal>
-    ensures { result ≡ admitted (page_of page.now) (Command.DropFrame variant frame)
-        (Edit.EndFrame variant page.now.supplier frame) }
+pub(super) fn admit_drop(page: &Page, frame: Name) -> Result<(), Refusal>
+    ensures { result ≡ admits_alone (own_rows_of page.now) (Change.Frame frame FrameChange.Drop) }
 {
     if frame_named(page, frame).is_none() {
         return Err(Refusal::NoFrame);
     }
-    Ok(Edit::EndFrame {
-        variant,
-        supplier: page.supplier(),
-        frame,
-    })
+    Ok(())
 }

@@ -3,56 +3,38 @@ ghost use Rattle.std.specs.Prelude.{◌≡◌};
 ghost use Rattle.std.specs.List.{list_any};
 ghost use Rattle.fr_base.specs.Step.{fills, in_use};
 ghost use Rattle.fr_base.specs.Queries.{placements_in};
-ghost use Rattle.fr_world.specs.Decisions.{admitted};
-ghost use Rattle.fr_world.specs.Pages.{frame_data, frame_of, page_of};
+ghost use Rattle.fr_world.specs.Decisions.{admits_alone};
+ghost use Rattle.fr_world.specs.Pages.{frame_data, frame_of, own_rows_of};
 
 use super::rows::{has_node, holder};
-use crate::edit::Edit;
 use crate::page::{Page, PageFrame};
-use crate::same::is_same;
-use fr_base::{Channel, Command, Name, Placement, Refusal, Slot};
+use fr_base::{Change, Channel, Name, Placement, Refusal, Slot};
 
-/// The grant of the slot on the channel to the supplier's node, or `NoNode`, `Exists`, `NodeDiffers`.
+/// `NoNode`, `Exists` or `NodeDiffers`, where one refuses the supplier's node the slot on the channel.
 #[tactic(auto, unfolding(crate::proofs::DecideRows::decide_open))]
-pub(super) fn grant(
+pub(super) fn admit_grant(
     page: &Page,
-    variant: Name,
     slot: Slot,
     channel: Channel,
     node: Name,
-) -> Result<Edit, Refusal>
-    ensures { result ≡ admitted (page_of page.now) (Command.Grant variant slot channel page.now.supplier node)
-        (Edit.PutGrant variant slot channel page.now.supplier node) }
+) -> Result<(), Refusal>
+    ensures { result ≡ admits_alone (own_rows_of page.now) (Change.Grant slot channel node) }
 {
     if !has_node(page, node) {
         return Err(Refusal::NoNode);
     }
-    if let Some(holder) = holder(page, slot, channel) {
-        return Err(if is_same(holder, node) {
-            Refusal::Exists
-        } else {
-            Refusal::NodeDiffers
-        });
+    match holder(page, slot, channel) {
+        Some(holder) if holder == node => Err(Refusal::Exists),
+        Some(_) => Err(Refusal::NodeDiffers),
+        None => Ok(()),
     }
-    Ok(Edit::PutGrant {
-        variant,
-        slot,
-        channel,
-        supplier: page.supplier(),
-        node,
-    })
 }
 
-/// The end of the supplier's grant of the slot on the channel, or `NotGranted`, `InUse`.
+/// `NotGranted` or `InUse`, where one refuses the end of the supplier's grant of the slot on the
+/// channel.
 #[tactic(auto, unfolding(crate::proofs::DecideRows::decide_open))]
-pub(super) fn revoke(
-    page: &Page,
-    variant: Name,
-    slot: Slot,
-    channel: Channel,
-) -> Result<Edit, Refusal>
-    ensures { result ≡ admitted (page_of page.now) (Command.Revoke variant slot channel page.now.supplier)
-        (Edit.EndGrant variant slot channel) }
+pub(super) fn admit_end(page: &Page, slot: Slot, channel: Channel) -> Result<(), Refusal>
+    ensures { result ≡ admits_alone (own_rows_of page.now) (Change.Revoke slot channel) }
 {
     if holder(page, slot, channel).is_none() {
         return Err(Refusal::NotGranted);
@@ -60,16 +42,12 @@ pub(super) fn revoke(
     if in_use(page, slot, channel) {
         return Err(Refusal::InUse);
     }
-    Ok(Edit::EndGrant {
-        variant,
-        slot,
-        channel,
-    })
+    Ok(())
 }
 
 // Whether a placement of the page fills the slot on the channel.
 fn in_use(page: &Page, slot: Slot, channel: Channel) -> bool
-    ensures { result ≡ in_use page.now.supplier (slot, channel) (page_of page.now).frames }
+    ensures { result ≡ in_use (slot, channel) (own_rows_of page.now).frames }
 {
     page.frames().values().any(
         |frame|

@@ -1,56 +1,32 @@
 //! Whether a signal of a frame, or the end of one, is refused.
 ghost use Rattle.std.specs.Prelude.{◌≡◌};
 ghost use Rattle.fr_base.specs.Layouts.{has_signal};
-ghost use Rattle.fr_world.specs.Decisions.{admitted};
-ghost use Rattle.fr_world.specs.Pages.{page_of};
+ghost use Rattle.fr_world.specs.Decisions.{admits_alone};
+ghost use Rattle.fr_world.specs.Pages.{own_rows_of};
 
 use super::rows::frame_named;
-use crate::edit::Edit;
 use crate::page::Page;
-use fr_base::{Command, Name, Refusal, Signal};
+use fr_base::{Change, FrameChange, Name, Refusal, Signal};
 
-/// The new signal of the frame, or `NoFrame`, `Exists`, `Limit`, `OutOfPayload`, `BitTaken`.
+/// `NoFrame`, `Exists`, `Limit`, `OutOfPayload` or `BitTaken`, where one refuses the frame a signal.
 #[tactic(auto, unfolding(crate::proofs::DecideRows::decide_open))]
-pub(super) fn add_signal(
-    page: &Page,
-    variant: Name,
-    frame: Name,
-    signal: &Signal,
-) -> Result<Edit, Refusal>
-    ensures { result ≡ admitted (page_of page.now) (Command.AddSignal variant frame signal.now)
-        (Edit.PutSignal variant page.now.supplier frame signal.now) }
+pub(super) fn admit_signal(page: &Page, frame: Name, signal: &Signal) -> Result<(), Refusal>
+    ensures { result ≡ admits_alone (own_rows_of page.now) (Change.Frame frame (FrameChange.AddSignal signal.now)) }
 {
     let row = frame_named(page, frame).ok_or(Refusal::NoFrame)?;
-    row.layout.admits(signal)?;
-    Ok(Edit::PutSignal {
-        variant,
-        supplier: page.supplier(),
-        frame,
-        signal: *signal,
-    })
+    row.layout.admits(signal)
 }
 
-/// The end of the frame's signal of this name, or `NoFrame`, `NoSignal`.
+/// `NoFrame` or `NoSignal`, where one refuses the end of the frame's signal of this name.
 #[tactic(auto, unfolding(crate::proofs::DecideRows::decide_open))]
-pub(super) fn drop_signal(
-    page: &Page,
-    variant: Name,
-    frame: Name,
-    signal: Name,
-) -> Result<Edit, Refusal>
-    ensures { result ≡ admitted (page_of page.now) (Command.DropSignal variant frame signal)
-        (Edit.EndSignal variant page.now.supplier frame signal) }
+pub(super) fn admit_end(page: &Page, frame: Name, signal: Name) -> Result<(), Refusal>
+    ensures { result ≡ admits_alone (own_rows_of page.now) (Change.Frame frame (FrameChange.DropSignal signal)) }
 {
     let row = frame_named(page, frame).ok_or(Refusal::NoFrame)?;
     if !has_signal(row.layout.signals(), signal) {
         return Err(Refusal::NoSignal);
     }
-    Ok(Edit::EndSignal {
-        variant,
-        supplier: page.supplier(),
-        frame,
-        signal,
-    })
+    Ok(())
 }
 
 // Whether one of the signals has this name.

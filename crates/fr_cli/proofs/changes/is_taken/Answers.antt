@@ -1,6 +1,10 @@
-use Rattle.std.proofs.Common.{◌∙◌, sym}
+use Rattle.std.proofs.Common.{◌∙◌, ap, sym}
+use Rattle.fr_cli.specs.Decided.{is_taken}
+use Rattle.fr_cli.specs.Plans.{variant_of}
 use Rattle.fr_cli.proofs.DecideLaws.{held}
 use Rattle.fr_cli.proofs.changes.is_taken.Goals as goal
 
-pub returns : goal.returns
-returns c = c.contains_key.ensures ∙ sym (held c.args.plan.now (record { slot = c.args.slot; channel = c.args.channel }))
+pub returns-in-Grant : goal.returns-in-Grant
+returns-in-Grant c =
+    c.contains_key.ensures ∙ sym (held c.args.plan.now (record { slot = c.in-Grant.slot; channel = c.in-Grant.channel }))
+    ∙ ap (is_taken (variant_of c.args.plan.now)) (sym c.in-Grant.is)

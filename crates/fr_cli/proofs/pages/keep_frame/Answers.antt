@@ -1,6 +1,6 @@
 use Rattle.std.proofs.Common.{◌∙◌, ap, sym}
 use Rattle.fr_base.specs.Keys.{owned}
-use Rattle.fr_base.specs.Step.{is_of}
+use Rattle.fr_base.specs.Book.{is_of}
 use Rattle.fr_world.specs.Maps.{table_of}
 use Rattle.fr_world.specs.Pages as pages
 use Rattle.fr_cli.specs.Plans.{frame_of}

@@ -1,6 +1,6 @@
 use Rattle.std.proofs.Common.{◌∙◌, sym}
 use Rattle.fr_base.specs.Keys.{owned}
-use Rattle.fr_base.specs.Step.{is_of}
+use Rattle.fr_base.specs.Book.{is_of}
 use Rattle.fr_world.specs.Maps.{set_of}
 use Rattle.fr_cli.proofs.OwnLaws.{node-in, kept-out}
 use Rattle.fr_cli.proofs.pages.keep_node.Goals as goal

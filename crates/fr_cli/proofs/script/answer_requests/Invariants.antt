@@ -11,9 +11,10 @@ invariant-loop-line g l = record {
   can : (goal.iterator-loop-line g).can_next l.line-iterator;
   finite : (goal.iterator-loop-line g).is_finite l.line-iterator;
   config : l.register.config ≡ l.fn.config;
+  same : l.output.writer.ghost_name ≡ l.fn.output.writer.ghost_name;
   front : List (List ℕ);
   lines : request_lines l.fn.requests ≡ front ++ request_lines l.line-iterator.rest.now;
   written : List ℕ;
-  appended : Appends (g.W.Write.contents l.fn.writer) (g.W.Write.contents l.writer) written;
+  appended : Appends (g.W.Write.contents l.fn.output.writer.now) (g.W.Write.contents l.output.writer.now) written;
   answering : Answering l.fn.config front (book_of l.register) written;
 }

@@ -1,40 +1,86 @@
-use Rattle.std.proofs.Common.{sym, ap, ◌∙◌, subst}
-use Rattle.fr_world.specs.Amends.{HaveWords, frames_of}
-use Rattle.fr_world.specs.Pages.{frames_data}
-use Rattle.fr_world.proofs.KeyLaws.{name_cmp}
-use Rattle.fr_world.proofs.AmendLaws.{lent_frame, no_frame, order_set, words_set, data_set, on_ok, on_err}
+use Rattle.std.proofs.Common.{◌∙◌, None, refl, sym, ap}
 use Rattle.std.specs.BTreeMap.{is_at}
+use Rattle.fr_base.specs.Tables.{Becomes}
+use Rattle.fr_base.specs.Keys.{placement_order}
+use Rattle.fr_base.specs.Step.{frame_after}
+use Rattle.fr_world.specs.Maps.{set_of}
+use Rattle.fr_world.specs.Pages.{frame_data, frames_data}
+use Rattle.fr_world.specs.declared.page.PageFrame.{PageFrame}
+use Rattle.fr_world.proofs.KeyLaws.{name_cmp}
+use Rattle.fr_world.proofs.AmendLaws.{data_set, put_changes, end_changes, lent_changes, none_changes, placed_makes, unplaced_makes, added_makes, dropped_makes, no_placements, on_ok, on_err}
 use Rattle.fr_world.proofs.amend.change_frame.Goals as goal
 
-pub returns-in-Some-clause-table : goal.returns-in-Some-clause-table
-returns-in-Some-clause-table c =
-    let old = c.args.frames.now.entries in
-    let g = c.change.new.frame in
-    on_ok c.change.result
-    (λ changed s. lent_frame s c.args.name c.args.edit.now old (c.get_mut.follows.lender g).entries c.in-Some.frame.now g c.get_mut.ensures.ordered c.in-Some.ensures.value (c.get_mut.follows.holds g).0 changed)
-    c.change.ensures.frame
+pub returns-in_ok-insert-in-Add-clause-ok : goal.returns-in_ok-insert-in-Add-clause-ok
+unfolding frame_after
+returns-in_ok-insert-in-Add-clause-ok c =
+    let frame : PageFrame = record { node = c.in-Add.node; placements = c.new.result; layout = c.new-in-Add.result } in
+    put_changes c.args.words c.args.name c.args.change.now frame c.args.frames.now.entries c.insert.new.self.entries c.len-len.ensures.ordered c.in_ok-insert-in-Add.ensures.ordered c.in_ok-insert-in-Add.ensures.entries
+    (λ there. ap (λ w. frame_after w there) c.in-Add.is ∙ (λ i. Becomes (record {
+      node = c.in-Add.node;
+      placements = (sym no_placements ∙ ap (set_of placement_order (λ q. q)) (sym c.new.ensures.empty)) i;
+      signals = ap (λ l. l.signals) (sym c.new-in-Add.ensures) i;
+    }))) (ap (λ l. l.words) c.new-in-Add.ensures) c.new.ensures.empty
 
-pub returns-in-Some-clause-words : goal.returns-in-Some-clause-words
-returns-in-Some-clause-words c words all =
-    let old = c.args.frames.now.entries in
-    let g = c.change.new.frame in
-    subst (HaveWords words) (sym (c.get_mut.follows.holds g).0)
-    (words_set words (is_at (name_cmp c.args.name)) c.in-Some.frame.now g old c.in-Some.ensures.value c.change.ensures.words all)
+pub returns-in-Drop-clause-ok : goal.returns-in-Drop-clause-ok
+unfolding frame_after
+returns-in-Drop-clause-ok c =
+    end_changes c.args.words c.args.name c.args.change.now c.args.frames.now.entries c.remove.new.self.entries c.len-len.ensures.ordered c.remove.ensures.ordered c.remove.ensures.entries
+    (λ there. ap (λ w. frame_after w there) c.in-Drop.is)
 
-pub returns-in-Some-clause-order : goal.returns-in-Some-clause-order
-returns-in-Some-clause-order c was =
-    let g = c.change.new.frame in
-    order_set (is_at (name_cmp c.args.name)) c.in-Some.frame.now g c.args.frames.now.entries (c.get_mut.follows.lender g).entries (c.get_mut.follows.holds g).4 (c.get_mut.follows.holds g).0 c.in-Some.ensures.value c.change.ensures.order was
+pub returns-in-Some-clause-ok : goal.returns-in-Some-clause-ok
+returns-in-Some-clause-ok c =
+    let g : PageFrame = record { node = c.in-Some.frame.now.node; placements = c.put_placement.new.placements; layout = c.in-Some.frame.now.layout } in
+    on_ok c.put_placement.result (λ made. lent_changes c.args.words c.args.name c.args.change.now c.in-Some.frame.now g c.args.frames.now.entries (c.get_mut.follows.lender g).entries c.get_mut.ensures.ordered (c.get_mut.follows.holds g).4 c.in-Some.ensures.value (c.get_mut.follows.holds g).0
+    (placed_makes c.args.change.now c.in-Place.placement c.in-Some.frame.now c.put_placement.new.placements.keys c.in-Place.is made) refl (λ _. c.put_placement.ensures.order)) c.put_placement.ensures.table
 
 pub returns-in-Some-clause-err : goal.returns-in-Some-clause-err
 returns-in-Some-clause-err c =
-    let old = c.args.frames.now.entries in
-    let g = c.change.new.frame in
-    on_err c.change.result
-    (λ same. (ap frames_data (c.get_mut.follows.holds g).0 ∙ data_set (is_at (name_cmp c.args.name)) c.in-Some.frame.now g old c.in-Some.ensures.value same.0, same.1))
-    c.change.ensures.err
+    let g : PageFrame = record { node = c.in-Some.frame.now.node; placements = c.put_placement.new.placements; layout = c.in-Some.frame.now.layout } in
+    on_err c.put_placement.result
+    (λ same. (ap frames_data (c.get_mut.follows.holds g).0 ∙ data_set (is_at (name_cmp c.args.name)) c.in-Some.frame.now g c.args.frames.now.entries c.in-Some.ensures.value (ap (λ ks. record (frame_data c.in-Some.frame.now) { placements = ks }) same.0), same.1))
+    c.put_placement.ensures.err
 
-pub returns-in-None-clause-table : goal.returns-in-None-clause-table
-returns-in-None-clause-table c s =
-    let old = c.args.frames.now.entries in
-    ap (λ m. frames_of s m.entries) c.get_mut.follows.holds-at-none ∙ no_frame s c.args.name c.args.edit.now old c.in-None.ensures.value
+pub returns-in-None-clause-ok : goal.returns-in-None-clause-ok
+unfolding frame_after
+returns-in-None-clause-ok c =
+    none_changes c.args.words c.args.name c.args.change.now c.args.frames.now.entries c.get_mut.follows.lender-at-none.entries c.in-None.ensures.value (ap (λ m. m.entries) c.get_mut.follows.holds-at-none) (ap (λ w. frame_after w None) c.in-Place.is)
+
+pub returns-in-Some-get_mut-clause-ok : goal.returns-in-Some-get_mut-clause-ok
+returns-in-Some-get_mut-clause-ok c =
+    let g : PageFrame = record { node = c.in-Some-get_mut.frame.now.node; placements = c.end_placement.new.placements; layout = c.in-Some-get_mut.frame.now.layout } in
+    lent_changes c.args.words c.args.name c.args.change.now c.in-Some-get_mut.frame.now g c.args.frames.now.entries (c.get_mut-in-Unplace.follows.lender g).entries c.get_mut-in-Unplace.ensures.ordered (c.get_mut-in-Unplace.follows.holds g).4 c.in-Some-get_mut.ensures.value (c.get_mut-in-Unplace.follows.holds g).0
+    (unplaced_makes c.args.change.now c.in-Unplace.placement c.in-Some-get_mut.frame.now c.end_placement.new.placements.keys c.in-Unplace.is c.end_placement.ensures.table) refl (λ _. c.end_placement.ensures.order)
+
+pub returns-in-None-get_mut-clause-ok : goal.returns-in-None-get_mut-clause-ok
+unfolding frame_after
+returns-in-None-get_mut-clause-ok c =
+    none_changes c.args.words c.args.name c.args.change.now c.args.frames.now.entries c.get_mut-in-Unplace.follows.lender-at-none.entries c.in-None-get_mut.ensures.value (ap (λ m. m.entries) c.get_mut-in-Unplace.follows.holds-at-none) (ap (λ w. frame_after w None) c.in-Unplace.is)
+
+pub returns-in-Some-get_mut-2-clause-ok : goal.returns-in-Some-get_mut-2-clause-ok
+returns-in-Some-get_mut-2-clause-ok c =
+    let g : PageFrame = record { node = c.in-Some-get_mut-2.frame.now.node; placements = c.in-Some-get_mut-2.frame.now.placements; layout = c.put_signal.new.layout } in
+    on_ok c.put_signal.result (λ made. lent_changes c.args.words c.args.name c.args.change.now c.in-Some-get_mut-2.frame.now g c.args.frames.now.entries (c.get_mut-in-AddSignal.follows.lender g).entries c.get_mut-in-AddSignal.ensures.ordered (c.get_mut-in-AddSignal.follows.holds g).4 c.in-Some-get_mut-2.ensures.value (c.get_mut-in-AddSignal.follows.holds g).0
+    (added_makes c.args.change.now c.in-AddSignal.signal c.in-Some-get_mut-2.frame.now c.put_signal.new.layout c.in-AddSignal.is made) (ap (λ l. l.words) made) (λ rises. rises)) c.put_signal.ensures.ok
+
+pub returns-in-Some-get_mut-2-clause-err : goal.returns-in-Some-get_mut-2-clause-err
+returns-in-Some-get_mut-2-clause-err c =
+    let g : PageFrame = record { node = c.in-Some-get_mut-2.frame.now.node; placements = c.in-Some-get_mut-2.frame.now.placements; layout = c.put_signal.new.layout } in
+    on_err c.put_signal.result
+    (λ same. (ap frames_data (c.get_mut-in-AddSignal.follows.holds g).0 ∙ data_set (is_at (name_cmp c.args.name)) c.in-Some-get_mut-2.frame.now g c.args.frames.now.entries c.in-Some-get_mut-2.ensures.value (ap (λ l. record (frame_data c.in-Some-get_mut-2.frame.now) { layout = l }) same.0), same.1))
+    c.put_signal.ensures.err
+
+pub returns-in-None-get_mut-2-clause-ok : goal.returns-in-None-get_mut-2-clause-ok
+unfolding frame_after
+returns-in-None-get_mut-2-clause-ok c =
+    none_changes c.args.words c.args.name c.args.change.now c.args.frames.now.entries c.get_mut-in-AddSignal.follows.lender-at-none.entries c.in-None-get_mut-2.ensures.value (ap (λ m. m.entries) c.get_mut-in-AddSignal.follows.holds-at-none) (ap (λ w. frame_after w None) c.in-AddSignal.is)
+
+pub returns-in-Some-get_mut-3-clause-ok : goal.returns-in-Some-get_mut-3-clause-ok
+returns-in-Some-get_mut-3-clause-ok c =
+    let g : PageFrame = record { node = c.in-Some-get_mut-3.frame.now.node; placements = c.in-Some-get_mut-3.frame.now.placements; layout = c.end_signal.new.layout } in
+    lent_changes c.args.words c.args.name c.args.change.now c.in-Some-get_mut-3.frame.now g c.args.frames.now.entries (c.get_mut-in-DropSignal.follows.lender g).entries c.get_mut-in-DropSignal.ensures.ordered (c.get_mut-in-DropSignal.follows.holds g).4 c.in-Some-get_mut-3.ensures.value (c.get_mut-in-DropSignal.follows.holds g).0
+    (dropped_makes c.args.change.now c.in-DropSignal.signal c.in-Some-get_mut-3.frame.now c.end_signal.new.layout c.in-DropSignal.is c.end_signal.ensures) (ap (λ l. l.words) c.end_signal.ensures) (λ rises. rises)
+
+pub returns-in-None-get_mut-3-clause-ok : goal.returns-in-None-get_mut-3-clause-ok
+unfolding frame_after
+returns-in-None-get_mut-3-clause-ok c =
+    none_changes c.args.words c.args.name c.args.change.now c.args.frames.now.entries c.get_mut-in-DropSignal.follows.lender-at-none.entries c.in-None-get_mut-3.ensures.value (ap (λ m. m.entries) c.get_mut-in-DropSignal.follows.holds-at-none) (ap (λ w. frame_after w None) c.in-DropSignal.is)

@@ -1,7 +1,7 @@
 use Rattle.std.proofs.Common.{◌≡◌, ◌∙◌, ◌++◌, [], sym, ap, append-nil}
 use Rattle.fr_base.specs.declared.answer.FrameRow.{FrameRow}
 use Rattle.fr_world.specs.Pages.{frame_data}
-use Rattle.fr_world.proofs.PlacedLaws.{placements_in-keys}
+use Rattle.fr_world.proofs.TriggeringLaws.{placements_in-keys}
 use Rattle.fr_world.proofs.frame_rows.frame_row.Goals as goal
 
 pub returns : goal.returns

@@ -25,38 +25,38 @@ loop-cycle-init c =
 pub overflow_sub-moment : goal.overflow_sub-moment
 overflow_sub-moment c =
     let fits = fits_at c.args.params.now c.sort_unstable_by_key.new.self c.loop-placement.placement-index c.placement-item.result c.loop-cycle.invariant.rising (omega arith) c.placement-item.is in
-    omega (arith, c.get.ensures, fits.from_one)
+    omega (arith, c.get.ensures.value, fits.from_one)
 
 pub overflow_mul-moment-then-contains : goal.overflow_mul-moment-then-contains
 overflow_mul-moment-then-contains c =
     let fits = fits_at c.args.params.now c.sort_unstable_by_key.new.self c.loop-placement.placement-index c.placement-item.result c.loop-cycle.invariant.rising (omega arith) c.placement-item.is in
     slot_fits c.args.params.now c.placement-item.result c.macroticks_per_cycle-cycle_length.result c.slot_macroticks-slot_length.result c.get.result c.loop-cycle.invariant.rising fits
-    c.macroticks_per_cycle-cycle_length.ensures.value c.macroticks_per_cycle-cycle_length.ensures.range c.slot_macroticks-slot_length.ensures.value c.get.ensures
+    c.macroticks_per_cycle-cycle_length.ensures.value c.macroticks_per_cycle-cycle_length.ensures.range c.slot_macroticks-slot_length.ensures.value c.get.ensures.value
 
 pub overflow_add-moment : goal.overflow_add-moment
 overflow_add-moment c =
     let fits = fits_at c.args.params.now c.sort_unstable_by_key.new.self c.loop-placement.placement-index c.placement-item.result c.loop-cycle.invariant.rising (omega arith) c.placement-item.is in
     moment_fits c.args.params.now c.placement-item.result c.loop-cycle.cycle c.macroticks_per_cycle-cycle_length.result c.slot_macroticks-slot_length.result c.get.result c.loop-cycle.invariant.rising fits (omega arith)
-    c.macroticks_per_cycle-cycle_length.ensures.value c.macroticks_per_cycle-cycle_length.ensures.range c.slot_macroticks-slot_length.ensures.value c.get.ensures
+    c.macroticks_per_cycle-cycle_length.ensures.value c.macroticks_per_cycle-cycle_length.ensures.range c.slot_macroticks-slot_length.ensures.value c.get.ensures.value
 
 pub next-requires : goal.next-requires
 next-requires c =
-    Sees-last c.args.params.now c.sort_unstable_by_key.new.self c.loop-cycle.cycle c.loop-placement.placement-index _ c.placement-item.result c.loop-placement.met c.loop-cycle.invariant.rising (omega arith) c.placement-item.is
+    Sees-last c.args.params.now c.sort_unstable_by_key.new.self c.loop-cycle.cycle c.loop-placement.placement-index _ c.placement-item.result c.loop-placement.moments c.loop-cycle.invariant.rising (omega arith) c.placement-item.is
     (moment_at-is c.args.params.now c.loop-cycle.cycle c.macroticks_per_cycle-cycle_length.result c.slot_macroticks-slot_length.result c.placement-item.result.slot c.get.result
-    c.macroticks_per_cycle-cycle_length.ensures.value c.slot_macroticks-slot_length.ensures.value c.get.ensures)
+    c.macroticks_per_cycle-cycle_length.ensures.value c.slot_macroticks-slot_length.ensures.value c.get.ensures.value)
     c.loop-placement.invariant
 
 pub loop-placement-preserved : goal.loop-placement-preserved
 loop-placement-preserved c = elim c.if-contains.branch [
   | then-contains w ↦
-      subst (Sees c.args.params.now c.sort_unstable_by_key.new.self c.loop-cycle.cycle (c.loop-placement.placement-index + 1)) (sym (w.met-is ∙ ap Some w.next.ensures))
-      (Sees-more c.args.params.now c.sort_unstable_by_key.new.self c.loop-cycle.cycle c.loop-placement.placement-index _ c.placement-item.result c.loop-placement.met c.loop-cycle.invariant.rising (omega arith) c.placement-item.is
+      subst (Sees c.args.params.now c.sort_unstable_by_key.new.self c.loop-cycle.cycle (c.loop-placement.placement-index + 1)) (sym (w.moments-is ∙ ap Some w.next.ensures))
+      (Sees-more c.args.params.now c.sort_unstable_by_key.new.self c.loop-cycle.cycle c.loop-placement.placement-index _ c.placement-item.result c.loop-placement.moments c.loop-cycle.invariant.rising (omega arith) c.placement-item.is
       (moment_at-is c.args.params.now c.loop-cycle.cycle c.macroticks_per_cycle-cycle_length.result c.slot_macroticks-slot_length.result c.placement-item.result.slot w.get.result
-      c.macroticks_per_cycle-cycle_length.ensures.value c.slot_macroticks-slot_length.ensures.value w.get.ensures)
+      c.macroticks_per_cycle-cycle_length.ensures.value c.slot_macroticks-slot_length.ensures.value w.get.ensures.value)
       (sym c.contains.ensures ∙ w.if-contains.true) c.loop-placement.invariant)
   | else-contains w ↦
-      subst (Sees c.args.params.now c.sort_unstable_by_key.new.self c.loop-cycle.cycle (c.loop-placement.placement-index + 1)) (sym w.met-is)
-      (Sees-skip c.args.params.now c.sort_unstable_by_key.new.self c.loop-cycle.cycle c.loop-placement.placement-index c.placement-item.result c.loop-placement.met (omega arith) c.placement-item.is
+      subst (Sees c.args.params.now c.sort_unstable_by_key.new.self c.loop-cycle.cycle (c.loop-placement.placement-index + 1)) (sym w.moments-is)
+      (Sees-skip c.args.params.now c.sort_unstable_by_key.new.self c.loop-cycle.cycle c.loop-placement.placement-index c.placement-item.result c.loop-placement.moments (omega arith) c.placement-item.is
       (sym c.contains.ensures ∙ w.if-contains.false) c.loop-placement.invariant)
 ]
 
@@ -64,26 +64,26 @@ pub loop-cycle-preserved : goal.loop-cycle-preserved
 loop-cycle-preserved c = record {
   moved = c.loop-cycle.invariant.moved;
   rising = c.loop-cycle.invariant.rising;
-  sees = Sees-cycle c.args.params.now c.sort_unstable_by_key.new.self c.loop-cycle.cycle c.loop-placement.placement-index c.loop-placement.met (omega arith) c.loop-placement.invariant;
+  sees = Sees-cycle c.args.params.now c.sort_unstable_by_key.new.self c.loop-cycle.cycle c.loop-placement.placement-index c.loop-placement.moments (omega arith) c.loop-placement.invariant;
 }
 
-pub returns-in_err-met : goal.returns-in_err-met
-returns-in_err-met c =
-    let none : c.from_residual-in_err-met.result ≡ None = search rules in
+pub returns-in_err-moments : goal.returns-in_err-moments
+returns-in_err-moments c =
+    let none : c.from_residual-in_err-moments.result ≡ None = search rules in
     none
     ∙ sym (Sees-nothing c.args.params.now c.args.placements.now c.sort_unstable_by_key.new.self c.loop-cycle.invariant.moved
-    (Sees-end c.args.params.now c.sort_unstable_by_key.new.self c.loop-cycle.cycle c.loop-cycle.met None (omega arith) c.in_err-met.was c.loop-cycle.invariant.sees))
+    (Sees-end c.args.params.now c.sort_unstable_by_key.new.self c.loop-cycle.cycle c.loop-cycle.moments None (omega arith) c.in_err-moments.was c.loop-cycle.invariant.sees))
 
 pub greatest_gap-requires : goal.greatest_gap-requires
 greatest_gap-requires c =
-    let inside = Sees-inside c.args.params.now c.sort_unstable_by_key.new.self c.in_ok-met.field-0 c.loop-cycle.invariant.rising
-    (Sees-end c.args.params.now c.sort_unstable_by_key.new.self c.loop-cycle.cycle c.loop-cycle.met (Some c.in_ok-met.field-0) (omega arith) c.in_ok-met.was c.loop-cycle.invariant.sees) in
+    let inside = Sees-inside c.args.params.now c.sort_unstable_by_key.new.self c.in_ok-moments.field-0 c.loop-cycle.invariant.rising
+    (Sees-end c.args.params.now c.sort_unstable_by_key.new.self c.loop-cycle.cycle c.loop-cycle.moments (Some c.in_ok-moments.field-0) (omega arith) c.in_ok-moments.was c.loop-cycle.invariant.sees) in
     (inside.0, omega (arith, inside.1, c.macroticks_per_cycle-cycle_length.ensures.value))
 
 pub returns : goal.returns
 returns c =
     let is = c.macroticks_per_cycle-cycle_length.ensures.value in
-    let m = c.in_ok-met.field-0 in
+    let m = c.in_ok-moments.field-0 in
     ap Some (c.greatest_gap.ensures ∙ (λ i. max m.step ((64 * is i - m.last) + m.first)))
     ∙ sym (Sees-greatest c.args.params.now c.args.placements.now c.sort_unstable_by_key.new.self m c.loop-cycle.invariant.moved c.loop-cycle.invariant.rising
-    (Sees-end c.args.params.now c.sort_unstable_by_key.new.self c.loop-cycle.cycle c.loop-cycle.met (Some m) (omega arith) c.in_ok-met.was c.loop-cycle.invariant.sees))
+    (Sees-end c.args.params.now c.sort_unstable_by_key.new.self c.loop-cycle.cycle c.loop-cycle.moments (Some m) (omega arith) c.in_ok-moments.was c.loop-cycle.invariant.sees))

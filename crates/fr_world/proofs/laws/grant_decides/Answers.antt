@@ -1,4 +1,4 @@
-use Rattle.fr_world.proofs.IntegratorLaws.{grant-decides}
+use Rattle.fr_world.proofs.StepLaws.{grant-decides}
 use Rattle.fr_world.proofs.laws.grant_decides.Goals as goal
 
 pub returns : goal.returns

@@ -1,4 +1,4 @@
-use Rattle.fr_world.proofs.IntegratorLaws.{revoke-decides}
+use Rattle.fr_world.proofs.StepLaws.{revoke-decides}
 use Rattle.fr_world.proofs.laws.revoke_decides.Goals as goal
 
 pub returns : goal.returns

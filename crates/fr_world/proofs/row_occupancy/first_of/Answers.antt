@@ -1,5 +1,5 @@
 use Rattle.std.proofs.Common.{◌≡◌, ◌∙◌, sym, ap, Some}
-use Rattle.fr_world.specs.Spots.{earlier}
+use Rattle.fr_world.specs.CycleChannels.{earlier}
 use Rattle.fr_world.proofs.TakenLaws.{below, earlier-former, earlier-latter}
 use Rattle.fr_world.proofs.row_occupancy.first_of.Goals as goal
 use Rattle.fr_world.proofs.row_occupancy.first_of.Goals.{then-lt, else-lt}

@@ -8,7 +8,7 @@ use Rattle.fr_world.proofs.sendings.push_sendings.Goals as goal
 
 pub returns : goal.returns
 returns c =
-    let ps = c.args.placed.now in
+    let ps = c.args.triggerings.now in
     let k = c.args.cycle in
     on_ok_weaker c.push_cycle.result
     (λ last. last ∙ (λ i. c.args.rows.now ++ sent_in (filled ps) (cells_in (k ∷ []) (c.deref.ensures.value i) (channels_in (c.channels.ensures i))))

@@ -6,4 +6,4 @@ use Rattle.fr_world.proofs.sendings.sending.Given as goal
 
 -- the first one is among those that are left
 abbrev pub invariant-loop-one : goal.invariant-loop-one
-invariant-loop-one l = fill (filled (drop l.one-index l.placed)) (cell l.cycle l.slot l.channel) ≡ fill (filled l.placed) (cell l.cycle l.slot l.channel)
+invariant-loop-one l = fill (filled (drop l.one-index l.triggerings)) (cell l.cycle l.slot l.channel) ≡ fill (filled l.triggerings) (cell l.cycle l.slot l.channel)

@@ -1,20 +1,18 @@
-use Rattle.std.proofs.Common.{◌∙◌, ◌+◌, ◌-◌, ◌++◌, [], ◌∷◌, sym, ap, arith, filter}
-use Rattle.fr_world.specs.Sendings.{is_used}
-use Rattle.fr_world.proofs.ScheduleLaws.{used-more, slot-within, same_slot, some_slot}
+use Rattle.std.proofs.Common.{◌∙◌, ◌+◌, ◌-◌, sym, ap, arith}
+use Rattle.fr_world.proofs.ScheduleLaws.{used-more, used-none, used-one, slot-within, some_slot}
 use Rattle.fr_world.proofs.sendings.used_slots.Goals as goal
-use Rattle.fr_world.proofs.sendings.used_slots.Goals.{else-loop-number-test, then-loop-number-test+else-number-number-end, in-Some+in_ok-push_used-in-Some, in-None}
+use Rattle.fr_world.proofs.sendings.used_slots.Goals.{else-loop-number-test, then-loop-number-test+else-number-number-end, in-Some+then-is_used+in_ok-push, in-Some+else-is_used, in_default}
 
 pub loop-number-preserved : goal.loop-number-preserved
 loop-number-preserved c =
     let number = c.loop-number.number in
     let found = slot-within number c.new.result (omega arith) (omega arith) c.new.ensures in
-    elim c.match-new.branch [
-      | in-Some+in_ok-push_used-in-Some w ↦
-          used-more c.args.placed.now c.loop-number.slots.items _ number (number - 1) (number + 1 - 1) (omega arith) (omega arith) c.loop-number.invariant
-          (ap (λ v. v.items) w.slots-is ∙ w.in_ok-push_used-in-Some.ensures
-          ∙ (λ i. c.loop-number.slots.items ++ filter (is_used c.args.placed.now) (same_slot w.in-Some.slot number (sym w.in-Some.is ∙ found) i ∷ [])))
-      | in-None w ↦ absurd (some_slot c.new.result number found w.in-None.is)
-    ]
+    used-more c.args.triggerings.now c.loop-number.slots.items _ number (number - 1) (number + 1 - 1) (omega arith) (omega arith) c.loop-number.invariant
+    (elim c.match-new.branch [
+      | in-Some+then-is_used+in_ok-push w ↦ used-one c.args.triggerings.now c.loop-number.slots.items _ w.in-Some.slot number (sym w.in-Some.is ∙ found) (sym w.is_used.ensures ∙ w.if-is_used.true) (ap (λ v. v.items) w.slots-is ∙ w.in_ok-push.ensures.items)
+      | in-Some+else-is_used w ↦ used-none c.args.triggerings.now c.loop-number.slots.items _ w.in-Some.slot number (sym w.in-Some.is ∙ found) (sym w.is_used.ensures ∙ w.if-is_used.false) (ap (λ v. v.items) w.slots-is)
+      | in_default w ↦ absurd (some_slot c.new.result number found w.in_default.is)
+    ])
 
 pub returns : goal.returns
 returns c =
@@ -23,11 +21,10 @@ returns c =
       | else-loop-number-test w ↦ absurd (omega arith)
       | then-loop-number-test+else-number-number-end w ↦
           let found = slot-within number w.new.result (omega arith) (omega arith) w.new.ensures in
-          elim w.match-new.branch [
-            | in-Some+in_ok-push_used-in-Some w' ↦
-                used-more c.args.placed.now c.loop-number.slots.items _ number (number - 1) c.args.params.now.static_slots (omega arith) (omega arith) c.loop-number.invariant
-                (ap (λ v. v.items) (w.slots-is ∙ w'.slots-is) ∙ w'.in_ok-push_used-in-Some.ensures
-                ∙ (λ i. c.loop-number.slots.items ++ filter (is_used c.args.placed.now) (same_slot w'.in-Some.slot number (sym w'.in-Some.is ∙ found) i ∷ [])))
-            | in-None w' ↦ absurd (some_slot w.new.result number found w'.in-None.is)
-          ]
+          used-more c.args.triggerings.now c.loop-number.slots.items _ number (number - 1) c.args.params.now.static_slots (omega arith) (omega arith) c.loop-number.invariant
+          (ap (λ v. v.items) w.slots-is ∙ (elim w.match-new.branch [
+            | in-Some+then-is_used+in_ok-push w' ↦ used-one c.args.triggerings.now c.loop-number.slots.items _ w'.in-Some.slot number (sym w'.in-Some.is ∙ found) (sym w'.is_used.ensures ∙ w'.if-is_used.true) (ap (λ v. v.items) w'.slots-is ∙ w'.in_ok-push.ensures.items)
+            | in-Some+else-is_used w' ↦ used-none c.args.triggerings.now c.loop-number.slots.items _ w'.in-Some.slot number (sym w'.in-Some.is ∙ found) (sym w'.is_used.ensures ∙ w'.if-is_used.false) (ap (λ v. v.items) w'.slots-is)
+            | in_default w' ↦ absurd (some_slot w.new.result number found w'.in_default.is)
+          ]))
     ]

@@ -5,4 +5,4 @@ use Rattle.fr_world.proofs.sendings.used_slots.Given as goal
 
 -- the slots before that a placement is in
 abbrev pub invariant-loop-number : goal.invariant-loop-number
-invariant-loop-number l = l.slots.items ≡ filter (is_used l.placed) (range_with_len 1 (l.number - 1))
+invariant-loop-number l = l.slots.items ≡ filter (is_used l.triggerings) (range_with_len 1 (l.number - 1))

@@ -1,12 +1,15 @@
-use Rattle.std.proofs.Common.{◌≡◌, rules, IsTrue, IfSome, sym, subst}
-use Rattle.fr_base.specs.Actors.{actor_of}
-use Rattle.fr_base.specs.Book.{opening}
+use Rattle.std.proofs.Common.{◌≡◌, rules, find, Some, IfSome, IsTrue, subst, sym, ◌∙◌}
+use Rattle.std.specs.Option.{option_map}
+use Rattle.fr_base.specs.Names.{same_text}
+use Rattle.fr_base.specs.declared.actor.Actor.TheVariants as actor
+use Rattle.fr_base.proofs.ActorsLemmas.{listed, has_key, known}
 use Rattle.fr_base.specs.Step.{knows}
-use Rattle.fr_base.proofs.ActorsLemmas.{actor_is_known}
 use Rattle.fr_base.proofs.config.Config.actor_of.Goals as goal
 
+pub returns-clause-value : goal.returns-clause-value
+returns-clause-value c b same =
+    let found : c.map.result ≡ option_map (λ s. actor.Supplier s.name) (find (has_key c.args.key.now) c.args.self.now.suppliers) = search rules in
+    found ∙ listed c.args.self.now b c.args.key.now c.suppliers.ensures.formed.cluster same (search rules)
+
 pub returns-clause-known : goal.returns-clause-known
-unfolding actor_of
-returns-clause-known c =
-    let value : c.map.result ≡ actor_of c.args.self.now c.args.key.now = search rules in
-    subst (λ o. IfSome o (λ a. IsTrue (knows (opening c.args.self.now) a))) (sym value) (actor_is_known c.args.self.now c.args.key.now)
+returns-clause-known c b same = subst (λ o. IfSome o (λ a. IsTrue (knows b a))) (sym (returns-clause-value c b same)) (known c.args.self.now b c.args.key.now)

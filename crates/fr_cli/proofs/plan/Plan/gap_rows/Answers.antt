@@ -1,6 +1,7 @@
 use Rattle.std.proofs.Common.{◌≡◌, ◌∙◌, ◌++◌, All, [], ◌∷◌, sym, ap, subst, refl, append-nil, rules}
 use Rattle.std.proofs.lemmas.List.Elements.{All-head, All-tail}
-use Rattle.fr_base.specs.Queries.{gap_row, sees}
+use Rattle.fr_base.specs.Queries.{gap_row}
+use Rattle.fr_cli.specs.Seen.{sees}
 use Rattle.fr_base.specs.declared.params.Params.{Params}
 use Rattle.fr_world.specs.declared.page.PageFrame.{PageFrame}
 use Rattle.fr_cli.specs.Fitting.{IsFitting}

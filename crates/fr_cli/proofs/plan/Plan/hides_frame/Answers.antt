@@ -2,8 +2,8 @@ use Rattle.std.proofs.Common.{◌∙◌, ap}
 use Rattle.std.proofs.Common.{not}
 use Rattle.std.specs.List.{list_any}
 use Rattle.std.specs.Prelude.{◌&&◌}
-use Rattle.fr_base.specs.Cluster.{same_text}
-use Rattle.fr_base.specs.Queries.{sees}
+use Rattle.fr_base.specs.Names.{same_text}
+use Rattle.fr_cli.specs.Seen.{sees}
 use Rattle.fr_cli.proofs.QueryLaws.{len-named}
 use Rattle.fr_cli.proofs.plan.Plan.hides_frame.Goals as goal
 

@@ -8,7 +8,7 @@ use Rattle.fr_cli.proofs.plan.Plan.sendings.Goals as goal
 
 pub returns : goal.returns
 returns c =
-    let frames = seen_frames c.args.actor.now (variant_of c.args.self.now) in
+    let frames = seen_frames c.args.actor.now (variant_of c.args.self.now).frames in
     subst (λ sent. IfOk c.schedule.result (λ rows. rows ≡ sent))
     (sendings_of-sent c.args.params.now frames (filled c.deref.result.now) (ap filled c.deref.ensures.value ∙ c.in_ok-placed.ensures))
     c.schedule.ensures

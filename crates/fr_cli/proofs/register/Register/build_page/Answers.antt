@@ -11,5 +11,5 @@ returns c =
     let grants = c.in_ok-own_grants.field-0.entries in
     let frames = c.in_ok-own_frames.field-0.entries in
     built-is c.build.result _ (λ page. IsPageOf page c.args.self.now.config.params (book_of c.args.self.now) c.args.supplier c.args.variant (variant_of c.args.plan.now)) c.build.ensures.page
-    (subst (λ p. IsPageOf (record { params = p; supplier = c.args.supplier; variant = c.args.variant; released = c.args.plan.now.released; nodes = nodes; grants = grants; frames = frames_data frames }) c.args.self.now.config.params (book_of c.args.self.now) c.args.supplier c.args.variant (variant_of c.args.plan.now)) (sym c.params.ensures)
+    (subst (λ p. IsPageOf (record { params = p; supplier = c.args.supplier; variant = c.args.variant; released = c.args.plan.now.released; nodes = nodes; grants = grants; frames = frames_data frames }) c.args.self.now.config.params (book_of c.args.self.now) c.args.supplier c.args.variant (variant_of c.args.plan.now)) (sym c.params.ensures.value)
     (is_page c.args.self.now c.args.plan.now c.args.supplier c.args.variant nodes grants frames c.in_ok-own_nodes.ensures c.in_ok-own_grants.ensures c.in_ok-own_frames.ensures))

@@ -8,14 +8,14 @@ use Rattle.fr_cli.proofs.register.Register.decided.Goals as goal
 pub returns-clause-edits : goal.returns-clause-edits
 returns-clause-edits c =
     subst (λ d. IfOk c.decide.result (λ edits. d ≡ Ok edits.items))
-    (page-decides c.args.self.now.config (book_of c.args.self.now) c.args.supplier c.args.variant (variant_of c.args.plan.now) c.in_ok-page.page c.args.command.now c.in_ok-page.ensures.page)
+    (page-decides c.args.self.now.config (book_of c.args.self.now) c.args.supplier c.args.variant (variant_of c.args.plan.now) c.in_ok-page.page c.args.change.now c.in_ok-page.ensures.page)
     c.decide.ensures.edits
 
 pub returns-clause-one : goal.returns-clause-one
-returns-clause-one c = one-decided c.decide.result (λ edits. edits.items) c.in_ok-page.page c.args.command.now c.decide.ensures.edits
+returns-clause-one c = one-decided c.decide.result (λ edits. edits.items) c.in_ok-page.page c.args.change.now c.decide.ensures.edits
 
 pub returns-clause-refusal : goal.returns-clause-refusal
 returns-clause-refusal c =
     subst (λ d. IfErr c.decide.result (λ e. (e ≡ Unavailable) ⊎ (d ≡ Err e)))
-    (page-decides c.args.self.now.config (book_of c.args.self.now) c.args.supplier c.args.variant (variant_of c.args.plan.now) c.in_ok-page.page c.args.command.now c.in_ok-page.ensures.page)
+    (page-decides c.args.self.now.config (book_of c.args.self.now) c.args.supplier c.args.variant (variant_of c.args.plan.now) c.in_ok-page.page c.args.change.now c.in_ok-page.ensures.page)
     c.decide.ensures.refusal

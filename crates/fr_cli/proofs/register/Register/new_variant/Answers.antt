@@ -4,10 +4,10 @@ use Rattle.fr_cli.specs.Registers.{book_of}
 use Rattle.fr_cli.proofs.ApplyLaws.{variants_of, variant_put}
 use Rattle.fr_cli.proofs.register.Register.new_variant.Goals as goal
 
-pub returns-in-Ok-clause-ok : goal.returns-in-Ok-clause-ok
-returns-in-Ok-clause-ok c =
+pub returns-clause-ok : goal.returns-clause-ok
+returns-clause-ok c =
     let es = c.args.self.now.variants.entries in
     ap (λ t. record (book_of c.args.self.now) { variants = t })
-    (ap variants_of c.in-Ok.ensures.entries
-    ∙ variant_put es c.args.variant c.in_ok-plan.plan c.in-Ok.ensures.was_ordered
+    (ap variants_of c.in_ok-insert.ensures.entries
+    ∙ variant_put es c.args.variant c.in_ok-plan.plan c.in_ok-insert.ensures.was_ordered
     ∙ ap (insert (variants_of es) c.args.variant) c.in_ok-plan.ensures.ok)

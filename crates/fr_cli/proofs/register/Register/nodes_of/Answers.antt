@@ -1,5 +1,5 @@
 use Rattle.std.proofs.Common.{◌∙◌, [], ◌∷◌}
-use Rattle.fr_base.specs.Cluster.{same_text}
+use Rattle.fr_base.specs.Names.{same_text}
 use Rattle.fr_cli.proofs.ListLaws.{nodes_in-keys, nodes_shown}
 use Rattle.fr_cli.proofs.ShownLaws.{shown-all}
 use Rattle.fr_cli.proofs.register.Register.nodes_of.Goals as goal

@@ -1,5 +1,5 @@
 use Rattle.std.proofs.Common.{◌≡◌, ◌∙◌, length, get_or, option_map, take, sym, ap, arith, rules, tests, take_all}
-use Rattle.fr_world.specs.Spots.{earlier}
+use Rattle.fr_world.specs.CycleChannels.{earlier}
 use Rattle.fr_world.proofs.TakenLaws.{taken_among, taken_among-none, taken_by}
 use Rattle.fr_world.proofs.RowLaws.{pairs, shown, taken_among-row, first_taken_cell-among}
 use Rattle.fr_world.proofs.row_occupancy.RowOccupancyOccupancy.first_taken.Goals as goal

@@ -1,0 +1,9 @@
+-- What a proof about an import's rows opens.
+use Rattle.std.specs.Prelude.{⊤}
+use Rattle.fr_base.specs.Refusing.{◌>>=◌, ◌>>◌, ◌or◌, refuse◌when◌}
+use Rattle.fr_base.specs.Checks.{name, cycles, slot, channels, placement, signal}
+use Rattle.fr_base.specs.ImportRows.{placement_row, signal_row}
+
+unfoldable pub rows_open : ⊤
+unfolding ◌>>=◌ ◌>>◌ ◌or◌ refuse◌when◌ name cycles slot channels placement signal placement_row signal_row
+rows_open = tt

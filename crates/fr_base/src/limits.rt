@@ -1,0 +1,25 @@
+//! The most that a register holds.
+
+/// Suppliers of a cluster.
+pub const MAX_SUPPLIERS: usize = 64;
+
+/// Nodes of a supplier.
+pub const MAX_NODES: usize = 64;
+
+/// Variants of a register.
+pub const MAX_VARIANTS: usize = 64;
+
+/// The depth of a variant: 1 where it was opened empty, else one more than that of its parent.
+pub const MAX_DEPTH: u32 = 16;
+
+/// Frames of a supplier in a variant.
+pub const MAX_FRAMES: usize = 256;
+
+/// Placements of a frame.
+pub const MAX_PLACEMENTS: usize = 8;
+
+/// Signals of a frame.
+pub const MAX_SIGNALS: usize = 64;
+
+/// Words of two bytes in a payload.
+pub const MAX_PAYLOAD_WORDS: u32 = 127;

@@ -1,0 +1,52 @@
+-- What edits make of the register's rows.
+use Rattle.std.specs.Prelude.{◌≡◌, true, false, List, [], ◌∷◌, map, Option, Some, None, ⊤}
+use Rattle.fr_base.specs.Alone.{is_another}
+use Rattle.fr_base.specs.Tables.{get, insert}
+use Rattle.fr_base.specs.Book.{Variant, Book, empty_variant}
+use Rattle.fr_base.specs.Step.{with_variant, changed}
+use Rattle.fr_base.specs.declared.name.Name.{Name}
+use Rattle.fr_base.specs.declared.request.Change.TheVariants.{Grant, Revoke}
+use Rattle.fr_world.specs.declared.edit.Edit.{Edit}
+use Rattle.fr_world.specs.declared.edit.Edit.TheVariants.{NewVariant, SetReleased, NewNode, Rows, KeepImport}
+use Rattle.fr_world.specs.declared.variants.VariantRow.{VariantRow}
+
+-- the variant, if it is there; else an empty one
+abbrev pub or_empty : Option Variant → Variant
+or_empty None = empty_variant
+or_empty (Some x) = x
+
+-- the rows that a variant begins with: its parent's, or none
+abbrev pub copied : Book → Option Name → Variant
+copied b None = empty_variant
+copied b (Some parent) = or_empty (get b.variants parent)
+
+-- the book with a variant changed, if it is there
+abbrev pub changed_at : Book → Name → (Variant → Variant) → Option Variant → Book
+changed_at b v change None = b
+changed_at b v change (Some x) = with_variant b v (change x)
+
+abbrev pub change_variant : Book → Name → (Variant → Variant) → Book
+change_variant b v change = changed_at b v change (get b.variants v)
+
+-- the book after an edit
+unfoldable pub applied : Book → Edit → Book
+applied b (NewVariant v parent depth) = with_variant b v (record (copied b parent) { parent = parent; depth = depth; released = false })
+applied b (SetReleased v) = change_variant b v (λ x. record x { released = true })
+applied b (NewNode s n) = record b { nodes = insert b.nodes (s, n) tt }
+applied b (Rows s v what) = change_variant b v (changed s what)
+applied b (KeepImport s label v body rows) = b
+
+-- the book after edits, one after the other
+abbrev pub all_applied : Book → List Edit → Book
+all_applied b [] = b
+all_applied b (edit ∷ edits) = all_applied (applied b edit) edits
+
+-- The slot and channel that a supplier's edit grants, or whose grant it ends, is not another's in the variant.
+abbrev pub SparesOthers : Name → Variant → Edit → Type 0
+SparesOthers s x (Rows t v (Grant slot channel node)) = is_another s (get x.grants (slot, channel)) ≡ false
+SparesOthers s x (Rows t v (Revoke slot channel)) = is_another s (get x.grants (slot, channel)) ≡ false
+SparesOthers s x _ = ⊤
+
+-- the variants of the register, without the rows in them
+unfoldable pub variants_in : Book → List VariantRow
+variants_in b = map (λ e. record { variant = e.0; parent = e.1.parent; depth = e.1.depth; released = e.1.released }) b.variants.rows

@@ -1,0 +1,39 @@
+//! A cycle and a channel, by which cells of one slot are told apart.
+ghost use Rattle.std.specs.Prelude.{◌≡◌, option_map};
+ghost use Rattle.std.specs.List.{find};
+ghost use Rattle.fr_base.specs.Cells.{cells_of, has_cell};
+ghost use Rattle.fr_base.specs.Channels.{channels_in, has_channel};
+ghost use Rattle.fr_world.specs.CycleChannels.{cycle_channel};
+
+use fr_base::{Channel, Channels, Placement};
+
+/// A cell's cycle and channel: all that differs in a placement's cells. The cycle comes first in the
+/// order, then A before B.
+#[derive(Clone, Copy, Debug, PartialEq, Eq, PartialOrd, Ord)]
+pub(crate) struct CycleChannel {
+    pub(crate) cycle: u8,
+    pub(crate) channel: Channel,
+}
+
+/// The first cell of a placement that another one has too.
+pub(crate) fn first_shared(placement: &Placement, other: &Placement) -> Option<CycleChannel>
+    ensures { result ≡ option_map cycle_channel (find (has_cell other.now) (cells_of placement.now)) }
+{
+    if placement.slot != other.slot {
+        return None;
+    }
+    let channel = first_shared_channel(placement.channels, other.channels)?;
+    let cycle = placement.cycles.first_common(&other.cycles)?;
+    Some(CycleChannel { cycle, channel })
+}
+
+// The first channel that is among both: A before B.
+fn first_shared_channel(channels: Channels, others: Channels) -> Option<Channel>
+    ensures { result ≡ find (has_channel others) (channels_in channels) }
+{
+    channels
+        .as_slice()
+        .iter()
+        .copied()
+        .find(|channel| others.has(*channel))
+}
