@@ -1,8 +1,7 @@
 # make run      proves and builds the program where that is still to be done, and runs a script
-# make test     the gate: every proof from nothing, the must-fail edits, the tests, the stored run
+# make test     the gate: every proof from nothing, the must-fail edits, the tests, and the built program tried
+# make try      tries the built program alone, as the gate does: rows, examples, faults, limits
 # make install  puts the proved program at $(PREFIX)/bin/slotplan
-# make examples runs every script of examples/ and compares its answers with those beside it
-#               (of the gate are the first, as the stored run, and the powertrain's, as a test: each line stands there)
 # make bench    prints the program's speed and memory beside those of a plain reader, how a change's time grows
 #               with its supplier's rows, and the speed of texts alone; no test
 
@@ -12,24 +11,19 @@ PREFIX ?= /usr/local
 program := crates/fr_cli/out/fr_cli
 build_log := out/build.log
 
-.PHONY: run test install examples bench build toolchain
+.PHONY: run test try install bench build toolchain
 
 run: build
 	@$(program) run < $(SCRIPT)
 
 test: toolchain
-	@rt ci
+	@python3 tests/gate.py
+
+try: build
+	@python3 tests/program.py $(program)
 
 install: build
 	install -D -m 755 $(program) $(DESTDIR)$(PREFIX)/bin/slotplan
-
-examples: build
-	@cmp examples/first.script crates/fr_cli/stdin && cmp examples/first.answers crates/fr_cli/stdout
-	@! grep -vxFf crates/fr_cli/src/script/tests/powertrain.rt examples/powertrain.script examples/powertrain.answers
-	@for script in examples/*.script; do \
-	  $(program) run < $$script | diff - $${script%.script}.answers || exit 1; \
-	  echo "$$script is answered as $${script%.script}.answers has it" || exit 1; \
-	done
 
 bench: build
 	@python3 bench/run.py

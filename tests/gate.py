@@ -1,0 +1,39 @@
+#!/usr/bin/env python3
+"""The gate: `rt ci`, and then the program that it built, tried as each compiler made it. The last line counts both."""
+import re
+import subprocess
+import sys
+from pathlib import Path
+
+TOP = Path(__file__).resolve().parent.parent
+PROGRAM = "crates/fr_cli/out/fr_cli"
+COUNT = re.compile(r"(\d+) passed, (\d+) failed")
+
+
+def counted(name, words):
+    """Runs a command and shows what it says, as it says it. Gives what it counts at its end as passed and as failed; a
+    command that counts nothing, or ends with another status than its count, has failed once more."""
+    passed, failed = 0, 0
+    with subprocess.Popen(words, cwd=TOP, stdin=subprocess.DEVNULL, stdout=subprocess.PIPE, text=True, errors="replace") as command:
+        count = None
+        for line in command.stdout:
+            count = COUNT.fullmatch(line.rstrip("\n"))
+            print(f"{name}: {line}" if count else line, end="", flush=True)
+    if count:
+        passed, failed = int(count[1]), int(count[2])
+    if not count or (command.returncode != 0) != (failed != 0):
+        print(f"{name}: ended with status {command.returncode}, and counted {count[0] if count else 'nothing'}")
+        failed += 1
+    return passed, failed
+
+
+def main():
+    proved = counted("rt ci", ["rt", "ci"])
+    tried = counted("the built program", [sys.executable, "tests/program.py", PROGRAM, f"{PROGRAM}.by-rattle"])
+    passed, failed = (sum(both) for both in zip(proved, tried))
+    print(f"{passed} passed, {failed} failed")
+    return 1 if failed else 0
+
+
+if __name__ == "__main__":
+    sys.exit(main())

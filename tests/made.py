@@ -1,0 +1,200 @@
+"""Scripts that are made by rule, each a cluster file and pairs of a request and its answer.
+
+The rules are those of docs/FORMATS.md, written once more here; no answer is the program's own."""
+import json
+
+CYCLES = 64
+SLOTS = 1023
+NODES = 64
+FRAMES = 256
+PLACEMENTS = 8
+SIGNALS = 64
+VARIANTS = 64
+DEPTH = 16
+
+CLUSTER = {
+    "channels": '"AB"',
+    "static_slots": "4",
+    "slot_macroticks": "10",
+    "dynamic_macroticks": "40",
+    "symbol_macroticks": "10",
+    "idle_macroticks": "10",
+    "macroticks_per_cycle": "100",
+    "payload_words": "1",
+    "integrator": '"integrator1"',
+    "suppliers": '{s1 = "supplier01", s2 = "supplier02"}',
+}
+
+LARGE = {
+    **CLUSTER,
+    "static_slots": str(SLOTS),
+    "slot_macroticks": "1",
+    "dynamic_macroticks": "0",
+    "symbol_macroticks": "0",
+    "idle_macroticks": "1",
+    "macroticks_per_cycle": str(SLOTS + 1),
+    "payload_words": "127",
+}
+
+DONE = '{"ok":"done"}'
+
+
+def cluster_file(keys):
+    return "".join(f"{key} = {value}\n" for key, value in keys.items() if value is not None)
+
+
+def suppliers(count):
+    """A table of so many suppliers, each with a key of its own."""
+    return "{" + ", ".join(f's{n} = "supplier{n:02}"' for n in range(1, count + 1)) + "}"
+
+
+def script(cluster, pairs):
+    return (cluster_file(cluster) + "---\n" + "".join(f"{asked}\n" for asked, _ in pairs)).encode()
+
+
+def answers(pairs):
+    return "".join(f"{answer}\n" for _, answer in pairs).encode()
+
+
+def request(key, do, **fields):
+    return f"{key} {json.dumps({'do': do, **fields}, separators=(',', ':'))}"
+
+
+def refused(number, name):
+    return f'{{"no":{number},"refused":"{name}"}}'
+
+
+def done(key, do, **fields):
+    return request(key, do, **fields), DONE
+
+
+def limit(key, do, **fields):
+    return request(key, do, **fields), refused(23, "Limit")
+
+
+# What the supplier s1 has at the limits: each slot on both channels, by turns of its nodes; frames that fill the first half of
+# the slots, four to a slot, each in every fourth cycle; and two frames full of signals, in the one order and in the other.
+NODE = [f"n{n:02}" for n in range(NODES)]
+GRANT = [(slot, channel, NODE[slot % NODES]) for slot in range(1, SLOTS + 1) for channel in "AB"]
+FRAME = [f"f{n:03}" for n in range(FRAMES)]
+LITTLE = [(f"l{n:02}", 31 * n, 64 if n == SIGNALS - 1 else 31) for n in range(SIGNALS)]
+BIG = [(f"b{n:02}", 7 + 24 * n, 24) for n in range(SIGNALS)]
+SIGNAL = [(FRAME[0], "little", LITTLE), (FRAME[1], "big", BIG)]
+
+
+def node_of(frame):
+    return NODE[frame % NODES]
+
+
+def slots_of(frame):
+    """Those of the frame's placements, which are among its node's."""
+    return [(frame % NODES or NODES) + NODES * n for n in range(PLACEMENTS)]
+
+
+def base_of(frame):
+    """That of all the frame's placements."""
+    return frame // NODES
+
+
+def placements_of(frame):
+    return [dict(frame=FRAME[frame], slot=slot, channels="AB", base=base_of(frame), repetition=4) for slot in slots_of(frame)]
+
+
+def sent(frame):
+    """The cycles and slots in which the frame is sent, on both channels."""
+    return [(cycle, slot) for cycle in range(base_of(frame), CYCLES, 4) for slot in slots_of(frame)]
+
+
+def schedule():
+    cells = sorted((cycle, slot, channel, frame) for frame in range(FRAMES) for cycle, slot in sent(frame) for channel in "AB")
+    return [f"{cycle:02} {slot:04} {channel} {FRAME[frame]} {node_of(frame)}" for cycle, slot, channel, frame in cells]
+
+
+def frames():
+    for frame, name in enumerate(FRAME):
+        yield f"FRAME {name} {node_of(frame)}"
+        yield from (f"AT {slot:04} AB {base_of(frame):02} 04" for slot in slots_of(frame))
+
+
+def gaps():
+    cycle_length = SLOTS + 1
+    for frame, name in enumerate(FRAME):
+        moments = sorted(cycle * cycle_length + slot - 1 for cycle, slot in sent(frame))
+        nexts = moments[1:] + [moments[0] + CYCLES * cycle_length]
+        yield f"GAP {max(after - moment for moment, after in zip(moments, nexts)):7} {name}"
+
+
+def queries(key, variant, behind):
+    """Each query of a variant in which s1 is at the limits; `behind` follows each line but those of placements."""
+    grants = (f"{slot:04} {channel} {node}" for slot, channel, node in GRANT)
+    reports = [("grants", {}, grants), ("frames", {}, frames()), ("schedule", {}, schedule()), ("gaps", {}, gaps())]
+    for frame, order, signals in SIGNAL:
+        rows = [f"{start:04} {length:02} {order} {signal}" for signal, start, length in signals]
+        reports.append(("layout", dict(frame=frame), rows))
+    for name, fields, rows in reports:
+        told = [row if row.startswith("AT") else row + behind for row in rows]
+        yield request(key, name, variant=variant, **fields), json.dumps({"lines": told, "ok": name}, separators=(",", ":"))
+
+
+def at_the_limits():
+    """A supplier gets all that it may have, and one more of each, in a variant and in those opened one from another."""
+    integrator, key, in_v1 = "integrator1", "supplier01", dict(variant="v1")
+
+    yield done(integrator, "open_variant", **in_v1)
+    for node in NODE:
+        yield done(integrator, "add_node", supplier="s1", node=node)
+    yield limit(integrator, "add_node", supplier="s1", node="more")
+    yield done(integrator, "add_node", supplier="s2", node="more")
+    for slot, channel, node in GRANT:
+        yield done(integrator, "grant", **in_v1, slot=slot, channel=channel, supplier="s1", node=node)
+    more = dict(**in_v1, supplier="s2", node="more")
+    yield request(integrator, "grant", **more, slot=SLOTS, channel="B"), refused(24, "Taken")
+    yield request(integrator, "grant", **more, slot=SLOTS + 1, channel="A"), refused(6, "BadSlot")
+
+    for frame, name in enumerate(FRAME):
+        yield done(key, "add_frame", **in_v1, frame=name, node=node_of(frame))
+        for placement in placements_of(frame):
+            yield done(key, "place", **in_v1, **placement)
+    yield limit(key, "add_frame", **in_v1, frame="more", node=NODE[0])
+    ninth = dict(**in_v1, frame=FRAME[0], channels="A", base=0, repetition=64)
+    yield limit(key, "place", **ninth, slot=NODES * (PLACEMENTS + 1))
+    yield request(key, "place", **ninth, slot=1), refused(21, "NotGranted")
+
+    for frame, order, signals in SIGNAL:
+        for signal, start, length in signals:
+            yield done(key, "add_signal", **in_v1, frame=frame, signal=signal, start=start, length=length, order=order)
+        yield limit(key, "add_signal", **in_v1, frame=frame, signal="more", start=0, length=1, order=order)
+    last = dict(**in_v1, frame=FRAME[2], signal="last", length=1, order="little")
+    yield request(key, "add_signal", **last, start=2032), refused(26, "OutOfPayload")
+    yield done(key, "add_signal", **last, start=2031)
+    yield done(key, "drop_signal", **in_v1, frame=FRAME[2], signal="last")
+
+    yield from queries(key, "v1", "")
+    yield from queries(integrator, "v1", " s1")
+
+    for depth in range(1, DEPTH):
+        yield done(integrator, "release", variant=f"v{depth}")
+        yield done(integrator, "open_variant", variant=f"v{depth + 1}", **{"from": f"v{depth}"})
+    deepest = f"v{DEPTH}"
+    yield from queries(key, deepest, "")
+    again = dict(variant=deepest, **placements_of(FRAMES - 1)[-1])
+    yield done(key, "unplace", **again)
+    yield done(key, "place", **again)
+    yield done(integrator, "release", variant=deepest)
+    yield request(integrator, "open_variant", variant="more", **{"from": deepest}), refused(13, "TooDeep")
+    for n in range(DEPTH + 1, VARIANTS + 1):
+        yield done(integrator, "open_variant", variant=f"v{n}")
+    yield limit(integrator, "open_variant", variant="more")
+    yield limit(integrator, "open_variant", variant="more", **{"from": "v1"})
+
+
+def with_a_stranger(first):
+    """The first script with another supplier's node, grant and 257 frames between its lines, whose answers stay."""
+    of_s2 = dict(variant="v1", node="n2")
+    stranger = [
+        done("integrator1", "add_node", supplier="s2", node="n2"),
+        done("integrator1", "grant", **of_s2, slot=1, channel="B", supplier="s2"),
+        *(done("supplier02", "add_frame", **of_s2, frame=f"f{n}") for n in range(1, FRAMES + 1)),
+        limit("supplier02", "add_frame", **of_s2, frame="f257"),
+    ]
+    return [*first[:1], *stranger[:1], *first[1:3], *stranger[1:100], *first[3:5], *stranger[100:], *first[5:]]

@@ -1,0 +1,250 @@
+#!/usr/bin/env python3
+"""Tries the built program as its users start it: program.py PROGRAM..
+
+Each program is started once for each case; its status, what it writes and what it says on standard error are compared with
+what is wanted. That was typed by hand from docs/FORMATS.md, or is made by its rules in made.py; none of it is the
+program's own output. The last line is 'N passed, M failed'."""
+import os
+import subprocess
+import sys
+from itertools import product, zip_longest
+from pathlib import Path
+from typing import NamedTuple, Sequence
+
+from made import CLUSTER, DONE, LARGE, answers, at_the_limits, cluster_file, refused, script, suppliers, with_a_stranger
+
+TOP = Path(__file__).resolve().parent.parent
+SCRIPT_BYTES = 16_777_216
+SECONDS = 120
+
+OPEN = 'integrator1 {"do":"open_variant","variant":"v1"}'
+FIRST = (TOP / "examples/first.script").read_bytes()
+FIRST_ANSWERS = (TOP / "examples/first.answers").read_bytes()
+
+USAGE = b"""\
+Usage: slotplan run
+       slotplan --help
+
+run     reads a script from standard input: a cluster file, the line ---, and a
+        request on each line after it; writes the answers to standard output
+--help  prints this text
+
+Status 0: every request was answered, refused or not. Status 1: a fault ended
+the run; standard error has its word. Status 2: the program was called otherwise.
+"""
+
+
+class Case(NamedTuple):
+    """How the program is started, and what is then wanted of it."""
+
+    name: str
+    given: bytes = b""  # on standard input
+    written: bytes = b""  # on standard output
+    said: bytes = b""  # on standard error
+    status: int = 0
+    words: Sequence = ("run",)
+    start: str = 'exec "$@"'  # the shell's line, in which "$@" is the program with its words
+    is_read: bool = True  # whether standard output has a reader
+
+
+def fault(name, given, word, **more):
+    return Case(name, given, said=f"slotplan: {word}\n".encode(), status=1, **more)
+
+
+def files():
+    for file in sorted([*TOP.glob("tests/rows/*.script"), *TOP.glob("examples/*.script")]):
+        yield Case(str(file.relative_to(TOP)), file.read_bytes(), file.with_suffix(".answers").read_bytes())
+
+
+def made_scripts():
+    first = FIRST.decode().partition("---\n")[2].splitlines()
+    pairs = with_a_stranger(list(zip(first, FIRST_ANSWERS.decode().splitlines())))
+    yield Case("a stranger's lines between those of the first script", script(CLUSTER, pairs), answers(pairs))
+    pairs = list(at_the_limits())
+    yield Case("a script at the limits", script({**LARGE, "suppliers": suppliers(64)}, pairs), answers(pairs))
+
+
+def words():
+    for given in ("--help",), ("-h",), ("run", "--help"), ("run", "-h"):
+        yield Case(f"the words {given}", written=USAGE, words=given)
+    none = [(), ("",), ("walk",), ("Run",), ("run ",), ("run", ""), ("run", "run"), ("--help", "run"), ("run", "-h", "-h"), ("--helpful",)]
+    not_utf8 = [(b"\xff",), (b"run\xff",), (b"\xffrun",), (b"run", b"\xff"), (b"--help", b"\xff"), (b"r\xc0\xb5n",)]
+    for given in none + not_utf8:
+        yield Case(f"the words {given}", FIRST, said=USAGE, status=2, words=given)
+
+
+def by_fault():
+    """What makes a cluster file faulty, by the fault; many are faulty in a later way too."""
+    yield from (("BadField", {key: None}) for key in CLUSTER)
+    yield from (("BadField", {key: value}) for key in list(CLUSTER)[1:8] for value in ('"4"', "4.0", "true", "-4", "4294967296"))
+    yield from (("BadField", dict(channels=value)) for value in ('"BA"', '"a"', '""', "1", '["A"]'))
+    yield from (("BadField", dict(suppliers=value)) for value in ('"s1"', "[]", "{s1 = 1}", "{s1 = {key = 1}}", '{s1 = ["supplier01"]}'))
+    yield from (("BadField", changes) for changes in (dict(integrator="1"), dict(cycles="64"), dict(static_slots="1", payload_words="-1")))
+
+    yield from (("BadToml", dict(payload_words=value)) for value in ("99999999999999999999", "", "'1", "1\npayload_words = 1"))
+    yield from (("BadSlots", dict(static_slots=value, payload_words="128")) for value in ("0", "1", "1024", "4294967295"))
+    yield from (("BadPayload", dict(payload_words=value, idle_macroticks="0")) for value in ("128", "4294967295"))
+    yield "BadMacroticks", dict(slot_macroticks="0")
+    yield "BadMacroticks", dict(idle_macroticks="0")
+    yield "BadMacroticks", dict(slot_macroticks="25", dynamic_macroticks="0", symbol_macroticks="0", idle_macroticks="0")
+    yield "BadMacroticks", dict(dynamic_macroticks="15941", macroticks_per_cycle="16001")
+    yield "BadSum", dict(macroticks_per_cycle="101", suppliers=suppliers(65))
+    yield "BadSum", dict(macroticks_per_cycle="99")
+    yield "BadSum", dict(slot_macroticks="1073741824", dynamic_macroticks="80")
+    yield "BadSum", dict(dynamic_macroticks="4294967295", symbol_macroticks="51")
+
+    yield "Limit", dict(suppliers=suppliers(65))
+    yield "Limit", dict(suppliers=suppliers(64)[:-1] + ', 1s = ""}')
+    yield from (("BadName", dict(suppliers=f'{{{name} = ""}}')) for name in ("1s", '""', "s-1", '"s 1"', "_s", "s" * 33))
+    short_long_and_others = ("", "short07", "k" * 65, "supplier_1", "supplier 1", "schlüssel1")
+    yield from (("BadKey", dict(suppliers=f'{{s1 = "{key}", s2 = "{key}"}}')) for key in short_long_and_others)
+    yield from (("BadKey", dict(integrator=f'"{key}"')) for key in short_long_and_others)
+    yield from (("KeyTwice", dict(suppliers=f'{{s1 = "supplier01", s2 = "{key}"}}')) for key in ("supplier01", "integrator1"))
+
+
+def without_fault():
+    least = dict(slot_macroticks="1", dynamic_macroticks="0", symbol_macroticks="0", idle_macroticks="1")
+    yield dict(**least, static_slots="1023", macroticks_per_cycle="1024")
+    yield dict(**least, static_slots="2", macroticks_per_cycle="3")
+    yield dict(dynamic_macroticks="15940", macroticks_per_cycle="16000")
+    yield from (dict(payload_words=value) for value in ("0", "127", "0x1", "+1", "1_2"))
+    yield from (dict(channels=value) for value in ("'A'", '"B"', '"AB"'))
+    yield from (dict(suppliers=value) for value in ("{}", suppliers(64), f'{{{"s" * 32} = "{"k" * 64}", S_1 = "8letters"}}'))
+
+
+def cluster_files():
+    """Each fault of a cluster file, alone and before those that come after it in their order; and what is none."""
+    asked = [(OPEN, DONE)]
+    for word, changes in by_fault():
+        yield fault(f"{word}: a cluster file with {changes}", script({**CLUSTER, **changes}, asked), word)
+    for word, text in ("BadToml", b"\xff\n"), ("BadToml", b"x\n"), ("BadField", b""), ("BadField", b"[suppliers]\n"):
+        yield fault(f"{word}: a cluster file {text}", text + b"---\n", word)
+    for changes in without_fault():
+        yield Case(f"a cluster file with {changes}", script({**CLUSTER, **changes}, asked), answers(asked))
+
+
+def separators():
+    """What ends a cluster file, and what does not; nothing is written where nothing does."""
+    cluster, done = cluster_file(CLUSTER).encode(), answers([(OPEN, DONE)])
+    ends = [b"---", b"---\n", b"---\r\n", b"---\n\n\r\n\n"]
+    asked = [b"---\n" + OPEN.encode(), b"# ---\n---\r\n" + OPEN.encode() + b"\r\n", b"---\n\n\n" + OPEN.encode() + b"\n\n"]
+    for end, written in [(end, b"") for end in ends] + [(end, done) for end in asked]:
+        yield Case(f"the cluster file ends with {end}", cluster + end, written)
+    for end in (b"", OPEN.encode(), b"--- \n", b" ---\n", b"----\n", b"--\n-\n", b"---x\n", b"---\r", b"---\r\r\n", b"\xef\xbb\xbf---\n"):
+        yield fault(f"no separator in {end}", cluster + end, "NoSeparator")
+    yield fault("an empty script", b"", "NoSeparator")
+    yield fault("a separator within a text of the cluster file", b"x = '''\n---\n'''\n" + FIRST, "BadToml")
+
+
+def lines():
+    """Lines whose bytes decide what they are."""
+    schedule = b'{"do":"schedule","variant":"v1"}'
+    cases = {
+        b"supplier01": (1, "BadText"),
+        b"supplier01 ": (1, "BadText"),
+        b"supplier01\t" + schedule: (1, "BadText"),
+        b"---": (1, "BadText"),
+        b"\xff": (1, "BadText"),
+        b"\xff {}": (1, "BadText"),
+        b'supplier01 {"do":"schedule","variant":"v\xff"}': (1, "BadText"),
+        b"supplier01 \xef\xbb\xbf" + schedule: (1, "BadText"),
+        b"supplier01 " + b"[" * 5000: (1, "BadText"),
+        b"supplier01 " + b'{"do":' * 5000: (1, "BadText"),
+        b" ": (1, "BadText"),
+        b" " + schedule: (2, "UnknownKey"),
+        b"\xff " + schedule: (2, "UnknownKey"),
+        b"supplier01\r " + schedule: (2, "UnknownKey"),
+        b"k" * 5000 + b" " + schedule: (2, "UnknownKey"),
+        b'supplier01 {"do":"schedule","variant":"' + b"v" * 5000 + b'"}': (4, "BadName"),
+        b'supplier01 {"do":"schedule","variant":"' + b"\\u0076" * 5000 + b'"}': (4, "BadName"),
+        b'supplier01 {"do":"schedule",' + b'"variant":"1v",' * 5000 + b'"variant":"v9"}': (10, "NoVariant"),
+        b"supplier01 " + b" " * 5000 + schedule + b"\t" * 5000: (10, "NoVariant"),
+        b"supplier01 \r" + schedule + b"\r": (10, "NoVariant"),
+        b"supplier01  " + schedule: (10, "NoVariant"),
+    }
+    start = cluster_file(CLUSTER).encode() + b"---\n"
+    long = OPEN.replace(":", " " * 5000 + ":\t")
+    yield Case("a request of 10,000 spaces", start + long.encode(), answers([(long, DONE)]))
+    for end in (b"\n", b"\r\n"):
+        written = "".join(f"{refused(*answer)}\n" for answer in cases.values()).encode()
+        yield Case(f"lines that end with {end}", start + end.join(cases) + end, written)
+    yield Case("a last line of one carriage return", start + b"\r", f"{refused(1, 'BadText')}\n".encode())
+
+
+def sizes():
+    feeds = b"\n" * SCRIPT_BYTES
+    yield fault("as many line feeds as a script has bytes", feeds, "NoSeparator")
+    yield fault("one line feed more", feeds + b"\n", "TooLong")
+    yield Case("the first script, as long as a script may be", FIRST + feeds[len(FIRST) :], FIRST_ANSWERS)
+    yield fault("the first script, one byte longer", FIRST + feeds[len(FIRST) :] + b"\n", "TooLong")
+    yield fault("a script without end", b"", "TooLong", start='exec "$@" < /dev/zero')
+    yield fault("a script that memory cannot hold", feeds, "NoMemory", start='ulimit -v 16384; exec "$@"')
+
+
+def streams():
+    """Standard input that cannot be read; standard output and standard error that are closed, full, or read by nobody."""
+    yield fault("a folder for standard input", b"", "ReadFailed", start='exec "$@" < /')
+    yield fault("standard input closed", b"", "ReadFailed", start='exec "$@" <&-')
+    yield fault("standard output without a reader", FIRST, "WriteFailed", is_read=False)
+    for given, named in (("run",), "the first script"), (("--help",), "help"):
+        for end, is_said in (">&-", True), ("> /dev/full", True), (">&- 2>&-", False), ("> /dev/full 2> /dev/full", False):
+            said = b"slotplan: WriteFailed\n" if is_said else b""
+            yield Case(f"{named} {end}", FIRST, said=said, status=1, words=given, start=f'exec "$@" {end}')
+    yield Case("usage 2> /dev/full", status=2, words=("walk",), start='exec "$@" 2> /dev/full')
+    yield Case("usage 2>&-", status=2, words=("walk",), start='exec "$@" 2>&-')
+    yield Case("usage >&-", said=USAGE, status=2, words=("walk",), start='exec "$@" >&-')
+    yield Case("no separator 2> /dev/full", b"x\n", status=1, start='exec "$@" 2> /dev/full')
+
+
+def unread_pipe():
+    reader, writer = os.pipe()
+    os.close(reader)
+    return os.fdopen(writer, "wb", buffering=0)
+
+
+def ran(program, case):
+    """The status, and what was written and said."""
+    output = subprocess.PIPE if case.is_read else unread_pipe()
+    line = ["sh", "-c", case.start, "sh", program, *case.words]
+    got = subprocess.run(line, input=case.given, stdout=output, stderr=subprocess.PIPE, timeout=SECONDS)
+    return got.returncode, got.stdout or b"", got.stderr
+
+
+def difference(what, wanted, got):
+    """The first line in which two texts differ, if they do."""
+    if wanted == got:
+        return []
+    both = zip_longest(wanted.split(b"\n"), got.split(b"\n"))
+    at, line, other = next((at, line, other) for at, (line, other) in enumerate(both, 1) if line != other)
+    return [f"{what}, line {at}: wanted {str(line)[:200]}, got {str(other)[:200]}"]
+
+
+def differences(program, case):
+    try:
+        status, written, said = ran(program, case)
+    except (OSError, subprocess.TimeoutExpired) as error:
+        return [str(error)[:200]]
+    ended = [] if status == case.status else [f"status: wanted {case.status}, got {status}"]
+    return [*ended, *difference("standard output", case.written, written), *difference("standard error", case.said, said)]
+
+
+def main(programs):
+    passed = failed = 0
+    there = [program for program in programs if os.access(program, os.X_OK)]
+    for program in set(programs) - set(there):
+        failed += 1
+        print(f"{program} is not there")
+    for part in files, made_scripts, words, cluster_files, separators, lines, sizes, streams:
+        for case, program in product(part(), there):
+            wrong = differences(program, case)
+            passed, failed = passed + (not wrong), failed + bool(wrong)
+            for what in wrong:
+                print(f"{program}: {case.name}: {what}")
+    print(f"{passed} passed, {failed} failed")
+    return 1 if failed else 0
+
+
+if __name__ == "__main__":
+    if len(sys.argv) < 2:
+        sys.exit(__doc__)
+    sys.exit(main(sys.argv[1:]))
