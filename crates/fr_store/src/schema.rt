@@ -1,0 +1,219 @@
+//! Whether two schemas are the same.
+
+ghost use Rattle.std.specs.Prelude.{◌≡◌, IsTrue};
+
+use sqlite_items::Items;
+use sqlite_schema::code::{Op, Terms};
+use sqlite_schema::schema::{Column, Index, Reference, Schema, Table};
+use sqlite_value::keys::Order;
+use sqlite_value::value::{Bytes, Value};
+
+fn same_places(a: &[usize], b: &[usize]) -> bool
+    ensures { IsTrue result → a.now ≡ b.now }
+{
+    a == b
+}
+
+fn same_bytes(a: &[u8], b: &[u8]) -> bool
+    ensures { IsTrue result → a.now ≡ b.now }
+{
+    a == b
+}
+
+fn same_keys(a: &[Items<usize>], b: &[Items<usize>]) -> bool
+    ensures { IsTrue result → a.now ≡ b.now }
+{
+    if a.len() != b.len() {
+        return false;
+    }
+    for at in 0..a.len() {
+        if !same_places(a[at].as_slice(), b[at].as_slice()) {
+            return false;
+        }
+    }
+    true
+}
+
+fn same_orders(a: &[Order], b: &[Order]) -> bool
+    ensures { IsTrue result → a.now ≡ b.now }
+{
+    if a.len() != b.len() {
+        return false;
+    }
+    for at in 0..a.len() {
+        if a[at] != b[at] {
+            return false;
+        }
+    }
+    true
+}
+
+fn same_names(a: &[Bytes], b: &[Bytes]) -> bool
+    ensures { IsTrue result → a.now ≡ b.now }
+{
+    if a.len() != b.len() {
+        return false;
+    }
+    for at in 0..a.len() {
+        if !same_bytes(a[at].as_slice(), b[at].as_slice()) {
+            return false;
+        }
+    }
+    true
+}
+
+/// Only NULL is told to be the same default.
+fn same_column(a: &Column, b: &Column) -> bool
+    ensures { IsTrue result → a.now ≡ b.now }
+{
+    matches!(a.default, Value::Null)
+        && matches!(b.default, Value::Null)
+        && same_bytes(a.name.as_slice(), b.name.as_slice())
+        && a.kind == b.kind
+        && a.is_strict == b.is_strict
+        && a.not_null == b.not_null
+        && a.collation == b.collation
+}
+
+fn same_columns(a: &[Column], b: &[Column]) -> bool
+    ensures { IsTrue result → a.now ≡ b.now }
+{
+    if a.len() != b.len() {
+        return false;
+    }
+    for at in 0..a.len() {
+        if !same_column(&a[at], &b[at]) {
+            return false;
+        }
+    }
+    true
+}
+
+fn same_reference(a: &Reference, b: &Reference) -> bool
+    ensures { IsTrue result → a.now ≡ b.now }
+{
+    same_places(a.columns.as_slice(), b.columns.as_slice())
+        && same_bytes(a.parent.as_slice(), b.parent.as_slice())
+        && same_names(a.parent_columns.as_slice(), b.parent_columns.as_slice())
+        && a.on_delete == b.on_delete
+        && a.on_update == b.on_update
+        && a.is_deferred == b.is_deferred
+}
+
+fn same_references(a: &[Reference], b: &[Reference]) -> bool
+    ensures { IsTrue result → a.now ≡ b.now }
+{
+    if a.len() != b.len() {
+        return false;
+    }
+    for at in 0..a.len() {
+        if !same_reference(&a[at], &b[at]) {
+            return false;
+        }
+    }
+    true
+}
+
+/// Only NULL and integers are told to be the same literal.
+fn same_op(a: &Op, b: &Op) -> bool
+    ensures { IsTrue result → a.now ≡ b.now }
+{
+    match (a, b) {
+        (Op::Literal(Value::Int(m)), Op::Literal(Value::Int(n))) => m == n,
+        (Op::Literal(Value::Null), Op::Literal(Value::Null)) => true,
+        (Op::Column(slot, at), Op::Column(other, place)) => slot == other && at == place,
+        (Op::Unary(op, x), Op::Unary(other, y)) => op == other && x == y,
+        (Op::Binary(op, w, x), Op::Binary(other, y, z)) => op == other && w == y && x == z,
+        _ => false,
+    }
+}
+
+fn same_ops(a: &[Op], b: &[Op]) -> bool
+    ensures { IsTrue result → a.now ≡ b.now }
+{
+    if a.len() != b.len() {
+        return false;
+    }
+    for at in 0..a.len() {
+        if !same_op(&a[at], &b[at]) {
+            return false;
+        }
+    }
+    true
+}
+
+fn same_terms(a: &Terms, b: &Terms) -> bool
+    ensures { IsTrue result → a.now ≡ b.now }
+{
+    same_places(a.roots.as_slice(), b.roots.as_slice())
+        && same_ops(a.nodes.as_slice(), b.nodes.as_slice())
+}
+
+fn same_table(a: &Table, b: &Table) -> bool
+    ensures { IsTrue result → a.now ≡ b.now }
+{
+    same_bytes(a.name.as_slice(), b.name.as_slice())
+        && a.tree == b.tree
+        && same_columns(a.columns.as_slice(), b.columns.as_slice())
+        && a.key == b.key
+        && same_places(a.primary.as_slice(), b.primary.as_slice())
+        && same_keys(a.uniques.as_slice(), b.uniques.as_slice())
+        && same_orders(a.orders.as_slice(), b.orders.as_slice())
+        && same_terms(&a.checks, &b.checks)
+        && same_references(a.references.as_slice(), b.references.as_slice())
+        && same_places(a.computed.as_slice(), b.computed.as_slice())
+        && same_places(a.stamps.places.as_slice(), b.stamps.places.as_slice())
+        && same_terms(&a.stamps.terms, &b.stamps.terms)
+        && same_names(a.stamps.formats.as_slice(), b.stamps.formats.as_slice())
+        && a.is_counted == b.is_counted
+}
+
+fn same_tables(a: &[Table], b: &[Table]) -> bool
+    ensures { IsTrue result → a.now ≡ b.now }
+{
+    if a.len() != b.len() {
+        return false;
+    }
+    for at in 0..a.len() {
+        if !same_table(&a[at], &b[at]) {
+            return false;
+        }
+    }
+    true
+}
+
+fn same_index(a: &Index, b: &Index) -> bool
+    ensures { IsTrue result → a.now ≡ b.now }
+{
+    same_bytes(a.name.as_slice(), b.name.as_slice())
+        && a.tree == b.tree
+        && a.table == b.table
+        && same_places(a.columns.as_slice(), b.columns.as_slice())
+        && a.order == b.order
+        && a.is_unique == b.is_unique
+}
+
+fn same_indexes(a: &[Index], b: &[Index]) -> bool
+    ensures { IsTrue result → a.now ≡ b.now }
+{
+    if a.len() != b.len() {
+        return false;
+    }
+    for at in 0..a.len() {
+        if !same_index(&a[at], &b[at]) {
+            return false;
+        }
+    }
+    true
+}
+
+/// Whether the schemas are the same. One with a view, or with a default that is not NULL, is told to
+/// be another.
+pub fn same_schema(a: &Schema, b: &Schema) -> bool
+    ensures { IsTrue result → a.now ≡ b.now }
+{
+    a.views.is_empty()
+        && b.views.is_empty()
+        && same_indexes(a.indexes.as_slice(), b.indexes.as_slice())
+        && same_tables(a.tables.as_slice(), b.tables.as_slice())
+}
