@@ -45,9 +45,10 @@ pub record SaysAlike (actor : Actor) (request : Request) (command : Command) : T
   pub against : (s : Name) (b : Book) → against s b command ≡ refused_beside s b actor request
   pub frames : of_frame command ≡ true → is_integrator actor ≡ false
 
--- and no query of the integrator's concerns a supplier
+-- an import is of the supplier that asks; and no query of the integrator's concerns a supplier
 abbrev pub Says : Actor → Request → Checked → Type 0
 Says actor request (checked.Command command) = SaysAlike actor request command
+Says actor request (checked.Import i) = actor ≡ Supplier i.supplier
 Says actor request (checked.Query query) = is_integrator actor ≡ true → (s : Name) → concerns s request ≡ false
 
 by_integrator : (actor : Actor) (request : Request) (command : Command) → is_integrator actor ≡ true →
@@ -142,6 +143,10 @@ check-says p actor (request.DropSignal variant frame named) =
     gives_each _ (name variant) _ (λ v _.
     gives_each _ (name frame) _ (λ f _.
     gives_each _ (name named) _ (λ n _. by_supplier actor _ t v f _ is))))
+check-says p actor (request.Import variant label body) =
+    gives_bind _ _ (asking actor) _ (asking-is actor) (λ t is.
+    gives_each _ (name variant) _ (λ v _.
+    gives_each _ (name label) _ (λ l _. is)))
 check-says p actor (request.Grants variant) = gives_each _ (name variant) _ (λ v _ is s. refl)
 check-says p actor (request.Frames variant) = gives_each _ (name variant) _ (λ v _ is s. refl)
 check-says p actor (request.Schedule variant) = gives_each _ (name variant) _ (λ v _ is s. refl)

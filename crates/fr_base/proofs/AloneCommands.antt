@@ -112,7 +112,7 @@ then_none (Ok tt) = refl
 then_none (Err e) = refl
 
 module _ (c : Cluster) (b : Book) (s : Name) where
-  admits-beside : (v : Name) (what : Change) → (of_frame (Rows s v what) ≡ true → IsSound c b) → (x : Variant) → get b.variants v ≡ Some x →
+  pub admits-beside : (v : Name) (what : Change) → (of_frame (Rows s v what) ≡ true → IsSound c b) → (x : Variant) → get b.variants v ≡ Some x →
       admits (own_rows c.params b s x) (shared_by x.grants x.frames) what
       ≡ (admits (own_rows c.params b s x) (shared_by (own_grants s x.grants) (own s x.frames)) what >> against s b (Rows s v what))
   unfolding admits shared_by

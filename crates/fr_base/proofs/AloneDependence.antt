@@ -3,10 +3,11 @@ use Rattle.std.proofs.Common.{◌≡◌, Bool, true, false, cond, not, Result, O
 use Rattle.std.specs.Prelude.{⊤}
 use Rattle.fr_base.specs.Refusing.{◌>>=◌, ◌>>◌, refuse◌when◌}
 use Rattle.fr_base.specs.Checks.{is_integrator, check}
+use Rattle.fr_base.specs.Tables.{get}
 use Rattle.fr_base.specs.Cluster.{Cluster}
 use Rattle.fr_base.specs.Book.{Book}
 use Rattle.fr_base.specs.Queries.{reply}
-use Rattle.fr_base.specs.Step.{Outcome, knows, common, add_node, change_rows, done, perform, act, outcome, step}
+use Rattle.fr_base.specs.Step.{Outcome, knows, common, add_node, change_rows, done, perform, import, act, outcome, step}
 use Rattle.fr_base.specs.Sound.{IsSound}
 use Rattle.fr_base.specs.Alone.{rows_of, concerns, is_another, holder_at, alone, beside}
 use Rattle.fr_base.specs.declared.name.Name.{Name}
@@ -21,17 +22,23 @@ use Rattle.fr_base.specs.declared.request.Request.TheVariants as request
 use Rattle.fr_base.specs.declared.request.Query.{Query}
 use Rattle.fr_base.specs.declared.request.Command.{Command}
 use Rattle.fr_base.specs.declared.request.Command.TheVariants.{Common, AddNode, Rows}
+use Rattle.fr_base.specs.declared.request.Import.{Import}
 use Rattle.fr_base.specs.declared.request.Checked.{Checked}
 use Rattle.fr_base.specs.declared.request.Checked.TheVariants as checked
 use Rattle.fr_base.proofs.SoundRows.{same_text-is}
 use Rattle.fr_base.proofs.SoundRefusing.{gives_each, gives_unless}
 use Rattle.fr_base.proofs.AloneRefusing.{map_ok, alike_when, alike_bind}
-use Rattle.fr_base.proofs.AloneRows.{rows_of-supplier}
-use Rattle.fr_base.proofs.AloneChanges.{unless}
+use Rattle.fr_base.proofs.AloneRows.{rows_of-supplier, rows_of-import}
+use Rattle.fr_base.proofs.AloneImports.{import-own}
+use Rattle.fr_base.proofs.AloneChanges.{unless, unless_none}
 use Rattle.fr_base.proofs.AloneCommands.{perform-own}
 use Rattle.fr_base.proofs.AloneChecks.{asked_of, refused_beside, Says, check-says}
 use Rattle.fr_base.proofs.AloneOutcomes.{seen, answer-seen}
 use Rattle.fr_base.proofs.AloneQueries.{reply-own}
+
+-- the supplier that is meant is the one that is told
+pub supplier-is : {s t : Name} → Supplier s ≡ Supplier t → s ≡ t
+supplier-is e = cc
 
 -- the lines of a step
 abbrev pub lines : Cluster → Book → Actor → Request → Result Outcome Refusal
@@ -56,12 +63,22 @@ module _ (c : Cluster) (b : Book) (s : Name) where
       shown-own (reply c.params b (Supplier s) query)
       ∙ ap (λ r. (r >>= (λ rows. Ok (record { book = rows_of s b; answer = rows }))) >>= unless (Ok tt)) (reply-own c.params s b query)
 
+  import-alone : (i : Import) → s ≡ i.supplier → IsSound c b → Beside (Ok tt) (import c.params b i (get b.imports (i.supplier, i.label))) (import c.params (rows_of s b) i (get (rows_of s b).imports (i.supplier, i.label)))
+  import-alone i is sound =
+      subst (λ u. map_ok (seen u) (import c.params b i (get b.imports (i.supplier, i.label))) ≡ (import c.params (rows_of u b) i (get (rows_of u b).imports (i.supplier, i.label)) >>= unless (Ok tt))) (sym is)
+      (import-own i c b sound (get b.imports (i.supplier, i.label))
+      ∙ ap (import c.params (rows_of i.supplier b) i) (sym (rows_of-import i.supplier b i.label))
+      ∙ sym (unless_none _))
+
   act-own : (actor : Actor) (request : Request) → (is_integrator actor ≡ false → IsSound c b) → asked_of s actor request ≡ true → (what : Checked) → Says actor request what →
       Beside (refused_beside s b actor request) (act c b actor what) (act (alone s c) (rows_of s b) actor what)
   unfolding act
   act-own actor request sound asked (checked.Command command) says =
       perform-own c b s command (λ frame. sound (says.frames frame)) (says.names s ∙ asked)
       ∙ ap (λ t. perform c.params (rows_of s b) command >>= unless t) (says.against s b)
+  act-own Integrator request sound asked (checked.Import i) says = cc
+  act-own (Supplier t) request sound asked (checked.Import i) says =
+      import-alone i (sym (same_text-is t s asked) ∙ supplier-is says) (sound refl)
   act-own Integrator request sound asked (checked.Query query) says = let none = says refl s in cc
   act-own (Supplier t) request sound asked (checked.Query query) says =
       subst (λ u. Beside (Ok tt) (act c b (Supplier u) (checked.Query query)) (act (alone s c) (rows_of s b) (Supplier u) (checked.Query query))) (sym (same_text-is t s asked)) (query-own query)
@@ -92,6 +109,7 @@ module _ (c : Cluster) (b : Book) (s : Name) where
   act-answer : (request : Request) → concerns s request ≡ true → (d : Book) (what : Checked) → Says Integrator request what → IfOk (act (alone s c) d Integrator what) (λ o. o.answer ≡ answer.Done)
   unfolding act
   act-answer request asked d (checked.Command command) says = perform-done (alone s c) d command
+  act-answer request asked d (checked.Import i) says = cc
   act-answer request asked d (checked.Query query) says = let none = says refl s in cc
 
   lines-answer : (request : Request) → concerns s request ≡ true → (d : Book) → IfOk (lines (alone s c) d Integrator request) (λ o. o.answer ≡ answer.Done)

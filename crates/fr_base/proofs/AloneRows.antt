@@ -1,11 +1,11 @@
 -- A supplier's rows of a book, and after a change of the book.
 use Rattle.std.proofs.Common.{◌≡◌, false, Option, Some, None, is_some, refl, ap, ◌∙◌}
-use Rattle.std.specs.Option.{option_map}
+use Rattle.std.specs.Option.{option_map, option_and_then}
 use Rattle.fr_base.specs.Tables.{get, contains, len, insert, each}
 use Rattle.fr_base.specs.Keys.{names, owned, channel_slots}
 use Rattle.fr_base.specs.Names.{same_text}
-use Rattle.fr_base.specs.Book.{Variant, Book, held_by, is_of, own}
-use Rattle.fr_base.specs.Step.{own_rows, with_variant}
+use Rattle.fr_base.specs.Book.{Variant, Kept, Book, held_by, is_of, own}
+use Rattle.fr_base.specs.Step.{own_rows, with_variant, frame_at}
 use Rattle.fr_base.specs.Alone.{own_variant, rows_of}
 use Rattle.fr_base.specs.declared.name.Name.{Name}
 use Rattle.fr_base.specs.declared.params.Params.{Params}
@@ -44,6 +44,22 @@ module _ (s : Name) where
   unfolding rows_of
   rows_of-nodes b = only-only owned (λ k _. is_of s k) b.nodes
 
+  pub rows_of-import : (b : Book) (l : Name) → get (rows_of s b).imports (s, l) ≡ get b.imports (s, l)
+  unfolding rows_of
+  rows_of-import b l = get-own owned (is_of s) b.imports (s, l) (same_text-itself s)
+
+  pub rows_of-imports : (b : Book) → own s (rows_of s b).imports ≡ own s b.imports
+  unfolding rows_of
+  rows_of-imports b = only-only owned (λ k _. is_of s k) b.imports
+
+  frame-own : (f : Name) (o : Option Variant) → option_and_then (λ (x : Variant). get x.frames (s, f)) (option_map (own_variant s) o) ≡ option_and_then (λ (x : Variant). get x.frames (s, f)) o
+  unfolding own_variant
+  frame-own f None = refl
+  frame-own f (Some x) = get-own owned (is_of s) x.frames (s, f) (same_text-itself s)
+
+  pub rows_of-frame : (b : Book) (v f : Name) → frame_at (rows_of s b) s v f ≡ frame_at b s v f
+  rows_of-frame b v f = ap (option_and_then (λ (x : Variant). get x.frames (s, f))) (rows_of-variant b v) ∙ frame-own f (get b.variants v)
+
   -- the supplier's own of its rows are its own
   pub own_rows-own : (p : Params) (b : Book) (x : Variant) → own_rows p (rows_of s b) s (own_variant s x) ≡ own_rows p b s x
   unfolding own_rows own_variant
@@ -75,3 +91,11 @@ module _ (s : Name) where
   pub rows_of-more_nodes_other : (b : Book) (t n : Name) → same_text t s ≡ false → rows_of s (record b { nodes = insert b.nodes (t, n) tt }) ≡ rows_of s b
   unfolding rows_of
   rows_of-more_nodes_other b t n other = ap (λ u. record (rows_of s b) { nodes = u }) (only-insert_other owned (is_of s) b.nodes (t, n) tt other)
+
+  pub rows_of-more_imports : (b : Book) (l : Name) (one : Kept) → rows_of s (record b { imports = insert b.imports (s, l) one }) ≡ record (rows_of s b) { imports = insert (rows_of s b).imports (s, l) one }
+  unfolding rows_of
+  rows_of-more_imports b l one = ap (λ t. record (rows_of s b) { imports = t }) (only-insert owned (is_of s) b.imports (s, l) one (same_text-itself s))
+
+  pub rows_of-more_imports_other : (b : Book) (t l : Name) (one : Kept) → same_text t s ≡ false → rows_of s (record b { imports = insert b.imports (t, l) one }) ≡ rows_of s b
+  unfolding rows_of
+  rows_of-more_imports_other b t l one other = ap (λ u. record (rows_of s b) { imports = u }) (only-insert_other owned (is_of s) b.imports (t, l) one other)

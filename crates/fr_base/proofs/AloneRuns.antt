@@ -108,6 +108,7 @@ opening-alone c s = λ i. record {
   suppliers = only-from_rows s c.suppliers i;
   nodes = only-empty owned (λ k _. is_of s k) i;
   variants = each-empty names (own_variant s) i;
+  imports = only-empty owned (λ k _. is_of s k) i;
 }
 
 -- ---- steps one after another are a run

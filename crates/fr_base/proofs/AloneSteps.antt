@@ -1,52 +1,85 @@
 -- A step, and the same step in the register that holds one supplier alone.
-use Rattle.std.proofs.Common.{◌≡◌, Bool, true, false, not, ◌&&◌, Result, Ok, Err, IfOk, refl, sym, ap, ◌∙◌, ◌⊎◌, inl, inr}
+use Rattle.std.proofs.Common.{◌≡◌, ℕ, Option, Some, None, Bool, true, false, true≢false, not, ◌&&◌, Result, Ok, Err, IfOk, refl, sym, ap, ◌∙◌, ◌⊎◌, inl, inr}
 use Rattle.std.specs.Prelude.{⊤}
-use Rattle.fr_base.specs.Refusing.{◌>>=◌, ◌>>◌}
+use Rattle.fr_base.specs.Refusing.{◌>>=◌, ◌>>◌, ◌or◌}
+use Rattle.fr_base.specs.Tables.{get}
+use Rattle.fr_base.specs.Names.{same_text}
 use Rattle.fr_base.specs.Checks.{check}
 use Rattle.fr_base.specs.Cluster.{Cluster}
-use Rattle.fr_base.specs.Book.{Book}
+use Rattle.fr_base.specs.Book.{Kept, Book}
 use Rattle.fr_base.specs.Queries.{reply}
-use Rattle.fr_base.specs.Step.{Outcome, knows, common, add_node, change_rows, done, perform, act, outcome, step}
+use Rattle.fr_base.specs.Step.{Outcome, knows, common, add_node, change_rows, done, perform, RefusedAt, imported, import, act, outcome, step}
 use Rattle.fr_base.specs.Sound.{IsSound}
 use Rattle.fr_base.specs.Alone.{rows_of, is_done, is_unavailable, is_mine, alone}
 use Rattle.fr_base.specs.declared.name.Name.{Name}
 use Rattle.fr_base.specs.declared.answer.Answer.{Answer}
 use Rattle.fr_base.specs.declared.answer.Answer.TheVariants as answer
+use Rattle.fr_base.specs.declared.params.Params.{Params}
 use Rattle.fr_base.specs.declared.refusal.Refusal.{Refusal}
+use Rattle.fr_base.specs.declared.refusal.Refusal.TheVariants.{NoVariant}
 use Rattle.fr_base.specs.declared.actor.Actor.{Actor}
 use Rattle.fr_base.specs.declared.actor.Actor.TheVariants.{Integrator, Supplier}
 use Rattle.fr_base.specs.declared.request.Request.{Request}
 use Rattle.fr_base.specs.declared.request.Command.TheVariants.{Common, AddNode, Rows}
+use Rattle.fr_base.specs.declared.request.Import.{Import}
 use Rattle.fr_base.specs.declared.request.Checked.{Checked}
 use Rattle.fr_base.specs.declared.request.Checked.TheVariants as checked
-use Rattle.fr_base.proofs.SoundRefusing.{gives_bind, gives_each, gives_unless}
+use Rattle.fr_base.proofs.SoundRefusing.{gives_bind, gives_bind_last, gives_each, gives_when, gives_unless}
 use Rattle.fr_base.proofs.AloneRefusing.{map_ok}
 use Rattle.fr_base.proofs.AloneChanges.{unless, unless_none}
 use Rattle.fr_base.proofs.AloneCommands.{perform-other}
 use Rattle.fr_base.proofs.AloneChecks.{asked_of, refused_beside, Says, check-says}
 use Rattle.fr_base.proofs.AloneOutcomes.{seen, outcome-own, outcome-still}
-use Rattle.fr_base.proofs.AloneDependence.{lines, lines-own}
+use Rattle.fr_base.proofs.AloneImports.{import-other}
+use Rattle.fr_base.proofs.AloneDependence.{supplier-is, lines, lines-own}
 
 -- ---- a request that was not done
 
-outcome-undone : (b : Book) (r : Result Outcome Refusal) → IfOk r (λ o. is_done o.answer ≡ false → o.book ≡ b) → is_done (outcome b r).answer ≡ false → (outcome b r).book ≡ b
+-- whether an answer tells the actor that its request was carried out, or may have been
+abbrev carried : Actor → Answer → Bool
+carried Integrator a = is_done a
+carried (Supplier s) a = not (is_unavailable a)
+
+outcome-undone : (actor : Actor) (b : Book) (r : Result Outcome Refusal) → IfOk r (λ o. carried actor o.answer ≡ false → o.book ≡ b) → carried actor (outcome b r).answer ≡ false → (outcome b r).book ≡ b
 unfolding outcome
-outcome-undone b (Ok o) h undone = h undone
-outcome-undone b (Err e) h undone = refl
+outcome-undone actor b (Ok o) h undone = h undone
+outcome-undone actor b (Err e) h undone = refl
 
-act-undone : (c : Cluster) (b : Book) (actor : Actor) (what : Checked) → IfOk (act c b actor what) (λ o. is_done o.answer ≡ false → o.book ≡ b)
+done-carried : (actor : Actor) → carried actor answer.Done ≡ true
+done-carried Integrator = refl
+done-carried (Supplier s) = refl
+
+module _ (p : Params) (b : Book) (i : Import) where
+  imported-carried : (count : ℕ) (r : Result Book RefusedAt) → is_unavailable (imported b i count r).answer ≡ false
+  unfolding imported
+  imported-carried count (Ok d) = refl
+  imported-carried count (Err fault) = refl
+
+  import-carried : (kept : Option Kept) → IfOk (import p b i kept) (λ o. is_unavailable o.answer ≡ false)
+  unfolding import
+  import-carried None =
+      gives_each _ (get b.variants i.variant or NoVariant) _ (λ x _.
+      gives_when _ _ _ _ (λ _.
+      gives_when _ _ _ _ (λ _.
+      gives_when _ _ _ _ (λ _. imported-carried _ _))))
+  import-carried (Some one) = gives_unless _ _ _ _ (λ _. refl)
+
+act-undone : (c : Cluster) (b : Book) (actor : Actor) (request : Request) (what : Checked) → Says actor request what → IfOk (act c b actor what) (λ o. carried actor o.answer ≡ false → o.book ≡ b)
 unfolding act perform done
-act-undone c b actor (checked.Command (Common command)) = gives_each _ (common b command) _ (λ after _ undone. cc)
-act-undone c b actor (checked.Command (AddNode s n)) = gives_each _ (add_node b s n) _ (λ after _ undone. cc)
-act-undone c b actor (checked.Command (Rows s v what)) = gives_each _ (change_rows c.params b s v what) _ (λ after _ undone. cc)
-act-undone c b actor (checked.Query query) = gives_each _ (reply c.params b actor query) _ (λ rows _ undone. refl)
+act-undone c b actor request (checked.Command (Common command)) says = gives_each _ (common b command) _ (λ after _ undone. absurd (true≢false (sym (done-carried actor) ∙ undone)))
+act-undone c b actor request (checked.Command (AddNode s n)) says = gives_each _ (add_node b s n) _ (λ after _ undone. absurd (true≢false (sym (done-carried actor) ∙ undone)))
+act-undone c b actor request (checked.Command (Rows s v what)) says = gives_each _ (change_rows c.params b s v what) _ (λ after _ undone. absurd (true≢false (sym (done-carried actor) ∙ undone)))
+act-undone c b Integrator request (checked.Import i) says = cc
+act-undone c b (Supplier s) request (checked.Import i) says =
+    gives_bind_last (λ (o : Outcome). not (is_unavailable o.answer) ≡ false → o.book ≡ b) (λ (o : Outcome). is_unavailable o.answer ≡ false) _ (import-carried c.params b i (get b.imports (i.supplier, i.label))) (λ o available undone. absurd (true≢false (sym (ap not available) ∙ undone)))
+act-undone c b actor request (checked.Query query) says = gives_each _ (reply c.params b actor query) _ (λ rows _ undone. refl)
 
--- what was not done has changed nothing
-pub step-undone : (c : Cluster) (b : Book) (actor : Actor) (request : Request) → is_done (step c b actor request).answer ≡ false → (step c b actor request).book ≡ b
+-- what was not carried out has changed nothing
+pub step-undone : (c : Cluster) (b : Book) (actor : Actor) (request : Request) → carried actor (step c b actor request).answer ≡ false → (step c b actor request).book ≡ b
 unfolding step
-step-undone c b actor request = outcome-undone b _ (
+step-undone c b actor request = outcome-undone actor b _ (
     gives_unless _ _ (knows b actor) _ (λ _.
-    gives_each _ (check c.params actor request) _ (λ what _. act-undone c b actor what)))
+    gives_bind _ _ (check c.params actor request) _ (check-says c.params actor request) (λ what says. act-undone c b actor request what says)))
 
 -- ---- a request that is the supplier's, and any other
 
@@ -57,10 +90,6 @@ and_either false y h = inl refl
 and_both : (x y : Bool) → x && y ≡ true → (x ≡ true) × (y ≡ true)
 and_both true y h = (refl, h)
 and_both false y h = cc
-
-lacked-undone : (a : Answer) → not (is_unavailable a) ≡ false → is_done a ≡ false
-lacked-undone answer.Done h = cc
-lacked-undone a h = refl
 
 module _ (c : Cluster) (b : Book) (s : Name) where
   outcome-done : (t : Result ⊤ Refusal) (r u : Result Outcome Refusal) → map_ok (seen s) r ≡ (u >>= unless t) → is_done (outcome b r).answer ≡ true → outcome (rows_of s b) u ≡ seen s (outcome b r)
@@ -83,6 +112,8 @@ module _ (c : Cluster) (b : Book) (s : Name) where
   act-other : (actor : Actor) (request : Request) → asked_of s actor request ≡ false → (what : Checked) → Says actor request what → IfOk (act c b actor what) (λ o. rows_of s o.book ≡ rows_of s b)
   unfolding act
   act-other actor request other (checked.Command command) says = perform-other c b s command (says.names s ∙ other)
+  act-other Integrator request other (checked.Import i) says = cc
+  act-other (Supplier t) request other (checked.Import i) says = import-other c.params b s i (ap (λ u. same_text u s) (sym (supplier-is says)) ∙ other) (get b.imports (i.supplier, i.label))
   act-other actor request other (checked.Query query) says = gives_each _ (reply c.params b actor query) _ (λ rows _. refl)
 
   step-other : (actor : Actor) (request : Request) → asked_of s actor request ≡ false → rows_of s (step c b actor request).book ≡ rows_of s b
@@ -95,7 +126,7 @@ module _ (c : Cluster) (b : Book) (s : Name) where
   pub step-not_mine : (actor : Actor) (request : Request) → is_mine s actor request (step c b actor request).answer ≡ false → rows_of s (step c b actor request).book ≡ rows_of s b
   step-not_mine (Supplier t) request h = elim (and_either _ _ h) [
     | inl other ↦ step-other (Supplier t) request other
-    | inr own ↦ ap (rows_of s) (step-undone c b (Supplier t) request (lacked-undone _ own.1))
+    | inr own ↦ ap (rows_of s) (step-undone c b (Supplier t) request own.1)
   ]
   step-not_mine Integrator request h = elim (and_either _ _ h) [
     | inl undone ↦ ap (rows_of s) (step-undone c b Integrator request undone)

@@ -1,5 +1,5 @@
 -- A released variant stays as it is, whatever is asked.
-use Rattle.std.proofs.Common.{◌≡◌, true, false, cond, List, [], ◌∷◌, Some, is_some, Result, Ok, Err, IfOk, IsTrue, refl, sym, ap, ◌∙◌, inl, inr, true≢false}
+use Rattle.std.proofs.Common.{◌≡◌, ℕ, true, false, cond, List, [], ◌∷◌, Option, Some, None, is_some, Result, Ok, Err, IfOk, IsTrue, refl, sym, ap, ◌∙◌, inl, inr, true≢false}
 use Rattle.std.specs.Ordering.{eq_by_cmp}
 use Rattle.std.proofs.lemmas.Bool.{cases_Bool}
 use Rattle.fr_base.specs.Refusing.{◌>>=◌, ◌>>◌, ◌or◌, refuse◌when◌}
@@ -7,9 +7,11 @@ use Rattle.fr_base.specs.Tables.{get, contains}
 use Rattle.fr_base.specs.Keys.{names}
 use Rattle.fr_base.specs.Checks.{check}
 use Rattle.fr_base.specs.Cluster.{Cluster}
-use Rattle.fr_base.specs.Book.{Variant, Book}
+use Rattle.fr_base.specs.Names.{same_text}
+use Rattle.fr_base.specs.Book.{Frame, Variant, Kept, Book}
+use Rattle.fr_base.specs.ImportRows.{rows_of_body}
 use Rattle.fr_base.specs.Queries.{shown, reply, variant_asked}
-use Rattle.fr_base.specs.Step.{Outcome, knows, with_variant, begun, common, add_node, own_rows, shared_by, admits, change_rows, done, perform, act, outcome, step}
+use Rattle.fr_base.specs.Step.{Outcome, knows, with_variant, begun, common, add_node, own_rows, shared_by, admits, change_rows, done, perform, RefusedAt, frame_at, with_frame, act_row, act_rows, imported, import, act, outcome, step}
 use Rattle.fr_base.specs.Run.{IsRun}
 use Rattle.fr_base.specs.declared.name.Name.{Name}
 use Rattle.fr_base.specs.declared.params.Params.{Params}
@@ -26,11 +28,18 @@ use Rattle.fr_base.specs.declared.request.Command.TheVariants.{Common, AddNode, 
 use Rattle.fr_base.specs.declared.request.CommonCommand.{CommonCommand}
 use Rattle.fr_base.specs.declared.request.CommonCommand.TheVariants.{OpenVariant, Release}
 use Rattle.fr_base.specs.declared.request.Change.{Change}
+use Rattle.fr_base.specs.declared.request.Change.TheVariants as change
+use Rattle.fr_base.specs.declared.request.FrameChange.TheVariants.{Add, Place, AddSignal}
+use Rattle.fr_base.specs.declared.request.Import.{Import}
+use Rattle.fr_base.specs.declared.import.Row.{Row}
+use Rattle.fr_base.specs.declared.import.Row.TheVariants as row
+use Rattle.fr_base.specs.declared.import.RowRead.{RowRead}
 use Rattle.fr_base.specs.declared.request.Checked.{Checked}
 use Rattle.fr_base.specs.declared.request.Checked.TheVariants as checked
 use Rattle.fr_base.proofs.TableLaws.{equal, get-insert}
 use Rattle.fr_base.proofs.SoundTables.{same_some}
-use Rattle.fr_base.proofs.SoundRefusing.{gives_or, gives_each, gives_then, gives_bind, gives_when, gives_unless}
+use Rattle.fr_base.proofs.SoundRefusing.{gives_or, gives_each, gives_then, gives_bind, gives_bind_last, gives_when, gives_unless}
+use Rattle.fr_base.proofs.SoundImports.{at_line-gives}
 
 -- the variant stands, and the suppliers are those of before
 abbrev Stays : Name → Variant → Book → Book → Type 0
@@ -71,7 +80,7 @@ module _ (b : Book) (v : Name) (x : Variant) (there : get b.variants v ≡ Some 
       gives_when _ _ _ _ (λ _. (there, refl))))
 
   module _ (p : Params) where
-    change_rows-stays : (s w : Name) (what : Change) → IfOk (change_rows p b s w what) (Stays v x b)
+    pub change_rows-stays : (s w : Name) (what : Change) → IfOk (change_rows p b s w what) (Stays v x b)
     unfolding change_rows
     change_rows-stays s w what =
         gives_or _ (get b.variants w) _ _ (λ y found.
@@ -80,12 +89,57 @@ module _ (b : Book) (v : Name) (x : Variant) (there : get b.variants v ≡ Some 
         gives_then _ (admits (own_rows p b s y) (shared_by y.grants y.frames) what) _ (λ _ _.
         stays-with w _ (open-other w y found open_yet)))))
 
-    perform-stays : (command : Command) → IfOk (perform p b command) (λ o. Stays v x b o.book)
+    pub perform-stays : (command : Command) → IfOk (perform p b command) (λ o. Stays v x b o.book)
     unfolding perform done
     perform-stays (Common command) = gives_bind _ _ (common b command) _ (common-stays command) (λ after h. h)
     perform-stays (AddNode s n) = gives_bind _ _ (add_node b s n) _ (add_node-stays s n) (λ after h. h)
     perform-stays (Rows s w what) = gives_bind _ _ (change_rows p b s w what) _ (change_rows-stays s w what) (λ after h. h)
 
+-- ---- an import
+
+stays_on : (v : Name) (x : Variant) (b d e : Book) → Stays v x b d → Stays v x d e → Stays v x b e
+stays_on v x b d e one two = (two.0, two.1 ∙ one.1)
+
+module _ (v : Name) (x : Variant) (frozen : x.released ≡ true) (p : Params) (s w : Name) where
+  framed-stays : (b : Book) → get b.variants v ≡ Some x → (f n : Name) (o : Option Frame) → IfOk (with_frame p b s w f n o) (Stays v x b)
+  unfolding with_frame
+  framed-stays b there f n None = change_rows-stays b v x there frozen p s w (change.Frame f (Add n))
+  framed-stays b there f n (Some frame) = gives_unless _ _ (same_text frame.node n) _ (λ _. (there, refl))
+
+  row-stays : (b : Book) → get b.variants v ≡ Some x → (r : Row) → IfOk (act_row p b s w r) (Stays v x b)
+  unfolding act_row
+  row-stays b there (row.Place f n q) =
+      gives_unless _ _ _ _ (λ _.
+      gives_bind _ _ (with_frame p b s w f n (frame_at b s w f)) _ (framed-stays b there f n (frame_at b s w f)) (λ d mid.
+      gives_bind_last _ (Stays v x d) _ (change_rows-stays d v x mid.0 frozen p s w (change.Frame f (Place q))) (λ e last. stays_on v x b d e mid last)))
+  row-stays b there (row.AddSignal f signal) = change_rows-stays b v x there frozen p s w (change.Frame f (AddSignal signal))
+
+  rows-stay : (reads : List RowRead) (b : Book) → get b.variants v ≡ Some x → IfOk (act_rows p b s w reads) (Stays v x b)
+  unfolding act_rows
+  rows-stay [] b there = (there, refl)
+  rows-stay (read ∷ rest) b there =
+      gives_bind _ (Stays v x b) _ _ (at_line-gives _ read.line _ (gives_each _ read.row _ (λ r _. row-stays b there r))) (λ d mid.
+      gives_bind_last _ (Stays v x d) _ (rows-stay rest d mid.0) (λ e last. stays_on v x b d e mid last))
+
+imported-stays : (v : Name) (x : Variant) (b : Book) → get b.variants v ≡ Some x → (i : Import) (count : ℕ) (r : Result Book RefusedAt) → IfOk r (Stays v x b) → Stays v x b (imported b i count r).book
+unfolding imported
+imported-stays v x b there i count (Ok d) h = h
+imported-stays v x b there i count (Err fault) h = (there, refl)
+
+module _ (b : Book) (v : Name) (x : Variant) (there : get b.variants v ≡ Some x) (frozen : x.released ≡ true) where
+  import-stays : (p : Params) (i : Import) (o : Option Kept) → IfOk (import p b i o) (λ o. Stays v x b o.book)
+  unfolding import
+  import-stays p i None =
+      gives_or _ (get b.variants i.variant) _ _ (λ y _.
+      gives_when _ _ _ _ (λ _.
+      gives_when _ _ _ _ (λ _.
+      gives_when _ _ _ _ (λ _.
+      imported-stays v x b there i _ _ (rows-stay v x frozen p i.supplier i.variant (rows_of_body p i.body) b there)))))
+  import-stays p i (Some one) = gives_unless _ _ _ _ (λ _. (there, refl))
+
+-- ---- a step
+
+module _ (b : Book) (v : Name) (x : Variant) (there : get b.variants v ≡ Some x) (frozen : x.released ≡ true) where
   outcome-stays : (r : Result Outcome Refusal) → IfOk r (λ o. Stays v x b o.book) → Stays v x b (outcome b r).book
   unfolding outcome
   outcome-stays (Ok o) h = h
@@ -93,7 +147,8 @@ module _ (b : Book) (v : Name) (x : Variant) (there : get b.variants v ≡ Some 
 
   act-stays : (c : Cluster) (actor : Actor) (what : Checked) → IfOk (act c b actor what) (λ o. Stays v x b o.book)
   unfolding act
-  act-stays c actor (checked.Command command) = perform-stays c.params command
+  act-stays c actor (checked.Command command) = perform-stays b v x there frozen c.params command
+  act-stays c actor (checked.Import i) = import-stays b v x there frozen c.params i (get b.imports (i.supplier, i.label))
   act-stays c actor (checked.Query query) = gives_each _ (reply c.params b actor query) _ (λ rows _. (there, refl))
 
   pub step-stays : (c : Cluster) (actor : Actor) (request : Request) → Stays v x b (step c b actor request).book

@@ -1,5 +1,5 @@
 -- What a request that passed its check has by its own texts and numbers.
-use Rattle.std.proofs.Common.{ℕ, ◌≤◌, ◌&&◌, List, IfOk, IsTrue, nat_le, leb-true, inl, inr}
+use Rattle.std.proofs.Common.{◌≡◌, ℕ, ◌≤◌, ◌&&◌, List, IfOk, IsTrue, nat_le, leb-true, inl, inr, refl}
 use Rattle.std.specs.Prelude.{⊤}
 use Rattle.std.specs.List.{list_all}
 use Rattle.std.proofs.lemmas.Bool.{cases_Bool, and_parts}
@@ -12,6 +12,7 @@ use Rattle.fr_base.specs.Sound.{HasChannelSlot, FitsCluster}
 use Rattle.fr_base.specs.declared.name.Name.{Name}
 use Rattle.fr_base.specs.declared.params.Params.{Params}
 use Rattle.fr_base.specs.declared.actor.Actor.{Actor}
+use Rattle.fr_base.specs.declared.actor.Actor.TheVariants.{Integrator, Supplier}
 use Rattle.fr_base.specs.declared.request.Request.{Request}
 use Rattle.fr_base.specs.declared.request.Request.TheVariants as request
 use Rattle.fr_base.specs.declared.request.Command.{Command}
@@ -21,6 +22,7 @@ use Rattle.fr_base.specs.declared.request.Change.{Change}
 use Rattle.fr_base.specs.declared.request.Change.TheVariants.{Grant, Revoke, Frame}
 use Rattle.fr_base.specs.declared.request.FrameChange.{FrameChange}
 use Rattle.fr_base.specs.declared.request.FrameChange.TheVariants.{Add, Drop, Place, Unplace, AddSignal, DropSignal}
+use Rattle.fr_base.specs.declared.request.Import.{Import}
 use Rattle.fr_base.specs.declared.request.Checked.{Checked}
 use Rattle.fr_base.specs.declared.request.Checked.TheVariants as checked
 use Rattle.fr_base.proofs.SoundRefusing.{gives_or, gives_bind, gives_each, gives_when, gives_unless}
@@ -47,11 +49,23 @@ HasForm p (Common (Release v)) = ⊤
 HasForm p (AddNode s n) = IsTrue (is_name n)
 HasForm p (Rows s v what) = IsFormedChange p what
 
-abbrev pub IsFormed : Params → Checked → Type 0
-IsFormed p (checked.Command command) = HasForm p command
-IsFormed p (checked.Query query) = ⊤
+-- an import is the asking supplier's, and its variant and its label are names
+pub record IsFormedImport (actor : Actor) (i : Import) : Type 0 where
+  pub asks : actor ≡ Supplier i.supplier
+  pub variant : IsTrue (is_name i.variant)
+  pub label : IsTrue (is_name i.label)
 
-name-form : (text : List ℕ) → IfOk (name text) (λ v. IsTrue (is_name v))
+abbrev pub IsFormed : Params → Actor → Checked → Type 0
+IsFormed p actor (checked.Command command) = HasForm p command
+IsFormed p actor (checked.Import i) = IsFormedImport actor i
+IsFormed p actor (checked.Query query) = ⊤
+
+asking-form : (actor : Actor) → IfOk (asking actor) (λ s. actor ≡ Supplier s)
+unfolding asking
+asking-form Integrator = tt
+asking-form (Supplier s) = refl
+
+pub name-form : (text : List ℕ) → IfOk (name text) (λ v. IsTrue (is_name v))
 unfolding name
 name-form text = elim (cases_Bool (is_name text)) [ inl h ↦ rw h (h) | inr h ↦ rw h tt ]
 
@@ -74,7 +88,7 @@ channels-form : (p : Params) (text : List ℕ) → IfOk (channels p text) (λ cs
 unfolding channels
 channels-form p text = gives_or _ (channels_of_text text) _ _ (λ cs _. gives_unless _ _ (list_all (has_channel p.channels) (channels_in cs)) _ (λ h. h))
 
-placement-form : (p : Params) (number : ℕ) (text : List ℕ) (base repetition : ℕ) → IfOk (placement p number text base repetition) (FitsCluster p)
+pub placement-form : (p : Params) (number : ℕ) (text : List ℕ) (base repetition : ℕ) → IfOk (placement p number text base repetition) (FitsCluster p)
 unfolding placement
 placement-form p number text base repetition =
     gives_bind _ _ (cycles base repetition) _ (cycles-form base repetition) (λ r selects.
@@ -82,12 +96,12 @@ placement-form p number text base repetition =
     gives_bind _ _ (channels p text) _ (channels-form p text) (λ cs has.
     record { from_one = in_range.0; to_last = in_range.1; channels = has; cycles = selects })))
 
-signal-form : (n : Name) (start length : ℕ) (text : List ℕ) → IsTrue (is_name n) → IfOk (signal n start length text) (λ s. IsTrue (is_name s.name) × IsTrue (is_signal_length s.length))
+pub signal-form : (n : Name) (start length : ℕ) (text : List ℕ) → IsTrue (is_name n) → IfOk (signal n start length text) (λ s. IsTrue (is_name s.name) × IsTrue (is_signal_length s.length))
 unfolding signal
 signal-form n start length text named = gives_or _ (order_of_text text) _ _ (λ order _. gives_unless _ _ (is_signal_length length) _ (λ h. (named, h)))
 
 -- what passes the check has its form
-pub check-form : (p : Params) (actor : Actor) (r : Request) → IfOk (check p actor r) (IsFormed p)
+pub check-form : (p : Params) (actor : Actor) (r : Request) → IfOk (check p actor r) (IsFormed p actor)
 unfolding check
 check-form p actor (request.OpenVariant variant parent) =
     gives_when _ _ _ _ (λ _.
@@ -144,6 +158,11 @@ check-form p actor (request.DropSignal variant frame named) =
     gives_each _ (name variant) _ (λ v _.
     gives_each _ (name frame) _ (λ f _.
     gives_each _ (name named) _ (λ n _. tt))))
+check-form p actor (request.Import variant label body) =
+    gives_bind _ _ (asking actor) _ (asking-form actor) (λ s asks.
+    gives_bind _ _ (name variant) _ (name-form variant) (λ v named.
+    gives_bind _ _ (name label) _ (name-form label) (λ l labelled.
+    record { asks = asks; variant = named; label = labelled })))
 check-form p actor (request.Grants variant) = gives_each _ (name variant) _ (λ v _. tt)
 check-form p actor (request.Frames variant) = gives_each _ (name variant) _ (λ v _. tt)
 check-form p actor (request.Schedule variant) = gives_each _ (name variant) _ (λ v _. tt)

@@ -1,27 +1,17 @@
 -- A new register is sound, each run leaves a sound book sound, and what a sound book says of a cell.
-use Rattle.std.proofs.Common.{◌≡◌, ℕ, zero, suc, take, drop, List, [], ◌∷◌, Some, IsTrue, refl, sym, ap, subst, ◌∙◌, inl, inr, arith}
-use Rattle.std.specs.Ordering.{eq_by_cmp}
-use Rattle.std.specs.List.{list_all}
-use Rattle.std.specs.FinMap.Entries.{find}
-use Rattle.std.proofs.lemmas.Bool.{cases_Bool, and_parts}
-use Rattle.fr_base.specs.Tables.{empty, get, len, only, from_rows}
-use Rattle.fr_base.specs.Keys.{names}
+use Rattle.std.proofs.Common.{◌≡◌, ℕ, zero, suc, take, drop, List, [], ◌∷◌, Some, refl, sym, ap, subst, ◌∙◌, inl, inr, arith}
+use Rattle.fr_base.specs.Tables.{empty, get, len, only}
 use Rattle.fr_base.specs.Cells.{Cell}
-use Rattle.fr_base.specs.Cluster.{Cluster, is_cluster}
-use Rattle.fr_base.specs.Names.{is_name, is_key}
+use Rattle.fr_base.specs.Cluster.{Cluster}
 use Rattle.fr_base.specs.Book.{Frame, Variant, Book, opening, held_by_node, granted}
 use Rattle.fr_base.specs.Step.{step}
 use Rattle.fr_base.specs.Run.{IsRun}
 use Rattle.fr_base.specs.Sound.{IsSent, IsSound}
 use Rattle.fr_base.specs.Cluster.{IsWellFormed}
 use Rattle.fr_base.specs.declared.answer.Answer.{Answer}
-use Rattle.fr_base.specs.declared.config.Supplier.{Supplier}
-use Rattle.fr_base.specs.declared.key.Key.{Key}
 use Rattle.fr_base.specs.declared.name.Name.{Name}
 use Rattle.fr_base.specs.declared.placement.Placement.{Placement}
 use Rattle.fr_base.specs.declared.request.Ask.{Ask}
-use Rattle.fr_base.proofs.TableLaws.{equal, get-from_rows}
-use Rattle.fr_base.proofs.SoundTables.{same_some, len-within}
 use Rattle.fr_base.proofs.SoundCells.{has_cell-in}
 use Rattle.fr_base.proofs.SoundRows.{holder-is}
 use Rattle.fr_base.proofs.SoundSteps.{step-sound}
@@ -36,8 +26,10 @@ opening-sound c form = record {
   nodes = λ s n h. cc;
   variants = λ v x e. cc;
   parents = λ v x e. cc;
+  imports = λ s l kept e. cc;
   node_limit = λ s. omega arith;
   variant_limit = omega arith;
+  import_limit = λ s. omega arith;
 }
 
 -- ---- runs

@@ -1,5 +1,5 @@
 -- What keeps a book sound: a row more, or a row less, in one of its tables.
-use Rattle.std.proofs.Common.{◌≡◌, ◌≢◌, ℕ, suc, ◌<◌, ◌≤◌, ◌&&◌, Bool, true, false, cond, List, [], ◌∷◌, Option, Some, None, is_some, IsTrue, refl, sym, ap, subst, ◌∙◌, ◌⊎◌, inl, inr, arith, true≢false}
+use Rattle.std.proofs.Common.{◌≡◌, ◌≢◌, ℕ, suc, ◌<◌, ◌≤◌, Bool, true, false, cond, List, [], ◌∷◌, Option, Some, None, is_some, IsTrue, refl, sym, ap, subst, ◌∙◌, ◌⊎◌, inl, inr, arith, true≢false}
 use Rattle.std.specs.Prelude.{⊤}
 use Rattle.std.specs.Ordering.{eq_by_cmp}
 use Rattle.std.specs.List.{list_all}
@@ -8,14 +8,14 @@ use Rattle.std.proofs.lemmas.Bool.{cases_Bool, and_parts, and_from}
 use Rattle.std.proofs.lemmas.Bool.Decides.{Decides-eqb}
 use Rattle.fr_base.specs.Tables.{Table, empty, get, contains, len, insert, only, remove}
 use Rattle.fr_base.specs.Keys.{names, owned, channel_slots}
-use Rattle.fr_base.specs.declared.limits.TheConstants.{MAX_NODES, MAX_VARIANTS, MAX_DEPTH, MAX_FRAMES}
+use Rattle.fr_base.specs.declared.limits.TheConstants.{MAX_NODES, MAX_VARIANTS, MAX_DEPTH, MAX_FRAMES, MAX_IMPORTS}
 use Rattle.fr_base.specs.Channels.{channels_in, has_channel}
 use Rattle.fr_base.specs.Cells.{Cell, has_cell}
 use Rattle.fr_base.specs.Cluster.{Cluster}
 use Rattle.fr_base.specs.Names.{is_name, same_text}
-use Rattle.fr_base.specs.Book.{Holder, Frame, Variant, Book, empty_variant, held_by, held_by_node, granted, is_of, own, own_grants}
+use Rattle.fr_base.specs.Book.{Holder, Frame, Variant, Kept, Book, empty_variant, held_by, held_by_node, granted, is_of, own, own_grants}
 use Rattle.fr_base.specs.Step.{fills, in_use, with_variant}
-use Rattle.fr_base.specs.Sound.{HasChannelSlot, IsSent, IsSoundFrame, IsSoundVariant, IsOpenedFrom, IsSound}
+use Rattle.fr_base.specs.Sound.{HasChannelSlot, IsSent, IsSoundFrame, IsSoundVariant, IsSoundImport, IsOpenedFrom, IsSound}
 use Rattle.fr_base.specs.declared.channel.Channel.{Channel}
 use Rattle.fr_base.specs.declared.channel.Channels.{Channels}
 use Rattle.fr_base.specs.declared.channel.Channels.TheVariants as channels
@@ -260,8 +260,16 @@ module _ (c : Cluster) (b : Book) (sound : IsSound c b) where
       | inl new ↦ subst (λ (z : Variant). IsOpenedFrom b.variants z.parent z.depth) new.1 from
       | inr old ↦ sound.parents w y old.1
     ]);
+    imports = λ s l import e. let fine = sound.imports s l import e in record {
+      label = fine.label;
+      supplier = fine.supplier;
+      variant = contains-more b.variants v x import.variant fine.variant;
+      bytes = fine.bytes;
+      rows = fine.rows;
+    };
     node_limit = sound.node_limit;
     variant_limit = len-within b.variants v x MAX_VARIANTS sound.variant_limit room;
+    import_limit = sound.import_limit;
   }
 
   -- a variant that is there, changed or released
@@ -283,6 +291,29 @@ module _ (c : Cluster) (b : Book) (sound : IsSound c b) where
     ];
     variants = λ v x e. ((sound.variants v x e).0, variant-more_nodes c.params b.nodes (insert b.nodes (s, n) tt) (λ t m h. contains-more b.nodes (s, n) tt (t, m) h) x (sound.variants v x e).1);
     parents = sound.parents;
+    imports = sound.imports;
     node_limit = λ t. only-within owned (is_of t) b.nodes (s, n) tt MAX_NODES (sound.node_limit t) (λ own. inr (subst (λ x. len (only (λ k _. is_of x k) b.nodes) < MAX_NODES) (same_text-is s t own) room));
     variant_limit = sound.variant_limit;
+    import_limit = sound.import_limit;
   }
+
+  -- one import more
+  pub more_imports-sound : (s l : Name) (one : Kept) → IsSoundImport b.suppliers b.variants s l one → len (own s b.imports) < MAX_IMPORTS → IsSound c (record b { imports = insert b.imports (s, l) one })
+  more_imports-sound s l one fine room = record {
+    cluster = sound.cluster;
+    suppliers = sound.suppliers;
+    nodes = sound.nodes;
+    variants = sound.variants;
+    parents = sound.parents;
+    imports = λ t m other e. elim (insert-cases b.imports (s, l) one (t, m) other e) [
+      | inl new ↦ there t m other new.0 new.1
+      | inr old ↦ sound.imports t m other old.1
+    ];
+    node_limit = sound.node_limit;
+    variant_limit = sound.variant_limit;
+    import_limit = λ t. only-within owned (is_of t) b.imports (s, l) one MAX_IMPORTS (sound.import_limit t) (λ own. inr (subst (λ x. len (only (λ k _. is_of x k) b.imports) < MAX_IMPORTS) (same_text-is s t own) room));
+  }
+    where
+      there : (t m : Name) (other : Kept) → ◌≡◌ {A = Name × Name} (t, m) (s, l) → one ≡ other → IsSoundImport b.suppliers b.variants t m other
+      there t m other key same =
+          subst (λ (x : Name × Name). IsSoundImport b.suppliers b.variants x.0 x.1 other) (sym key) (subst (IsSoundImport b.suppliers b.variants s l) same fine)

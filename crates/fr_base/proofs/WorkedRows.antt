@@ -16,7 +16,7 @@ use Rattle.fr_base.specs.Queries.{grants_of, frames_of, sendings_of, gaps_of, na
 use Rattle.fr_base.specs.Moments.{ring, moment, moments, gaps, greatest_gap}
 use Rattle.fr_base.specs.Bits.{bits_of}
 use Rattle.fr_base.specs.Layouts as layouts
-use Rattle.fr_base.specs.declared.limits.TheConstants.{MAX_SUPPLIERS, MAX_NODES, MAX_VARIANTS, MAX_DEPTH, MAX_FRAMES, MAX_PLACEMENTS, MAX_SIGNALS, MAX_PAYLOAD_WORDS}
+use Rattle.fr_base.specs.declared.limits.TheConstants.{MAX_SUPPLIERS, MAX_NODES, MAX_VARIANTS, MAX_DEPTH, MAX_FRAMES, MAX_PLACEMENTS, MAX_SIGNALS, MAX_PAYLOAD_WORDS, MAX_IMPORTS, MAX_IMPORT_BYTES, MAX_ROWS}
 use Rattle.fr_base.specs.declared.answer.Answer.{Answer}
 use Rattle.fr_base.specs.declared.answer.Answer.TheVariants.{Done, Refused, Grants as Holds, Frames as Framed, Schedule as Sent, Gaps as Longest, Layout as Laid}
 use Rattle.fr_base.specs.declared.channel.Channel.TheVariants as ch
@@ -29,10 +29,10 @@ use Rattle.fr_base.specs.declared.request.Request.TheVariants.{OpenVariant, Rele
 use Rattle.fr_base.specs.declared.signal.Order.TheVariants as order
 
 -- the most that a register holds: suppliers, nodes of a supplier, variants, depth, frames of a supplier, placements and signals of
--- a frame, words of a payload
+-- a frame, words of a payload, imports of a supplier, bytes and rows of an import's file
 pub the_limits :
-    MAX_SUPPLIERS ∷ MAX_NODES ∷ MAX_VARIANTS ∷ MAX_DEPTH ∷ MAX_FRAMES ∷ MAX_PLACEMENTS ∷ MAX_SIGNALS ∷ MAX_PAYLOAD_WORDS ∷ []
-    ≡ 64 ∷ 64 ∷ 64 ∷ 16 ∷ 256 ∷ 8 ∷ 64 ∷ 127 ∷ []
+    MAX_SUPPLIERS ∷ MAX_NODES ∷ MAX_VARIANTS ∷ MAX_DEPTH ∷ MAX_FRAMES ∷ MAX_PLACEMENTS ∷ MAX_SIGNALS ∷ MAX_PAYLOAD_WORDS ∷ MAX_IMPORTS ∷ MAX_IMPORT_BYTES ∷ MAX_ROWS ∷ []
+    ≡ 64 ∷ 64 ∷ 64 ∷ 16 ∷ 256 ∷ 8 ∷ 64 ∷ 127 ∷ 1000 ∷ 65536 ∷ 512 ∷ []
 the_limits = refl
 
 -- the cycles of a base and a repetition

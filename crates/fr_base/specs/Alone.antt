@@ -9,7 +9,7 @@ use Rattle.fr_base.specs.Book.{Holder, Variant, Book, Owner, own, own_grants}
 use Rattle.fr_base.specs.Step.{step}
 use Rattle.fr_base.specs.declared.name.Name.{Name}
 use Rattle.fr_base.specs.declared.answer.Answer.{Answer}
-use Rattle.fr_base.specs.declared.answer.Answer.TheVariants.{Done, Refused}
+use Rattle.fr_base.specs.declared.answer.Answer.TheVariants.{Done, Refused, RefusedRow}
 use Rattle.fr_base.specs.declared.refusal.Refusal.{Refusal}
 use Rattle.fr_base.specs.declared.refusal.Refusal.TheVariants.{Taken, Unavailable}
 use Rattle.fr_base.specs.declared.actor.Actor.{Actor}
@@ -24,12 +24,13 @@ use Rattle.fr_base.specs.declared.request.Request.TheVariants.{OpenVariant, Rele
 unfoldable pub own_variant : Name → Variant → Variant
 own_variant s v = record v { grants = own_grants s v.grants; frames = own s v.frames }
 
--- a supplier's rows of a book: itself with its key, its nodes, and all variants with its grants and frames
+-- a supplier's rows of a book: itself with its key, its nodes, all variants with its grants and frames, and its imports
 unfoldable pub rows_of : Name → Book → Book
 rows_of s b = record {
   suppliers = only (λ t _. same_text t s) b.suppliers;
   nodes = own s b.nodes;
   variants = each (own_variant s) b.variants;
+  imports = own s b.imports;
 }
 
 -- who sends in a cell, where it is the supplier
@@ -60,6 +61,12 @@ lacked _ = false
 abbrev pub is_unavailable : Answer → Bool
 is_unavailable (Refused r) = lacked r
 is_unavailable _ = false
+
+-- whether the answer is a refusal, of the request or of an import's row
+abbrev pub is_refused : Answer → Bool
+is_refused (Refused r) = true
+is_refused (RefusedRow line r) = true
+is_refused _ = false
 
 -- Whether a request that was answered so is the supplier's: its own, unless it was answered Unavailable; and of the
 -- integrator's commands those that were done and are common or name the supplier.

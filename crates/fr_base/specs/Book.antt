@@ -33,11 +33,18 @@ pub record Variant : Type 0 where
   pub grants : Table channel_slots Holder
   pub frames : Table owned Frame
 
--- the suppliers with their keys, their nodes, and the variants
+-- an import that was carried out: the variant, the bytes of its file, and how many rows they are
+pub record Kept : Type 0 where
+  pub variant : Name
+  pub body : List ℕ
+  pub rows : ℕ
+
+-- the suppliers with their keys, their nodes, the variants, and the imports that are kept under each supplier's labels
 pub record Book : Type 0 where
   pub suppliers : Table names Key
   pub nodes : Table owned ⊤
   pub variants : Table names Variant
+  pub imports : Table owned Kept
 
 -- a variant that was opened empty
 unfoldable pub empty_variant : Variant
@@ -49,7 +56,7 @@ suppliers_of c = from_rows (map (λ s. (s.name, s.key)) c.suppliers)
 
 -- the book of a register that was just made: the cluster file's suppliers, and nothing else
 unfoldable pub opening : Cluster → Book
-opening c = record { suppliers = suppliers_of c; nodes = empty; variants = empty }
+opening c = record { suppliers = suppliers_of c; nodes = empty; variants = empty; imports = empty }
 
 -- whether slot and channel are held by this supplier
 abbrev pub held_by : Name → Option Holder → Bool
@@ -71,7 +78,7 @@ granted grants s n q = list_all (λ c. held_by_node s n (get grants (q.slot, c))
 abbrev pub is_of : Name → Name × Name → Bool
 is_of s k = same_text k.0 s
 
--- the supplier's own nodes, or frames
+-- the supplier's own nodes, frames, or imports
 abbrev pub own : {V : Type 0} → Name → Table owned V → Table owned V
 own s table = only (λ k _. is_of s k) table
 

@@ -150,6 +150,11 @@ check p actor (request.DropSignal variant frame named) = do
   f ← name frame
   n ← name named
   Ok (checked.Command (Rows s v (Frame f (DropSignal n))))
+check p actor (request.Import variant label body) = do
+  s ← asking actor
+  v ← name variant
+  l ← name label
+  Ok (checked.Import (record { supplier = s; variant = v; label = l; body = body }))
 check p actor (request.Grants variant) = do
   v ← name variant
   Ok (checked.Query (Grants v))

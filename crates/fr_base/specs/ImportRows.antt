@@ -9,7 +9,7 @@ use Rattle.csv.specs.Records.{field_at}
 use Rattle.fr_base.specs.Refusing.{◌>>=◌, ◌>>◌, ◌or◌, refuse◌when◌}
 use Rattle.fr_base.specs.Names.{same_text, is_digit}
 use Rattle.fr_base.specs.Checks.{name, placement, signal}
-use Rattle.fr_base.specs.declared.import.TheConstants.{MAX_ROWS}
+use Rattle.fr_base.specs.declared.limits.TheConstants.{MAX_ROWS}
 use Rattle.fr_base.specs.declared.import.Header.{Header}
 use Rattle.fr_base.specs.declared.import.Header.TheVariants.{Placements, Signals}
 use Rattle.fr_base.specs.declared.import.Row.{Row}
@@ -22,8 +22,8 @@ use Rattle.fr_base.specs.declared.refusal.Refusal.TheVariants.{BadText, Limit}
 -- ---- the file
 
 -- The records of a file, as `csv` reads them with its defaults: one byte order mark at the start is taken off; fields stand
--- between commas, and may stand in double quotes; a record ends with LF, CR or CRLF, the last also with the file; empty lines
--- are no records; nothing is trimmed.
+-- between commas, and may stand in double quotes, inside which commas and ends of lines are the field's own and two quotes are one; a
+-- record ends with LF, CR or CRLF, the last also with the file; empty lines are no records, and not counted; nothing is trimmed.
 unfoldable pub records_of : List ℕ → List (List (List ℕ))
 records_of body = records default_config (strip_bom body)
 

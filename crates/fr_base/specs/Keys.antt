@@ -28,7 +28,7 @@ channel_order = by_number channel_number same_channel
 unfoldable pub channels_order : Order Channels
 channels_order = by_number channels_number same_channels
 
--- a supplier, and a name of its own: of a node or of a frame
+-- a supplier, and a name of its own: of a node or of a frame, or the label of an import
 unfoldable pub owned : Order (Name × Name)
 owned = pairs_by names names
 

@@ -1,23 +1,27 @@
 -- Laws of the register. Each says of which books it is: any, or sound ones. `IsWellFormed c` is what reading a cluster file gives.
-use Rattle.std.specs.Prelude.{◌≡◌, ℕ, List, take, drop, Some, Ok, IsTrue, IsFalse}
+use Rattle.std.specs.Prelude.{◌≡◌, ℕ, ◌&&◌, List, take, drop, Some, Ok, IsTrue, IsFalse}
 use Rattle.fr_base.specs.Tables.{get}
 use Rattle.fr_base.specs.Cells.{Cell, cells_of}
 use Rattle.fr_base.specs.Schedule.{first_taken}
 use Rattle.fr_base.specs.Checks.{check}
 use Rattle.fr_base.specs.Cluster.{Cluster, IsWellFormed}
+use Rattle.fr_base.specs.Names.{is_name, same_text}
 use Rattle.fr_base.specs.Book.{Frame, Variant, Book, opening, granted, schedule_of}
 use Rattle.fr_base.specs.Queries.{variant_asked}
 use Rattle.fr_base.specs.Step.{step}
 use Rattle.fr_base.specs.Run.{IsRun}
 use Rattle.fr_base.specs.Sound.{IsSent, IsSound}
-use Rattle.fr_base.specs.Alone.{own_variant, rows_of, own_sender, concerns, is_mine, asks_of, answers_of, alone, answers_to, book_after, beside}
+use Rattle.fr_base.specs.Alone.{own_variant, rows_of, own_sender, concerns, is_refused, is_mine, asks_of, answers_of, alone, answers_to, book_after, beside}
 use Rattle.fr_base.specs.declared.answer.Answer.{Answer}
+use Rattle.fr_base.specs.declared.answer.Answer.TheVariants.{Imported, Refused}
+use Rattle.fr_base.specs.declared.refusal.Refusal.TheVariants.{BadName, LabelUsed}
 use Rattle.fr_base.specs.declared.name.Name.{Name}
 use Rattle.fr_base.specs.declared.placement.Placement.{Placement}
 use Rattle.fr_base.specs.declared.actor.Actor.{Actor}
-use Rattle.fr_base.specs.declared.actor.Actor.TheVariants.{Integrator}
+use Rattle.fr_base.specs.declared.actor.Actor.TheVariants.{Integrator, Supplier}
 use Rattle.fr_base.specs.declared.request.Ask.{Ask}
 use Rattle.fr_base.specs.declared.request.Request.{Request}
+use Rattle.fr_base.specs.declared.request.Request.TheVariants.{Import}
 use Rattle.fr_base.specs.declared.request.Query.{Query}
 use Rattle.fr_base.specs.declared.request.Checked.TheVariants as checked
 
@@ -63,6 +67,51 @@ ReleasedAnswersStay = (c : Cluster) (b last : Book) (asks : List Ask) (answers :
     get b.variants v ≡ Some variant → IsTrue variant.released → IsRun c b asks answers last →
     (actor : Actor) (request : Request) (query : Query) → check c.params actor request ≡ Ok (checked.Query query) → variant_asked query ≡ v →
     (step c last actor request).answer ≡ (step c b actor request).answer
+
+-- ---- what is refused
+
+-- A refusal changes nothing, that of an import's row too.
+abbrev pub RefusedChangesNothing : Type 0
+RefusedChangesNothing = (c : Cluster) (b : Book) (actor : Actor) (request : Request) →
+    IsTrue (is_refused (step c b actor request).answer) → (step c b actor request).book ≡ b
+
+-- ---- an import that comes again
+
+-- In a sound book the supplier's import was answered Imported, with so many rows, and from the book after it a run leads to the last.
+pub record WasImported (c : Cluster) (s : Name) (variant label body : List ℕ) (rows : ℕ) (last : Book) : Type 0 where
+  pub begin : Book
+  pub asks : List Ask
+  pub answers : List Answer
+  pub sound : IsSound c begin
+  pub imported : (step c begin (Supplier s) (Import variant label body)).answer ≡ Imported rows
+  pub run : IsRun c (step c begin (Supplier s) (Import variant label body)).book asks answers last
+
+-- Once an import was carried out, the supplier's import of the same label, variant and file has the same answer and changes
+-- nothing, ever after, after a release too.
+abbrev pub ImportActsOnce : Type 0
+ImportActsOnce = (c : Cluster) (s : Name) (variant label body : List ℕ) (rows : ℕ) (last : Book) →
+    WasImported c s variant label body rows last →
+    step c last (Supplier s) (Import variant label body) ≡ record { book = last; answer = Imported rows }
+
+-- So it is kept, as it was sent.
+abbrev pub ImportIsKept : Type 0
+ImportIsKept = (c : Cluster) (s : Name) (variant label body : List ℕ) (rows : ℕ) (last : Book) →
+    WasImported c s variant label body rows last →
+    get last.imports (s, label) ≡ Some (record { variant = variant; body = body; rows = rows })
+
+-- With another file, or the name of another variant, it is LabelUsed.
+abbrev pub LabelStaysUsed : Type 0
+LabelStaysUsed = (c : Cluster) (s : Name) (variant label body : List ℕ) (rows : ℕ) (last : Book) →
+    WasImported c s variant label body rows last →
+    (other_variant other_body : List ℕ) → IsTrue (is_name other_variant) → IsFalse (same_text variant other_variant && same_text body other_body) →
+    step c last (Supplier s) (Import other_variant label other_body) ≡ record { book = last; answer = Refused LabelUsed }
+
+-- And with what is no variant's name it is BadName.
+abbrev pub BadVariantIsBadName : Type 0
+BadVariantIsBadName = (c : Cluster) (s : Name) (variant label body : List ℕ) (rows : ℕ) (last : Book) →
+    WasImported c s variant label body rows last →
+    (other_variant other_body : List ℕ) → IsFalse (is_name other_variant) →
+    step c last (Supplier s) (Import other_variant label other_body) ≡ record { book = last; answer = Refused BadName }
 
 -- ---- a supplier alone
 

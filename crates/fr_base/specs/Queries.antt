@@ -1,5 +1,5 @@
 -- What a query shows of a variant.
-use Rattle.std.specs.Prelude.{ℕ, ◌==◌, Bool, List, map, Result, Ok}
+use Rattle.std.specs.Prelude.{ℕ, ◌==◌, List, map, Result, Ok}
 use Rattle.std.specs.List.{flat_map}
 use Rattle.fr_base.specs.Refusing.{◌>>=◌, ◌>>◌, ◌or◌, refuse◌when◌}
 use Rattle.fr_base.specs.Tables.{Table, get, len, only}

@@ -3,7 +3,7 @@ use Rattle.std.specs.Prelude.{ℕ, List, codes}
 use Rattle.fr_base.specs.declared.refusal.Refusal.{Refusal}
 use Rattle.fr_base.specs.declared.refusal.Refusal.TheVariants.{BadText, UnknownKey, NotYours, BadName, BadCycles, BadSlot, BadChannel, BadSignal, LabelUsed, NoVariant, Released, NotReleased, TooDeep, NoSupplier, NoNode, NoFrame, NoSignal, NoPlacement, Exists, NodeDiffers, NotGranted, InUse, Limit, Taken, CellTaken, OutOfPayload, BitTaken, Unavailable}
 
--- the table of refusals: the number, the name, and the reply's HTTP status
+-- the table of refusals: the number, the name, and the reply's HTTP status; an import's refused row is number 29, BadRow, 422
 abbrev pub row_of : Refusal → ℕ × List ℕ × ℕ
 row_of BadText = (1, codes "BadText", 400)
 row_of UnknownKey = (2, codes "UnknownKey", 401)

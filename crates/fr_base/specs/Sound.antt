@@ -1,5 +1,5 @@
 -- Sound books: all that a row names is there, grants and placements fit the cluster and each other, and the limits are kept.
-use Rattle.std.specs.Prelude.{◌≡◌, ℕ, suc, ◌≤◌, Option, Some, None, IsTrue, All, ⊤}
+use Rattle.std.specs.Prelude.{◌≡◌, ℕ, suc, ◌≤◌, length, Option, Some, None, IsTrue, All, ⊤}
 use Rattle.std.specs.List.{list_all}
 use Rattle.fr_base.specs.Tables.{Table, get, contains, len}
 use Rattle.fr_base.specs.Keys.{names, owned, channel_slots}
@@ -8,11 +8,12 @@ use Rattle.fr_base.specs.Cycles.{cycle_count, is_cycle_set}
 use Rattle.fr_base.specs.Channels.{channels_in, has_channel}
 use Rattle.fr_base.specs.Cluster.{Cluster, IsWellFormed}
 use Rattle.fr_base.specs.Names.{is_name}
-use Rattle.fr_base.specs.Book.{Holder, Frame, Variant, Book, suppliers_of, own, granted}
+use Rattle.fr_base.specs.Book.{Holder, Frame, Variant, Kept, Book, suppliers_of, own, granted}
 use Rattle.fr_base.specs.Layouts.{IsLayout}
 use Rattle.fr_base.specs.Step.{layout_of}
-use Rattle.fr_base.specs.declared.limits.TheConstants.{MAX_NODES, MAX_VARIANTS, MAX_DEPTH, MAX_FRAMES, MAX_PLACEMENTS}
+use Rattle.fr_base.specs.declared.limits.TheConstants.{MAX_NODES, MAX_VARIANTS, MAX_DEPTH, MAX_FRAMES, MAX_PLACEMENTS, MAX_IMPORTS, MAX_IMPORT_BYTES, MAX_ROWS}
 use Rattle.fr_base.specs.declared.channel.Channel.{Channel}
+use Rattle.fr_base.specs.declared.key.Key.{Key}
 use Rattle.fr_base.specs.declared.name.Name.{Name}
 use Rattle.fr_base.specs.declared.params.Params.{Params}
 use Rattle.fr_base.specs.declared.placement.Placement.{Placement}
@@ -62,13 +63,24 @@ IsOpenedFrom variants None depth = depth ≡ 1
 IsOpenedFrom variants (Some name) depth =
     (parent : Variant) × (get variants name ≡ Some parent) × IsTrue parent.released × (depth ≡ suc parent.depth)
 
+-- an import that is kept: its label is a name, its supplier and its variant are there, and its file is within the limits
+pub record IsSoundImport (suppliers : Table names Key) (variants : Table names Variant) (s l : Name) (kept : Kept) : Type 0 where
+  pub label : IsTrue (is_name l)
+  pub supplier : IsTrue (contains suppliers s)
+  pub variant : IsTrue (contains variants kept.variant)
+  pub bytes : length kept.body ≤ MAX_IMPORT_BYTES
+  pub rows : kept.rows ≤ MAX_ROWS
+
 -- a book under a cluster file: the file is well formed, and its suppliers are the book's; each node has a name, and its supplier is
--- there; each variant has a name, is sound, and was opened empty, or from a released one that is one less deep; the limits are kept
+-- there; each variant has a name, is sound, and was opened empty, or from a released one that is one less deep; the kept imports are
+-- sound; the limits are kept
 pub record IsSound (c : Cluster) (b : Book) : Type 0 where
   pub cluster : IsWellFormed c
   pub suppliers : b.suppliers ≡ suppliers_of c
   pub nodes : (s n : Name) → IsTrue (contains b.nodes (s, n)) → IsTrue (is_name n) × IsTrue (contains b.suppliers s)
   pub variants : (v : Name) (variant : Variant) → get b.variants v ≡ Some variant → IsTrue (is_name v) × IsSoundVariant c.params b.nodes variant
   pub parents : (v : Name) (variant : Variant) → get b.variants v ≡ Some variant → IsOpenedFrom b.variants variant.parent variant.depth
+  pub imports : (s l : Name) (kept : Kept) → get b.imports (s, l) ≡ Some kept → IsSoundImport b.suppliers b.variants s l kept
   pub node_limit : (s : Name) → len (own s b.nodes) ≤ MAX_NODES
   pub variant_limit : len b.variants ≤ MAX_VARIANTS
+  pub import_limit : (s : Name) → len (own s b.imports) ≤ MAX_IMPORTS

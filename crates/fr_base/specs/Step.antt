@@ -1,6 +1,7 @@
 -- What a request does: the book after it, and the answer.
-use Rattle.std.specs.Prelude.{ℕ, suc, ◌==◌, Bool, true, false, not, ◌&&◌, [], nat_le, Option, Some, None, is_some, Result, Ok, Err, ⊤}
+use Rattle.std.specs.Prelude.{ℕ, suc, ◌==◌, Bool, true, false, not, ◌&&◌, List, [], ◌∷◌, length, nat_le, nat_lt, Option, Some, None, is_some, Result, Ok, Err, ⊤}
 use Rattle.std.specs.List.{list_any}
+use Rattle.std.specs.Option.{option_and_then}
 use Rattle.fr_base.specs.Refusing.{◌>>=◌, ◌>>◌, ◌or◌, refuse◌when◌}
 use Rattle.fr_base.specs.Tables.{Table, Fate, Becomes, Gone, empty, get, contains, len, insert, remove, settle}
 use Rattle.fr_base.specs.Keys.{owned, channel_slots}
@@ -10,9 +11,11 @@ use Rattle.fr_base.specs.Checks.{check}
 use Rattle.fr_base.specs.Channels.{has_channel}
 use Rattle.fr_base.specs.Cluster.{Cluster}
 use Rattle.fr_base.specs.Layouts.{LayoutData, has_signal, with_signal, without_signal, admits_signal}
+use Rattle.fr_base.specs.ImportRows.{rows_of_body}
 use Rattle.fr_base.specs.Queries.{reply}
-use Rattle.fr_base.specs.Book.{Holder, Frame, Variant, Book, Owner, empty_variant, held_by_node, own, own_grants, granted, placements_of, schedule_of}
-use Rattle.fr_base.specs.declared.limits.TheConstants.{MAX_NODES, MAX_VARIANTS, MAX_DEPTH, MAX_FRAMES, MAX_PLACEMENTS}
+use Rattle.fr_base.specs.Names.{same_text}
+use Rattle.fr_base.specs.Book.{Holder, Frame, Variant, Kept, Book, Owner, empty_variant, held_by_node, own, own_grants, granted, placements_of, schedule_of}
+use Rattle.fr_base.specs.declared.limits.TheConstants.{MAX_NODES, MAX_VARIANTS, MAX_DEPTH, MAX_FRAMES, MAX_PLACEMENTS, MAX_IMPORTS, MAX_IMPORT_BYTES}
 use Rattle.fr_base.specs.declared.channel.Channel.{Channel}
 use Rattle.fr_base.specs.declared.name.Name.{Name}
 use Rattle.fr_base.specs.declared.params.Params.{Params}
@@ -20,7 +23,10 @@ use Rattle.fr_base.specs.declared.placement.Placement.{Placement}
 use Rattle.fr_base.specs.declared.answer.Answer.{Answer}
 use Rattle.fr_base.specs.declared.answer.Answer.TheVariants as answer
 use Rattle.fr_base.specs.declared.refusal.Refusal.{Refusal}
-use Rattle.fr_base.specs.declared.refusal.Refusal.TheVariants.{UnknownKey, NoVariant, Released, NotReleased, TooDeep, NoSupplier, NoNode, NoFrame, NoSignal, NoPlacement, Exists, NodeDiffers, NotGranted, InUse, Limit, Taken, CellTaken}
+use Rattle.fr_base.specs.declared.refusal.Refusal.TheVariants.{UnknownKey, LabelUsed, NoVariant, Released, NotReleased, TooDeep, NoSupplier, NoNode, NoFrame, NoSignal, NoPlacement, Exists, NodeDiffers, NotGranted, InUse, Limit, Taken, CellTaken}
+use Rattle.fr_base.specs.declared.import.Row.{Row}
+use Rattle.fr_base.specs.declared.import.Row.TheVariants as row
+use Rattle.fr_base.specs.declared.import.RowRead.{RowRead}
 use Rattle.fr_base.specs.declared.actor.Actor.{Actor}
 use Rattle.fr_base.specs.declared.actor.Actor.TheVariants.{Integrator, Supplier}
 use Rattle.fr_base.specs.declared.request.Request.{Request}
@@ -32,6 +38,7 @@ use Rattle.fr_base.specs.declared.request.Change.{Change}
 use Rattle.fr_base.specs.declared.request.Change.TheVariants.{Grant, Revoke, Frame as OfFrame}
 use Rattle.fr_base.specs.declared.request.FrameChange.{FrameChange}
 use Rattle.fr_base.specs.declared.request.FrameChange.TheVariants.{Add, Drop, Place, Unplace, AddSignal, DropSignal}
+use Rattle.fr_base.specs.declared.request.Import.{Import}
 use Rattle.fr_base.specs.declared.request.Checked.{Checked}
 use Rattle.fr_base.specs.declared.request.Checked.TheVariants as checked
 
@@ -184,12 +191,81 @@ change_rows p b s v change = do
   admits (own_rows p b s variant) (shared_by variant.grants variant.frames) change
   Ok (with_variant b v (changed s change variant))
 
--- ---- the step
+-- ---- what comes of a request
 
 -- the book after a request, and its answer
 pub record Outcome : Type 0 where
   pub book : Book
   pub answer : Answer
+
+-- ---- an import
+
+-- the frame of the supplier in the variant
+abbrev pub frame_at : Book → Name → Name → Name → Option Frame
+frame_at b s v f = option_and_then (λ variant. get variant.frames (s, f)) (get b.variants v)
+
+-- the book with a row's frame: it is there, with the row's node, or else it is added
+unfoldable pub with_frame : Params → Book → Name → Name → Name → Name → Option Frame → Result Book Refusal
+with_frame p b s v f n None = change_rows p b s v (OfFrame f (Add n))
+with_frame p b s v f n (Some frame) = do
+  refuse NodeDiffers when not (same_text frame.node n)
+  Ok b
+
+-- What a row does, in an open variant that is there: a row of placements is its frame, of a node that the supplier has, and then its
+-- placement; a row of signals adds the signal.
+unfoldable pub act_row : Params → Book → Name → Name → Row → Result Book Refusal
+act_row p b s v (row.Place f n q) = do
+  refuse NoNode when not (contains b.nodes (s, n))
+  framed ← with_frame p b s v f n (frame_at b s v f)
+  change_rows p framed s v (OfFrame f (Place q))
+act_row p b s v (row.AddSignal f signal) = change_rows p b s v (OfFrame f (AddSignal signal))
+
+-- a file's refused row: its line, and what refuses it
+pub record RefusedAt : Type 0 where
+  pub line : ℕ
+  pub refusal : Refusal
+
+-- a refusal at a line
+unfoldable pub at_line : {A : Type 0} → ℕ → Result A Refusal → Result A RefusedAt
+at_line line (Ok x) = Ok x
+at_line line (Err refusal) = Err (record { line = line; refusal = refusal })
+
+-- the rows in turn, each on the rows that those before it left, up to the first that is refused by its own text or as it acts
+unfoldable pub act_rows : Params → Book → Name → Name → List RowRead → Result Book RefusedAt
+act_rows p b s v [] = Ok b
+act_rows p b s v (read ∷ rest) = do
+  after ← at_line read.line (read.row >>= act_row p b s v)
+  act_rows p after s v rest
+
+-- the book with the import kept
+abbrev pub with_import : Book → Import → ℕ → Book
+with_import b i count =
+    record b { imports = insert b.imports (i.supplier, i.label) (record { variant = i.variant; body = i.body; rows = count }) }
+
+-- all rows were carried out, so many, and the import is kept; or one was refused, and the book is the old one
+unfoldable pub imported : Book → Import → ℕ → Result Book RefusedAt → Outcome
+imported b i count (Ok after) = record { book = with_import after i count; answer = answer.Imported count }
+imported b i count (Err fault) = record { book = b; answer = answer.RefusedRow fault.line fault.refusal }
+
+-- the import of these rows
+abbrev pub import_rows : Params → Book → Import → List RowRead → Outcome
+import_rows p b i rows = imported b i (length rows) (act_rows p b i.supplier i.variant rows)
+
+-- An import under a label that is not kept: its variant is there and open, its bytes and the supplier's imports are within the limits,
+-- and then its rows. Under one that is kept, the same variant and file have the same answer again, after a release too, and nothing
+-- is changed.
+unfoldable pub import : Params → Book → Import → Option Kept → Result Outcome Refusal
+import p b i None = do
+  variant ← get b.variants i.variant or NoVariant
+  refuse Released when variant.released
+  refuse Limit when nat_lt MAX_IMPORT_BYTES (length i.body)
+  refuse Limit when nat_le MAX_IMPORTS (len (own i.supplier b.imports))
+  Ok (import_rows p b i (rows_of_body p i.body))
+import p b i (Some kept) = do
+  refuse LabelUsed when not (same_text kept.variant i.variant && same_text kept.body i.body)
+  Ok (record { book = b; answer = answer.Imported kept.rows })
+
+-- ---- the step
 
 -- what was done, unless it was refused
 unfoldable pub done : Result Book Refusal → Result Outcome Refusal
@@ -206,6 +282,7 @@ perform p b (Rows s v change) = done (change_rows p b s v change)
 -- what a request with checked values does
 unfoldable pub act : Cluster → Book → Actor → Checked → Result Outcome Refusal
 act c b actor (checked.Command command) = perform c.params b command
+act c b actor (checked.Import i) = import c.params b i (get b.imports (i.supplier, i.label))
 act c b actor (checked.Query query) = do
   shown ← reply c.params b actor query
   Ok (record { book = b; answer = shown })

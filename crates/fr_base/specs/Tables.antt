@@ -1,5 +1,5 @@
 -- Tables: finite lists of rows in the order of their keys, no two rows with one key.
-use Rattle.std.specs.Prelude.{ℕ, Bool, not, T, List, [], ◌∷◌, map, length, filter, Option, Some, None, is_some}
+use Rattle.std.specs.Prelude.{ℕ, Bool, not, T, List, [], ◌∷◌, map, length, filter, Option, is_some}
 use Rattle.std.specs.declared.cmp.Ordering.{Ordering}
 use Rattle.std.specs.Ordering.{eq_by_cmp}
 use Rattle.std.specs.Cmp.{IsTotalOrder}

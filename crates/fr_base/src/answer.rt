@@ -13,6 +13,8 @@ use crate::slot::Slot;
 pub enum Answer {
     /// The command was carried out.
     Done,
+    /// All rows of the import's file were carried out, so many, and the import is kept.
+    Imported { rows: u32 },
     /// Who holds which slot and channel, by slot and channel.
     Grants { all: bool, rows: Rows<GrantRow> },
     /// The frames, by supplier and name.
@@ -25,6 +27,9 @@ pub enum Answer {
     Layout { all: bool, rows: Rows<SignalRow> },
     /// Nothing was changed.
     Refused(Refusal),
+    /// Nothing was changed: the import's file has a refused row, the first one at this line. The line
+    /// counts the file's records, of which the header is the first.
+    RefusedRow { line: u32, refusal: Refusal },
 }
 
 /// A node holds this slot and channel, in all cycles.

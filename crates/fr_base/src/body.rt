@@ -41,6 +41,40 @@ impl Body {
     }
 }
 
+/// The bytes of an import, in the request that sent them.
+#[derive(Debug, Drop)]
+pub struct BodyRef<'a> {
+    bytes: &'a [u8],
+}
+
+impl<'a> Model for BodyRef<'a> {
+    ghost use Rattle.std.specs.Prelude.{List, ℕ};
+
+    ghost Value = { List ℕ };
+
+    ghost view = { λ b. b.bytes.now };
+}
+
+impl<'a> BodyRef<'a> {
+    ghost use Rattle.std.specs.Prelude.{◌≡◌};
+
+    /// The bytes of this body.
+    pub fn of(body: &'a Body) -> BodyRef<'a>
+        ensures { result ≡ body.now }
+    {
+        BodyRef {
+            bytes: body.as_slice(),
+        }
+    }
+
+    /// The bytes.
+    pub fn as_slice(&self) -> &'a [u8]
+        ensures { result.now ≡ self.now }
+    {
+        self.bytes
+    }
+}
+
 impl PartialEq for Body {
     ghost eq = { pointwise nat_eq };
 

@@ -6,13 +6,16 @@ ghost use Rattle.fr_base.specs.Refusing.{refuse◌when◌};
 ghost use Rattle.fr_base.specs.Checks.{asking, is_integrator, check, name, cycles, slot, channel, channels, placement, signal, parent_name};
 
 use crate::actor::Actor;
+use crate::body::BodyRef;
 use crate::channel::{Channel, Channels};
 use crate::cycles::CycleSet;
 use crate::name::Name;
 use crate::params::Params;
 use crate::placement::Placement;
 use crate::refusal::Refusal;
-use crate::request::{Change, Checked, Command, CommonCommand, FrameChange, Query, Request};
+use crate::request::{
+    Change, Checked, Command, CommonCommand, FrameChange, Import, Query, Request,
+};
 use crate::signal::{Order, Signal};
 use crate::slot::Slot;
 use crate::text::Text;
@@ -20,7 +23,11 @@ use crate::text::Text;
 /// The request with checked values, or the first refusal that it meets by itself, whatever the
 /// register holds: `NotYours`, `BadName`, `BadCycles`, `BadSlot`, `BadChannel`, `BadSignal`, in this order.
 #[tactic(auto, unfolding(crate::proofs::ChecksLemmas::checks_open))]
-pub fn check(params: &Params, actor: &Actor, request: &Request) -> Result<Checked, Refusal>
+pub fn check<'a>(
+    params: &Params,
+    actor: &Actor,
+    request: &'a Request,
+) -> Result<Checked<'a>, Refusal>
     ensures { result ≡ check params.now actor.now request.now }
 {
     match request {
@@ -89,7 +96,7 @@ pub fn check(params: &Params, actor: &Actor, request: &Request) -> Result<Checke
             repetition,
         } => {
             let (supplier, variant, frame) = (asking(actor)?, name(variant)?, name(frame)?);
-            let placement = placement(params, *slot, channels, *base, *repetition)?;
+            let placement = placement(params, *slot, channels.as_str(), *base, *repetition)?;
             Ok(of_frame(supplier, variant, frame, FrameChange::Place(placement)))
         }
         Request::Unplace {
@@ -101,7 +108,7 @@ pub fn check(params: &Params, actor: &Actor, request: &Request) -> Result<Checke
             repetition,
         } => {
             let (supplier, variant, frame) = (asking(actor)?, name(variant)?, name(frame)?);
-            let placement = placement(params, *slot, channels, *base, *repetition)?;
+            let placement = placement(params, *slot, channels.as_str(), *base, *repetition)?;
             Ok(of_frame(supplier, variant, frame, FrameChange::Unplace(placement)))
         }
         Request::AddSignal {
@@ -113,7 +120,7 @@ pub fn check(params: &Params, actor: &Actor, request: &Request) -> Result<Checke
             order,
         } => {
             let (supplier, variant, frame) = (asking(actor)?, name(variant)?, name(frame)?);
-            let signal = signal(name(text)?, *start, *length, order)?;
+            let signal = signal(name(text)?, *start, *length, order.as_str())?;
             Ok(of_frame(supplier, variant, frame, FrameChange::AddSignal(signal)))
         }
         Request::DropSignal {
@@ -124,6 +131,20 @@ pub fn check(params: &Params, actor: &Actor, request: &Request) -> Result<Checke
             let (supplier, variant, frame) = (asking(actor)?, name(variant)?, name(frame)?);
             let signal = name(signal)?;
             Ok(of_frame(supplier, variant, frame, FrameChange::DropSignal(signal)))
+        }
+        Request::Import {
+            variant,
+            label,
+            body,
+        } => {
+            let (supplier, variant, label) = (asking(actor)?, name(variant)?, name(label)?);
+            let body = BodyRef::of(body);
+            Ok(Checked::Import(Import {
+                supplier,
+                variant,
+                label,
+                body,
+            }))
         }
         Request::Grants { variant } => {
             let variant = name(variant)?;
@@ -160,14 +181,14 @@ fn integrator(actor: &Actor) -> Result<(), Refusal>
 }
 
 // The command with checked values.
-fn common(command: CommonCommand) -> Checked
+fn common(command: CommonCommand) -> Checked<'static>
     ensures { result ≡ Checked.Command (Command.Common command) }
 {
     Checked::Command(Command::Common(command))
 }
 
 // The change of the supplier's rows in the variant.
-fn rows(supplier: Name, variant: Name, change: Change) -> Checked
+fn rows(supplier: Name, variant: Name, change: Change) -> Checked<'static>
     ensures { result ≡ Checked.Command (Command.Rows supplier variant change) }
 {
     Checked::Command(Command::Rows {
@@ -178,7 +199,7 @@ fn rows(supplier: Name, variant: Name, change: Change) -> Checked
 }
 
 // The change of the supplier's frame in the variant.
-fn of_frame(supplier: Name, variant: Name, frame: Name, change: FrameChange) -> Checked
+fn of_frame(supplier: Name, variant: Name, frame: Name, change: FrameChange) -> Checked<'static>
     ensures { result ≡ Checked.Command (Command.Rows supplier variant (Change.Frame frame change)) }
 {
     rows(supplier, variant, Change::Frame { frame, change })
@@ -195,12 +216,19 @@ fn asking(actor: &Actor) -> Result<Name, Refusal>
     }
 }
 
-// The name that the text is.
-#[tactic(auto, unfolding(crate::specs::Checks::name))]
+// The name that a request's text is.
 fn name(text: &Text) -> Result<Name, Refusal>
     ensures { result ≡ name text.now }
 {
-    Name::read(text.as_str()).ok_or(Refusal::BadName)
+    read_name(text.as_str())
+}
+
+/// The name that the text is.
+#[tactic(auto, unfolding(crate::specs::Checks::name))]
+pub(crate) fn read_name(text: &str) -> Result<Name, Refusal>
+    ensures { result ≡ name text.now }
+{
+    Name::read(text).ok_or(Refusal::BadName)
 }
 
 // The cycles that base and repetition select.
@@ -236,21 +264,21 @@ fn channel(params: &Params, text: &Text) -> Result<Channel, Refusal>
 
 // The channels that are written so, if the cluster has them all.
 #[tactic(auto, unfolding(crate::proofs::ChecksLemmas::checks_open))]
-fn channels(params: &Params, text: &Text) -> Result<Channels, Refusal>
+fn channels(params: &Params, text: &str) -> Result<Channels, Refusal>
     ensures { result ≡ channels params.now text.now }
 {
-    match Channels::read(text.as_str()) {
+    match Channels::read(text) {
         Some(channels) if has_all(params.channels(), channels) => Ok(channels),
         _ => Err(Refusal::BadChannel),
     }
 }
 
-// The placement in these cycles, this slot and these channels, if the cluster has them.
+/// The placement in these cycles, this slot and these channels, if the cluster has them.
 #[tactic(auto, unfolding(crate::proofs::ChecksLemmas::checks_open))]
-fn placement(
+pub(crate) fn placement(
     params: &Params,
     number: u32,
-    text: &Text,
+    text: &str,
     base: u32,
     repetition: u32,
 ) -> Result<Placement, Refusal>
@@ -274,12 +302,12 @@ fn parent_name(parent: &Option<Text>) -> Result<Option<Name>, Refusal>
     }
 }
 
-// The signal of this name, if it has 1 to 64 bits in one of the two orders.
+/// The signal of this name, if it has 1 to 64 bits in one of the two orders.
 #[tactic(auto, unfolding(crate::proofs::ChecksLemmas::checks_open))]
-fn signal(name: Name, start: u32, length: u32, text: &Text) -> Result<Signal, Refusal>
+pub(crate) fn signal(name: Name, start: u32, length: u32, text: &str) -> Result<Signal, Refusal>
     ensures { result ≡ signal name start length text.now }
 {
-    let order = Order::read(text.as_str()).ok_or(Refusal::BadSignal)?;
+    let order = Order::read(text).ok_or(Refusal::BadSignal)?;
     Signal::new(name, start, length, order).map_err(|_| Refusal::BadSignal)
 }
 

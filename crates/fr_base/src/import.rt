@@ -1,21 +1,13 @@
 //! The rows of an import's file.
 ghost use Rattle.std.specs.Prelude.{◌≡◌};
-ghost use Rattle.std.specs.List.{list_all};
-ghost use Rattle.fr_base.specs.Channels.{channels_in, has_channel};
-ghost use Rattle.fr_base.specs.Checks.{name, slot, channels, placement, signal};
 ghost use Rattle.fr_base.specs.ImportRows.{placement_row, signal_row};
 
-use crate::channel::Channels;
-use crate::cycles::CycleSet;
+use crate::checks::{self, read_name};
 use crate::name::Name;
 use crate::params::Params;
 use crate::placement::Placement;
 use crate::refusal::Refusal;
-use crate::signal::{Order, Signal};
-use crate::slot::Slot;
-
-/// The most rows that an import's file may have.
-pub const MAX_ROWS: u32 = 512;
+use crate::signal::Signal;
 
 /// What the rows of an import's file are, as its first record says.
 #[derive(Clone, Copy, Debug, PartialEq, Eq)]
@@ -66,15 +58,8 @@ impl Row {
     ) -> Result<Row, Refusal>
         ensures { result ≡ placement_row params.now frame.now node.now slot channels.now base repetition }
     {
-        let (frame, node) = (name(frame)?, name(node)?);
-        let cycles = CycleSet::new(base, repetition).map_err(|_| Refusal::BadCycles)?;
-        let slot = slot_of(params, slot)?;
-        let channels = channels_of(params, channels)?;
-        let placement = Placement {
-            slot,
-            channels,
-            cycles,
-        };
+        let (frame, node) = (read_name(frame)?, read_name(node)?);
+        let placement = checks::placement(params, slot, channels, base, repetition)?;
         Ok(Row::Place {
             frame,
             node,
@@ -94,41 +79,8 @@ impl Row {
     ) -> Result<Row, Refusal>
         ensures { result ≡ signal_row frame.now signal.now start length order.now }
     {
-        let (frame, signal) = (name(frame)?, name(signal)?);
-        let order = Order::read(order).ok_or(Refusal::BadSignal)?;
-        let signal = Signal::new(signal, start, length, order).map_err(|_| Refusal::BadSignal)?;
+        let (frame, name) = (read_name(frame)?, read_name(signal)?);
+        let signal = checks::signal(name, start, length, order)?;
         Ok(Row::AddSignal { frame, signal })
-    }
-}
-
-// The name that the text is.
-#[tactic(auto, unfolding(crate::specs::Checks::name))]
-fn name(text: &str) -> Result<Name, Refusal>
-    ensures { result ≡ name text.now }
-{
-    Name::read(text).ok_or(Refusal::BadName)
-}
-
-// The static slot of this number, if the cluster has it.
-#[tactic(auto, unfolding(crate::specs::Checks::slot))]
-fn slot_of(params: &Params, number: u32) -> Result<Slot, Refusal>
-    ensures { result ≡ slot params.now number }
-{
-    let last = params.static_slots();
-    match Slot::new(number) {
-        Some(slot) if number <= last => Ok(slot),
-        _ => Err(Refusal::BadSlot),
-    }
-}
-
-// The channels that are written so, if the cluster has them all.
-#[tactic(auto, unfolding(crate::proofs::ImportLemmas::rows_open))]
-fn channels_of(params: &Params, text: &str) -> Result<Channels, Refusal>
-    ensures { result ≡ channels params.now text.now }
-{
-    let cluster = params.channels();
-    match Channels::read(text) {
-        Some(channels) if cluster == Channels::AB || cluster == channels => Ok(channels),
-        _ => Err(Refusal::BadChannel),
     }
 }

@@ -1,5 +1,5 @@
 //! Laws of the register: functions with nothing to do, whose contracts say what holds of any register.
-ghost use Rattle.fr_base.specs.Laws.{EqualViews, FirstTakenIsOwn, HolderSends, OneDependence, OneFrameInACell, OpeningIsAlone, OpeningIsSound, OtherStepLeavesRows, OwnStepIsAlone, ReleaseFreezes, ReleasedAnswersStay, RunIsAlone, RunIsSoundThroughout, RunKeepsSound, ScheduleIsOwn, StepKeepsSound, StepsAreARun};
+ghost use Rattle.fr_base.specs.Laws.{BadVariantIsBadName, EqualViews, FirstTakenIsOwn, HolderSends, ImportActsOnce, ImportIsKept, LabelStaysUsed, OneDependence, OneFrameInACell, OpeningIsAlone, OpeningIsSound, OtherStepLeavesRows, OwnStepIsAlone, RefusedChangesNothing, ReleaseFreezes, ReleasedAnswersStay, RunIsAlone, RunIsSoundThroughout, RunKeepsSound, ScheduleIsOwn, StepKeepsSound, StepsAreARun};
 
 /// The book of a new register is sound.
 pub fn opening_is_sound()
@@ -39,6 +39,32 @@ pub fn release_freezes()
 /// A query of a released variant gives the same actor the same answer ever after.
 pub fn released_answers_stay()
     ensures { ReleasedAnswersStay }
+{}
+
+/// An import that comes again, with the same label, variant and file, has its answer again and changes
+/// nothing, ever after.
+pub fn import_acts_once()
+    ensures { ImportActsOnce }
+{}
+
+/// It is kept, as it was sent.
+pub fn import_is_kept()
+    ensures { ImportIsKept }
+{}
+
+/// With another file, or the name of another variant, its label is used.
+pub fn label_stays_used()
+    ensures { LabelStaysUsed }
+{}
+
+/// And with what is no variant's name it is `BadName`.
+pub fn bad_variant_is_bad_name()
+    ensures { BadVariantIsBadName }
+{}
+
+/// A refusal changes nothing, that of an import's row too.
+pub fn refused_changes_nothing()
+    ensures { RefusedChangesNothing }
 {}
 
 /// In a sound book, where one of a supplier's nodes holds a placement's slot on each of its channels,

@@ -27,28 +27,31 @@ mod text;
 
 pub use actor::Actor;
 pub use answer::{Answer, FrameRow, GapRow, GrantRow, Sending, SignalRow};
-pub use body::Body;
+pub use body::{Body, BodyRef};
 pub use channel::{Channel, Channels};
 pub use checks::check;
 pub use config::{Config, Supplier, Suppliers};
 pub use cycles::{BadCycles, CYCLE_COUNT, CycleSet};
-pub use import::{Header, MAX_ROWS, Row, RowRead};
+pub use import::{Header, Row, RowRead};
 pub use key::Key;
 pub use laws::{
-    equal_views, first_taken_is_own, holder_sends, one_dependence, one_frame_in_a_cell,
-    opening_is_alone, opening_is_sound, other_step_leaves_rows, own_step_is_alone, release_freezes,
-    released_answers_stay, run_is_alone, run_is_sound_throughout, run_keeps_sound, schedule_is_own,
-    step_keeps_sound, steps_are_a_run,
+    bad_variant_is_bad_name, equal_views, first_taken_is_own, holder_sends, import_acts_once,
+    import_is_kept, label_stays_used, one_dependence, one_frame_in_a_cell, opening_is_alone,
+    opening_is_sound, other_step_leaves_rows, own_step_is_alone, refused_changes_nothing,
+    release_freezes, released_answers_stay, run_is_alone, run_is_sound_throughout, run_keeps_sound,
+    schedule_is_own, step_keeps_sound, steps_are_a_run,
 };
 pub use limits::{
-    MAX_DEPTH, MAX_FRAMES, MAX_NODES, MAX_PAYLOAD_WORDS, MAX_PLACEMENTS, MAX_SIGNALS,
-    MAX_SUPPLIERS, MAX_VARIANTS,
+    MAX_DEPTH, MAX_FRAMES, MAX_IMPORT_BYTES, MAX_IMPORTS, MAX_NODES, MAX_PAYLOAD_WORDS,
+    MAX_PLACEMENTS, MAX_ROWS, MAX_SIGNALS, MAX_SUPPLIERS, MAX_VARIANTS,
 };
 pub use name::Name;
 pub use params::{ParamFault, Params, RawParams};
 pub use placement::Placement;
 pub use refusal::Refusal;
-pub use request::{Ask, Change, Checked, Command, CommonCommand, FrameChange, Query, Request};
+pub use request::{
+    Ask, Change, Checked, Command, CommonCommand, FrameChange, Import, Query, Request,
+};
 pub use rows::Rows;
 pub use signal::{BadSignal, Order, Signal};
 pub use slot::Slot;

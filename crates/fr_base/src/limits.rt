@@ -23,3 +23,12 @@ pub const MAX_SIGNALS: usize = 64;
 
 /// Words of two bytes in a payload.
 pub const MAX_PAYLOAD_WORDS: u32 = 127;
+
+/// Imports kept of a supplier.
+pub const MAX_IMPORTS: usize = 1000;
+
+/// Bytes of an import's file.
+pub const MAX_IMPORT_BYTES: usize = 65_536;
+
+/// Rows of an import's file.
+pub const MAX_ROWS: u32 = 512;

@@ -1,5 +1,6 @@
 //! Who asks what: requests as they were sent, and the same with checked values.
 use crate::actor::Actor;
+use crate::body::{Body, BodyRef};
 use crate::channel::Channel;
 use crate::name::Name;
 use crate::placement::Placement;
@@ -83,6 +84,13 @@ pub enum Request {
         variant: Text,
         frame: Text,
         signal: Text,
+    },
+    /// A supplier imports the rows of a file: all of them, or none. The label is the supplier's own
+    /// name for the import.
+    Import {
+        variant: Text,
+        label: Text,
+        body: Body,
     },
     /// Which node holds which slot and channel.
     Grants {
@@ -180,6 +188,15 @@ pub enum FrameChange {
     DropSignal(Name),
 }
 
+/// A supplier's import, with checked names; what its file says is not yet read.
+#[derive(Debug, Drop)]
+pub struct Import<'a> {
+    pub supplier: Name,
+    pub variant: Name,
+    pub label: Name,
+    pub body: BodyRef<'a>,
+}
+
 /// A request that only reads, with checked values.
 #[derive(Clone, Copy, Debug, PartialEq, Eq)]
 pub enum Query {
@@ -191,8 +208,9 @@ pub enum Query {
 }
 
 /// A request whose own texts and numbers are in order.
-#[derive(Clone, Copy, Debug, PartialEq, Eq)]
-pub enum Checked {
+#[derive(Debug, Drop)]
+pub enum Checked<'a> {
     Command(Command),
+    Import(Import<'a>),
     Query(Query),
 }

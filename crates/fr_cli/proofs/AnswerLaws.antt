@@ -25,6 +25,7 @@ use Rattle.fr_base.specs.declared.request.FrameChange.TheVariants.{Add, Drop, Pl
 use Rattle.fr_base.proofs.SoundChecks.{HasForm, IsFormed, IsFormedChange, IsFormedFrame, check-form}
 use Rattle.fr_world.specs.Decisions.{IsChecked}
 use Rattle.fr_base.specs.declared.request.Query.{Query}
+use Rattle.fr_base.specs.declared.request.Import.{Import}
 use Rattle.fr_base.specs.declared.request.Checked.{Checked}
 use Rattle.fr_base.specs.declared.request.Checked.TheVariants as checked
 use Rattle.fr_cli.specs.Answers.{Answers, Does, Performs}
@@ -51,7 +52,7 @@ checked_form p (Rows s v change) form = checked_change p change form
 
 -- a command that passed its check has a placement that fits, and a signal with a length
 pub checked_command : (p : Params) (actor : Actor) (request : Request) (command : Command) → check p actor request ≡ Ok (checked.Command command) → IsCheckedCommand p command
-checked_command p actor request command said = checked_form p command (subst (λ r. IfOk r (IsFormed p)) said (check-form p actor request))
+checked_command p actor request command said = checked_form p command (subst (λ r. IfOk r (IsFormed p actor)) said (check-form p actor request))
 
 -- what is done to the rows is a command's outcome
 pub performs : (r : Result ⊤ Refusal) (old new : Book) (said : Result Book Refusal) → Does r old new said → Performs r old new (done said)
@@ -81,6 +82,9 @@ module _ (c : Cluster) (b : Book) (ask : Ask) (known : IsTrue (knows b ask.actor
   unfolding step act outcome ◌>>=◌ ◌>>◌ refuse◌when◌
   answers_refused_command command new e said same (inl made) = stepped (Refused e) new (rw (known, said, made)) (rw (known, said, made) (sym same))
   answers_refused_command command new e said same (inr lack) = lacked (checked.Command command) new e said same lack
+
+  pub answers_import : (i : Import) → check c.params ask.actor ask.request ≡ Ok (checked.Import i) → Answers c b ask (Refused Unavailable) b
+  answers_import i said = lacked (checked.Import i) b Unavailable said refl refl
 
   pub answers_query : (query : Query) (answer : Answer) → check c.params ask.actor ask.request ≡ Ok (checked.Query query) → reply c.params b ask.actor query ≡ Ok answer → Answers c b ask answer b
   unfolding step act outcome ◌>>=◌ ◌>>◌ refuse◌when◌

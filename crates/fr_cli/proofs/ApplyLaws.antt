@@ -1,31 +1,30 @@
 -- What is made of a frame's placements and signals, and of the variants.
-use Rattle.std.proofs.Common.{◌≡◌, ℕ, not, List, filter, Option, Some, None, option_map, Result, Ok, Err, IfOk, OnOk, OnErr, refl, sym, ap, subst, ◌∙◌}
+use Rattle.std.proofs.Common.{◌≡◌, List, Option, Some, None, option_map, Result, Ok, Err, IfOk, OnOk, OnErr, refl, sym, ap, subst, ◌∙◌}
 use Rattle.std.specs.Map.{keys_of, lookup, set_value}
 use Rattle.std.specs.BTreeMap.{insert_entry, is_at}
 use Rattle.std.specs.Option.{option_and_then}
 use Rattle.std.specs.BTreeSet.{insert_key}
 use Rattle.std.specs.Set.{remove_key}
-use Rattle.std.specs.Str.{bytes_eq}
 use Rattle.std.specs.List.Sorted.{IsStrictlySortedBy}
 use Rattle.fr_base.specs.Tables.{Table, get, insert, remove}
 use Rattle.fr_base.specs.Keys.{names, owned, placement_order}
 use Rattle.fr_base.specs.Book as register
 use Rattle.fr_base.specs.Signals.{SignalData}
-use Rattle.fr_base.specs.Layouts.{LayoutData, add_signal, remove_signal, with_signal, without_signal}
+use Rattle.fr_base.specs.Layouts.{LayoutData, add_signal, with_signal}
 use Rattle.fr_base.specs.declared.name.Name.{Name}
 use Rattle.fr_base.specs.declared.placement.Placement.{Placement}
-use Rattle.fr_base.specs.declared.refusal.Refusal.{Refusal}
-use Rattle.fr_base.proofs.SoundRefusing.{gives_when, gives_unless, gives_then}
+use Rattle.fr_base.proofs.SoundRefusing.{gives_then}
 use Rattle.fr_world.specs.BookEdits.{change_variant, changed_at, copied, or_empty}
 use Rattle.fr_world.specs.Maps.{table_of, set_of}
-use Rattle.fr_world.proofs.AmendSignals.{remove_takes, remove_keeps}
 use Rattle.fr_world.proofs.KeyLaws.{name_cmp, placement_cmp, placements_alike}
 use Rattle.fr_world.proofs.MapLaws.{get-table_of, set_of-insert_key, table_of-insert_entry, table_of-lent, table_of-lent_same}
 use Rattle.fr_world.proofs.RemoveLaws.{set_of-remove_key}
 use Rattle.fr_cli.specs.Plans.{variant_of}
+use Rattle.fr_cli.specs.Registers.{kept_of}
+use Rattle.fr_cli.specs.declared.kept.KeptImport.{KeptImport}
 use Rattle.fr_cli.specs.declared.plan.Owned.{Owned}
 use Rattle.fr_cli.specs.declared.plan.Plan.{Plan}
-use Rattle.fr_cli.proofs.PlanLaws.{owned_cmp, owned_alike}
+use Rattle.fr_cli.proofs.KeyLaws.{names_alike, owned_cmp, owned_alike}
 
 pub placement_put : (placements : List Placement) (q : Placement) → set_of placement_order (λ q. q) (insert_key placement_cmp placements q) ≡ insert (set_of placement_order (λ q. q) placements) q tt
 placement_put placements q = set_of-insert_key placement_cmp placement_order (λ q. q) placements_alike placements q
@@ -35,19 +34,12 @@ pub placement_removed : (placements : List Placement) (q : Placement) → IsStri
 placement_removed placements q sorted = set_of-remove_key placement_cmp placement_order (λ q. q) placements_alike placements q sorted
 
 -- what a layout is with a signal more
-gives_signals : (l : LayoutData) (s : SignalData) → IfOk (add_signal l s) (λ m. m.signals ≡ with_signal s l.signals)
+gives_signals : (l : LayoutData) (s : SignalData) → IfOk (add_signal l s) (λ m. m ≡ record l { signals = with_signal s l.signals })
 unfolding add_signal
 gives_signals l s = gives_then _ _ _ (λ x _. refl)
 
-pub added : (l m : LayoutData) (s : SignalData) → add_signal l s ≡ Ok m → m.signals ≡ with_signal s l.signals
-added l m s e = subst (λ r. IfOk r (λ m. m.signals ≡ with_signal s l.signals)) e (gives_signals l s)
-
--- and without one
-pub removed : (l m : LayoutData) (name : List ℕ) → remove_signal l name ≡ Ok m → m.signals ≡ without_signal name l.signals
-removed l m name e = ap (λ (n : LayoutData). n.signals) (remove_takes l m name e)
-
-pub not_removed : (l m : LayoutData) (name : List ℕ) (e : Refusal) → remove_signal l name ≡ Err e → m ≡ l → m.signals ≡ without_signal name l.signals
-not_removed l m name e refused same = ap (λ (n : LayoutData). n.signals) (remove_keeps l m name e refused same)
+pub added : (l m : LayoutData) (s : SignalData) → add_signal l s ≡ Ok m → m ≡ record l { signals = with_signal s l.signals }
+added l m s e = subst (λ r. IfOk r (λ m. m ≡ record l { signals = with_signal s l.signals })) e (gives_signals l s)
 
 -- what follows from what holds where a call succeeded, and where it failed
 pub on_ok : {A E : Type 0} {P Q : Type 0} (r : Result A E) → (P → Q) → OnOk r P → OnOk r Q
@@ -63,9 +55,10 @@ on_err (Err e) f h = f h
 pub node_put : (nodes : List Owned) (k : Owned) → set_of owned (λ k. (k.supplier, k.name)) (insert_key owned_cmp nodes k) ≡ insert (set_of owned (λ k. (k.supplier, k.name)) nodes) (k.supplier, k.name) tt
 node_put nodes k = set_of-insert_key owned_cmp owned (λ k. (k.supplier, k.name)) owned_alike nodes k
 
-pub names_alike : (x y : Name) → name_cmp x y ≡ names.compare x y
-unfolding names
-names_alike x y = refl
+-- imports as a table
+pub import_put : (imports : List (Owned × KeptImport)) (k : Owned) (one : KeptImport) → IsStrictlySortedBy owned_cmp (keys_of imports) →
+    table_of owned (λ k. (k.supplier, k.name)) kept_of (insert_entry owned_cmp imports k one) ≡ insert (table_of owned (λ k. (k.supplier, k.name)) kept_of imports) (k.supplier, k.name) (kept_of one)
+import_put imports k one sorted = table_of-insert_entry owned_cmp owned (λ k. (k.supplier, k.name)) kept_of owned_alike imports k one sorted
 
 -- variants as a table
 abbrev pub variants_of : List (Name × Plan) → Table names register.Variant

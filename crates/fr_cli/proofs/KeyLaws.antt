@@ -1,4 +1,4 @@
--- Names compare as the register's keys, and suppliers are found by theirs.
+-- Names, and those that a supplier owns, compare as the register's keys; and suppliers are found by theirs.
 use Rattle.std.proofs.Common.{◌≡◌, Ordering, refl, ap, ◌∙◌, true, false, cond, ◌||◌, List, [], ◌∷◌, map, Some, is_some}
 use Rattle.std.specs.List.{list_any}
 use Rattle.std.specs.FinMap.Entries.{find}
@@ -6,12 +6,14 @@ use Rattle.fr_base.specs.Tables.{contains, from_rows}
 use Rattle.fr_base.specs.Book.{suppliers_of}
 use Rattle.fr_base.specs.Cluster.{Cluster}
 use Rattle.fr_base.specs.Names.{same_text}
-use Rattle.fr_base.specs.Keys.{names}
+use Rattle.fr_base.specs.Keys.{names, owned}
 use Rattle.fr_base.specs.declared.config.Supplier.{Supplier}
 use Rattle.fr_base.specs.declared.name.Name.{Name}
 use Rattle.std.proofs.lemmas.Map.Text.{is_eq-slice_cmp}
 use Rattle.fr_base.proofs.TableLaws.{get-from_rows}
 use Rattle.fr_world.proofs.KeyLaws as world
+use Rattle.fr_cli.specs.declared.plan.Owned.{Owned}
+use Rattle.fr_cli.specs.contracts.plan.OwnedOrd.TheImpl as by_owner
 
 abbrev pub name_cmp : Name → Name → Ordering
 name_cmp = world.name_cmp
@@ -19,6 +21,13 @@ name_cmp = world.name_cmp
 pub names_alike : (x y : Name) → name_cmp x y ≡ names.compare x y
 unfolding names
 names_alike x y = refl
+
+abbrev pub owned_cmp : Owned → Owned → Ordering
+owned_cmp = by_owner.cmp-value.it
+
+pub owned_alike : (x y : Owned) → owned_cmp x y ≡ owned.compare (x.supplier, x.name) (y.supplier, y.name)
+unfolding owned names
+owned_alike x y = refl
 
 find-suppliers : (ss : List Supplier) (n : Name) → is_some (find names.compare n (map (λ s. (s.name, s.key)) ss)) ≡ list_any (λ s. same_text n s.name) ss
 unfolding names

@@ -8,6 +8,7 @@ pub mod OwnLaws
 pub mod ShownLaws
 pub mod SeenLaws
 pub mod ListLaws
+pub mod PayloadLaws
 pub mod PlanLaws
 pub mod ApplyLaws
 pub mod DecideLaws

@@ -18,8 +18,7 @@ use Rattle.fr_cli.specs.Registers.{book_of}
 use Rattle.fr_cli.specs.declared.plan.Owned.{Owned}
 use Rattle.fr_cli.specs.declared.plan.Plan.{Plan}
 use Rattle.fr_cli.specs.declared.register.Register.{Register}
-use Rattle.fr_cli.proofs.KeyLaws.{name_cmp, names_alike}
-use Rattle.fr_cli.proofs.OwnLaws.{owned_cmp, owned_alike}
+use Rattle.fr_cli.proofs.KeyLaws.{name_cmp, names_alike, owned_cmp, owned_alike}
 use Rattle.fr_cli.proofs.ShownLaws.{shown_of, map-flat, shown-rows}
 
 -- the supplier's nodes among the keys of the set

@@ -4,12 +4,10 @@ use Rattle.std.proofs.lemmas.List.{flat_map_more}
 use Rattle.fr_base.specs.Book.{Book, opening}
 use Rattle.fr_base.specs.Cluster.{Cluster, IsWellFormed}
 use Rattle.fr_base.specs.Run.{IsRun}
-use Rattle.fr_base.specs.Step.{step}
 use Rattle.fr_base.specs.Sound.{IsSound}
 use Rattle.fr_base.proofs.SoundSteps.{step-sound}
 use Rattle.fr_base.proofs.SoundLaws.{opening-sound}
 use Rattle.fr_base.specs.declared.answer.Answer.{Answer}
-use Rattle.fr_base.specs.declared.answer.Answer.TheVariants.{Refused}
 use Rattle.fr_base.specs.declared.refusal.Refusal.{Refusal}
 use Rattle.fr_base.specs.declared.request.Ask.{Ask}
 use Rattle.fr_text.specs.AnswerText.{text_of}

@@ -1,10 +1,10 @@
 -- One row more, where it is the supplier's.
-use Rattle.std.proofs.Common.{◌≡◌, ℕ, map, Bool, true, false, List, [], ◌∷◌, Some, refl, sym, ap, subst, ◌∙◌, Ordering}
+use Rattle.std.proofs.Common.{◌≡◌, ℕ, map, Bool, true, false, List, [], ◌∷◌, Some, refl, sym, ap, subst, ◌∙◌}
 use Rattle.std.specs.BTreeMap.{insert_entry}
 use Rattle.std.specs.BTreeSet.{insert_key}
 use Rattle.std.specs.List.Sorted.{IsStrictlySortedBy}
 use Rattle.std.specs.Map.{keys_of}
-use Rattle.fr_base.specs.Keys.{names, owned, channel_slots}
+use Rattle.fr_base.specs.Keys.{owned, channel_slots}
 use Rattle.std.specs.Prelude.{T, ⊤}
 use Rattle.std.specs.FinMap.Entries.{is_sorted}
 use Rattle.fr_base.specs.Book as book
@@ -22,11 +22,11 @@ use Rattle.fr_world.specs.declared.page.PageFrame.{PageFrame}
 use Rattle.fr_world.proofs.KeyLaws.{name_cmp, slot_cmp, own_alike, slots_alike}
 use Rattle.fr_world.proofs.MapLaws.{sorted, rows-set_of, set_of-insert_key, table_of-insert_entry}
 use Rattle.fr_cli.specs.Kept.{with_kept}
+use Rattle.fr_cli.proofs.KeyLaws.{owned_cmp, owned_alike}
 use Rattle.fr_cli.proofs.KeptLaws.{Taking, taking-none, taking-more, taking-all}
 use Rattle.fr_cli.specs.Plans.{holder_of, frame_of}
 use Rattle.fr_cli.specs.declared.plan.Holder.{Holder}
 use Rattle.fr_cli.specs.declared.plan.Owned.{Owned}
-use Rattle.fr_cli.specs.contracts.plan.OwnedOrd.TheImpl as by_owner
 
 -- the rows of all nodes
 abbrev pub node_rows : List Owned → List ((Name × Name) × ⊤)
@@ -74,13 +74,6 @@ frame-in s k f g es fs sorted own same e =
     ∙ kept-in (λ j _. is_of s j) was (k.supplier, k.name) (frame_of f) own
 
 -- ---- all rows of a kind
-
-abbrev pub owned_cmp : Owned → Owned → Ordering
-owned_cmp = by_owner.cmp-value.it
-
-pub owned_alike : (x y : Owned) → owned_cmp x y ≡ owned.compare (x.supplier, x.name) (y.supplier, y.name)
-unfolding owned names
-owned_alike x y = refl
 
 module _ (s : Name) where
   -- the supplier's nodes that are taken over, and those that are to be looked at

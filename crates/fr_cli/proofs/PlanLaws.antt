@@ -1,5 +1,5 @@
 -- The grants and frames of a variant in maps, beside their tables.
-use Rattle.std.proofs.Common.{◌≡◌, ℕ, List, [], ◌∷◌, map, Option, Some, None, option_map, Ordering, refl, sym, ap, ◌∙◌}
+use Rattle.std.proofs.Common.{◌≡◌, ℕ, List, [], ◌∷◌, map, Option, Some, None, option_map, refl, sym, ap, ◌∙◌}
 use Rattle.std.specs.Map.{keys_of, lookup, remove_entry, set_value}
 use Rattle.std.specs.BTreeMap.{insert_entry, is_at}
 use Rattle.std.specs.List.{AllZip}
@@ -9,7 +9,7 @@ use Rattle.fr_base.specs.Tables.{Becomes, Gone, empty, get, insert, remove, sett
 use Rattle.fr_base.specs.Step.{frame_after}
 use Rattle.fr_base.specs.declared.request.FrameChange.{FrameChange}
 use Rattle.fr_base.specs.declared.request.FrameChange.TheVariants.{Add, Drop, Place, Unplace, AddSignal, DropSignal}
-use Rattle.fr_base.specs.Keys.{names, owned, channel_slots, placement_order}
+use Rattle.fr_base.specs.Keys.{owned, channel_slots, placement_order}
 use Rattle.fr_base.specs.Book as register
 use Rattle.fr_base.specs.declared.channel.Channel.{Channel}
 use Rattle.fr_base.specs.declared.name.Name.{Name}
@@ -26,14 +26,7 @@ use Rattle.fr_cli.specs.Applied.{NeedsFrame, grants_of, frames_of}
 use Rattle.fr_cli.specs.Plans.{frame_of, holder_of}
 use Rattle.fr_cli.specs.declared.plan.Holder.{Holder}
 use Rattle.fr_cli.specs.declared.plan.Owned.{Owned}
-use Rattle.fr_cli.specs.contracts.plan.OwnedOrd.TheImpl as by_owner
-
-abbrev pub owned_cmp : Owned → Owned → Ordering
-owned_cmp = by_owner.cmp-value.it
-
-pub owned_alike : (x y : Owned) → owned_cmp x y ≡ owned.compare (x.supplier, x.name) (y.supplier, y.name)
-unfolding owned names
-owned_alike x y = refl
+use Rattle.fr_cli.proofs.KeyLaws.{owned_cmp, owned_alike}
 
 abbrev slot_key : ChannelSlot → ℕ × Channel
 slot_key k = (k.slot, k.channel)

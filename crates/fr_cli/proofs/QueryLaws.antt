@@ -36,7 +36,7 @@ use Rattle.fr_cli.proofs.SeenLaws.{frames-seen, grants-seen}
 use Rattle.fr_cli.specs.declared.plan.Holder.{Holder}
 use Rattle.fr_cli.specs.declared.plan.Owned.{Owned}
 use Rattle.fr_cli.specs.declared.plan.Plan.{Plan}
-use Rattle.fr_cli.proofs.OwnLaws.{owned_cmp, owned_alike}
+use Rattle.fr_cli.proofs.KeyLaws.{owned_cmp, owned_alike}
 use Rattle.fr_cli.proofs.ShownLaws.{shown_of, map-flat, shown-rows}
 
 -- what a proof about a query opens

@@ -1,5 +1,5 @@
 -- A variant's grants and frames as tables, and what an edit makes of them.
-use Rattle.std.specs.Prelude.{ℕ, List, true, ⊤}
+use Rattle.std.specs.Prelude.{List, true, ⊤}
 use Rattle.fr_base.specs.Tables.{Table}
 use Rattle.fr_base.specs.Keys.{owned, channel_slots}
 use Rattle.fr_base.specs.Book as register

@@ -1,5 +1,8 @@
 -- The runner's rows of a variant as the register's.
-use Rattle.fr_base.specs.Keys.{owned, channel_slots}
+use Rattle.std.specs.Prelude.{◌≡◌, ℕ, List, All}
+use Rattle.std.specs.List.Sorted.{IsStrictlySortedBy}
+use Rattle.std.specs.Map.{values_of}
+use Rattle.fr_base.specs.Keys.{owned, channel_slots, placement_order}
 use Rattle.fr_base.specs.Book as register
 use Rattle.fr_world.specs.Maps.{table_of}
 use Rattle.fr_world.specs.Pages as pages
@@ -21,3 +24,19 @@ variant_of v = record {
   grants = table_of channel_slots (λ k. (k.slot, k.channel)) holder_of v.grants.entries;
   frames = table_of owned (λ k. (k.supplier, k.name)) frame_of v.frames.entries;
 }
+
+-- The frame's layout is of a payload of so many words.
+abbrev pub IsOfPayload : ℕ → PageFrame → Type 0
+IsOfPayload words f = f.layout.words ≡ words
+
+-- So are the layouts of all these frames.
+abbrev pub AreOfPayload : {K : Type 0} → ℕ → List (K × PageFrame) → Type 0
+AreOfPayload words frames = All (IsOfPayload words) (values_of frames)
+
+-- So are those of all frames of the variant.
+abbrev pub HasPayload : ℕ → Plan → Type 0
+HasPayload words plan = AreOfPayload words plan.frames.entries
+
+-- The frame's layout is of such a payload, and its placements stand in order.
+abbrev pub IsWhole : ℕ → PageFrame → Type 0
+IsWhole words f = IsOfPayload words f × IsStrictlySortedBy placement_order.compare f.placements.keys

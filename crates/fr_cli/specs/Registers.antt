@@ -8,7 +8,12 @@ use Rattle.fr_base.specs.declared.params.Params.{Params}
 use Rattle.fr_world.specs.Maps.{table_of, set_of}
 use Rattle.fr_world.specs.Pages.{PageData, own_rows_of}
 use Rattle.fr_cli.specs.Plans.{variant_of}
+use Rattle.fr_cli.specs.declared.kept.KeptImport.{KeptImport}
 use Rattle.fr_cli.specs.declared.register.Register.{Register}
+
+-- an import that the runner keeps
+abbrev pub kept_of : KeptImport → register.Kept
+kept_of k = record { variant = k.variant; body = k.body; rows = k.rows }
 
 -- the register's rows that the runner's stand for
 abbrev pub book_of : Register → register.Book
@@ -16,6 +21,7 @@ book_of b = record {
   suppliers = register.suppliers_of b.config;
   nodes = set_of owned (λ k. (k.supplier, k.name)) b.nodes.keys;
   variants = table_of names (λ v. v) variant_of b.variants.entries;
+  imports = table_of owned (λ k. (k.supplier, k.name)) kept_of b.imports.entries;
 }
 
 -- The page's rows are the supplier's in this variant of the register.

@@ -6,11 +6,12 @@ ghost use Rattle.fr_cli.specs.Answers.{Answers};
 ghost use Rattle.fr_cli.specs.Registers.{book_of};
 
 use crate::register::Register;
-use fr_base::{Answer, Ask, Checked, check};
+use fr_base::{Answer, Ask, Checked, Refusal, check};
 use std::alloc::Global;
 
 impl Register {
-    /// Answers a request of the integrator's or of a supplier's that is there.
+    /// Answers a request of the integrator's or of a supplier's that is there. An import, which the runner
+    /// does not read yet, is `Unavailable`.
     pub(crate) fn answer(&mut self, alloc: Global, ask: &Ask) -> Answer
         requires known { IsTrue (knows (book_of self.old) ask.now.actor) }
         requires sound { IsSound self.old.config (book_of self.old) }
@@ -22,6 +23,7 @@ impl Register {
                 Ok(()) => Answer::Done,
                 Err(refusal) => Answer::Refused(refusal),
             },
+            Ok(Checked::Import(_)) => Answer::Refused(Refusal::Unavailable),
             Ok(Checked::Query(query)) => match self.reply(alloc, &ask.actor, &query) {
                 Ok(answer) => answer,
                 Err(refusal) => Answer::Refused(refusal),

@@ -1,20 +1,21 @@
 //! What an edit makes of the register's rows.
-ghost use Rattle.std.specs.Prelude.{◌≡◌, ◌≤◌, Err, IfErr, IfOk, OnErr, OnOk, false, length, option_map};
+ghost use Rattle.std.specs.Prelude.{◌≡◌, ◌≤◌, Err, IfErr, IfOk, IfSome, OnErr, OnOk, false, length, option_map};
 ghost use Rattle.std.specs.Option.{option_and_then};
 ghost use Rattle.fr_base.specs.Tables.{get, insert};
 ghost use Rattle.fr_base.specs.Step.{with_variant};
 ghost use Rattle.fr_base.specs.declared.refusal.Refusal.TheVariants.{Unavailable};
 ghost use Rattle.fr_world.specs.BookEdits.{all_applied, applied, change_variant, copied};
 ghost use Rattle.fr_cli.specs.Applied.{variant_edited};
-ghost use Rattle.fr_cli.specs.Plans.{variant_of};
-ghost use Rattle.fr_cli.specs.Registers.{book_of};
+ghost use Rattle.fr_cli.specs.Plans.{HasPayload, variant_of};
+ghost use Rattle.fr_cli.specs.Registers.{book_of, kept_of};
 
 mod frame;
 mod variant;
 
+use crate::kept::KeptImport;
 use crate::plan::{Owned, Plan};
 use crate::register::Register;
-use fr_base::{Name, Refusal};
+use fr_base::{Body, Name, Refusal};
 use fr_world::Edit;
 use std::alloc::Global;
 
@@ -51,7 +52,20 @@ impl Register {
             Edit::SetReleased { variant } | Edit::Rows { variant, .. } => {
                 self.change_variant(alloc, *variant, edit)
             }
-            Edit::KeepImport { .. } => Ok(()),
+            Edit::KeepImport {
+                supplier,
+                label,
+                variant,
+                body,
+                rows,
+            } => {
+                let import = KeptImport {
+                    variant: *variant,
+                    body: Body::copy(alloc, body.as_slice())?,
+                    rows: *rows,
+                };
+                self.keep(*supplier, *label, import)
+            }
         }
     }
 
@@ -62,6 +76,16 @@ impl Register {
         ensures err { OnErr result ((book_of self.new ≡ book_of self.old) × (result ≡ Err Unavailable)) }
     {
         self.nodes.insert(Owned { supplier, name })?;
+        Ok(())
+    }
+
+    // The import is kept under the supplier's label.
+    fn keep(&mut self, supplier: Name, name: Name, import: KeptImport) -> Result<(), Refusal>
+        ensures config { self.new.config ≡ self.old.config }
+        ensures ok { OnOk result (book_of self.new ≡ record (book_of self.old) { imports = insert (book_of self.old).imports (supplier, name) (kept_of import) }) }
+        ensures err { OnErr result ((book_of self.new ≡ book_of self.old) × (result ≡ Err Unavailable)) }
+    {
+        self.imports.insert(Owned { supplier, name }, import)?;
         Ok(())
     }
 
@@ -87,6 +111,7 @@ impl Register {
     fn begun(&self, alloc: Global, parent: &Option<Name>, depth: u32) -> Result<Plan, Refusal>
         ensures ok { IfOk result (λ plan. variant_of plan ≡ record (copied (book_of self.now) parent.now) { parent = parent.now; depth = depth; released = false }) }
         ensures err { IfErr result (λ refusal. refusal ≡ Unavailable) }
+        ensures payload { IfOk result (λ plan. HasPayload self.now.config.params.payload_words plan) }
     {
         match self.parent(parent) {
             Some(rows) => Ok(rows.copied(parent, depth)?),
@@ -96,10 +121,11 @@ impl Register {
 
     // The variant of this name, if one is named and is there.
     fn parent(&self, parent: &Option<Name>) -> Option<&Plan>
-        ensures { option_map (λ plan. variant_of plan.now) result ≡ option_and_then (get (book_of self.now).variants) parent.now }
+        ensures rows { option_map (λ plan. variant_of plan.now) result ≡ option_and_then (get (book_of self.now).variants) parent.now }
+        ensures payload { IfSome result (λ plan. HasPayload self.now.config.params.payload_words plan.now) }
     {
         match parent {
-            Some(parent) => self.variants.get(parent),
+            Some(parent) => self.plan(*parent),
             None => None,
         }
     }

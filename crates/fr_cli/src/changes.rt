@@ -1,13 +1,14 @@
 //! What commands make of the register.
-ghost use Rattle.std.specs.Prelude.{◌≡◌, ◌⊎◌, ◌≤◌, Ok, Err, IfErr, IfOk, MatchResult, length};
+ghost use Rattle.std.specs.Prelude.{◌≡◌, ◌⊎◌, ◌≤◌, Ok, Err, Some, IfErr, IfOk, MatchResult, length};
 ghost use Rattle.fr_base.specs.Sound.{IsSound};
+ghost use Rattle.fr_base.specs.Tables.{get};
 ghost use Rattle.fr_base.specs.Step.{add_node, change_rows, common, perform};
 ghost use Rattle.fr_base.specs.declared.refusal.Refusal.TheVariants.{Unavailable};
 ghost use Rattle.fr_world.specs.Decisions.{IsChecked, decision};
 ghost use Rattle.fr_world.specs.Pages.{page_in};
 ghost use Rattle.fr_cli.specs.Answers.{Does, Performs};
 ghost use Rattle.fr_cli.specs.Decided.{IsCheckedCommand, is_taken, open_to};
-ghost use Rattle.fr_cli.specs.Plans.{variant_of};
+ghost use Rattle.fr_cli.specs.Plans.{HasPayload, variant_of};
 ghost use Rattle.fr_cli.specs.Registers.{book_of};
 
 use crate::plan::Plan;
@@ -90,6 +91,9 @@ impl Register {
         change: &Change,
     ) -> Result<Vec<Edit>, Refusal>
         requires checked { IsChecked self.now.config.params change.now }
+        requires sound { IsSound self.now.config (book_of self.now) }
+        requires there { get (book_of self.now).variants variant ≡ Some (variant_of plan.now) }
+        requires payload { HasPayload self.now.config.params.payload_words plan.now }
         ensures edits { IfOk result (λ edits. decision (page_in self.now.config.params (book_of self.now) supplier variant (variant_of plan.now)) change.now ≡ Ok edits.items) }
         ensures one { IfOk result (λ edits. length edits.items ≤ 1) }
         ensures refusal { IfErr result (λ e. (e ≡ Unavailable) ⊎ (decision (page_in self.now.config.params (book_of self.now) supplier variant (variant_of plan.now)) change.now ≡ Err e)) }
@@ -100,7 +104,9 @@ impl Register {
 
     // The variant of this name, where it is open and the supplier is there.
     fn open_to(&self, supplier: Name, variant: Name) -> Result<&Plan, Refusal>
-        ensures { MatchResult result (λ plan. open_to (book_of self.now) supplier variant ≡ Ok (variant_of plan.now)) (λ e. open_to (book_of self.now) supplier variant ≡ Err e) }
+        ensures rows { MatchResult result (λ plan. open_to (book_of self.now) supplier variant ≡ Ok (variant_of plan.now)) (λ e. open_to (book_of self.now) supplier variant ≡ Err e) }
+        ensures there { IfOk result (λ plan. get (book_of self.now).variants variant ≡ Some (variant_of plan.now)) }
+        ensures payload { IfOk result (λ plan. HasPayload self.now.config.params.payload_words plan.now) }
     {
         let Some(plan) = self.plan(variant) else {
             return Err(Refusal::NoVariant);

@@ -10,9 +10,9 @@ ghost use Rattle.fr_world.specs.Pages.{nodes_in};
 ghost use Rattle.fr_cli.specs.Registers.{book_of};
 
 use crate::register::Register;
-use fr_base::{Actor, Name, Supplier};
+use fr_base::{Actor, Name, NoMemory, Supplier};
 use fr_world::VariantRow;
-use std::alloc::{AllocError, Global};
+use std::alloc::Global;
 
 impl Register {
     /// Who asks with this key.
@@ -31,7 +31,7 @@ impl Register {
     }
 
     /// The supplier's nodes, in order.
-    pub(crate) fn nodes_of(&self, alloc: Global, supplier: Name) -> Result<Vec<Name>, AllocError>
+    pub(crate) fn nodes_of(&self, alloc: Global, supplier: Name) -> Result<Vec<Name>, NoMemory>
         ensures { IfOk result (λ names. names.items ≡ nodes_in (book_of self.now) supplier) }
     {
         let mut names = Vec::new(alloc);
@@ -44,7 +44,7 @@ impl Register {
     }
 
     /// The variants, by name.
-    pub(crate) fn variant_rows(&self, alloc: Global) -> Result<Vec<VariantRow>, AllocError>
+    pub(crate) fn variant_rows(&self, alloc: Global) -> Result<Vec<VariantRow>, NoMemory>
         ensures { IfOk result (λ rows. rows.items ≡ variants_in (book_of self.now)) }
     {
         let mut rows = Vec::new(alloc);

@@ -5,6 +5,7 @@ mod answers;
 mod apply;
 mod changes;
 mod input;
+mod kept;
 mod laws;
 mod lines;
 mod lists;

@@ -6,7 +6,7 @@ use fr_base::Name;
 use fr_world::{ChannelSlot, PageFrame};
 use std::collections::BTreeMap;
 
-/// A supplier, and a name of its own: of a node or of a frame.
+/// A supplier, and a name of its own: of a node or of a frame, or the label of an import.
 #[derive(Clone, Copy, Debug, PartialEq, Eq, PartialOrd, Ord)]
 pub(crate) struct Owned {
     pub(crate) supplier: Name,

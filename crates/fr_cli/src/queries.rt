@@ -1,5 +1,5 @@
 //! What the register answers to queries.
-ghost use Rattle.std.specs.Prelude.{◌≡◌, ◌⊎◌, IfErr, IfOk, option_map};
+ghost use Rattle.std.specs.Prelude.{◌≡◌, ◌⊎◌, IfErr, IfOk, IfSome, option_map};
 ghost use Rattle.fr_base.specs.Checks.{is_integrator};
 ghost use Rattle.fr_base.specs.Queries.{reply, shown, variant_asked};
 ghost use Rattle.fr_cli.specs.Seen.{sees};
@@ -7,7 +7,7 @@ ghost use Rattle.fr_base.specs.Sound.{IsSound};
 ghost use Rattle.fr_base.specs.Tables.{get};
 ghost use Rattle.fr_base.specs.declared.refusal.Refusal.TheVariants.{Unavailable};
 ghost use Rattle.fr_cli.specs.Fitting.{AllFitting};
-ghost use Rattle.fr_cli.specs.Plans.{variant_of};
+ghost use Rattle.fr_cli.specs.Plans.{HasPayload, variant_of};
 ghost use Rattle.fr_cli.specs.Registers.{book_of};
 
 mod frames;
@@ -43,7 +43,8 @@ impl Register {
 
     /// The rows of the variant of this name.
     pub(crate) fn plan(&self, variant: Name) -> Option<&Plan>
-        ensures { option_map (λ plan. variant_of plan.now) result ≡ get (book_of self.now).variants variant }
+        ensures rows { option_map (λ plan. variant_of plan.now) result ≡ get (book_of self.now).variants variant }
+        ensures payload { IfSome result (λ plan. HasPayload self.now.config.params.payload_words plan.now) }
     {
         self.variants.get(&variant)
     }

@@ -1,23 +1,24 @@
 //! Runs a script: reads it, and writes the answer to each of its requests.
-ghost use Rattle.std.specs.Prelude.{◌≡◌, ◌⊎◌, ◌++◌, ◌∷◌, ℕ, List, [], codes, Err, IfErr, IfOk, IsErrOf, IsTrue, OnOk};
+ghost use Rattle.std.specs.Prelude.{◌≡◌, ◌⊎◌, ◌++◌, ◌∷◌, ℕ, List, [], codes, None, Some, Err, IfErr, IfOk, IsErrOf, IsTrue, OnOk};
 ghost use Rattle.std.specs.Io.KnownBytes.{Appends};
 ghost use Rattle.fr_base.specs.Step.{knows};
 ghost use Rattle.fr_base.specs.Sound.{IsSound};
 ghost use Rattle.fr_base.specs.Cluster.{IsWellFormed};
-ghost use Rattle.fr_cli.specs.Asked.{ask_in};
+ghost use Rattle.fr_cli.specs.Asked.{answered, ask_in};
 ghost use Rattle.fr_cli.specs.Answers.{Replied};
 ghost use Rattle.fr_cli.specs.Registers.{book_of};
 ghost use Rattle.fr_cli.specs.Output.{IsAnsweredTo};
 ghost use Rattle.fr_cli.specs.Runs.{IsRunOf};
 ghost use Rattle.fr_cli.specs.Script.{request_lines};
 ghost use Rattle.fr_text.specs.AnswerText.{text_of};
+ghost use Rattle.fr_text.specs.RequestText.{request_of};
 
 use crate::input::read_all;
 use crate::lines::{RequestLines, key_and_text, split_script};
 use crate::output::Output;
 use crate::register::Register;
 use crate::script_fault::ScriptFault;
-use fr_base::{Answer, Ask, Config, NoMemory, Refusal};
+use fr_base::{Answer, Ask, Config, NoMemory, Refusal, Request};
 use fr_text::{read_command, read_config, write_answer};
 use std::alloc::Global;
 use std::io::{Read, Write};
@@ -101,9 +102,20 @@ fn read_ask(alloc: Global, register: &Register, line: &[u8]) -> Result<Ask, Refu
     ensures known { IfOk result (λ ask. IsTrue (knows (book_of register.now) ask.actor)) }
 {
     let (key, text) = key_and_text(line).ok_or(Refusal::BadText)?;
-    let request = read_command(alloc, text)?;
+    let request = read_request(alloc, text)?;
     let actor = register.actor_of(key).ok_or(Refusal::UnknownKey)?;
     Ok(Ask { actor, request })
+}
+
+// The request that the text is, if the runner answers it: it answers no import yet.
+fn read_request(alloc: Global, text: &[u8]) -> Result<Request, Refusal>
+    ensures read { IfOk result (λ request. answered (request_of text.now) ≡ Some request) }
+    ensures refused { IfErr result (λ refusal. (refusal ≡ Refusal.Unavailable) ⊎ ((answered (request_of text.now) ≡ None) × (refusal ≡ Refusal.BadText))) }
+{
+    match read_command(alloc, text)? {
+        Request::Import { .. } => Err(Refusal::BadText),
+        request => Ok(request),
+    }
 }
 
 #[cfg(test)]

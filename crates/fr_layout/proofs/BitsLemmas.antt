@@ -25,10 +25,6 @@ mirror-after_big p = grind (arith, nat_tests)
 pub mirror-same : (p q : ℕ) → mirror p ≡ mirror q → p ≡ q
 mirror-same p q h = sym (mirror-mirror p) ∙ (ap mirror h ∙ mirror-mirror q)
 
--- a bound that is a whole number of bytes holds of both
-pub mirror_below : (p n : ℕ) → p < 8 * n → mirror p < 8 * n
-mirror_below p n h = omega arith
-
 -- the positions of a run, one by one
 pub length-run_big : (p n : ℕ) → length (run_big p n) ≡ n
 length-run_big p zero = refl
@@ -62,14 +58,6 @@ place-same Little start n i j hi hj e = omega arith
 place-same Big start n i j hi hj e =
     let same : mirror start + (n - 1 - i) ≡ mirror start + (n - 1 - j) = mirror-same (mirror start + (n - 1 - i)) (mirror start + (n - 1 - j)) e in
     omega arith
-
-pub along_below : (o : Order) (p n : ℕ) → p < 8 * n → along o p < 8 * n
-along_below Little p n h = h
-along_below Big p n h = mirror_below p n h
-
-pub along-along : (o : Order) (p : ℕ) → along o (along o p) ≡ p
-along-along Little p = refl
-along-along Big p = mirror-mirror p
 
 list_any-range : (p a n : ℕ) → list_any (λ q. eqb q p) (range_with_len a n) ≡ (leb a p && ltb p (a + n))
 list_any-range p a zero = grind (arith, nat_tests)

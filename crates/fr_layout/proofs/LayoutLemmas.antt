@@ -1,31 +1,25 @@
 -- Laws of layouts: what adding and removing a signal keeps.
-use Rattle.std.proofs.Common.{◌≡◌, ◌≢◌, ℕ, suc, zero, ◌+◌, ◌*◌, ◌/◌, ◌<◌, ◌≤◌, Bool, true, false, not, ◌&&◌, ◌||◌, List, [], ◌∷◌, length, filter, get_or, Option, Some, None, is_some, Result, Ok, Err, refl, sym, ◌∙◌, ap, arith, eqb, ltb, leb, cond, inl, inr, ◌⊎◌, All, AllPairs, IsTrue, IsOk, is_ok, MatchResult, position, insert, remove, unwrap_or, replicate, subst, ◌%◌}
+use Rattle.std.proofs.Common.{◌≡◌, ◌≢◌, ℕ, suc, zero, ◌+◌, ◌*◌, ◌/◌, ◌<◌, ◌≤◌, Bool, true, false, not, ◌&&◌, ◌||◌, List, [], ◌∷◌, length, filter, get_or, Option, Some, None, is_some, Result, Ok, Err, refl, sym, ◌∙◌, ap, arith, eqb, ltb, leb, cond, inl, inr, ◌⊎◌, All, AllPairs, IsTrue, IsOk, is_ok, MatchResult, position, insert, remove, unwrap_or, subst}
 use Rattle.std.specs.List.{list_any, range_with_len, find, position_or_len}
 use Rattle.std.specs.Option.{option_map, option_and_then}
-use Rattle.std.specs.Int.{bit_at}
 use Rattle.std.specs.Str.{bytes_eq}
 use Rattle.std.proofs.lemmas.Bool.{ltb-true, lt-ltb}
 use Rattle.std.proofs.lemmas.Bool.Decides.{nat_tests, Decides-eqb, eqb_tells, leb_tells}
 use Rattle.std.proofs.lemmas.Nat.{le-div, div_below}
 use Rattle.std.proofs.lemmas.List.Sums.{AllPass-from_list_all, prefix_len-le-length}
 use Rattle.std.proofs.lemmas.List.Elements.{All-head, All-tail}
-use Rattle.std.proofs.lemmas.List.{length-replicate}
-use Rattle.std.proofs.lemmas.List.Folds.{list_any_at, list_any_none}
-use Rattle.std.proofs.lemmas.Nat.Bits.{bit_at-zero}
+use Rattle.std.proofs.lemmas.List.Folds.{list_any_at}
 use Rattle.std.proofs.lemmas.Slice.Eq.{bytes_eq-Decides}
 use Rattle.fr_base.specs.Refusing.{◌>>=◌, ◌>>◌, refuse◌when◌}
 use Rattle.fr_base.specs.Signals.{SignalData, is_signal_length}
 use Rattle.fr_base.specs.Bits.{bits_of, uses, entry_of}
-use Rattle.fr_base.specs.Layouts.{LayoutData, IsLayout, AreApart, lies_inside, has_signal, user_of, taken_at, first_taken_bit, bit_taken, with_signal, admits_signal, add_signal, remove_signal}
+use Rattle.fr_base.specs.Layouts.{LayoutData, IsLayout, lies_inside, has_signal, user_of, taken_at, first_taken_bit, bit_taken, with_signal, admits_signal, add_signal, remove_signal}
 use Rattle.fr_base.specs.declared.refusal.Refusal.{Refusal}
 use Rattle.fr_base.specs.declared.refusal.Refusal.TheVariants.{Exists, Limit, NoSignal, OutOfPayload, BitTaken}
 use Rattle.fr_base.proofs.LayoutLaws.{is_some-user_of, AllPairs-tail, AllPairs-head, taken_test, first_taken_is, empty-layout, with_signal-layout, filter-layout}
-use Rattle.fr_layout.specs.Kept.{IsKept, word_bit}
-use Rattle.fr_layout.proofs.BitsLemmas.{length-bits_of, not_true}
-
-pub either : (b : Bool) → (b ≡ true) ⊎ (b ≡ false)
-either true = inl refl
-either false = inr refl
+use Rattle.fr_layout.specs.Least.{IsLeast}
+use Rattle.fr_layout.specs.Used.{IsTaken}
+use Rattle.fr_layout.proofs.BitsLemmas.{length-bits_of}
 
 -- ---- where bits lie
 
@@ -70,19 +64,6 @@ find_least f p n h here before = find_from f p 0 n here before (omega arith) (om
 pub find_nothing : (f : ℕ → Bool) (a n : ℕ) → ((q : ℕ) → f q ≡ false) → find f (range_with_len a n) ≡ None
 find_nothing f a zero never = refl
 find_nothing f a (suc n) never = ap (λ b. cond b (Some a) (find f (range_with_len (a + 1) n))) (never a) ∙ find_nothing f (a + 1) n never
-
-or_turned : (a b c : Bool) → (b || (a || c)) ≡ (a || (b || c))
-or_turned true true c = refl
-or_turned true false c = refl
-or_turned false b c = refl
-
-pub list_any-with_signal : (f : SignalData → Bool) (s : SignalData) (xs : List SignalData) → list_any f (with_signal s xs) ≡ (f s || list_any f xs)
-list_any-with_signal f s [] = refl
-list_any-with_signal f s (t ∷ xs) = by_test (ltb s.start t.start) (list_any-with_signal f s xs)
-  where
-    by_test : (b : Bool) → list_any f (with_signal s xs) ≡ (f s || list_any f xs) → list_any f (cond b (s ∷ t ∷ xs) (t ∷ with_signal s xs)) ≡ (f s || (f t || list_any f xs))
-    by_test true later = refl
-    by_test false later = ap (λ b. f t || b) later ∙ or_turned (f s) (f t) (list_any f xs)
 
 -- the place at which the signal is inserted
 pub with_signal_at : (s : SignalData) (xs : List SignalData) → insert xs (position_or_len (λ t. ltb s.start t.start) xs) s ≡ with_signal s xs
@@ -215,74 +196,45 @@ admitted l s h =
 
 -- ---- the least bit that is taken
 
-abbrev number : Bool → ℕ
-number b = cond b 1 0
-
--- a bit is 1 in the kept payload where a signal uses it
-kept_bit : (l : LayoutData) (used : List ℕ) (p : ℕ) → IsKept l used → (word_bit used p ≡ 1) → is_some (user_of l.signals p) ≡ true
-kept_bit l used p kept bit = by_test (is_some (user_of l.signals p)) (sym (kept.bits p) ∙ bit)
-  where
-    by_test : (b : Bool) → number b ≡ 1 → b ≡ true
-    by_test true e = refl
-    by_test false e = absurd (omega arith)
-
-test_false : (l : LayoutData) (used : List ℕ) (s : SignalData) (q : ℕ) → IsKept l used → (IsTrue (uses s q) → word_bit used q ≢ 1) → taken_test l s q ≡ false
+untaken : (l : LayoutData) (s : SignalData) (q : ℕ) → ¬ IsTaken s l.signals q → taken_test l s q ≡ false
 unfolding taken_test
-test_false l used s q kept free = by_tests (uses s q) (is_some (user_of l.signals q)) refl refl
+untaken l s q free = by_tests (uses s q) (is_some (user_of l.signals q)) refl refl
   where
     by_tests : (a b : Bool) → uses s q ≡ a → is_some (user_of l.signals q) ≡ b → (a && b) ≡ false
     by_tests false b e f = refl
     by_tests true false e f = refl
-    by_tests true true e f = absurd (free e (kept.bits q ∙ ap number f))
+    by_tests true true e f = absurd (free (e, sym (is_some-user_of l.signals q) ∙ f))
 
-pub taken_none : (l : LayoutData) (used : List ℕ) (s : SignalData) → IsKept l used → ((p : ℕ) → IsTrue (uses s p) → word_bit used p ≡ 0) → first_taken_bit l s ≡ None
-taken_none l used s kept free =
-    first_taken_is l s
-    ∙ ap (option_and_then (taken_at l.signals))
-    (find_nothing (taken_test l s) 0 (16 * l.words) (λ q. test_false l used s q kept (λ u e. absurd (omega (arith, free q u, e)))))
+pub taken_none : (l : LayoutData) (s : SignalData) → IsLeast (IsTaken s l.signals) None → first_taken_bit l s ≡ None
+taken_none l s least = first_taken_is l s ∙ ap (option_and_then (taken_at l.signals)) (find_nothing (taken_test l s) 0 (16 * l.words) (λ q. untaken l s q (least.none q)))
 
-pub taken_some : (l : LayoutData) (used : List ℕ) (s t : SignalData) (p : ℕ) → IsKept l used → IsTrue (lies_inside l.words s) → IsTrue (uses s p) → word_bit used p ≡ 1 →
-    ((q : ℕ) → IsTrue (uses s q) → word_bit used q ≡ 1 → p ≤ q) → user_of l.signals p ≡ Some t → bit_taken (first_taken_bit l s) ≡ Err (BitTaken p t.name)
-unfolding taken_test
-taken_some l used s t p kept inside here bit least user =
+-- a bit that the signal uses lies in the payload
+pub bit_inside : (s : SignalData) (words p : ℕ) → IsTrue (lies_inside words s) → IsTrue (uses s p) → p < 16 * words
+bit_inside s words p inside here =
     let entry = uses_entry s p here in
-    let below : p < 16 * l.words = omega (arith, entry.2, inside_below s l.words (16 * l.words) inside (omega arith) entry.0 0 (omega (arith, entry.1, length-bits_of s))) in
-    let both : taken_test l s p ≡ true = ap (λ b. b && is_some (user_of l.signals p)) here ∙ kept_bit l used p kept bit in
+    omega (arith, entry.2, inside_below s words (16 * words) inside (omega arith) entry.0 0 (omega (arith, entry.1, length-bits_of s)))
+
+pub taken_some : (l : LayoutData) (s t : SignalData) (p : ℕ) → IsTrue (lies_inside l.words s) → IsLeast (IsTaken s l.signals) (Some p) → user_of l.signals p ≡ Some t → bit_taken (first_taken_bit l s) ≡ Err (BitTaken p t.name)
+unfolding taken_test
+taken_some l s t p inside least user =
+    let both : taken_test l s p ≡ true = ap (λ b. b && is_some (user_of l.signals p)) least.holds.0 ∙ (is_some-user_of l.signals p ∙ least.holds.1) in
     let found : find (taken_test l s) (range_with_len 0 (16 * l.words)) ≡ Some p =
-    find_least (taken_test l s) p (16 * l.words) below both (λ q less. test_false l used s q kept (λ u e. absurd (omega (arith, least q u e)))) in
+    find_least (taken_test l s) p (16 * l.words) (bit_inside s l.words p inside least.holds.0) both (λ q less. untaken l s q (λ taken. absurd (omega (arith, less, least.below q taken)))) in
     ap bit_taken (first_taken_is l s ∙ (ap (option_and_then (taken_at l.signals)) found ∙ ap (option_map (λ s. (p, s.name))) user))
 
--- a used bit has a user
-pub has_user : (l : LayoutData) (used : List ℕ) (p : ℕ) → IsKept l used → word_bit used p ≡ 1 → user_of l.signals p ≡ None → ⊥
-has_user l used p kept bit none = same (sym (kept_bit l used p kept bit) ∙ ap is_some none)
+-- a bit that is taken has a user
+pub has_user : (l : LayoutData) (s : SignalData) (p : ℕ) → IsTaken s l.signals p → user_of l.signals p ≡ None → ⊥
+has_user l s p taken none = same (sym (is_some-user_of l.signals p ∙ taken.1) ∙ ap is_some none)
   where
     same : true ≡ false → ⊥
     same e = cc
 
 -- ---- a layout with one signal more
 
-ones_or : (a b : Bool) → cond a 1 (number b) ≡ number (a || b)
-ones_or true b = refl
-ones_or false b = refl
-
-pub kept_with : (l : LayoutData) (used new : List ℕ) (s : SignalData) → IsKept l used → Admitted l s → IsTrue (is_signal_length s.length) →
-    ((p : ℕ) → word_bit new p ≡ cond (uses s p) 1 (word_bit used p)) → length new ≡ 127 → IsKept (extended l s) new
-kept_with l used new s kept passed long bits same =
-    record {
-      sound = with_signal-layout l s kept.sound long passed.fresh (grind (arith, nat_tests, passed.room)) passed.inside passed.free;
-      size = same;
-      bits = λ p.
-          bits p
-          ∙ (ap (cond (uses s p) 1) (kept.bits p)
-          ∙ (ones_or (uses s p) (is_some (user_of l.signals p))
-          ∙ ap number
-          (ap (λ b. uses s p || b) (is_some-user_of l.signals p) ∙ (sym (list_any-with_signal (λ t. uses t p) s l.signals) ∙ sym (is_some-user_of (with_signal s l.signals) p)))));
-    }
+pub sound_with : (l : LayoutData) (s : SignalData) → IsLayout l → Admitted l s → IsTrue (is_signal_length s.length) → IsLayout (extended l s)
+sound_with l s sound passed long = with_signal-layout l s sound long passed.fresh (grind (arith, nat_tests, passed.room)) passed.inside passed.free
 
 -- ---- a layout with one signal less
-
-abbrev pub is_named : List ℕ → SignalData → Bool
-is_named name s = bytes_eq s.name name
 
 filter_all : {X : Type 0} (p : X → Bool) (xs : List X) → All (λ x. p x ≡ true) xs → filter p xs ≡ xs
 filter_all p [] all = refl
@@ -308,45 +260,11 @@ without_is (t ∷ xs) (suc i) name d names within same =
     (differ t.name name (λ h. AllPairs-head (λ s t. s.name ≢ t.name) t xs names i d (omega arith) (h ∙ sym same)))
     ∙ ap (λ l. t ∷ l) (without_is xs i name d (AllPairs-tail (λ s t. s.name ≢ t.name) t xs names) (omega arith) same)
 
--- the bits of the one that is taken out are free
-any_without : (xs : List SignalData) (i p : ℕ) (d : SignalData) → AllPairs AreApart xs → i < length xs →
-    list_any (λ s. uses s p) (remove xs i) ≡ cond (uses (get_or xs i d) p) false (list_any (λ s. uses s p) xs)
-any_without [] i p d apart within = absurd (omega arith)
-any_without (t ∷ xs) zero p d apart within = by_test (uses t p) refl
-  where
-    by_test : (b : Bool) → uses t p ≡ b → list_any (λ s. uses s p) xs ≡ cond b false (b || list_any (λ s. uses s p) xs)
-    by_test true e = list_any_none (λ s. uses s p) xs (λ k d below. not_true (uses (get_or xs k d) p) (AllPairs-head AreApart t xs apart k d below p e))
-    by_test false e = refl
-any_without (t ∷ xs) (suc i) p d apart within =
-    ap (λ b. uses t p || b) (any_without xs i p d (AllPairs-tail AreApart t xs apart) (omega arith))
-    ∙ by_tests (uses t p) (uses (get_or xs i d) p) (list_any (λ s. uses s p) xs) (AllPairs-head AreApart t xs apart i d (omega arith) p)
-  where
-    by_tests : (a b c : Bool) → (a ≡ true → b ≡ true → ⊥) → (a || cond b false c) ≡ cond b false (a || c)
-    by_tests true true c n = absurd (n refl refl)
-    by_tests false true c n = refl
-    by_tests a false c n = refl
-
-zero_unless : (a b : Bool) → cond a 0 (number b) ≡ number (cond a false b)
-zero_unless true b = refl
-zero_unless false b = refl
-
-pub kept_without : (l : LayoutData) (used new : List ℕ) (i : ℕ) (t : SignalData) → IsKept l used → i < length l.signals → t ≡ get_or l.signals i t →
-    ((p : ℕ) → word_bit new p ≡ cond (uses t p) 0 (word_bit used p)) → length new ≡ 127 → IsKept (record l { signals = remove l.signals i }) new
-kept_without l used new i t kept within at bits same =
-    let taken_out : filter (λ s. not (bytes_eq s.name t.name)) l.signals ≡ remove l.signals i = without_is l.signals i t.name t kept.sound.names within (ap (λ (s : SignalData). s.name) (sym at)) in
+pub sound_without : (l : LayoutData) (i : ℕ) (t : SignalData) → IsLayout l → i < length l.signals → t ≡ get_or l.signals i t → IsLayout (record l { signals = remove l.signals i })
+sound_without l i t sound within at =
+    let taken_out : filter (λ s. not (bytes_eq s.name t.name)) l.signals ≡ remove l.signals i = without_is l.signals i t.name t sound.names within (ap (λ (s : SignalData). s.name) (sym at)) in
     let Sound : List SignalData → Type 0 = λ xs. IsLayout (record l { signals = xs }) in
-    record {
-      sound = subst Sound taken_out (filter-layout l (λ s. not (bytes_eq s.name t.name)) kept.sound);
-      size = same;
-      bits = λ p.
-          bits p
-          ∙ (ap (cond (uses t p) 0) (kept.bits p)
-          ∙ (zero_unless (uses t p) (is_some (user_of l.signals p))
-          ∙ ap number
-          (ap (cond (uses t p) false) (is_some-user_of l.signals p)
-          ∙ (ap (λ s. cond (uses s p) false (list_any (λ s. uses s p) l.signals)) at
-          ∙ (sym (any_without l.signals i p t kept.sound.apart within) ∙ sym (is_some-user_of (remove l.signals i) p))))));
-    }
+    subst Sound taken_out (filter-layout l (λ s. not (bytes_eq s.name t.name)) sound)
 
 -- a search by position
 position_ends : {X : Type 0} (p : X → Bool) (xs : List X) → length xs ≤ position_or_len p xs → list_any p xs ≡ false
@@ -389,25 +307,10 @@ remove_some l name i t sound within at same =
 
 -- ---- the layout of no signals
 
-abbrev zeros : ℕ → List ℕ
-zeros n = replicate n 0
-
-get_or-zeros : (n k : ℕ) → get_or (zeros n) k 0 ≡ 0
-get_or-zeros zero k = refl
-get_or-zeros (suc n) zero = refl
-get_or-zeros (suc n) (suc k) = get_or-zeros n k
-
-pub word_bit-zeros : (n p : ℕ) → word_bit (replicate n 0) p ≡ 0
-word_bit-zeros n p = ap (λ b. bit_at b (p % 16)) (get_or-zeros n (p / 16)) ∙ bit_at-zero (p % 16)
-
-pub kept_empty : (words : ℕ) (items : List SignalData) (used : List ℕ) → words ≤ 127 → items ≡ [] → used ≡ replicate 127 0 → IsKept (record { words = words; signals = items }) used
-kept_empty words items used small none all_zero =
-    let Kept : List SignalData → List ℕ → Type 0 = λ xs used. IsKept (record { words = words; signals = xs }) used in
-    subst (λ xs. Kept xs used) (sym none) (subst (Kept []) (sym all_zero) (record {
-      sound = empty-layout words small;
-      size = length-replicate {A = ℕ} 127 0;
-      bits = word_bit-zeros 127;
-    }))
+pub sound_empty : (words : ℕ) (items : List SignalData) → words ≤ 127 → items ≡ [] → IsLayout (record { words = words; signals = items })
+sound_empty words items small none =
+    let Sound : List SignalData → Type 0 = λ xs. IsLayout (record { words = words; signals = xs }) in
+    subst Sound (sym none) (empty-layout words small)
 
 -- the signal is inserted at its place
 pub inserted : (items seen new : List SignalData) (s : SignalData) (start len index : ℕ) (o : Option ℕ) (done : Bool) → seen ≡ items → start ≡ s.start →

@@ -1,6 +1,6 @@
 pub mod BitsLemmas
 pub mod PayloadLemmas
-pub mod OccupancyLemmas
+pub mod LeastLemmas
 pub mod SignalsLemmas
 pub mod LayoutLemmas
 pub mod ImageLemmas

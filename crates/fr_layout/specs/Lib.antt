@@ -1,4 +1,5 @@
 pub mod Along
 pub mod Packing
 pub mod Laws
-pub mod Kept
+pub mod Least
+pub mod Used

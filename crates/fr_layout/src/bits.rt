@@ -1,8 +1,11 @@
 //! Where the bits of a signal lie in a payload.
-ghost use Rattle.std.specs.Prelude.{◌≡◌, ◌<◌, ◌*◌, ◌^◌, slice_index};
+ghost use Rattle.std.specs.List.{find, range_with_len};
+ghost use Rattle.std.specs.Prelude.{◌≡◌, ◌&&◌, ◌-◌, ◌<◌, ◌≤◌, ◌*◌, ◌^◌, ℕ, IsTrue, slice_index};
 ghost use Rattle.fr_base.specs.Bits.{bits_of, uses};
 ghost use Rattle.fr_base.specs.Layouts.{lies_inside};
 ghost use Rattle.fr_layout.specs.Along.{along, mirror};
+ghost use Rattle.fr_layout.specs.Least.{IsLeast};
+ghost use Rattle.fr_layout.specs.Used.{IsShared};
 
 use fr_base::{Order, Signal};
 
@@ -54,4 +57,35 @@ pub(crate) fn lies_inside(words: u32, signal: Signal) -> bool
 {
     let first = along(signal.order(), signal.start() as usize);
     first + signal.length() as usize <= 16 * words as usize
+}
+
+/// The bytes in which the signal lies: the first one, and the one behind the last.
+#[tactic(auto, using(crate::proofs::BitsLemmas::uses_along))]
+fn bytes(signal: Signal) -> (usize, usize)
+    ensures bits { (p : ℕ) → IsTrue (uses signal p) → (8 * result.0 ≤ p) × (p < 8 * result.1) }
+    ensures small { (result.0 < 2 ^ 32) × (result.1 < 2 ^ 32) }
+{
+    let first = along(signal.order(), signal.start() as usize);
+    (first / 8, (first + signal.length() as usize + 7) / 8)
+}
+
+/// The least payload bit that both signals use.
+pub(crate) fn least_shared(signal: Signal, other: Signal) -> Option<usize>
+    ensures { IsLeast (IsShared signal other) result }
+{
+    let (from, to) = bytes(signal);
+    let (other_from, other_to) = bytes(other);
+    first_shared(
+        8 * from.max(other_from),
+        8 * to.min(other_to),
+        signal,
+        other,
+    )
+}
+
+/// The first bit from here on that both signals use.
+fn first_shared(from: usize, to: usize, signal: Signal, other: Signal) -> Option<usize>
+    ensures { result ≡ find (λ p. uses signal p && uses other p) (range_with_len from (to - from)) }
+{
+    (from..to).find(|bit| uses(signal, *bit) && uses(other, *bit))
 }

@@ -6,13 +6,12 @@ ghost use Rattle.fr_layout.specs.Packing.{FailsAs, packed, unpacked};
 ghost use Rattle.fr_layout.specs.declared.pack_fault.PackFault.TheVariants.{NoMemory};
 
 use crate::bits::lies_inside;
-use crate::occupancy::Occupancy;
 use crate::pack_fault::PackFault;
 use crate::signals::{
-    first_after, first_too_large, has_signal, image, index_of, user_of, values_in,
+    first_after, first_too_large, has_signal, image, index_of, least_taken, user_of, values_in,
 };
-use fr_base::{Name, Refusal, Signal};
-use std::alloc::{AllocError, Global};
+use fr_base::{Name, NoMemory, Refusal, Signal};
+use std::alloc::Global;
 use std::marker::Model;
 
 /// How many signals a layout has at most.
@@ -24,29 +23,25 @@ const MAX_SIGNALS: usize = 64;
 pub struct Layout {
     words: u32,
     signals: Vec<Signal>,
-    /// The bits that a signal uses.
-    used: Occupancy,
 }
 
 impl Model for Layout {
-    ghost use Rattle.fr_base.specs.Layouts.{LayoutData};
-    ghost use Rattle.fr_layout.specs.Kept.{IsKept};
+    ghost use Rattle.fr_base.specs.Layouts.{IsLayout, LayoutData};
 
     ghost Value = { LayoutData };
 
     ghost view = { λ l. record { words = l.words; signals = l.signals.items } };
 
-    ghost invariant = { λ l. IsKept (record { words = l.words; signals = l.signals.items }) l.used.words };
+    ghost invariant = { λ l. IsLayout (record { words = l.words; signals = l.signals.items }) };
 }
 
 impl Clone for Layout {
     ghost is_clone = { λ l n. n ≡ l };
 
-    fn clone(&self) -> Result<Layout, AllocError> {
+    fn clone(&self) -> Result<Layout, NoMemory> {
         Ok(Layout {
             words: self.words,
             signals: self.signals.clone()?,
-            used: self.used,
         })
     }
 }
@@ -60,7 +55,6 @@ impl Layout {
         Layout {
             words: payload_words,
             signals: Vec::new(alloc),
-            used: Occupancy::new(),
         }
     }
 
@@ -106,11 +100,12 @@ impl Layout {
         ensures err { OnErr result (self.new ≡ self.old) }
     {
         self.admits(&signal)?;
+        // Gives the proof that the signal has 1 to 64 bits.
+        let _length = signal.length();
         let index = first_after(&self.signals, signal.start()).unwrap_or(self.signals.len());
         if self.signals.insert(index, signal).is_err() {
             return Err(Refusal::Unavailable);
         }
-        self.used.set(signal, true);
         Ok(())
     }
 
@@ -122,8 +117,7 @@ impl Layout {
         match index_of(&self.signals, name) {
             None => Err(Refusal::NoSignal),
             Some(index) => {
-                let signal = self.signals.remove(index);
-                self.used.set(signal, false);
+                self.signals.remove(index);
                 Ok(())
             }
         }
@@ -162,7 +156,7 @@ impl Layout {
         requires { IsTrue (lies_inside self.now.words signal) }
         ensures { MatchResult result (λ _. first_taken_bit self.now signal ≡ None) (λ e. bit_taken (first_taken_bit self.now signal) ≡ Err e) }
     {
-        match self.used.least_used(signal) {
+        match least_taken(&self.signals, signal) {
             None => Ok(()),
             Some(bit) => match user_of(&self.signals, bit) {
                 Some(user) => Err(Refusal::BitTaken {

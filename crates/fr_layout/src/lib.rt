@@ -5,7 +5,6 @@
 mod bits;
 mod laws;
 mod layout;
-mod occupancy;
 mod pack_fault;
 mod payload;
 mod signals;

@@ -1,5 +1,5 @@
 //! Why values were not packed, or bytes not unpacked.
-use std::alloc::AllocError;
+use fr_base::NoMemory;
 
 /// Why values were not packed into a payload, or not unpacked from it.
 #[derive(Clone, Copy, Debug, PartialEq, Eq)]
@@ -15,13 +15,13 @@ pub enum PackFault {
 }
 
 /// Want of memory is `NoMemory`.
-impl From<AllocError> for PackFault {
+impl From<NoMemory> for PackFault {
     ghost use Rattle.std.specs.Prelude.{◌≡◌};
     ghost use Rattle.fr_layout.specs.declared.pack_fault.PackFault.TheVariants.{NoMemory};
 
     ghost from_gives = { λ _ fault. fault ≡ NoMemory };
 
-    fn from(_refused: AllocError) -> PackFault {
+    fn from(_refused: NoMemory) -> PackFault {
         PackFault::NoMemory
     }
 }

@@ -4,12 +4,14 @@ ghost use Rattle.std.specs.Option.{option_map_or};
 ghost use Rattle.std.specs.Str.{bytes_eq};
 ghost use Rattle.fr_base.specs.Bits.{bits_of, image, payload_bit, uses, value_in};
 ghost use Rattle.fr_base.specs.Layouts.{AreApart, has_signal, lies_inside, user_of};
+ghost use Rattle.fr_layout.specs.Least.{IsLeast};
 ghost use Rattle.fr_layout.specs.Packing.{first_too_large};
+ghost use Rattle.fr_layout.specs.Used.{IsTaken};
 
-use crate::bits::uses;
+use crate::bits::{least_shared, uses};
 use crate::payload::{read, write};
-use fr_base::{Name, Signal};
-use std::alloc::{AllocError, Global};
+use fr_base::{Name, NoMemory, Signal};
+use std::alloc::Global;
 
 /// Whether a signal has this name.
 pub(crate) fn has_signal(signals: &[Signal], name: Name) -> bool
@@ -26,6 +28,19 @@ pub(crate) fn user_of(signals: &[Signal], position: usize) -> Option<Signal>
         .iter()
         .copied()
         .find(|signal| uses(*signal, position))
+}
+
+/// The least payload bit that the signal uses and one of these does too.
+pub(crate) fn least_taken(signals: &[Signal], signal: Signal) -> Option<usize>
+    ensures { IsLeast (IsTaken signal signals.now) result }
+{
+    let mut least: Option<usize> = None;
+    for other in signals {
+        if let Some(bit) = least_shared(signal, *other) {
+            least = Some(least.unwrap_or(bit).min(bit));
+        }
+    }
+    least
 }
 
 /// The index of the first signal that starts after this bit.
@@ -80,7 +95,7 @@ pub(crate) fn image(
     words: u32,
     signals: &[Signal],
     values: &[u64],
-) -> Result<Vec<u8>, AllocError>
+) -> Result<Vec<u8>, NoMemory>
     requires inside { All (λ s. IsTrue (lies_inside words s)) signals.now }
     requires apart { AllPairs AreApart signals.now }
     requires count { length values.now ≡ length signals.now }
@@ -97,7 +112,7 @@ pub(crate) fn values_in(
     words: u32,
     signals: &[Signal],
     bytes: &[u8],
-) -> Result<Vec<u64>, AllocError>
+) -> Result<Vec<u64>, NoMemory>
     requires size { length bytes.now ≡ 2 * words }
     requires inside { All (λ s. IsTrue (lies_inside words s)) signals.now }
     ensures { IfOk result (λ values. values.items ≡ map (value_in bytes.now) signals.now) }

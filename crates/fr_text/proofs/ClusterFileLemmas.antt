@@ -13,7 +13,6 @@ use Rattle.std.specs.Option.{ok_or}
 use Rattle.toml.specs.declared.value.Value.{Value}
 use Rattle.fr_text.specs.declared.cluster_file.ConfigFault.{ConfigFault}
 use Rattle.fr_text.specs.declared.cluster_file.ConfigFault.TheVariants.{BadField, BadName, BadKey, KeyTwice}
-use Rattle.std.proofs.lemmas.Map.Text.{is_eq-slice_cmp}
 use Rattle.toml.specs.Data.{Data, Members, member, no_members, as_str}
 use Rattle.toml.specs.View.{view, members_view}
 use Rattle.toml.specs.Parse.{parse_document}

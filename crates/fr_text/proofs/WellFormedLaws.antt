@@ -2,16 +2,13 @@
 use Rattle.std.proofs.Common.{◌≡◌, ◌∙◌, ℕ, false, ap, refl, Result, Ok, Err, IfOk, IsTrue, nat_le, nat_lt, length, arith, subst}
 use Rattle.std.proofs.lemmas.Bool.{and_from}
 use Rattle.std.proofs.lemmas.Bool.Decides.{nat_tests}
-use Rattle.std.specs.List.{list_all}
-use Rattle.fr_base.specs.Names.{is_name, is_key}
-use Rattle.fr_base.specs.Cluster.{Cluster, IsWellFormed, is_cluster, names_rise, keys_of}
+use Rattle.fr_base.specs.Cluster.{Cluster, IsWellFormed, is_cluster, names_rise}
 use Rattle.fr_base.specs.Parameters.{check_params}
 use Rattle.fr_base.proofs.SoundRefusing.{gives_then, gives_when, gives_unless}
 use Rattle.fr_base.specs.declared.params.RawParams.{RawParams}
 use Rattle.fr_base.specs.declared.params.ParamFault.{ParamFault}
 use Rattle.fr_text.proofs.ClusterFileLemmas.{check_params-same}
 use Rattle.fr_text.specs.ClusterFile.{in_params, check_cluster}
-use Rattle.fr_text.specs.declared.cluster_file.ConfigFault.{ConfigFault}
 use Rattle.fr_text.specs.declared.cluster_file.ConfigFault.TheVariants.{Limit, BadName, BadKey, KeyTwice}
 
 -- parameters that the file's check lets pass are a cluster's

@@ -3,7 +3,7 @@ use Rattle.std.specs.Prelude.{List, ◌++◌, codes, ℕ, decimal}
 use Rattle.fr_base.specs.Channels.{text_of_channel}
 use Rattle.fr_base.specs.Refusals.{number_of, name_of}
 use Rattle.fr_base.specs.declared.answer.Answer.{Answer}
-use Rattle.fr_base.specs.declared.answer.Answer.TheVariants.{Done, Grants, Frames, Schedule, Gaps, Layout, Refused}
+use Rattle.fr_base.specs.declared.answer.Answer.TheVariants.{Done, Imported, Grants, Frames, Schedule, Gaps, Layout, Refused, RefusedRow}
 use Rattle.fr_base.specs.declared.refusal.Refusal.{Refusal}
 use Rattle.fr_base.specs.declared.refusal.Refusal.TheVariants.{CellTaken, BitTaken}
 use Rattle.fr_text.specs.Report.{lines_of}
@@ -23,15 +23,25 @@ text_of_refusal refusal =
 abbrev pub text_of_report : List (List ℕ) → List ℕ → List ℕ
 text_of_report lines query = codes "{\"lines\":[" ++ json_lines lines ++ codes "],\"ok\":" ++ quoted query ++ codes "}"
 
+-- an import that was carried out, of so many rows
+abbrev pub text_of_imported : ℕ → List ℕ
+text_of_imported rows = codes "{\"ok\":\"imported\",\"rows\":" ++ decimal rows ++ codes "}"
+
+-- an import's refused row: its line, and the text of its own refusal
+abbrev pub text_of_row : ℕ → Refusal → List ℕ
+text_of_row line refusal = codes "{\"line\":" ++ decimal line ++ codes ",\"no\":29,\"refused\":\"BadRow\",\"row\":" ++ text_of_refusal refusal ++ codes "}"
+
 -- an answer
 unfoldable pub text_of : Answer → List ℕ
 text_of Done = codes "{\"ok\":\"done\"}"
+text_of (Imported rows) = text_of_imported rows
 text_of (Grants all rows) = text_of_report (lines_of (Grants all rows)) (codes "grants")
 text_of (Frames all rows) = text_of_report (lines_of (Frames all rows)) (codes "frames")
 text_of (Schedule all rows) = text_of_report (lines_of (Schedule all rows)) (codes "schedule")
 text_of (Gaps all rows) = text_of_report (lines_of (Gaps all rows)) (codes "gaps")
 text_of (Layout all rows) = text_of_report (lines_of (Layout all rows)) (codes "layout")
 text_of (Refused refusal) = text_of_refusal refusal
+text_of (RefusedRow line refusal) = text_of_row line refusal
 
 -- an answer's lines, each ended by a line feed
 unfoldable pub report_of : Answer → List ℕ

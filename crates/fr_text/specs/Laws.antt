@@ -5,7 +5,7 @@ use Rattle.std.specs.Str.{is_utf8}
 use Rattle.serde_json.specs.Data.{Data, Members, no_members, string, number, unsigned, null, object, put}
 use Rattle.serde_json.specs.Read.{read}
 use Rattle.fr_base.specs.declared.request.Request.{Request}
-use Rattle.fr_base.specs.declared.request.Request.TheVariants.{OpenVariant, Release, AddNode, Grant, Revoke, AddFrame, DropFrame, Place, Unplace, AddSignal, DropSignal, Grants, Frames, Schedule, Gaps, Layout}
+use Rattle.fr_base.specs.declared.request.Request.TheVariants.{OpenVariant, Release, AddNode, Grant, Revoke, AddFrame, DropFrame, Place, Unplace, AddSignal, DropSignal, Import, Grants, Frames, Schedule, Gaps, Layout}
 use Rattle.fr_text.specs.RequestText.{request_of}
 
 -- an object's fields, each a name and its value
@@ -35,6 +35,7 @@ fields_of (Place v f k c b r) = fields ((codes "do", string (codes "place")) ∷
 fields_of (Unplace v f k c b r) = fields ((codes "do", string (codes "unplace")) ∷ (codes "variant", string v) ∷ (codes "frame", string f) ∷ (codes "slot", count k) ∷ (codes "channels", string c) ∷ (codes "base", count b) ∷ (codes "repetition", count r) ∷ [])
 fields_of (AddSignal v f x start length order) = fields ((codes "do", string (codes "add_signal")) ∷ (codes "variant", string v) ∷ (codes "frame", string f) ∷ (codes "signal", string x) ∷ (codes "start", count start) ∷ (codes "length", count length) ∷ (codes "order", string order) ∷ [])
 fields_of (DropSignal v f x) = fields ((codes "do", string (codes "drop_signal")) ∷ (codes "variant", string v) ∷ (codes "frame", string f) ∷ (codes "signal", string x) ∷ [])
+fields_of (Import v label body) = fields ((codes "do", string (codes "import")) ∷ (codes "variant", string v) ∷ (codes "label", string label) ∷ (codes "body", string body) ∷ [])
 fields_of (Grants v) = fields ((codes "do", string (codes "grants")) ∷ (codes "variant", string v) ∷ [])
 fields_of (Frames v) = fields ((codes "do", string (codes "frames")) ∷ (codes "variant", string v) ∷ [])
 fields_of (Schedule v) = fields ((codes "do", string (codes "schedule")) ∷ (codes "variant", string v) ∷ [])

@@ -4,7 +4,7 @@ use Rattle.std.specs.List.{flat_map}
 use Rattle.fr_base.specs.Channels.{text_of_channel, text_of_channels}
 use Rattle.fr_base.specs.Signals.{text_of_order}
 use Rattle.fr_base.specs.declared.answer.Answer.{Answer}
-use Rattle.fr_base.specs.declared.answer.Answer.TheVariants.{Done, Grants, Frames, Schedule, Gaps, Layout, Refused}
+use Rattle.fr_base.specs.declared.answer.Answer.TheVariants.{Done, Imported, Grants, Frames, Schedule, Gaps, Layout, Refused, RefusedRow}
 use Rattle.fr_base.specs.declared.answer.GrantRow.{GrantRow}
 use Rattle.fr_base.specs.declared.answer.FrameRow.{FrameRow}
 use Rattle.fr_base.specs.declared.answer.Sending.{Sending}
@@ -44,12 +44,14 @@ frame_lines all f = frame_line all f ∷ map placement_line f.placements
 -- the lines of an answer; one that answers no query has none
 unfoldable pub lines_of : Answer → List (List ℕ)
 lines_of Done = []
+lines_of (Imported _) = []
 lines_of (Grants all rows) = map (grant_line all) rows
 lines_of (Frames all rows) = flat_map (frame_lines all) rows
 lines_of (Schedule all rows) = map (schedule_line all) rows
 lines_of (Gaps all rows) = map (gap_line all) rows
 lines_of (Layout all rows) = map (signal_line all) rows
 lines_of (Refused _) = []
+lines_of (RefusedRow _ _) = []
 
 -- the lines of an answer that is of this kind
 unfoldable pub schedule_lines : Answer → List (List ℕ)

@@ -6,7 +6,7 @@ use Rattle.std.specs.Str.{bytes_eq}
 use Rattle.serde_json.specs.Data.{Members}
 use Rattle.serde_json.specs.Find.{as_object}
 use Rattle.fr_base.specs.declared.request.Request.{Request}
-use Rattle.fr_base.specs.declared.request.Request.TheVariants.{OpenVariant, Release, AddNode, Grant, Revoke, AddFrame, DropFrame, Place, Unplace, AddSignal, DropSignal, Grants, Frames, Schedule, Gaps, Layout}
+use Rattle.fr_base.specs.declared.request.Request.TheVariants.{OpenVariant, Release, AddNode, Grant, Revoke, AddFrame, DropFrame, Place, Unplace, AddSignal, DropSignal, Import, Grants, Frames, Schedule, Gaps, Layout}
 use Rattle.fr_text.specs.Fields.{◌>>=◌, ◌>>◌, provided, value_of, only, text, text_or_null, whole}
 
 -- ---- the integrator's
@@ -108,6 +108,14 @@ drop_signal fields = do
   signal ← text (codes "signal") fields
   Some (DropSignal variant frame signal)
 
+unfoldable pub import : Members → Option Request
+import fields = do
+  provided (only (codes "do" ∷ codes "variant" ∷ codes "label" ∷ codes "body" ∷ []) fields)
+  variant ← text (codes "variant") fields
+  label ← text (codes "label") fields
+  body ← text (codes "body") fields
+  Some (Import variant label body)
+
 -- ---- queries
 
 unfoldable pub grants : Members → Option Request
@@ -157,6 +165,7 @@ readers =
     ∷ (codes "unplace", unplace)
     ∷ (codes "add_signal", add_signal)
     ∷ (codes "drop_signal", drop_signal)
+    ∷ (codes "import", import)
     ∷ (codes "grants", grants)
     ∷ (codes "frames", frames)
     ∷ (codes "schedule", schedule)

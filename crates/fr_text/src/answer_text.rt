@@ -1,51 +1,39 @@
 //! Writes answers as compact JSON.
 ghost use Rattle.std.specs.Prelude.{◌≡◌, ◌++◌, codes, IfOk, OnOk, OnErr};
-ghost use Rattle.fr_text.specs.AnswerText.{text_of, text_of_report, text_of_refusal};
+ghost use Rattle.fr_text.specs.AnswerText.{text_of, text_of_report, text_of_imported, text_of_refusal, text_of_row};
 ghost use Rattle.fr_text.specs.Styles.{quoted, lines_in};
 ghost use Rattle.fr_text.specs.Words.{Extends};
 
-use crate::NoMemory;
 use crate::report::{Row, push_rows};
 use crate::style::Style;
 use crate::words::{push, push_decimal};
-use fr_base::{Answer, Refusal};
-use std::alloc::{AllocError, Global};
+use fr_base::{Answer, NoMemory, Refusal};
+use std::alloc::Global;
 
 /// The answer's text: compact JSON, its keys in byte order, with no line feed.
 pub fn write_answer(alloc: Global, answer: &Answer) -> Result<Vec<u8>, NoMemory>
     ensures { IfOk result (λ text. text.items ≡ text_of answer.now) }
 {
     let mut out = Vec::new(alloc);
-    append_answer(answer, &mut out)?;
+    push_answer(answer, &mut out)?;
     Ok(out)
 }
 
-/// Appends the answer's text. An error leaves the buffer as it was.
-pub fn append_answer(answer: &Answer, out: &mut Vec<u8>) -> Result<(), NoMemory>
-    ensures ok { OnOk result (out.new.items ≡ out.old.items ++ text_of answer.now) }
-    ensures err { OnErr result (out.new.items ≡ out.old.items) }
-{
-    let before = out.len();
-    let written = push_answer(answer, out);
-    if written.is_err() {
-        out.truncate(before);
-    }
-    written
-}
-
 #[tactic(auto, using(crate::proofs::WordsLemmas::extending, crate::proofs::ReportLemmas::rows), unfolding(crate::specs::AnswerText::text_of, crate::specs::Report::lines_of))]
-fn push_answer(answer: &Answer, out: &mut Vec<u8>) -> Result<(), AllocError>
+fn push_answer(answer: &Answer, out: &mut Vec<u8>) -> Result<(), NoMemory>
     ensures ok { OnOk result (out.new.items ≡ out.old.items ++ text_of answer.now) }
     ensures err { OnErr result (Extends out.old.items out.new.items) }
 {
     match answer {
         Answer::Done => push("{\"ok\":\"done\"}", out),
+        Answer::Imported { rows } => push_imported(*rows, out),
         Answer::Grants { all, rows } => push_report(rows.as_slice(), *all, "grants", out),
         Answer::Frames { all, rows } => push_report(rows.as_slice(), *all, "frames", out),
         Answer::Schedule { all, rows } => push_report(rows.as_slice(), *all, "schedule", out),
         Answer::Gaps { all, rows } => push_report(rows.as_slice(), *all, "gaps", out),
         Answer::Layout { all, rows } => push_report(rows.as_slice(), *all, "layout", out),
         Answer::Refused(refusal) => push_refusal(refusal, out),
+        Answer::RefusedRow { line, refusal } => push_refused_row(*line, refusal, out),
     }
 }
 
@@ -56,7 +44,7 @@ fn push_report<R: Row>(
     all: bool,
     query: &str,
     out: &mut Vec<u8>,
-) -> Result<(), AllocError>
+) -> Result<(), NoMemory>
     ensures ok { OnOk result (out.new.items ≡ out.old.items ++ text_of_report (lines_in R.first R.others all rows.now) query.now) }
     ensures err { OnErr result (Extends out.old.items out.new.items) }
 {
@@ -67,8 +55,32 @@ fn push_report<R: Row>(
     push("}", out)
 }
 
+// Appends the answer to an import of so many rows.
+#[tactic(auto, using(crate::proofs::WordsLemmas::extending))]
+fn push_imported(rows: u32, out: &mut Vec<u8>) -> Result<(), NoMemory>
+    ensures ok { OnOk result (out.new.items ≡ out.old.items ++ text_of_imported rows) }
+    ensures err { OnErr result (Extends out.old.items out.new.items) }
+{
+    push("{\"ok\":\"imported\",\"rows\":", out)?;
+    push_decimal(rows, out)?;
+    push("}", out)
+}
+
+// Appends the answer to an import with a refused row: its line, and its own refusal.
+#[tactic(auto, using(crate::proofs::WordsLemmas::extending))]
+fn push_refused_row(line: u32, refusal: &Refusal, out: &mut Vec<u8>) -> Result<(), NoMemory>
+    ensures ok { OnOk result (out.new.items ≡ out.old.items ++ text_of_row line refusal.now) }
+    ensures err { OnErr result (Extends out.old.items out.new.items) }
+{
+    push("{\"line\":", out)?;
+    push_decimal(line, out)?;
+    push(",\"no\":29,\"refused\":\"BadRow\",\"row\":", out)?;
+    push_refusal(refusal, out)?;
+    push("}", out)
+}
+
 #[tactic(auto, using(crate::proofs::WordsLemmas::extending), unfolding(crate::specs::AnswerText::text_of_refusal))]
-fn push_refusal(refusal: &Refusal, out: &mut Vec<u8>) -> Result<(), AllocError>
+fn push_refusal(refusal: &Refusal, out: &mut Vec<u8>) -> Result<(), NoMemory>
     ensures ok { OnOk result (out.new.items ≡ out.old.items ++ text_of_refusal refusal.now) }
     ensures err { OnErr result (Extends out.old.items out.new.items) }
 {
@@ -105,7 +117,7 @@ fn push_refusal(refusal: &Refusal, out: &mut Vec<u8>) -> Result<(), AllocError>
 
 // Appends the text in double quotes. It has no character that needs an escape.
 #[tactic(auto, using(crate::proofs::WordsLemmas::extending))]
-fn push_quoted(text: &str, out: &mut Vec<u8>) -> Result<(), AllocError>
+fn push_quoted(text: &str, out: &mut Vec<u8>) -> Result<(), NoMemory>
     ensures ok { OnOk result (out.new.items ≡ out.old.items ++ quoted text.now) }
     ensures err { OnErr result (Extends out.old.items out.new.items) }
 {

@@ -12,9 +12,10 @@ ghost use Rattle.fr_text.specs.ClusterFile.{is_file_key, has_only_file_keys, tex
 ghost use Rattle.fr_text.specs.SupplierTexts.{suppliers_of};
 
 use fr_base::{
-    Channels, Config, Key, MAX_SUPPLIERS, Name, ParamFault, Params, RawParams, Supplier, Suppliers,
+    Channels, Config, Key, MAX_SUPPLIERS, Name, NoMemory, ParamFault, Params, RawParams, Supplier,
+    Suppliers,
 };
-use std::alloc::{AllocError, AllocFailed, Global};
+use std::alloc::{AllocFailed, Global};
 use std::fmt::{self, Display, Formatter};
 use std::marker::Model;
 use toml::{Table, Value};
@@ -78,12 +79,12 @@ impl From<ParamFault> for ConfigFault {
     }
 }
 
-impl From<AllocError> for ConfigFault {
+impl From<NoMemory> for ConfigFault {
     ghost use Rattle.fr_text.specs.declared.cluster_file.ConfigFault.TheVariants.{NoMemory};
 
     ghost from_gives = { λ _ result. result ≡ NoMemory };
 
-    fn from(_: AllocError) -> ConfigFault {
+    fn from(_: NoMemory) -> ConfigFault {
         ConfigFault::NoMemory
     }
 }

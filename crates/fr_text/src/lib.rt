@@ -12,15 +12,12 @@ mod request_text;
 mod style;
 mod words;
 
-pub use answer_text::{append_answer, write_answer};
+pub use answer_text::write_answer;
 pub use cluster_file::{ConfigFault, read_config};
 pub use import_text::read_import;
 pub use laws::written_is_read_back;
 pub use report::{write_gaps, write_layout, write_lines, write_schedule};
 pub use request_text::read_command;
-
-/// An allocation failed.
-pub type NoMemory = std::alloc::AllocError;
 
 #[cfg(test)]
 mod fixture;

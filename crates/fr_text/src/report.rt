@@ -10,14 +10,13 @@ mod grants;
 mod layout;
 mod schedule;
 
-use crate::NoMemory;
 use crate::style::Style;
 use crate::words::push;
-use fr_base::Answer;
+use fr_base::{Answer, NoMemory};
 pub use gaps::write_gaps;
 pub use layout::write_layout;
 pub use schedule::write_schedule;
-use std::alloc::{AllocError, Global};
+use std::alloc::Global;
 
 /// A row of a report, which makes a line, or more.
 pub(crate) trait Row {
@@ -28,7 +27,7 @@ pub(crate) trait Row {
     ghost others: { Bool → Self → List (List ℕ) };
 
     /// Appends the row's lines, with a mark between each two. An error leaves the old bytes in front.
-    fn push(&self, all: bool, mark: &str, out: &mut Vec<u8>) -> Result<(), AllocError>
+    fn push(&self, all: bool, mark: &str, out: &mut Vec<u8>) -> Result<(), NoMemory>
         ensures ok { OnOk result (out.new.items ≡ out.old.items ++ joined mark.now (first all self.now ∷ others all self.now)) }
         ensures err { OnErr result (Extends out.old.items out.new.items) };
 }
@@ -40,7 +39,7 @@ pub(crate) fn push_rows<R: Row>(
     all: bool,
     style: Style,
     out: &mut Vec<u8>,
-) -> Result<(), AllocError>
+) -> Result<(), NoMemory>
     ensures ok { OnOk result (out.new.items ≡ out.old.items ++ set_in style (lines_in R.first R.others all rows.now)) }
     ensures err { OnErr result (Extends out.old.items out.new.items) }
 {
@@ -55,12 +54,7 @@ pub(crate) fn push_rows<R: Row>(
 
 // Appends the lines of the rows, with the mark before each line.
 #[tactic(auto, using(crate::proofs::WordsLemmas::extending), unfolding(crate::specs::Styles::marked))]
-fn push_behind<R: Row>(
-    rows: &[R],
-    all: bool,
-    mark: &str,
-    out: &mut Vec<u8>,
-) -> Result<(), AllocError>
+fn push_behind<R: Row>(rows: &[R], all: bool, mark: &str, out: &mut Vec<u8>) -> Result<(), NoMemory>
     ensures ok { OnOk result (out.new.items ≡ out.old.items ++ marked mark.now (lines_in R.first R.others all rows.now)) }
     ensures err { OnErr result (Extends out.old.items out.new.items) }
 {
@@ -73,7 +67,7 @@ fn push_behind<R: Row>(
 
 /// The lines of the rows, each with a line feed behind it.
 #[tactic(auto, unfolding(crate::specs::Styles::set_in))]
-pub(crate) fn report<R: Row>(alloc: Global, rows: &[R], all: bool) -> Result<Vec<u8>, AllocError>
+pub(crate) fn report<R: Row>(alloc: Global, rows: &[R], all: bool) -> Result<Vec<u8>, NoMemory>
     ensures { IfOk result (λ text. text.items ≡ plain_lines (lines_in R.first R.others all rows.now)) }
 {
     let mut out = Vec::new(alloc);
@@ -92,6 +86,7 @@ pub fn write_lines(alloc: Global, answer: &Answer) -> Result<Vec<u8>, NoMemory>
         Answer::Schedule { all, rows } => report(alloc, rows.as_slice(), *all),
         Answer::Gaps { all, rows } => report(alloc, rows.as_slice(), *all),
         Answer::Layout { all, rows } => report(alloc, rows.as_slice(), *all),
-        Answer::Done | Answer::Refused(_) => Ok(Vec::new(alloc)),
+        Answer::Done | Answer::Imported { .. } | Answer::Refused(_) | Answer::RefusedRow { .. } =>
+            Ok(Vec::new(alloc)),
     }
 }

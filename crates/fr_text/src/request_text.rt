@@ -40,6 +40,7 @@ fn request_in(alloc: Global, fields: &Fields) -> Result<Request, Refusal>
         "unplace" => supplier::unplace(alloc, fields),
         "add_signal" => supplier::add_signal(alloc, fields),
         "drop_signal" => supplier::drop_signal(alloc, fields),
+        "import" => supplier::import(alloc, fields),
         "grants" => queries::grants(alloc, fields),
         "frames" => queries::frames(alloc, fields),
         "schedule" => queries::schedule(alloc, fields),

@@ -25,6 +25,13 @@ fn answers_are_compact_json(rt: HostRuntime) -> Result<(), Fail> {
         signal: name("x")?,
     };
     assert!(rt; is_answer(alloc, Ok(Answer::Done), r#"{"ok":"done"}"#)?);
+    assert!(rt;
+        is_answer(
+            alloc,
+            Ok(Answer::Imported { rows: 3 }),
+            r#"{"ok":"imported","rows":3}"#
+        )?
+    );
     for (refusal, json) in [
         (Refusal::UnknownKey, r#"{"no":2,"refused":"UnknownKey"}"#),
         (
@@ -40,6 +47,31 @@ fn answers_are_compact_json(rt: HostRuntime) -> Result<(), Fail> {
             is_answer(alloc, Ok(Answer::Refused(refusal)), json)?,
             "{json}"
         );
+    }
+    Ok(())
+}
+
+#[test]
+fn a_refused_row_shows_its_refusal(rt: HostRuntime) -> Result<(), Fail> {
+    let cell = Refusal::CellTaken {
+        cycle: 2,
+        channel: Channel::B,
+        frame: name("f")?,
+    };
+    for (line, refusal, json) in [
+        (
+            4,
+            Refusal::NotGranted,
+            r#"{"line":4,"no":29,"refused":"BadRow","row":{"no":21,"refused":"NotGranted"}}"#,
+        ),
+        (
+            514,
+            cell,
+            r#"{"line":514,"no":29,"refused":"BadRow","row":{"channel":"B","cycle":2,"frame":"f","no":25,"refused":"CellTaken"}}"#,
+        ),
+    ] {
+        let answer = Answer::RefusedRow { line, refusal };
+        assert!(rt; is_answer(rt.alloc(), Ok(answer), json)?, "{json}");
     }
     Ok(())
 }

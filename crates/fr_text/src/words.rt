@@ -2,11 +2,10 @@
 ghost use Rattle.std.specs.Prelude.{◌≡◌, ◌++◌, ◌<◌, codes, decimal, replicate, OnOk, OnErr};
 ghost use Rattle.fr_text.specs.Words.{digit_at, two_digits, four_digits, right_in, behind, shown_to, Extends};
 
-use fr_base::Name;
-use std::alloc::AllocError;
+use fr_base::{Name, NoMemory};
 
 /// Appends the text.
-pub(crate) fn push(text: &str, out: &mut Vec<u8>) -> Result<(), AllocError>
+pub(crate) fn push(text: &str, out: &mut Vec<u8>) -> Result<(), NoMemory>
     ensures ok { OnOk result (out.new.items ≡ out.old.items ++ text.now) }
     ensures err { OnErr result (out.new.items ≡ out.old.items) }
 {
@@ -15,7 +14,7 @@ pub(crate) fn push(text: &str, out: &mut Vec<u8>) -> Result<(), AllocError>
 
 /// Appends a space and the word. An error leaves the old bytes in front.
 #[tactic(auto, using(crate::proofs::WordsLemmas::extending))]
-pub(crate) fn push_word(word: &[u8], out: &mut Vec<u8>) -> Result<(), AllocError>
+pub(crate) fn push_word(word: &[u8], out: &mut Vec<u8>) -> Result<(), NoMemory>
     ensures ok { OnOk result (out.new.items ≡ out.old.items ++ (codes " " ++ word.now)) }
     ensures err { OnErr result (Extends out.old.items out.new.items) }
 {
@@ -26,7 +25,7 @@ pub(crate) fn push_word(word: &[u8], out: &mut Vec<u8>) -> Result<(), AllocError
 /// Appends a space and the supplier's name, where all is shown. An error leaves the old bytes in
 /// front.
 #[tactic(auto, using(crate::proofs::WordsLemmas::extending))]
-pub(crate) fn push_supplier(all: bool, supplier: &Name, out: &mut Vec<u8>) -> Result<(), AllocError>
+pub(crate) fn push_supplier(all: bool, supplier: &Name, out: &mut Vec<u8>) -> Result<(), NoMemory>
     ensures ok { OnOk result (out.new.items ≡ out.old.items ++ behind (shown_to all supplier.now)) }
     ensures err { OnErr result (Extends out.old.items out.new.items) }
 {
@@ -58,7 +57,7 @@ pub(crate) fn four_digits(number: u32) -> [u8; 4]
 
 /// Appends the number in decimal digits. An error leaves the old bytes in front.
 #[tactic(auto, unfolding(crate::specs::Words::right_in))]
-pub(crate) fn push_decimal(number: u32, out: &mut Vec<u8>) -> Result<(), AllocError>
+pub(crate) fn push_decimal(number: u32, out: &mut Vec<u8>) -> Result<(), NoMemory>
     ensures ok { OnOk result (out.new.items ≡ out.old.items ++ decimal number) }
     ensures err { OnErr result (Extends out.old.items out.new.items) }
 {
@@ -68,7 +67,7 @@ pub(crate) fn push_decimal(number: u32, out: &mut Vec<u8>) -> Result<(), AllocEr
 /// Appends the number in decimal digits, at the right of so many places, with spaces before it. An
 /// error leaves the old bytes in front.
 #[tactic(auto, using(crate::proofs::WordsLemmas::extending))]
-pub(crate) fn push_right(number: u32, places: usize, out: &mut Vec<u8>) -> Result<(), AllocError>
+pub(crate) fn push_right(number: u32, places: usize, out: &mut Vec<u8>) -> Result<(), NoMemory>
     ensures ok { OnOk result (out.new.items ≡ out.old.items ++ right_in places (decimal number)) }
     ensures err { OnErr result (Extends out.old.items out.new.items) }
 {
@@ -83,7 +82,7 @@ pub(crate) fn push_right(number: u32, places: usize, out: &mut Vec<u8>) -> Resul
 }
 
 #[tactic(auto, using(crate::proofs::WordsLemmas::extending))]
-fn push_spaces(count: usize, out: &mut Vec<u8>) -> Result<(), AllocError>
+fn push_spaces(count: usize, out: &mut Vec<u8>) -> Result<(), NoMemory>
     ensures ok { OnOk result (out.new.items ≡ out.old.items ++ replicate count 32) }
     ensures err { OnErr result (Extends out.old.items out.new.items) }
 {

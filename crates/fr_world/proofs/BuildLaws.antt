@@ -27,7 +27,7 @@ use Rattle.fr_world.specs.Pages.{AreApart, IsKept, IsPageFrame, frame_data, fram
 use Rattle.fr_world.specs.declared.page.PageFrame.{PageFrame}
 use Rattle.fr_world.specs.declared.page.PageRows.{PageRows}
 use Rattle.fr_world.proofs.BuildFrames.{All-from_map}
-use Rattle.fr_world.proofs.KeyLaws.{name_cmp, names_rise, own_alike, slot_cmp, slots_rise}
+use Rattle.fr_world.proofs.KeyLaws.{name_cmp, names_rise, frames_rise, own_alike, slot_cmp, slots_rise}
 use Rattle.fr_world.proofs.MapLaws.{len-set_of, len-table_of, rows-table_of}
 
 -- ---- what holds of each row of a table
@@ -91,12 +91,9 @@ without_owners (row ∷ rows) =
     map-append (λ (x : Owner × Placement). x.1) (map (λ q. with_owner row q.0) row.1.placements.rows) (flat_map (λ row. map (λ q. with_owner row q.0) row.1.placements.rows) rows)
     ∙ (λ i. map-map (λ (x : Owner × Placement). x.1) (λ q. with_owner row q.0) row.1.placements.rows i ++ without_owners rows i)
 
-keys-frames_data : (es : List (Name × PageFrame)) → keys_of (frames_data es) ≡ keys_of es
-keys-frames_data es = map-map (λ e. e.0) (λ e. (e.0, frame_data e.1)) es
-
-module _ (r : PageRows) (nodes_rise : IsStrictlySortedBy name_cmp r.nodes.keys) (grants_rise : IsStrictlySortedBy slot_cmp (keys_of r.grants.entries)) (frames_rise : IsStrictlySortedBy name_cmp (keys_of r.frames.entries)) where
+module _ (r : PageRows) (nodes_rise : IsStrictlySortedBy name_cmp r.nodes.keys) (grants_rise : IsStrictlySortedBy slot_cmp (keys_of r.grants.entries)) (rises : IsStrictlySortedBy name_cmp (keys_of r.frames.entries)) where
   rise : IsStrictlySortedBy name_cmp (keys_of (frames_data r.frames.entries))
-  rise = subst (IsStrictlySortedBy name_cmp) (sym (keys-frames_data r.frames.entries)) frames_rise
+  rise = frames_rise r.frames.entries (frames_data r.frames.entries) refl rises
 
   frame_rows : (own_rows_of (rows_data r)).frames.rows ≡ map (frame_row r.supplier) r.frames.entries
   frame_rows = rows-table_of name_cmp owned (λ f. (r.supplier, f)) frame_of (own_alike r.supplier) (frames_data r.frames.entries) rise ∙ map-map _ _ r.frames.entries

@@ -15,12 +15,15 @@ use Rattle.fr_base.specs.Book as book
 use Rattle.fr_base.specs.Book.{Owner, placements_of, schedule_of}
 use Rattle.fr_base.specs.Cells.{Cell, cells_of, has_cell, same_cell}
 use Rattle.fr_base.specs.Channels.{channel_number}
+use Rattle.fr_base.specs.Keys.{owned}
 use Rattle.fr_base.specs.Schedule.{fill, first_taken}
+use Rattle.fr_base.specs.Step.{cell_taken}
+use Rattle.fr_base.specs.Tables.{Table}
 use Rattle.fr_base.specs.declared.name.Name.{Name}
 use Rattle.fr_base.specs.declared.placement.Placement.{Placement}
 use Rattle.fr_world.specs.declared.page.PageFrame.{PageFrame}
 use Rattle.fr_world.specs.Decisions.{filled_by, taken_by}
-use Rattle.fr_world.specs.Occupancies.{first_taken_cell, is_free, taken_cell}
+use Rattle.fr_world.specs.Occupancies.{ShowCells, cell_refused, first_taken_cell, is_free, taken_cell}
 use Rattle.fr_world.specs.Pages.{AreApart, IsKept, PageData, frame_data, frames_data, frame_of, own_rows_of}
 use Rattle.fr_world.proofs.DecideRows.{frame_rows, frames-rows}
 use Rattle.fr_world.proofs.KeyLaws.{name_cmp}
@@ -145,15 +148,26 @@ option_is : {A : Type 0} (r : Option A) → ((x : A) × (r ≡ Some x)) ⊎ (r �
 option_is None = inr refl
 option_is (Some x) = inl (x, refl)
 
-taken-named : (xs : List (Owner × Placement)) (ds : List Cell) → option_map taken_cell (first_taken (fill (map named xs)) ds) ≡ option_map taken_by (first_taken (fill xs) ds)
+-- cells that have the same frames have the same first taken cell
+taken-like : (filled : Cell → Option Name) (owners : Cell → Option Owner) → ((c : Cell) → filled c ≡ option_map (λ o. o.frame) (owners c)) → (ds : List Cell) → option_map taken_cell (first_taken filled ds) ≡ option_map taken_by (first_taken owners ds)
 unfolding first_taken
-taken-named xs [] = refl
-taken-named xs (d ∷ ds) = elim (option_is (fill xs d)) [
-  | inl o ↦ rw (fill-named xs d, o.1) refl
-  | inr none ↦ rw (fill-named xs d, none) (taken-named xs ds)
+taken-like filled owners same [] = refl
+taken-like filled owners same (d ∷ ds) = elim (option_is (owners d)) [
+  | inl o ↦ rw (same d, o.1) refl
+  | inr none ↦ rw (same d, none) (taken-like filled owners same ds)
 ]
 
-pub taken-page : (rows : PageData) (es : List (Name × PageFrame)) (q : Placement) → frames_data es ≡ rows.frames → IsStrictlySortedBy name_cmp (keys_of es) →
-    first_taken_cell (filled_in es) q ≡ option_map taken_by (first_taken (schedule_of (own_rows_of rows).frames) (cells_of q))
-unfolding first_taken_cell schedule_of
-taken-page rows es q e h = ap (λ ps. option_map taken_cell (first_taken (fill ps) (cells_of q))) (sym (named-page rows es e h)) ∙ taken-named (placements_of (own_rows_of rows).frames) (cells_of q)
+refused-taken : (r : Option (Cell × Owner)) → cell_refused (option_map taken_by r) ≡ cell_taken r
+unfolding cell_taken
+refused-taken None = refl
+refused-taken (Some x) = refl
+
+-- a placement is refused as by the schedule
+pub refused-shown : (pairs : List (Name × Placement)) (frames : Table owned book.Frame) (q : Placement) → ShowCells pairs frames → cell_refused (first_taken_cell pairs q) ≡ cell_taken (first_taken (schedule_of frames) (cells_of q))
+unfolding first_taken_cell
+refused-shown pairs frames q shows = ap cell_refused (taken-like (fill pairs) (schedule_of frames) shows (cells_of q)) ∙ refused-taken (first_taken (schedule_of frames) (cells_of q))
+
+-- the pairs of a page's frames show its cells
+pub shown-page : (rows : PageData) (es : List (Name × PageFrame)) → frames_data es ≡ rows.frames → IsStrictlySortedBy name_cmp (keys_of es) → ShowCells (filled_in es) (own_rows_of rows).frames
+unfolding schedule_of
+shown-page rows es e h c = ap (λ ps. fill ps c) (sym (named-page rows es e h)) ∙ fill-named (placements_of (own_rows_of rows).frames) c

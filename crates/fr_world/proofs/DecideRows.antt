@@ -20,7 +20,7 @@ use Rattle.fr_base.specs.declared.placement.Placement.{Placement}
 use Rattle.fr_world.specs.declared.page.ChannelSlot.{ChannelSlot}
 use Rattle.fr_world.specs.declared.page.PageFrame.{PageFrame}
 use Rattle.fr_world.specs.Pages.{IsKept, PageData, FrameData, frame_data, frames_data, frame_of, holder_of, own_rows_of}
-use Rattle.fr_world.proofs.KeyLaws.{name_cmp, own_alike, slot_cmp, slots_alike, placement_cmp, placements_alike}
+use Rattle.fr_world.proofs.KeyLaws.{name_cmp, own_alike, slot_cmp, slots_alike, placement_cmp, placements_alike, frames_rise}
 use Rattle.fr_world.proofs.MapLaws.{contains-set_of, rows-set_of, get-table_of, rows-table_of, len-table_of}
 use Rattle.std.proofs.lemmas.List.Folds.{list_any-append}
 
@@ -48,21 +48,13 @@ frame_there rows es f e =
     ∙ ap (λ fs. option_map frame_of (lookup (is_at (name_cmp f)) fs)) (sym e)
     ∙ lookup-frames (is_at (name_cmp f)) es
 
-keys-frames_data : (es : List (Name × PageFrame)) → keys_of (frames_data es) ≡ keys_of es
-keys-frames_data [] = refl
-keys-frames_data (e ∷ es) = ap (λ ks. e.0 ∷ ks) (keys-frames_data es)
-
--- the names of the frames rise
-pub names-rise : (es : List (Name × PageFrame)) (fs : List (Name × FrameData)) → frames_data es ≡ fs → IsStrictlySortedBy name_cmp (keys_of es) → IsStrictlySortedBy name_cmp (keys_of fs)
-names-rise es fs e h = subst (IsStrictlySortedBy name_cmp) (sym (keys-frames_data es) ∙ ap keys_of e) h
-
 length-frames_data : (es : List (Name × PageFrame)) → length (frames_data es) ≡ length es
 length-frames_data [] = refl
 length-frames_data (e ∷ es) = ap suc (length-frames_data es)
 
 pub frames_len : (rows : PageData) (es : List (Name × PageFrame)) → frames_data es ≡ rows.frames → IsStrictlySortedBy name_cmp (keys_of es) → len (own_rows_of rows).frames ≡ length es
 frames_len rows es e h =
-    len-table_of name_cmp owned (λ f. (rows.supplier, f)) frame_of (own_alike rows.supplier) rows.frames (names-rise es rows.frames e h)
+    len-table_of name_cmp owned (λ f. (rows.supplier, f)) frame_of (own_alike rows.supplier) rows.frames (frames_rise es rows.frames e h)
     ∙ sym (ap length e) ∙ length-frames_data es
 
 -- ---- placements
@@ -81,7 +73,7 @@ frame_rows s fs = map (λ e. ((s, e.0), frame_of e.1)) fs
 
 pub frames-rows : (rows : PageData) (es : List (Name × PageFrame)) → frames_data es ≡ rows.frames → IsStrictlySortedBy name_cmp (keys_of es) → (own_rows_of rows).frames.rows ≡ frame_rows rows.supplier (frames_data es)
 frames-rows rows es e h =
-    rows-table_of name_cmp owned (λ f. (rows.supplier, f)) frame_of (own_alike rows.supplier) rows.frames (names-rise es rows.frames e h)
+    rows-table_of name_cmp owned (λ f. (rows.supplier, f)) frame_of (own_alike rows.supplier) rows.frames (frames_rise es rows.frames e h)
     ∙ ap (frame_rows rows.supplier) (sym e)
 
 -- ---- whether a placement fills a slot

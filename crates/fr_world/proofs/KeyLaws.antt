@@ -1,8 +1,9 @@
 -- The keys of maps and sets compare as the register's.
-use Rattle.std.proofs.Common.{◌≡◌, ℕ, List, Ordering, refl, sym, ap, subst}
+use Rattle.std.proofs.Common.{◌≡◌, ℕ, List, [], ◌∷◌, Ordering, refl, sym, ap, subst, ◌∙◌}
 use Rattle.std.specs.Ordering.{ordering_then}
 use Rattle.std.specs.Cmp.{tied_itself}
 use Rattle.std.specs.List.Sorted.{IsStrictlySortedBy}
+use Rattle.std.specs.Map.{keys_of}
 use Rattle.fr_base.specs.Keys.{numbers, names, channel_order, channels_order, owned, channel_slots, placement_order}
 use Rattle.fr_base.specs.declared.channel.Channel.{Channel}
 use Rattle.fr_base.specs.declared.channel.Channel.TheVariants.{A, B}
@@ -13,8 +14,9 @@ use Rattle.fr_base.specs.declared.placement.Placement.{Placement}
 use Rattle.fr_base.specs.Cycles.{Cycles}
 use Rattle.fr_base.specs.contracts.name.NameOrd.TheImpl as by_text
 use Rattle.fr_base.specs.contracts.placement.PlacementOrd.TheImpl as by_cells
-use Rattle.fr_world.specs.Pages.{compare_slots}
+use Rattle.fr_world.specs.Pages.{FrameData, compare_slots, frames_data}
 use Rattle.fr_world.specs.declared.page.ChannelSlot.{ChannelSlot}
+use Rattle.fr_world.specs.declared.page.PageFrame.{PageFrame}
 use Rattle.fr_world.specs.contracts.page.ChannelSlotOrd.TheImpl as by_slot
 
 abbrev pub slot_cmp : ChannelSlot → ChannelSlot → Ordering
@@ -70,3 +72,11 @@ slots_rise ks h = subst (rising ks) (λ i x y. slots_alike x y i) h
 
 pub placements_rise : (ks : List Placement) → IsStrictlySortedBy placement_cmp ks → IsStrictlySortedBy placement_order.compare ks
 placements_rise ks h = subst (rising ks) (λ i x y. placements_alike x y i) h
+
+keys-frames_data : (es : List (Name × PageFrame)) → keys_of (frames_data es) ≡ keys_of es
+keys-frames_data [] = refl
+keys-frames_data (e ∷ es) = ap (λ ks. e.0 ∷ ks) (keys-frames_data es)
+
+-- the names of frames rise, in their map and in their list
+pub frames_rise : (es : List (Name × PageFrame)) (fs : List (Name × FrameData)) → frames_data es ≡ fs → IsStrictlySortedBy name_cmp (keys_of es) → IsStrictlySortedBy name_cmp (keys_of fs)
+frames_rise es fs e h = subst (IsStrictlySortedBy name_cmp) (sym (keys-frames_data es) ∙ ap keys_of e) h

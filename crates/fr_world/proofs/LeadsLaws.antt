@@ -284,7 +284,7 @@ module _ (page : OwnRows) (fine : IsPage page) where
     frame-leaves words None found (DropSignal name) checked = tt
 
   -- so does what changes of the page's rows
-  rows-leave : page.params.payload_words ≤ 127 → (what : Change) → IsChecked page.params what → IfOk (admits_alone page what) (λ _. FitsRows page what × IsPage (rows_after what page))
+  pub rows-leave : page.params.payload_words ≤ 127 → (what : Change) → IsChecked page.params what → IfOk (admits_alone page what) (λ _. FitsRows page what × IsPage (rows_after what page))
   unfolding admits grants_after frames_after shared_by
   rows-leave words (change.Grant slot channel node) checked =
       gives_unless _ _ _ _ (λ has.

@@ -30,3 +30,8 @@ pub mod DecideAll
 pub mod AgreeLaws
 pub mod AmendTakes
 pub mod FitsLaws
+pub mod RowsLead
+pub mod RowsDecide
+pub mod DraftCells
+pub mod DraftSteps
+pub mod DraftRows

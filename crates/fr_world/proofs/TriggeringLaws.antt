@@ -1,5 +1,5 @@
 -- The placements of a page's frames, frame by frame.
-use Rattle.std.proofs.Common.{◌≡◌, List, [], ◌∷◌, ◌++◌, map, refl, sym, ap, subst, ◌∙◌}
+use Rattle.std.proofs.Common.{◌≡◌, List, [], ◌∷◌, ◌++◌, map, refl, sym, ap, ◌∙◌}
 use Rattle.std.specs.Prelude.{⊤}
 use Rattle.std.specs.List.{flat_map}
 use Rattle.std.specs.List.Sorted.{IsStrictlySortedBy}
@@ -12,7 +12,7 @@ use Rattle.fr_base.specs.declared.placement.Placement.{Placement}
 use Rattle.fr_world.specs.Pages.{FrameData, PageData, frame_data, frame_of, frames_data, own_rows_of}
 use Rattle.fr_world.specs.Sendings.{filled_by}
 use Rattle.fr_world.specs.declared.page.PageFrame.{PageFrame}
-use Rattle.fr_world.proofs.KeyLaws.{name_cmp, own_alike, placement_cmp, placements_alike}
+use Rattle.fr_world.proofs.KeyLaws.{name_cmp, own_alike, placement_cmp, placements_alike, frames_rise}
 use Rattle.fr_world.proofs.MapLaws.{rows-table_of, rows-set_of}
 
 -- a set's rows with their owner
@@ -41,10 +41,6 @@ abbrev pub fillings : Name → List (Name × PageFrame) → List (book.Owner × 
 fillings s [] = []
 fillings s (e ∷ es) = filled_by (s, e.0) (frame_of (frame_data e.1)) ++ fillings s es
 
-keys-frames_data : (es : List (Name × PageFrame)) → keys_of (frames_data es) ≡ keys_of es
-keys-frames_data [] = refl
-keys-frames_data (e ∷ es) = ap (λ ks. e.0 ∷ ks) (keys-frames_data es)
-
 fillings-rows : (s : Name) (es : List (Name × PageFrame)) → flat_map (λ row. filled_by row.0 row.1) (map {B = (Name × Name) × book.Frame} (λ e. ((s, e.0), frame_of e.1)) (frames_data es)) ≡ fillings s es
 fillings-rows s [] = refl
 fillings-rows s (e ∷ es) = ap (λ rest. filled_by (s, e.0) (frame_of (frame_data e.1)) ++ rest) (fillings-rows s es)
@@ -52,6 +48,6 @@ fillings-rows s (e ∷ es) = ap (λ rest. filled_by (s, e.0) (frame_of (frame_da
 pub placements_of-page : (page : PageData) (es : List (Name × PageFrame)) → frames_data es ≡ page.frames → IsStrictlySortedBy name_cmp (keys_of es) → book.placements_of (own_rows_of page).frames ≡ fillings page.supplier es
 unfolding book.placements_of
 placements_of-page page es e h =
-    ap (flat_map (λ row. filled_by row.0 row.1)) (rows-table_of name_cmp owned (λ f. (page.supplier, f)) frame_of (own_alike page.supplier) page.frames (subst (λ fs. IsStrictlySortedBy name_cmp (keys_of fs)) e (subst (λ ks. IsStrictlySortedBy name_cmp ks) (sym (keys-frames_data es)) h)))
+    ap (flat_map (λ row. filled_by row.0 row.1)) (rows-table_of name_cmp owned (λ f. (page.supplier, f)) frame_of (own_alike page.supplier) page.frames (frames_rise es page.frames e h))
     ∙ ap (λ fs. flat_map (λ row. filled_by row.0 row.1) (map {B = (Name × Name) × book.Frame} (λ e. ((page.supplier, e.0), frame_of e.1)) fs)) (sym e)
     ∙ fillings-rows page.supplier es

@@ -34,7 +34,8 @@ applied b (NewVariant v parent depth) = with_variant b v (record (copied b paren
 applied b (SetReleased v) = change_variant b v (λ x. record x { released = true })
 applied b (NewNode s n) = record b { nodes = insert b.nodes (s, n) tt }
 applied b (Rows s v what) = change_variant b v (changed s what)
-applied b (KeepImport s label v body rows) = b
+applied b (KeepImport s label v body rows) =
+    record b { imports = insert b.imports (s, label) (record { variant = v; body = body; rows = rows }) }
 
 -- the book after edits, one after the other
 abbrev pub all_applied : Book → List Edit → Book

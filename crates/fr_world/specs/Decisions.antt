@@ -1,17 +1,19 @@
 -- What a change of a supplier's rows is decided to, on the supplier's page.
-use Rattle.std.specs.Prelude.{List, [], ◌∷◌, map, Result, Ok, IsTrue, ⊤}
-use Rattle.fr_base.specs.Refusing.{◌>>◌, refuse◌when◌}
-use Rattle.fr_base.specs.Book.{Frame, Owner}
+use Rattle.std.specs.Prelude.{not, List, [], ◌∷◌, map, nat_le, Result, Ok, IsTrue, ⊤}
+use Rattle.fr_base.specs.Refusing.{◌>>=◌, ◌>>◌, ◌or◌, refuse◌when◌}
+use Rattle.fr_base.specs.Tables.{get, len}
+use Rattle.fr_base.specs.Book.{Frame, Owner, granted}
 use Rattle.fr_base.specs.Cells.{Cell}
 use Rattle.fr_base.specs.Queries.{placements_in}
 use Rattle.fr_base.specs.Step.{OwnRows, shared_by, admits}
 use Rattle.fr_base.specs.Signals.{is_signal_length}
 use Rattle.fr_base.specs.Sound.{FitsCluster}
+use Rattle.fr_base.specs.declared.limits.TheConstants.{MAX_PLACEMENTS}
 use Rattle.fr_base.specs.declared.name.Name.{Name}
 use Rattle.fr_base.specs.declared.params.Params.{Params}
 use Rattle.fr_base.specs.declared.placement.Placement.{Placement}
 use Rattle.fr_base.specs.declared.refusal.Refusal.{Refusal}
-use Rattle.fr_base.specs.declared.refusal.Refusal.TheVariants.{Released}
+use Rattle.fr_base.specs.declared.refusal.Refusal.TheVariants.{NoFrame, NotGranted, Limit, Released}
 use Rattle.fr_base.specs.declared.request.Change.{Change}
 use Rattle.fr_base.specs.declared.request.Change.TheVariants as change
 use Rattle.fr_base.specs.declared.request.FrameChange.TheVariants.{Place, AddSignal}
@@ -44,3 +46,10 @@ abbrev pub IsChecked : Params → Change → Type 0
 IsChecked p (change.Frame f (Place q)) = FitsCluster p q
 IsChecked p (change.Frame f (AddSignal signal)) = IsTrue (is_signal_length signal.length)
 IsChecked p _ = ⊤
+
+-- what refuses a placement of the frame before its cells are asked
+unfoldable pub has_room : OwnRows → Name → Placement → Result ⊤ Refusal
+has_room page f q = do
+  frame ← get page.frames (page.supplier, f) or NoFrame
+  refuse NotGranted when not (granted page.grants page.supplier frame.node q)
+  refuse Limit when nat_le MAX_PLACEMENTS (len frame.placements)

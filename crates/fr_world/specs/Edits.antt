@@ -66,3 +66,8 @@ FitsPage page _ = ⊤
 abbrev pub Leads : Name → OwnRows → List Edit → OwnRows → Type 0
 Leads v page [] last = last ≡ page
 Leads v page (edit ∷ edits) last = Takes v page edit × FitsPage page edit × Leads v (edited page edit) edits last
+
+-- the page after edits, one after the other
+abbrev pub all_edited : OwnRows → List Edit → OwnRows
+all_edited page [] = page
+all_edited page (edit ∷ edits) = all_edited (edited page edit) edits

@@ -1,5 +1,5 @@
 -- Laws of pages. In a sound book what is decided on a supplier's page is the register's step.
-use Rattle.std.specs.Prelude.{◌≡◌, ◌||◌, ℕ, List, false, Some, Ok, IsTrue}
+use Rattle.std.specs.Prelude.{◌≡◌, ◌||◌, ℕ, List, false, Some, Ok, IsTrue, IsFalse}
 use Rattle.fr_base.specs.Refusing.{◌>>=◌, ◌>>◌, refuse◌when◌}
 use Rattle.fr_base.specs.Tables.{get, contains}
 use Rattle.fr_base.specs.Cluster.{Cluster}
@@ -7,9 +7,12 @@ use Rattle.fr_base.specs.Names.{same_text}
 use Rattle.fr_base.specs.Parameters.{check_params}
 use Rattle.fr_base.specs.Book.{Variant, Book}
 use Rattle.fr_base.specs.Sound.{IsSound}
-use Rattle.fr_base.specs.Step.{add_node, common, change_rows, own_rows}
+use Rattle.fr_base.specs.ImportRows.{rows_of_body}
+use Rattle.fr_base.specs.Step.{add_node, common, change_rows, own_rows, act_rows}
 use Rattle.fr_base.specs.declared.channel.Channel.{Channel}
+use Rattle.fr_base.specs.declared.import.RowRead.{RowRead}
 use Rattle.fr_base.specs.declared.name.Name.{Name}
+use Rattle.fr_base.specs.declared.params.Params.{Params}
 use Rattle.fr_base.specs.declared.refusal.Refusal.TheVariants.{Taken}
 use Rattle.fr_base.specs.declared.request.Change.{Change}
 use Rattle.fr_base.specs.declared.request.Change.TheVariants.{Grant, Revoke, Frame}
@@ -18,7 +21,8 @@ use Rattle.fr_base.specs.declared.request.FrameChange.{FrameChange}
 use Rattle.fr_world.specs.BookEdits.{SparesOthers, applied, all_applied, variants_in}
 use Rattle.fr_world.specs.Common.{common_edit}
 use Rattle.fr_world.specs.Decisions.{IsChecked, decision}
-use Rattle.fr_world.specs.Edits.{IsOf, Leads, edited, releases, rows_after}
+use Rattle.fr_world.specs.Edits.{IsOf, Leads, all_edited, edited, releases, rows_after}
+use Rattle.fr_world.specs.RowDecisions.{AreChecked, rows_decision}
 use Rattle.fr_world.specs.declared.edit.Edit.{Edit}
 use Rattle.fr_world.specs.Nodes.{new_node}
 use Rattle.fr_world.specs.Pages.{PageData, IsKept, nodes_in, own_rows_of, page_in}
@@ -45,6 +49,24 @@ abbrev pub SupplierDecides : Type 0
 SupplierDecides = (c : Cluster) (b : Book) (s v : Name) (x : Variant) (f : Name) (what : FrameChange) →
     IsSound c b → get b.variants v ≡ Some x → IsTrue (contains b.suppliers s) →
     change_rows c.params b s v (Frame f what) ≡ (decision (page_in c.params b s v x) (Frame f what) >>= λ edits. Ok (all_applied b edits))
+
+-- In a sound book the rows of an import by a supplier that is there, into a variant that is there and open, are refused as on the
+-- supplier's page, the same row for the same reason, or make of the book what the page's edits make of it.
+abbrev pub RowsDecide : Type 0
+RowsDecide = (c : Cluster) (b : Book) (s v : Name) (x : Variant) (body : List ℕ) →
+    IsSound c b → get b.variants v ≡ Some x → IsFalse x.released → IsTrue (contains b.suppliers s) →
+    act_rows c.params b s v (rows_of_body c.params body)
+    ≡ (rows_decision (page_in c.params b s v x) (rows_of_body c.params body) >>= λ edits. Ok (all_applied b edits))
+
+-- The rows of a file are checked under the parameters that they are read by.
+abbrev pub RowsAreChecked : Type 0
+RowsAreChecked = (p : Params) (body : List ℕ) → AreChecked p (rows_of_body p body)
+
+-- What rows are decided to on a page, whose parameters make a cluster: the edits fit the page, which takes them one after the other.
+abbrev pub RowsLead : Type 0
+RowsLead = (rows : PageData) (reads : List RowRead) (edits : List Edit) → check_params rows.params ≡ Ok rows.params →
+    IsKept rows → AreChecked rows.params reads → rows_decision rows reads ≡ Ok edits →
+    Leads rows.variant (own_rows_of rows) edits (all_edited (own_rows_of rows) edits)
 
 -- In any book a grant to a supplier that is there is refused as on the supplier's page; what the page accepts is Taken where slot
 -- and channel are held, by another supplier then, or makes of the book what its edits make of it.

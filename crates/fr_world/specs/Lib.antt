@@ -2,6 +2,9 @@ pub mod Maps
 pub mod Pages
 pub mod Decisions
 pub mod Edits
+pub mod RowDecisions
+pub mod Drafts
+pub mod RowFaults
 pub mod BookEdits
 pub mod Laws
 pub mod CycleChannels

@@ -5,9 +5,11 @@ ghost use Rattle.fr_world.specs.Decisions.{IsChecked, admits_alone, decision};
 ghost use Rattle.fr_world.specs.Edits.{Leads, rows_after};
 ghost use Rattle.fr_world.specs.Pages.{own_rows_of};
 
+mod draft;
 mod filling;
 mod frames;
 mod grants;
+mod import_rows;
 mod placements;
 mod rows;
 mod signals;
@@ -15,6 +17,7 @@ mod signals;
 use crate::edit::Edit;
 use crate::page::Page;
 use fr_base::{Change, FrameChange, Name, Refusal};
+pub use import_rows::{RowFault, decide_rows};
 use std::alloc::Global;
 
 /// The edits that a change of the page's rows makes, or the first refusal that applies. `Released` comes

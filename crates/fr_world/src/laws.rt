@@ -1,5 +1,5 @@
 //! Laws of pages: what is decided on one is the register's step.
-ghost use Rattle.fr_world.specs.Laws.{CommonDecides, DecisionLeads, EditsAgree, GrantDecides, NodeDecides, OthersStay, RevokeDecides, RowsAreTheRegisters, SoundRowsAreAPage, SupplierDecides};
+ghost use Rattle.fr_world.specs.Laws.{CommonDecides, DecisionLeads, EditsAgree, GrantDecides, NodeDecides, OthersStay, RevokeDecides, RowsAreChecked, RowsAreTheRegisters, RowsDecide, RowsLead, SoundRowsAreAPage, SupplierDecides};
 
 /// In a sound book a supplier's rows of a variant are a page's.
 pub fn sound_rows_are_a_page()
@@ -22,6 +22,23 @@ pub fn decision_leads()
 /// of the book what the page's edits make of it.
 pub fn supplier_decides()
     ensures { SupplierDecides }
+{}
+
+/// In a sound book the rows of a supplier's import are refused as on the supplier's page of the variant,
+/// the same row for the same reason, or make of the book what the page's edits make of it.
+pub fn rows_decide()
+    ensures { RowsDecide }
+{}
+
+/// The rows of an import's file are checked under the parameters that they are read by.
+pub fn rows_are_checked()
+    ensures { RowsAreChecked }
+{}
+
+/// The edits that are decided on a page, whose parameters make a cluster, for the rows of an import lead
+/// it, one after the other; each adds what is new, and leaves rows that a page has.
+pub fn rows_lead()
+    ensures { RowsLead }
 {}
 
 /// A grant to a supplier is refused as on the supplier's page of the variant, and then `Taken` where

@@ -22,14 +22,15 @@ mod row_occupancy;
 mod sendings;
 mod variants;
 
-pub use decision::decide;
+pub use decision::{RowFault, decide, decide_rows};
 pub use edit::Edit;
 pub use frame_rows::{frame_row, gap_row, push_signal_rows};
 pub use frame_triggering::{FrameTriggering, push_frame};
 pub use gap::greatest_gap;
 pub use laws::{
     common_decides, decision_leads, edits_agree, grant_decides, node_decides, others_stay,
-    revoke_decides, rows_are_the_registers, sound_rows_are_a_page, supplier_decides,
+    revoke_decides, rows_are_checked, rows_are_the_registers, rows_decide, rows_lead,
+    sound_rows_are_a_page, supplier_decides,
 };
 pub use nodes::decide_node;
 pub use occupancy::{Occupancy, TakenCell};

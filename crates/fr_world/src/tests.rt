@@ -1,9 +1,9 @@
 //! What the check would let pass: a call that lacks memory though there is enough, or from some size on;
 //! and cells that a table from outside the register says are taken.
-ghost use Rattle.std.specs.Prelude.{◌≡◌};
+ghost use Rattle.std.specs.Prelude.{◌≡◌, IfOk, Ok};
 ghost use Rattle.fr_world.specs.Decisions.{IsChecked};
 
-use crate::decision::decide;
+use crate::decision::{RowFault, decide, decide_rows};
 use crate::edit::Edit;
 use crate::fixture::{fits, frame, grant, name, no_rows, placement, signal, slot};
 use crate::frame_rows::{frame_row, push_signal_rows};
@@ -13,7 +13,10 @@ use crate::page::Page;
 use crate::page_sendings::sent;
 use crate::row_occupancy::RowOccupancy;
 use crate::sendings::schedule;
-use fr_base::{Change, Channel, Channels, FrameChange, MAX_NODES, Name, Placement, Rows, Signal};
+use fr_base::{
+    Change, Channel, Channels, FrameChange, MAX_NODES, Name, Placement, Refusal, Row, RowRead,
+    Rows, Signal,
+};
 use std::alloc::Global;
 use std::test::Fail;
 
@@ -189,5 +192,63 @@ fn cells_taken_on_a_and_b(rt: HostRuntime) -> Result<(), Fail> {
         cells.first_taken(&placement(1, Channels::AB, 0, 1)?),
         taken(1, Channel::A, "g")?
     );
+    Ok(())
+}
+
+// The row at the line: the frame of `n1` with this placement.
+fn read(line: u32, frame: &str, placement: Placement) -> Result<RowRead, Fail>
+    ensures { IfOk result (λ read. (f n : Name) × (read.row ≡ Ok (Row.Place f n placement))) }
+{
+    let (frame, node) = (name(frame)?, name("n1")?);
+    let row = Ok(Row::Place {
+        frame,
+        node,
+        placement,
+    });
+    Ok(RowRead { line, row })
+}
+
+// How many edits three frames with these placements come to, where `n1` holds slot 1 on A.
+fn three_rows(
+    alloc: Global,
+    first: Placement,
+    second: Placement,
+    third: Placement,
+) -> Result<Result<usize, RowFault>, Fail> {
+    let mut rows = no_rows(alloc)?;
+    rows.nodes.insert(name("n1")?)?;
+    grant(&mut rows, 1, Channel::A)?;
+    let page = Page::build(alloc, rows)?.ok_or("page")?;
+    let params = page.params();
+    if page.released()
+        || !fits(&params, &first)
+        || !fits(&params, &second)
+        || !fits(&params, &third)
+    {
+        return Err(Fail::from("no rows of the page"));
+    }
+    let reads = [
+        read(2, "f1", first)?,
+        read(3, "f2", second)?,
+        read(4, "f3", third)?,
+    ];
+    Ok(decide_rows(alloc, page, &reads).map(|edits| edits.len()))
+}
+
+#[test]
+fn rows_of_an_import(rt: HostRuntime) -> Result<(), Fail> {
+    let (alloc, first, second) = (
+        rt.alloc(),
+        placement(1, Channels::A, 0, 2)?,
+        placement(1, Channels::A, 1, 4)?,
+    );
+    let refused = three_rows(alloc, first, second, placement(2, Channels::A, 0, 1)?)?;
+    let fault = RowFault::Row {
+        line: 4,
+        refusal: Refusal::NotGranted,
+    };
+    assert!(rt; refused == Err(fault));
+    let accepted = three_rows(alloc, first, second, placement(1, Channels::A, 3, 4)?)?;
+    assert!(rt; accepted == Ok(6));
     Ok(())
 }

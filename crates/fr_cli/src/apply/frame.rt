@@ -21,6 +21,7 @@ pub(crate) fn change_frame(frame: &mut PageFrame, change: &FrameChange) -> Resul
     requires { NeedsFrame change.now }
     ensures ok { OnOk result (frame_after change.now (Some (frame_of frame.old)) ≡ Becomes (frame_of frame.new)) }
     ensures err { OnErr result ((frame_of frame.new ≡ frame_of frame.old) × (result ≡ Err Unavailable)) }
+    ensures payload { frame.new.layout.words ≡ frame.old.layout.words }
 {
     match change {
         FrameChange::Place(placement) => put_placement(&mut frame.placements, placement),
@@ -57,7 +58,7 @@ fn end_placement(placements: &mut BTreeSet<Placement>, placement: &Placement)
 
 #[tactic(auto, using(crate::proofs::ApplyLaws::added))]
 fn put_signal(layout: &mut Layout, signal: &Signal) -> Result<(), Refusal>
-    ensures ok { OnOk result (layout.new.signals ≡ with_signal signal.now layout.old.signals) }
+    ensures ok { OnOk result (layout.new ≡ record layout.old { signals = with_signal signal.now layout.old.signals }) }
     ensures err { OnErr result ((layout.new ≡ layout.old) × (result ≡ Err Unavailable)) }
 {
     match layout.add(*signal) {
@@ -66,9 +67,9 @@ fn put_signal(layout: &mut Layout, signal: &Signal) -> Result<(), Refusal>
     }
 }
 
-#[tactic(auto, using(crate::proofs::ApplyLaws::removed, crate::proofs::ApplyLaws::not_removed))]
+#[tactic(auto, using(fr_world::proofs::AmendSignals::remove_takes, fr_world::proofs::AmendSignals::remove_keeps))]
 fn end_signal(layout: &mut Layout, name: Name)
-    ensures { layout.new.signals ≡ without_signal name layout.old.signals }
+    ensures { layout.new ≡ record layout.old { signals = without_signal name layout.old.signals } }
 {
     let _ = layout.remove(name);
 }

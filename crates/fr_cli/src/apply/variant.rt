@@ -1,25 +1,26 @@
 //! What an edit makes of a variant's rows.
-ghost use Rattle.std.specs.Prelude.{◌≡◌, ◌≤◌, [], Err, IfOk, OnErr, OnOk, false};
+ghost use Rattle.std.specs.Prelude.{◌≡◌, ◌≤◌, ℕ, [], Err, IfOk, OnErr, OnOk, false};
 ghost use Rattle.fr_base.specs.Book.{empty_variant};
 ghost use Rattle.fr_base.specs.Tables.{empty, get, insert, remove, settle};
 ghost use Rattle.fr_base.specs.declared.refusal.Refusal.TheVariants.{Unavailable};
 ghost use Rattle.fr_base.specs.Step.{frame_after};
 ghost use Rattle.fr_cli.specs.Applied.{NeedsFrame, frames_of, grants_of, variant_edited};
-ghost use Rattle.fr_cli.specs.Plans.{holder_of, variant_of};
+ghost use Rattle.fr_cli.specs.Plans.{AreOfPayload, HasPayload, holder_of, variant_of};
 
 use crate::apply::frame::change_frame;
 use crate::plan::{Holder, Owned, Plan};
-use fr_base::{Change, Channel, FrameChange, Name, Refusal, Slot};
+use fr_base::{Change, Channel, FrameChange, Name, NoMemory, Refusal, Slot};
 use fr_layout::Layout;
 use fr_world::{ChannelSlot, Edit, PageFrame};
-use std::alloc::{AllocError, Global};
+use std::alloc::Global;
 use std::collections::{BTreeMap, BTreeSet};
 
 impl Plan {
     /// An open variant without rows.
     #[tactic(auto, using(crate::proofs::PlanLaws::no_grants, crate::proofs::PlanLaws::no_frames), unfolding(fr_base::specs::Book::empty_variant))]
     pub(crate) fn empty(alloc: Global, parent: &Option<Name>, depth: u32) -> Plan
-        ensures { variant_of result ≡ record empty_variant { parent = parent.now; depth = depth; released = false } }
+        ensures rows { variant_of result ≡ record empty_variant { parent = parent.now; depth = depth; released = false } }
+        ensures payload { (words : ℕ) → HasPayload words result }
     {
         Plan {
             parent: *parent,
@@ -32,8 +33,9 @@ impl Plan {
 
     /// An open variant with the same grants and frames.
     #[tactic(auto, using(crate::proofs::PlanLaws::grants_cloned, crate::proofs::PlanLaws::frames_cloned))]
-    pub(crate) fn copied(&self, parent: &Option<Name>, depth: u32) -> Result<Plan, AllocError>
-        ensures { IfOk result (λ plan. variant_of plan ≡ record (variant_of self.now) { parent = parent.now; depth = depth; released = false }) }
+    pub(crate) fn copied(&self, parent: &Option<Name>, depth: u32) -> Result<Plan, NoMemory>
+        ensures rows { IfOk result (λ plan. variant_of plan ≡ record (variant_of self.now) { parent = parent.now; depth = depth; released = false }) }
+        ensures payload { IfOk result (λ plan. (words : ℕ) → HasPayload words self.now → HasPayload words plan) }
     {
         Ok(Plan {
             parent: *parent,
@@ -48,9 +50,11 @@ impl Plan {
     /// memory is refused or a signal cannot stand with the others, which changes nothing.
     #[tactic(auto, unfolding(crate::specs::Applied::variant_edited, fr_base::specs::Step::changed, fr_base::specs::Step::grants_after, fr_base::specs::Step::frames_after))]
     pub(crate) fn change(&mut self, alloc: Global, words: u32, edit: &Edit) -> Result<(), Refusal>
-        requires { words ≤ 127 }
+        requires words { words ≤ 127 }
+        requires payload { HasPayload words self.old }
         ensures ok { OnOk result (variant_of self.new ≡ variant_edited edit.now (variant_of self.old)) }
         ensures err { OnErr result ((variant_of self.new ≡ variant_of self.old) × (result ≡ Err Unavailable)) }
+        ensures payload { HasPayload words self.new }
     {
         match edit {
             Edit::SetReleased { .. } => {
@@ -94,9 +98,11 @@ impl Plan {
         key: Owned,
         change: &FrameChange,
     ) -> Result<(), Refusal>
-        requires { words ≤ 127 }
+        requires words { words ≤ 127 }
+        requires payload { HasPayload words self.old }
         ensures ok { OnOk result (variant_of self.new ≡ record (variant_of self.old) { frames = settle (variant_of self.old).frames (key.supplier, key.name) (frame_after change.now (get (variant_of self.old).frames (key.supplier, key.name))) }) }
         ensures err { OnErr result ((variant_of self.new ≡ variant_of self.old) × (result ≡ Err Unavailable)) }
+        ensures payload { HasPayload words self.new }
     {
         match change {
             FrameChange::Add { node } => new_frame(&mut self.frames, alloc, words, key, *node),
@@ -116,6 +122,7 @@ impl Plan {
         requires { NeedsFrame change.now }
         ensures ok { OnOk result (variant_of self.new ≡ record (variant_of self.old) { frames = settle (variant_of self.old).frames (key.supplier, key.name) (frame_after change.now (get (variant_of self.old).frames (key.supplier, key.name))) }) }
         ensures err { OnErr result ((variant_of self.new ≡ variant_of self.old) × (result ≡ Err Unavailable)) }
+        ensures payload { (words : ℕ) → HasPayload words self.old → HasPayload words self.new }
     {
         match self.frames.get_mut(&key) {
             Some(frame) => change_frame(frame, change),
@@ -175,6 +182,7 @@ fn new_frame(
     requires { words ≤ 127 }
     ensures ok { OnOk result (frames_of frames.new.entries ≡ insert (frames_of frames.old.entries) (key.supplier, key.name) (record { node = node; placements = empty; signals = [] })) }
     ensures err { OnErr result ((frames.new.entries ≡ frames.old.entries) × (result ≡ Err Unavailable)) }
+    ensures payload { AreOfPayload words frames.old.entries → AreOfPayload words frames.new.entries }
 {
     let frame = PageFrame {
         node,
@@ -188,7 +196,8 @@ fn new_frame(
 // The frame is gone, with its placements and signals.
 #[tactic(auto, using(crate::proofs::PlanLaws::frame_removed))]
 fn end_frame(frames: &mut BTreeMap<Owned, PageFrame>, key: Owned)
-    ensures { frames_of frames.new.entries ≡ remove (frames_of frames.old.entries) (key.supplier, key.name) }
+    ensures rows { frames_of frames.new.entries ≡ remove (frames_of frames.old.entries) (key.supplier, key.name) }
+    ensures payload { (words : ℕ) → AreOfPayload words frames.old.entries → AreOfPayload words frames.new.entries }
 {
     // Gives the proof that the keys are in order.
     let _len = frames.len();

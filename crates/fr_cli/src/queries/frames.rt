@@ -5,9 +5,9 @@ ghost use Rattle.fr_cli.specs.Plans.{variant_of};
 
 use super::sees;
 use crate::plan::Plan;
-use fr_base::{Actor, FrameRow, Rows};
+use fr_base::{Actor, FrameRow, NoMemory, Rows};
 use fr_world::frame_row;
-use std::alloc::{AllocError, Global};
+use std::alloc::Global;
 
 impl Plan {
     /// The frames that the actor sees, with their nodes and placements: by supplier and name.
@@ -15,7 +15,7 @@ impl Plan {
         &self,
         alloc: Global,
         actor: &Actor,
-    ) -> Result<Rows<FrameRow>, AllocError>
+    ) -> Result<Rows<FrameRow>, NoMemory>
         ensures { IfOk result (λ rows. rows ≡ frames_of (seen_frames actor.now (variant_of self.now).frames)) }
     {
         let mut rows = Rows::new(alloc);

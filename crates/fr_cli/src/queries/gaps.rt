@@ -6,9 +6,9 @@ ghost use Rattle.fr_cli.specs.Plans.{variant_of};
 
 use super::sees;
 use crate::plan::Plan;
-use fr_base::{Actor, GapRow, Params, Rows};
+use fr_base::{Actor, GapRow, NoMemory, Params, Rows};
 use fr_world::gap_row;
-use std::alloc::{AllocError, Global};
+use std::alloc::Global;
 
 impl Plan {
     /// The greatest gaps of the frames that the actor sees: by supplier and name.
@@ -17,7 +17,7 @@ impl Plan {
         alloc: Global,
         params: &Params,
         actor: &Actor,
-    ) -> Result<Rows<GapRow>, AllocError>
+    ) -> Result<Rows<GapRow>, NoMemory>
         requires fitting { AllFitting params.now (variant_of self.now) }
         ensures { IfOk result (λ rows. rows ≡ gaps_of params.now (seen_frames actor.now (variant_of self.now).frames)) }
     {

@@ -5,8 +5,8 @@ ghost use Rattle.fr_cli.specs.Plans.{variant_of};
 
 use super::sees;
 use crate::plan::Plan;
-use fr_base::{Actor, GrantRow, Rows};
-use std::alloc::{AllocError, Global};
+use fr_base::{Actor, GrantRow, NoMemory, Rows};
+use std::alloc::Global;
 
 impl Plan {
     /// Who holds which slot and channel, of the grants that the actor sees: by slot and channel.
@@ -14,7 +14,7 @@ impl Plan {
         &self,
         alloc: Global,
         actor: &Actor,
-    ) -> Result<Rows<GrantRow>, AllocError>
+    ) -> Result<Rows<GrantRow>, NoMemory>
         ensures { IfOk result (λ rows. rows ≡ grants_of (seen_grants actor.now (variant_of self.now).grants)) }
     {
         let mut rows = Rows::new(alloc);

@@ -9,9 +9,9 @@ ghost use Rattle.fr_cli.specs.Plans.{variant_of};
 
 use super::sees;
 use crate::plan::{Owned, Plan};
-use fr_base::{Actor, Name, Rows, SignalRow};
+use fr_base::{Actor, Name, NoMemory, Rows, SignalRow};
 use fr_world::{PageFrame, push_signal_rows};
-use std::alloc::{AllocError, Global};
+use std::alloc::Global;
 use std::collections::btree_map::Keys;
 
 impl Plan {
@@ -28,7 +28,7 @@ impl Plan {
         alloc: Global,
         actor: &Actor,
         name: Name,
-    ) -> Result<Rows<SignalRow>, AllocError>
+    ) -> Result<Rows<SignalRow>, NoMemory>
         ensures { IfOk result (λ rows. rows ≡ signals_of (named name (seen_frames actor.now (variant_of self.now).frames))) }
     {
         let mut rows = Rows::new(alloc);

@@ -7,9 +7,9 @@ ghost use Rattle.fr_cli.specs.Plans.{variant_of};
 
 use super::sees;
 use crate::plan::Plan;
-use fr_base::{Actor, Params, Rows, Sending};
+use fr_base::{Actor, NoMemory, Params, Rows, Sending};
 use fr_world::{FrameTriggering, push_frame, schedule};
-use std::alloc::{AllocError, Global};
+use std::alloc::Global;
 
 impl Plan {
     /// Which frame is sent in which cycle, slot and channel, of the frames that the actor sees: by
@@ -19,7 +19,7 @@ impl Plan {
         alloc: Global,
         params: &Params,
         actor: &Actor,
-    ) -> Result<Rows<Sending>, AllocError>
+    ) -> Result<Rows<Sending>, NoMemory>
         ensures { IfOk result (λ rows. rows ≡ sendings_of params.now (seen_frames actor.now (variant_of self.now).frames)) }
     {
         let placed = self.placed(alloc, actor)?;
@@ -27,7 +27,7 @@ impl Plan {
     }
 
     // The placements of the frames that the actor sees.
-    fn placed(&self, alloc: Global, actor: &Actor) -> Result<Vec<FrameTriggering>, AllocError>
+    fn placed(&self, alloc: Global, actor: &Actor) -> Result<Vec<FrameTriggering>, NoMemory>
         ensures { IfOk result (λ placed. filled placed.items ≡ placements_of (seen_frames actor.now (variant_of self.now).frames)) }
     {
         let mut placed = Vec::new(alloc);

@@ -1,3 +1,4 @@
+//! The files of imports, as they are read.
 use super::*;
 use fr_base::{Channels, RawParams};
 use std::test::Fail;

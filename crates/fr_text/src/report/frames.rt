@@ -6,8 +6,7 @@ ghost use Rattle.fr_text.specs.Words.{Extends};
 
 use super::Row;
 use crate::words::{four_digits, push, push_supplier, push_word, two_digits};
-use fr_base::{FrameRow, Placement};
-use std::alloc::AllocError;
+use fr_base::{FrameRow, NoMemory, Placement};
 
 impl Row for FrameRow {
     ghost first = { frame_line };
@@ -15,7 +14,7 @@ impl Row for FrameRow {
     ghost others = { λ _ frame. map placement_line frame.placements };
 
     #[tactic(auto, using(crate::proofs::WordsLemmas::extending), unfolding(crate::specs::Report::frame_line, crate::specs::Styles::joined, crate::specs::Styles::marked))]
-    fn push(&self, all: bool, mark: &str, out: &mut Vec<u8>) -> Result<(), AllocError> {
+    fn push(&self, all: bool, mark: &str, out: &mut Vec<u8>) -> Result<(), NoMemory> {
         push("FRAME", out)?;
         push_word(self.frame.as_str().as_bytes(), out)?;
         push_word(self.node.as_str().as_bytes(), out)?;
@@ -26,11 +25,7 @@ impl Row for FrameRow {
 
 // Appends a line for each placement, with the mark before it.
 #[tactic(auto, using(crate::proofs::WordsLemmas::extending), unfolding(crate::specs::Styles::marked))]
-fn push_placements(
-    placements: &[Placement],
-    mark: &str,
-    out: &mut Vec<u8>,
-) -> Result<(), AllocError>
+fn push_placements(placements: &[Placement], mark: &str, out: &mut Vec<u8>) -> Result<(), NoMemory>
     ensures ok { OnOk result (out.new.items ≡ out.old.items ++ marked mark.now (map placement_line placements.now)) }
     ensures err { OnErr result (Extends out.old.items out.new.items) }
 {
@@ -42,7 +37,7 @@ fn push_placements(
 }
 
 #[tactic(auto, using(crate::proofs::WordsLemmas::extending), unfolding(crate::specs::Report::placement_line))]
-fn push_placement(placement: &Placement, out: &mut Vec<u8>) -> Result<(), AllocError>
+fn push_placement(placement: &Placement, out: &mut Vec<u8>) -> Result<(), NoMemory>
     ensures ok { OnOk result (out.new.items ≡ out.old.items ++ placement_line placement.now) }
     ensures err { OnErr result (Extends out.old.items out.new.items) }
 {

@@ -5,10 +5,9 @@ ghost use Rattle.fr_text.specs.Styles.{plain_lines};
 ghost use Rattle.fr_text.specs.Words.{right_in, gap_word, Extends};
 
 use super::{Row, report};
-use crate::NoMemory;
 use crate::words::{push, push_right, push_supplier, push_word};
-use fr_base::{Answer, GapRow};
-use std::alloc::{AllocError, Global};
+use fr_base::{Answer, GapRow, NoMemory};
+use std::alloc::Global;
 
 impl Row for GapRow {
     ghost first = { gap_line };
@@ -16,7 +15,7 @@ impl Row for GapRow {
     ghost others = { λ _ _. [] };
 
     #[tactic(auto, using(crate::proofs::WordsLemmas::extending), unfolding(crate::specs::Report::gap_line, crate::specs::Styles::joined))]
-    fn push(&self, all: bool, _mark: &str, out: &mut Vec<u8>) -> Result<(), AllocError> {
+    fn push(&self, all: bool, _mark: &str, out: &mut Vec<u8>) -> Result<(), NoMemory> {
         push("GAP ", out)?;
         push_gap(self.gap, out)?;
         push_word(self.frame.as_str().as_bytes(), out)?;
@@ -26,7 +25,7 @@ impl Row for GapRow {
 
 // Appends the gap right in seven places.
 #[tactic(auto, using(crate::proofs::WordsLemmas::extending), unfolding(crate::specs::Words::right_in))]
-fn push_gap(gap: Option<u32>, out: &mut Vec<u8>) -> Result<(), AllocError>
+fn push_gap(gap: Option<u32>, out: &mut Vec<u8>) -> Result<(), NoMemory>
     ensures ok { OnOk result (out.new.items ≡ out.old.items ++ right_in 7 (gap_word gap)) }
     ensures err { OnErr result (Extends out.old.items out.new.items) }
 {

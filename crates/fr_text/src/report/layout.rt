@@ -4,10 +4,9 @@ ghost use Rattle.fr_text.specs.Report.{signal_line, layout_lines};
 ghost use Rattle.fr_text.specs.Styles.{plain_lines};
 
 use super::{Row, report};
-use crate::NoMemory;
 use crate::words::{four_digits, push_supplier, push_word, two_digits};
-use fr_base::{Answer, SignalRow};
-use std::alloc::{AllocError, Global};
+use fr_base::{Answer, NoMemory, SignalRow};
+use std::alloc::Global;
 
 impl Row for SignalRow {
     ghost first = { signal_line };
@@ -15,7 +14,7 @@ impl Row for SignalRow {
     ghost others = { λ _ _. [] };
 
     #[tactic(auto, using(crate::proofs::WordsLemmas::extending), unfolding(crate::specs::Report::signal_line, crate::specs::Styles::joined))]
-    fn push(&self, all: bool, _mark: &str, out: &mut Vec<u8>) -> Result<(), AllocError> {
+    fn push(&self, all: bool, _mark: &str, out: &mut Vec<u8>) -> Result<(), NoMemory> {
         out.extend_from_slice(&four_digits(self.signal.start()))?;
         push_word(&two_digits(self.signal.length()), out)?;
         push_word(self.signal.order().as_str().as_bytes(), out)?;

@@ -6,10 +6,9 @@ ghost use Rattle.fr_text.specs.Styles.{plain_lines};
 ghost use Rattle.fr_text.specs.Words.{two_digits, four_digits, line, Extends};
 
 use super::{Row, report};
-use crate::NoMemory;
 use crate::words::{four_digits, push_supplier, push_word, two_digits};
-use fr_base::{Answer, Sending};
-use std::alloc::{AllocError, Global};
+use fr_base::{Answer, NoMemory, Sending};
+use std::alloc::Global;
 
 impl Row for Sending {
     ghost first = { schedule_line };
@@ -17,7 +16,7 @@ impl Row for Sending {
     ghost others = { λ _ _. [] };
 
     #[tactic(auto, using(crate::proofs::WordsLemmas::extending), unfolding(crate::specs::Report::schedule_line, crate::specs::Styles::joined))]
-    fn push(&self, all: bool, _mark: &str, out: &mut Vec<u8>) -> Result<(), AllocError> {
+    fn push(&self, all: bool, _mark: &str, out: &mut Vec<u8>) -> Result<(), NoMemory> {
         push_cell(self, out)?;
         push_word(self.frame.as_str().as_bytes(), out)?;
         push_word(self.node.as_str().as_bytes(), out)?;
@@ -27,7 +26,7 @@ impl Row for Sending {
 
 // Appends cycle, slot and channel.
 #[tactic(auto, using(crate::proofs::WordsLemmas::extending))]
-fn push_cell(sending: &Sending, out: &mut Vec<u8>) -> Result<(), AllocError>
+fn push_cell(sending: &Sending, out: &mut Vec<u8>) -> Result<(), NoMemory>
     ensures ok { OnOk result (out.new.items ≡ out.old.items ++ line (two_digits sending.now.cycle ∷ four_digits sending.now.slot ∷ text_of_channel sending.now.channel ∷ [])) }
     ensures err { OnErr result (Extends out.old.items out.new.items) }
 {

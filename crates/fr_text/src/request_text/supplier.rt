@@ -1,9 +1,9 @@
 //! Reads the requests that a supplier gives.
 ghost use Rattle.fr_text.specs.Fields.{fields_in, Reads};
-ghost use Rattle.fr_text.specs.RequestText.{add_frame, drop_frame, place, unplace, add_signal, drop_signal};
+ghost use Rattle.fr_text.specs.RequestText.{add_frame, drop_frame, place, unplace, add_signal, drop_signal, import};
 
-use crate::fields::{Fields, allow_only, copy_text, number_in};
-use fr_base::{Refusal, Request};
+use crate::fields::{Fields, allow_only, copy_text, number_in, text_in};
+use fr_base::{Body, Refusal, Request};
 use std::alloc::Global;
 
 #[tactic(auto, unfolding(crate::specs::RequestText::add_frame))]
@@ -110,5 +110,17 @@ pub(super) fn drop_signal(alloc: Global, fields: &Fields) -> Result<Request, Ref
         variant: copy_text(alloc, fields, "variant")?,
         frame: copy_text(alloc, fields, "frame")?,
         signal: copy_text(alloc, fields, "signal")?,
+    })
+}
+
+#[tactic(auto, unfolding(crate::specs::RequestText::import))]
+pub(super) fn import(alloc: Global, fields: &Fields) -> Result<Request, Refusal>
+    ensures { Reads (λ request. request) (import (fields_in fields.now)) result }
+{
+    allow_only(fields, &["do", "variant", "label", "body"])?;
+    Ok(Request::Import {
+        variant: copy_text(alloc, fields, "variant")?,
+        label: copy_text(alloc, fields, "label")?,
+        body: Body::copy(alloc, text_in(fields, "body")?.as_bytes())?,
     })
 }

@@ -27,6 +27,11 @@ fn reads_requests(rt: HostRuntime) -> Result<(), Fail> {
             r#"{"do":"revoke","variant":"v1","slot":4294967295,"channel":"B","supplier":"s1"}"#,
             r#"Revoke { variant: Text { text: "v1" }, slot: 4294967295, channel: Text { text: "B" }, supplier: Text { text: "s1" } }"#,
         ),
+        // An import's body is the text's UTF-8 bytes.
+        (
+            r#"{"do":"import","variant":"v1","label":"a1","body":"f\u00e9\n"}"#,
+            r#"Import { variant: Text { text: "v1" }, label: Text { text: "a1" }, body: Body { bytes: [102, 195, 169, 10] } }"#,
+        ),
         // The last value of a doubled field counts, and escapes are read in names too.
         (
             r#"{"do":"grant","do":"gaps","variant":7,"variant":"v2"}"#,

@@ -1,12 +1,14 @@
 //! Whether a placement of a frame, or the end of one, is refused.
 ghost use Rattle.std.specs.Prelude.{◌≡◌, ◌⊎◌, Err};
 ghost use Rattle.fr_base.specs.declared.refusal.Refusal.TheVariants.{Unavailable};
-ghost use Rattle.fr_world.specs.Decisions.{admits_alone};
+ghost use Rattle.fr_world.specs.Decisions.{admits_alone, has_room};
+ghost use Rattle.fr_world.specs.Occupancies.{ShowCells, cell_refused, first_taken_cell};
 ghost use Rattle.fr_world.specs.Pages.{own_rows_of};
 
-use super::filling::first_taken;
+use super::filling::fill_page;
 use super::rows::frame_named;
 use crate::grants::is_granted;
+use crate::occupancy::Occupancy;
 use crate::page::Page;
 use crate::row_occupancy::RowOccupancy;
 use fr_base::{Change, FrameChange, MAX_PLACEMENTS, Name, Placement, Refusal};
@@ -22,6 +24,30 @@ pub(super) fn admit_placement(
 ) -> Result<(), Refusal>
     ensures { (result ≡ Err Unavailable) ⊎ (result ≡ admits_alone (own_rows_of page.now) (Change.Frame frame (FrameChange.Place placement.now))) }
 {
+    has_room(page, frame, placement)?;
+    let mut occupancy = RowOccupancy::new(alloc);
+    fill_page(page, &mut occupancy)?;
+    is_free(&occupancy, placement)
+}
+
+/// The same, where the page's cells are known. It takes no memory.
+pub(super) fn admit_among<O: Occupancy>(
+    page: &Page,
+    occupancy: &O,
+    frame: Name,
+    placement: &Placement,
+) -> Result<(), Refusal>
+    requires { ShowCells (O.pairs occupancy.now) (own_rows_of page.now).frames }
+    ensures { result ≡ admits_alone (own_rows_of page.now) (Change.Frame frame (FrameChange.Place placement.now)) }
+{
+    has_room(page, frame, placement)?;
+    is_free(occupancy, placement)
+}
+
+// `NoFrame`, `NotGranted` or `Limit`, where one refuses the frame a placement, wherever it is.
+fn has_room(page: &Page, frame: Name, placement: &Placement) -> Result<(), Refusal>
+    ensures { result ≡ has_room (own_rows_of page.now) frame placement.now }
+{
     let row = frame_named(page, frame).ok_or(Refusal::NoFrame)?;
     if !is_granted(page.grants(), row.node, placement) {
         return Err(Refusal::NotGranted);
@@ -29,8 +55,14 @@ pub(super) fn admit_placement(
     if row.placements.len() >= MAX_PLACEMENTS {
         return Err(Refusal::Limit);
     }
-    let mut occupancy = RowOccupancy::new(alloc);
-    match first_taken(page, &mut occupancy, placement)? {
+    Ok(())
+}
+
+// `CellTaken`, where a frame fills one of the placement's cells.
+fn is_free<O: Occupancy>(occupancy: &O, placement: &Placement) -> Result<(), Refusal>
+    ensures { result ≡ cell_refused (first_taken_cell (O.pairs occupancy.now) placement.now) }
+{
+    match occupancy.first_taken(placement) {
         Some(taken) => Err(Refusal::CellTaken {
             cycle: taken.cycle,
             channel: taken.channel,

@@ -1,6 +1,5 @@
-use Rattle.std.proofs.Common.{◌≡◌, rules, find, Some, IfSome, IsTrue, subst, sym, ◌∙◌}
+use Rattle.std.proofs.Common.{◌≡◌, rules, find, IfSome, IsTrue, subst, sym, ◌∙◌}
 use Rattle.std.specs.Option.{option_map}
-use Rattle.fr_base.specs.Names.{same_text}
 use Rattle.fr_base.specs.declared.actor.Actor.TheVariants as actor
 use Rattle.fr_base.proofs.ActorsLemmas.{listed, has_key, known}
 use Rattle.fr_base.specs.Step.{knows}

@@ -1,6 +1,9 @@
-use Rattle.std.proofs.Common.{ap}
-use Rattle.fr_cli.specs.Plans.{variant_of}
+use Rattle.std.proofs.Common.{◌∙◌, ap}
+use Rattle.std.specs.BTreeMap.{is_at}
+use Rattle.fr_cli.specs.Plans.{IsOfPayload, variant_of}
 use Rattle.fr_cli.proofs.ApplyLaws.{on_ok, on_err}
+use Rattle.fr_cli.proofs.PayloadLaws.{holds-found, holds-set}
+use Rattle.fr_cli.proofs.KeyLaws.{owned_cmp}
 use Rattle.fr_cli.proofs.PlanLaws.{frame_lent, frame_lent_same, no_frame}
 use Rattle.fr_cli.proofs.plan.Plan.change_there.Goals as goal
 
@@ -27,3 +30,11 @@ pub returns-in-None-clause-ok : goal.returns-in-None-clause-ok
 returns-in-None-clause-ok c =
     no_frame (variant_of c.args.self.now) c.args.key c.args.self.now.frames.entries c.get_mut.follows.lender-at-none.entries c.args.change.now c.requires
     c.in-None.ensures.value (ap (λ m. m.entries) c.get_mut.follows.holds-at-none)
+
+pub returns-in-Some-clause-payload : goal.returns-in-Some-clause-payload
+returns-in-Some-clause-payload c = λ words all.
+    let g = c.change_frame.new.frame in
+    let es = c.args.self.now.frames.entries in
+    let here = is_at (owned_cmp c.args.key) in
+    holds-set (IsOfPayload words) here es (c.get_mut.follows.lender g).entries g (c.get_mut.follows.holds g).0 all
+    (c.change_frame.ensures.payload ∙ holds-found (IsOfPayload words) here es c.in-Some.frame.now c.in-Some.ensures.value all)

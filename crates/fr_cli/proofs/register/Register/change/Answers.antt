@@ -1,5 +1,5 @@
 use Rattle.std.proofs.Common.{subst, sym}
-use Rattle.fr_base.specs.Step.{add_node, change_rows, common, done, perform}
+use Rattle.fr_base.specs.Step.{add_node, change_rows, common, perform}
 use Rattle.fr_cli.specs.Answers.{Performs}
 use Rattle.fr_cli.specs.Registers.{book_of}
 use Rattle.fr_cli.proofs.AnswerLaws.{performs}

@@ -1,54 +1,18 @@
-use Rattle.std.proofs.Common.{◌≡◌, ◌∙◌, false, true, nat_le, Some, inr, refl, sym, ap, arith, rules, tests}
-use Rattle.std.proofs.lemmas.Bool.{le-leb, lt-leb}
-use Rattle.fr_base.specs.declared.limits.TheConstants.{MAX_PLACEMENTS}
-use Rattle.fr_base.specs.Tables.{get, len}
-use Rattle.fr_base.specs.Keys.{placement_order}
-use Rattle.fr_base.specs.Book.{granted}
-use Rattle.fr_world.specs.Amends.{grants_of}
-use Rattle.fr_world.specs.Pages.{frame_data, frame_of, own_rows_of}
-use Rattle.fr_world.proofs.DecideRows.{decide_open}
-use Rattle.fr_world.proofs.DecideSteps.{place-not_granted, place-limit, place-taken, place-free}
-use Rattle.fr_world.proofs.KeyLaws.{placement_cmp, placements_alike}
-use Rattle.fr_world.proofs.MapLaws.{len-set_of}
+use Rattle.std.proofs.Common.{◌≡◌, ◌∙◌, Ok, Err, inr, refl, sym, rules}
+use Rattle.fr_base.specs.Refusing.{◌>>◌}
+use Rattle.fr_world.specs.Pages.{own_rows_of}
+use Rattle.fr_world.proofs.DecideFilling.{refused-shown}
+use Rattle.fr_world.proofs.DecideSteps.{place-answer}
 use Rattle.fr_world.proofs.decision.placements.admit_placement.Goals as goal
 
-pub returns-in_err-row : goal.returns-in_err-row
-unfolding decide_open
-returns-in_err-row c = inr (search (rules, tests))
-
-pub returns-then-not-is_granted : goal.returns-then-not-is_granted
-returns-then-not-is_granted c =
-    let page = own_rows_of c.args.page.now in
-    let frame = frame_of (frame_data c.in_ok-row.row.now) in
-    let found : get page.frames (page.supplier, c.args.frame) ≡ Some frame = search (rules, tests) in
-    let none : granted page.grants page.supplier frame.node c.args.placement.now ≡ false = ap (λ es. granted (grants_of page.supplier es) page.supplier frame.node c.args.placement.now) (sym c.grants.ensures) ∙ sym (c.is_granted.ensures page.supplier) ∙ c.if-not-is_granted.true in
-    inr (place-not_granted page c.args.frame c.args.placement.now frame found none)
-
-pub returns-then-len-ge-MAX_PLACEMENTS : goal.returns-then-len-ge-MAX_PLACEMENTS
-returns-then-len-ge-MAX_PLACEMENTS c =
-    let page = own_rows_of c.args.page.now in
-    let frame = frame_of (frame_data c.in_ok-row.row.now) in
-    let found : get page.frames (page.supplier, c.args.frame) ≡ Some frame = search (rules, tests) in
-    let held : granted page.grants page.supplier frame.node c.args.placement.now ≡ true = ap (λ es. granted (grants_of page.supplier es) page.supplier frame.node c.args.placement.now) (sym c.grants.ensures) ∙ sym (c.is_granted.ensures page.supplier) ∙ c.if-not-is_granted.false in
-    let count : len frame.placements ≡ c.len.result = len-set_of placement_cmp placement_order (λ q. q) placements_alike c.in_ok-row.row.now.placements.keys c.len.ensures.ordered ∙ sym c.len.ensures.len in
-    inr (place-limit page c.args.frame c.args.placement.now frame found held (le-leb 8 (len frame.placements) (omega (arith, count))))
-
-pub returns-in-Some : goal.returns-in-Some
-returns-in-Some c =
-    let page = own_rows_of c.args.page.now in
-    let frame = frame_of (frame_data c.in_ok-row.row.now) in
-    let found : get page.frames (page.supplier, c.args.frame) ≡ Some frame = search (rules, tests) in
-    let held : granted page.grants page.supplier frame.node c.args.placement.now ≡ true = ap (λ es. granted (grants_of page.supplier es) page.supplier frame.node c.args.placement.now) (sym c.grants.ensures) ∙ sym (c.is_granted.ensures page.supplier) ∙ c.if-not-is_granted.false in
-    let count : len frame.placements ≡ c.len.result = len-set_of placement_cmp placement_order (λ q. q) placements_alike c.in_ok-row.row.now.placements.keys c.len.ensures.ordered ∙ sym c.len.ensures.len in
-    let room : nat_le MAX_PLACEMENTS (len frame.placements) ≡ false = lt-leb 8 (len frame.placements) (omega (arith, count)) in
-    inr (place-taken page c.args.frame c.args.placement.now frame found held room _ refl c.in-Some.taken (sym c.in-Some.is ∙ c.in_ok-taken.ensures.ok))
+pub returns-in_err-has_room : goal.returns-in_err-has_room
+unfolding ◌>>◌
+returns-in_err-has_room c =
+    let same : c.from_residual.result ≡ Err c.in_err-has_room.field-0.0 = search rules in
+    inr (same ∙ place-answer (own_rows_of c.args.page.now) c.args.frame c.args.placement.now (Err c.in_err-has_room.field-0.0) (sym c.in_err-has_room.was ∙ c.has_room.ensures) _ refl)
 
 pub returns : goal.returns
+unfolding ◌>>◌
 returns c =
-    let page = own_rows_of c.args.page.now in
-    let frame = frame_of (frame_data c.in_ok-row.row.now) in
-    let found : get page.frames (page.supplier, c.args.frame) ≡ Some frame = search (rules, tests) in
-    let held : granted page.grants page.supplier frame.node c.args.placement.now ≡ true = ap (λ es. granted (grants_of page.supplier es) page.supplier frame.node c.args.placement.now) (sym c.grants.ensures) ∙ sym (c.is_granted.ensures page.supplier) ∙ c.if-not-is_granted.false in
-    let count : len frame.placements ≡ c.len.result = len-set_of placement_cmp placement_order (λ q. q) placements_alike c.in_ok-row.row.now.placements.keys c.len.ensures.ordered ∙ sym c.len.ensures.len in
-    let room : nat_le MAX_PLACEMENTS (len frame.placements) ≡ false = lt-leb 8 (len frame.placements) (omega (arith, count)) in
-    inr (place-free page c.args.frame c.args.placement.now frame found held room _ refl (sym c.in-None.is ∙ c.in_ok-taken.ensures.ok))
+    inr (place-answer (own_rows_of c.args.page.now) c.args.frame c.args.placement.now (Ok c.in_ok-has_room.field-0) (sym c.in_ok-has_room.was ∙ c.has_room.ensures)
+    c.is_free.result (c.is_free.ensures ∙ refused-shown _ _ c.args.placement.now c.in_ok-fill_page.ensures.ok))

@@ -1,0 +1,61 @@
+-- A refusal changes nothing.
+use Rattle.std.proofs.Common.{◌≡◌, ℕ, true, Option, Some, None, Result, Ok, Err, IfOk, refl}
+use Rattle.fr_base.specs.Tables.{get}
+use Rattle.fr_base.specs.Checks.{check}
+use Rattle.fr_base.specs.Cluster.{Cluster}
+use Rattle.fr_base.specs.Book.{Kept, Book}
+use Rattle.fr_base.specs.Queries.{reply}
+use Rattle.fr_base.specs.Step.{Outcome, RefusedAt, knows, common, add_node, change_rows, done, perform, imported, import, act, outcome, step}
+use Rattle.fr_base.specs.Alone.{is_refused}
+use Rattle.fr_base.specs.declared.params.Params.{Params}
+use Rattle.fr_base.specs.declared.refusal.Refusal.{Refusal}
+use Rattle.fr_base.specs.declared.actor.Actor.{Actor}
+use Rattle.fr_base.specs.declared.request.Request.{Request}
+use Rattle.fr_base.specs.declared.request.Command.{Command}
+use Rattle.fr_base.specs.declared.request.Command.TheVariants.{Common, AddNode, Rows}
+use Rattle.fr_base.specs.declared.request.Import.{Import}
+use Rattle.fr_base.specs.declared.request.Checked.{Checked}
+use Rattle.fr_base.specs.declared.request.Checked.TheVariants as checked
+use Rattle.fr_base.proofs.SoundRefusing.{gives_or, gives_each, gives_when, gives_unless}
+
+module _ (b : Book) where
+  -- a refusal leaves the book
+  abbrev Unchanged : Outcome → Type 0
+  Unchanged o = is_refused o.answer ≡ true → o.book ≡ b
+
+  perform-unchanged : (p : Params) (command : Command) → IfOk (perform p b command) Unchanged
+  unfolding perform done
+  perform-unchanged p (Common command) = gives_each _ (common b command) _ (λ after _ refused. cc)
+  perform-unchanged p (AddNode s n) = gives_each _ (add_node b s n) _ (λ after _ refused. cc)
+  perform-unchanged p (Rows s v what) = gives_each _ (change_rows p b s v what) _ (λ after _ refused. cc)
+
+  imported-unchanged : (i : Import) (count : ℕ) (r : Result Book RefusedAt) → Unchanged (imported b i count r)
+  unfolding imported
+  imported-unchanged i count (Ok d) refused = cc
+  imported-unchanged i count (Err fault) refused = refl
+
+  import-unchanged : (p : Params) (i : Import) (kept : Option Kept) → IfOk (import p b i kept) Unchanged
+  unfolding import
+  import-unchanged p i None =
+      gives_or _ (get b.variants i.variant) _ _ (λ x _.
+      gives_when _ _ _ _ (λ _.
+      gives_when _ _ _ _ (λ _.
+      gives_when _ _ _ _ (λ _. imported-unchanged i _ _))))
+  import-unchanged p i (Some one) = gives_unless _ _ _ _ (λ _ refused. refl)
+
+  act-unchanged : (c : Cluster) (actor : Actor) (what : Checked) → IfOk (act c b actor what) Unchanged
+  unfolding act
+  act-unchanged c actor (checked.Command command) = perform-unchanged c.params command
+  act-unchanged c actor (checked.Import i) = import-unchanged c.params i (get b.imports (i.supplier, i.label))
+  act-unchanged c actor (checked.Query query) = gives_each _ (reply c.params b actor query) _ (λ rows _ refused. refl)
+
+  outcome-unchanged : (r : Result Outcome Refusal) → IfOk r Unchanged → Unchanged (outcome b r)
+  unfolding outcome
+  outcome-unchanged (Ok o) h = h
+  outcome-unchanged (Err e) h = λ refused. refl
+
+pub step-unchanged : (c : Cluster) (b : Book) (actor : Actor) (request : Request) → is_refused (step c b actor request).answer ≡ true → (step c b actor request).book ≡ b
+unfolding step
+step-unchanged c b actor request = outcome-unchanged b _ (
+    gives_unless _ _ (knows b actor) _ (λ _.
+    gives_each _ (check c.params actor request) _ (λ what _. act-unchanged b c actor what)))

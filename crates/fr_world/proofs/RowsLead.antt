@@ -1,0 +1,104 @@
+-- A page takes the edits that rows are decided to.
+use Rattle.std.proofs.Common.{◌≡◌, ◌≤◌, ◌++◌, List, [], ◌∷◌, Option, Some, None, Ok, IfOk, refl, sym, subst}
+use Rattle.std.specs.List.{AllByRecursion}
+use Rattle.std.proofs.lemmas.List.Elements.{recursion_from_All}
+use Rattle.fr_base.specs.Tables.{get}
+use Rattle.fr_base.specs.Names.{same_text}
+use Rattle.fr_base.specs.Parameters.{check_params}
+use Rattle.fr_base.specs.Book.{Frame}
+use Rattle.fr_base.specs.Step.{OwnRows}
+use Rattle.fr_base.specs.declared.import.Row.{Row}
+use Rattle.fr_base.specs.declared.import.Row.TheVariants as row
+use Rattle.fr_base.specs.declared.import.RowRead.{RowRead}
+use Rattle.fr_base.specs.declared.name.Name.{Name}
+use Rattle.fr_base.specs.declared.params.Params.{Params}
+use Rattle.fr_base.specs.declared.request.Change.{Change}
+use Rattle.fr_base.specs.declared.request.Change.TheVariants as change
+use Rattle.fr_base.specs.declared.request.FrameChange.TheVariants.{Add, Place, AddSignal}
+use Rattle.fr_base.proofs.ParametersLaws.{few_words}
+use Rattle.fr_base.proofs.SoundRefusing.{gives_bind, gives_next, gives_unless}
+use Rattle.fr_base.proofs.SoundImports.{at_line-gives}
+use Rattle.fr_world.specs.Decisions.{IsChecked, admits_alone}
+use Rattle.fr_world.specs.Edits.{FitsPage, FitsRows, Leads, Takes, all_edited, edited, rows_after}
+use Rattle.fr_world.specs.Pages.{IsKept, IsPage, PageData, own_rows_of}
+use Rattle.fr_world.specs.RowDecisions.{AreChecked, DraftData, IsCheckedRow, draft_of, make, make_frame, make_read, make_row, make_rows, rows_decision, with_frame}
+use Rattle.fr_world.specs.declared.edit.Edit.{Edit}
+use Rattle.fr_world.specs.declared.edit.Edit.TheVariants.{Rows}
+use Rattle.fr_world.proofs.LeadsLaws.{rows-leave}
+
+module _ (v : Name) where
+  -- one edit more
+  leads-more : (page mid : OwnRows) (edits : List Edit) (edit : Edit) → Leads v page edits mid → Takes v mid edit → FitsPage mid edit → Leads v page (edits ++ edit ∷ []) (edited mid edit)
+  leads-more page mid [] edit led takes fits =
+      subst (λ (m : OwnRows). Takes v m edit × FitsPage m edit × (edited mid edit ≡ edited m edit)) led (takes, fits, refl)
+  leads-more page mid (e ∷ edits) edit led takes fits = (led.0, led.1, leads-more (edited page e) mid edits edit led.2 takes fits)
+
+  -- where edits lead
+  leads-last : (page last : OwnRows) (edits : List Edit) → Leads v page edits last → last ≡ all_edited page edits
+  leads-last page last [] led = led
+  leads-last page last (e ∷ edits) led = leads-last (edited page e) last edits led.2
+
+module _ (v : Name) (start : OwnRows) (words : start.params.payload_words ≤ 127) where
+  -- the edits led to the page, and its parameters are those of the start
+  record IsLed (d : DraftData) : Type 0 where
+    variant : d.variant ≡ v
+    params : d.page.params ≡ start.params
+    leads : Leads v start d.edits d.page
+    page : IsPage d.page
+
+  make-led : (d : DraftData) → IsLed d → (what : Change) → IsChecked start.params what → IfOk (make d what) IsLed
+  unfolding make edited
+  make-led d led what checked =
+      gives_next _ _ (admits_alone d.page what) _
+      (rows-leave d.page led.page (subst (λ (p : Params). p.payload_words ≤ 127) (sym led.params) words) what (subst (λ p. IsChecked p what) (sym led.params) checked))
+      (λ _ leaves. record {
+        variant = led.variant;
+        params = led.params;
+        leads = leads-more v start d.page d.edits _ led.leads (record { own = (refl, led.variant); leaves = leaves.1 }) leaves.0;
+        page = leaves.1;
+      })
+
+  frame-led : (d : DraftData) → IsLed d → (f n : Name) (there : Option Frame) → IfOk (with_frame d f n there) IsLed
+  unfolding with_frame
+  frame-led d led f n None = make-led d led (change.Frame f (Add n)) tt
+  frame-led d led f n (Some frame) = gives_unless _ _ (same_text frame.node n) _ (λ _. led)
+
+  row-led : (d : DraftData) → IsLed d → (r : Row) → IsCheckedRow start.params r → IfOk (make_row d r) IsLed
+  unfolding make_row make_frame
+  row-led d led (row.Place f n q) checked =
+      gives_bind _ IsLed (make_frame d f n) _
+      (gives_unless _ _ _ _ (λ _. frame-led d led f n (get d.page.frames (d.page.supplier, f))))
+      (λ e framed. make-led e framed (change.Frame f (Place q)) checked)
+  row-led d led (row.AddSignal f signal) checked = make-led d led (change.Frame f (AddSignal signal)) checked
+
+  read-led : (d : DraftData) → IsLed d → (read : RowRead) → IfOk read.row (IsCheckedRow start.params) → IfOk (make_read d read) IsLed
+  unfolding make_read
+  read-led d led read checked = at_line-gives IsLed read.line _ (gives_bind IsLed (IsCheckedRow start.params) read.row _ checked (λ r fine. row-led d led r fine))
+
+  rows-led : (reads : List RowRead) (d : DraftData) → IsLed d → AllByRecursion (λ read. IfOk read.row (IsCheckedRow start.params)) reads → IfOk (make_rows d reads) IsLed
+  unfolding make_rows
+  rows-led [] d led checked = led
+  rows-led (read ∷ rest) d led checked = gives_bind IsLed IsLed (make_read d read) _ (read-led d led read checked.0) (λ e next. rows-led rest e next checked.1)
+
+module _ (rows : PageData) (params : check_params rows.params ≡ Ok rows.params) (kept : IsKept rows) (reads : List RowRead) (checked : AreChecked rows.params reads) where
+  abbrev page : OwnRows
+  page = own_rows_of rows
+
+  decided : IfOk (rows_decision rows reads) (λ edits. Leads rows.variant page edits (all_edited page edits))
+  unfolding rows_decision
+  decided =
+      let words = few_words rows.params params in
+      gives_bind _ (IsLed rows.variant page words) (make_rows (draft_of rows) reads) _
+      (rows-led rows.variant page words reads (draft_of rows) (record { variant = refl; params = refl; leads = refl; page = kept.page }) (recursion_from_All _ reads checked))
+      (λ d led. subst (Leads rows.variant page d.edits) (leads-last rows.variant page d.page d.edits led.leads) led.leads)
+
+pub rows-lead : (rows : PageData) (reads : List RowRead) (edits : List Edit) → check_params rows.params ≡ Ok rows.params → IsKept rows → AreChecked rows.params reads → rows_decision rows reads ≡ Ok edits →
+    Leads rows.variant (own_rows_of rows) edits (all_edited (own_rows_of rows) edits)
+rows-lead rows reads edits params kept checked e = subst (λ r. IfOk r (λ es. Leads rows.variant (own_rows_of rows) es (all_edited (own_rows_of rows) es))) e (decided rows params kept reads checked)
+
+-- a page takes a change that it admits
+pub change-takes : (rows : PageData) → check_params rows.params ≡ Ok rows.params → IsKept rows → (what : Change) → IsChecked rows.params what → admits_alone (own_rows_of rows) what ≡ Ok tt →
+    Takes rows.variant (own_rows_of rows) (Rows rows.supplier rows.variant what)
+unfolding edited
+change-takes rows params kept what checked admitted =
+    record { own = (refl, refl); leaves = (subst (λ r. IfOk r (λ _. FitsRows (own_rows_of rows) what × IsPage (rows_after what (own_rows_of rows)))) admitted (rows-leave (own_rows_of rows) kept.page (few_words rows.params params) what checked)).1 }

@@ -1,0 +1,62 @@
+use Rattle.std.proofs.Common.{◌≡◌, ◌∙◌, ◌+◌, ◌∷◌, [], Ok, Err, IfErr, IfOk, drop, sym, ap, subst, rules, arith}
+use Rattle.std.proofs.lemmas.List.{drop_more, drop_all}
+use Rattle.fr_base.specs.Refusing.{◌>>=◌}
+use Rattle.fr_base.specs.Parameters.{check_params}
+use Rattle.fr_base.specs.declared.import.RowRead.{RowRead}
+use Rattle.fr_world.specs.Drafts.{draft_data}
+use Rattle.fr_world.specs.RowDecisions.{IsCheckedRow, draft_of, make_rows, rows_decision}
+use Rattle.fr_world.specs.RowFaults.{IsFault}
+use Rattle.fr_world.proofs.DraftRows.{fault-on, read-params, rows-fault, rows-next}
+use Rattle.fr_world.proofs.RowsLead.{rows-lead}
+use Rattle.fr_world.proofs.decision.import_rows.decide_rows.Goals as goal
+
+pub loop-read-init : goal.loop-read-init
+loop-read-init c =
+    let both = c.in-Ok.ensures.ok in
+    (ap (λ d. make_rows d c.args.rows.now) (sym both.1), both.0, ap (λ d. d.page.params) both.1)
+
+pub make_read-requires-clause-draft : goal.make_read-requires-clause-draft
+make_read-requires-clause-draft c = c.loop-read.invariant.1
+
+pub make_read-requires-clause-checked : goal.make_read-requires-clause-checked
+make_read-requires-clause-checked c =
+    subst (λ p. IfOk c.read-item.result.row (IsCheckedRow p)) (sym c.loop-read.invariant.2)
+    (subst (λ (r : RowRead). IfOk r.row (IsCheckedRow c.args.page.params)) (sym c.read-item.is) (c.requires.checked c.loop-read.read-index c.read-item.result c.loop-read-test.true))
+
+pub returns-in_err-make_read-clause-fault : goal.returns-in_err-make_read-clause-fault
+unfolding rows_decision
+returns-in_err-make_read-clause-fault c =
+    let rows = c.args.rows.now in
+    let i = c.loop-read.read-index in
+    let e = c.in_err-make_read.field-0.0 in
+    let next : drop i rows ≡ c.read-item.result ∷ drop (i + 1) rows = drop_more rows i c.read-item.result c.loop-read-test.true ∙ ap (λ r. r ∷ drop (i + 1) rows) (sym c.read-item.is) in
+    let same : c.from_residual.result ≡ Err e = search rules in
+    subst (λ r. IfErr r (IsFault (rows_decision c.args.page rows))) (sym same)
+    (fault-on (make_rows (draft_of c.args.page) rows) _ e
+    (subst (λ r. IsFault r e) (sym (c.loop-read.invariant.0 ∙ ap (make_rows (draft_data c.loop-read.draft)) next))
+    (rows-fault (draft_data c.loop-read.draft) c.read-item.result (drop (i + 1) rows) e c.in_err-make_read.ensures.fault)))
+
+pub loop-read-preserved : goal.loop-read-preserved
+loop-read-preserved c =
+    let rows = c.args.rows.now in
+    let i = c.loop-read.read-index in
+    let d = draft_data c.loop-read.draft in
+    let m = draft_data c.make_read.new.draft in
+    let next : drop i rows ≡ c.read-item.result ∷ drop (i + 1) rows = drop_more rows i c.read-item.result c.loop-read-test.true ∙ ap (λ r. r ∷ drop (i + 1) rows) (sym c.read-item.is) in
+    let made = c.in_ok-make_read.ensures.ok in (
+      c.loop-read.invariant.0 ∙ ap (make_rows d) next ∙ rows-next d m c.read-item.result (drop (i + 1) rows) made.1,
+      made.0,
+      read-params d m c.read-item.result made.1 ∙ c.loop-read.invariant.2,
+    )
+
+pub returns-clause-edits : goal.returns-clause-edits
+unfolding rows_decision make_rows ◌>>=◌
+returns-clause-edits c =
+    let d = draft_data c.loop-read.draft in
+    let over = c.loop-read-test.false in
+    let none : drop c.loop-read.read-index c.args.rows.now ≡ [] = drop_all c.loop-read.read-index c.args.rows.now (omega (arith, over)) in
+    ap (λ r. r >>= λ last. Ok last.edits) (c.loop-read.invariant.0 ∙ ap (make_rows d) none)
+
+pub returns-clause-leads : goal.returns-clause-leads
+returns-clause-leads c =
+    rows-lead c.args.page c.args.rows.now c.loop-read.draft.edits.items (subst (λ p. check_params p ≡ Ok p) c.params.ensures c.raw-raw.ensures.checked) c.frames-frames.ensures.kept c.requires.checked (returns-clause-edits c)

@@ -1,0 +1,73 @@
+//! What the rows of an import are decided to, on the supplier's page.
+ghost use Rattle.std.specs.Prelude.{◌≡◌, ◌⊎◌, false, Ok, Err, IfOk, IfErr, OnOk};
+ghost use Rattle.fr_world.specs.Edits.{Leads, all_edited};
+ghost use Rattle.fr_world.specs.Drafts.{IsDraft, draft_data};
+ghost use Rattle.fr_world.specs.Pages.{own_rows_of};
+ghost use Rattle.fr_world.specs.RowDecisions.{AreChecked, IsCheckedRow, make_read, rows_decision};
+ghost use Rattle.fr_world.specs.RowFaults.{IsFault};
+
+use super::draft::Draft;
+use crate::edit::Edit;
+use crate::page::Page;
+use fr_base::{Refusal, RowRead};
+use std::alloc::Global;
+
+/// Why the rows of an import were not carried out.
+#[derive(Clone, Copy, Debug, PartialEq, Eq)]
+pub enum RowFault {
+    /// A row was refused.
+    Row {
+        /// The row's place among the file's records, of which the header is the first.
+        line: u32,
+        /// The first refusal that applies.
+        refusal: Refusal,
+    },
+    /// Memory was refused.
+    Unavailable,
+}
+
+/// The edits that lead the page to what the rows of an import make of it, or the first row that is
+/// refused. Each row is decided on the page that those before it left: a row is refused by its own text,
+/// or, of
+///
+/// - placements: `NoNode`; then, where the frame is not there yet, `Limit`, or else `NodeDiffers`; then
+///   the placement's `NotGranted`, `Limit`, `CellTaken`;
+/// - signals: `NoFrame`, `Exists`, `Limit`, `OutOfPayload`, `BitTaken`.
+///
+/// The page, whose variant is open, is given up, and the rows were read under its parameters.
+pub fn decide_rows(alloc: Global, page: Page, rows: &[RowRead]) -> Result<Vec<Edit>, RowFault>
+    requires open { page.released ≡ false }
+    requires checked { AreChecked page.params rows.now }
+    ensures edits { IfOk result (λ edits. rows_decision page rows.now ≡ Ok edits.items) }
+    ensures leads { IfOk result (λ edits. Leads page.variant (own_rows_of page) edits.items (all_edited (own_rows_of page) edits.items)) }
+    ensures fault { IfErr result (IsFault (rows_decision page rows.now)) }
+{
+    // They give the proof that the parameters make a cluster, and that the page's rows are kept.
+    let (_raw, _frames) = (page.params().raw(), page.frames());
+    let Ok(mut draft) = Draft::new(alloc, page) else {
+        return Err(RowFault::Unavailable);
+    };
+    for read in rows {
+        make_read(alloc, &mut draft, read)?;
+    }
+    Ok(draft.edits)
+}
+
+// What the row does, as it was read.
+fn make_read(alloc: Global, draft: &mut Draft, read: &RowRead) -> Result<(), RowFault>
+    requires draft { IsDraft draft.old }
+    requires checked { IfOk read.now.row (IsCheckedRow draft.old.page.params) }
+    ensures ok { OnOk result (IsDraft draft.new × (make_read (draft_data draft.old) read.now ≡ Ok (draft_data draft.new))) }
+    ensures fault { IfErr result (IsFault (make_read (draft_data draft.old) read.now)) }
+{
+    let line = read.line;
+    let row = match read.row {
+        Ok(row) => row,
+        Err(refusal) => return Err(RowFault::Row { line, refusal }),
+    };
+    match draft.make_row(alloc, &row) {
+        Ok(()) => Ok(()),
+        Err(refusal) if refusal == Refusal::Unavailable => Err(RowFault::Unavailable),
+        Err(refusal) => Err(RowFault::Row { line, refusal }),
+    }
+}
