@@ -1,6 +1,7 @@
 -- What asking for the number of the register does.
 use Rattle.std.proofs.Common.{◌≡◌, ◌≢◌, ◌⊎◌, inl, inr, ℕ, ℤ, List, [], ◌∷◌, map, filter, true, None, Some, Ok, Err, Result, IfOk, IfErr, IfSome, IsTrue, refl, sym, ap, subst, ◌∙◌}
-use Rattle.std.specs.Prelude.{Vec, Option}
+use Rattle.std.specs.Prelude.{Vec, Option, Bool}
+use Rattle.std.specs.declared.cmp.Ordering.{Ordering}
 use Rattle.std.specs.declared.alloc.Global.{Global}
 use Rattle.std.specs.List.Sorted.{IsPermutation}
 use Rattle.std.proofs.lemmas.List.Sorted.{IsPermutation-map, IsPermutation-sym}
@@ -20,7 +21,9 @@ use Rattle.sqlite.specs.declared.error.Error.TheVariants.{SqlInputError}
 use Rattle.sqlite.proofs.Callers.{IsPlain, one_permutation}
 use Rattle.fr_store.specs.Schema.{register_schema}
 use Rattle.fr_store.specs.Rows.{RegisterRow}
-use Rattle.fr_store.specs.Tables.{HasTables, tables_in}
+use Rattle.fr_store.specs.Tables.{HasTables, AreKept, tables_in}
+use Rattle.fr_store.specs.Changes.{AreListed}
+use Rattle.fr_store.proofs.FindLemmas.{Queries}
 use Rattle.fr_store.specs.Statements.{shows_register, every}
 use Rattle.fr_store.specs.Opening.{number_text, numbered, HasNumber}
 use Rattle.fr_store.specs.Rows.{of_register, register_in}
@@ -63,11 +66,11 @@ module _ (sql : List ℕ) (old new : State) (inside : old.in_transaction ≡ tru
 
 -- what was asked inside is undone
 pub as_before : (old mid new : State) → (IsTrue old.is_open → old.now ≡ old.committed) → KeepsCommit old mid → IsRolledBack mid new → IsTrue new.is_open
-    → (new.now ≡ old.now) × (new.committed ≡ old.committed)
+    → IsTrue old.is_open × (new.now ≡ old.now) × (new.committed ≡ old.committed)
 as_before old mid new settled kept undone up =
     let there = undone.was_open up in
     let same = kept.committed there in
-    ((undone.undone up).0 ∙ same ∙ sym (settled (kept.was_open there)), (undone.undone up).1 ∙ same)
+    (kept.was_open there, (undone.undone up).0 ∙ same ∙ sym (settled (kept.was_open there)), (undone.undone up).1 ∙ same)
 
 -- ---- of a register
 
@@ -116,15 +119,31 @@ no_text_error old new e x was (inl (inr h)) is =
     absurd (read_is_no_text _ h.0.command refused.0 _ e x refused.2 is)
 no_text_error old new e x was (inr h) is = absurd (let k = h.4 in cc)
 
-pub asked_shown : (old begun mid : State) (r : Result (Vec Row Global) Error) → begun.now ≡ old.now → HasTables old.now → IfOk r (λ rows. Shown number_text [] begun mid rows.items)
+pub asked_shown : (sql : List ℕ) (old begun mid : State) (r : Result (Vec Row Global) Error) → sql ≡ number_text → begun.now ≡ old.now → HasTables old.now → IfOk r (λ rows. Shown sql [] begun mid rows.items)
     → IfOk r (λ rows. IsPermutation (map shows_register (tables_in old.now.trees).register) rows.items)
-asked_shown old begun mid (Ok rows) same was h = subst (λ (d : Database). IsPermutation (map shows_register (tables_in d.trees).register) rows.items) same (numbers_shown begun mid rows.items (rw same was) h)
-asked_shown old begun mid (Err e) same was h = tt
+asked_shown sql old begun mid (Ok rows) text same was h =
+    subst (λ (d : Database). IsPermutation (map shows_register (tables_in d.trees).register) rows.items) same
+    (numbers_shown begun mid rows.items (subst HasTables (sym same) was) (subst (λ t. Shown t [] begun mid rows.items) text h))
+asked_shown sql old begun mid (Err e) text same was h = tt
 
-pub asked_told : (old begun mid : State) (r : Result (Vec Row Global) Error) → begun.now ≡ old.now → HasTables old.now
-    → IfErr r (λ e. FailsToQuery number_text [] begun mid e ⊎ IsTooLate number_text [] begun mid e) → IfErr r (λ e. (x : CompileError) → e ≢ SqlInputError x)
-asked_told old begun mid (Ok rows) same was h = tt
-asked_told old begun mid (Err e) same was h = λ x. no_text_error begun mid e x (rw same was) h
+pub asked_told : (sql : List ℕ) (old begun mid : State) (r : Result (Vec Row Global) Error) → sql ≡ number_text → begun.now ≡ old.now → HasTables old.now
+    → IfErr r (λ e. FailsToQuery sql [] begun mid e ⊎ IsTooLate sql [] begun mid e) → IfErr r (λ e. (x : CompileError) → e ≢ SqlInputError x)
+asked_told sql old begun mid (Ok rows) text same was h = tt
+asked_told sql old begun mid (Err e) text same was h = λ x. no_text_error begun mid e x (subst HasTables (sym same) was) (subst (λ t. FailsToQuery t [] begun mid e ⊎ IsTooLate t [] begun mid e) text h)
+
+-- what is asked of another table
+module _ {X : Type 0} (columns shows : X → Row) (read : Row → X) (passes : X → Bool) (cmp : X → X → Ordering) (tree : ℕ) (text : List ℕ) (q : Queries columns shows passes cmp tree text []) where
+  rows_listed : (begun mid : State) (rows : List Row) → HasTables begun.now → AreKept columns read (begun.now.trees tree) → Shown text [] begun mid rows → AreListed shows passes cmp (map read (begun.now.trees tree)) rows
+  rows_listed begun mid rows was kept h =
+      let scans = reads register_schema text tree q.tests q.order q.project q.is [] begun mid rows was.schema h (stored_as columns) (map (known read) (begun.now.trees tree)) (all_known columns read (begun.now.trees tree) kept.typed) in
+      listed columns shows read passes cmp (begun.now.trees tree) [] q.tests q.order q.project rows q.tested q.compared q.projected scans
+
+  pub asked_listed : (sql : List ℕ) (old begun mid : State) (r : Result (Vec Row Global) Error) → sql ≡ text → begun.now ≡ old.now → HasTables old.now → AreKept columns read (old.now.trees tree)
+      → IfOk r (λ rows. Shown sql [] begun mid rows.items) → IfOk r (λ rows. AreListed shows passes cmp (map read (old.now.trees tree)) rows.items)
+  asked_listed sql old begun mid (Ok rows) is same was kept h =
+      subst (λ (d : Database). AreListed shows passes cmp (map read (d.trees tree)) rows.items) same
+      (rows_listed begun mid rows.items (subst HasTables (sym same) was) (subst (λ (d : Database). AreKept columns read (d.trees tree)) (sym same) kept) (subst (λ t. Shown t [] begun mid rows.items) is h))
+  asked_listed sql old begun mid (Err e) is same was kept h = tt
 
 one_number : (xs : List RegisterRow) (n : ℤ) → map shows_register xs ≡ shows_register (numbered n) ∷ [] → xs ≡ numbered n ∷ []
 one_number [] n e = absurd cc

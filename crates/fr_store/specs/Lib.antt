@@ -7,3 +7,8 @@ pub mod Statements
 pub mod Making
 pub mod Opening
 pub mod Filling
+pub mod Store
+pub mod StoreFiles
+pub mod StandsFor
+pub mod Reading
+pub mod Paging

@@ -1,29 +1,144 @@
 //! Makes a register.
 
-ghost use Rattle.std.specs.Prelude.{◌≡◌, ◌≤◌, OnOk, false};
-ghost use Rattle.sqlite.specs.State.{HasCleanDisk};
+ghost use Rattle.std.specs.Prelude.{◌≡◌, IsTrue, IfOk, IfErr, OnOk, OnErr, false};
+ghost use Rattle.std.specs.List.{list_any};
+ghost use Rattle.sqlite_schema.specs.Names.{same_name};
+ghost use Rattle.sqlite.specs.State.{HasCleanDisk, Survives};
 ghost use Rattle.sqlite.specs.Held.{state};
-ghost use Rattle.sqlite_trees.specs.View.{doubt};
-ghost use Rattle.fr_store.specs.Changes.{tables_of};
+ghost use Rattle.sqlite.specs.Steps.{over_memory};
 ghost use Rattle.fr_store.specs.Filling.{with_config};
 ghost use Rattle.fr_store.specs.Making.{IsFresh, no_rows};
-ghost use Rattle.fr_store.specs.Tables.{HasTables};
+ghost use Rattle.fr_store.specs.Opening.{AreAsBefore};
+ghost use Rattle.fr_store.specs.Schema.{schema_of};
+ghost use Rattle.fr_store.specs.Store.{IsNewOf, MakesNew, Forbids, is_ours, has_table};
+ghost use Rattle.fr_store.specs.Tables.{tables_in};
+ghost use Rattle.fr_store.specs.declared.fault.StoreFault.TheVariants as fault;
 
-use crate::{filling, making};
+use crate::fault::StoreFault;
+use crate::store::Store;
+use crate::{cluster, filling, making};
 use fr_base::Config;
-use sqlite::{Alter, Connection, Error};
+use sqlite::{Alter, Connection, Error, MemStore, Transaction};
+use sqlite_schema::names::same_name;
+use sqlite_schema::schema::Schema;
+use std::alloc::Global;
 
-/// Makes the tables of a register of this cluster, in a database with none: all of it, or nothing.
-pub fn create<S: Alter>(conn: &mut Connection<S>, config: &Config) -> Result<(), Error>
-    requires { conn.old.in_transaction ≡ false }
-    ensures has { HasCleanDisk (state S.Store conn.new) → IsFresh 0 0 (state S.Store conn.old).now → OnOk result (HasTables (state S.Store conn.new).now) }
-    ensures rows { HasCleanDisk (state S.Store conn.new) → IsFresh 0 0 (state S.Store conn.old).now → OnOk result (tables_of (state S.Store conn.new) ≡ with_config config.now no_rows) }
-    ensures committed { HasCleanDisk (state S.Store conn.new) → OnOk result ((state S.Store conn.new).committed ≡ (state S.Store conn.new).now) }
-    ensures autocommit { conn.new.in_transaction ≡ false }
-    ensures clean { doubt (state S.Store conn.old).is_clean ≤ doubt (state S.Store conn.new).is_clean }
+/// Makes the tables and the rows of a new register.
+fn all<S: Alter>(tx: &mut Transaction<'_, S>, config: &Config) -> Result<(), Error>
+    ensures same_reference { tx.new.conn.ghost_name ≡ tx.old.conn.ghost_name }
+    ensures made { MakesNew config.now (state S.Store tx.old.conn.now) (state S.Store tx.new.conn.now) result }
+    ensures survives { Survives (state S.Store tx.old.conn.now) (state S.Store tx.new.conn.now) (λ _. ⊥) }
 {
+    making::all(tx)?;
+    filling::config(tx, config)
+}
+
+/// Makes a register of this cluster, in a database with no table: all of it, or nothing.
+fn create<S: Alter>(conn: &mut Connection<S>, config: &Config) -> Result<(), Error>
+    requires { conn.old.in_transaction ≡ false }
+    ensures made { HasCleanDisk (state S.Store conn.new) → IsFresh 0 0 (state S.Store conn.old).now → OnOk result (IsNewOf config.now (state S.Store conn.new).now) }
+    ensures committed { HasCleanDisk (state S.Store conn.new) → OnOk result ((state S.Store conn.new).committed ≡ (state S.Store conn.new).now) }
+    ensures undone { HasCleanDisk (state S.Store conn.new) → IsFresh 0 0 (state S.Store conn.old).now → OnErr result (AreAsBefore (state S.Store conn.old) (state S.Store conn.new)) }
+    ensures autocommit { conn.new.in_transaction ≡ false }
+    ensures survives { IsFresh 0 0 (state S.Store conn.old).now → Survives (state S.Store conn.old) (state S.Store conn.new) (λ db. tables_in db ≡ with_config config.now no_rows) }
+{
+    let _settled = conn.is_autocommit();
     let mut tx = conn.transaction();
-    making::all(&mut tx)?;
-    filling::config(&mut tx, config)?;
+    all(&mut tx, config)?;
     tx.commit()
+}
+
+const NAMES: [&str; 11] = [
+    "register",
+    "cluster",
+    "suppliers",
+    "nodes",
+    "variants",
+    "grants",
+    "frames",
+    "placements",
+    "signals",
+    "imports",
+    "dropped",
+];
+
+fn is_among(names: &[&str], name: &[u8]) -> bool
+    ensures { result ≡ list_any (λ ours. same_name ours.now name.now) names.now }
+{
+    names.iter().any(|ours| same_name(ours.as_bytes(), name))
+}
+
+/// Whether one of a register's tables has this name.
+fn is_ours(name: &[u8]) -> bool
+    ensures { result ≡ is_ours name.now }
+{
+    is_among(&NAMES, name)
+}
+
+/// Whether one of a register's tables is there.
+fn has_table(schema: &Schema) -> bool
+    ensures { result ≡ has_table schema.now }
+{
+    let mut tables = schema.tables.as_slice().iter();
+    tables.any(|table| is_ours(table.name.as_slice()))
+}
+
+/// Whether nothing is there.
+fn is_bare(schema: &Schema) -> bool
+    ensures { IsTrue result → schema.now ≡ schema_of 0 0 }
+{
+    schema.tables.is_empty() && schema.indexes.is_empty() && schema.views.is_empty()
+}
+
+impl<S: Alter + Drop> Store<S> {
+    /// Makes a register of this cluster, where no table is. It is NotEmpty where one of a register's
+    /// tables is there already. A refusal hands the connection back, its tables as they were.
+    pub fn create_on(
+        alloc: Global,
+        mut conn: Connection<S>,
+        config: &Config,
+    ) -> Result<Store<S>, (StoreFault, Connection<S>)>
+        ensures made { IfOk result (λ s. HasCleanDisk (state S.Store s.conn) → IsNewOf config.now (state S.Store s.conn).now) }
+        ensures committed { IfOk result (λ s. HasCleanDisk (state S.Store s.conn) → (state S.Store s.conn).committed ≡ (state S.Store s.conn).now) }
+        ensures config { IfOk result (λ s. s.config ≡ config.now) }
+        ensures outside { IfOk result (λ s. s.conn.in_transaction ≡ false) }
+        ensures survives { IfOk result (λ s. Survives (state S.Store conn) (state S.Store s.conn) (λ db. tables_in db ≡ with_config config.now no_rows)) }
+        ensures told { IfErr result (λ e. Forbids (state S.Store conn).now.schema e.0) }
+        ensures untouched { IfErr result (λ e. e.0 ≡ fault.NotEmpty → e.1 ≡ conn) }
+        ensures unharmed { IfErr result (λ e. HasCleanDisk (state S.Store e.1) → AreAsBefore (state S.Store conn) (state S.Store e.1)) }
+        ensures outside_still { IfErr result (λ e. conn.in_transaction ≡ false → e.1.in_transaction ≡ false) }
+        ensures survives_still { IfErr result (λ e. Survives (state S.Store conn) (state S.Store e.1) (λ db. tables_in db ≡ with_config config.now no_rows)) }
+    {
+        if has_table(conn.schema()) {
+            return Err((StoreFault::NotEmpty, conn));
+        }
+        if !conn.is_autocommit() || !is_bare(conn.schema()) {
+            return Err((StoreFault::Unavailable, conn));
+        }
+        let Ok(config) = cluster::copied(alloc, config) else {
+            return Err((StoreFault::Unavailable, conn));
+        };
+        match create(&mut conn, &config) {
+            Ok(()) => Ok(Store { conn, config }),
+            Err(_) => Err((StoreFault::Unavailable, conn)),
+        }
+    }
+}
+
+impl Store<MemStore> {
+    /// A register of this cluster in memory.
+    pub fn create_in_memory(alloc: Global, config: &Config) -> Result<Store<MemStore>, StoreFault>
+        ensures made { IfOk result (λ s. IsNewOf config.now (state over_memory s.conn).now) }
+        ensures config { IfOk result (λ s. s.config ≡ config.now) }
+        ensures outside { IfOk result (λ s. s.conn.in_transaction ≡ false) }
+        ensures told { IfErr result (λ e. e ≡ fault.Unavailable) }
+    {
+        let Ok(conn) = Connection::open_in_memory(alloc) else {
+            return Err(StoreFault::Unavailable);
+        };
+        match Store::create_on(alloc, conn, config) {
+            Ok(store) => Ok(store),
+            Err(_) => Err(StoreFault::Unavailable),
+        }
+    }
 }

@@ -6,31 +6,38 @@ ghost use Rattle.sqlite.specs.State.{HasCleanDisk, Survives};
 ghost use Rattle.sqlite.specs.Held.{state};
 ghost use Rattle.sqlite_trees.specs.View.{doubt};
 ghost use Rattle.fr_store.specs.Schema.{register_schema};
-ghost use Rattle.fr_store.specs.Statements.{shows_register};
-ghost use Rattle.fr_store.specs.Tables.{HasTables, tables_in};
+ghost use Rattle.fr_store.specs.Statements.{shows_register, cluster_row, shows_cluster, shows_supplier, every, any_order, suppliers_cmp};
+ghost use Rattle.fr_store.specs.Filling.{supplier_row};
+ghost use Rattle.fr_store.specs.Tables.{HasTables};
+ghost use Rattle.fr_store.specs.Changes.{AreListed, tables_of};
+ghost use Rattle.fr_store.specs.Store.{AreOrdered, IsRegisterOf};
 ghost use Rattle.fr_store.specs.Making.{IsFresh};
-ghost use Rattle.fr_store.specs.Opening.{AreAsBefore, HasNumber, Explains, numbered, our_schema_number};
+ghost use Rattle.fr_store.specs.Opening.{AreAsBefore, HasNumber, Explains, numbered, number_text, cluster_text, suppliers_text};
 
 use crate::fault::StoreFault;
-use crate::making;
 use crate::schema::same_schema;
+use crate::store::Store;
+use crate::{cluster, making};
+use fr_base::Config;
 use sqlite::{Alter, Connection, Error, Row};
 use sqlite_schema::schema::Schema;
 use sqlite_value::value::ValueRef;
 use std::alloc::Global;
 
 /// Asks in a transaction that is undone, so that whatever the text means there, the tables stay.
-fn asked<S: Alter>(conn: &mut Connection<S>) -> Result<Vec<Row>, Error>
+fn asked<S: Alter>(conn: &mut Connection<S>, sql: &str) -> Result<Vec<Row>, Error>
     requires { conn.old.in_transaction ≡ false }
-    ensures shown { HasCleanDisk (state S.Store conn.new) → HasTables (state S.Store conn.old).now → IfOk result (λ rows. IsPermutation (map shows_register (tables_in (state S.Store conn.old).now.trees).register) rows.items) }
-    ensures told { HasCleanDisk (state S.Store conn.new) → HasTables (state S.Store conn.old).now → IfErr result (λ e. (x : _) → e ≢ SqlInputError x) }
+    ensures number { HasCleanDisk (state S.Store conn.new) → sql.now ≡ number_text → HasTables (state S.Store conn.old).now → IfOk result (λ rows. IsPermutation (map shows_register (tables_of (state S.Store conn.old)).register) rows.items) }
+    ensures told { HasCleanDisk (state S.Store conn.new) → sql.now ≡ number_text → HasTables (state S.Store conn.old).now → IfErr result (λ e. (x : _) → e ≢ SqlInputError x) }
+    ensures cluster { HasCleanDisk (state S.Store conn.new) → sql.now ≡ cluster_text → HasTables (state S.Store conn.old).now → IfOk result (λ rows. AreListed shows_cluster every any_order (tables_of (state S.Store conn.old)).cluster rows.items) }
+    ensures suppliers { HasCleanDisk (state S.Store conn.new) → sql.now ≡ suppliers_text → HasTables (state S.Store conn.old).now → IfOk result (λ rows. AreListed shows_supplier every suppliers_cmp (tables_of (state S.Store conn.old)).suppliers rows.items) }
     ensures same { HasCleanDisk (state S.Store conn.new) → AreAsBefore (state S.Store conn.old) (state S.Store conn.new) }
     ensures autocommit { conn.new.in_transaction ≡ false }
     ensures survives { Survives (state S.Store conn.old) (state S.Store conn.new) (λ _. ⊥) }
 {
     let _settled = conn.is_autocommit();
     let mut tx = conn.transaction();
-    tx.query_all("SELECT schema FROM register", &[])
+    tx.query_all(sql, &[])
 }
 
 fn number_of(rows: &[Row]) -> Option<i64>
@@ -55,7 +62,7 @@ fn number<S: Alter>(conn: &mut Connection<S>) -> Result<Option<i64>, Error>
     ensures autocommit { conn.new.in_transaction ≡ false }
     ensures survives { Survives (state S.Store conn.old) (state S.Store conn.new) (λ _. ⊥) }
 {
-    match asked(conn) {
+    match asked(conn, "SELECT schema FROM register") {
         Ok(rows) => Ok(number_of(rows.as_slice())),
         Err(Error::SqlInputError(_)) => Ok(None),
         Err(error) => Err(error),
@@ -92,36 +99,77 @@ fn is_ours(alloc: Global, schema: &Schema) -> bool
     }
 }
 
+/// The cluster of which the tables tell. None, if their rows make none, or for want of memory.
+fn config<S: Alter>(alloc: Global, conn: &mut Connection<S>) -> Option<Config>
+    requires { conn.old.in_transaction ≡ false }
+    ensures cluster { HasCleanDisk (state S.Store conn.new) → IsTrue (state S.Store conn.new).is_open → HasTables (state S.Store conn.old).now → IfSome result (λ c. (tables_of (state S.Store conn.old)).cluster ≡ cluster_row c.params c.integrator ∷ []) }
+    ensures suppliers { HasCleanDisk (state S.Store conn.new) → IsTrue (state S.Store conn.new).is_open → HasTables (state S.Store conn.old).now → IfSome result (λ c. IsPermutation (map supplier_row c.suppliers) (tables_of (state S.Store conn.old)).suppliers) }
+    ensures same { HasCleanDisk (state S.Store conn.new) → AreAsBefore (state S.Store conn.old) (state S.Store conn.new) }
+    ensures autocommit { conn.new.in_transaction ≡ false }
+    ensures survives { Survives (state S.Store conn.old) (state S.Store conn.new) (λ _. ⊥) }
+{
+    let Ok(cluster) = asked(
+        conn,
+        "SELECT static_slots, slot_macroticks, dynamic_macroticks, symbol_macroticks, idle_macroticks, macroticks_per_cycle, payload_words, channels, integrator FROM cluster",
+    ) else {
+        return None;
+    };
+    let Ok(suppliers) = asked(conn, "SELECT name, key FROM suppliers ORDER BY name") else {
+        return None;
+    };
+    cluster::read(alloc, cluster.as_slice(), suppliers.as_slice())
+}
+
 const NUMBER: i64 = 1;
 
-/// The connection, if its tables are a register's of this schema. A refusal hands it back, its tables as they were.
-pub fn open_on<S: Alter + Drop>(
-    alloc: Global,
-    mut conn: Connection<S>,
-) -> Result<Connection<S>, (StoreFault, Connection<S>)>
-    ensures opened { IfOk result (λ c. HasCleanDisk (state S.Store c) → AreAsBefore (state S.Store conn) (state S.Store c)) }
-    ensures ours { IfOk result (λ c. (state S.Store c).now.schema ≡ register_schema) }
-    ensures numbered { IfOk result (λ c. HasCleanDisk (state S.Store c) → HasTables (state S.Store conn).now → HasNumber (state S.Store conn).now our_schema_number) }
-    ensures outside { IfOk result (λ c. c.in_transaction ≡ false) }
-    ensures survives { IfOk result (λ c. Survives (state S.Store conn) (state S.Store c) (λ _. ⊥)) }
-    ensures told { IfErr result (λ e. HasCleanDisk (state S.Store e.1) → Explains (state S.Store conn).now e.0) }
-    ensures unharmed { IfErr result (λ e. HasCleanDisk (state S.Store e.1) → AreAsBefore (state S.Store conn) (state S.Store e.1)) }
-    ensures outside_still { IfErr result (λ e. conn.in_transaction ≡ false → e.1.in_transaction ≡ false) }
-    ensures survives_still { IfErr result (λ e. Survives (state S.Store conn) (state S.Store e.1) (λ _. ⊥)) }
+/// The cluster of the register that the tables are, or why they are not opened.
+fn recognized<S: Alter>(alloc: Global, conn: &mut Connection<S>) -> Result<Config, StoreFault>
+    requires { conn.old.in_transaction ≡ false }
+    ensures ours { OnOk result ((state S.Store conn.new).now.schema ≡ register_schema) }
+    ensures stands { HasCleanDisk (state S.Store conn.new) → IsTrue (state S.Store conn.new).is_open → AreOrdered (state S.Store conn.old).now.trees → IfOk result (λ c. IsRegisterOf c (state S.Store conn.new).now) }
+    ensures told { HasCleanDisk (state S.Store conn.new) → IfErr result (Explains (state S.Store conn.old).now) }
+    ensures same { HasCleanDisk (state S.Store conn.new) → AreAsBefore (state S.Store conn.old) (state S.Store conn.new) }
+    ensures autocommit { conn.new.in_transaction ≡ false }
+    ensures survives { Survives (state S.Store conn.old) (state S.Store conn.new) (λ _. ⊥) }
 {
-    if !conn.is_autocommit() {
-        return Err((StoreFault::Unavailable, conn));
+    match number(conn) {
+        Ok(Some(n)) if n == NUMBER => {}
+        Ok(Some(_)) => return Err(StoreFault::WrongSchema),
+        Ok(None) => return Err(StoreFault::NotARegister),
+        Err(_) => return Err(StoreFault::Unavailable),
     }
-    match number(&mut conn) {
-        Ok(Some(n)) if n == NUMBER => {
-            if is_ours(alloc, conn.schema()) {
-                Ok(conn)
-            } else {
-                Err((StoreFault::Unavailable, conn))
-            }
+    let Some(config) = config(alloc, conn) else {
+        return Err(StoreFault::Unavailable);
+    };
+    if is_ours(alloc, conn.schema()) {
+        Ok(config)
+    } else {
+        Err(StoreFault::Unavailable)
+    }
+}
+
+impl<S: Alter + Drop> Store<S> {
+    /// The register that the tables are. A refusal hands the connection back, its tables as they were.
+    pub fn open_on(
+        alloc: Global,
+        mut conn: Connection<S>,
+    ) -> Result<Store<S>, (StoreFault, Connection<S>)>
+        ensures opened { IfOk result (λ s. HasCleanDisk (state S.Store s.conn) → AreAsBefore (state S.Store conn) (state S.Store s.conn)) }
+        ensures ours { IfOk result (λ s. (state S.Store s.conn).now.schema ≡ register_schema) }
+        ensures stands { IfOk result (λ s. HasCleanDisk (state S.Store s.conn) → IsTrue (state S.Store s.conn).is_open → AreOrdered (state S.Store conn).now.trees → IsRegisterOf s.config (state S.Store s.conn).now) }
+        ensures outside { IfOk result (λ s. s.conn.in_transaction ≡ false) }
+        ensures survives { IfOk result (λ s. Survives (state S.Store conn) (state S.Store s.conn) (λ _. ⊥)) }
+        ensures told { IfErr result (λ e. HasCleanDisk (state S.Store e.1) → Explains (state S.Store conn).now e.0) }
+        ensures unharmed { IfErr result (λ e. HasCleanDisk (state S.Store e.1) → AreAsBefore (state S.Store conn) (state S.Store e.1)) }
+        ensures outside_still { IfErr result (λ e. conn.in_transaction ≡ false → e.1.in_transaction ≡ false) }
+        ensures survives_still { IfErr result (λ e. Survives (state S.Store conn) (state S.Store e.1) (λ _. ⊥)) }
+    {
+        if !conn.is_autocommit() {
+            return Err((StoreFault::Unavailable, conn));
         }
-        Ok(Some(_)) => Err((StoreFault::WrongSchema, conn)),
-        Ok(None) => Err((StoreFault::NotARegister, conn)),
-        Err(_) => Err((StoreFault::Unavailable, conn)),
+        match recognized(alloc, &mut conn) {
+            Ok(config) => Ok(Store { conn, config }),
+            Err(fault) => Err((fault, conn)),
+        }
     }
 }

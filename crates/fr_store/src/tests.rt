@@ -1,3 +1,4 @@
+//! Each statement, carried out where memory serves.
 use crate::{making, tables};
 use fr_base::{Channel, Channels, CycleSet, Name, Order, Placement, Signal, Slot};
 use sqlite::{Connection, Error, MemStore, Transaction};

@@ -1,0 +1,65 @@
+-- What the tables stand for after an edit.
+use Rattle.std.proofs.Common.{◌≡◌, None, Some, List, [], ◌∷◌, ◌++◌, map, cond, Ordering, Less, Equal, Greater, Result, Ok, Err, OnOk, MatchResult, sym, subst, IsPermutation}
+use Rattle.std.specs.Ordering.{is_eq}
+use Rattle.std.specs.FinMap.Entries.{put, find, by_order}
+use Rattle.std.proofs.lemmas.List.Sorted.{IsPermutation-refl, IsPermutation-sym, IsPermutation-trans, IsPermutation-cons, IsPermutation-middle, IsPermutation-map, IsPermutation-to_front}
+use Rattle.sqlite.specs.State.{State}
+use Rattle.fr_base.specs.Tables.{get, insert}
+use Rattle.fr_base.specs.Keys.{owned}
+use Rattle.fr_base.specs.Cluster.{Cluster}
+use Rattle.fr_base.specs.Book.{Book}
+use Rattle.fr_base.specs.declared.name.Name.{Name}
+use Rattle.fr_world.specs.BookEdits.{applied}
+use Rattle.fr_world.specs.declared.edit.Edit.TheVariants.{NewNode}
+use Rattle.fr_store.specs.Rows.{NodeRow}
+use Rattle.fr_store.specs.Tables.{Tables}
+use Rattle.fr_store.specs.Changes.{Changes, Stays, tables_of}
+use Rattle.fr_store.specs.Statements.{with_node}
+use Rattle.fr_store.specs.StandsFor.{StandsFor, node_row}
+use Rattle.fr_store.specs.Reading.{Stands}
+
+module _ {K V : Type 0} (R : K → K → Ordering) (k : K) (v : V) where
+  -- a row of a new key is one row more
+  put_new : (es : List (K × V)) → find R k es ≡ None → IsPermutation ((k, v) ∷ es) (put R k v es)
+  put_new [] h = IsPermutation-refl ((k, v) ∷ [])
+  put_new (e ∷ es) h = by_case (R k e.0) h (put_new es)
+    where
+      by_case : (r : Ordering) → cond (is_eq r) (Some e.1) (find R k es) ≡ None → (find R k es ≡ None → IsPermutation ((k, v) ∷ es) (put R k v es))
+          → IsPermutation ((k, v) ∷ e ∷ es) (by_order r ((k, v) ∷ e ∷ es) ((e.0, v) ∷ es) (e ∷ put R k v es))
+      by_case Less h more = IsPermutation-refl _
+      by_case Equal h more = absurd cc
+      by_case Greater h more = IsPermutation-trans _ _ _ (IsPermutation-sym _ _ (IsPermutation-middle (e ∷ []) (k, v) es)) (IsPermutation-cons e _ _ (more h))
+
+-- rows, and one more at their end
+one_at_end : {X : Type 0} (row : X) (xs ys : List X) → IsPermutation xs ys → IsPermutation (row ∷ xs) (ys ++ row ∷ [])
+one_at_end row xs ys same = IsPermutation-trans _ _ _ (IsPermutation-cons row _ _ same) (IsPermutation-sym _ _ (IsPermutation-to_front ys row))
+
+module _ (s n : Name) where
+  abbrev row : NodeRow
+  row = record { supplier = s; name = n }
+
+  -- the tables with the node stand for the book with it
+  new_node : (t : Tables) (c : Cluster) (b : Book) → StandsFor t c b → get b.nodes (s, n) ≡ None → StandsFor (with_node row t) c (applied b (NewNode s n))
+  unfolding applied insert get
+  new_node t c b h new = record {
+    register = h.register;
+    cluster = h.cluster;
+    suppliers = h.suppliers;
+    known = h.known;
+    nodes = IsPermutation-trans _ _ _ (IsPermutation-sym _ _ (IsPermutation-map node_row _ _ (put_new owned.compare (s, n) tt b.nodes.rows new))) (one_at_end row (map node_row b.nodes.rows) t.nodes h.nodes);
+    imports = h.imports;
+    stored = h.stored;
+    variants = h.variants;
+    grants = h.grants;
+    frames = h.frames;
+    placements = h.placements;
+    signals = h.signals;
+    dropped = h.dropped;
+    each = h.each;
+  }
+
+  pub node_applied : {X E : Type 0} (old state : State) (r : Result X E) → MatchResult r (λ _. Changes (with_node row) old state) (λ _. Stays old state) → (c : Cluster) (b : Book) → Stands old c b → get b.nodes (s, n) ≡ None
+      → OnOk r (Stands state c (applied b (NewNode s n)))
+  node_applied old state (Ok x) h c b stands new =
+      record { has = h.has; for = subst (λ t. StandsFor t c (applied b (NewNode s n))) (sym h.now) (new_node (tables_of old) c b stands.for new) }
+  node_applied old state (Err e) h c b stands new = tt

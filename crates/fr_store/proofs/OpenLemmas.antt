@@ -1,0 +1,82 @@
+-- What is known of a register whose rows were asked for.
+use Rattle.std.proofs.Common.{◌≡◌, ◌∙◌, ℤ, List, [], ◌∷◌, map, filter, Option, Some, None, IfSome, refl, sym, ap, subst}
+use Rattle.std.specs.List.Sorted.{IsPermutation}
+use Rattle.std.proofs.lemmas.List.Sorted.{IsPermutation-sym}
+use Rattle.sqlite.specs.Order.{Row}
+use Rattle.sqlite.specs.Effect.{Database}
+use Rattle.sqlite.proofs.Callers.{one_permutation}
+use Rattle.fr_base.specs.Cluster.{Cluster}
+use Rattle.fr_base.specs.declared.config.Supplier.{Supplier}
+use Rattle.fr_store.specs.Rows.{ClusterRow, SupplierRow}
+use Rattle.fr_store.specs.Tables.{HasTables, tables_in}
+use Rattle.fr_store.specs.Changes.{AreListed}
+use Rattle.fr_store.specs.Statements.{cluster_row, shows_cluster, shows_supplier, every, any_order, suppliers_cmp}
+use Rattle.fr_store.specs.Filling.{supplier_row}
+use Rattle.fr_store.specs.Opening.{HasNumber, our_schema_number}
+use Rattle.fr_store.specs.Store.{IsRegisterOf, shown_supplier}
+
+all_pass : {X : Type 0} (xs : List X) → filter every xs ≡ xs
+all_pass [] = refl
+all_pass (x ∷ xs) = ap (λ ys. x ∷ ys) (all_pass xs)
+
+only_one : (found : List ClusterRow) (r : ClusterRow) → shows_cluster r ∷ [] ≡ map shows_cluster found → found ≡ r ∷ []
+only_one [] r is = absurd cc
+only_one (x ∷ []) r is =
+    let e0 : x.static_slots ≡ r.static_slots = cc in
+    let e1 : x.slot_macroticks ≡ r.slot_macroticks = cc in
+    let e2 : x.dynamic_macroticks ≡ r.dynamic_macroticks = cc in
+    let e3 : x.symbol_macroticks ≡ r.symbol_macroticks = cc in
+    let e4 : x.idle_macroticks ≡ r.idle_macroticks = cc in
+    let e5 : x.macroticks_per_cycle ≡ r.macroticks_per_cycle = cc in
+    let e6 : x.payload_words ≡ r.payload_words = cc in
+    let e7 : x.channels ≡ r.channels = cc in
+    let e8 : x.integrator ≡ r.integrator = cc in
+    λ i. record { static_slots = e0 i; slot_macroticks = e1 i; dynamic_macroticks = e2 i; symbol_macroticks = e3 i; idle_macroticks = e4 i; macroticks_per_cycle = e5 i; payload_words = e6 i; channels = e7 i; integrator = e8 i } ∷ []
+only_one (x ∷ y ∷ found) r is = absurd cc
+
+-- the row that is read is the one row of the cluster
+pub one_cluster : (xs : List ClusterRow) (rows : List Row) (found : Option Cluster) → AreListed shows_cluster every any_order xs rows → IfSome found (λ c. rows ≡ shows_cluster (cluster_row c.params c.integrator) ∷ [])
+    → IfSome found (λ c. xs ≡ cluster_row c.params c.integrator ∷ [])
+one_cluster xs rows None listed is = tt
+one_cluster xs rows (Some c) listed is =
+    let one = only_one listed.found (cluster_row c.params c.integrator) (sym is ∙ listed.shown) in
+    one_permutation (cluster_row c.params c.integrator) xs (IsPermutation-sym _ _ (rw (all_pass xs, one) at listed.same))
+
+same_suppliers : (found : List SupplierRow) (list : List Supplier) → map shown_supplier list ≡ map shows_supplier found → found ≡ map supplier_row list
+same_suppliers [] [] is = refl
+same_suppliers [] (s ∷ list) is = absurd cc
+same_suppliers (x ∷ found) [] is = absurd cc
+same_suppliers (x ∷ found) (s ∷ list) is =
+    let first : shown_supplier s ≡ shows_supplier x = cc in
+    let rest : map shown_supplier list ≡ map shows_supplier found = cc in
+    let name : s.name ≡ x.name = cc in
+    let key : s.key ≡ x.key = cc in
+    let both : x ≡ supplier_row s = λ i. record { name = sym name i; key = sym key i } in
+    λ i. both i ∷ same_suppliers found list rest i
+
+-- the suppliers that are read are those of the rows
+pub all_suppliers : (xs : List SupplierRow) (rows : List Row) (found : Option Cluster) → AreListed shows_supplier every suppliers_cmp xs rows → IfSome found (λ c. rows ≡ map shown_supplier c.suppliers)
+    → IfSome found (λ c. IsPermutation (map supplier_row c.suppliers) xs)
+all_suppliers xs rows None listed is = tt
+all_suppliers xs rows (Some c) listed is =
+    let same = same_suppliers listed.found c.suppliers (sym is ∙ listed.shown) in
+    IsPermutation-sym _ _ (rw (all_pass xs, same) at listed.same)
+
+-- what was read in turn of tables that stayed
+pub register_found : (c : Cluster) (old mid new : Database) (n : ℤ) → mid ≡ old → new ≡ mid → n ≡ our_schema_number → HasTables new → (HasTables old → HasNumber old n)
+    → (HasTables mid → (tables_in mid.trees).cluster ≡ cluster_row c.params c.integrator ∷ []) → (HasTables mid → IsPermutation (map supplier_row c.suppliers) (tables_in mid.trees).suppliers) → IsRegisterOf c new
+register_found c old mid new n first second ours has number cluster suppliers =
+    subst (IsRegisterOf c) (sym second) (record {
+      has = has_mid;
+      tells = record {
+        register = its_number.number;
+        cluster = cluster has_mid;
+        suppliers = suppliers has_mid;
+      };
+    })
+  where
+    has_mid : HasTables mid
+    has_mid = subst HasTables second has
+
+    its_number : HasNumber mid our_schema_number
+    its_number = subst (λ (p : Database × ℤ). HasNumber p.0 p.1) (λ i. (sym first i, ours i)) (number (subst HasTables first has_mid))

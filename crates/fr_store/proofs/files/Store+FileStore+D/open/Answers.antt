@@ -1,0 +1,36 @@
+use Rattle.std.proofs.Common.{◌≡◌, ◌∙◌, arith, ap, sym, subst}
+use Rattle.sqlite.specs.Effect.{Database}
+use Rattle.sqlite.specs.State.{HasCleanDisk}
+use Rattle.sqlite.specs.Files.{file_state, image_of}
+use Rattle.fr_store.specs.Schema.{register_schema}
+use Rattle.fr_store.specs.Opening.{Explains}
+use Rattle.fr_store.specs.StoreFiles.{database_of}
+use Rattle.fr_store.proofs.FileLemmas.{same_database, found_trees}
+use Rattle.fr_store.proofs.files.Store+FileStore+D.open.Goals as goal
+
+pub returns-in-Err-clause-told : goal.returns-in-Err-clause-told
+returns-in-Err-clause-told g c clean d is held = subst (Explains d) (sym (c.in-Err.ensures.told clean d.trees held)) tt
+
+pub returns-in-Ok-open_on-clause-stands : goal.returns-in-Ok-open_on-clause-stands
+returns-in-Ok-open_on-clause-stands g c clean up =
+    let before : HasCleanDisk (file_state c.in-Ok.conn) = omega (arith, c.in-Ok-open_on.ensures.survives.clean, clean) in
+    let same = c.in-Ok-open_on.ensures.opened clean up in
+    let schema : (file_state c.in-Ok.conn).now.schema ≡ register_schema = ap (λ (d : Database). d.schema) (sym same.1) ∙ c.in-Ok-open_on.ensures.ours in
+    c.in-Ok-open_on.ensures.stands clean up (c.in-Ok.ensures.ordered before schema)
+
+pub returns-in-Ok-open_on-clause-opened : goal.returns-in-Ok-open_on-clause-opened
+returns-in-Ok-open_on-clause-opened g c clean up k db holds =
+    let before : HasCleanDisk (file_state c.in-Ok.conn) = omega (arith, c.in-Ok-open_on.ensures.survives.clean, clean) in
+    let same = c.in-Ok-open_on.ensures.opened clean up in
+    let is = c.in-Ok.ensures.opens before in
+    let trees = found_trees (image_of g.D.Disk c.args.files) (file_state c.in-Ok.conn).now.trees (database_of db) (c.in-Ok.ensures.found before) holds.held in
+    let found = same_database (file_state c.in-Ok.conn).now (database_of db) (is.1 is.0.is_open).0 holds.held.sound trees in
+    (same.1 ∙ found, same.2 ∙ sym is.0.clean ∙ found)
+
+pub returns-in-Some-clause-told : goal.returns-in-Some-clause-told
+returns-in-Some-clause-told g c clean d is held =
+    let late = (c.in-Some.ensures.clean clean).0 in
+    let before : HasCleanDisk (file_state c.in-Ok.conn) = omega (arith, c.in-Err-open_on.ensures.survives_still.clean, late) in
+    let opens = c.in-Ok.ensures.opens before in
+    let same : (file_state c.in-Ok.conn).now ≡ d = same_database (file_state c.in-Ok.conn).now d (opens.1 opens.0.is_open).0 is (c.in-Ok.ensures.found before d.trees held) in
+    subst (λ (e : Database). Explains e c.in-Err-open_on.fault) same (c.in-Err-open_on.ensures.told late)

@@ -1,0 +1,23 @@
+use Rattle.std.proofs.Common.{arith, refl, sym, subst, map, IfSome}
+use Rattle.std.specs.List.Sorted.{IsPermutation}
+use Rattle.sqlite.specs.Effect.{Database}
+use Rattle.fr_store.specs.Filling.{supplier_row}
+use Rattle.sqlite.specs.State.{HasCleanDisk}
+use Rattle.sqlite.specs.Held.{state}
+use Rattle.fr_store.specs.Tables.{HasTables, tables_in}
+use Rattle.fr_store.specs.Changes.{tables_of}
+use Rattle.fr_store.proofs.OpenLemmas.{one_cluster, all_suppliers}
+use Rattle.fr_store.proofs.opening.config.Goals as goal
+
+pub returns-clause-cluster : goal.returns-clause-cluster
+returns-clause-cluster g c clean up was =
+    let before : HasCleanDisk (state g.S.Store c.asked.new.conn) = omega (arith, c.asked-2.ensures.survives.clean, clean) in
+    one_cluster (tables_of (state g.S.Store c.args.conn.now)).cluster c.in-Ok.cluster.items c.read.result (c.in-Ok.ensures.cluster before refl was) (rw c.as_slice.ensures.value at c.read.ensures.cluster)
+
+pub returns-clause-suppliers : goal.returns-clause-suppliers
+returns-clause-suppliers g c clean up was =
+    let before : HasCleanDisk (state g.S.Store c.asked.new.conn) = omega (arith, c.asked-2.ensures.survives.clean, clean) in
+    let there = (c.asked-2.ensures.same clean up).0 in
+    let same = (c.asked.ensures.same before there).1 in
+    subst (λ (d : Database). IfSome c.read.result (λ k. IsPermutation (map supplier_row k.suppliers) (tables_in d.trees).suppliers)) same
+    (all_suppliers (tables_of (state g.S.Store c.asked.new.conn)).suppliers c.in-Ok-asked.suppliers.items c.read.result (c.in-Ok-asked.ensures.suppliers clean refl (subst HasTables (sym same) was)) (rw c.as_slice-2.ensures.value at c.read.ensures.suppliers))

@@ -1,0 +1,12 @@
+use Rattle.std.proofs.Common.{◌∙◌, map, ap}
+use Rattle.sqlite.specs.Held.{state}
+use Rattle.fr_store.specs.Changes.{tables_of}
+use Rattle.fr_store.specs.Reading.{variant_shown}
+use Rattle.fr_store.proofs.ReadingLemmas.{told_if, variants_told}
+use Rattle.fr_store.proofs.reading.variants.Goals as goal
+
+pub returns-clause-variants : goal.returns-clause-variants
+returns-clause-variants g c clean cluster b stands =
+    told_if _ _ (λ found read. variants_told (tables_of (state g.S.Store c.args.conn.now)) cluster b stands.for c.in-Ok.rows.items found.items
+    (c.in-Ok.ensures.listed clean stands.has).0 (read ∙ ap (map variant_shown) c.as_slice.ensures.value))
+    c.variants_of.result _ c.ok_or.result c.ok_or.ensures.value c.variants_of.ensures

@@ -1,0 +1,93 @@
+-- What is read of a supplier's rows in a variant.
+use Rattle.std.specs.Prelude.{◌≡◌, pos, Bool, false, List, Option, Some, None, Result, MatchResult, MatchOption, nat_abs, unwrap_or, if◌then◌else◌}
+use Rattle.std.specs.Ordering.{int_eq}
+use Rattle.sqlite.specs.Order.{Row, column}
+use Rattle.sqlite.specs.State.{State, HasCleanDisk, IsUnchanged}
+use Rattle.fr_base.specs.Tables.{get}
+use Rattle.fr_base.specs.Keys.{owned, channel_slots, placement_order}
+use Rattle.fr_base.specs.Channels.{channel_of_text, channels_of_text}
+use Rattle.fr_base.specs.Cluster.{Cluster}
+use Rattle.fr_base.specs.Book.{Book, Variant, Frame, own, own_grants}
+use Rattle.fr_base.specs.declared.channel.Channel.TheVariants.{A}
+use Rattle.fr_base.specs.declared.channel.Channels.TheVariants.{AB}
+use Rattle.fr_base.specs.declared.name.Name.{Name}
+use Rattle.fr_base.specs.declared.params.Params.{Params}
+use Rattle.fr_base.specs.declared.signal.Order.TheVariants.{Little, Big}
+use Rattle.fr_base.specs.Layouts.{LayoutData}
+use Rattle.fr_base.specs.Signals.{SignalData}
+use Rattle.fr_base.specs.Step.{layout_of}
+use Rattle.fr_base.specs.declared.placement.Placement.{Placement}
+use Rattle.fr_world.specs.Maps.{table_of, set_of}
+use Rattle.fr_world.specs.Pages.{FrameData, frame_of, holder_of}
+use Rattle.fr_world.specs.declared.page.ChannelSlot.{ChannelSlot}
+use Rattle.fr_store.specs.Rows.{words, number}
+use Rattle.fr_store.specs.Tables.{Tables, HasTables}
+use Rattle.fr_store.specs.Changes.{Stays, tables_of}
+use Rattle.fr_store.specs.StandsFor.{StandsFor}
+
+-- A call that reads says this of the tables and leaves them, or it fails.
+abbrev pub Reads : {X E : Type 0} → (Tables → X → Type 0) → State → State → Result X E → Type 0
+Reads says old new r = HasCleanDisk new → HasTables old.now → MatchResult r (λ x. says (tables_of old) x × IsUnchanged old new) (λ _. Stays old new)
+
+-- ---- the variant
+
+abbrev pub released_shown : Row → Bool
+released_shown r = int_eq (number (column r 3)) (pos 1)
+
+-- whether the variant is released, if it is there; and it is stored without its parent's rows
+abbrev pub TellsReleased : Name → Tables → Option Bool → Type 0
+TellsReleased v t found =
+    (c : Cluster) (b : Book) (stands : StandsFor t c b)
+    → MatchOption found (get b.variants v ≡ None) (λ is. (x : Variant) × (get b.variants v ≡ Some x) × (x.released ≡ is) × ((stands.stored v).overlay ≡ false))
+
+-- ---- nodes and grants
+
+-- these are the supplier's nodes
+abbrev pub TellsNodes : Name → Tables → List Name → Type 0
+TellsNodes s t nodes = (c : Cluster) (b : Book) → StandsFor t c b → set_of owned (λ n. (s, n)) nodes ≡ own s b.nodes
+
+abbrev pub grant_shown : Row → ChannelSlot × Name
+grant_shown r = (record { slot = nat_abs (number (column r 0)); channel = unwrap_or (channel_of_text (words (column r 1))) A }, words (column r 2))
+
+-- these are the supplier's grants in the variant
+abbrev pub TellsGrants : Name → Name → Tables → List (ChannelSlot × Name) → Type 0
+TellsGrants v s t grants =
+    (c : Cluster) (b : Book) → StandsFor t c b → (x : Variant) → get b.variants v ≡ Some x
+    → table_of channel_slots (λ k. (k.slot, k.channel)) (holder_of s) grants ≡ own_grants s x.grants
+
+-- ---- a frame's placements
+
+abbrev pub placement_shown : Row → Placement
+placement_shown r = record {
+  slot = nat_abs (number (column r 1));
+  channels = unwrap_or (channels_of_text (words (column r 2))) AB;
+  cycles = record { base = nat_abs (number (column r 3)); repetition = nat_abs (number (column r 4)) };
+}
+
+-- these are the placements of the variant's own frame under the supplier and the name
+abbrev pub TellsPlacements : Name → Name → Name → Tables → List Placement → Type 0
+TellsPlacements v s f t placements =
+    (c : Cluster) (b : Book) (stands : StandsFor t c b) (x : Variant) (frame : Frame) → get b.variants v ≡ Some x → get (stands.stored v).own (s, f) ≡ Some frame
+    → set_of placement_order (λ q. q) placements ≡ frame.placements
+
+-- ---- a frame's signals
+
+abbrev pub signal_shown : Row → SignalData
+signal_shown r = record {
+  name = words (column r 1);
+  start = nat_abs (number (column r 2));
+  length = nat_abs (number (column r 3));
+  order = if int_eq (number (column r 4)) (pos 1) then Big else Little;
+}
+
+-- this is the layout of the variant's own frame under the supplier and the name
+abbrev pub TellsLayout : Params → Name → Name → Name → Tables → LayoutData → Type 0
+TellsLayout p v s f t layout =
+    (c : Cluster) (b : Book) (stands : StandsFor t c b) (x : Variant) (frame : Frame) → get b.variants v ≡ Some x → get (stands.stored v).own (s, f) ≡ Some frame
+    → layout ≡ layout_of p frame
+
+-- this is the variant's own frame under the supplier and the name
+abbrev pub TellsFrame : Params → Name → Name → Name → Name → Tables → FrameData → Type 0
+TellsFrame p v s f n t rows =
+    (c : Cluster) (b : Book) (stands : StandsFor t c b) (x : Variant) (frame : Frame) → get b.variants v ≡ Some x → get (stands.stored v).own (s, f) ≡ Some frame → frame.node ≡ n
+    → (frame_of rows ≡ frame) × (rows.layout ≡ layout_of p frame)

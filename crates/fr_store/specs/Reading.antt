@@ -1,0 +1,55 @@
+-- What is read of the book for which the tables stand.
+use Rattle.std.specs.Prelude.{ℕ, pos, Option, Some, None, Result, IfOk, nat_abs}
+use Rattle.std.specs.Ordering.{int_eq}
+use Rattle.sqlite.specs.Order.{Row, column}
+use Rattle.sqlite.specs.State.{State, HasCleanDisk}
+use Rattle.fr_base.specs.Tables.{get}
+use Rattle.fr_base.specs.Cluster.{Cluster}
+use Rattle.fr_base.specs.Book as book
+use Rattle.fr_base.specs.Book.{Book, Variant}
+use Rattle.fr_base.specs.declared.channel.Channel.{Channel}
+use Rattle.fr_base.specs.declared.name.Name.{Name}
+use Rattle.fr_world.specs.declared.variants.VariantRow.{VariantRow}
+use Rattle.fr_store.specs.Rows.{words, number, maybe_words}
+use Rattle.fr_store.specs.Tables.{HasTables}
+use Rattle.fr_store.specs.Changes.{tables_of}
+use Rattle.fr_store.specs.StandsFor.{StandsFor}
+use Rattle.fr_store.specs.declared.slot_holder.Holder.{Holder}
+
+-- the tables that the connection sees stand for a cluster file and a book
+pub record Stands (s : State) (c : Cluster) (b : Book) : Type 0 where
+  pub has : HasTables s.now
+  pub for : StandsFor (tables_of s) c b
+
+-- A call answers so of the book for which the tables stand, or fails.
+abbrev pub Tells : {X E : Type 0} → State → State → Result X E → (Cluster → Book → X → Type 0) → Type 0
+Tells old new r says = HasCleanDisk new → (c : Cluster) (b : Book) → Stands old c b → IfOk r (says c b)
+
+-- ---- what a row says that is shown
+
+abbrev pub name_shown : Row → Name
+name_shown r = words (column r 0)
+
+abbrev pub holder_shown : Row → Holder
+holder_shown r = record { supplier = words (column r 0); node = words (column r 1) }
+
+abbrev pub variant_shown : Row → VariantRow
+variant_shown r = record {
+  variant = words (column r 0);
+  parent = maybe_words (column r 1);
+  depth = nat_abs (number (column r 2));
+  released = int_eq (number (column r 3)) (pos 1);
+}
+
+-- ---- what is asked of the book
+
+abbrev pub as_holder : Holder → book.Holder
+as_holder h = record { supplier = h.supplier; node = h.node }
+
+-- who holds the slot and channel in the variant, if it is there
+abbrev pub held_in : Option Variant → ℕ × Channel → Option book.Holder
+held_in None at = None
+held_in (Some x) at = get x.grants at
+
+abbrev pub holder_in : Book → Name → ℕ × Channel → Option book.Holder
+holder_in b v at = held_in (get b.variants v) at

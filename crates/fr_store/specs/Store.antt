@@ -1,0 +1,80 @@
+-- A register as it is made and found: its tables, and the cluster of which they tell.
+use Rattle.std.specs.Prelude.{◌≡◌, ℕ, [], ◌∷◌, List, Bool, false, map, IsTrue, IsPermutation, Result, MatchResult, ⊤}
+use Rattle.std.specs.List.{list_all, list_any, AllByRecursion}
+use Rattle.sqlite.specs.Table.{Table}
+use Rattle.sqlite.specs.Schema.{Schema}
+use Rattle.sqlite.specs.Order.{Row}
+use Rattle.sqlite.specs.Tree.{Trees, IsTable, rowid}
+use Rattle.sqlite.specs.Effect.{Database}
+use Rattle.sqlite.specs.State.{State, Shows, HasCleanDisk, KeepsCommit}
+use Rattle.sqlite_schema.specs.Names.{same_name}
+use Rattle.sqlite_trees.specs.View.{is_int}
+use Rattle.fr_base.specs.declared.config.Supplier.{Supplier}
+use Rattle.fr_base.specs.Cluster.{Cluster}
+use Rattle.fr_base.specs.Names.{is_name, is_key}
+use Rattle.fr_store.specs.Schema.{all_tables}
+use Rattle.fr_store.specs.Tables.{Tables, HasTables, tables_in}
+use Rattle.fr_store.specs.Statements.{cluster_row, shows_supplier}
+use Rattle.fr_store.specs.Filling.{supplier_row, with_config}
+use Rattle.fr_store.specs.Making.{IsFresh, no_rows}
+use Rattle.fr_store.specs.Opening.{numbered, our_schema_number}
+use Rattle.fr_store.specs.declared.fault.StoreFault.{StoreFault}
+use Rattle.fr_store.specs.declared.fault.StoreFault.TheVariants.{NotEmpty, NotARegister, WrongSchema, Unavailable}
+
+-- ---- of which cluster the tables tell
+
+abbrev pub shown_supplier : Supplier → Row
+shown_supplier s = shows_supplier (supplier_row s)
+
+-- each name and each key has its form
+abbrev pub AreFormed : List Supplier → Type 0
+AreFormed list = IsTrue (list_all (λ s. is_name s.name) list) × IsTrue (list_all (λ s. is_key s.key) list)
+
+-- the tables tell the number of this schema, and of this cluster and its suppliers
+pub record TellsOf (c : Cluster) (t : Tables) : Type 0 where
+  pub register : t.register ≡ numbered our_schema_number ∷ []
+  pub cluster : t.cluster ≡ cluster_row c.params c.integrator ∷ []
+  pub suppliers : IsPermutation (map supplier_row c.suppliers) t.suppliers
+
+-- the rows of each table have numbers that rise
+abbrev pub AreOrdered : Trees → Type 0
+AreOrdered db = AllByRecursion (λ t. IsTable (db t.tree) × AllByRecursion (λ r. IsTrue (is_int (rowid r))) (db t.tree)) all_tables
+
+-- the database is a register of this cluster
+pub record IsRegisterOf (c : Cluster) (db : Database) : Type 0 where
+  pub has : HasTables db
+  pub tells : TellsOf c (tables_in db.trees)
+
+-- ---- a new register
+
+-- the database is a new register of this cluster
+pub record IsNewOf (c : Cluster) (db : Database) : Type 0 where
+  pub has : HasTables db
+  pub rows : tables_in db.trees ≡ with_config c no_rows
+
+-- Statements inside a transaction make a new register where no table is, or fail and commit nothing.
+abbrev pub MakesNew : {X E : Type 0} → Cluster → State → State → Result X E → Type 0
+MakesNew c old new r =
+    HasCleanDisk new → IsTrue old.in_transaction → IsFresh 0 0 old.now → MatchResult r (λ _. IsNewOf c new.now × Shows old new new.now old.committed old.in_transaction) (λ _. KeepsCommit old new)
+
+-- whether one of a register's tables has this name
+abbrev pub is_ours : List ℕ → Bool
+is_ours name = list_any (λ (t : Table). same_name t.name name) all_tables
+
+-- whether one of a register's tables is there
+abbrev pub has_table : Schema → Bool
+has_table schema = list_any (λ (t : Table). is_ours t.name) schema.tables
+
+-- why no register is made where this schema is
+abbrev pub Forbids : Schema → StoreFault → Type 0
+Forbids schema NotEmpty = IsTrue (has_table schema)
+Forbids schema NotARegister = ⊥
+Forbids schema WrongSchema = ⊥
+Forbids schema Unavailable = has_table schema ≡ false
+
+-- the same of files, which may also not be read
+abbrev pub MayForbid : Schema → StoreFault → Type 0
+MayForbid schema NotEmpty = IsTrue (has_table schema)
+MayForbid schema NotARegister = ⊥
+MayForbid schema WrongSchema = ⊥
+MayForbid schema Unavailable = ⊤

@@ -1,0 +1,143 @@
+//! A register in a database file and its log.
+
+ghost use Rattle.std.specs.Prelude.{◌≡◌, IsTrue, IfOk, IfErr, IfSome, None, false};
+ghost use Rattle.sqlite_wal.specs.Reads.{AreClean};
+ghost use Rattle.sqlite.specs.Effect.{IsDatabase};
+ghost use Rattle.sqlite.specs.State.{HasCleanDisk, Opens, IsLive};
+ghost use Rattle.sqlite.specs.Files.{file_state, image_of, HoldsDatabase};
+ghost use Rattle.fr_store.specs.Schema.{register_schema};
+ghost use Rattle.fr_store.specs.Opening.{Explains};
+ghost use Rattle.fr_store.specs.Store.{AreOrdered, IsNewOf, IsRegisterOf, MayForbid};
+ghost use Rattle.fr_store.specs.StoreFiles.{HoldsRegister, IsHeld, database_of};
+ghost use Rattle.fr_store.specs.declared.fault.StoreFault.TheVariants as fault;
+
+use crate::fault::StoreFault;
+use crate::settle::settle;
+use crate::store::Store;
+use fr_base::Config;
+use sqlite::{Connection, Error, ErrorCode, FileStore, Files, Options};
+use sqlite_disk::Disk;
+use std::alloc::Global;
+
+/// Gives the files back, with each commit in the database file.
+fn closed<D: Disk + Drop>(conn: Connection<FileStore<D>>) -> Option<Files<D>>
+    ensures usable { IfSome result (λ files. IsTrue (D.Disk.is_usable files.log) × IsTrue (D.Disk.is_usable files.db)) }
+    ensures clean { IfSome result (λ files. AreClean D.Disk files.log files.db → HasCleanDisk (file_state conn) × IsTrue (file_state conn).is_open) }
+    ensures held { IfSome result (λ files. AreClean D.Disk files.log files.db → IsHeld (image_of D.Disk files) (file_state conn).committed) }
+{
+    let _schema = conn.schema();
+    match conn.close_files() {
+        Ok(files) => Some(files),
+        Err((_, store)) => {
+            drop(store.close());
+            None
+        }
+    }
+}
+
+/// The database that the files hold, or an empty one where they are empty.
+fn connected<D: Disk + Drop>(
+    alloc: Global,
+    files: Files<D>,
+    options: Options,
+) -> Result<Connection<FileStore<D>>, (StoreFault, Files<D>)>
+    requires log { IsTrue (D.Disk.is_usable files.log) }
+    requires db { IsTrue (D.Disk.is_usable files.db) }
+    ensures opens { IfOk result (λ c. HasCleanDisk (file_state c) → Opens (file_state c) × IsLive (file_state c)) }
+    ensures ordered { IfOk result (λ c. HasCleanDisk (file_state c) → (file_state c).now.schema ≡ register_schema → AreOrdered (file_state c).now.trees) }
+    ensures found { IfOk result (λ c. HasCleanDisk (file_state c) → (db : _) → HoldsDatabase (image_of D.Disk files) db → (file_state c).now.trees ≡ db) }
+    ensures honest { IfOk result (λ c. HasCleanDisk (file_state c) → AreClean D.Disk files.log files.db) }
+    ensures told { IfErr result (λ e. AreClean D.Disk e.1.log e.1.db → (db : _) → HoldsDatabase (image_of D.Disk files) db → e.0 ≡ fault.Unavailable) }
+{
+    let conn = match Connection::open_files(alloc, files, options) {
+        Ok(conn) => conn,
+        Err((Error::SqliteFailure(ErrorCode::NotADatabase), left)) => {
+            return Err((StoreFault::NotARegister, left.into_files()));
+        }
+        Err((_, left)) => return Err((StoreFault::Unavailable, left.into_files())),
+    };
+    match settle(alloc, conn) {
+        Ok(conn) => Ok(conn),
+        Err((_, store)) => Err((StoreFault::Unavailable, store.close())),
+    }
+}
+
+impl<D: Disk + Drop> Store<FileStore<D>> {
+    /// Gives the files back, with each commit in the database file.
+    pub fn close(self) -> Result<Files<D>, StoreFault>
+        ensures usable { IfOk result (λ files. IsTrue (D.Disk.is_usable files.log) × IsTrue (D.Disk.is_usable files.db)) }
+        ensures held { IfOk result (λ files. AreClean D.Disk files.log files.db → IsRegisterOf self.config (file_state self.conn).committed → HoldsRegister self.config (image_of D.Disk files) (file_state self.conn).committed.trees) }
+        ensures told { IfErr result (λ e. e ≡ fault.Unavailable) }
+    {
+        let _formed = self.config.params();
+        match closed(self.into_connection()) {
+            Some(files) => Ok(files),
+            None => Err(StoreFault::Unavailable),
+        }
+    }
+
+    /// Makes a register of this cluster in files that hold no table: all of it, or nothing. It is NotEmpty
+    /// where they hold one of a register's tables already, and then they hold what they held. A refusal
+    /// gives the files back, unless they fail to close.
+    pub fn create(
+        alloc: Global,
+        files: Files<D>,
+        config: &Config,
+        options: Options,
+    ) -> Result<Store<FileStore<D>>, (StoreFault, Option<Files<D>>)>
+        requires log { IsTrue (D.Disk.is_usable files.log) }
+        requires db { IsTrue (D.Disk.is_usable files.db) }
+        ensures made { IfOk result (λ s. HasCleanDisk (file_state s.conn) → IsNewOf config.now (file_state s.conn).now) }
+        ensures committed { IfOk result (λ s. HasCleanDisk (file_state s.conn) → (file_state s.conn).committed ≡ (file_state s.conn).now) }
+        ensures config { IfOk result (λ s. s.config ≡ config.now) }
+        ensures honest { IfOk result (λ s. HasCleanDisk (file_state s.conn) → AreClean D.Disk files.log files.db) }
+        ensures outside { IfOk result (λ s. s.conn.in_transaction ≡ false) }
+        ensures told { IfErr result (λ e. IfSome e.1 (λ left. AreClean D.Disk left.log left.db → (d : _) → IsDatabase d → HoldsDatabase (image_of D.Disk files) d.trees → MayForbid d.schema e.0)) }
+        ensures untouched { IfErr result (λ e. e.0 ≡ fault.NotEmpty → IfSome e.1 (λ left. AreClean D.Disk left.log left.db → (d : _) → IsDatabase d → HoldsDatabase (image_of D.Disk files) d.trees → IsHeld (image_of D.Disk left) d)) }
+        ensures lost { IfErr result (λ e. e.1 ≡ None → e.0 ≡ fault.Unavailable) }
+    {
+        let conn = match connected(alloc, files, options) {
+            Ok(conn) => conn,
+            Err((_, left)) => return Err((StoreFault::Unavailable, Some(left))),
+        };
+        match Store::create_on(alloc, conn, config) {
+            Ok(store) => Ok(store),
+            Err((fault, conn)) => match closed(conn) {
+                Some(files) => Err((fault, Some(files))),
+                None => Err((StoreFault::Unavailable, None)),
+            },
+        }
+    }
+
+    /// The register that the files hold. A refusal gives the files back, unless they fail to close.
+    pub fn open(
+        alloc: Global,
+        files: Files<D>,
+        options: Options,
+    ) -> Result<Store<FileStore<D>>, (StoreFault, Option<Files<D>>)>
+        requires log { IsTrue (D.Disk.is_usable files.log) }
+        requires db { IsTrue (D.Disk.is_usable files.db) }
+        ensures stands { IfOk result (λ s. HasCleanDisk (file_state s.conn) → IsTrue (file_state s.conn).is_open → IsRegisterOf s.config (file_state s.conn).now) }
+        ensures opened { IfOk result (λ s. HasCleanDisk (file_state s.conn) → IsTrue (file_state s.conn).is_open → (c : _) (db : _) → HoldsRegister c (image_of D.Disk files) db
+            → ((file_state s.conn).now ≡ database_of db) × ((file_state s.conn).committed ≡ database_of db)) }
+        ensures honest { IfOk result (λ s. HasCleanDisk (file_state s.conn) → AreClean D.Disk files.log files.db) }
+        ensures outside { IfOk result (λ s. s.conn.in_transaction ≡ false) }
+        ensures told { IfErr result (λ e. IfSome e.1 (λ left. AreClean D.Disk left.log left.db → (d : _) → IsDatabase d → HoldsDatabase (image_of D.Disk files) d.trees → Explains d e.0)) }
+        ensures lost { IfErr result (λ e. e.1 ≡ None → e.0 ≡ fault.Unavailable) }
+    {
+        let conn = match connected(alloc, files, options) {
+            Ok(conn) => conn,
+            Err((fault, left)) => return Err((fault, Some(left))),
+        };
+        match Store::open_on(alloc, conn) {
+            Ok(store) => Ok(store),
+            Err((fault, conn)) => match closed(conn) {
+                Some(files) => Err((fault, Some(files))),
+                None => Err((StoreFault::Unavailable, None)),
+            },
+        }
+    }
+}
+
+#[cfg(test)]
+mod tests;

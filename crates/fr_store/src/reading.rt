@@ -1,0 +1,119 @@
+//! What is read of the register: who holds a slot, its variants, a supplier's nodes.
+
+ghost use Rattle.std.specs.Prelude.{◌≡◌, map, IfErr, IfSome, option_map, slice_get};
+ghost use Rattle.sqlite.specs.Held.{state};
+ghost use Rattle.sqlite.specs.State.{HasCleanDisk};
+ghost use Rattle.fr_world.specs.BookEdits.{variants_in};
+ghost use Rattle.fr_world.specs.Pages.{nodes_in};
+ghost use Rattle.fr_store.specs.Changes.{Spares, Stays};
+ghost use Rattle.fr_store.specs.Reading.{Tells, as_holder, holder_in, holder_shown, name_shown, variant_shown};
+ghost use Rattle.fr_store.specs.Tables.{HasTables};
+ghost use Rattle.fr_store.specs.declared.fault.StoreFault.TheVariants.{Unavailable};
+
+use crate::fault::StoreFault;
+use crate::slot_holder::Holder;
+use crate::tables;
+use crate::values::{flag_at, maybe_name_at, name_at, number_at};
+use fr_base::{Channel, Name, Slot};
+use fr_world::VariantRow;
+use sqlite::{Alter, Connection, Row};
+use std::alloc::Global;
+
+/// The supplier's nodes, in byte order. The only refusal is `Unavailable`.
+pub fn nodes<S: Alter>(
+    alloc: Global,
+    conn: &mut Connection<S>,
+    supplier: &Name,
+) -> Result<Vec<Name>, StoreFault>
+    ensures nodes { Tells (state S.Store conn.old) (state S.Store conn.new) result (λ c b names. names.items ≡ nodes_in b supplier.now) }
+    ensures refused { IfErr result (λ fault. fault ≡ Unavailable) }
+    ensures stays { HasCleanDisk (state S.Store conn.new) → HasTables (state S.Store conn.old).now → Stays (state S.Store conn.old) (state S.Store conn.new) }
+    ensures spares { Spares (state S.Store conn.old) (state S.Store conn.new) }
+{
+    let Ok(rows) = tables::nodes::of_supplier(conn, supplier) else {
+        return Err(StoreFault::Unavailable);
+    };
+    names_of(alloc, rows.as_slice()).ok_or(StoreFault::Unavailable)
+}
+
+// The names in the rows' first columns. None where one is no name, or memory is refused.
+fn names_of(alloc: Global, rows: &[Row]) -> Option<Vec<Name>>
+    ensures { IfSome result (λ names. names.items ≡ map name_shown rows.now) }
+{
+    let mut names = Vec::new(alloc);
+    for row in rows {
+        names.push(name_at(row, 0)?).ok()?;
+    }
+    Some(names)
+}
+
+/// The variants, by name. The only refusal is `Unavailable`.
+pub fn variants<S: Alter>(
+    alloc: Global,
+    conn: &mut Connection<S>,
+) -> Result<Vec<VariantRow>, StoreFault>
+    ensures variants { Tells (state S.Store conn.old) (state S.Store conn.new) result (λ c b rows. rows.items ≡ variants_in b) }
+    ensures refused { IfErr result (λ fault. fault ≡ Unavailable) }
+    ensures stays { HasCleanDisk (state S.Store conn.new) → HasTables (state S.Store conn.old).now → Stays (state S.Store conn.old) (state S.Store conn.new) }
+    ensures spares { Spares (state S.Store conn.old) (state S.Store conn.new) }
+{
+    let Ok(rows) = tables::variants::all(conn) else {
+        return Err(StoreFault::Unavailable);
+    };
+    variants_of(alloc, rows.as_slice()).ok_or(StoreFault::Unavailable)
+}
+
+// The variants in the rows. None where a row has not its form, or memory is refused.
+fn variants_of(alloc: Global, rows: &[Row]) -> Option<Vec<VariantRow>>
+    ensures { IfSome result (λ found. found.items ≡ map variant_shown rows.now) }
+{
+    let mut found = Vec::new(alloc);
+    for row in rows {
+        found
+            .push(VariantRow {
+                variant: name_at(row, 0)?,
+                parent: maybe_name_at(row, 1)?,
+                depth: number_at(row, 2)?,
+                released: flag_at(row, 3)?,
+            })
+            .ok()?;
+    }
+    Some(found)
+}
+
+/// Who holds the slot on the channel in the variant. The only refusal is `Unavailable`.
+pub fn holder<S: Alter>(
+    conn: &mut Connection<S>,
+    variant: &Name,
+    slot: Slot,
+    channel: Channel,
+) -> Result<Option<Holder>, StoreFault>
+    ensures holder { Tells (state S.Store conn.old) (state S.Store conn.new) result (λ c b found. option_map as_holder found ≡ holder_in b variant.now (slot, channel)) }
+    ensures refused { IfErr result (λ fault. fault ≡ Unavailable) }
+    ensures stays { HasCleanDisk (state S.Store conn.new) → HasTables (state S.Store conn.old).now → Stays (state S.Store conn.old) (state S.Store conn.new) }
+    ensures spares { Spares (state S.Store conn.old) (state S.Store conn.new) }
+{
+    let Ok(rows) = tables::grants::holder(conn, variant, slot, channel) else {
+        return Err(StoreFault::Unavailable);
+    };
+    first_holder(rows.as_slice()).ok_or(StoreFault::Unavailable)
+}
+
+// The holder in the first row, if there is one. None where it has not its form.
+fn first_holder(rows: &[Row]) -> Option<Option<Holder>>
+    ensures { IfSome result (λ found. found ≡ option_map holder_shown (slice_get rows.now 0)) }
+{
+    match rows.first() {
+        Some(row) => Some(Some(holder_of(row)?)),
+        None => Some(None),
+    }
+}
+
+fn holder_of(row: &Row) -> Option<Holder>
+    ensures { IfSome result (λ found. found ≡ holder_shown row.now) }
+{
+    Some(Holder {
+        supplier: name_at(row, 0)?,
+        node: name_at(row, 1)?,
+    })
+}
