@@ -16,7 +16,7 @@ use Rattle.fr_base.specs.Cells.{Cell, same_cell, cells_of, has_cell}
 use Rattle.fr_base.specs.Schedule.{fill, first_taken}
 use Rattle.fr_base.specs.Cluster.{Cluster}
 use Rattle.fr_base.specs.Names.{same_text}
-use Rattle.fr_base.specs.Book.{Holder, Frame, Variant, Book, Owner, held_by_node, is_of, own, granted, placements_of, schedule_of}
+use Rattle.fr_base.specs.Book.{Holder, Frame, Variant, Book, Sender, held_by_node, is_of, own, granted, placements_of, schedule_of}
 use Rattle.fr_base.specs.Sound.{IsSoundVariant, IsSound}
 use Rattle.fr_base.specs.Alone.{own_variant}
 use Rattle.fr_base.specs.declared.name.Name.{Name}
@@ -36,8 +36,8 @@ same_cell-itself c = ap is_eq (tied_itself (then_total (on_total (λ (d : Cell).
 
 -- ---- rows that don't have a cell
 
--- a frame's placements with their owner
-abbrev pub entries_of : (Name × Name) × Frame → List (Owner × Placement)
+-- a frame's placements with their sender
+abbrev pub entries_of : (Name × Name) × Frame → List (Sender × Placement)
 entries_of row = map (λ q. (record { supplier = row.0.0; frame = row.0.1; node = row.1.node }, q.0)) row.1.placements.rows
 
 -- no placement of the frame has the cell
@@ -60,14 +60,14 @@ found_first row rows = ap (λ r. cond r (Some row.1) (find owned.compare row.0 r
 pub placement_first : (p : Placement × ⊤) (ps : List (Placement × ⊤)) → is_some (find placement_order.compare p.0 (p ∷ ps)) ≡ true
 placement_first p ps = ap (λ r. is_some (cond r (Some p.1) (find placement_order.compare p.0 ps))) (ap is_eq (tied_itself placement_order.total p.0))
 
-pub none_of : (o : Owner) (ps : List (Placement × ⊤)) (c : Cell) (rest : List (Owner × Placement)) → ((q : Placement) → is_some (find placement_order.compare q ps) ≡ true → has_cell q c ≡ false) → fill (map (λ q. (o, q.0)) ps ++ rest) c ≡ fill rest c
+pub none_of : (o : Sender) (ps : List (Placement × ⊤)) (c : Cell) (rest : List (Sender × Placement)) → ((q : Placement) → is_some (find placement_order.compare q ps) ≡ true → has_cell q c ≡ false) → fill (map (λ q. (o, q.0)) ps ++ rest) c ≡ fill rest c
 unfolding fill
 none_of o [] c rest lacks = refl
 none_of o (p ∷ ps) c rest lacks =
     let here : has_cell p.0 c ≡ false = lacks p.0 (placement_first p ps) in
     rw here (none_of o ps c rest (λ q h. lacks q (further ps p q h)))
 
-fill-append : (xs ys zs : List (Owner × Placement)) (c : Cell) → fill ys c ≡ fill zs c → fill (xs ++ ys) c ≡ fill (xs ++ zs) c
+fill-append : (xs ys zs : List (Sender × Placement)) (c : Cell) → fill ys c ≡ fill zs c → fill (xs ++ ys) c ≡ fill (xs ++ zs) c
 unfolding fill
 fill-append [] ys zs c e = e
 fill-append (x ∷ xs) ys zs c e = ap (cond (has_cell x.1 c) (Some x.0)) (fill-append xs ys zs c e)

@@ -10,7 +10,7 @@ use Rattle.fr_base.specs.Cells.{Cell, has_cell}
 use Rattle.fr_base.specs.Schedule.{fill}
 use Rattle.fr_base.specs.Cluster.{Cluster}
 use Rattle.fr_base.specs.Names.{same_text}
-use Rattle.fr_base.specs.Book.{Frame, Variant, Book, Owner, is_of, own, placements_of, schedule_of}
+use Rattle.fr_base.specs.Book.{Frame, Variant, Book, Sender, is_of, own, placements_of, schedule_of}
 use Rattle.fr_base.specs.Sound.{IsSoundVariant, IsSound}
 use Rattle.fr_base.specs.Alone.{own_variant, own_sender}
 use Rattle.fr_base.specs.declared.name.Name.{Name}
@@ -31,7 +31,7 @@ module _ (s : Name) (c : Cell) where
         | inr other ↦ rw other rest
       ]
 
-  fill_own : (o : Owner) → same_text o.supplier s ≡ true → (ps : List (Placement × ⊤)) (mine all : List (Owner × Placement)) → fill mine c ≡ own_sender s (fill all c) →
+  fill_own : (o : Sender) → same_text o.supplier s ≡ true → (ps : List (Placement × ⊤)) (mine all : List (Sender × Placement)) → fill mine c ≡ own_sender s (fill all c) →
       fill (map (λ q. (o, q.0)) ps ++ mine) c ≡ own_sender s (fill (map (λ q. (o, q.0)) ps ++ all) c)
   unfolding fill
   fill_own o own [] mine all e = e
@@ -40,7 +40,7 @@ module _ (s : Name) (c : Cell) where
     | inr free ↦ rw free (fill_own o own ps mine all e)
   ]
 
-  fill_other : (o : Owner) → same_text o.supplier s ≡ false → (ps : List (Placement × ⊤)) (mine all : List (Owner × Placement)) → fill mine c ≡ own_sender s (fill all c) →
+  fill_other : (o : Sender) → same_text o.supplier s ≡ false → (ps : List (Placement × ⊤)) (mine all : List (Sender × Placement)) → fill mine c ≡ own_sender s (fill all c) →
       ((q : Placement) → is_some (find placement_order.compare q ps) ≡ true → has_cell q c ≡ true → fill mine c ≡ None) → fill mine c ≡ own_sender s (fill (map (λ q. (o, q.0)) ps ++ all) c)
   unfolding fill
   fill_other o other [] mine all e none = e

@@ -14,7 +14,7 @@ use Rattle.fr_base.specs.Channels.{channels_in}
 use Rattle.fr_base.specs.Cells.{Cell, cells_in, cells_of, has_cell, same_cell}
 use Rattle.fr_base.specs.Cycles.{cycles_of}
 use Rattle.fr_base.specs.Schedule.{fill, first_taken}
-use Rattle.fr_base.specs.Book.{Frame, Owner, placements_of, schedule_of}
+use Rattle.fr_base.specs.Book.{Frame, Sender, placements_of, schedule_of}
 use Rattle.fr_base.specs.declared.channel.Channel.{Channel}
 use Rattle.fr_base.specs.declared.channel.Channel.TheVariants as channel
 use Rattle.fr_base.specs.declared.channel.Channels.{Channels}
@@ -109,7 +109,7 @@ none_of_one o (r ∷ rs) q c e h = elim (cases_Bool (has_cell r.0 c)) [
   ]
 ]
 
-abbrev entries_of : (Name × Name) × Frame → List (Owner × Placement)
+abbrev entries_of : (Name × Name) × Frame → List (Sender × Placement)
 entries_of row = map (λ q. (record { supplier = row.0.0; frame = row.0.1; node = row.1.node }, q.0)) row.1.placements.rows
 
 none_of_rows : (rows : List ((Name × Name) × Frame)) (k : Name × Name) (f : Frame) (q : Placement) (c : Cell) → fill (flat_map entries_of rows) c ≡ None → find owned.compare k rows ≡ Some f → IsTrue (contains f.placements q) → has_cell q c ≡ false
@@ -145,7 +145,7 @@ any_of_one test o (r ∷ rs) q there h = elim (cases_Bool (eq_by_cmp placement_o
   | inr other ↦ or_right _ _ (any_of_one test o rs q (rw other at there) h)
 ]
 
-any_of_rows : (test : Owner × Placement → Bool) (rows : List ((Name × Name) × Frame)) (k : Name × Name) (f : Frame) (q : Placement) → find owned.compare k rows ≡ Some f → IsTrue (contains f.placements q) → IsTrue (test (record { supplier = k.0; frame = k.1; node = f.node }, q)) → IsTrue (list_any test (flat_map entries_of rows))
+any_of_rows : (test : Sender × Placement → Bool) (rows : List ((Name × Name) × Frame)) (k : Name × Name) (f : Frame) (q : Placement) → find owned.compare k rows ≡ Some f → IsTrue (contains f.placements q) → IsTrue (test (record { supplier = k.0; frame = k.1; node = f.node }, q)) → IsTrue (list_any test (flat_map entries_of rows))
 unfolding get
 any_of_rows test [] k f q there within h = cc
 any_of_rows test (row ∷ rows) k f q there within h =
@@ -160,6 +160,6 @@ any_of_rows test (row ∷ rows) k f q there within h =
       | inr other ↦ or_right _ _ (any_of_rows test rows k f q (rw other at there) within h)
     ]
 
-pub any_placement : (test : Owner × Placement → Bool) (frames : Table owned Frame) (k : Name × Name) (f : Frame) (q : Placement) → get frames k ≡ Some f → IsTrue (contains f.placements q) → IsTrue (test (record { supplier = k.0; frame = k.1; node = f.node }, q)) → IsTrue (list_any test (placements_of frames))
+pub any_placement : (test : Sender × Placement → Bool) (frames : Table owned Frame) (k : Name × Name) (f : Frame) (q : Placement) → get frames k ≡ Some f → IsTrue (contains f.placements q) → IsTrue (test (record { supplier = k.0; frame = k.1; node = f.node }, q)) → IsTrue (list_any test (placements_of frames))
 unfolding placements_of get
 any_placement test frames k f q there within h = any_of_rows test frames.rows k f q there within h

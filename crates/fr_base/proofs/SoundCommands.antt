@@ -8,7 +8,7 @@ use Rattle.fr_base.specs.Channels.{channels_in}
 use Rattle.fr_base.specs.Cells.{Cell}
 use Rattle.fr_base.specs.Cluster.{Cluster}
 use Rattle.fr_base.specs.Names.{is_name, same_text}
-use Rattle.fr_base.specs.Book.{Holder, Frame, Variant, Book, Owner, empty_variant, held_by_node, is_of, own, own_grants, granted}
+use Rattle.fr_base.specs.Book.{Holder, Frame, Variant, Book, Sender, empty_variant, held_by_node, is_of, own, own_grants, granted}
 use Rattle.fr_base.specs.Signals.{SignalData}
 use Rattle.fr_base.specs.Layouts.{admits_signal, with_signal, without_signal}
 use Rattle.fr_base.specs.Step.{own_rows, shared_by, cell_taken, layout_of, begun, common, add_node, admits_frame, admits, grants_after, frame_after, frames_after, changed, change_rows, done, perform, with_variant}
@@ -49,7 +49,7 @@ own-granted grants t s n q =
     ap (held_by_node s n) (only-stood channel_slots (λ _ h. same_text h.supplier t) grants key _ found ∙ sym found) ∙ h)
 
 -- a placement that is not refused has no taken cell
-not_taken : (r : Option (Cell × Owner)) (x : ⊤) → cell_taken r ≡ Ok x → r ≡ None
+not_taken : (r : Option (Cell × Sender)) (x : ⊤) → cell_taken r ≡ Ok x → r ≡ None
 unfolding cell_taken
 not_taken None x e = refl
 not_taken (Some taken) x e = cc

@@ -5,7 +5,7 @@ use Rattle.fr_base.specs.Tables.{get, only, each}
 use Rattle.fr_base.specs.Channels.{channel_of_text}
 use Rattle.fr_base.specs.Cluster.{Cluster}
 use Rattle.fr_base.specs.Names.{same_text}
-use Rattle.fr_base.specs.Book.{Holder, Variant, Book, Owner, own, own_grants}
+use Rattle.fr_base.specs.Book.{Holder, Variant, Book, Sender, own, own_grants}
 use Rattle.fr_base.specs.Step.{step}
 use Rattle.fr_base.specs.declared.name.Name.{Name}
 use Rattle.fr_base.specs.declared.answer.Answer.{Answer}
@@ -34,7 +34,7 @@ rows_of s b = record {
 }
 
 -- who sends in a cell, where it is the supplier
-abbrev pub own_sender : Name → Option Owner → Option Owner
+abbrev pub own_sender : Name → Option Sender → Option Sender
 own_sender s None = None
 own_sender s (Some o) = if same_text o.supplier s then Some o else None
 

@@ -89,16 +89,16 @@ own_grants s grants = only (λ _ h. held_by s (Some h)) grants
 -- ---- who sends in which cell
 
 -- the frame that is sent in a cell: its supplier, its name, and its node
-pub record Owner : Type 0 where
+pub record Sender : Type 0 where
   pub supplier : Name
   pub frame : Name
   pub node : Name
 
--- each placement with its owner, frame by frame
-unfoldable pub placements_of : Table owned Frame → List (Owner × Placement)
+-- each placement with its sender, frame by frame
+unfoldable pub placements_of : Table owned Frame → List (Sender × Placement)
 placements_of frames =
     flat_map (λ row. map (λ q. (record { supplier = row.0.0; frame = row.0.1; node = row.1.node }, q.0)) row.1.placements.rows) frames.rows
 
 -- who sends in which cell
-unfoldable pub schedule_of : Table owned Frame → Cell → Option Owner
+unfoldable pub schedule_of : Table owned Frame → Cell → Option Sender
 schedule_of frames = fill (placements_of frames)

@@ -9,7 +9,7 @@ use Rattle.fr_base.specs.Schedule.{entries}
 use Rattle.fr_base.specs.Moments.{greatest_gap}
 use Rattle.fr_base.specs.Checks.{is_integrator}
 use Rattle.fr_base.specs.Names.{same_text}
-use Rattle.fr_base.specs.Book.{Holder, Frame, Variant, Book, Owner, own, own_grants, schedule_of}
+use Rattle.fr_base.specs.Book.{Holder, Frame, Variant, Book, Sender, own, own_grants, schedule_of}
 use Rattle.fr_base.specs.declared.channel.Channel.{Channel}
 use Rattle.fr_base.specs.declared.name.Name.{Name}
 use Rattle.fr_base.specs.declared.params.Params.{Params}
@@ -50,7 +50,7 @@ grant_row e = record { slot = e.0.0; channel = e.0.1; node = e.1.node; supplier 
 abbrev pub frame_row : (Name × Name) × Frame → FrameRow
 frame_row e = record { frame = e.0.1; node = e.1.node; supplier = e.0.0; placements = placements_in e.1 }
 
-abbrev pub sending : Cell × Owner → Sending
+abbrev pub sending : Cell × Sender → Sending
 sending e = record { cycle = e.0.cycle; slot = e.0.slot; channel = e.0.channel; frame = e.1.frame; node = e.1.node; supplier = e.1.supplier }
 
 abbrev pub gap_row : Params → (Name × Name) × Frame → GapRow

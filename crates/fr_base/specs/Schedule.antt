@@ -5,12 +5,12 @@ use Rattle.fr_base.specs.Cells.{Cell, has_cell}
 use Rattle.fr_base.specs.declared.placement.Placement.{Placement}
 
 -- Owners and their placements fill cells: each in turn fills those of its cells that are still empty.
--- So in a cell is the first owner whose placement has it.
+-- So in a cell is the first sender whose placement has it.
 unfoldable pub fill : {O : Type 0} → List (O × Placement) → Cell → Option O
 fill [] c = None
 fill (e ∷ es) c = if has_cell e.1 c then Some e.0 else fill es c
 
--- the first of the cells that is filled, with its owner
+-- the first of the cells that is filled, with its sender
 unfoldable pub first_taken : {O : Type 0} → (Cell → Option O) → List Cell → Option (Cell × O)
 first_taken filled [] = None
 first_taken filled (c ∷ cs) = found c (filled c) (first_taken filled cs)

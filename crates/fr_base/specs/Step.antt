@@ -14,7 +14,7 @@ use Rattle.fr_base.specs.Layouts.{LayoutData, has_signal, with_signal, without_s
 use Rattle.fr_base.specs.ImportRows.{rows_of_body}
 use Rattle.fr_base.specs.Queries.{reply}
 use Rattle.fr_base.specs.Names.{same_text}
-use Rattle.fr_base.specs.Book.{Holder, Frame, Variant, Kept, Book, Owner, empty_variant, held_by_node, own, own_grants, granted, placements_of, schedule_of}
+use Rattle.fr_base.specs.Book.{Holder, Frame, Variant, Kept, Book, Sender, empty_variant, held_by_node, own, own_grants, granted, placements_of, schedule_of}
 use Rattle.fr_base.specs.declared.limits.TheConstants.{MAX_NODES, MAX_VARIANTS, MAX_DEPTH, MAX_FRAMES, MAX_PLACEMENTS, MAX_IMPORTS, MAX_IMPORT_BYTES}
 use Rattle.fr_base.specs.declared.channel.Channel.{Channel}
 use Rattle.fr_base.specs.declared.name.Name.{Name}
@@ -96,7 +96,7 @@ own_rows p b s variant =
 -- what the suppliers share in a variant: which slots and channels are held, and who sends in which cell
 pub record Shared : Type 0 where
   pub held : ℕ × Channel → Bool
-  pub filled : Cell → Option Owner
+  pub filled : Cell → Option Sender
 
 -- what is shared where these are all grants and all frames
 unfoldable pub shared_by : Table channel_slots Holder → Table owned Frame → Shared
@@ -111,7 +111,7 @@ unfoldable pub in_use : ℕ × Channel → Table owned Frame → Bool
 in_use at frames = list_any (λ placed. fills at placed.1) (placements_of frames)
 
 -- a cell that is filled refuses a placement
-unfoldable pub cell_taken : Option (Cell × Owner) → Result ⊤ Refusal
+unfoldable pub cell_taken : Option (Cell × Sender) → Result ⊤ Refusal
 cell_taken None = Ok tt
 cell_taken (Some taken) = Err (CellTaken taken.0.cycle taken.0.channel taken.1.frame)
 

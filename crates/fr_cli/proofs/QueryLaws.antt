@@ -100,7 +100,7 @@ gaps_of-entries p a es h = frames_shown-rows a (λ e. gap_row p e ∷ []) es h �
 -- ---- the schedule
 
 -- the placements of the frames that the actor sees
-abbrev pub fillings_shown : Actor → List (Owned × PageFrame) → List (book.Owner × Placement)
+abbrev pub fillings_shown : Actor → List (Owned × PageFrame) → List (book.Sender × Placement)
 fillings_shown a es = frames_shown a (λ e. filled_by e.0 e.1) es
 
 pub placements_of-entries : (a : Actor) (es : List (Owned × PageFrame)) → IsStrictlySortedBy owned_cmp (keys_of es)
@@ -108,7 +108,7 @@ pub placements_of-entries : (a : Actor) (es : List (Owned × PageFrame)) → IsS
 unfolding book.placements_of
 placements_of-entries a es h = frames_shown-rows a (λ e. filled_by e.0 e.1) es h ∙ ap (λ (t : Table owned book.Frame). flat_map (λ e. filled_by e.0 e.1) t.rows) (frames-seen a (frames_table es))
 
-pub sendings_of-sent : (p : Params) (frames : Table owned book.Frame) (fs : List (book.Owner × Placement)) → fs ≡ book.placements_of frames → sent_in fs (cluster_cells p) ≡ sendings_of p frames
+pub sendings_of-sent : (p : Params) (frames : Table owned book.Frame) (fs : List (book.Sender × Placement)) → fs ≡ book.placements_of frames → sent_in fs (cluster_cells p) ≡ sendings_of p frames
 unfolding sendings_of sent_in book.schedule_of
 sendings_of-sent p frames fs e = ap (λ gs. sent_in gs (cluster_cells p)) e
 

@@ -11,7 +11,7 @@ use Rattle.fr_base.specs.TableRows.{first, second}
 use Rattle.fr_base.specs.Tables.{Order, Table, get, contains}
 use Rattle.fr_base.specs.Keys.{owned, placement_order}
 use Rattle.fr_base.specs.Cells.{Cell, has_cell}
-use Rattle.fr_base.specs.Book.{Frame, Owner, placements_of}
+use Rattle.fr_base.specs.Book.{Frame, Sender, placements_of}
 use Rattle.fr_base.specs.Queries.{placements_in}
 use Rattle.fr_base.specs.declared.name.Name.{Name}
 use Rattle.fr_base.specs.declared.placement.Placement.{Placement}
@@ -104,33 +104,33 @@ NoneShared frames = (k l : Name × Name) (f g : Frame) (q r : Placement) (c : Ce
     IsTrue (contains f.placements q) → IsTrue (contains g.placements r) →
     IsTrue (has_cell q c) → IsTrue (has_cell r c) → (k ≡ l) × (q ≡ r)
 
-abbrev Apart : Owner × Placement → Owner × Placement → Type 0
+abbrev Apart : Sender × Placement → Sender × Placement → Type 0
 Apart x y = AreApart x.1 y.1
 
-abbrev owner : Name × Name → Frame → Owner
-owner k f = record { supplier = k.0; frame = k.1; node = f.node }
+abbrev sender : Name × Name → Frame → Sender
+sender k f = record { supplier = k.0; frame = k.1; node = f.node }
 
-In-placements : (frames : Table owned Frame) (k : Name × Name) (f : Frame) (q : Placement) → get frames k ≡ Some f → IsTrue (contains f.placements q) → In (owner k f, q) (placements_of frames)
+In-placements : (frames : Table owned Frame) (k : Name × Name) (f : Frame) (q : Placement) → get frames k ≡ Some f → IsTrue (contains f.placements q) → In (sender k f, q) (placements_of frames)
 unfolding placements_of get
 In-placements frames k f q at within =
-    In-flat_map entries_of (k, f) (owner k f, q) frames.rows (find-In owned frames.rows k f at) (In-map (λ p. (owner k f, p.0)) (q, tt) f.placements.rows (contains-In f q within))
+    In-flat_map entries_of (k, f) (sender k f, q) frames.rows (find-In owned frames.rows k f at) (In-map (λ p. (sender k f, p.0)) (q, tt) f.placements.rows (contains-In f q within))
 
 pub pairs-none_shared : (frames : Table owned Frame) → AllPairs (λ x y. AreApart x.1 y.1) (placements_of frames) → NoneShared frames
 pairs-none_shared frames pairs k l f g q r c at_k at_l in_f in_g has_q has_r =
-    elim (AllPairs-In Apart (placements_of frames) (owner k f, q) (owner l g, r) pairs (In-placements frames k f q at_k in_f) (In-placements frames l g r at_l in_g)) [
-      | inl same ↦ (ap (λ (x : Owner × Placement). (x.0.supplier, x.0.frame)) same, ap (λ (x : Owner × Placement). x.1) same)
+    elim (AllPairs-In Apart (placements_of frames) (sender k f, q) (sender l g, r) pairs (In-placements frames k f q at_k in_f) (In-placements frames l g r at_l in_g)) [
+      | inl same ↦ (ap (λ (x : Sender × Placement). (x.0.supplier, x.0.frame)) same, ap (λ (x : Sender × Placement). x.1) same)
       | inr either ↦ elim either [ inl apart ↦ absurd (apart c has_q has_r) | inr apart ↦ absurd (apart c has_r has_q) ]
     ]
 
 -- within one frame
-pairs-frame : (o : Owner) (ps : List (Placement × ⊤)) → T (is_sorted placement_order.compare ps) →
+pairs-frame : (o : Sender) (ps : List (Placement × ⊤)) → T (is_sorted placement_order.compare ps) →
     ((p r : Placement × ⊤) (c : Cell) → In p ps → In r ps → IsTrue (has_cell p.0 c) → IsTrue (has_cell r.0 c) → p.0 ≡ r.0) → AllPairs Apart (map (λ p. (o, p.0)) ps)
 pairs-frame o [] sorted one = λ i j d low high. absurd (omega arith)
 pairs-frame o (p ∷ ps) sorted one =
     AllPairs-cons Apart (o, p.0) (map (λ p. (o, p.0)) ps)
     (In-All (Apart (o, p.0)) (map (λ p. (o, p.0)) ps) (λ y i c has_p has_y.
     let found = map-In (λ p. (o, p.0)) y ps i in
-    not_later placement_order p found.0 ps sorted found.1 (one p found.0 c (inl refl) (inr found.1) has_p (subst (λ (x : Owner × Placement). IsTrue (has_cell x.1 c)) (sym found.2) has_y))))
+    not_later placement_order p found.0 ps sorted found.1 (one p found.0 c (inl refl) (inr found.1) has_p (subst (λ (x : Sender × Placement). IsTrue (has_cell x.1 c)) (sym found.2) has_y))))
     (pairs-frame o ps (second _ _ sorted) (λ q r c i j. one q r c (inr i) (inr j)))
 
 abbrev OneEach : List ((Name × Name) × Frame) → Type 0
@@ -141,16 +141,16 @@ pairs-rows : (rows : List ((Name × Name) × Frame)) → T (is_sorted owned.comp
 pairs-rows [] sorted one = λ i j d low high. absurd (omega arith)
 pairs-rows (row ∷ rows) sorted one =
     AllPairs-append Apart (entries_of row) (flat_map entries_of rows)
-    (pairs-frame (owner row.0 row.1) row.1.placements.rows row.1.placements.sorted (λ p r c i j has_p has_r. (one row row p r c (inl refl) (inl refl) i j has_p has_r).1))
+    (pairs-frame (sender row.0 row.1) row.1.placements.rows row.1.placements.sorted (λ p r c i j has_p has_r. (one row row p r c (inl refl) (inl refl) i j has_p has_r).1))
     (pairs-rows rows (second _ _ sorted) (λ x y p r c i j. one x y p r c (inr i) (inr j)))
     (In-All (λ x. All (Apart x) (flat_map entries_of rows)) (entries_of row) (λ x i. In-All (Apart x) (flat_map entries_of rows) (λ y j c has_x has_y.
-    let mine = map-In (λ p. (owner row.0 row.1, p.0)) x row.1.placements.rows i in
+    let mine = map-In (λ p. (sender row.0 row.1, p.0)) x row.1.placements.rows i in
     let other = flat_map-In entries_of y rows j in
-    let its = map-In (λ p. (owner other.0.0 other.0.1, p.0)) y other.0.1.placements.rows other.2 in
+    let its = map-In (λ p. (sender other.0.0 other.0.1, p.0)) y other.0.1.placements.rows other.2 in
     not_later owned row other.0 rows sorted other.1
     (one row other.0 mine.0 its.0 c (inl refl) (inr other.1) mine.1 its.1
-    (subst (λ (u : Owner × Placement). IsTrue (has_cell u.1 c)) (sym mine.2) has_x)
-    (subst (λ (u : Owner × Placement). IsTrue (has_cell u.1 c)) (sym its.2) has_y)).0)))
+    (subst (λ (u : Sender × Placement). IsTrue (has_cell u.1 c)) (sym mine.2) has_x)
+    (subst (λ (u : Sender × Placement). IsTrue (has_cell u.1 c)) (sym its.2) has_y)).0)))
 
 pub none_shared-pairs : (frames : Table owned Frame) → NoneShared frames → AllPairs (λ x y. AreApart x.1 y.1) (placements_of frames)
 unfolding placements_of get

@@ -13,7 +13,7 @@ use Rattle.std.proofs.lemmas.List.Elements.{All-from_recursion, All-map, recursi
 use Rattle.std.proofs.lemmas.List.Folds.{flat_map-map}
 use Rattle.std.proofs.lemmas.Simd.{map-map}
 use Rattle.fr_base.specs.Book as book
-use Rattle.fr_base.specs.Book.{Owner, placements_of}
+use Rattle.fr_base.specs.Book.{Sender, placements_of}
 use Rattle.fr_base.specs.Keys.{owned, placement_order}
 use Rattle.fr_base.specs.Queries.{placements_in}
 use Rattle.fr_base.specs.TableRows.{first, second}
@@ -81,15 +81,15 @@ none_of none = (λ e. absurd (true≢false (sym e)), λ p. absurd (none p))
 abbrev frame_row : Name → Name × PageFrame → (Name × Name) × book.Frame
 frame_row s e = ((s, e.0), frame_of (frame_data e.1))
 
-abbrev with_owner : (Name × Name) × book.Frame → Placement → Owner × Placement
+abbrev with_owner : (Name × Name) × book.Frame → Placement → Sender × Placement
 with_owner row q = (record { supplier = row.0.0; frame = row.0.1; node = row.1.node }, q)
 
 -- the placements of some frames, without their owners
-without_owners : (rows : List ((Name × Name) × book.Frame)) → map (λ (x : Owner × Placement). x.1) (flat_map (λ row. map (λ q. with_owner row q.0) row.1.placements.rows) rows) ≡ flat_map (λ row. placements_in row.1) rows
+without_owners : (rows : List ((Name × Name) × book.Frame)) → map (λ (x : Sender × Placement). x.1) (flat_map (λ row. map (λ q. with_owner row q.0) row.1.placements.rows) rows) ≡ flat_map (λ row. placements_in row.1) rows
 without_owners [] = refl
 without_owners (row ∷ rows) =
-    map-append (λ (x : Owner × Placement). x.1) (map (λ q. with_owner row q.0) row.1.placements.rows) (flat_map (λ row. map (λ q. with_owner row q.0) row.1.placements.rows) rows)
-    ∙ (λ i. map-map (λ (x : Owner × Placement). x.1) (λ q. with_owner row q.0) row.1.placements.rows i ++ without_owners rows i)
+    map-append (λ (x : Sender × Placement). x.1) (map (λ q. with_owner row q.0) row.1.placements.rows) (flat_map (λ row. map (λ q. with_owner row q.0) row.1.placements.rows) rows)
+    ∙ (λ i. map-map (λ (x : Sender × Placement). x.1) (λ q. with_owner row q.0) row.1.placements.rows i ++ without_owners rows i)
 
 module _ (r : PageRows) (nodes_rise : IsStrictlySortedBy name_cmp r.nodes.keys) (grants_rise : IsStrictlySortedBy slot_cmp (keys_of r.grants.entries)) (rises : IsStrictlySortedBy name_cmp (keys_of r.frames.entries)) where
   rise : IsStrictlySortedBy name_cmp (keys_of (frames_data r.frames.entries))
@@ -104,7 +104,7 @@ module _ (r : PageRows) (nodes_rise : IsStrictlySortedBy name_cmp r.nodes.keys) 
   count_frames : len (own_rows_of (rows_data r)).frames ≡ length r.frames.entries
   count_frames = len-table_of name_cmp owned (λ f. (r.supplier, f)) frame_of (own_alike r.supplier) (frames_data r.frames.entries) rise ∙ length-map r.frames.entries _
 
-  all_placements : map (λ (x : Owner × Placement). x.1) (placements_of (own_rows_of (rows_data r)).frames) ≡ flat_map (λ e. placements_in (frame_of (frame_data e.1))) r.frames.entries
+  all_placements : map (λ (x : Sender × Placement). x.1) (placements_of (own_rows_of (rows_data r)).frames) ≡ flat_map (λ e. placements_in (frame_of (frame_data e.1))) r.frames.entries
   unfolding placements_of
   all_placements =
       without_owners (own_rows_of (rows_data r)).frames.rows

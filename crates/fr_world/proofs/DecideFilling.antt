@@ -12,7 +12,7 @@ use Rattle.std.proofs.lemmas.List.Elements.{All-head, All-tail, All-cons, All-ma
 use Rattle.std.proofs.lemmas.List.Concat.{flat_map-append}
 use Rattle.std.proofs.lemmas.List.Kept.{AllPairs-cons}
 use Rattle.fr_base.specs.Book as book
-use Rattle.fr_base.specs.Book.{Owner, placements_of, schedule_of}
+use Rattle.fr_base.specs.Book.{Sender, placements_of, schedule_of}
 use Rattle.fr_base.specs.Cells.{Cell, cells_of, has_cell, same_cell}
 use Rattle.fr_base.specs.Channels.{channel_number}
 use Rattle.fr_base.specs.Keys.{owned}
@@ -97,13 +97,13 @@ free-apart xs f q ys apart = ap is_none (none_taken (fill xs) (cells_of q) (λ c
 abbrev pub filled_in : List (Name × PageFrame) → List (Name × Placement)
 filled_in es = flat_map (λ e. filled_by e.0 (frame_of (frame_data e.1))) es
 
-abbrev named : Owner × Placement → Name × Placement
+abbrev named : Sender × Placement → Name × Placement
 named e = (e.0.frame, e.1)
 
-abbrev entries_of : (Name × Name) × book.Frame → List (Owner × Placement)
+abbrev entries_of : (Name × Name) × book.Frame → List (Sender × Placement)
 entries_of row = map (λ q. (record { supplier = row.0.0; frame = row.0.1; node = row.1.node }, q.0)) row.1.placements.rows
 
-named-entries : (o : Owner) (ps : List (Placement × ⊤)) → map named (map (λ q. (o, q.0)) ps) ≡ map (λ q. (o.frame, q)) (map (λ q. q.0) ps)
+named-entries : (o : Sender) (ps : List (Placement × ⊤)) → map named (map (λ q. (o, q.0)) ps) ≡ map (λ q. (o.frame, q)) (map (λ q. q.0) ps)
 named-entries o [] = refl
 named-entries o (p ∷ ps) = ap (λ rest. (o.frame, p.0) ∷ rest) (named-entries o ps)
 
@@ -136,7 +136,7 @@ page-apart rows es e h kept = subst Apart (named-page rows es e h) (pairs-map (�
 
 -- ---- the first taken cell, with its frame
 
-fill-named : (xs : List (Owner × Placement)) (c : Cell) → fill (map named xs) c ≡ option_map (λ o. o.frame) (fill xs c)
+fill-named : (xs : List (Sender × Placement)) (c : Cell) → fill (map named xs) c ≡ option_map (λ o. o.frame) (fill xs c)
 unfolding fill
 fill-named [] c = refl
 fill-named (x ∷ xs) c = elim (has_cell x.1 c) as (λ b. cond b (Some x.0.frame) (fill (map named xs) c) ≡ option_map (λ o. o.frame) (cond b (Some x.0) (fill xs c))) [
@@ -149,7 +149,7 @@ option_is None = inr refl
 option_is (Some x) = inl (x, refl)
 
 -- cells that have the same frames have the same first taken cell
-taken-like : (filled : Cell → Option Name) (owners : Cell → Option Owner) → ((c : Cell) → filled c ≡ option_map (λ o. o.frame) (owners c)) → (ds : List Cell) → option_map taken_cell (first_taken filled ds) ≡ option_map taken_by (first_taken owners ds)
+taken-like : (filled : Cell → Option Name) (owners : Cell → Option Sender) → ((c : Cell) → filled c ≡ option_map (λ o. o.frame) (owners c)) → (ds : List Cell) → option_map taken_cell (first_taken filled ds) ≡ option_map taken_by (first_taken owners ds)
 unfolding first_taken
 taken-like filled owners same [] = refl
 taken-like filled owners same (d ∷ ds) = elim (option_is (owners d)) [
@@ -157,7 +157,7 @@ taken-like filled owners same (d ∷ ds) = elim (option_is (owners d)) [
   | inr none ↦ rw (same d, none) (taken-like filled owners same ds)
 ]
 
-refused-taken : (r : Option (Cell × Owner)) → cell_refused (option_map taken_by r) ≡ cell_taken r
+refused-taken : (r : Option (Cell × Sender)) → cell_refused (option_map taken_by r) ≡ cell_taken r
 unfolding cell_taken
 refused-taken None = refl
 refused-taken (Some x) = refl

@@ -11,7 +11,7 @@ use Rattle.fr_base.specs.Refusing.{◌>>=◌, ◌>>◌, ◌or◌, refuse◌when�
 use Rattle.fr_base.specs.Tables.{get, contains, len}
 use Rattle.fr_base.specs.Keys.{owned, channel_slots, placement_order}
 use Rattle.fr_base.specs.Book as book
-use Rattle.fr_base.specs.Book.{Owner, placements_of}
+use Rattle.fr_base.specs.Book.{Sender, placements_of}
 use Rattle.fr_base.specs.Queries.{placements_in}
 use Rattle.fr_base.specs.Step.{fills, in_use, shared_by, admits_frame, admits}
 use Rattle.fr_base.specs.declared.channel.Channel.{Channel}
@@ -78,13 +78,13 @@ frames-rows rows es e h =
 
 -- ---- whether a placement fills a slot
 
-abbrev entries_of : (Name × Name) × book.Frame → List (Owner × Placement)
+abbrev entries_of : (Name × Name) × book.Frame → List (Sender × Placement)
 entries_of row = map (λ q. (record { supplier = row.0.0; frame = row.0.1; node = row.1.node }, q.0)) row.1.placements.rows
 
-abbrev pass : (Placement → Bool) → Owner × Placement → Bool
+abbrev pass : (Placement → Bool) → Sender × Placement → Bool
 pass test e = test e.1
 
-any-entries : (o : Owner) (test : Placement → Bool) (ps : List (Placement × ⊤)) → list_any (pass test) (map (λ q. (o, q.0)) ps) ≡ list_any test (map (λ q. q.0) ps)
+any-entries : (o : Sender) (test : Placement → Bool) (ps : List (Placement × ⊤)) → list_any (pass test) (map (λ q. (o, q.0)) ps) ≡ list_any test (map (λ q. q.0) ps)
 any-entries o test [] = refl
 any-entries o test (p ∷ ps) = ap (λ b. test p.0 || b) (any-entries o test ps)
 

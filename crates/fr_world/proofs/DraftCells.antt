@@ -9,7 +9,7 @@ use Rattle.std.proofs.lemmas.List.Concat.{flat_map-append}
 use Rattle.fr_base.specs.TableRows.{first, second}
 use Rattle.fr_base.specs.Tables.{Order, Table, empty, get, insert}
 use Rattle.fr_base.specs.Keys.{owned, placement_order}
-use Rattle.fr_base.specs.Book.{Frame, Owner, placements_of, schedule_of}
+use Rattle.fr_base.specs.Book.{Frame, Sender, placements_of, schedule_of}
 use Rattle.fr_base.specs.Cells.{Cell, cells_of, has_cell, same_cell}
 use Rattle.fr_base.specs.Schedule.{fill, first_taken}
 use Rattle.fr_base.specs.Signals.{SignalData}
@@ -109,15 +109,15 @@ none-first : {A : Type 0} (r s : Option A) → or_else r s ≡ None → (r ≡ N
 none-first None s h = (refl, h)
 none-first (Some x) s h = cc
 
-abbrev entries_of : (Name × Name) × Frame → List (Owner × Placement)
+abbrev entries_of : (Name × Name) × Frame → List (Sender × Placement)
 entries_of row = map (λ q. (record { supplier = row.0.0; frame = row.0.1; node = row.1.node }, q.0)) row.1.placements.rows
 
 module _ (c : Cell) where
   -- by these frames, and by this one
-  abbrev sent : List ((Name × Name) × Frame) → Option Owner
+  abbrev sent : List ((Name × Name) × Frame) → Option Sender
   sent rows = fill (flat_map entries_of rows) c
 
-  abbrev sent_by : (Name × Name) × Frame → Option Owner
+  abbrev sent_by : (Name × Name) × Frame → Option Sender
   sent_by row = fill (entries_of row) c
 
   sent-append : (xs ys : List ((Name × Name) × Frame)) → sent (xs ++ ys) ≡ or_else (sent xs) (sent ys)
@@ -145,7 +145,7 @@ module _ (c : Cell) where
           ∙ sym (ap sent stood.old ∙ sent-among stood.before (k, f) stood.after)
 
       -- where none sent, one that sends there is the only one
-      sent-new : (o : Owner) → schedule_of frames c ≡ None → (sent_by (k, f) ≡ None → sent_by (k, g) ≡ Some o) → schedule_of (insert frames k g) c ≡ Some o
+      sent-new : (o : Sender) → schedule_of frames c ≡ None → (sent_by (k, f) ≡ None → sent_by (k, g) ≡ Some o) → schedule_of (insert frames k g) c ≡ Some o
       unfolding schedule_of placements_of get insert
       sent-new o free sends =
           let stood = put-stood owned k g f frames.rows frames.sorted found in
@@ -218,17 +218,17 @@ module _ (pairs : List (Name × Placement)) (frames : Table owned Frame) (shows 
     pub place-shown : (q : Placement) → first_taken (schedule_of frames) (cells_of q) ≡ None → ShowCells (pairs ++ (k.1, q) ∷ []) (insert frames k (record f { placements = insert f.placements q tt }))
     unfolding fill has_cell insert
     place-shown q free c =
-        let owner : Owner = record { supplier = k.0; frame = k.1; node = f.node } in
+        let sender : Sender = record { supplier = k.0; frame = k.1; node = f.node } in
         let more : Frame = record f { placements = insert f.placements q tt } in
         elim (cases_Bool (has_cell q c)) [
           | inl has ↦
               let none = none_filled (schedule_of frames) (cells_of q) c free has in
-              let sends = sent-new c frames k more f found owner none (more-has c owner q has f.placements.rows) in
+              let sends = sent-new c frames k more f found sender none (more-has c sender q has f.placements.rows) in
               fill-append pairs ((k.1, q) ∷ []) c
               ∙ ap (λ r. or_else r (cond (has_cell q c) (Some k.1) None)) (shows c ∙ ap (option_map (λ o. o.frame)) none)
               ∙ ap (λ b. cond b (Some k.1) None) has ∙ ap (option_map (λ o. o.frame)) (sym sends)
           | inr lacks ↦
-              let same = sent-same c frames k more f found (more-lacks c owner q lacks f.placements.rows) in
+              let same = sent-same c frames k more f found (more-lacks c sender q lacks f.placements.rows) in
               fill-append pairs ((k.1, q) ∷ []) c
               ∙ ap (λ b. or_else (fill pairs c) (cond b (Some k.1) None)) lacks ∙ or-none (fill pairs c)
               ∙ shows c ∙ ap (option_map (λ o. o.frame)) (sym same)

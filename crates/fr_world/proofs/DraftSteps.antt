@@ -3,7 +3,7 @@ use Rattle.std.proofs.Common.{◌≡◌, ◌++◌, [], ◌∷◌, false, List, O
 use Rattle.std.specs.Prelude.{⊤}
 use Rattle.fr_base.specs.Refusing.{◌>>=◌, ◌>>◌, ◌or◌}
 use Rattle.fr_base.specs.Tables.{get, settle}
-use Rattle.fr_base.specs.Book.{Frame, Owner, schedule_of}
+use Rattle.fr_base.specs.Book.{Frame, Sender, schedule_of}
 use Rattle.fr_base.specs.Cells.{Cell, cells_of}
 use Rattle.fr_base.specs.Layouts.{admits_signal}
 use Rattle.fr_base.specs.Schedule.{fill, first_taken}
@@ -46,12 +46,12 @@ none-there : {A : Type 0} (r : Option A) → is_some r ≡ false → r ≡ None
 none-there None h = refl
 none-there (Some x) h = cc
 
-not-taken : (r : Option (Cell × Owner)) (x : ⊤) → cell_taken r ≡ Ok x → r ≡ None
+not-taken : (r : Option (Cell × Sender)) (x : ⊤) → cell_taken r ≡ Ok x → r ≡ None
 unfolding cell_taken
 not-taken None x e = refl
 not-taken (Some taken) x e = cc
 
-none-taken : (filled : Cell → Option Name) (owners : Cell → Option Owner) → ((c : Cell) → filled c ≡ option_map (λ o. o.frame) (owners c)) → (ds : List Cell) → first_taken owners ds ≡ None → first_taken filled ds ≡ None
+none-taken : (filled : Cell → Option Name) (owners : Cell → Option Sender) → ((c : Cell) → filled c ≡ option_map (λ o. o.frame) (owners c)) → (ds : List Cell) → first_taken owners ds ≡ None → first_taken filled ds ≡ None
 unfolding first_taken
 none-taken filled owners same [] e = refl
 none-taken filled owners same (d ∷ ds) e = elim (option_is (owners d)) [

@@ -13,7 +13,7 @@ use Rattle.fr_base.specs.Channels.{channels_in, has_channel}
 use Rattle.fr_base.specs.Cells.{Cell, cells_of, has_cell}
 use Rattle.fr_base.specs.Schedule.{first_taken}
 use Rattle.fr_base.specs.Parameters.{check_params}
-use Rattle.fr_base.specs.Book.{Frame, Holder, Owner, held_by_node, granted, schedule_of}
+use Rattle.fr_base.specs.Book.{Frame, Holder, Sender, held_by_node, granted, schedule_of}
 use Rattle.fr_base.specs.Signals.{SignalData}
 use Rattle.fr_base.specs.Layouts.{IsLayout, with_signal, without_signal, admits_signal}
 use Rattle.fr_base.specs.Step.{OwnRows, Shared, shared_by, fills, in_use, cell_taken, layout_of, admits_frame, admits, grants_after, frame_after, frames_after}
@@ -226,7 +226,7 @@ still_granted grants frames at s n free k f q there within =
 -- ---- what the page admits
 
 -- a placement that is not refused has no taken cell
-not_taken : (r : Option (Cell × Owner)) (x : ⊤) → cell_taken r ≡ Ok x → r ≡ None
+not_taken : (r : Option (Cell × Sender)) (x : ⊤) → cell_taken r ≡ Ok x → r ≡ None
 unfolding cell_taken
 not_taken None x e = refl
 not_taken (Some taken) x e = cc

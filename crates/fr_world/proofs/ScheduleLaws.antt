@@ -34,26 +34,26 @@ has_cell_parts = has_cell-parts
 
 -- ---- what is sent in some cells
 
-pub sent-nothing : (fs : List (book.Owner × Placement)) → sent_in fs [] ≡ []
+pub sent-nothing : (fs : List (book.Sender × Placement)) → sent_in fs [] ≡ []
 unfolding sent_in entries
 sent-nothing fs = refl
 
-pub sent-append : (fs : List (book.Owner × Placement)) (xs ys : List Cell) → sent_in fs (xs ++ ys) ≡ sent_in fs xs ++ sent_in fs ys
+pub sent-append : (fs : List (book.Sender × Placement)) (xs ys : List Cell) → sent_in fs (xs ++ ys) ≡ sent_in fs xs ++ sent_in fs ys
 unfolding sent_in entries
 sent-append fs xs ys =
     ap (map sending) (filter_map-append (λ c. option_map (λ o. (c, o)) (fill fs c)) xs ys)
     ∙ map-append sending (entries (fill fs) xs) (entries (fill fs) ys)
 
-sent_as : (c : Cell) (r : Option book.Owner) → map sending (cons_option (option_map (λ o. (c, o)) r) []) ≡ cons_option (option_map (λ o. sending (c, o)) r) []
+sent_as : (c : Cell) (r : Option book.Sender) → map sending (cons_option (option_map (λ o. (c, o)) r) []) ≡ cons_option (option_map (λ o. sending (c, o)) r) []
 sent_as c None = refl
 sent_as c (Some o) = refl
 
-pub sent-cell : (fs : List (book.Owner × Placement)) (c : Cell) → sent_in fs (c ∷ []) ≡ cons_option (option_map (λ o. sending (c, o)) (fill fs c)) []
+pub sent-cell : (fs : List (book.Sender × Placement)) (c : Cell) → sent_in fs (c ∷ []) ≡ cons_option (option_map (λ o. sending (c, o)) (fill fs c)) []
 unfolding sent_in entries
 sent-cell fs c = sent_as c (fill fs c)
 
 -- first some cells, and then others
-pub sent-more : (fs : List (book.Owner × Placement)) (old mid new : List Sending) (xs ys : List Cell) → mid ≡ old ++ sent_in fs xs → new ≡ mid ++ sent_in fs ys → new ≡ old ++ sent_in fs (xs ++ ys)
+pub sent-more : (fs : List (book.Sender × Placement)) (old mid new : List Sending) (xs ys : List Cell) → mid ≡ old ++ sent_in fs xs → new ≡ mid ++ sent_in fs ys → new ≡ old ++ sent_in fs (xs ++ ys)
 sent-more fs old mid new xs ys m n =
     n ∙ ap (λ rows. rows ++ sent_in fs ys) m
     ∙ append_assoc old (sent_in fs xs) (sent_in fs ys)
@@ -82,7 +82,7 @@ pub cells-column : (k slot : ℕ) (chs : List Channel) → cells_in (k ∷ []) (
 cells-column k slot chs = append-nil (column k slot chs ++ []) ∙ append-nil (column k slot chs)
 
 -- one channel more of a slot: what is sent there, if anything is
-pub sent-channel : (fs gs : List (book.Owner × Placement)) (k slot : ℕ) (chs : List Channel) (i : ℕ) (x y : Channel) (old mid new : List Sending) (r : Option Sending) → i < length chs → x ≡ get_or chs i y
+pub sent-channel : (fs gs : List (book.Sender × Placement)) (k slot : ℕ) (chs : List Channel) (i : ℕ) (x y : Channel) (old mid new : List Sending) (r : Option Sending) → i < length chs → x ≡ get_or chs i y
     → mid ≡ old ++ sent_in fs (column k slot (take i chs))
     → r ≡ option_map (λ o. sending (cell k slot x, o)) (fill gs (cell k slot x)) → gs ≡ fs
     → new ≡ mid ++ cons_option r []
@@ -94,7 +94,7 @@ sent-channel fs gs k slot chs i x y old mid new r l e h found same g =
     (sym (map-append (λ x. cell k slot x) (take i chs) (x ∷ [])) ∙ ap (column k slot) (ap (λ z. take i chs ++ z ∷ []) e ∙ sym (take_more chs i y l)))
 
 -- one slot more of a cycle
-pub sent-slot : (fs : List (book.Owner × Placement)) (k : ℕ) (chs : List Channel) (slots : List ℕ) (i slot : ℕ) (old mid new : List Sending) → i < length slots → slot ≡ get_or slots i slot
+pub sent-slot : (fs : List (book.Sender × Placement)) (k : ℕ) (chs : List Channel) (slots : List ℕ) (i slot : ℕ) (old mid new : List Sending) → i < length slots → slot ≡ get_or slots i slot
     → mid ≡ old ++ sent_in fs (cells_in (k ∷ []) (take i slots) chs)
     → new ≡ mid ++ sent_in fs (cells_in (k ∷ []) (slot ∷ []) chs)
     → new ≡ old ++ sent_in fs (cells_in (k ∷ []) (take (i + 1) slots) chs)
@@ -104,7 +104,7 @@ sent-slot fs k chs slots i slot old mid new l e h g =
     ∙ ap (λ xs. old ++ sent_in fs (cells_in (k ∷ []) xs chs)) (ap (λ x. take i slots ++ x ∷ []) e ∙ sym (take_more slots i slot l))
 
 -- one cycle more
-pub sent-cycle : (fs : List (book.Owner × Placement)) (slots : List ℕ) (chs : List Channel) (mid new : List Sending) (k n : ℕ) → n ≡ suc k
+pub sent-cycle : (fs : List (book.Sender × Placement)) (slots : List ℕ) (chs : List Channel) (mid new : List Sending) (k n : ℕ) → n ≡ suc k
     → mid ≡ sent_in fs (cells_in (range_with_len 0 k) slots chs)
     → new ≡ mid ++ sent_in fs (cells_in (k ∷ []) slots chs)
     → new ≡ sent_in fs (cells_in (range_with_len 0 n) slots chs)
@@ -116,7 +116,7 @@ sent-cycle fs slots chs mid new k n f h g =
 -- ---- what is not in a cycle or a slot
 
 -- who sends in a placement's cells
-abbrev pub owner_in : FrameTriggering → book.Owner
+abbrev pub owner_in : FrameTriggering → book.Sender
 owner_in p = record { supplier = p.supplier; frame = p.frame; node = p.node }
 
 undue : (k slot : ℕ) (x : Channel) (p : FrameTriggering) → is_due k p ≡ false → has_cell p.placement (cell k slot x) ≡ false
@@ -139,7 +139,7 @@ fill-due k slot x (p ∷ ps) =
       | false ↦ λ h. fill-due k slot x ps ∙ ap (λ b. cond b (Some (owner_in p)) (fill (filled ps) c)) (sym (h refl))
     ] (undue k slot x p)
 
-fill-nothing : (c : Cell) → None ≡ fill {O = book.Owner} [] c
+fill-nothing : (c : Cell) → None ≡ fill {O = book.Sender} [] c
 unfolding fill
 fill-nothing c = refl
 
@@ -158,7 +158,7 @@ fill-unused (p ∷ ps) k slot x e =
     ] e (elsewhere k slot x p)
 
 -- where owners fill a slot's cells alike, the same is sent there
-sent-alike : (fs gs : List (book.Owner × Placement)) (k slot : ℕ) (chs : List Channel) → ((x : Channel) → fill fs (cell k slot x) ≡ fill gs (cell k slot x)) → sent_in fs (column k slot chs) ≡ sent_in gs (column k slot chs)
+sent-alike : (fs gs : List (book.Sender × Placement)) (k slot : ℕ) (chs : List Channel) → ((x : Channel) → fill fs (cell k slot x) ≡ fill gs (cell k slot x)) → sent_in fs (column k slot chs) ≡ sent_in gs (column k slot chs)
 sent-alike fs gs k slot [] h = sent-nothing fs ∙ sym (sent-nothing gs)
 sent-alike fs gs k slot (x ∷ chs) h =
     let c : Cell = cell k slot x in
@@ -269,11 +269,11 @@ some_slot r number e f = cc
 -- ---- the placements of frames
 
 -- in all cells they are sent as a query shows
-pub sendings_of-sent : (p : Params) (frames : Table owned book.Frame) (fs : List (book.Owner × Placement)) → fs ≡ book.placements_of frames → sent_in fs (cluster_cells p) ≡ sendings_of p frames
+pub sendings_of-sent : (p : Params) (frames : Table owned book.Frame) (fs : List (book.Sender × Placement)) → fs ≡ book.placements_of frames → sent_in fs (cluster_cells p) ≡ sendings_of p frames
 unfolding sendings_of sent_in book.schedule_of
 sendings_of-sent p frames fs e = ap (λ gs. map sending (entries (fill gs) (cluster_cells p))) e
 
 -- and those of a page in the cells of a cycle
-pub page_sendings-sent : (page : OwnRows) (fs : List (book.Owner × Placement)) (k : ℕ) → fs ≡ book.placements_of page.frames → sent_in fs (cycle_cells page.params k) ≡ page_sendings page k
+pub page_sendings-sent : (page : OwnRows) (fs : List (book.Sender × Placement)) (k : ℕ) → fs ≡ book.placements_of page.frames → sent_in fs (cycle_cells page.params k) ≡ page_sendings page k
 unfolding page_sendings sent_in book.schedule_of
 page_sendings-sent page fs k e = ap (λ gs. map sending (entries (fill gs) (cycle_cells page.params k))) e

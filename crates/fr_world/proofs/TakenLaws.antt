@@ -36,7 +36,7 @@ fill-append (e ∷ es) ys c = elim (has_cell e.1 c) as (λ b. cond b (Some e.0) 
   | false ↦ fill-append es ys c
 ]
 
--- the first cell that one owner fills is the first that passes its test
+-- the first cell that one sender fills is the first that passes its test
 pub first_taken-find : {O : Type 0} (o : O) (p : Cell → Bool) (cells : List Cell) → first_taken (λ c. cond (p c) (Some o) None) cells ≡ option_map (λ c. (c, o)) (find p cells)
 unfolding first_taken
 first_taken-find o p [] = refl

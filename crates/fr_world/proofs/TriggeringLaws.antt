@@ -15,17 +15,17 @@ use Rattle.fr_world.specs.declared.page.PageFrame.{PageFrame}
 use Rattle.fr_world.proofs.KeyLaws.{name_cmp, own_alike, placement_cmp, placements_alike, frames_rise}
 use Rattle.fr_world.proofs.MapLaws.{rows-table_of, rows-set_of}
 
--- a set's rows with their owner
+-- a set's rows with their sender
 owned_rows : {O : Type 0} (o : O) (qs : List Placement) → map {B = O × Placement} (λ (row : Placement × ⊤). (o, row.0)) (map {B = Placement × ⊤} (λ q. (q, tt)) qs) ≡ map {B = O × Placement} (λ q. (o, q)) qs
 owned_rows o [] = refl
 owned_rows o (q ∷ qs) = ap (λ rest. (o, q) ∷ rest) (owned_rows o qs)
 
-abbrev pub owner_of : Name × Name → Name → book.Owner
+abbrev pub owner_of : Name × Name → Name → book.Sender
 owner_of k node = record { supplier = k.0; frame = k.1; node = node }
 
 pub filled_by-keys : (k : Name × Name) (f : FrameData) → IsStrictlySortedBy placement_cmp f.placements → filled_by k (frame_of f) ≡ map (λ q. (owner_of k f.node, q)) f.placements
 filled_by-keys k f h =
-    ap (map {B = book.Owner × Placement} (λ row. (owner_of k f.node, row.0))) (rows-set_of placement_cmp placement_order (λ p. p) placements_alike f.placements h)
+    ap (map {B = book.Sender × Placement} (λ row. (owner_of k f.node, row.0))) (rows-set_of placement_cmp placement_order (λ p. p) placements_alike f.placements h)
     ∙ owned_rows (owner_of k f.node) f.placements
 
 keys_of-rows : (qs : List Placement) → map {B = Placement} (λ (row : Placement × ⊤). row.0) (map {B = Placement × ⊤} (λ q. (q, tt)) qs) ≡ qs
@@ -37,7 +37,7 @@ pub placements_in-keys : (f : FrameData) → IsStrictlySortedBy placement_cmp f.
 placements_in-keys f h = ap (map {B = Placement} (λ row. row.0)) (rows-set_of placement_cmp placement_order (λ p. p) placements_alike f.placements h) ∙ keys_of-rows f.placements
 
 -- what a page's entries fill
-abbrev pub fillings : Name → List (Name × PageFrame) → List (book.Owner × Placement)
+abbrev pub fillings : Name → List (Name × PageFrame) → List (book.Sender × Placement)
 fillings s [] = []
 fillings s (e ∷ es) = filled_by (s, e.0) (frame_of (frame_data e.1)) ++ fillings s es
 

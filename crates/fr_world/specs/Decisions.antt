@@ -2,7 +2,7 @@
 use Rattle.std.specs.Prelude.{not, List, [], ◌∷◌, map, nat_le, Result, Ok, IsTrue, ⊤}
 use Rattle.fr_base.specs.Refusing.{◌>>=◌, ◌>>◌, ◌or◌, refuse◌when◌}
 use Rattle.fr_base.specs.Tables.{get, len}
-use Rattle.fr_base.specs.Book.{Frame, Owner, granted}
+use Rattle.fr_base.specs.Book.{Frame, Sender, granted}
 use Rattle.fr_base.specs.Cells.{Cell}
 use Rattle.fr_base.specs.Queries.{placements_in}
 use Rattle.fr_base.specs.Step.{OwnRows, shared_by, admits}
@@ -26,8 +26,8 @@ use Rattle.fr_world.specs.declared.occupancy.TakenCell.{TakenCell}
 abbrev pub filled_by : Name → Frame → List (Name × Placement)
 filled_by f frame = map (λ q. (f, q)) (placements_in frame)
 
--- a filled cell, with its owner's frame
-abbrev pub taken_by : Cell × Owner → TakenCell
+-- a filled cell, with its sender's frame
+abbrev pub taken_by : Cell × Sender → TakenCell
 taken_by e = record { cycle = e.0.cycle; channel = e.0.channel; frame = e.1.frame }
 
 -- what refuses a change of a supplier's rows, where they are all that there are

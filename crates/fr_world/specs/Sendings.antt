@@ -5,7 +5,7 @@ use Rattle.fr_base.specs.Cells.{Cell, cells_in, slots_of}
 use Rattle.fr_base.specs.Channels.{channels_in}
 use Rattle.fr_base.specs.Cycles.{has_cycle}
 use Rattle.fr_base.specs.Schedule.{entries, fill}
-use Rattle.fr_base.specs.Book.{Frame, Owner, schedule_of}
+use Rattle.fr_base.specs.Book.{Frame, Sender, schedule_of}
 use Rattle.fr_base.specs.Queries.{sending}
 use Rattle.fr_base.specs.Step.{OwnRows}
 use Rattle.fr_base.specs.declared.answer.Sending.{Sending}
@@ -18,12 +18,12 @@ use Rattle.fr_world.specs.declared.frame_triggering.FrameTriggering.{FrameTrigge
 abbrev pub Extends : {A : Type 0} → List A → List A → Type 0
 Extends {A} old new = (more : List A) × (new ≡ old ++ more)
 
--- the placements, each with its owner
-abbrev pub filled : List FrameTriggering → List (Owner × Placement)
+-- the placements, each with its sender
+abbrev pub filled : List FrameTriggering → List (Sender × Placement)
 filled triggerings = map (λ p. (record { supplier = p.supplier; frame = p.frame; node = p.node }, p.placement)) triggerings
 
--- the frame's placements, each with its owner
-abbrev pub filled_by : Name × Name → Frame → List (Owner × Placement)
+-- the frame's placements, each with its sender
+abbrev pub filled_by : Name × Name → Frame → List (Sender × Placement)
 filled_by k f = map (λ row. (record { supplier = k.0; frame = k.1; node = f.node }, row.0)) f.placements.rows
 
 -- whether it is sent in the cycle
@@ -39,7 +39,7 @@ abbrev pub cycle_cells : Params → ℕ → List Cell
 cycle_cells p cycle = cells_in (cycle ∷ []) (slots_of p) (channels_in p.channels)
 
 -- what is sent in these cells, where owners fill them so
-unfoldable pub sent_in : List (Owner × Placement) → List Cell → List Sending
+unfoldable pub sent_in : List (Sender × Placement) → List Cell → List Sending
 sent_in filled cells = map sending (entries (fill filled) cells)
 
 -- what the page's frames send in the cycle, by slot and channel

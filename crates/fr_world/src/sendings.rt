@@ -121,7 +121,7 @@ fn sending(
     slot: Slot,
     channel: Channel,
 ) -> Option<Sending>
-    ensures { let cell : Cell = record { cycle = cycle; slot = slot; channel = channel } in result ≡ option_map (λ owner. sending (cell, owner)) (fill (filled triggerings.now) cell) }
+    ensures { let cell : Cell = record { cycle = cycle; slot = slot; channel = channel } in result ≡ option_map (λ sender. sending (cell, sender)) (fill (filled triggerings.now) cell) }
 {
     for one in triggerings {
         if has_cell(&one.placement, cycle, slot, channel) {

@@ -11,6 +11,6 @@ returns-clause-ok c =
     let now = filled c.loop-placement.triggerings.items in
     let left : c.loop-placement.placement-iterator ≡ [] = (c.in-None.ensures).steps.0 in
     sym (append-nil now)
-    ∙ ap (λ qs. now ++ map {B = book.Owner × Placement} (λ q. (owner_of (c.args.supplier, c.args.name) c.args.frame.now.node, q)) qs) (sym left)
+    ∙ ap (λ qs. now ++ map {B = book.Sender × Placement} (λ q. (owner_of (c.args.supplier, c.args.name) c.args.frame.now.node, q)) qs) (sym left)
     ∙ c.loop-placement.invariant.0
     ∙ ap (λ more. filled c.args.triggerings.now.items ++ more) (sym (filled_by-keys (c.args.supplier, c.args.name) (frame_data c.args.frame.now) c.iter-placement-items.ensures.ordered))
