@@ -88,15 +88,3 @@ impl PartialEq for Body {
 impl Eq for Body {
     ghost laws = { nat_list_eq_equiv };
 }
-
-#[cfg(test)]
-mod tests {
-    use super::*;
-    use std::test::Fail;
-
-    #[test]
-    fn copies(rt: HostRuntime) -> Result<(), Fail> {
-        assert!(rt; Body::copy(rt.alloc(), b"f1,n1\r\n")?.as_slice() == b"f1,n1\r\n".as_slice());
-        Ok(())
-    }
-}

@@ -179,16 +179,3 @@ impl<T: Drop> From<AllocFailed<T>> for Refusal {
         Refusal::Unavailable
     }
 }
-
-#[cfg(test)]
-mod tests {
-    use super::*;
-    use std::test::Fail;
-
-    #[test]
-    fn shows_its_name(rt: HostRuntime) -> Result<(), Fail> {
-        let text = format!(in rt.alloc(); "{}", Refusal::Limit)?;
-        assert!(rt; text.as_str() == "Limit");
-        Ok(())
-    }
-}
