@@ -1,29 +1,21 @@
 #!/usr/bin/env python3
 """Prints how long an import of 512 rows takes to read, beside `csv` finding the same records alone: imports.py [--times N]
 
-One program does both, and reads the file N times. `rt run` proves and builds it, in a folder that is gone afterwards: the
-gate wants no crate that `crates.txt` does not name. That takes minutes where the crates below are still to be proved.
+One program does both, and reads the file N times. It is proved and built first, which takes minutes where the crates below
+are still to be proved.
 Figures are of processor time, the least of seven runs, less that of starting. The ratios hold for their machine: they
 promise nothing."""
 import argparse
-import subprocess
 import sys
 import tempfile
 from pathlib import Path
 
+from programs import built
 from texts import seconds
 
 TOP = Path(__file__).resolve().parent.parent
 ROWS = 512
 RUNS = 7
-
-BUILD = """load("@rattle//bazel/rattle:crate.bzl", "rattle_crate")
-
-rattle_crate(
-    name = "import_rows",
-    deps = ["//crates/fr_base", "//crates/fr_text", "@rattle//csv", "@rattle//anyhow"],
-)
-"""
 
 PROGRAM = r"""//! Reads an import's file again and again: its rows, or the records alone that `csv` finds in it.
 #![tactic(auto)]
@@ -107,17 +99,6 @@ def signals():
         yield f"frame_{row // 8},signal_{row % 8},{row % 8 * 8},8,{('little', 'big')[row % 2]}"
 
 
-def built(crate):
-    """The program, proved and built in this folder."""
-    (crate / "src").mkdir(parents=True)
-    (crate / "BUILD.bazel").write_text(BUILD)
-    (crate / "src/main.rt").write_text(PROGRAM)
-    said = subprocess.run(["rt", "run", "--", "rows", "0"], cwd=crate, stdin=subprocess.DEVNULL, capture_output=True, text=True)
-    if said.returncode:
-        sys.exit(f"{said.stdout}{said.stderr}imports.py: the program was not built")
-    return crate / "out/import_rows"
-
-
 def microseconds(program, what, count, body, times):
     """What reading the file once takes: its rows, or its records alone. There must be so many."""
     runs, starts = [], []
@@ -136,7 +117,7 @@ def main():
     times = words.parse_args().times
     (TOP / "out").mkdir(exist_ok=True)
     with tempfile.TemporaryDirectory(dir=TOP / "out") as room:
-        program = built(Path(room) / "import_rows")
+        program = built(Path(room) / "import_rows", ["fr_base", "fr_text"], ["csv", "anyhow"], PROGRAM, ["rows", "0"])
         print(f"{'512 rows of':12} {'bytes':>8} {'rows, us':>10} {'csv, us':>10} {'time':>6}")
         for name, lines in (("placements", placements()), ("signals", signals())):
             body = "".join(f"{line}\n" for line in lines).encode()
