@@ -1,5 +1,5 @@
 -- What keeps a book sound: a row more, or a row less, in one of its tables.
-use Rattle.std.proofs.Common.{◌≡◌, ◌≢◌, ℕ, suc, ◌<◌, ◌≤◌, Bool, true, false, cond, List, [], ◌∷◌, Option, Some, None, is_some, IsTrue, refl, sym, ap, subst, ◌∙◌, ◌⊎◌, inl, inr, arith, true≢false}
+use Rattle.std.proofs.Common.{◌≡◌, ℕ, suc, ◌<◌, ◌≤◌, Bool, true, false, cond, List, [], ◌∷◌, Option, Some, None, is_some, IsTrue, refl, sym, ap, subst, ◌∙◌, ◌⊎◌, inl, inr, arith, true≢false}
 use Rattle.std.specs.Prelude.{⊤}
 use Rattle.std.specs.Ordering.{eq_by_cmp}
 use Rattle.std.specs.List.{list_all}
@@ -10,12 +10,11 @@ use Rattle.fr_base.specs.Tables.{Table, empty, get, contains, len, insert, only,
 use Rattle.fr_base.specs.Keys.{names, owned, channel_slots}
 use Rattle.fr_base.specs.declared.limits.TheConstants.{MAX_NODES, MAX_VARIANTS, MAX_DEPTH, MAX_FRAMES, MAX_IMPORTS}
 use Rattle.fr_base.specs.Channels.{channels_in, has_channel}
-use Rattle.fr_base.specs.Cells.{Cell, has_cell}
 use Rattle.fr_base.specs.Cluster.{Cluster}
 use Rattle.fr_base.specs.Names.{is_name, same_text}
 use Rattle.fr_base.specs.Book.{Holder, Frame, Variant, Kept, Book, empty_variant, held_by, held_by_node, granted, is_of, own, own_grants}
 use Rattle.fr_base.specs.Step.{fills, in_use, with_variant}
-use Rattle.fr_base.specs.Sound.{HasChannelSlot, IsSent, IsSoundFrame, IsSoundVariant, IsSoundImport, IsOpenedFrom, IsSound}
+use Rattle.fr_base.specs.Sound.{HasChannelSlot, IsSoundFrame, IsSoundVariant, IsSoundImport, IsOpenedFrom, IsSound}
 use Rattle.fr_base.specs.declared.channel.Channel.{Channel}
 use Rattle.fr_base.specs.declared.channel.Channels.{Channels}
 use Rattle.fr_base.specs.declared.channel.Channels.TheVariants as channels
@@ -25,6 +24,7 @@ use Rattle.fr_base.specs.declared.placement.Placement.{Placement}
 use Rattle.fr_base.proofs.TableLaws.{equal, get-insert, get-only, kept}
 use Rattle.fr_base.proofs.SoundTables.{some_there, get-passing, same_some, insert-cases, contains-more, contains-cases, len-within, only-within, remove-stood, get-remove_other, only-remove}
 use Rattle.fr_base.proofs.SoundCells.{any_placement}
+use Rattle.fr_base.proofs.SoundApart.{NoneShared, IsApart, insert-none_shared, lesser-apart}
 
 -- texts that compare as equal are the same
 pub same_text-is : (a b : Name) → IsTrue (same_text a b) → a ≡ b
@@ -55,7 +55,7 @@ granted-more grants at x free s n q =
     ])
 
 -- what holds of each channel that is meant
-all_meant : (chs : Channels) (f g : Channel → Bool) → ((c : Channel) → IsTrue (has_channel chs c) → IsTrue (f c) → IsTrue (g c)) → IsTrue (list_all f (channels_in chs)) → IsTrue (list_all g (channels_in chs))
+pub all_meant : (chs : Channels) (f g : Channel → Bool) → ((c : Channel) → IsTrue (has_channel chs c) → IsTrue (f c) → IsTrue (g c)) → IsTrue (list_all f (channels_in chs)) → IsTrue (list_all g (channels_in chs))
 all_meant channels.A f g more h = and_from _ _ (more _ refl (and_parts _ _ h).0) refl
 all_meant channels.AB f g more h =
     let both = and_parts _ _ h in
@@ -113,12 +113,12 @@ module _ (p : Params) (nodes more : Table owned ⊤) (there : (s n : Name) → I
     depth = sound.depth;
   }
 
--- no placement of the frame shares a cell with another of the frame, or with one of another frame
-pub record IsApart (v : Variant) (k : Name × Name) (g : Frame) : Type 0 where
-  pub own : (q r : Placement) (c : Cell) → IsTrue (contains g.placements q) → IsTrue (contains g.placements r) → IsTrue (has_cell q c) → IsTrue (has_cell r c) → q ≡ r
-  pub others : (l : Name × Name) (f : Frame) (q r : Placement) (c : Cell) → l ≢ k → get v.frames l ≡ Some f → IsTrue (contains g.placements q) → IsTrue (contains f.placements r) → IsTrue (has_cell q c) → IsTrue (has_cell r c) → ⊥
-
 module _ (p : Params) (nodes : Table owned ⊤) (v : Variant) (sound : IsSoundVariant p nodes v) where
+  -- no two of its placements share a cell
+  pub variant-apart : NoneShared v.frames
+  variant-apart k l f g q r c at_k at_l in_f in_g has_q has_r =
+      sound.apart k l f g q r c (record { frame = at_k; placement = in_f; has = has_q }) (record { frame = at_l; placement = in_g; has = has_r })
+
   -- a grant of a slot and channel that nobody holds
   pub more_grants-sound : (at : ℕ × Channel) (x : Holder) → contains v.grants at ≡ false → HasChannelSlot p at → IsTrue (contains nodes (x.supplier, x.node)) → IsSoundVariant p nodes (record v { grants = insert v.grants at x })
   more_grants-sound at x free fits has = record {
@@ -137,22 +137,8 @@ module _ (p : Params) (nodes : Table owned ⊤) (v : Variant) (sound : IsSoundVa
   }
 
   module _ (k : Name × Name) (g : Frame) where
-    frames_apart : IsApart v k g → (i j : Name × Name) (f h : Frame) (q r : Placement) (c : Cell) →
-        IsSent (record v { frames = insert v.frames k g }) i f q c → IsSent (record v { frames = insert v.frames k g }) j h r c → (i ≡ j) × (q ≡ r)
-    frames_apart apart i j f h q r c one two = elim (insert-cases v.frames k g i f one.frame) [
-      | inl ni ↦ let in_g = subst (λ (x : Frame). IsTrue (contains x.placements q)) (sym ni.1) one.placement in
-          elim (insert-cases v.frames k g j h two.frame) [
-            | inl nj ↦ (ni.0 ∙ sym nj.0, apart.own q r c in_g (subst (λ (x : Frame). IsTrue (contains x.placements r)) (sym nj.1) two.placement) one.has two.has)
-            | inr oj ↦ absurd (apart.others j h q r c oj.0 oj.1 in_g two.placement one.has two.has)
-          ]
-      | inr oi ↦ elim (insert-cases v.frames k g j h two.frame) [
-        | inl nj ↦ absurd (apart.others i f r q c oi.0 oi.1 (subst (λ (x : Frame). IsTrue (contains x.placements r)) (sym nj.1) two.placement) one.placement two.has one.has)
-        | inr oj ↦ sound.apart i j f h q r c (record { frame = oi.1; placement = one.placement; has = one.has }) (record { frame = oj.1; placement = two.placement; has = two.has })
-      ]
-    ]
-
     -- a frame put in, or changed
-    pub more_frames-sound : IsSoundFrame p nodes v.grants k g → IsApart v k g → IsTrue (contains v.frames k) ⊎ (len (only (λ j _. is_of k.0 j) v.frames) < MAX_FRAMES) → IsSoundVariant p nodes (record v { frames = insert v.frames k g })
+    pub more_frames-sound : IsSoundFrame p nodes v.grants k g → IsApart v.frames k g → IsTrue (contains v.frames k) ⊎ (len (only (λ j _. is_of k.0 j) v.frames) < MAX_FRAMES) → IsSoundVariant p nodes (record v { frames = insert v.frames k g })
     more_frames-sound frame apart room = record {
       grant_nodes = sound.grant_nodes;
       grants_fit = sound.grants_fit;
@@ -160,7 +146,7 @@ module _ (p : Params) (nodes : Table owned ⊤) (v : Variant) (sound : IsSoundVa
         | inl new ↦ subst (λ x. IsSoundFrame p nodes v.grants x f) (sym new.0) (subst (IsSoundFrame p nodes v.grants k) new.1 frame)
         | inr old ↦ sound.frames j f old.1
       ];
-      apart = frames_apart apart;
+      apart = λ i j f h q r c one two. insert-none_shared v.frames variant-apart k g apart i j f h q r c one.frame two.frame one.placement two.placement one.has two.has;
       frame_limit = λ s. only-within owned (is_of s) v.frames k g MAX_FRAMES (sound.frame_limit s) (λ own. elim room [
         | inl there ↦ inl there
         | inr few ↦ inr (subst (λ t. len (only (λ j _. is_of t j) v.frames) < MAX_FRAMES) (same_text-is k.0 s own) few)
@@ -197,12 +183,7 @@ module _ (p : Params) (nodes : Table owned ⊤) (v : Variant) (sound : IsSoundVa
   -- a frame in place of another under its key, with no placement that the other had not
   pub lesser_frame-sound : (k : Name × Name) (f g : Frame) → get v.frames k ≡ Some f → ((q : Placement) → IsTrue (contains g.placements q) → IsTrue (contains f.placements q)) →
       IsSoundFrame p nodes v.grants k g → IsSoundVariant p nodes (record v { frames = insert v.frames k g })
-  lesser_frame-sound k f g found had fine =
-      let apart : IsApart v k g = record {
-        own = λ q r c in_q in_r has_q has_r. (sound.apart k k f f q r c (record { frame = found; placement = had q in_q; has = has_q }) (record { frame = found; placement = had r in_r; has = has_r })).1;
-        others = λ l h q r c other at in_q in_r has_q has_r. other (sym (sound.apart k l f h q r c (record { frame = found; placement = had q in_q; has = has_q }) (record { frame = at; placement = in_r; has = has_r })).0);
-      } in
-      more_frames-sound k g fine apart (inl (some_there _ f found))
+  lesser_frame-sound k f g found had fine = more_frames-sound k g fine (lesser-apart v.frames variant-apart k f found g had) (inl (some_there _ f found))
 
   -- a grant that no placement of its holder uses is gone
   pub revoked-sound : (at : ℕ × Channel) (s : Name) → IsTrue (contains (own_grants s v.grants) at) → in_use at (own s v.frames) ≡ false → IsSoundVariant p nodes (record v { grants = remove v.grants at })

@@ -220,15 +220,15 @@ fn asking(actor: &Actor) -> Result<Name, Refusal>
 fn name(text: &Text) -> Result<Name, Refusal>
     ensures { result ≡ name text.now }
 {
-    read_name(text.as_str())
+    read_name(text.as_str().as_bytes())
 }
 
-/// The name that the text is.
+/// The name that the bytes are.
 #[tactic(auto, unfolding(crate::specs::Checks::name))]
-pub(crate) fn read_name(text: &str) -> Result<Name, Refusal>
-    ensures { result ≡ name text.now }
+pub(crate) fn read_name(bytes: &[u8]) -> Result<Name, Refusal>
+    ensures { result ≡ name bytes.now }
 {
-    Name::read(text).ok_or(Refusal::BadName)
+    Name::from_bytes(bytes).ok_or(Refusal::BadName)
 }
 
 // The cycles that base and repetition select.

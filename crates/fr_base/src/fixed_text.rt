@@ -1,11 +1,12 @@
 //! A text held in place.
-ghost use Rattle.std.specs.Prelude.{◌≡◌, ◌≤◌, length, Some, nat_eq, refl};
+ghost use Rattle.std.specs.Prelude.{◌≡◌, ◌≤◌, length, take, Some, nat_eq, refl};
 ghost use Rattle.std.specs.Ordering.{nat_cmp};
 ghost use Rattle.std.specs.Hash as fed;
 ghost use Rattle.std.specs.Cmp.Lexicographic.{pointwise, slice_cmp, nat_list_eq_equiv, nat_list_cmp_total, texts_ties, texts_po};
 ghost use Rattle.std.specs.Cmp.{partial_equiv_from_equiv};
 ghost use Rattle.std.specs.Cmp.Rules.{hashing};
 ghost use Rattle.std.proofs.Common.{rules};
+ghost use Rattle.fr_base.specs.FixedText.{IsPadded};
 
 use std::cmp::Ordering;
 use std::fmt::{self, Debug, Display, Formatter};
@@ -40,8 +41,16 @@ impl<const N: usize> Model for FixedText<N> {
 }
 
 impl<const N: usize> FixedText<N> {
+    /// The text that the first `len` of these bytes are. Those past them are zero.
+    pub(crate) fn of(bytes: [u8; N], len: usize) -> Self
+        requires { IsPadded N bytes len }
+        ensures { result ≡ take len bytes.entry }
+    {
+        FixedText { bytes, len }
+    }
+
     /// A copy of the text.
-    pub(crate) fn new(text: &str) -> Self
+    pub(crate) fn copy(text: &str) -> Self
         requires { length text.now ≤ N }
         ensures { result ≡ text.now }
     {

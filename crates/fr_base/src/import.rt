@@ -45,12 +45,12 @@ pub struct RowRead {
 
 impl Row {
     /// The row of placements with these fields, or the first refusal that it meets by itself: `BadName`,
-    /// `BadCycles`, `BadSlot`, `BadChannel`, in this order.
+    /// `BadCycles`, `BadSlot`, `BadChannel`, in this order. What a name is read from need not be a text.
     #[tactic(auto, unfolding(crate::proofs::ImportLemmas::rows_open))]
     pub fn placement(
         params: &Params,
-        frame: &str,
-        node: &str,
+        frame: &[u8],
+        node: &[u8],
         slot: u32,
         channels: &str,
         base: u32,
@@ -68,11 +68,11 @@ impl Row {
     }
 
     /// The row of signals with these fields, or the first refusal that it meets by itself: `BadName`,
-    /// `BadSignal`, in this order.
+    /// `BadSignal`, in this order. What a name is read from need not be a text.
     #[tactic(auto, unfolding(crate::proofs::ImportLemmas::rows_open))]
     pub fn signal(
-        frame: &str,
-        signal: &str,
+        frame: &[u8],
+        signal: &[u8],
         start: u32,
         length: u32,
         order: &str,

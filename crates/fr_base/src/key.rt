@@ -34,7 +34,7 @@ impl Key {
     {
         if is_key(text) {
             Some(Key {
-                text: FixedText::new(text),
+                text: FixedText::copy(text),
             })
         } else {
             None

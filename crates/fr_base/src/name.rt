@@ -29,17 +29,29 @@ impl Model for Name {
 
 impl Name {
     /// The name that the text is, if it is one.
-    #[tactic(auto, unfolding(crate::specs::Names::is_name))]
     pub fn read(text: &str) -> Option<Name>
         ensures { result ≡ (if is_name text.now then Some text.now else None) }
     {
-        if is_name(text) {
-            Some(Name {
-                text: FixedText::new(text),
-            })
-        } else {
-            None
+        Name::from_bytes(text.as_bytes())
+    }
+
+    /// The name that the bytes are, if they are one. They need not be a text.
+    pub fn from_bytes(bytes: &[u8]) -> Option<Name>
+        ensures { result ≡ (if is_name bytes.now then Some bytes.now else None) }
+    {
+        if !starts_with_letter(bytes) || bytes.len() > 32 {
+            return None;
         }
+        let mut copy = [0; 32];
+        for (place, byte) in bytes.iter().enumerate() {
+            if !is_name_byte(*byte) {
+                return None;
+            }
+            copy[place] = *byte;
+        }
+        Some(Name {
+            text: FixedText::of(copy, bytes.len()),
+        })
     }
 
     /// The name's text.
@@ -51,26 +63,16 @@ impl Name {
     }
 }
 
-#[tactic(auto, unfolding(crate::specs::Names::is_name))]
-fn is_name(text: &str) -> bool
-    ensures { result ≡ is_name text.now }
-{
-    let bytes = text.as_bytes();
-    starts_with_letter(bytes) && bytes.len() <= 32 && are_name_bytes(bytes)
-}
-
 fn starts_with_letter(bytes: &[u8]) -> bool
     ensures { result ≡ starts_with_letter bytes.now }
 {
     bytes.first().is_some_and(u8::is_ascii_alphabetic)
 }
 
-fn are_name_bytes(bytes: &[u8]) -> bool
-    ensures { result ≡ list_all is_name_byte bytes.now }
+fn is_name_byte(byte: u8) -> bool
+    ensures { result ≡ is_name_byte byte }
 {
-    bytes
-        .iter()
-        .all(|byte| byte.is_ascii_alphanumeric() || *byte == b'_')
+    byte.is_ascii_alphanumeric() || byte == b'_'
 }
 
 impl Debug for Name {

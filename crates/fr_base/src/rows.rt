@@ -36,7 +36,8 @@ impl<T> Rows<T> {
         ensures ok { OnOk result (self.new ≡ self.old ++ row ∷ []) }
         ensures err { OnErr result (self.new ≡ self.old) }
     {
-        self.rows.push(row)?;
+        self.rows.reserve(1)?;
+        self.rows.push_reserved(row);
         Ok(())
     }
 

@@ -1,12 +1,18 @@
 -- An import's rows one after the other, and the records that a reader has left.
-use Rattle.std.proofs.Common.{◌≡◌, ℕ, zero, suc, ◌+◌, ◌<◌, ◌≤◌, Bool, true, false, List, [], ◌∷◌, length, Some, None, Option, Result, Ok, Err, ◌^◌, Bor, refl, sym, ap, ◌∙◌, inl, inr, ◌⊎◌, ◌++◌, add-one, arith, map, drop, get_or, append-nil, append_assoc}
-use Rattle.std.specs.Prelude.{⊤, IfSome, is_err, option_map, MatchResult, not, ◌&&◌, ◌==◌, if◌then◌else◌}
+use Rattle.std.proofs.Common.{◌≡◌, ℕ, zero, suc, ◌+◌, ◌-◌, ◌*◌, ◌<◌, ◌≤◌, Bool, true, false, List, [], ◌∷◌, length, Some, None, Option, Result, Ok, Err, ◌^◌, Bor, refl, sym, ap, ◌∙◌, inl, inr, ◌⊎◌, ◌++◌, add-one, arith, map, take, drop, get_or, append-nil, append_assoc}
+use Rattle.std.specs.Prelude.{⊤, IfSome, is_err, option_map, not, ◌&&◌, ◌==◌, if◌then◌else◌}
 use Rattle.std.proofs.lemmas.Bool.{le-ltb}
 use Rattle.std.specs.List.{list_all}
 use Rattle.std.specs.Cmp.Lexicographic.{pointwise}
-use Rattle.std.specs.Result.{OkIff}
-use Rattle.std.specs.Str.Parse.{ParsesUnsigned, digits_value}
-use Rattle.std.proofs.lemmas.Str.Parse.{IsDigitsTest, numerals_by_value, parse_digits}
+use Rattle.std.specs.Char.{digit_value}
+use Rattle.std.specs.Str.Parse.{digits_value}
+use Rattle.std.proofs.lemmas.Bool.Decides.{nat_tests}
+use Rattle.std.specs.Str.{IsAscii, is_utf8}
+use Rattle.std.proofs.lemmas.Str.{IsUtf8-from_ascii, is_utf8-from_IsUtf8}
+use Rattle.std.proofs.lemmas.Str.Ascii.{IsAscii-nil, IsAscii-cons}
+use Rattle.std.proofs.lemmas.Int.Digits.{digits_value_more}
+use Rattle.std.proofs.lemmas.List.Folds.{list_all_at, list_all_more}
+use Rattle.std.proofs.lemmas.Str.Parse.{digits_value-take-le}
 use Rattle.csv.specs.Machine.{Read, next_record, step, ends_at_end, is_end, fields_after, field_after}
 use Rattle.csv.specs.Reading.{Reached, ReadRecord, default_config, Ready, has_failed, reader_config, reader_state, reader_trim, records_from, records_next, source_of, strip_bom, buffered_of}
 use Rattle.csv.specs.declared.parser.Config.{Config}
@@ -18,14 +24,16 @@ use Rattle.csv.specs.declared.reader.Trim.TheVariants as trim
 use Rattle.csv.specs.Records.{field_at}
 use Rattle.csv.proofs.ReadFacts.{rows-end as none-read, rows-more as one-read}
 use Rattle.fr_base.specs.Refusing.{◌>>=◌, ◌>>◌, ◌or◌, refuse◌when◌}
-use Rattle.fr_base.specs.Names.{same_text, is_digit}
-use Rattle.fr_base.specs.ImportRows.{records_of, header_of, text_at, number, number_at, placement_in, signal_in, row_of, row_at, rows_from, rows_below, rows_of_records, up_to_refused, rows_of_body}
+use Rattle.fr_base.specs.Names.{same_text, is_digit, is_name}
+use Rattle.fr_base.specs.Checks.{name}
+use Rattle.fr_base.proofs.NameLemmas.{name_is_text}
+use Rattle.fr_base.specs.ImportRows.{records_of, header_of, text_at, number, number_at, placement_row, signal_row, placement_in, signal_in, row_of, row_at, rows_from, rows_below, rows_of_records, up_to_refused, rows_of_body}
 use Rattle.fr_base.specs.declared.import.Header.{Header}
 use Rattle.fr_base.specs.declared.import.Row.{Row}
 use Rattle.fr_base.specs.declared.import.RowRead.{RowRead}
 use Rattle.fr_base.specs.declared.params.Params.{Params}
 use Rattle.fr_base.specs.declared.refusal.Refusal.{Refusal}
-use Rattle.fr_base.specs.declared.refusal.Refusal.TheVariants.{BadText, Limit}
+use Rattle.fr_base.specs.declared.refusal.Refusal.TheVariants.{BadText, BadName, Limit}
 use Rattle.fr_text.specs.ImportText.{records_left, left_of, IsPlain}
 
 -- what a proof about a row opens
@@ -220,27 +228,156 @@ begins a body state source = ap (λ s. records_left s (source_of in_memory a)) s
 
 -- ---- a number
 
--- digits alone
-abbrev pub AreDigits : List ℕ → Type 0
-AreDigits text = list_all is_digit text ≡ true
+-- what a test refuses, and what a later one does
+refused : {A : Type 0} (b : Bool) (r : Result A Refusal) → b ≡ true → ((refuse BadText when b) >> r) ≡ Err BadText
+unfolding refuse◌when◌ ◌>>◌
+refused b r e = rw e refl
 
-tells_digits : IsDigitsTest AreDigits
-tells_digits = record { empty = refl; parts = λ c cs h. grind arith; more = λ c cs d h. grind arith }
+later : {A : Type 0} (b : Bool) (r : Result A Refusal) → r ≡ Err BadText → ((refuse BadText when b) >> r) ≡ Err BadText
+unfolding refuse◌when◌ ◌>>◌
+later true r e = refl
+later false r e = e
 
-filled : (text : List ℕ) → (length text == 0) ≡ false → 0 < length text
-filled [] e = cc
-filled (c ∷ text) e = omega arith
+-- no byte, or more than 10, are no number
+pub number-size : (text : List ℕ) → (length text ≡ 0) ⊎ (10 < length text) → number text ≡ Err BadText
+unfolding number
+number-size text (inl e) = refused _ _ (grind arith)
+number-size text (inr h) = refused _ _ (grind arith)
 
--- what `parse` makes of 1 to 10 digits
-pub number-read : {E : Type 0} (text : List ℕ) (r : Result ℕ E) → (length text == 0) ≡ false → length text ≤ 10 → list_all is_digit text ≡ true → ParsesUnsigned 32 10 text r
-    → MatchResult r (λ n. number text ≡ Ok n) (λ _. number text ≡ Err BadText)
+-- nor are bytes of which one is no digit
+pub number-other : (text : List ℕ) (i : ℕ) → i < length text → is_digit (get_or text i 0) ≡ false → number text ≡ Err BadText
+unfolding number
+number-other text i within e = later _ _ (refused _ _ (ap (λ b. not b) (list_all_at is_digit text i 0 within e)))
+
+-- nor digits whose value is above that of 32 bits, where it is so before their end
+pub number-large : (text : List ℕ) (i : ℕ) → 2 ^ 32 ≤ digits_value 10 (take i text) → number text ≡ Err BadText
+unfolding number
+number-large text i large =
+    let value = digits_value-take-le 10 text i (omega arith) in
+    later _ _ (later _ _ (refused _ _ (ap (λ b. not b) (le-ltb (digits_value 10 text) (2 ^ 32) (omega arith)))))
+
+-- other digits are
+pub number-read : (text : List ℕ) → (length text == 0) ≡ false → length text ≤ 10 → list_all is_digit text ≡ true → digits_value 10 text < 2 ^ 32
+    → number text ≡ Ok (digits_value 10 text)
 unfolding numbers_open
-number-read {E} text r low high digits parses = by r (parse_digits (numerals_by_value AreDigits tells_digits) 32 text r parses digits)
+number-read [] low high digits small = cc
+number-read (c ∷ text) low high digits small = grind arith
+
+-- the value of one digit more
+pub value-more : (text : List ℕ) (i : ℕ) → i < length text → is_digit (get_or text i 0) ≡ true
+    → digits_value 10 (take (i + 1) text) ≡ digits_value 10 (take i text) * 10 + (get_or text i 0 - 48)
+value-more text i within digit =
+    let value : digit_value (get_or text i 0) ≡ get_or text i 0 - 48 = grind (arith, nat_tests) in
+    digits_value_more 10 text i within ∙ ap (λ d. digits_value 10 (take i text) * 10 + d) value
+
+pub digits-more : (text : List ℕ) (i : ℕ) → i < length text → list_all is_digit (take i text) ≡ true → is_digit (get_or text i 0) ≡ true
+    → list_all is_digit (take (i + 1) text) ≡ true
+digits-more text i within so_far digit = rw (list_all_more is_digit text i 0 within, so_far, digit) refl
+
+-- ---- texts and bytes
+
+-- digits are a text, so a number is
+digits_are_ascii : (text : List ℕ) → list_all is_digit text ≡ true → IsAscii text
+digits_are_ascii [] h = IsAscii-nil
+digits_are_ascii (c ∷ text) h = IsAscii-cons c text (grind (arith, nat_tests)) (digits_are_ascii text (grind arith))
+
+no_text_no_number : (text : List ℕ) → is_utf8 text ≡ false → number text ≡ Err BadText
+unfolding number
+no_text_no_number text e = later _ _ (refused _ _ (by (list_all is_digit text) refl))
   where
-    by : (r : Result ℕ E) → OkIff r ((0 < length text) × (digits_value 10 text < 2 ^ 32)) (digits_value 10 text)
-        → MatchResult r (λ n. number text ≡ Ok n) (λ _. number text ≡ Err BadText)
-    by (Ok n) h = let low : 0 < length text = filled text low in grind arith
-    by (Err e) h = let low : 0 < length text = filled text low in grind arith
+    by : (b : Bool) → list_all is_digit text ≡ b → not b ≡ true
+    by true h = let is : is_utf8 text ≡ true = is_utf8-from_IsUtf8 text (IsUtf8-from_ascii text (digits_are_ascii text h)) in cc
+    by false h = refl
+
+-- the number at a place is the number of the bytes there
+pub number_at_bytes : (fields : List (List ℕ)) (i : ℕ) (f : List ℕ) → field_at fields i ≡ Some f → number_at fields i ≡ number f
+unfolding ◌>>=◌ ◌>>◌ ◌or◌ refuse◌when◌ text_at number_at
+number_at_bytes fields i f e = rw e (by (is_utf8 f) refl)
+  where
+    by : (b : Bool) → is_utf8 f ≡ b → (((refuse BadText when not b) >> Ok f) >>= number) ≡ number f
+    by true h = refl
+    by false h = sym (no_text_no_number f h)
+
+pub number_at_none : (fields : List (List ℕ)) (i : ℕ) → field_at fields i ≡ None → number_at fields i ≡ Err BadText
+unfolding ◌>>=◌ ◌>>◌ ◌or◌ refuse◌when◌ text_at number_at
+number_at_none fields i e = rw e refl
+
+-- whether both are texts, in which a row's names stand
+abbrev pub are_texts : List ℕ → List ℕ → Bool
+are_texts frame other = is_utf8 frame && is_utf8 other
+
+-- a row begins with two texts, or is refused
+texts_first : {A : Type 0} (fields : List (List ℕ)) (f g : List ℕ) (rest : List ℕ → List ℕ → Result A Refusal) → field_at fields 0 ≡ Some f → field_at fields 1 ≡ Some g
+    → (text_at fields 0 >>= λ a. text_at fields 1 >>= λ b. rest a b) ≡ (if are_texts f g then rest f g else Err BadText)
+unfolding ◌>>=◌ ◌>>◌ ◌or◌ refuse◌when◌ text_at
+texts_first {A} fields f g rest e h = rw (e, h) (by (is_utf8 f) (is_utf8 g))
+  where
+    by : (a b : Bool) → (((refuse BadText when not a) >> Ok f) >>= λ x. ((refuse BadText when not b) >> Ok g) >>= λ y. rest x y) ≡ (if a && b then rest f g else Err BadText)
+    by true true = refl
+    by true false = refl
+    by false true = refl
+    by false false = refl
+
+-- a row that is read is of names, which are texts
+named : (frame other : List ℕ) → is_name frame ≡ true → is_name other ≡ true → are_texts frame other ≡ true
+named frame other f g =
+    let frame_is = is_utf8-from_IsUtf8 frame (name_is_text frame f) in
+    let other_is = is_utf8-from_IsUtf8 other (name_is_text other g) in
+    rw (frame_is, other_is) refl
+
+names_read : {A : Type 0} (frame other : List ℕ) (rest : List ℕ → List ℕ → Result A Refusal) → is_err (name frame >>= λ f. name other >>= λ n. rest f n) ≡ false → are_texts frame other ≡ true
+unfolding ◌>>=◌ name
+names_read {A} frame other rest e = by (is_name frame) refl (is_name other) refl e
+  where
+    by : (a : Bool) → is_name frame ≡ a → (b : Bool) → is_name other ≡ b
+        → is_err ((if a then Ok frame else Err BadName) >>= λ f. (if b then Ok other else Err BadName) >>= λ n. rest f n) ≡ false → are_texts frame other ≡ true
+    by true f true g e = named frame other f g
+    by true f false g e = cc
+    by false f b g e = cc
+
+-- what follows the two names of a row of placements, and of signals
+placement_rest : Params → List (List ℕ) → List ℕ → List ℕ → Result Row Refusal
+placement_rest p fields frame node = do
+  slot ← number_at fields 2
+  channels ← text_at fields 3
+  base ← number_at fields 4
+  repetition ← number_at fields 5
+  placement_row p frame node slot channels base repetition
+
+signal_rest : List (List ℕ) → List ℕ → List ℕ → Result Row Refusal
+signal_rest fields frame named = do
+  start ← number_at fields 2
+  length ← number_at fields 3
+  order ← text_at fields 4
+  signal_row frame named start length order
+
+-- what is read is of texts, so it is the row
+read_or_texts : (f g : List ℕ) (row whole : Result Row Refusal) → whole ≡ (if are_texts f g then row else Err BadText)
+    → (is_err row ≡ false → are_texts f g ≡ true) → (is_err row ≡ false) ⊎ (are_texts f g ≡ true) → row ≡ whole
+read_or_texts f g row whole e names (inl read) = sym (rw (names read) at e)
+read_or_texts f g row whole e names (inr texts) = sym (rw texts at e)
+
+pub placement-read : (p : Params) (fields : List (List ℕ)) (frame node channels : List ℕ) (slot base repetition : ℕ) (row : Result Row Refusal)
+    → field_at fields 0 ≡ Some frame → field_at fields 1 ≡ Some node → number_at fields 2 ≡ Ok slot → text_at fields 3 ≡ Ok channels
+    → number_at fields 4 ≡ Ok base → number_at fields 5 ≡ Ok repetition → row ≡ placement_row p frame node slot channels base repetition
+    → (is_err row ≡ false) ⊎ (are_texts frame node ≡ true) → row ≡ placement_in p fields
+unfolding placement_in placement_row placement_rest ◌>>=◌
+placement-read p fields frame node channels slot base repetition row e0 e1 e2 e3 e4 e5 is how =
+    let rest : placement_rest p fields frame node ≡ row = rw (e2, e3, e4, e5) (sym is) in
+    let whole : placement_in p fields ≡ (if are_texts frame node then row else Err BadText) =
+    texts_first fields frame node (placement_rest p fields) e0 e1 ∙ ap (λ r. if are_texts frame node then r else Err BadText) rest in
+    read_or_texts frame node row (placement_in p fields) whole (λ read. names_read frame node _ (rw is at read)) how
+
+pub signal-read : (fields : List (List ℕ)) (frame other order : List ℕ) (start size : ℕ) (row : Result Row Refusal)
+    → field_at fields 0 ≡ Some frame → field_at fields 1 ≡ Some other → number_at fields 2 ≡ Ok start → number_at fields 3 ≡ Ok size
+    → text_at fields 4 ≡ Ok order → row ≡ signal_row frame other start size order
+    → (is_err row ≡ false) ⊎ (are_texts frame other ≡ true) → row ≡ signal_in fields
+unfolding signal_in signal_row signal_rest ◌>>=◌
+signal-read fields frame other order start size row e0 e1 e2 e3 e4 is how =
+    let rest : signal_rest fields frame other ≡ row = rw (e2, e3, e4) (sym is) in
+    let whole : signal_in fields ≡ (if are_texts frame other then row else Err BadText) =
+    texts_first fields frame other (signal_rest fields) e0 e1 ∙ ap (λ r. if are_texts frame other then r else Err BadText) rest in
+    read_or_texts frame other row (signal_in fields) whole (λ read. names_read frame other _ (rw is at read)) how
 
 -- ---- a header
 

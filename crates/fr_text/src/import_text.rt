@@ -1,10 +1,11 @@
 //! Reads an import's file: comma-separated records, of which the first is a header that says what the
 //! others are.
-ghost use Rattle.std.specs.Prelude.{◌≡◌, ◌∷◌, ◌==◌, [], map, IfOk, IfErr, MatchResult, Ok, Err, if◌then◌else◌};
+ghost use Rattle.std.specs.Prelude.{◌≡◌, ◌∷◌, ◌&&◌, [], map, MatchResult, Ok, Err, Some, None, if◌then◌else◌};
+ghost use Rattle.std.specs.Option.{MatchOption};
+ghost use Rattle.std.specs.Str.{is_utf8};
 ghost use Rattle.std.specs.Cmp.Lexicographic.{pointwise};
-ghost use Rattle.std.specs.List.{list_all};
-ghost use Rattle.csv.specs.Records.{fields_of};
-ghost use Rattle.fr_base.specs.Names.{same_text, is_digit};
+ghost use Rattle.csv.specs.Records.{field_at, fields_of};
+ghost use Rattle.fr_base.specs.Names.{same_text};
 ghost use Rattle.fr_base.specs.ImportRows.{records_of, spelled, header_of, text_at, number, number_at, placement_in, signal_in, row_of, rows_of_body};
 
 use csv::{ByteRecord, Reader, ReaderBuilder};
@@ -156,13 +157,17 @@ fn row_of(params: &Params, header: Header, fields: &ByteRecord) -> Result<Row, R
 fn placement_in(params: &Params, fields: &ByteRecord) -> Result<Row, Refusal>
     ensures { result ≡ placement_in params.now (fields_of fields.now) }
 {
-    let frame = text_at(fields, 0)?;
-    let node = text_at(fields, 1)?;
+    let frame = field_at(fields, 0)?;
+    let node = field_at(fields, 1)?;
     let slot = number_at(fields, 2)?;
     let channels = text_at(fields, 3)?;
     let base = number_at(fields, 4)?;
     let repetition = number_at(fields, 5)?;
-    Row::placement(params, frame, node, slot, channels, base, repetition)
+    let row = Row::placement(params, frame, node, slot, channels, base, repetition);
+    if row.is_err() && !(is_text(frame) && is_text(node)) {
+        return Err(Refusal::BadText);
+    }
+    row
 }
 
 /// The row of signals that the fields are.
@@ -170,12 +175,34 @@ fn placement_in(params: &Params, fields: &ByteRecord) -> Result<Row, Refusal>
 fn signal_in(fields: &ByteRecord) -> Result<Row, Refusal>
     ensures { result ≡ signal_in (fields_of fields.now) }
 {
-    let frame = text_at(fields, 0)?;
-    let signal = text_at(fields, 1)?;
+    let frame = field_at(fields, 0)?;
+    let signal = field_at(fields, 1)?;
     let start = number_at(fields, 2)?;
     let length = number_at(fields, 3)?;
     let order = text_at(fields, 4)?;
-    Row::signal(frame, signal, start, length, order)
+    let row = Row::signal(frame, signal, start, length, order);
+    if row.is_err() && !(is_text(frame) && is_text(signal)) {
+        return Err(Refusal::BadText);
+    }
+    row
+}
+
+/// Whether the field is a text. A name is ASCII, so where names are to stand this is asked only of a row
+/// that is refused.
+#[tactic(auto, using(crate::proofs::FieldsLemmas::utf8_tests))]
+fn is_text(field: &[u8]) -> bool
+    ensures { result ≡ is_utf8 field.now }
+{
+    str::from_utf8(field).is_ok()
+}
+
+/// The field at a place.
+fn field_at(fields: &ByteRecord, place: usize) -> Result<&[u8], Refusal>
+    ensures { MatchResult result
+        (λ field. field_at (fields_of fields.now) place ≡ Some field.now)
+        (λ refusal. (refusal ≡ Refusal.BadText) × (field_at (fields_of fields.now) place ≡ None)) }
+{
+    fields.get(place).ok_or(Refusal::BadText)
 }
 
 /// The field at a place, a text.
@@ -185,37 +212,37 @@ fn text_at(fields: &ByteRecord, place: usize) -> Result<&str, Refusal>
         (λ text. text_at (fields_of fields.now) place ≡ Ok text.now)
         (λ refusal. text_at (fields_of fields.now) place ≡ Err refusal) }
 {
-    let field = fields.get(place).ok_or(Refusal::BadText)?;
-    str::from_utf8(field).map_err(|_| Refusal::BadText)
+    str::from_utf8(field_at(fields, place)?).map_err(|_| Refusal::BadText)
 }
 
 /// The field at a place, a number.
-#[tactic(auto, unfolding(crate::proofs::ImportTextLemmas::rows_open))]
+#[tactic(auto, using(crate::proofs::ImportTextLemmas::number_at_bytes, crate::proofs::ImportTextLemmas::number_at_none))]
+#[inline(always)]
 fn number_at(fields: &ByteRecord, place: usize) -> Result<u32, Refusal>
-    ensures { result ≡ number_at (fields_of fields.now) place }
+    ensures { MatchResult result
+        (λ value. number_at (fields_of fields.now) place ≡ Ok value)
+        (λ refusal. (refusal ≡ Refusal.BadText) × (number_at (fields_of fields.now) place ≡ Err Refusal.BadText)) }
 {
-    number(text_at(fields, place)?)
+    number(field_at(fields, place)?).ok_or(Refusal::BadText)
 }
 
-/// The number that the text is: 1 to 10 digits.
-#[tactic(auto, unfolding(crate::proofs::ImportTextLemmas::numbers_open))]
-fn number(text: &str) -> Result<u32, Refusal>
-    ensures { result ≡ number text.now }
+/// The number that the bytes are: 1 to 10 digits.
+fn number(digits: &[u8]) -> Option<u32>
+    ensures { MatchOption result (number digits.now ≡ Err Refusal.BadText) (λ value. number digits.now ≡ Ok value) }
 {
-    if text.is_empty() || text.len() > 10 || !are_digits(text) {
-        return Err(Refusal::BadText);
+    if digits.is_empty() || digits.len() > 10 {
+        return None;
     }
-    match text.parse() {
-        Ok(number) => Ok(number),
-        Err(_) => Err(Refusal::BadText),
+    let mut value: u32 = 0;
+    for digit in digits {
+        if !digit.is_ascii_digit() {
+            return None;
+        }
+        value = value
+            .checked_mul(10)?
+            .checked_add(u32::from(*digit - b'0'))?;
     }
-}
-
-/// Whether the text has digits alone.
-fn are_digits(text: &str) -> bool
-    ensures { result ≡ list_all is_digit text.now }
-{
-    text.as_bytes().iter().all(u8::is_ascii_digit)
+    Some(value)
 }
 
 #[cfg(test)]

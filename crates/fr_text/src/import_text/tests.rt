@@ -44,7 +44,7 @@ fn placements(alloc: Global) -> Result<String, Fail> {
 #[test]
 fn reads_each_form(rt: HostRuntime) -> Result<(), Fail> {
     let marked = b"\xEF\xBB\xBFframe,signal,start,length,order\r\n\"f1\",\"x\",0,8,little\r\n";
-    let row = Row::signal("f1", "x", 0, 8, "little");
+    let row = Row::signal(b"f1", b"x", 0, 8, "little");
     assert_eq!(rt;
         read(rt.alloc(), marked)?,
         (1, Some(RowRead { line: 2, row }))
@@ -60,7 +60,7 @@ fn reads_each_form(rt: HostRuntime) -> Result<(), Fail> {
     let short = b"frame,signal,start,length,order\nf1,x,0,8\nf1,x,0,8,little\n";
     assert_eq!(rt; read(rt.alloc(), short)?, refused(2, Refusal::BadText));
     let mut many = placements(rt.alloc())?;
-    let row = Row::placement(&params()?, "f63", "n1", 4, "B", 63, 64);
+    let row = Row::placement(&params()?, b"f63", b"n1", 4, "B", 63, 64);
     assert_eq!(rt;
         read(rt.alloc(), many.as_bytes())?,
         (512, Some(RowRead { line: 513, row }))

@@ -1,9 +1,43 @@
-use Rattle.std.proofs.Common.{ℕ, Ok, Err, sym, arith, rules}
-use Rattle.fr_text.proofs.ImportTextLemmas.{number-read}
+use Rattle.std.proofs.Common.{◌≡◌, ◌∙◌, ◌+◌, true, Ok, ap, sym, rules, arith}
+use Rattle.std.proofs.lemmas.List.{take_all}
+use Rattle.std.specs.List.{list_all}
+use Rattle.std.specs.Str.Parse.{digits_value}
+use Rattle.std.specs.Prelude.{get_or}
+use Rattle.fr_base.specs.Names.{is_digit}
+use Rattle.fr_text.proofs.ImportTextLemmas.{number-size, number-other, number-large, number-read, value-more, digits-more}
 use Rattle.fr_text.proofs.import_text.number.Goals as goal
 
-pub returns-in-Ok : goal.returns-in-Ok
-returns-in-Ok c = sym (number-read {E = ℕ} c.args.text.now (Ok c.in-Ok.number) (cc) (omega arith) (search rules) c.in-Ok.ensures.value.0)
+pub returns-then-is_empty : goal.returns-then-is_empty
+returns-then-is_empty c = number-size c.args.digits.now (search rules)
 
-pub returns-in-Err : goal.returns-in-Err
-returns-in-Err c = sym (number-read c.args.text.now (Err c.in-Err.field-0) (cc) (omega arith) (search rules) c.in-Err.ensures.value.0)
+pub returns-then-not-is_ascii_digit : goal.returns-then-not-is_ascii_digit
+returns-then-not-is_ascii_digit c = number-other c.args.digits.now c.loop-digit.digit-index c.loop-digit-test.true (search rules)
+
+pub returns-in_err-checked_mul : goal.returns-in_err-checked_mul
+returns-in_err-checked_mul c =
+    let text = c.args.digits.now in
+    let digit : is_digit (get_or text c.loop-digit.digit-index 0) ≡ true = search rules in
+    let more = value-more text c.loop-digit.digit-index c.loop-digit-test.true digit in
+    rw c.from_residual.ensures (number-large text (c.loop-digit.digit-index + 1) (omega (arith, more, c.loop-digit.invariant.1, c.in_err-checked_mul.ensures)))
+
+pub returns-in_err-value : goal.returns-in_err-value
+returns-in_err-value c =
+    let text = c.args.digits.now in
+    let digit : is_digit (get_or text c.loop-digit.digit-index 0) ≡ true = search rules in
+    let more = value-more text c.loop-digit.digit-index c.loop-digit-test.true digit in
+    rw c.from_residual-in_err-value.ensures (number-large text (c.loop-digit.digit-index + 1) (omega (arith, more, c.loop-digit.invariant.1, c.in_err-value.ensures)))
+
+pub loop-digit-preserved : goal.loop-digit-preserved
+loop-digit-preserved c =
+    let text = c.args.digits.now in
+    let digit : is_digit (get_or text c.loop-digit.digit-index 0) ≡ true = search rules in
+    let more = value-more text c.loop-digit.digit-index c.loop-digit-test.true digit in
+    (digits-more text c.loop-digit.digit-index c.loop-digit-test.true c.loop-digit.invariant.0 digit, omega (arith, more, c.loop-digit.invariant.1, c.in_ok-value.ensures), omega (arith, c.in_ok-value.ensures))
+
+pub returns : goal.returns
+returns c =
+    let text = c.args.digits.now in
+    let whole = take_all c.loop-digit.digit-index text (omega arith) in
+    let value : c.loop-digit.value ≡ digits_value 10 text = c.loop-digit.invariant.1 ∙ ap (digits_value 10) whole in
+    let digits : list_all is_digit text ≡ true = sym (ap (list_all is_digit) whole) ∙ c.loop-digit.invariant.0 in
+    number-read text (search rules) (omega arith) digits (omega (arith, value, c.loop-digit.invariant.2)) ∙ ap (λ n. Ok n) (sym value)

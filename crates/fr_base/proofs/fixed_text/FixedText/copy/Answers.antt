@@ -1,5 +1,5 @@
 use Rattle.fr_base.proofs.FixedTextLemmas.{IsPadded-written}
-use Rattle.fr_base.proofs.fixed_text.FixedText.new.Goals as goal
+use Rattle.fr_base.proofs.fixed_text.FixedText.copy.Goals as goal
 
 pub invariant_of-result : goal.invariant_of-result
 invariant_of-result g c =
