@@ -20,8 +20,8 @@ use Rattle.fr_world.proofs.KeyLaws.{name_cmp, placement_cmp, placements_alike}
 use Rattle.fr_world.proofs.MapLaws.{get-table_of, set_of-insert_key, table_of-insert_entry, table_of-lent, table_of-lent_same}
 use Rattle.fr_world.proofs.RemoveLaws.{set_of-remove_key}
 use Rattle.fr_cli.specs.Plans.{variant_of}
-use Rattle.fr_cli.specs.Registers.{kept_of}
-use Rattle.fr_cli.specs.declared.kept.KeptImport.{KeptImport}
+use Rattle.fr_world.specs.ImportLabels.{kept_of}
+use Rattle.fr_world.specs.declared.kept_import.KeptImport.{KeptImport}
 use Rattle.fr_cli.specs.declared.plan.Owned.{Owned}
 use Rattle.fr_cli.specs.declared.plan.Plan.{Plan}
 use Rattle.fr_cli.proofs.KeyLaws.{names_alike, owned_cmp, owned_alike}

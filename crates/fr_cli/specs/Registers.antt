@@ -5,15 +5,11 @@ use Rattle.fr_base.specs.Book as register
 use Rattle.fr_base.specs.Step as step
 use Rattle.fr_base.specs.declared.name.Name.{Name}
 use Rattle.fr_base.specs.declared.params.Params.{Params}
+use Rattle.fr_world.specs.ImportLabels.{kept_of}
 use Rattle.fr_world.specs.Maps.{table_of, set_of}
 use Rattle.fr_world.specs.Pages.{PageData, own_rows_of}
 use Rattle.fr_cli.specs.Plans.{variant_of}
-use Rattle.fr_cli.specs.declared.kept.KeptImport.{KeptImport}
 use Rattle.fr_cli.specs.declared.register.Register.{Register}
-
--- an import that the runner keeps
-abbrev pub kept_of : KeptImport → register.Kept
-kept_of k = record { variant = k.variant; body = k.body; rows = k.rows }
 
 -- the register's rows that the runner's stand for
 abbrev pub book_of : Register → register.Book

@@ -5,18 +5,18 @@ ghost use Rattle.fr_base.specs.Tables.{get, insert};
 ghost use Rattle.fr_base.specs.Step.{with_variant};
 ghost use Rattle.fr_base.specs.declared.refusal.Refusal.TheVariants.{Unavailable};
 ghost use Rattle.fr_world.specs.BookEdits.{all_applied, applied, change_variant, copied};
+ghost use Rattle.fr_world.specs.ImportLabels.{kept_of};
 ghost use Rattle.fr_cli.specs.Applied.{variant_edited};
 ghost use Rattle.fr_cli.specs.Plans.{HasPayload, variant_of};
-ghost use Rattle.fr_cli.specs.Registers.{book_of, kept_of};
+ghost use Rattle.fr_cli.specs.Registers.{book_of};
 
 mod frame;
 mod variant;
 
-use crate::kept::KeptImport;
 use crate::plan::{Owned, Plan};
 use crate::register::Register;
 use fr_base::{Body, Name, Refusal};
-use fr_world::Edit;
+use fr_world::{Edit, KeptImport};
 use std::alloc::Global;
 
 impl Register {

@@ -5,7 +5,6 @@ mod answers;
 mod apply;
 mod changes;
 mod input;
-mod kept;
 mod laws;
 mod lines;
 mod lists;

@@ -3,9 +3,9 @@ ghost use Rattle.std.specs.Prelude.{All};
 ghost use Rattle.std.specs.Map.{values_of};
 ghost use Rattle.fr_cli.specs.Plans.{HasPayload};
 
-use crate::kept::KeptImport;
 use crate::plan::{Owned, Plan};
 use fr_base::{Config, Name};
+use fr_world::KeptImport;
 use std::alloc::Global;
 use std::collections::{BTreeMap, BTreeSet};
 

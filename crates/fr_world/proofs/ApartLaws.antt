@@ -18,6 +18,7 @@ use Rattle.fr_base.specs.declared.placement.Placement.{Placement}
 use Rattle.fr_base.proofs.TableLaws.{equal, none_above}
 use Rattle.fr_base.proofs.LayoutLaws.{AllPairs-head, AllPairs-tail}
 use Rattle.fr_base.proofs.SoundTables.{same_some, value_of}
+use Rattle.fr_base.proofs.SoundApart.{NoneShared}
 use Rattle.fr_base.proofs.AloneCells.{entries_of}
 use Rattle.fr_world.specs.Pages.{AreApart}
 use Rattle.fr_world.proofs.AmongLaws.{In, In-map, map-In, In-flat_map, flat_map-In, Contains-In}
@@ -96,13 +97,6 @@ pub all-contained : (P : Placement → Type 0) (f : Frame) → All P (placements
 all-contained P f all q h = All-In P (placements_in f) q all (In-map (λ p. p.0) (q, tt) f.placements.rows (contains-In f q h))
 
 -- ---- no cell in two placements
-
--- no cell lies in two placements of the frames
-abbrev pub NoneShared : Table owned Frame → Type 0
-NoneShared frames = (k l : Name × Name) (f g : Frame) (q r : Placement) (c : Cell) →
-    get frames k ≡ Some f → get frames l ≡ Some g →
-    IsTrue (contains f.placements q) → IsTrue (contains g.placements r) →
-    IsTrue (has_cell q c) → IsTrue (has_cell r c) → (k ≡ l) × (q ≡ r)
 
 abbrev Apart : Sender × Placement → Sender × Placement → Type 0
 Apart x y = AreApart x.1 y.1

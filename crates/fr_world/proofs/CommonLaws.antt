@@ -2,8 +2,10 @@
 use Rattle.std.specs.Prelude.{⊤}
 use Rattle.fr_base.specs.Refusing.{◌>>=◌, ◌>>◌, ◌or◌, refuse◌when◌}
 use Rattle.fr_world.specs.Common.{depth_after, common_edit}
+use Rattle.fr_world.specs.ImportLabels.{label_decision}
+use Rattle.fr_world.specs.ImportLimits.{import_room}
 use Rattle.fr_world.specs.Nodes.{new_node}
 
 unfoldable pub common_open : ⊤
-unfolding ◌>>=◌ ◌>>◌ ◌or◌ refuse◌when◌ depth_after common_edit new_node
+unfolding ◌>>=◌ ◌>>◌ ◌or◌ refuse◌when◌ depth_after common_edit new_node label_decision import_room
 common_open = tt

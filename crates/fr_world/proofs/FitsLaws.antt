@@ -1,5 +1,5 @@
 -- A placement and a signal that a page admits are new.
-use Rattle.std.proofs.Common.{◌≡◌, ℕ, ◌<◌, ◌≤◌, ◌||◌, Bool, true, false, List, [], ◌∷◌, Some, None, IfOk, IsTrue, sym, ap, ◌∙◌, inl, inr, arith, leb, true≢false}
+use Rattle.std.proofs.Common.{◌≡◌, ℕ, ◌<◌, ◌≤◌, ◌||◌, Bool, true, false, List, [], ◌∷◌, Option, Some, None, is_some, IfOk, IsTrue, refl, sym, ap, ◌∙◌, inl, inr, arith, leb, true≢false}
 use Rattle.std.specs.Prelude.{nat_eq}
 use Rattle.std.specs.Ordering.{is_eq}
 use Rattle.std.specs.Cmp.{tied_itself, on_total, then_total, nat_cmp_total}
@@ -58,12 +58,17 @@ placement-cell : (p : Params) (q : Placement) → FitsCluster p q → (c : Cell)
 unfolding has_cell cells_of has_cycle
 placement-cell p q fits = some_cell q.cycles.base q.slot q.channels (cycles_of q.cycles) (selected q.cycles fits.cycles)
 
+-- what is not there
+pub none_there : {A : Type 0} (o : Option A) → is_some o ≡ false → o ≡ None
+none_there None h = refl
+none_there (Some x) h = absurd (true≢false h)
+
 -- so it is none of a frame's, where none of its cells is filled
-pub new_placement : (p : Params) (frames : Table owned Frame) (k : Name × Name) (f : Frame) (q : Placement) → FitsCluster p q → get frames k ≡ Some f → first_taken (schedule_of frames) (cells_of q) ≡ None → contains f.placements q ≡ false
-new_placement p frames k f q fits found free = elim (cases_Bool (contains f.placements q)) [
+pub new_placement : (p : Params) (frames : Table owned Frame) (k : Name × Name) (f : Frame) (q : Placement) → FitsCluster p q → get frames k ≡ Some f → first_taken (schedule_of frames) (cells_of q) ≡ None → get f.placements q ≡ None
+new_placement p frames k f q fits found free = none_there (get f.placements q) (elim (cases_Bool (contains f.placements q)) [
   | inl there ↦ let c = placement-cell p q fits in absurd (free_cells frames q free k f q c.0 found there c.1 c.1)
   | inr new ↦ new
-]
+])
 
 -- ---- signals
 

@@ -45,7 +45,7 @@ same_text-turned : (a b : Name) → same_text a b ≡ same_text b a
 same_text-turned a b = sym (is_eq-slice_cmp a b) ∙ ap is_eq (nat_list_cmp_total.antisymm a b) ∙ is_eq-reverse (slice_cmp nat_cmp b a) ∙ is_eq-slice_cmp b a
 
 module _ (b : Book) (s : Name) where
-  node-listed : (n : Name) → contains b.nodes (s, n) ≡ list_any (λ other. same_text other n) (nodes_in b s)
+  pub node-listed : (n : Name) → contains b.nodes (s, n) ≡ list_any (λ other. same_text other n) (nodes_in b s)
   node-listed n =
       ap is_some (sym (get-own owned (is_of s) b.nodes (s, n) (same_text-itself s)))
       ∙ ap (λ t. contains t (s, n)) (sym (nodes-back b s))
@@ -74,7 +74,7 @@ node-decides b s n known =
 -- ---- what is common
 
 -- a variant's row
-abbrev row : Name → Variant → VariantRow
+abbrev pub row : Name → Variant → VariantRow
 row v x = record { variant = v; parent = x.parent; depth = x.depth; released = x.released }
 
 row-found : (es : List (Name × Variant)) (v : Name) → find (λ r. same_text r.variant v) (map (λ e. row e.0 e.1) es) ≡ option_map (row v) (entries.find names.compare v es)
@@ -89,7 +89,7 @@ row-found (e ∷ es) v =
     by_test r u false same rest = rest
 
 module _ (b : Book) where
-  row-of : (v : Name) → row_of (variants_in b) v ≡ option_map (row v) (get b.variants v)
+  pub row-of : (v : Name) → row_of (variants_in b) v ≡ option_map (row v) (get b.variants v)
   unfolding variants_in get
   row-of v = row-found b.variants.rows v
 
@@ -97,7 +97,7 @@ module _ (b : Book) where
   is_some-row v None = refl
   is_some-row v (Some x) = refl
 
-  row-there : (v : Name) → contains b.variants v ≡ is_some (row_of (variants_in b) v)
+  pub row-there : (v : Name) → contains b.variants v ≡ is_some (row_of (variants_in b) v)
   row-there v = is_some-row v (get b.variants v) ∙ ap is_some (sym (row-of v))
 
   rows-counted : len b.variants ≡ length (variants_in b)

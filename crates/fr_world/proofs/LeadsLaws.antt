@@ -1,16 +1,14 @@
 -- A page takes what it decides: each edit fits it, leads to what the change makes of it, and leaves rows that a page has.
-use Rattle.std.proofs.Common.{◌≡◌, ◌≢◌, ℕ, ◌<◌, ◌≤◌, Bool, false, List, [], Option, Some, None, Result, Ok, Err, IfOk, IsTrue, refl, sym, ap, subst, ◌∙◌, ◌⊎◌, inl, inr, arith, true≢false, leb-false}
+use Rattle.std.proofs.Common.{◌≡◌, ℕ, ◌<◌, ◌≤◌, false, List, [], Option, Some, None, Result, Ok, Err, IfOk, IsTrue, refl, sym, ap, subst, ◌∙◌, ◌⊎◌, inl, inr, arith, true≢false, leb-false}
 use Rattle.std.specs.Prelude.{⊤}
 use Rattle.std.specs.Ordering.{eq_by_cmp}
-use Rattle.std.specs.List.{list_all}
-use Rattle.std.proofs.lemmas.Bool.{cases_Bool, and_parts, and_from}
+use Rattle.std.proofs.lemmas.Bool.{cases_Bool, and_from}
 use Rattle.std.proofs.lemmas.Bool.Decides.{Decides-eqb}
 use Rattle.fr_base.specs.Refusing.{◌>>=◌, ◌or◌}
 use Rattle.fr_base.specs.Tables.{Table, empty, get, contains, len, insert, remove, settle}
 use Rattle.fr_base.specs.Keys.{owned, channel_slots, placement_order}
 use Rattle.fr_base.specs.declared.limits.TheConstants.{MAX_FRAMES, MAX_PLACEMENTS}
-use Rattle.fr_base.specs.Channels.{channels_in, has_channel}
-use Rattle.fr_base.specs.Cells.{Cell, cells_of, has_cell}
+use Rattle.fr_base.specs.Cells.{Cell, cells_of}
 use Rattle.fr_base.specs.Schedule.{first_taken}
 use Rattle.fr_base.specs.Parameters.{check_params}
 use Rattle.fr_base.specs.Book.{Frame, Holder, Sender, held_by_node, granted, schedule_of}
@@ -19,8 +17,6 @@ use Rattle.fr_base.specs.Layouts.{IsLayout, with_signal, without_signal, admits_
 use Rattle.fr_base.specs.Step.{OwnRows, Shared, shared_by, fills, in_use, cell_taken, layout_of, admits_frame, admits, grants_after, frame_after, frames_after}
 use Rattle.fr_base.specs.Sound.{FitsCluster}
 use Rattle.fr_base.specs.declared.channel.Channel.{Channel}
-use Rattle.fr_base.specs.declared.channel.Channels.{Channels}
-use Rattle.fr_base.specs.declared.channel.Channels.TheVariants as channels
 use Rattle.fr_base.specs.declared.name.Name.{Name}
 use Rattle.fr_base.specs.declared.placement.Placement.{Placement}
 use Rattle.fr_base.specs.declared.request.Change.{Change}
@@ -31,41 +27,23 @@ use Rattle.fr_base.proofs.TableLaws.{equal}
 use Rattle.fr_base.proofs.LayoutLaws.{empty-layout, admits_signal-layout, without_signal-layout}
 use Rattle.fr_base.proofs.ParametersLaws.{few_words}
 use Rattle.fr_base.proofs.SoundTables.{some_there, insert-cases, contains-cases, len-within, remove-stood, contains-fewer, get-remove_other, len-remove}
-use Rattle.fr_base.proofs.SoundCells.{free_cells, any_placement}
-use Rattle.fr_base.proofs.SoundRows.{granted-more}
+use Rattle.fr_base.proofs.SoundCells.{any_placement}
+use Rattle.fr_base.proofs.SoundApart.{NoneShared, IsApart, new_frame-apart, insert-none_shared, remove-none_shared, lesser-apart, placed-apart}
+use Rattle.fr_base.proofs.SoundRows.{all_meant, granted-more}
 use Rattle.fr_base.proofs.SoundRefusing.{gives_next, gives_when, gives_unless, gives_last, gives_bind_last, gives_when_last, gives_unless_last}
 use Rattle.fr_world.specs.Pages.{PageData, own_rows_of, IsPageFrame, IsPage, IsKept}
 use Rattle.fr_world.specs.Decisions.{IsChecked, admits_alone, decision}
 use Rattle.fr_world.specs.Edits.{FitsFrame, FitsRows, rows_after, edited, Leads}
 use Rattle.fr_world.specs.declared.edit.Edit.{Edit}
-use Rattle.fr_world.proofs.FitsLaws.{new_placement, new_signal}
-use Rattle.fr_world.proofs.ApartLaws.{NoneShared, contained-all, all-contained, pairs-none_shared, none_shared-pairs}
+use Rattle.fr_world.proofs.FitsLaws.{none_there, new_placement, new_signal}
+use Rattle.fr_world.proofs.ApartLaws.{contained-all, all-contained, pairs-none_shared, none_shared-pairs}
 
 -- ---- a frame put in, or gone
 
--- no placement of the frame shares a cell with another of the frame, or with one of another frame
-record IsApart (frames : Table owned Frame) (k : Name × Name) (g : Frame) : Type 0 where
-  own : (q r : Placement) (c : Cell) → IsTrue (contains g.placements q) → IsTrue (contains g.placements r) → IsTrue (has_cell q c) → IsTrue (has_cell r c) → q ≡ r
-  others : (l : Name × Name) (f : Frame) (q r : Placement) (c : Cell) → l ≢ k → get frames l ≡ Some f → IsTrue (contains g.placements q) → IsTrue (contains f.placements r) → IsTrue (has_cell q c) → IsTrue (has_cell r c) → ⊥
-
-module _ (frames : Table owned Frame) (none : NoneShared frames) where
-  insert-none_shared : (k : Name × Name) (g : Frame) → IsApart frames k g → NoneShared (insert frames k g)
-  insert-none_shared k g apart i j f h q r c at_i at_j in_f in_h has_q has_r = elim (insert-cases frames k g i f at_i) [
-    | inl ni ↦ let in_g = subst (λ (x : Frame). IsTrue (contains x.placements q)) (sym ni.1) in_f in
-        elim (insert-cases frames k g j h at_j) [
-          | inl nj ↦ (ni.0 ∙ sym nj.0, apart.own q r c in_g (subst (λ (x : Frame). IsTrue (contains x.placements r)) (sym nj.1) in_h) has_q has_r)
-          | inr oj ↦ absurd (apart.others j h q r c oj.0 oj.1 in_g in_h has_q has_r)
-        ]
-    | inr oi ↦ elim (insert-cases frames k g j h at_j) [
-      | inl nj ↦ absurd (apart.others i f r q c oi.0 oi.1 (subst (λ (x : Frame). IsTrue (contains x.placements r)) (sym nj.1) in_h) in_f has_r has_q)
-      | inr oj ↦ none i j f h q r c oi.1 oj.1 in_f in_h has_q has_r
-    ]
-  ]
-
-  remove-none_shared : (k : Name × Name) → NoneShared (remove frames k)
-  remove-none_shared k i j f h q r c at_i at_j = none i j f h q r c (remove-stood owned frames k i f at_i) (remove-stood owned frames k j h at_j)
-
 module _ (page : OwnRows) (fine : IsPage page) where
+  abbrev none : NoneShared page.frames
+  none = pairs-none_shared page.frames fine.apart
+
   -- a frame of the page is one of the page with other frames
   reframe : (t : Table owned Frame) (f : Frame) → IsPageFrame page f → IsPageFrame (record page { frames = t }) f
   reframe t f x = record { few = x.few; fits = x.fits; in_grants = x.in_grants; layout = x.layout }
@@ -78,7 +56,7 @@ module _ (page : OwnRows) (fine : IsPage page) where
       | inl new ↦ subst (IsPageFrame page) new.1 frame
       | inr old ↦ fine.each j f old.1
     ]);
-    apart = none_shared-pairs (insert page.frames k g) (insert-none_shared page.frames (pairs-none_shared page.frames fine.apart) k g apart);
+    apart = none_shared-pairs (insert page.frames k g) (insert-none_shared page.frames none k g apart);
   }
 
   remove-page : (k : Name × Name) → IsPage (record page { frames = remove page.frames k })
@@ -86,7 +64,7 @@ module _ (page : OwnRows) (fine : IsPage page) where
     nodes = fine.nodes;
     frames = len-remove owned page.frames k MAX_FRAMES fine.frames;
     each = λ j f e. reframe (remove page.frames k) f (fine.each j f (remove-stood owned page.frames k j f e));
-    apart = none_shared-pairs (remove page.frames k) (remove-none_shared page.frames (pairs-none_shared page.frames fine.apart) k);
+    apart = none_shared-pairs (remove page.frames k) (remove-none_shared page.frames none k);
   }
 
   -- a frame without placements
@@ -102,21 +80,13 @@ module _ (page : OwnRows) (fine : IsPage page) where
         in_grants = λ i d h. absurd (omega arith);
         layout = empty-layout page.params.payload_words words;
       })
-      (record { own = λ q r d h. cc; others = λ l g q r d e at h. cc })
+      (new_frame-apart page.frames k n)
       (inr room)
 
   module _ (k : Name × Name) (f : Frame) (found : get page.frames k ≡ Some f) where
-    abbrev none : NoneShared page.frames
-    none = pairs-none_shared page.frames fine.apart
-
     -- a frame in place of another under its key, with no placement that the other had not
     lesser-page : (g : Frame) → ((q : Placement) → IsTrue (contains g.placements q) → IsTrue (contains f.placements q)) → IsPageFrame page g → IsPage (record page { frames = insert page.frames k g })
-    lesser-page g had frame = insert-page k g frame
-        (record {
-          own = λ q r c in_q in_r has_q has_r. (none k k f f q r c found found (had q in_q) (had r in_r) has_q has_r).1;
-          others = λ l h q r c other at in_q in_r has_q has_r. other (sym (none k l f h q r c found at (had q in_q) in_r has_q has_r).0);
-        })
-        (inl (some_there _ f found))
+    lesser-page g had frame = insert-page k g frame (lesser-apart page.frames none k f found g had) (inl (some_there _ f found))
 
     module _ (q : Placement) where
       placed : Frame
@@ -139,31 +109,9 @@ module _ (page : OwnRows) (fine : IsPage page) where
             layout = old.layout;
           }
 
-      placed-apart : first_taken (schedule_of page.frames) (cells_of q) ≡ None → IsApart page.frames k placed
-      unfolding placed
-      placed-apart free =
-          let clash : (l : Name × Name) (g : Frame) (r s : Placement) (c : Cell) → r ≡ q → get page.frames l ≡ Some g → IsTrue (contains g.placements s) → IsTrue (has_cell r c) → IsTrue (has_cell s c) → ⊥ =
-          λ l g r s c e at in_g has_r has_s. free_cells page.frames q free l g s c at in_g (subst (λ x. IsTrue (has_cell x c)) e has_r) has_s in
-          record {
-            own = λ r s c in_r in_s has_r has_s. elim (contains-cases f.placements q tt r in_r) [
-              | inl r_new ↦ elim (contains-cases f.placements q tt s in_s) [
-                | inl s_new ↦ r_new ∙ sym s_new
-                | inr s_old ↦ absurd (clash k f r s c r_new found s_old has_r has_s)
-              ]
-              | inr r_old ↦ elim (contains-cases f.placements q tt s in_s) [
-                | inl s_new ↦ absurd (clash k f s r c s_new found r_old has_s has_r)
-                | inr s_old ↦ (none k k f f r s c found found r_old s_old has_r has_s).1
-              ]
-            ];
-            others = λ l g r s c other at in_r in_s has_r has_s. elim (contains-cases f.placements q tt r in_r) [
-              | inl r_new ↦ clash l g r s c r_new at in_s has_r has_s
-              | inr r_old ↦ other (sym (none k l f g r s c found at r_old in_s has_r has_s).0)
-            ];
-          }
-
       placed-page : FitsCluster page.params q → IsTrue (granted page.grants page.supplier f.node q) → len f.placements < MAX_PLACEMENTS → first_taken (schedule_of page.frames) (cells_of q) ≡ None → IsPage (record page { frames = insert page.frames k (record f { placements = insert f.placements q tt }) })
       unfolding placed
-      placed-page fits holds room free = insert-page k placed (placed-frame fits holds room) (placed-apart free) (inl (some_there _ f found))
+      placed-page fits holds room free = insert-page k placed (placed-frame fits holds room) (placed-apart page.frames none k f found q free) (inl (some_there _ f found))
 
       unplaced-page : IsPage (record page { frames = insert page.frames k (record f { placements = remove f.placements q }) })
       unplaced-page =
@@ -199,14 +147,6 @@ module _ (page : OwnRows) (fine : IsPage page) where
         };
     apart = fine.apart;
   }
-
--- what holds of each channel that is meant
-all_meant : (chs : Channels) (f g : Channel → Bool) → ((c : Channel) → IsTrue (has_channel chs c) → IsTrue (f c) → IsTrue (g c)) → IsTrue (list_all f (channels_in chs)) → IsTrue (list_all g (channels_in chs))
-all_meant channels.A f g more h = and_from _ _ (more _ refl (and_parts _ _ h).0) refl
-all_meant channels.AB f g more h =
-    let both = and_parts _ _ h in
-    and_from _ _ (more _ refl both.0) (and_from _ _ (more _ refl (and_parts _ _ both.1).0) refl)
-all_meant channels.B f g more h = and_from _ _ (more _ refl (and_parts _ _ h).0) refl
 
 -- where no placement fills a slot and channel, the placements lie in the other grants
 still_granted : (grants : Table channel_slots Holder) (frames : Table owned Frame) (at : ℕ × Channel) (s n : Name) → in_use at frames ≡ false →
@@ -248,7 +188,7 @@ module _ (page : OwnRows) (fine : IsPage page) where
 
     -- the frame's change fits the page, and leaves one
     abbrev Leaves : Option Frame → FrameChange → Type 0
-    Leaves there what = FitsFrame page there what × IsPage (record page { frames = settle page.frames k (frame_after what there) })
+    Leaves there what = FitsFrame page.nodes page.supplier there what × IsPage (record page { frames = settle page.frames k (frame_after what there) })
 
     frame-leaves : page.params.payload_words ≤ 127 → (there : Option Frame) → get page.frames k ≡ there → (what : FrameChange) → IsChecked page.params (change.Frame f what) →
         IfOk (admits_frame page shared there what) (λ _. Leaves there what)
@@ -257,7 +197,7 @@ module _ (page : OwnRows) (fine : IsPage page) where
         gives_unless _ _ _ _ (λ has.
         gives_when _ _ _ _ (λ other.
         gives_when_last _ _ _ (λ room.
-        ((has, other), new_frame-page page fine words k n (leb-false _ _ room)))))
+        ((has, none_there there other), new_frame-page page fine words k n (leb-false _ _ room)))))
     frame-leaves words there found Drop checked = gives_unless_last _ _ _ (λ is. (is, remove-page page fine k))
     frame-leaves words (Some frame) found (Place q) checked =
         gives_unless _ _ _ _ (λ holds.
@@ -291,7 +231,7 @@ module _ (page : OwnRows) (fine : IsPage page) where
       gives_when _ _ _ _ (λ other.
       gives_when _ _ _ _ (λ free.
       gives_when_last _ _ _ (λ _.
-      ((has, free), regrant-page page fine _ (λ j f q _ _. granted-more page.grants (slot, channel) _ free page.supplier f.node q))))))
+      ((has, none_there _ free), regrant-page page fine _ (λ j f q _ _. granted-more page.grants (slot, channel) _ free page.supplier f.node q))))))
   rows-leave words (change.Revoke slot channel) checked =
       gives_unless _ _ _ _ (λ holds.
       gives_when_last _ _ _ (λ free.

@@ -31,7 +31,10 @@ pub mod AgreeLaws
 pub mod AmendTakes
 pub mod FitsLaws
 pub mod RowsLead
+pub mod BookFits
+pub mod LabelLaws
 pub mod RowsDecide
+pub mod ImportRoom
 pub mod DraftCells
 pub mod DraftSteps
 pub mod DraftRows

@@ -41,7 +41,7 @@ use Rattle.fr_world.proofs.PageLaws.{rows-registers}
 use Rattle.fr_world.proofs.StepLaws.{supplier-decides}
 
 -- one edit more
-applied-more : (b : Book) (edits : List Edit) (edit : Edit) → all_applied b (edits ++ edit ∷ []) ≡ applied (all_applied b edits) edit
+pub applied-more : (b : Book) (edits : List Edit) (edit : Edit) → all_applied b (edits ++ edit ∷ []) ≡ applied (all_applied b edits) edit
 applied-more b [] edit = refl
 applied-more b (e ∷ edits) edit = applied-more (applied b e) edits edit
 

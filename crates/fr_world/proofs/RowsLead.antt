@@ -1,5 +1,6 @@
--- A page takes the edits that rows are decided to.
+-- A page takes the edits that rows are decided to, each of which changes a frame.
 use Rattle.std.proofs.Common.{◌≡◌, ◌≤◌, ◌++◌, List, [], ◌∷◌, Option, Some, None, Ok, IfOk, refl, sym, subst}
+use Rattle.std.specs.Prelude.{⊤}
 use Rattle.std.specs.List.{AllByRecursion}
 use Rattle.std.proofs.lemmas.List.Elements.{recursion_from_All}
 use Rattle.fr_base.specs.Tables.{get}
@@ -14,6 +15,7 @@ use Rattle.fr_base.specs.declared.name.Name.{Name}
 use Rattle.fr_base.specs.declared.params.Params.{Params}
 use Rattle.fr_base.specs.declared.request.Change.{Change}
 use Rattle.fr_base.specs.declared.request.Change.TheVariants as change
+use Rattle.fr_base.specs.declared.request.FrameChange.{FrameChange}
 use Rattle.fr_base.specs.declared.request.FrameChange.TheVariants.{Add, Place, AddSignal}
 use Rattle.fr_base.proofs.ParametersLaws.{few_words}
 use Rattle.fr_base.proofs.SoundRefusing.{gives_bind, gives_next, gives_unless}
@@ -38,6 +40,15 @@ module _ (v : Name) where
   leads-last page last [] led = led
   leads-last page last (e ∷ edits) led = leads-last (edited page e) last edits led.2
 
+-- the edit is of a frame
+abbrev pub IsOfFrame : Edit → Type 0
+IsOfFrame (Rows s v (change.Frame f what)) = ⊤
+IsOfFrame _ = ⊥
+
+frames-more : (edits : List Edit) (edit : Edit) → AllByRecursion IsOfFrame edits → IsOfFrame edit → AllByRecursion IsOfFrame (edits ++ edit ∷ [])
+frames-more [] edit all one = (one, tt)
+frames-more (e ∷ edits) edit all one = (all.0, frames-more edits edit all.1 one)
+
 module _ (v : Name) (start : OwnRows) (words : start.params.payload_words ≤ 127) where
   -- the edits led to the page, and its parameters are those of the start
   record IsLed (d : DraftData) : Type 0 where
@@ -45,10 +56,12 @@ module _ (v : Name) (start : OwnRows) (words : start.params.payload_words ≤ 12
     params : d.page.params ≡ start.params
     leads : Leads v start d.edits d.page
     page : IsPage d.page
+    frames : AllByRecursion IsOfFrame d.edits
 
-  make-led : (d : DraftData) → IsLed d → (what : Change) → IsChecked start.params what → IfOk (make d what) IsLed
+  make-led : (d : DraftData) → IsLed d → (f : Name) (part : FrameChange) → IsChecked start.params (change.Frame f part) → IfOk (make d (change.Frame f part)) IsLed
   unfolding make edited
-  make-led d led what checked =
+  make-led d led f part checked =
+      let what : Change = change.Frame f part in
       gives_next _ _ (admits_alone d.page what) _
       (rows-leave d.page led.page (subst (λ (p : Params). p.payload_words ≤ 127) (sym led.params) words) what (subst (λ p. IsChecked p what) (sym led.params) checked))
       (λ _ leaves. record {
@@ -56,11 +69,12 @@ module _ (v : Name) (start : OwnRows) (words : start.params.payload_words ≤ 12
         params = led.params;
         leads = leads-more v start d.page d.edits _ led.leads (record { own = (refl, led.variant); leaves = leaves.1 }) leaves.0;
         page = leaves.1;
+        frames = frames-more d.edits _ led.frames tt;
       })
 
   frame-led : (d : DraftData) → IsLed d → (f n : Name) (there : Option Frame) → IfOk (with_frame d f n there) IsLed
   unfolding with_frame
-  frame-led d led f n None = make-led d led (change.Frame f (Add n)) tt
+  frame-led d led f n None = make-led d led f (Add n) tt
   frame-led d led f n (Some frame) = gives_unless _ _ (same_text frame.node n) _ (λ _. led)
 
   row-led : (d : DraftData) → IsLed d → (r : Row) → IsCheckedRow start.params r → IfOk (make_row d r) IsLed
@@ -68,8 +82,8 @@ module _ (v : Name) (start : OwnRows) (words : start.params.payload_words ≤ 12
   row-led d led (row.Place f n q) checked =
       gives_bind _ IsLed (make_frame d f n) _
       (gives_unless _ _ _ _ (λ _. frame-led d led f n (get d.page.frames (d.page.supplier, f))))
-      (λ e framed. make-led e framed (change.Frame f (Place q)) checked)
-  row-led d led (row.AddSignal f signal) checked = make-led d led (change.Frame f (AddSignal signal)) checked
+      (λ e framed. make-led e framed f (Place q) checked)
+  row-led d led (row.AddSignal f signal) checked = make-led d led f (AddSignal signal) checked
 
   read-led : (d : DraftData) → IsLed d → (read : RowRead) → IfOk read.row (IsCheckedRow start.params) → IfOk (make_read d read) IsLed
   unfolding make_read
@@ -84,17 +98,24 @@ module _ (rows : PageData) (params : check_params rows.params ≡ Ok rows.params
   abbrev page : OwnRows
   page = own_rows_of rows
 
-  decided : IfOk (rows_decision rows reads) (λ edits. Leads rows.variant page edits (all_edited page edits))
+  -- the page takes them, and they are of frames
+  abbrev AreLed : List Edit → Type 0
+  AreLed edits = Leads rows.variant page edits (all_edited page edits) × AllByRecursion IsOfFrame edits
+
+  decided : IfOk (rows_decision rows reads) AreLed
   unfolding rows_decision
   decided =
       let words = few_words rows.params params in
       gives_bind _ (IsLed rows.variant page words) (make_rows (draft_of rows) reads) _
-      (rows-led rows.variant page words reads (draft_of rows) (record { variant = refl; params = refl; leads = refl; page = kept.page }) (recursion_from_All _ reads checked))
-      (λ d led. subst (Leads rows.variant page d.edits) (leads-last rows.variant page d.page d.edits led.leads) led.leads)
+      (rows-led rows.variant page words reads (draft_of rows) (record { variant = refl; params = refl; leads = refl; page = kept.page; frames = tt }) (recursion_from_All _ reads checked))
+      (λ d led. (subst (Leads rows.variant page d.edits) (leads-last rows.variant page d.page d.edits led.leads) led.leads, led.frames))
+
+  pub frames-lead : (edits : List Edit) → rows_decision rows reads ≡ Ok edits → AreLed edits
+  frames-lead edits e = subst (λ r. IfOk r AreLed) e decided
 
 pub rows-lead : (rows : PageData) (reads : List RowRead) (edits : List Edit) → check_params rows.params ≡ Ok rows.params → IsKept rows → AreChecked rows.params reads → rows_decision rows reads ≡ Ok edits →
     Leads rows.variant (own_rows_of rows) edits (all_edited (own_rows_of rows) edits)
-rows-lead rows reads edits params kept checked e = subst (λ r. IfOk r (λ es. Leads rows.variant (own_rows_of rows) es (all_edited (own_rows_of rows) es))) e (decided rows params kept reads checked)
+rows-lead rows reads edits params kept checked e = (frames-lead rows params kept reads checked edits e).0
 
 -- a page takes a change that it admits
 pub change-takes : (rows : PageData) → check_params rows.params ≡ Ok rows.params → IsKept rows → (what : Change) → IsChecked rows.params what → admits_alone (own_rows_of rows) what ≡ Ok tt →

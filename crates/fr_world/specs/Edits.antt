@@ -1,6 +1,7 @@
 -- What an edit makes of a page, and which edits a page takes.
-use Rattle.std.specs.Prelude.{◌≡◌, Bool, true, false, List, [], ◌∷◌, Option, Some, None, is_some, IsTrue, ⊤}
-use Rattle.fr_base.specs.Tables.{get, contains, insert}
+use Rattle.std.specs.Prelude.{◌≡◌, Bool, true, false, List, [], ◌∷◌, Option, Some, None, is_some, IsTrue, IsFalse, ⊤}
+use Rattle.fr_base.specs.Tables.{Table, get, contains, insert}
+use Rattle.fr_base.specs.Keys.{owned}
 use Rattle.fr_base.specs.Book.{Frame}
 use Rattle.fr_base.specs.Layouts.{has_signal}
 use Rattle.fr_base.specs.Step.{OwnRows, grants_after, frames_after}
@@ -40,25 +41,25 @@ pub record Takes (v : Name) (page : OwnRows) (edit : Edit) : Type 0 where
   pub own : IsOf page.supplier v edit
   pub leaves : IsPage (edited page edit)
 
--- What a change of a frame adds is new, and what it changes or takes out is there; `there` is what stands at the frame's name.
-abbrev pub FitsFrame : OwnRows → Option Frame → FrameChange → Type 0
-FitsFrame page there (Add node) = IsTrue (contains page.nodes (page.supplier, node)) × (is_some there ≡ false)
-FitsFrame page there Drop = IsTrue (is_some there)
-FitsFrame page (Some frame) (Place q) = contains frame.placements q ≡ false
-FitsFrame page (Some frame) (Unplace q) = IsTrue (contains frame.placements q)
-FitsFrame page (Some frame) (AddSignal signal) = has_signal frame.signals signal.name ≡ false
-FitsFrame page (Some frame) (DropSignal name) = IsTrue (has_signal frame.signals name)
-FitsFrame page None _ = ⊥
+-- What a change of a supplier's frame adds is new, and what it names or takes out is there; `there` is what stands at the frame's name.
+abbrev pub FitsFrame : Table owned ⊤ → Name → Option Frame → FrameChange → Type 0
+FitsFrame nodes s there (Add node) = IsTrue (contains nodes (s, node)) × (there ≡ None)
+FitsFrame nodes s there Drop = IsTrue (is_some there)
+FitsFrame nodes s (Some frame) (Place q) = get frame.placements q ≡ None
+FitsFrame nodes s (Some frame) (Unplace q) = IsTrue (contains frame.placements q)
+FitsFrame nodes s (Some frame) (AddSignal signal) = IsFalse (has_signal frame.signals signal.name)
+FitsFrame nodes s (Some frame) (DropSignal name) = IsTrue (has_signal frame.signals name)
+FitsFrame nodes s None _ = ⊥
 
 -- So with a change of the page's rows
 abbrev pub FitsRows : OwnRows → Change → Type 0
-FitsRows page (change.Grant slot channel node) = IsTrue (contains page.nodes (page.supplier, node)) × (contains page.grants (slot, channel) ≡ false)
+FitsRows page (change.Grant slot channel node) = IsTrue (contains page.nodes (page.supplier, node)) × (get page.grants (slot, channel) ≡ None)
 FitsRows page (change.Revoke slot channel) = IsTrue (contains page.grants (slot, channel))
-FitsRows page (change.Frame f what) = FitsFrame page (get page.frames (page.supplier, f)) what
+FitsRows page (change.Frame f what) = FitsFrame page.nodes page.supplier (get page.frames (page.supplier, f)) what
 
 -- and with an edit.
 abbrev pub FitsPage : OwnRows → Edit → Type 0
-FitsPage page (NewNode s n) = contains page.nodes (page.supplier, n) ≡ false
+FitsPage page (NewNode s n) = get page.nodes (page.supplier, n) ≡ None
 FitsPage page (Rows s v what) = FitsRows page what
 FitsPage page _ = ⊤
 

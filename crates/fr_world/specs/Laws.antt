@@ -1,14 +1,14 @@
 -- Laws of pages. In a sound book what is decided on a supplier's page is the register's step.
-use Rattle.std.specs.Prelude.{◌≡◌, ◌||◌, ℕ, List, false, Some, Ok, IsTrue, IsFalse}
+use Rattle.std.specs.Prelude.{◌≡◌, ◌||◌, ◌++◌, ℕ, List, [], ◌∷◌, false, Option, Some, None, Ok, IsTrue, IsFalse}
 use Rattle.fr_base.specs.Refusing.{◌>>=◌, ◌>>◌, refuse◌when◌}
 use Rattle.fr_base.specs.Tables.{get, contains}
 use Rattle.fr_base.specs.Cluster.{Cluster}
 use Rattle.fr_base.specs.Names.{same_text}
 use Rattle.fr_base.specs.Parameters.{check_params}
-use Rattle.fr_base.specs.Book.{Variant, Book}
+use Rattle.fr_base.specs.Book.{Variant, Kept, Book}
 use Rattle.fr_base.specs.Sound.{IsSound}
 use Rattle.fr_base.specs.ImportRows.{rows_of_body}
-use Rattle.fr_base.specs.Step.{add_node, common, change_rows, own_rows, act_rows}
+use Rattle.fr_base.specs.Step.{add_node, common, change_rows, own_rows, act_rows, import}
 use Rattle.fr_base.specs.declared.channel.Channel.{Channel}
 use Rattle.fr_base.specs.declared.import.RowRead.{RowRead}
 use Rattle.fr_base.specs.declared.name.Name.{Name}
@@ -18,12 +18,17 @@ use Rattle.fr_base.specs.declared.request.Change.{Change}
 use Rattle.fr_base.specs.declared.request.Change.TheVariants.{Grant, Revoke, Frame}
 use Rattle.fr_base.specs.declared.request.CommonCommand.{CommonCommand}
 use Rattle.fr_base.specs.declared.request.FrameChange.{FrameChange}
+use Rattle.fr_base.specs.declared.request.Import.{Import}
 use Rattle.fr_world.specs.BookEdits.{SparesOthers, applied, all_applied, variants_in}
 use Rattle.fr_world.specs.Common.{common_edit}
 use Rattle.fr_world.specs.Decisions.{IsChecked, decision}
 use Rattle.fr_world.specs.Edits.{IsOf, Leads, all_edited, edited, releases, rows_after}
+use Rattle.fr_world.specs.Fits.{AllFit, Fits, IsUnheld}
+use Rattle.fr_world.specs.ImportLabels.{after_label, label_decision}
+use Rattle.fr_world.specs.ImportLimits.{new_import}
 use Rattle.fr_world.specs.RowDecisions.{AreChecked, rows_decision}
 use Rattle.fr_world.specs.declared.edit.Edit.{Edit}
+use Rattle.fr_world.specs.declared.edit.Edit.TheVariants.{KeepImport}
 use Rattle.fr_world.specs.Nodes.{new_node}
 use Rattle.fr_world.specs.Pages.{PageData, IsKept, nodes_in, own_rows_of, page_in}
 
@@ -93,6 +98,14 @@ NodeDecides = (b : Book) (s n : Name) → IsTrue (contains b.suppliers s) →
 abbrev pub CommonDecides : Type 0
 CommonDecides = (b : Book) (command : CommonCommand) → common b command ≡ (common_edit (variants_in b) command >>= λ edit. Ok (applied b edit))
 
+-- In any book an import is decided by its label, and then as one whose label is new.
+abbrev pub LabelDecides : Type 0
+LabelDecides = (p : Params) (b : Book) (i : Import) (kept : Option Kept) → import p b i kept ≡ (label_decision kept i >>= after_label p b i)
+
+-- In a sound book a new import by a supplier that is there is decided by its variant, the limits, and its rows on the supplier's page.
+abbrev pub NewImportDecides : Type 0
+NewImportDecides = (c : Cluster) (b : Book) (i : Import) → IsSound c b → IsTrue (contains b.suppliers i.supplier) → import c.params b i None ≡ new_import c.params b i
+
 -- An edit of a supplier's rows of a variant that is there makes of the supplier's own rows in the register what it makes of the
 -- page; and the variant is released where the edit releases it, or where it was before.
 abbrev pub EditsAgree : Type 0
@@ -107,3 +120,31 @@ OthersStay = (c : Cluster) (b : Book) (s t v w : Name) (x y : Variant) (edit : E
     SparesOthers s x edit → same_text s t ≡ false → get b.variants w ≡ Some y →
     (z : Variant) × (get (applied b edit).variants w ≡ Some z)
     × (own_rows c.params (applied b edit) t z ≡ own_rows c.params b t y)
+
+-- ---- each edit fits the rows of the register
+
+-- In a sound book the edits of a change that is decided on a supplier's page fit the book, where a grant is of what nobody holds.
+abbrev pub DecisionFits : Type 0
+DecisionFits = (c : Cluster) (b : Book) (s v : Name) (x : Variant) (what : Change) (edits : List Edit) →
+    IsSound c b → get b.variants v ≡ Some x → IsChecked c.params what → IsUnheld x what →
+    decision (page_in c.params b s v x) what ≡ Ok edits → AllFit b edits
+
+-- So do those of the rows of an import into a variant that is open.
+abbrev pub RowsFit : Type 0
+RowsFit = (c : Cluster) (b : Book) (s v : Name) (x : Variant) (reads : List RowRead) (edits : List Edit) →
+    IsSound c b → get b.variants v ≡ Some x → IsFalse x.released → AreChecked c.params reads →
+    rows_decision (page_in c.params b s v x) reads ≡ Ok edits → AllFit b edits
+
+-- And then, where the supplier is there and keeps no import under the label, the edit that keeps the import fits.
+abbrev pub ImportFits : Type 0
+ImportFits = (c : Cluster) (b : Book) (s v label : Name) (x : Variant) (body : List ℕ) (reads : List RowRead) (edits : List Edit) (count : ℕ) →
+    IsSound c b → get b.variants v ≡ Some x → IsFalse x.released → IsTrue (contains b.suppliers s) → get b.imports (s, label) ≡ None →
+    AreChecked c.params reads → rows_decision (page_in c.params b s v x) reads ≡ Ok edits → AllFit b (edits ++ KeepImport s label v body count ∷ [])
+
+-- In any book a new node that is decided by the nodes of a supplier that is there fits,
+abbrev pub NodeFits : Type 0
+NodeFits = (b : Book) (s n : Name) (edit : Edit) → IsTrue (contains b.suppliers s) → new_node s (nodes_in b s) n ≡ Ok edit → Fits b edit
+
+-- and so does what the list of variants decides of them.
+abbrev pub CommonFits : Type 0
+CommonFits = (b : Book) (command : CommonCommand) (edit : Edit) → common_edit (variants_in b) command ≡ Ok edit → Fits b edit

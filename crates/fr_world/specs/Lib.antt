@@ -6,6 +6,9 @@ pub mod RowDecisions
 pub mod Drafts
 pub mod RowFaults
 pub mod BookEdits
+pub mod Fits
+pub mod ImportLabels
+pub mod ImportLimits
 pub mod Laws
 pub mod CycleChannels
 pub mod Occupancies

@@ -1,5 +1,5 @@
 //! Laws of pages: what is decided on one is the register's step.
-ghost use Rattle.fr_world.specs.Laws.{CommonDecides, DecisionLeads, EditsAgree, GrantDecides, NodeDecides, OthersStay, RevokeDecides, RowsAreChecked, RowsAreTheRegisters, RowsDecide, RowsLead, SoundRowsAreAPage, SupplierDecides};
+ghost use Rattle.fr_world.specs.Laws.{CommonDecides, CommonFits, DecisionFits, DecisionLeads, EditsAgree, GrantDecides, ImportFits, LabelDecides, NewImportDecides, NodeDecides, NodeFits, OthersStay, RevokeDecides, RowsAreChecked, RowsAreTheRegisters, RowsDecide, RowsFit, RowsLead, SoundRowsAreAPage, SupplierDecides};
 
 /// In a sound book a supplier's rows of a variant are a page's.
 pub fn sound_rows_are_a_page()
@@ -63,6 +63,17 @@ pub fn common_decides()
     ensures { CommonDecides }
 {}
 
+/// An import is decided by its label, and then as one whose label is new.
+pub fn label_decides()
+    ensures { LabelDecides }
+{}
+
+/// In a sound book an import whose label is new is decided by its variant, by the limits, and by what its
+/// rows are decided to on the supplier's page.
+pub fn new_import_decides()
+    ensures { NewImportDecides }
+{}
+
 /// An edit of a supplier's rows of a variant makes of the supplier's page in the register what it
 /// makes of the page, and releases the variant or leaves it as it was.
 pub fn edits_agree()
@@ -73,4 +84,30 @@ pub fn edits_agree()
 /// nothing that another supplier holds.
 pub fn others_stay()
     ensures { OthersStay }
+{}
+
+/// In a sound book the edits that are decided on a supplier's page of a variant fit the register's rows,
+/// one after the other, where nobody holds what they grant.
+pub fn decision_fits()
+    ensures { DecisionFits }
+{}
+
+/// So do those that are decided for the rows of a supplier's import.
+pub fn rows_fit()
+    ensures { RowsFit }
+{}
+
+/// And then the edit that keeps the import fits, where nothing is kept under the label.
+pub fn import_fits()
+    ensures { ImportFits }
+{}
+
+/// A node that is decided by its supplier's nodes fits the register's rows.
+pub fn node_fits()
+    ensures { NodeFits }
+{}
+
+/// What is decided by the list of variants fits the register's rows.
+pub fn common_fits()
+    ensures { CommonFits }
 {}

@@ -13,6 +13,9 @@ mod frame_rows;
 mod frame_triggering;
 mod gap;
 mod grants;
+mod import_label;
+mod import_room;
+mod kept_import;
 mod laws;
 mod nodes;
 mod occupancy;
@@ -27,9 +30,13 @@ pub use edit::Edit;
 pub use frame_rows::{frame_row, gap_row, push_signal_rows};
 pub use frame_triggering::{FrameTriggering, push_frame};
 pub use gap::greatest_gap;
+pub use import_label::decide_label;
+pub use import_room::admit_import;
+pub use kept_import::KeptImport;
 pub use laws::{
-    common_decides, decision_leads, edits_agree, grant_decides, node_decides, others_stay,
-    revoke_decides, rows_are_checked, rows_are_the_registers, rows_decide, rows_lead,
+    common_decides, common_fits, decision_fits, decision_leads, edits_agree, grant_decides,
+    import_fits, label_decides, new_import_decides, node_decides, node_fits, others_stay,
+    revoke_decides, rows_are_checked, rows_are_the_registers, rows_decide, rows_fit, rows_lead,
     sound_rows_are_a_page, supplier_decides,
 };
 pub use nodes::decide_node;

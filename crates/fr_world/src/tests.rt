@@ -232,7 +232,10 @@ fn three_rows(
         read(3, "f2", second)?,
         read(4, "f3", third)?,
     ];
-    Ok(decide_rows(alloc, page, &reads).map(|edits| edits.len()))
+    match decide_rows(alloc, page, &reads) {
+        Err(RowFault::Unavailable) => Err(Fail::from("no memory")),
+        decided => Ok(decided.map(|edits| edits.len())),
+    }
 }
 
 #[test]

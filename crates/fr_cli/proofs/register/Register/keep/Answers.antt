@@ -1,7 +1,8 @@
 use Rattle.std.proofs.Common.{ap, ◌∙◌}
 use Rattle.fr_base.specs.Keys.{owned}
 use Rattle.fr_world.specs.Maps.{table_of}
-use Rattle.fr_cli.specs.Registers.{book_of, kept_of}
+use Rattle.fr_world.specs.ImportLabels.{kept_of}
+use Rattle.fr_cli.specs.Registers.{book_of}
 use Rattle.fr_cli.proofs.ApplyLaws.{import_put}
 use Rattle.fr_cli.proofs.register.Register.keep.Goals as goal
 

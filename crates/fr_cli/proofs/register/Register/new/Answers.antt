@@ -3,7 +3,7 @@ use Rattle.fr_base.specs.Keys.{owned, names}
 use Rattle.fr_base.specs.Book.{opening, suppliers_of}
 use Rattle.fr_world.specs.Maps.{table_of, set_of}
 use Rattle.fr_cli.specs.Plans.{variant_of}
-use Rattle.fr_cli.specs.Registers.{kept_of}
+use Rattle.fr_world.specs.ImportLabels.{kept_of}
 use Rattle.fr_cli.proofs.register.Register.new.Goals as goal
 
 pub returns-clause-opening : goal.returns-clause-opening

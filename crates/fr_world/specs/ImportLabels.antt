@@ -1,0 +1,28 @@
+-- What an import's label decides.
+use Rattle.std.specs.Prelude.{ℕ, ◌&&◌, not, Option, Some, None, Result, Ok}
+use Rattle.fr_base.specs.Refusing.{◌>>◌, refuse◌when◌}
+use Rattle.fr_base.specs.Names.{same_text}
+use Rattle.fr_base.specs.Book.{Kept, Book}
+use Rattle.fr_base.specs.Step.{Outcome, import}
+use Rattle.fr_base.specs.declared.answer.Answer.TheVariants.{Imported}
+use Rattle.fr_base.specs.declared.params.Params.{Params}
+use Rattle.fr_base.specs.declared.refusal.Refusal.{Refusal}
+use Rattle.fr_base.specs.declared.refusal.Refusal.TheVariants.{LabelUsed}
+use Rattle.fr_base.specs.declared.request.Import.{Import}
+use Rattle.fr_world.specs.declared.kept_import.KeptImport.{KeptImport}
+
+-- an import that the code keeps, as the register's
+abbrev pub kept_of : KeptImport → Kept
+kept_of k = record { variant = k.variant; body = k.body; rows = k.rows }
+
+-- how many rows the import has that is kept under the label, if one is and it is the same, bytes and variant
+unfoldable pub label_decision : Option Kept → Import → Result (Option ℕ) Refusal
+label_decision None i = Ok None
+label_decision (Some kept) i = do
+  refuse LabelUsed when not (same_text kept.variant i.variant && same_text kept.body i.body)
+  Ok (Some kept.rows)
+
+-- what comes of the import then: the kept answer again, or it is a new one
+abbrev pub after_label : Params → Book → Import → Option ℕ → Result Outcome Refusal
+after_label p b i None = import p b i None
+after_label p b i (Some rows) = Ok (record { book = b; answer = Imported rows })

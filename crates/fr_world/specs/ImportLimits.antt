@@ -1,0 +1,35 @@
+-- What is decided of an import whose label is new, before its rows and by them.
+use Rattle.std.specs.Prelude.{ℕ, length, nat_le, nat_lt, Result, Ok, ⊤}
+use Rattle.fr_base.specs.Refusing.{◌>>=◌, ◌>>◌, ◌or◌, refuse◌when◌}
+use Rattle.fr_base.specs.Tables.{get, len}
+use Rattle.fr_base.specs.Book.{Variant, Book, own}
+use Rattle.fr_base.specs.ImportRows.{rows_of_body}
+use Rattle.fr_base.specs.Step.{Outcome, imported}
+use Rattle.fr_base.specs.declared.limits.TheConstants.{MAX_IMPORTS, MAX_IMPORT_BYTES}
+use Rattle.fr_base.specs.declared.params.Params.{Params}
+use Rattle.fr_base.specs.declared.refusal.Refusal.{Refusal}
+use Rattle.fr_base.specs.declared.refusal.Refusal.TheVariants.{NoVariant, Released, Limit}
+use Rattle.fr_base.specs.declared.request.Import.{Import}
+use Rattle.fr_world.specs.BookEdits.{all_applied}
+use Rattle.fr_world.specs.Pages.{page_in}
+use Rattle.fr_world.specs.RowDecisions.{rows_decision}
+
+-- whether there is room for the import, where its supplier keeps so many
+unfoldable pub import_room : Import → ℕ → Result ⊤ Refusal
+import_room i kept = do
+  refuse Limit when nat_lt MAX_IMPORT_BYTES (length i.body)
+  refuse Limit when nat_le MAX_IMPORTS kept
+
+-- what comes of the import in this variant, by what its rows are decided to on the supplier's page
+abbrev pub page_import : Params → Book → Import → Variant → Outcome
+page_import p b i x =
+    let rows = rows_of_body p i.body in
+    imported b i (length rows) (rows_decision (page_in p b i.supplier i.variant x) rows >>= λ edits. Ok (all_applied b edits))
+
+-- a new import: its variant is there and open, there is room for it, and then its rows
+unfoldable pub new_import : Params → Book → Import → Result Outcome Refusal
+new_import p b i = do
+  x ← get b.variants i.variant or NoVariant
+  refuse Released when x.released
+  import_room i (len (own i.supplier b.imports))
+  Ok (page_import p b i x)

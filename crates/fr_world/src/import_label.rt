@@ -1,0 +1,23 @@
+//! What an import's label decides, before its variant is looked at.
+ghost use Rattle.std.specs.Prelude.{◌≡◌, option_map};
+ghost use Rattle.fr_world.specs.ImportLabels.{kept_of, label_decision};
+
+use crate::kept_import::KeptImport;
+use fr_base::{Import, Refusal};
+
+/// How many rows the import has, where it is the one that is kept under its label, the same bytes into
+/// the same variant: it is answered so again, and changes nothing. None where the supplier keeps no
+/// import under the label: then it is a new one. `LabelUsed` where another is kept there. It takes no
+/// memory.
+#[tactic(auto, unfolding(crate::proofs::CommonLaws::common_open))]
+pub fn decide_label(kept: Option<&KeptImport>, import: &Import<'_>) -> Result<Option<u32>, Refusal>
+    ensures { result ≡ label_decision (option_map (λ k. kept_of k.now) kept.entry) import.now }
+{
+    let Some(kept) = kept else {
+        return Ok(None);
+    };
+    if kept.variant != import.variant || kept.body.as_slice() != import.body.as_slice() {
+        return Err(Refusal::LabelUsed);
+    }
+    Ok(Some(kept.rows))
+}
