@@ -20,7 +20,7 @@ use Rattle.fr_store.specs.Reading.{Stands}
 
 module _ {K V : Type 0} (R : K → K → Ordering) (k : K) (v : V) where
   -- a row of a new key is one row more
-  put_new : (es : List (K × V)) → find R k es ≡ None → IsPermutation ((k, v) ∷ es) (put R k v es)
+  pub put_new : (es : List (K × V)) → find R k es ≡ None → IsPermutation ((k, v) ∷ es) (put R k v es)
   put_new [] h = IsPermutation-refl ((k, v) ∷ [])
   put_new (e ∷ es) h = by_case (R k e.0) h (put_new es)
     where
@@ -31,7 +31,7 @@ module _ {K V : Type 0} (R : K → K → Ordering) (k : K) (v : V) where
       by_case Greater h more = IsPermutation-trans _ _ _ (IsPermutation-sym _ _ (IsPermutation-middle (e ∷ []) (k, v) es)) (IsPermutation-cons e _ _ (more h))
 
 -- rows, and one more at their end
-one_at_end : {X : Type 0} (row : X) (xs ys : List X) → IsPermutation xs ys → IsPermutation (row ∷ xs) (ys ++ row ∷ [])
+pub one_at_end : {X : Type 0} (row : X) (xs ys : List X) → IsPermutation xs ys → IsPermutation (row ∷ xs) (ys ++ row ∷ [])
 one_at_end row xs ys same = IsPermutation-trans _ _ _ (IsPermutation-cons row _ _ same) (IsPermutation-sym _ _ (IsPermutation-to_front ys row))
 
 module _ (s n : Name) where

@@ -36,8 +36,12 @@ same_database a b first second trees =
     λ i. record { schema = schema i; trees = trees i }
 
 -- the files hold no other trees than those that are found
-pub found_trees : (image : Image) (found : Trees) (db : Database) → ((db : Trees) → HoldsDatabase image db → found ≡ db) → IsHeld image db → found ≡ db.trees
+found_trees : (image : Image) (found : Trees) (db : Database) → ((db : Trees) → HoldsDatabase image db → found ≡ db) → IsHeld image db → found ≡ db.trees
 found_trees image found db holds held = ∥∥₁_elim held.holds (Trees-set _ _) (holds db.trees)
+
+-- so a database that was found is the one that they hold
+pub found_database : (image : Image) (found db : Database) → IsDatabase found → ((t : Trees) → HoldsDatabase image t → found.trees ≡ t) → IsHeld image db → found ≡ db
+found_database image found db sound holds held = same_database found db sound held.sound (found_trees image found.trees db holds held)
 
 -- what is told of a database is told of the files that hold it
 pub may_forbid : (schema : Schema) (fault : StoreFault) → Forbids schema fault → MayForbid schema fault

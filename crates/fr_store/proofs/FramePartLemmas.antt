@@ -31,7 +31,7 @@ use Rattle.fr_store.proofs.HolderLemmas.{other_name}
 use Rattle.fr_store.proofs.SectionLemmas.{at, only_at}
 use Rattle.fr_store.proofs.TurnLemmas.{from_listed}
 
-filter_flat_none : {A X : Type 0} (p : X → Bool) (f : A → List X) → ((a : A) → filter p (f a) ≡ []) → (xs : List A) → filter p (flat_map f xs) ≡ []
+pub filter_flat_none : {A X : Type 0} (p : X → Bool) (f : A → List X) → ((a : A) → filter p (f a) ≡ []) → (xs : List A) → filter p (flat_map f xs) ≡ []
 filter_flat_none p f none [] = refl
 filter_flat_none p f none (x ∷ xs) = filter-append p (f x) (flat_map f xs) ∙ ap₂ ◌++◌ (none x) (filter_flat_none p f none xs)
 

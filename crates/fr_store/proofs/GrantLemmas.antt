@@ -12,15 +12,13 @@ use Rattle.sqlite_schema.specs.declared.schema.Keys.TheVariants.{Enforced}
 use Rattle.sqlite_sql.specs.declared.ops.BinaryOp.TheVariants.{Compare}
 use Rattle.sqlite_sql.specs.declared.ops.CompareOp.TheVariants.{Eq}
 use Rattle.sqlite.specs.Collation.TheVariants.{Binary}
-use Rattle.sqlite_value.specs.Keys.{ascending}
-use Rattle.sqlite_value.proofs.OrderLemmas.{value_cmp-Int, value_cmp-Text, then-Equal}
 use Rattle.sqlite_tied.specs.Compute.{everything}
 use Rattle.sqlite_tied.proofs.RuleLemmas.{and_true}
 use Rattle.fr_store.specs.Schema.{register_schema, grants}
 use Rattle.fr_store.specs.Rows.{GrantRow, of_grant, grant_in}
 use Rattle.fr_store.specs.Tables.{HasTables}
 use Rattle.fr_store.specs.Changes.{Changes, Stays, Copies}
-use Rattle.fr_store.specs.Statements.{with_grant, without_grant, with_grants, grant_for, grants_for, is_grant_of, is_grant_at, shows_grant, shows_holder, grants_cmp, any_order}
+use Rattle.fr_store.specs.Statements.{with_grant, without_grant, with_grants, grant_for, grants_for, is_grant_of, is_grant_at, shows_grant, shows_holder, any_order}
 use Rattle.fr_store.proofs.Compared.{equal_texts, equal_integers, cast_null, cast_integer}
 use Rattle.fr_store.proofs.InsertLemmas.{Adds, adds, added}
 use Rattle.fr_store.proofs.RemoveLemmas.{Removes, removes}
@@ -111,17 +109,17 @@ copies parent child old new (Ok count) was h =
 -- ---- what is asked
 
 abbrev pub select_text : List ℕ
-select_text = codes "SELECT slot, channel, node FROM grants WHERE variant = ?1 AND supplier = ?2 ORDER BY slot, channel"
+select_text = codes "SELECT slot, channel, node FROM grants WHERE variant = ?1 AND supplier = ?2"
 
-pub by_supplier : (variant supplier : List ℕ) → Queries of_grant shows_grant (is_grant_of variant supplier) grants_cmp 9 select_text (Text variant ∷ Text supplier ∷ [])
+pub by_supplier : (variant supplier : List ℕ) → Queries of_grant shows_grant (is_grant_of variant supplier) any_order 9 select_text (Text variant ∷ Text supplier ∷ [])
 unfolding understood everything
 by_supplier variant supplier = record {
   tests = op2 (Compare Eq Binary) (col 1 1) (col 0 0) ∷ op2 (Compare Eq Binary) (col 1 4) (col 0 1) ∷ [];
-  order = (col 1 2, ascending Binary) ∷ (col 1 3, ascending Binary) ∷ [];
+  order = [];
   project = col 1 2 ∷ col 1 3 ∷ col 1 5 ∷ [];
   is = record { names = codes "slot" ∷ codes "channel" ∷ codes "node" ∷ []; is = refl; unlisted = refl; plain = (refl, refl); stored = λ db. refl };
   tested = λ p. rw (equal_texts p.1.variant variant, equal_texts p.1.supplier supplier, and_true);
-  compared = λ a b. rw (value_cmp-Int a.1.slot b.1.slot, value_cmp-Text a.1.channel b.1.channel, then-Equal);
+  compared = λ a b. refl;
   projected = λ p. refl;
 }
 

@@ -64,13 +64,13 @@ module _ (v : Name) (slot : ℕ) (channel : Channel) where
   abbrev row_of : Name → Held → GrantRow
   row_of w g = record { variant = w; slot = pos g.0.0; channel = text_of_channel g.0.1; supplier = g.1.supplier; node = g.1.node }
 
-  other_variants : (e : Name × Variant) → is_eq (names.compare v e.0) ≡ false → filter passes (grant_rows e) ≡ []
+  pub other_variants : (e : Name × Variant) → is_eq (names.compare v e.0) ≡ false → filter passes (grant_rows e) ≡ []
   other_variants e apart =
       filter-map passes (row_of e.0) e.1.grants.rows
       ∙ ap (map (row_of e.0)) (filter_none (λ g. passes (row_of e.0 g)) e.1.grants.rows
       (all_of (λ g. passes (row_of e.0 g) ≡ false) (λ g. ap (λ b. b && (int_eq (pos g.0.0) (pos slot) && bytes_eq (text_of_channel g.0.1) (text_of_channel channel))) (other_name v e.0 apart)) e.1.grants.rows))
 
-  other_slots : (g : Held) → is_eq (channel_slots.compare (slot, channel) g.0) ≡ false → passes (row_of v g) ≡ false
+  pub other_slots : (g : Held) → is_eq (channel_slots.compare (slot, channel) g.0) ≡ false → passes (row_of v g) ≡ false
   other_slots g apart = by_test (passes (row_of v g)) refl
     where
       by_test : (b : Bool) → passes (row_of v g) ≡ b → b ≡ false
@@ -80,7 +80,7 @@ module _ (v : Name) (slot : ℕ) (channel : Channel) where
           let same : (slot, channel) ≡ g.0 = λ i. (sym (same_slot g.0.0 slot here.0) i, sym (same_channel g.0.1 channel here.1) i) in
           absurd (true≢false (sym (ap is_eq (ap (channel_slots.compare (slot, channel)) (sym same) ∙ tied_itself channel_slots.total (slot, channel))) ∙ apart))
 
-  this_slot : (h : book.Holder) → passes (row_of v ((slot, channel), h)) ≡ true
+  pub this_slot : (h : book.Holder) → passes (row_of v ((slot, channel), h)) ≡ true
   this_slot h =
       ap₂ ◌&&◌ ((bytes_eq-Decides v v).1 refl) (ap₂ ◌&&◌ (ap is_eq (tied_itself int_cmp_total (pos slot))) (channel_itself channel))
 

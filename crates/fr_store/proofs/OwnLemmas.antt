@@ -21,7 +21,7 @@ use Rattle.fr_world.specs.declared.page.ChannelSlot.{ChannelSlot}
 use Rattle.fr_store.specs.Rows.{GrantRow, words, number}
 use Rattle.fr_store.specs.Tables.{Tables}
 use Rattle.fr_store.specs.Changes.{AreListed}
-use Rattle.fr_store.specs.Statements.{is_node_of, shows_node, nodes_cmp, is_grant_of, shows_grant, grants_cmp}
+use Rattle.fr_store.specs.Statements.{is_node_of, shows_node, nodes_cmp, is_grant_of, shows_grant, any_order}
 use Rattle.fr_store.specs.StandsFor.{StandsFor, node_row, grant_rows}
 use Rattle.fr_store.specs.Reading.{name_shown}
 use Rattle.fr_store.specs.Paging.{grant_shown}
@@ -90,10 +90,10 @@ module _ (t : Tables) (c : Cluster) (b : Book) (stands : StandsFor t c b) (s : N
     grant_again : (e : Held) → is_held e ≡ true → grant_back (shows_grant (row_of v e)) ≡ e
     grant_again e mine i = ((e.0.0, channel_again e.0.1 i), record { supplier = sym (same_text-is e.1.supplier s mine) i; node = e.1.node })
 
-    pub own_grants_told : (rows : List Row) (found : List (ChannelSlot × Name)) → AreListed shows_grant passes grants_cmp t.grants rows
+    pub own_grants_told : (rows : List Row) (found : List (ChannelSlot × Name)) → AreListed shows_grant passes any_order t.grants rows
         → ((w : Name) → table_of channel_slots (λ k. (k.slot, k.channel)) (holder_of w) found ≡ table_of channel_slots (λ k. (k.slot, k.channel)) (holder_of w) (map grant_shown (reverse rows)))
         → table_of channel_slots (λ k. (k.slot, k.channel)) (holder_of s) found ≡ book.own_grants s x.grants
     unfolding table_of
     own_grants_told rows found listed read =
         read s ∙ ap from_rows (map-map (λ e. ((e.0.slot, e.0.channel), holder_of s e.1)) grant_shown (reverse rows))
-        ∙ from_listed channel_slots x.grants (λ _ h. held_by s (Some h)) (row_of v) shows_grant passes grants_cmp t.grants grant_back same_grants grant_again rows listed
+        ∙ from_listed channel_slots x.grants (λ _ h. held_by s (Some h)) (row_of v) shows_grant passes any_order t.grants grant_back same_grants grant_again rows listed

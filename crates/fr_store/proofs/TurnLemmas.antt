@@ -77,7 +77,7 @@ module _ {K V : Type 0} (o : Order K) where
           absurd (let no : None ≡ Some f.1 = sym none ∙ h.0 in cc)
 
   -- each row in order is found
-  each_found : (es : List (K × V)) → T (is_sorted o.compare es) → AllByRecursion (Found es) es
+  pub each_found : (es : List (K × V)) → T (is_sorted o.compare es) → AllByRecursion (Found es) es
   each_found [] h = tt
   each_found (e ∷ es) h =
       (ap (λ b. cond b (Some e.1) (find o.compare e.0 es)) (ap is_eq (tied_itself o.total e.0)), still_found e es es (first _ _ h) (first _ _ h) (each_found es (second _ _ h)))

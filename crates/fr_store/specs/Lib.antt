@@ -10,5 +10,8 @@ pub mod Filling
 pub mod Store
 pub mod StoreFiles
 pub mod StandsFor
+pub mod Whole
+pub mod Applying
 pub mod Reading
+pub mod FrameEdits
 pub mod Paging

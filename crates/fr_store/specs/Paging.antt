@@ -1,5 +1,5 @@
 -- What is read of a supplier's rows in a variant.
-use Rattle.std.specs.Prelude.{◌≡◌, pos, Bool, false, List, Option, Some, None, Result, MatchResult, MatchOption, nat_abs, unwrap_or, if◌then◌else◌}
+use Rattle.std.specs.Prelude.{◌≡◌, pos, Bool, false, List, option_map, Option, Some, None, Result, MatchResult, MatchOption, nat_abs, unwrap_or, if◌then◌else◌}
 use Rattle.std.specs.Ordering.{int_eq}
 use Rattle.sqlite.specs.Order.{Row, column}
 use Rattle.sqlite.specs.State.{State, HasCleanDisk, IsUnchanged}
@@ -15,10 +15,10 @@ use Rattle.fr_base.specs.declared.params.Params.{Params}
 use Rattle.fr_base.specs.declared.signal.Order.TheVariants.{Little, Big}
 use Rattle.fr_base.specs.Layouts.{LayoutData}
 use Rattle.fr_base.specs.Signals.{SignalData}
-use Rattle.fr_base.specs.Step.{layout_of}
+use Rattle.fr_base.specs.Step.{own_rows, layout_of}
 use Rattle.fr_base.specs.declared.placement.Placement.{Placement}
 use Rattle.fr_world.specs.Maps.{table_of, set_of}
-use Rattle.fr_world.specs.Pages.{FrameData, frame_of, holder_of}
+use Rattle.fr_world.specs.Pages.{FrameData, PageData, frame_of, holder_of, own_rows_of, page_in}
 use Rattle.fr_world.specs.declared.page.ChannelSlot.{ChannelSlot}
 use Rattle.fr_store.specs.Rows.{words, number}
 use Rattle.fr_store.specs.Tables.{Tables, HasTables}
@@ -91,3 +91,32 @@ abbrev pub TellsFrame : Params → Name → Name → Name → Name → Tables �
 TellsFrame p v s f n t rows =
     (c : Cluster) (b : Book) (stands : StandsFor t c b) (x : Variant) (frame : Frame) → get b.variants v ≡ Some x → get (stands.stored v).own (s, f) ≡ Some frame → frame.node ≡ n
     → (frame_of rows ≡ frame) × (rows.layout ≡ layout_of p frame)
+
+-- ---- the variant's own frames
+
+abbrev pub node_shown : Row → Name
+node_shown r = words (column r 1)
+
+-- these are the supplier's among the variant's own frames
+abbrev pub TellsFrames : Name → Name → Tables → List (Name × FrameData) → Type 0
+TellsFrames v s t frames =
+    (c : Cluster) (b : Book) (stands : StandsFor t c b) (x : Variant) → get b.variants v ≡ Some x → table_of owned (λ f. (s, f)) frame_of frames ≡ own s (stands.stored v).own
+
+-- ---- the page
+
+-- the rows are the supplier's in the variant of this name
+pub record AreRowsIn (p : Params) (b : Book) (s v : Name) (x : Variant) (rows : PageData) : Type 0 where
+  pub params : rows.params ≡ p
+  pub supplier : rows.supplier ≡ s
+  pub variant : rows.variant ≡ v
+  pub released : rows.released ≡ x.released
+  pub stand_for : own_rows_of rows ≡ own_rows p b s x
+
+-- these are the supplier's rows in the variant, if it is there
+abbrev pub TellsRows : Params → Name → Name → Tables → Option PageData → Type 0
+TellsRows p s v t found =
+    (c : Cluster) (b : Book) → StandsFor t c b → MatchOption found (get b.variants v ≡ None) (λ rows. (x : Variant) × (get b.variants v ≡ Some x) × AreRowsIn p b s v x rows)
+
+-- the supplier's page of the variant, if the variant is there
+abbrev pub page_of : Params → Book → Name → Name → Option PageData
+page_of p b s v = option_map (page_in p b s v) (get b.variants v)

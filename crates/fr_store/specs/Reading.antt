@@ -10,10 +10,11 @@ use Rattle.fr_base.specs.Book.{Book, Variant}
 use Rattle.fr_base.specs.declared.channel.Channel.{Channel}
 use Rattle.fr_base.specs.declared.name.Name.{Name}
 use Rattle.fr_world.specs.declared.variants.VariantRow.{VariantRow}
-use Rattle.fr_store.specs.Rows.{words, number, maybe_words}
+use Rattle.fr_store.specs.Rows.{words, number, bytes, maybe_words}
 use Rattle.fr_store.specs.Tables.{HasTables}
-use Rattle.fr_store.specs.Changes.{tables_of}
+use Rattle.fr_store.specs.Changes.{Stays, tables_of}
 use Rattle.fr_store.specs.StandsFor.{StandsFor}
+use Rattle.fr_store.specs.declared.kept.Kept.{Kept}
 use Rattle.fr_store.specs.declared.slot_holder.Holder.{Holder}
 
 -- the tables that the connection sees stand for a cluster file and a book
@@ -24,6 +25,10 @@ pub record Stands (s : State) (c : Cluster) (b : Book) : Type 0 where
 -- A call answers so of the book for which the tables stand, or fails.
 abbrev pub Tells : {X E : Type 0} → State → State → Result X E → (Cluster → Book → X → Type 0) → Type 0
 Tells old new r says = HasCleanDisk new → (c : Cluster) (b : Book) → Stands old c b → IfOk r (says c b)
+
+-- A call that reads leaves the tables, or the transaction is undone.
+abbrev pub Leaves : State → State → Type 0
+Leaves old new = HasCleanDisk new → HasTables old.now → Stays old new
 
 -- ---- what a row says that is shown
 
@@ -41,10 +46,16 @@ variant_shown r = record {
   released = int_eq (number (column r 3)) (pos 1);
 }
 
+abbrev pub import_shown : Row → book.Kept
+import_shown r = record { variant = words (column r 0); body = bytes (column r 1); rows = nat_abs (number (column r 2)) }
+
 -- ---- what is asked of the book
 
 abbrev pub as_holder : Holder → book.Holder
 as_holder h = record { supplier = h.supplier; node = h.node }
+
+abbrev pub as_kept : Kept → book.Kept
+as_kept k = record { variant = k.variant; body = k.body; rows = k.rows }
 
 -- who holds the slot and channel in the variant, if it is there
 abbrev pub held_in : Option Variant → ℕ × Channel → Option book.Holder

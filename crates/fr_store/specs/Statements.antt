@@ -121,9 +121,6 @@ is_grant_of variant supplier g = bytes_eq g.variant variant && bytes_eq g.suppli
 abbrev pub shows_grant : GrantRow → Row
 shows_grant g = Int g.slot ∷ Text g.channel ∷ Text g.node ∷ []
 
-abbrev pub grants_cmp : GrantRow → GrantRow → Ordering
-grants_cmp = then_cmp (on (λ g. g.slot) int_cmp) (on (λ g. g.channel) text_cmp)
-
 abbrev pub shows_holder : GrantRow → Row
 shows_holder g = Text g.supplier ∷ Text g.node ∷ []
 

@@ -10,7 +10,8 @@ use Rattle.sqlite.specs.State.{State, Shows, HasCleanDisk, KeepsCommit}
 use Rattle.sqlite_schema.specs.Names.{same_name}
 use Rattle.sqlite_trees.specs.View.{is_int}
 use Rattle.fr_base.specs.declared.config.Supplier.{Supplier}
-use Rattle.fr_base.specs.Cluster.{Cluster}
+use Rattle.fr_base.specs.Cluster.{Cluster, IsWellFormed}
+use Rattle.fr_base.specs.Book.{Book}
 use Rattle.fr_base.specs.Names.{is_name, is_key}
 use Rattle.fr_store.specs.Schema.{all_tables}
 use Rattle.fr_store.specs.Tables.{Tables, HasTables, tables_in}
@@ -18,6 +19,8 @@ use Rattle.fr_store.specs.Statements.{cluster_row, shows_supplier}
 use Rattle.fr_store.specs.Filling.{supplier_row, with_config}
 use Rattle.fr_store.specs.Making.{IsFresh, no_rows}
 use Rattle.fr_store.specs.Opening.{numbered, our_schema_number}
+use Rattle.fr_store.specs.StandsFor.{StandsFor}
+use Rattle.fr_store.specs.Reading.{Stands}
 use Rattle.fr_store.specs.declared.fault.StoreFault.{StoreFault}
 use Rattle.fr_store.specs.declared.fault.StoreFault.TheVariants.{NotEmpty, NotARegister, WrongSchema, Unavailable}
 
@@ -44,6 +47,15 @@ AreOrdered db = AllByRecursion (λ t. IsTable (db t.tree) × AllByRecursion (λ 
 pub record IsRegisterOf (c : Cluster) (db : Database) : Type 0 where
   pub has : HasTables db
   pub tells : TellsOf c (tables_in db.trees)
+
+-- the database's tables stand for this cluster and this book
+pub record IsRegisterFor (c : Cluster) (b : Book) (db : Database) : Type 0 where
+  pub has : HasTables db
+  pub for : StandsFor (tables_in db.trees) c b
+
+-- What was found is the cluster for which the tables stood, and they stand as they did.
+abbrev pub FindsAgain : State → State → Cluster → Type 0
+FindsAgain old new found = (c : Cluster) (b : Book) → IsWellFormed c → Stands old c b → (found ≡ c) × Stands new c b
 
 -- ---- a new register
 

@@ -1,11 +1,20 @@
 -- What a database file and its log hold.
+use Rattle.std.specs.Prelude.{◌≡◌}
 use Rattle.sqlite.specs.Effect.{Database, IsDatabase}
-use Rattle.sqlite.specs.Files.{HoldsDatabase}
+use Rattle.sqlite.specs.Files.{HoldsDatabase, file_state}
+use Rattle.sqlite.specs.Held.{Held}
+use Rattle.sqlite.specs.State.{State, HasCleanDisk, Opens, IsLive, Survives}
+use Rattle.sqlite_disk.specs.declared.Disk.{Ghosts}
+use Rattle.sqlite_store.specs.declared.store.FileStore.{FileStore}
 use Rattle.sqlite.specs.Tree.{Trees}
 use Rattle.sqlite_wal.specs.Recovery.{Image}
 use Rattle.fr_base.specs.Cluster.{Cluster, IsWellFormed}
+use Rattle.fr_base.specs.Book.{Book}
 use Rattle.fr_store.specs.Schema.{register_schema}
-use Rattle.fr_store.specs.Store.{IsRegisterOf}
+use Rattle.fr_store.specs.StandsFor.{StandsFor}
+use Rattle.fr_store.specs.Tables.{tables_in}
+use Rattle.fr_store.specs.Reading.{Stands}
+use Rattle.fr_store.specs.Store.{IsRegisterOf, IsRegisterFor}
 
 -- the files hold this database
 pub record IsHeld (image : Image) (db : Database) : Type 0 where
@@ -20,3 +29,27 @@ pub record HoldsRegister (c : Cluster) (image : Image) (db : Trees) : Type 0 whe
   pub held : IsHeld image (database_of db)
   pub formed : IsWellFormed c
   pub is : IsRegisterOf c (database_of db)
+
+-- the files hold a register whose tables stand for this cluster and this book
+pub record HoldsBook (c : Cluster) (b : Book) (image : Image) : Type 0 where
+  pub trees : Trees
+  pub register : HoldsRegister c image trees
+  pub for : StandsFor (tables_in trees) c b
+
+-- if the database's tables stand for this cluster and a book, so do those that the files hold
+abbrev pub KeepsBook : Cluster → Database → Image → Type 0
+KeepsBook c db image = (b : Book) → IsRegisterFor c b db → HoldsBook c b image
+
+-- What was found is the cluster of the register that the files held, and the tables stand for its book.
+abbrev pub FindsBook : Image → State → Cluster → Type 0
+FindsBook image s found = (c : Cluster) (b : Book) → HoldsBook c b image → (found ≡ c) × Stands s c b
+
+module _ {D : Type 0} {g : Ghosts D} where
+  -- a connection that has opened files of this content
+  pub record HasOpened (image : Image) (c : Held (FileStore D g)) : Type 0 where
+    pub opens : HasCleanDisk (file_state c) → Opens (file_state c) × IsLive (file_state c)
+    pub found : HasCleanDisk (file_state c) → (db : Trees) → HoldsDatabase image db → (file_state c).now.trees ≡ db
+
+  -- Since the files were opened no fault was forgotten, and a crash leaves what it would have left then, or what is committed since.
+  abbrev pub SurvivesSince : Image → Held (FileStore D g) → (Trees → Type 0) → Type 0
+  SurvivesSince image new commits = (first : Held (FileStore D g)) × HasOpened image first × Survives (file_state first) (file_state new) commits

@@ -10,6 +10,13 @@ ghost use Rattle.fr_store.specs.Changes.{Makes};
 ghost use Rattle.fr_store.specs.Reading.{Stands};
 ghost use Rattle.fr_store.specs.Statements.{with_node};
 
+pub mod edits;
+pub mod frames;
+pub mod grants;
+pub mod imports;
+pub mod variants;
+pub mod whole;
+
 use crate::tables;
 use fr_base::Name;
 use sqlite::{Alter, Error, Transaction};

@@ -8,7 +8,7 @@ ghost use Rattle.sqlite.specs.declared.types.Value.TheVariants.{Int, Text};
 ghost use Rattle.fr_base.specs.Names.{is_name, is_key};
 ghost use Rattle.fr_base.specs.Parameters.{check_params};
 ghost use Rattle.fr_base.specs.Channels.{text_of_channels};
-ghost use Rattle.fr_base.specs.Cluster.{names_rise, keys_of, keys_differ, is_cluster};
+ghost use Rattle.fr_base.specs.Cluster.{IsWellFormed, names_rise, keys_of, keys_differ, is_cluster};
 ghost use Rattle.fr_store.specs.Statements.{cluster_row, shows_cluster, shows_supplier};
 ghost use Rattle.fr_store.specs.Filling.{supplier_row};
 ghost use Rattle.fr_store.specs.Store.{AreFormed, shown_supplier};
@@ -163,6 +163,7 @@ fn is_cluster(integrator: Key, suppliers: &[Supplier]) -> bool
 pub fn read(alloc: Global, cluster: &[Row], suppliers: &[Row]) -> Option<Config>
     ensures cluster { IfSome result (λ c. cluster.now ≡ shows_cluster (cluster_row c.params c.integrator) ∷ []) }
     ensures suppliers { IfSome result (λ c. suppliers.now ≡ map shown_supplier c.suppliers) }
+    ensures formed { IfSome result IsWellFormed }
 {
     let [row] = cluster else {
         return None;

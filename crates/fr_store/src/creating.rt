@@ -6,9 +6,11 @@ ghost use Rattle.sqlite_schema.specs.Names.{same_name};
 ghost use Rattle.sqlite.specs.State.{HasCleanDisk, Survives};
 ghost use Rattle.sqlite.specs.Held.{state};
 ghost use Rattle.sqlite.specs.Steps.{over_memory};
+ghost use Rattle.fr_base.specs.Book.{opening};
 ghost use Rattle.fr_store.specs.Filling.{with_config};
 ghost use Rattle.fr_store.specs.Making.{IsFresh, no_rows};
 ghost use Rattle.fr_store.specs.Opening.{AreAsBefore};
+ghost use Rattle.fr_store.specs.Reading.{Stands};
 ghost use Rattle.fr_store.specs.Schema.{schema_of};
 ghost use Rattle.fr_store.specs.Store.{IsNewOf, MakesNew, Forbids, is_ours, has_table};
 ghost use Rattle.fr_store.specs.Tables.{tables_in};
@@ -99,6 +101,7 @@ impl<S: Alter + Drop> Store<S> {
         config: &Config,
     ) -> Result<Store<S>, (StoreFault, Connection<S>)>
         ensures made { IfOk result (λ s. HasCleanDisk (state S.Store s.conn) → IsNewOf config.now (state S.Store s.conn).now) }
+        ensures stands { IfOk result (λ s. HasCleanDisk (state S.Store s.conn) → Stands (state S.Store s.conn) config.now (opening config.now)) }
         ensures committed { IfOk result (λ s. HasCleanDisk (state S.Store s.conn) → (state S.Store s.conn).committed ≡ (state S.Store s.conn).now) }
         ensures config { IfOk result (λ s. s.config ≡ config.now) }
         ensures outside { IfOk result (λ s. s.conn.in_transaction ≡ false) }
@@ -129,6 +132,7 @@ impl Store<MemStore> {
     /// A register of this cluster in memory.
     pub fn create_in_memory(alloc: Global, config: &Config) -> Result<Store<MemStore>, StoreFault>
         ensures made { IfOk result (λ s. IsNewOf config.now (state over_memory s.conn).now) }
+        ensures stands { IfOk result (λ s. Stands (state over_memory s.conn) config.now (opening config.now)) }
         ensures config { IfOk result (λ s. s.config ≡ config.now) }
         ensures outside { IfOk result (λ s. s.conn.in_transaction ≡ false) }
         ensures told { IfErr result (λ e. e ≡ fault.Unavailable) }

@@ -1,14 +1,20 @@
 //! A register in a database file and its log.
 
 ghost use Rattle.std.specs.Prelude.{◌≡◌, IsTrue, IfOk, IfErr, IfSome, None, false};
+ghost use Rattle.sqlite_wal.specs.Files.{outcomes};
 ghost use Rattle.sqlite_wal.specs.Reads.{AreClean};
 ghost use Rattle.sqlite.specs.Effect.{IsDatabase};
 ghost use Rattle.sqlite.specs.State.{HasCleanDisk, Opens, IsLive};
 ghost use Rattle.sqlite.specs.Files.{file_state, image_of, HoldsDatabase};
+ghost use Rattle.fr_base.specs.Book.{opening};
 ghost use Rattle.fr_store.specs.Schema.{register_schema};
+ghost use Rattle.fr_store.specs.Filling.{with_config};
+ghost use Rattle.fr_store.specs.Making.{no_rows};
 ghost use Rattle.fr_store.specs.Opening.{Explains};
+ghost use Rattle.fr_store.specs.Reading.{Stands};
 ghost use Rattle.fr_store.specs.Store.{AreOrdered, IsNewOf, IsRegisterOf, MayForbid};
-ghost use Rattle.fr_store.specs.StoreFiles.{HoldsRegister, IsHeld, database_of};
+ghost use Rattle.fr_store.specs.StoreFiles.{HoldsRegister, KeepsBook, FindsBook, IsHeld, SurvivesSince, database_of};
+ghost use Rattle.fr_store.specs.Tables.{tables_in};
 ghost use Rattle.fr_store.specs.declared.fault.StoreFault.TheVariants as fault;
 
 use crate::fault::StoreFault;
@@ -24,6 +30,7 @@ fn closed<D: Disk + Drop>(conn: Connection<FileStore<D>>) -> Option<Files<D>>
     ensures usable { IfSome result (λ files. IsTrue (D.Disk.is_usable files.log) × IsTrue (D.Disk.is_usable files.db)) }
     ensures clean { IfSome result (λ files. AreClean D.Disk files.log files.db → HasCleanDisk (file_state conn) × IsTrue (file_state conn).is_open) }
     ensures held { IfSome result (λ files. AreClean D.Disk files.log files.db → IsHeld (image_of D.Disk files) (file_state conn).committed) }
+    ensures left { IfSome result (λ files. AreClean D.Disk files.log files.db → (image : _) → outcomes D.Disk files.log files.db image → IsHeld image (file_state conn).committed) }
 {
     let _schema = conn.schema();
     match conn.close_files() {
@@ -67,6 +74,9 @@ impl<D: Disk + Drop> Store<FileStore<D>> {
     pub fn close(self) -> Result<Files<D>, StoreFault>
         ensures usable { IfOk result (λ files. IsTrue (D.Disk.is_usable files.log) × IsTrue (D.Disk.is_usable files.db)) }
         ensures held { IfOk result (λ files. AreClean D.Disk files.log files.db → IsRegisterOf self.config (file_state self.conn).committed → HoldsRegister self.config (image_of D.Disk files) (file_state self.conn).committed.trees) }
+        ensures book { IfOk result (λ files. AreClean D.Disk files.log files.db → KeepsBook self.config (file_state self.conn).committed (image_of D.Disk files)) }
+        ensures survives { IfOk result (λ files. AreClean D.Disk files.log files.db → (image : _) → outcomes D.Disk files.log files.db image
+            → KeepsBook self.config (file_state self.conn).committed image) }
         ensures told { IfErr result (λ e. e ≡ fault.Unavailable) }
     {
         let _formed = self.config.params();
@@ -88,10 +98,12 @@ impl<D: Disk + Drop> Store<FileStore<D>> {
         requires log { IsTrue (D.Disk.is_usable files.log) }
         requires db { IsTrue (D.Disk.is_usable files.db) }
         ensures made { IfOk result (λ s. HasCleanDisk (file_state s.conn) → IsNewOf config.now (file_state s.conn).now) }
+        ensures stands { IfOk result (λ s. HasCleanDisk (file_state s.conn) → Stands (file_state s.conn) config.now (opening config.now)) }
         ensures committed { IfOk result (λ s. HasCleanDisk (file_state s.conn) → (file_state s.conn).committed ≡ (file_state s.conn).now) }
         ensures config { IfOk result (λ s. s.config ≡ config.now) }
         ensures honest { IfOk result (λ s. HasCleanDisk (file_state s.conn) → AreClean D.Disk files.log files.db) }
         ensures outside { IfOk result (λ s. s.conn.in_transaction ≡ false) }
+        ensures survives { IfOk result (λ s. SurvivesSince (image_of D.Disk files) s.conn (λ db. tables_in db ≡ with_config config.now no_rows)) }
         ensures told { IfErr result (λ e. IfSome e.1 (λ left. AreClean D.Disk left.log left.db → (d : _) → IsDatabase d → HoldsDatabase (image_of D.Disk files) d.trees → MayForbid d.schema e.0)) }
         ensures untouched { IfErr result (λ e. e.0 ≡ fault.NotEmpty → IfSome e.1 (λ left. AreClean D.Disk left.log left.db → (d : _) → IsDatabase d → HoldsDatabase (image_of D.Disk files) d.trees → IsHeld (image_of D.Disk left) d)) }
         ensures lost { IfErr result (λ e. e.1 ≡ None → e.0 ≡ fault.Unavailable) }
@@ -120,9 +132,12 @@ impl<D: Disk + Drop> Store<FileStore<D>> {
         ensures stands { IfOk result (λ s. HasCleanDisk (file_state s.conn) → IsTrue (file_state s.conn).is_open → IsRegisterOf s.config (file_state s.conn).now) }
         ensures opened { IfOk result (λ s. HasCleanDisk (file_state s.conn) → IsTrue (file_state s.conn).is_open → (c : _) (db : _) → HoldsRegister c (image_of D.Disk files) db
             → ((file_state s.conn).now ≡ database_of db) × ((file_state s.conn).committed ≡ database_of db)) }
+        ensures again { IfOk result (λ s. HasCleanDisk (file_state s.conn) → IsTrue (file_state s.conn).is_open → FindsBook (image_of D.Disk files) (file_state s.conn) s.config) }
         ensures honest { IfOk result (λ s. HasCleanDisk (file_state s.conn) → AreClean D.Disk files.log files.db) }
         ensures outside { IfOk result (λ s. s.conn.in_transaction ≡ false) }
+        ensures survives { IfOk result (λ s. SurvivesSince (image_of D.Disk files) s.conn (λ _. ⊥)) }
         ensures told { IfErr result (λ e. IfSome e.1 (λ left. AreClean D.Disk left.log left.db → (d : _) → IsDatabase d → HoldsDatabase (image_of D.Disk files) d.trees → Explains d e.0)) }
+        ensures known { IfErr result (λ e. IfSome e.1 (λ left. AreClean D.Disk left.log left.db → (c : _) (db : _) → HoldsRegister c (image_of D.Disk files) db → e.0 ≡ fault.Unavailable)) }
         ensures lost { IfErr result (λ e. e.1 ≡ None → e.0 ≡ fault.Unavailable) }
     {
         let conn = match connected(alloc, files, options) {

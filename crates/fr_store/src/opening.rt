@@ -5,14 +5,16 @@ ghost use Rattle.sqlite.specs.declared.error.Error.TheVariants.{SqlInputError};
 ghost use Rattle.sqlite.specs.State.{HasCleanDisk, Survives};
 ghost use Rattle.sqlite.specs.Held.{state};
 ghost use Rattle.sqlite_trees.specs.View.{doubt};
+ghost use Rattle.fr_base.specs.Cluster.{IsWellFormed};
 ghost use Rattle.fr_store.specs.Schema.{register_schema};
 ghost use Rattle.fr_store.specs.Statements.{shows_register, cluster_row, shows_cluster, shows_supplier, every, any_order, suppliers_cmp};
 ghost use Rattle.fr_store.specs.Filling.{supplier_row};
 ghost use Rattle.fr_store.specs.Tables.{HasTables};
 ghost use Rattle.fr_store.specs.Changes.{AreListed, tables_of};
-ghost use Rattle.fr_store.specs.Store.{AreOrdered, IsRegisterOf};
+ghost use Rattle.fr_store.specs.Store.{AreOrdered, IsRegisterOf, FindsAgain};
 ghost use Rattle.fr_store.specs.Making.{IsFresh};
 ghost use Rattle.fr_store.specs.Opening.{AreAsBefore, HasNumber, Explains, numbered, number_text, cluster_text, suppliers_text};
+ghost use Rattle.fr_store.specs.declared.fault.StoreFault.TheVariants as fault;
 
 use crate::fault::StoreFault;
 use crate::schema::same_schema;
@@ -104,6 +106,7 @@ fn config<S: Alter>(alloc: Global, conn: &mut Connection<S>) -> Option<Config>
     requires { conn.old.in_transaction ≡ false }
     ensures cluster { HasCleanDisk (state S.Store conn.new) → IsTrue (state S.Store conn.new).is_open → HasTables (state S.Store conn.old).now → IfSome result (λ c. (tables_of (state S.Store conn.old)).cluster ≡ cluster_row c.params c.integrator ∷ []) }
     ensures suppliers { HasCleanDisk (state S.Store conn.new) → IsTrue (state S.Store conn.new).is_open → HasTables (state S.Store conn.old).now → IfSome result (λ c. IsPermutation (map supplier_row c.suppliers) (tables_of (state S.Store conn.old)).suppliers) }
+    ensures formed { IfSome result IsWellFormed }
     ensures same { HasCleanDisk (state S.Store conn.new) → AreAsBefore (state S.Store conn.old) (state S.Store conn.new) }
     ensures autocommit { conn.new.in_transaction ≡ false }
     ensures survives { Survives (state S.Store conn.old) (state S.Store conn.new) (λ _. ⊥) }
@@ -125,6 +128,7 @@ const NUMBER: i64 = 1;
 /// The cluster of the register that the tables are, or why they are not opened.
 fn recognized<S: Alter>(alloc: Global, conn: &mut Connection<S>) -> Result<Config, StoreFault>
     requires { conn.old.in_transaction ≡ false }
+    ensures formed { IfOk result IsWellFormed }
     ensures ours { OnOk result ((state S.Store conn.new).now.schema ≡ register_schema) }
     ensures stands { HasCleanDisk (state S.Store conn.new) → IsTrue (state S.Store conn.new).is_open → AreOrdered (state S.Store conn.old).now.trees → IfOk result (λ c. IsRegisterOf c (state S.Store conn.new).now) }
     ensures told { HasCleanDisk (state S.Store conn.new) → IfErr result (Explains (state S.Store conn.old).now) }
@@ -157,9 +161,11 @@ impl<S: Alter + Drop> Store<S> {
         ensures opened { IfOk result (λ s. HasCleanDisk (state S.Store s.conn) → AreAsBefore (state S.Store conn) (state S.Store s.conn)) }
         ensures ours { IfOk result (λ s. (state S.Store s.conn).now.schema ≡ register_schema) }
         ensures stands { IfOk result (λ s. HasCleanDisk (state S.Store s.conn) → IsTrue (state S.Store s.conn).is_open → AreOrdered (state S.Store conn).now.trees → IsRegisterOf s.config (state S.Store s.conn).now) }
+        ensures again { IfOk result (λ s. HasCleanDisk (state S.Store s.conn) → IsTrue (state S.Store s.conn).is_open → FindsAgain (state S.Store conn) (state S.Store s.conn) s.config) }
         ensures outside { IfOk result (λ s. s.conn.in_transaction ≡ false) }
         ensures survives { IfOk result (λ s. Survives (state S.Store conn) (state S.Store s.conn) (λ _. ⊥)) }
         ensures told { IfErr result (λ e. HasCleanDisk (state S.Store e.1) → Explains (state S.Store conn).now e.0) }
+        ensures known { IfErr result (λ e. HasCleanDisk (state S.Store e.1) → (c : _) → IsRegisterOf c (state S.Store conn).now → e.0 ≡ fault.Unavailable) }
         ensures unharmed { IfErr result (λ e. HasCleanDisk (state S.Store e.1) → AreAsBefore (state S.Store conn) (state S.Store e.1)) }
         ensures outside_still { IfErr result (λ e. conn.in_transaction ≡ false → e.1.in_transaction ≡ false) }
         ensures survives_still { IfErr result (λ e. Survives (state S.Store conn) (state S.Store e.1) (λ _. ⊥)) }

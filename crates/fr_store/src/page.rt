@@ -1,33 +1,79 @@
 //! A supplier's page of a variant, from its rows in the tables.
 
-ghost use Rattle.fr_base.specs.Layouts.{IsLayout};
-ghost use Rattle.std.specs.Prelude.{IsPermutation, ◌≤◌, ◌≡◌, map, option_map, pos, reverse, slice_get, IfErr, IfSome};
+ghost use Rattle.std.specs.Prelude.{◌≡◌, map, option_map, pos, reverse, slice_get, IfErr, IfSome};
 ghost use Rattle.sqlite.specs.Held.{state};
 ghost use Rattle.sqlite.specs.Order.{column};
 ghost use Rattle.sqlite.specs.declared.types.Value.TheVariants.{Int};
-ghost use Rattle.fr_base.specs.Keys.{owned, channel_slots, placement_order};
+ghost use Rattle.fr_base.specs.Keys.{owned, channel_slots};
 ghost use Rattle.fr_world.specs.Maps.{set_of, table_of};
-ghost use Rattle.fr_world.specs.Pages.{frame_data, holder_of};
+ghost use Rattle.fr_world.specs.Pages.{holder_of, rows_data};
 ghost use Rattle.fr_store.specs.Changes.{Spares};
-ghost use Rattle.fr_store.specs.Paging.{Reads, TellsReleased, TellsNodes, TellsGrants, TellsPlacements, TellsLayout, TellsFrame, released_shown, grant_shown, placement_shown, signal_shown};
-ghost use Rattle.fr_store.specs.Reading.{name_shown};
+ghost use Rattle.fr_store.specs.Paging.{Reads, TellsReleased, TellsNodes, TellsGrants, TellsRows, released_shown, grant_shown, page_of};
+ghost use Rattle.fr_store.specs.Reading.{Leaves, Tells, name_shown};
 ghost use Rattle.fr_store.specs.declared.fault.StoreFault.TheVariants.{Unavailable};
+
+mod frames;
 
 use crate::fault::StoreFault;
 use crate::tables;
-use crate::values::{channel_at, channels_at, flag_at, name_at, number_at, slot_at};
-use fr_base::{CycleSet, Name, Order, Params, Placement, Signal};
-use fr_layout::Layout;
-use fr_world::{ChannelSlot, PageFrame};
+use crate::values::{channel_at, flag_at, name_at, slot_at};
+use fr_base::{Name, Params};
+use fr_world::{ChannelSlot, Page, PageRows};
+use frames::own_frames;
 use sqlite::{Alter, Connection, Row};
 use std::alloc::Global;
 use std::collections::{BTreeMap, BTreeSet};
 
-/// Whether the variant is released, if it is there. One that shows its parent's rows is `Unavailable`.
-pub fn released<S: Alter>(
+/// The supplier's page of the variant, if the variant is there. The only refusal is `Unavailable`.
+pub fn page<S: Alter>(
+    alloc: Global,
     conn: &mut Connection<S>,
+    params: &Params,
+    supplier: &Name,
     variant: &Name,
-) -> Result<Option<bool>, StoreFault>
+) -> Result<Option<Page>, StoreFault>
+    ensures page { Tells (state S.Store conn.old) (state S.Store conn.new) result (λ c b found. found ≡ page_of params.now b supplier.now variant.now) }
+    ensures refused { IfErr result (λ fault. fault ≡ Unavailable) }
+    ensures stays { Leaves (state S.Store conn.old) (state S.Store conn.new) }
+    ensures spares { Spares (state S.Store conn.old) (state S.Store conn.new) }
+{
+    let Some(rows) = rows(alloc, conn, params, supplier, variant)? else {
+        return Ok(None);
+    };
+    match Page::build(alloc, rows) {
+        Ok(Some(page)) => Ok(Some(page)),
+        _ => Err(StoreFault::Unavailable),
+    }
+}
+
+// The supplier's rows in the variant, if it is there.
+fn rows<S: Alter>(
+    alloc: Global,
+    conn: &mut Connection<S>,
+    params: &Params,
+    supplier: &Name,
+    variant: &Name,
+) -> Result<Option<PageRows>, StoreFault>
+    ensures told { Reads (λ t found. TellsRows params.now supplier.now variant.now t (option_map rows_data found)) (state S.Store conn.old) (state S.Store conn.new) result }
+    ensures refused { IfErr result (λ fault. fault ≡ Unavailable) }
+    ensures spares { Spares (state S.Store conn.old) (state S.Store conn.new) }
+{
+    let Some(released) = released(conn, variant)? else {
+        return Ok(None);
+    };
+    Ok(Some(PageRows {
+        params: *params,
+        supplier: *supplier,
+        variant: *variant,
+        released,
+        nodes: own_nodes(alloc, conn, supplier)?,
+        grants: own_grants(alloc, conn, variant, supplier)?,
+        frames: own_frames(alloc, conn, params, variant, supplier)?,
+    }))
+}
+
+// Whether the variant is released, if it is there. One that shows its parent's rows is `Unavailable`.
+fn released<S: Alter>(conn: &mut Connection<S>, variant: &Name) -> Result<Option<bool>, StoreFault>
     ensures told { Reads (TellsReleased variant.now) (state S.Store conn.old) (state S.Store conn.new) result }
     ensures refused { IfErr result (λ fault. fault ≡ Unavailable) }
     ensures spares { Spares (state S.Store conn.old) (state S.Store conn.new) }
@@ -55,8 +101,8 @@ fn first_released(rows: &[Row]) -> Option<Option<bool>>
     }
 }
 
-/// The supplier's nodes.
-pub fn own_nodes<S: Alter>(
+// The supplier's nodes.
+fn own_nodes<S: Alter>(
     alloc: Global,
     conn: &mut Connection<S>,
     supplier: &Name,
@@ -84,8 +130,8 @@ fn nodes_of(alloc: Global, rows: &[Row]) -> Option<BTreeSet<Name>>
     Some(nodes)
 }
 
-/// Which of the supplier's nodes holds which slot and channel in the variant.
-pub fn own_grants<S: Alter>(
+// Which of the supplier's nodes holds which slot and channel in the variant.
+fn own_grants<S: Alter>(
     alloc: Global,
     conn: &mut Connection<S>,
     variant: &Name,
@@ -116,123 +162,4 @@ fn grants_of(alloc: Global, rows: &[Row]) -> Option<BTreeMap<ChannelSlot, Name>>
         };
     }
     Some(grants)
-}
-
-/// Where the variant's own frame of this name is placed.
-pub fn own_placements<S: Alter>(
-    alloc: Global,
-    conn: &mut Connection<S>,
-    variant: &Name,
-    supplier: &Name,
-    frame: &Name,
-) -> Result<BTreeSet<Placement>, StoreFault>
-    ensures told { Reads (λ t placements. TellsPlacements variant.now supplier.now frame.now t placements.keys) (state S.Store conn.old) (state S.Store conn.new) result }
-    ensures refused { IfErr result (λ fault. fault ≡ Unavailable) }
-    ensures spares { Spares (state S.Store conn.old) (state S.Store conn.new) }
-{
-    let Ok(rows) = tables::placements::of_frame(conn, variant, supplier, frame) else {
-        return Err(StoreFault::Unavailable);
-    };
-    placements_of(alloc, rows.as_slice()).ok_or(StoreFault::Unavailable)
-}
-
-// The placements in the rows. None where a row has not its form, or memory is refused.
-fn placements_of(alloc: Global, rows: &[Row]) -> Option<BTreeSet<Placement>>
-    ensures { IfSome result (λ placements. set_of placement_order (λ q. q) placements.keys ≡ set_of placement_order (λ q. q) (map placement_shown (reverse rows.now))) }
-{
-    let mut placements = BTreeSet::new(alloc);
-    for row in rows {
-        let Ok(_) = placements.insert(placement_of(row)?) else {
-            return None;
-        };
-    }
-    Some(placements)
-}
-
-fn placement_of(row: &Row) -> Option<Placement>
-    ensures { IfSome result (λ placement. placement ≡ placement_shown row.now) }
-{
-    Some(Placement {
-        slot: slot_at(row, 1)?,
-        channels: channels_at(row, 2)?,
-        cycles: CycleSet::new(number_at(row, 3)?, number_at(row, 4)?).ok()?,
-    })
-}
-
-/// The signals of the variant's own frame of this name, as a layout of the cluster's payload.
-pub fn own_layout<S: Alter>(
-    alloc: Global,
-    conn: &mut Connection<S>,
-    params: &Params,
-    variant: &Name,
-    supplier: &Name,
-    frame: &Name,
-) -> Result<Layout, StoreFault>
-    ensures told { Reads (TellsLayout params.now variant.now supplier.now frame.now) (state S.Store conn.old) (state S.Store conn.new) result }
-    ensures refused { IfErr result (λ fault. fault ≡ Unavailable) }
-    ensures spares { Spares (state S.Store conn.old) (state S.Store conn.new) }
-{
-    let Ok(rows) = tables::signals::of_frame(conn, variant, supplier, frame) else {
-        return Err(StoreFault::Unavailable);
-    };
-    layout_of(alloc, params.payload_words(), rows.as_slice()).ok_or(StoreFault::Unavailable)
-}
-
-// The layout of the signals in the rows. None where a row has not its form, the signals make no layout of
-// such a payload, or memory is refused.
-fn layout_of(alloc: Global, payload_words: u32, rows: &[Row]) -> Option<Layout>
-    requires { payload_words ≤ 127 }
-    ensures words { IfSome result (λ layout. layout.words ≡ payload_words) }
-    ensures signals { IfSome result (λ layout. IsPermutation (map signal_shown rows.now) layout.signals) }
-    ensures sound { IfSome result IsLayout }
-{
-    let mut layout = Layout::new(alloc, payload_words);
-    for row in rows {
-        let Ok(()) = layout.add(signal_of(row)?) else {
-            return None;
-        };
-    }
-    // Gives the proof that it is a layout.
-    let _signals = layout.signals();
-    Some(layout)
-}
-
-fn signal_of(row: &Row) -> Option<Signal>
-    ensures { IfSome result (λ signal. signal ≡ signal_shown row.now) }
-{
-    let order = if flag_at(row, 4)? {
-        Order::Big
-    } else {
-        Order::Little
-    };
-    Signal::new(
-        name_at(row, 1)?,
-        number_at(row, 2)?,
-        number_at(row, 3)?,
-        order,
-    )
-    .ok()
-}
-
-/// The variant's own frame of this name and node.
-pub fn own_frame<S: Alter>(
-    alloc: Global,
-    conn: &mut Connection<S>,
-    params: &Params,
-    variant: &Name,
-    supplier: &Name,
-    frame: &Name,
-    node: Name,
-) -> Result<PageFrame, StoreFault>
-    ensures told { Reads (λ t found. TellsFrame params.now variant.now supplier.now frame.now node t (frame_data found)) (state S.Store conn.old) (state S.Store conn.new) result }
-    ensures refused { IfErr result (λ fault. fault ≡ Unavailable) }
-    ensures spares { Spares (state S.Store conn.old) (state S.Store conn.new) }
-{
-    let placements = own_placements(alloc, conn, variant, supplier, frame)?;
-    let layout = own_layout(alloc, conn, params, variant, supplier, frame)?;
-    Ok(PageFrame {
-        node,
-        placements,
-        layout,
-    })
 }

@@ -1,19 +1,20 @@
-//! What is read of the register: who holds a slot, its variants, a supplier's nodes.
+//! What is read of the register: who holds a slot, its variants, a supplier's nodes, and its imports.
 
 ghost use Rattle.std.specs.Prelude.{◌≡◌, map, IfErr, IfSome, option_map, slice_get};
 ghost use Rattle.sqlite.specs.Held.{state};
-ghost use Rattle.sqlite.specs.State.{HasCleanDisk};
+ghost use Rattle.fr_base.specs.Book.{own};
+ghost use Rattle.fr_base.specs.Tables.{get, len};
 ghost use Rattle.fr_world.specs.BookEdits.{variants_in};
 ghost use Rattle.fr_world.specs.Pages.{nodes_in};
-ghost use Rattle.fr_store.specs.Changes.{Spares, Stays};
-ghost use Rattle.fr_store.specs.Reading.{Tells, as_holder, holder_in, holder_shown, name_shown, variant_shown};
-ghost use Rattle.fr_store.specs.Tables.{HasTables};
+ghost use Rattle.fr_store.specs.Changes.{Spares};
+ghost use Rattle.fr_store.specs.Reading.{Leaves, Tells, as_holder, as_kept, holder_in, holder_shown, import_shown, name_shown, variant_shown};
 ghost use Rattle.fr_store.specs.declared.fault.StoreFault.TheVariants.{Unavailable};
 
 use crate::fault::StoreFault;
+use crate::kept::Kept;
 use crate::slot_holder::Holder;
 use crate::tables;
-use crate::values::{flag_at, maybe_name_at, name_at, number_at};
+use crate::values::{body_at, flag_at, maybe_name_at, name_at, number_at};
 use fr_base::{Channel, Name, Slot};
 use fr_world::VariantRow;
 use sqlite::{Alter, Connection, Row};
@@ -27,7 +28,7 @@ pub fn nodes<S: Alter>(
 ) -> Result<Vec<Name>, StoreFault>
     ensures nodes { Tells (state S.Store conn.old) (state S.Store conn.new) result (λ c b names. names.items ≡ nodes_in b supplier.now) }
     ensures refused { IfErr result (λ fault. fault ≡ Unavailable) }
-    ensures stays { HasCleanDisk (state S.Store conn.new) → HasTables (state S.Store conn.old).now → Stays (state S.Store conn.old) (state S.Store conn.new) }
+    ensures stays { Leaves (state S.Store conn.old) (state S.Store conn.new) }
     ensures spares { Spares (state S.Store conn.old) (state S.Store conn.new) }
 {
     let Ok(rows) = tables::nodes::of_supplier(conn, supplier) else {
@@ -54,7 +55,7 @@ pub fn variants<S: Alter>(
 ) -> Result<Vec<VariantRow>, StoreFault>
     ensures variants { Tells (state S.Store conn.old) (state S.Store conn.new) result (λ c b rows. rows.items ≡ variants_in b) }
     ensures refused { IfErr result (λ fault. fault ≡ Unavailable) }
-    ensures stays { HasCleanDisk (state S.Store conn.new) → HasTables (state S.Store conn.old).now → Stays (state S.Store conn.old) (state S.Store conn.new) }
+    ensures stays { Leaves (state S.Store conn.old) (state S.Store conn.new) }
     ensures spares { Spares (state S.Store conn.old) (state S.Store conn.new) }
 {
     let Ok(rows) = tables::variants::all(conn) else {
@@ -90,7 +91,7 @@ pub fn holder<S: Alter>(
 ) -> Result<Option<Holder>, StoreFault>
     ensures holder { Tells (state S.Store conn.old) (state S.Store conn.new) result (λ c b found. option_map as_holder found ≡ holder_in b variant.now (slot, channel)) }
     ensures refused { IfErr result (λ fault. fault ≡ Unavailable) }
-    ensures stays { HasCleanDisk (state S.Store conn.new) → HasTables (state S.Store conn.old).now → Stays (state S.Store conn.old) (state S.Store conn.new) }
+    ensures stays { Leaves (state S.Store conn.old) (state S.Store conn.new) }
     ensures spares { Spares (state S.Store conn.old) (state S.Store conn.new) }
 {
     let Ok(rows) = tables::grants::holder(conn, variant, slot, channel) else {
@@ -116,4 +117,58 @@ fn holder_of(row: &Row) -> Option<Holder>
         supplier: name_at(row, 0)?,
         node: name_at(row, 1)?,
     })
+}
+
+/// The import that the supplier has under the label, if it is kept. The only refusal is `Unavailable`.
+pub fn import<S: Alter>(
+    alloc: Global,
+    conn: &mut Connection<S>,
+    supplier: &Name,
+    label: &Name,
+) -> Result<Option<Kept>, StoreFault>
+    ensures import { Tells (state S.Store conn.old) (state S.Store conn.new) result (λ c b found. option_map as_kept found ≡ get b.imports (supplier.now, label.now)) }
+    ensures refused { IfErr result (λ fault. fault ≡ Unavailable) }
+    ensures stays { Leaves (state S.Store conn.old) (state S.Store conn.new) }
+    ensures spares { Spares (state S.Store conn.old) (state S.Store conn.new) }
+{
+    let Ok(rows) = tables::imports::one(conn, supplier, label) else {
+        return Err(StoreFault::Unavailable);
+    };
+    first_import(alloc, rows.as_slice()).ok_or(StoreFault::Unavailable)
+}
+
+// The import in the first row, if there is one. None where it has not its form, or memory is refused.
+fn first_import(alloc: Global, rows: &[Row]) -> Option<Option<Kept>>
+    ensures { IfSome result (λ found. option_map as_kept found ≡ option_map import_shown (slice_get rows.now 0)) }
+{
+    match rows.first() {
+        Some(row) => Some(Some(kept_of(alloc, row)?)),
+        None => Some(None),
+    }
+}
+
+fn kept_of(alloc: Global, row: &Row) -> Option<Kept>
+    ensures { IfSome result (λ found. as_kept found ≡ import_shown row.now) }
+{
+    Some(Kept {
+        variant: name_at(row, 0)?,
+        body: body_at(alloc, row, 1)?,
+        rows: number_at(row, 2)?,
+    })
+}
+
+/// How many imports of the supplier are kept. The only refusal is `Unavailable`.
+pub fn imports<S: Alter>(conn: &mut Connection<S>, supplier: &Name) -> Result<u32, StoreFault>
+    ensures imports { Tells (state S.Store conn.old) (state S.Store conn.new) result (λ c b count. count ≡ len (own supplier.now b.imports)) }
+    ensures refused { IfErr result (λ fault. fault ≡ Unavailable) }
+    ensures stays { Leaves (state S.Store conn.old) (state S.Store conn.new) }
+    ensures spares { Spares (state S.Store conn.old) (state S.Store conn.new) }
+{
+    let Ok(rows) = tables::imports::labels(conn, supplier) else {
+        return Err(StoreFault::Unavailable);
+    };
+    match u32::try_from(rows.len()) {
+        Ok(count) => Ok(count),
+        Err(_) => Err(StoreFault::Unavailable),
+    }
 }

@@ -1,16 +1,9 @@
 //! Each statement, carried out where memory serves.
+use crate::fixture::{name, slot};
 use crate::{making, tables};
-use fr_base::{Channel, Channels, CycleSet, Name, Order, Placement, Signal, Slot};
+use fr_base::{Channel, Channels, CycleSet, Name, Order, Placement, Signal};
 use sqlite::{Connection, Error, MemStore, Transaction};
 use std::test::Fail;
-
-fn name(text: &str) -> Result<Name, Fail> {
-    Ok(Name::read(text).ok_or("no name")?)
-}
-
-fn slot(number: u32) -> Result<Slot, Fail> {
-    Ok(Slot::new(number).ok_or("no slot")?)
-}
 
 fn fill(tx: &mut Transaction<'_, MemStore>) -> Result<(), Error> {
     tx.execute_batch(

@@ -1,15 +1,16 @@
 //! What stands in the columns of a row, as values of the register. `None` is a value without its form.
 
 ghost use Rattle.std.specs.Prelude.{◌≡◌, pos, Some, IfSome};
-ghost use Rattle.sqlite.specs.declared.types.Value.TheVariants.{Int, Text};
+ghost use Rattle.sqlite.specs.declared.types.Value.TheVariants.{Blob, Int, Text};
 ghost use Rattle.sqlite.specs.Order.{column};
 ghost use Rattle.fr_base.specs.Channels.{channel_of_text, channels_of_text};
 ghost use Rattle.fr_store.specs.Rows.{of_maybe, words};
 ghost use Rattle.fr_store.specs.StandsFor.{flag};
 
-use fr_base::{Channel, Channels, Name, Slot};
+use fr_base::{Body, Channel, Channels, Name, Slot};
 use sqlite::Row;
 use sqlite_value::value::ValueRef;
+use std::alloc::Global;
 
 fn text_at(row: &Row, at: usize) -> Option<&str>
     ensures { IfSome result (λ text. column row.now at ≡ Text text.now) }
@@ -77,4 +78,14 @@ pub(crate) fn channels_at(row: &Row, at: usize) -> Option<Channels>
     ensures { IfSome result (λ channels. channels_of_text (words (column row.now at)) ≡ Some channels) }
 {
     Channels::read(text_at(row, at)?)
+}
+
+/// A copy of the bytes.
+pub(crate) fn body_at(alloc: Global, row: &Row, at: usize) -> Option<Body>
+    ensures { IfSome result (λ body. column row.now at ≡ Blob body) }
+{
+    match row.get_ref(at) {
+        Ok(ValueRef::Blob(bytes)) => Body::copy(alloc, bytes).ok(),
+        _ => None,
+    }
 }

@@ -1,6 +1,10 @@
 //! What is told of files, and that a register in them is found again.
-ghost use Rattle.std.specs.Prelude.{IsTrue, IfOk};
+ghost use Rattle.std.specs.Prelude.{◌≡◌, IsTrue, IfOk};
 ghost use Rattle.sqlite_disk.specs.Memory.{memory_is_usable};
+ghost use Rattle.sqlite.specs.State.{HasCleanDisk};
+ghost use Rattle.sqlite.specs.Files.{file_state};
+ghost use Rattle.fr_store.specs.Reading.{Stands};
+ghost use Rattle.fr_store.specs.Store.{IsRegisterFor};
 
 use crate::{Store, StoreFault, cluster};
 use fr_base::Config;
@@ -102,8 +106,15 @@ fn created(alloc: Global, files: Files<Memory>) -> Result<Option<StoreFault>, Fa
     }
 }
 
-fn reopened(alloc: Global) -> Result<Store<FileStore<Memory>>, Fail> {
-    let Ok(files) = made(alloc)?.close() else {
+/// The register of a store that is closed, opened again.
+fn reopened(
+    alloc: Global,
+    store: Store<FileStore<Memory>>,
+) -> Result<Store<FileStore<Memory>>, Fail>
+    ensures { IfOk result (λ s. HasCleanDisk (file_state s.conn) → IsTrue (file_state s.conn).is_open → (b : _) → IsRegisterFor store.config b (file_state store.conn).committed
+        → (s.config ≡ store.config) × Stands (file_state s.conn) store.config b) }
+{
+    let Ok(files) = store.close() else {
         return Err(Fail::new("close"));
     };
     match Store::open(alloc, files, Options::new(2)) {
@@ -114,7 +125,7 @@ fn reopened(alloc: Global) -> Result<Store<FileStore<Memory>>, Fail> {
 
 #[test]
 fn what_was_closed_opens_with_its_cluster(rt: HostRuntime) -> Result<(), Fail> {
-    let store = reopened(rt.alloc())?;
+    let store = reopened(rt.alloc(), made(rt.alloc())?)?;
     let config = store.config();
     assert_eq!(rt; config.params().static_slots(), 4);
     assert_eq!(rt; config.params().macroticks_per_cycle(), 100);

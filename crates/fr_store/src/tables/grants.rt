@@ -5,7 +5,7 @@ ghost use Rattle.fr_base.specs.Channels.{text_of_channel};
 ghost use Rattle.sqlite.specs.State.{Survives};
 ghost use Rattle.sqlite.specs.Held.{state};
 ghost use Rattle.fr_store.specs.Changes.{Makes, MakesCopies, Finds, Spares};
-ghost use Rattle.fr_store.specs.Statements.{with_grant, without_grant, with_grants, grants_for, is_grant_of, is_grant_at, shows_grant, shows_holder, grants_cmp, any_order};
+ghost use Rattle.fr_store.specs.Statements.{with_grant, without_grant, with_grants, grants_for, is_grant_of, is_grant_at, shows_grant, shows_holder, any_order};
 
 use fr_base::{Channel, Name, Slot};
 use sqlite::{Alter, Connection, Error, Row, Transaction, params};
@@ -69,17 +69,17 @@ pub fn copy<S: Alter>(
     )
 }
 
-/// What the supplier holds in the variant: slot, channel and node, by slot and channel.
+/// What the supplier holds in the variant: slot, channel and node, in no order.
 pub fn of_supplier<S: Alter>(
     conn: &mut Connection<S>,
     variant: &Name,
     supplier: &Name,
 ) -> Result<Vec<Row>, Error>
-    ensures listed { Finds shows_grant (is_grant_of variant.now supplier.now) grants_cmp (λ t. t.grants) (state S.Store conn.old) (state S.Store conn.new) result }
+    ensures listed { Finds shows_grant (is_grant_of variant.now supplier.now) any_order (λ t. t.grants) (state S.Store conn.old) (state S.Store conn.new) result }
     ensures spares { Spares (state S.Store conn.old) (state S.Store conn.new) }
 {
     conn.query_all(
-        "SELECT slot, channel, node FROM grants WHERE variant = ?1 AND supplier = ?2 ORDER BY slot, channel",
+        "SELECT slot, channel, node FROM grants WHERE variant = ?1 AND supplier = ?2",
         params![variant.as_str(), supplier.as_str()],
     )
 }

@@ -66,3 +66,15 @@ pub fn one<S: Alter>(conn: &mut Connection<S>, name: &Name) -> Result<Vec<Row>, 
         params![name.as_str()],
     )
 }
+
+/// The variant of this name, asked inside a transaction.
+pub fn one_inside<S: Alter>(tx: &mut Transaction<'_, S>, name: &Name) -> Result<Vec<Row>, Error>
+    ensures same_reference { tx.new.conn.ghost_name ≡ tx.old.conn.ghost_name }
+    ensures listed { Finds shows_variant (is_variant name.now) any_order (λ t. t.variants) (state S.Store tx.old.conn.now) (state S.Store tx.new.conn.now) result }
+    ensures survives { Survives (state S.Store tx.old.conn.now) (state S.Store tx.new.conn.now) (λ _. ⊥) }
+{
+    tx.query_all(
+        "SELECT name, parent, depth, released, overlay FROM variants WHERE name = ?1",
+        params![name.as_str()],
+    )
+}

@@ -3,3 +3,6 @@ use Rattle.fr_store.proofs.creating.Store+MemStore.create_in_memory.Goals as goa
 
 pub returns-in-Ok-create_on-clause-made : goal.returns-in-Ok-create_on-clause-made
 returns-in-Ok-create_on-clause-made c = c.in-Ok-create_on.ensures.made (memory_is_clean c.in-Ok-create_on.store.conn)
+
+pub returns-in-Ok-create_on-clause-stands : goal.returns-in-Ok-create_on-clause-stands
+returns-in-Ok-create_on-clause-stands c = c.in-Ok-create_on.ensures.stands (memory_is_clean c.in-Ok-create_on.store.conn)

@@ -23,3 +23,6 @@ returns-in-Some-clause-untouched g c refused clean d is held =
     let opens = c.in-Ok.ensures.opens before in
     let same : (file_state c.in-Ok.conn).now ≡ d = same_database (file_state c.in-Ok.conn).now d (opens.1 opens.0.is_open).0 is (c.in-Ok.ensures.found before d.trees held) in
     subst (IsHeld (image_of g.D.Disk c.in-Some.files)) ((c.in-Err-create_on.ensures.unharmed late up).2 ∙ sym opens.0.clean ∙ same) (c.in-Some.ensures.held clean)
+
+pub returns-in-Ok-create_on-clause-survives : goal.returns-in-Ok-create_on-clause-survives
+returns-in-Ok-create_on-clause-survives g c = (c.in-Ok.conn, record { opens = c.in-Ok.ensures.opens; found = c.in-Ok.ensures.found }, c.in-Ok-create_on.ensures.survives)

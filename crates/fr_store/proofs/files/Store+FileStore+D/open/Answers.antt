@@ -5,11 +5,16 @@ use Rattle.sqlite.specs.Files.{file_state, image_of}
 use Rattle.fr_store.specs.Schema.{register_schema}
 use Rattle.fr_store.specs.Opening.{Explains}
 use Rattle.fr_store.specs.StoreFiles.{database_of}
-use Rattle.fr_store.proofs.FileLemmas.{same_database, found_trees}
+use Rattle.fr_store.proofs.FileLemmas.{same_database, found_database}
+use Rattle.fr_store.proofs.AgainLemmas.{held_stands, only_unavailable_files}
 use Rattle.fr_store.proofs.files.Store+FileStore+D.open.Goals as goal
 
 pub returns-in-Err-clause-told : goal.returns-in-Err-clause-told
 returns-in-Err-clause-told g c clean d is held = subst (Explains d) (sym (c.in-Err.ensures.told clean d.trees held)) tt
+
+pub returns-in-Err-clause-known : goal.returns-in-Err-clause-known
+returns-in-Err-clause-known g c clean k db holds =
+    only_unavailable_files (image_of g.D.Disk c.args.files) k db c.in-Err.fault holds (λ d is held. subst (Explains d) (sym (c.in-Err.ensures.told clean d.trees held)) tt)
 
 pub returns-in-Ok-open_on-clause-stands : goal.returns-in-Ok-open_on-clause-stands
 returns-in-Ok-open_on-clause-stands g c clean up =
@@ -23,9 +28,16 @@ returns-in-Ok-open_on-clause-opened g c clean up k db holds =
     let before : HasCleanDisk (file_state c.in-Ok.conn) = omega (arith, c.in-Ok-open_on.ensures.survives.clean, clean) in
     let same = c.in-Ok-open_on.ensures.opened clean up in
     let is = c.in-Ok.ensures.opens before in
-    let trees = found_trees (image_of g.D.Disk c.args.files) (file_state c.in-Ok.conn).now.trees (database_of db) (c.in-Ok.ensures.found before) holds.held in
-    let found = same_database (file_state c.in-Ok.conn).now (database_of db) (is.1 is.0.is_open).0 holds.held.sound trees in
+    let found = found_database (image_of g.D.Disk c.args.files) (file_state c.in-Ok.conn).now (database_of db) (is.1 is.0.is_open).0 (c.in-Ok.ensures.found before) holds.held in
     (same.1 ∙ found, same.2 ∙ sym is.0.clean ∙ found)
+
+pub returns-in-Ok-open_on-clause-again : goal.returns-in-Ok-open_on-clause-again
+returns-in-Ok-open_on-clause-again g c clean up k b holds =
+    let before : HasCleanDisk (file_state c.in-Ok.conn) = omega (arith, c.in-Ok-open_on.ensures.survives.clean, clean) in
+    let is = c.in-Ok.ensures.opens before in
+    let image = image_of g.D.Disk c.args.files in
+    let found = found_database image (file_state c.in-Ok.conn).now (database_of holds.trees) (is.1 is.0.is_open).0 (c.in-Ok.ensures.found before) holds.register.held in
+    c.in-Ok-open_on.ensures.again clean up k b holds.register.formed (held_stands image (file_state c.in-Ok.conn) k b holds found)
 
 pub returns-in-Some-clause-told : goal.returns-in-Some-clause-told
 returns-in-Some-clause-told g c clean d is held =
@@ -34,3 +46,10 @@ returns-in-Some-clause-told g c clean d is held =
     let opens = c.in-Ok.ensures.opens before in
     let same : (file_state c.in-Ok.conn).now ≡ d = same_database (file_state c.in-Ok.conn).now d (opens.1 opens.0.is_open).0 is (c.in-Ok.ensures.found before d.trees held) in
     subst (λ (e : Database). Explains e c.in-Err-open_on.fault) same (c.in-Err-open_on.ensures.told late)
+
+pub returns-in-Some-clause-known : goal.returns-in-Some-clause-known
+returns-in-Some-clause-known g c clean k db holds =
+    only_unavailable_files (image_of g.D.Disk c.args.files) k db c.in-Err-open_on.fault holds (returns-in-Some-clause-told g c clean)
+
+pub returns-in-Ok-open_on-clause-survives : goal.returns-in-Ok-open_on-clause-survives
+returns-in-Ok-open_on-clause-survives g c = (c.in-Ok.conn, record { opens = c.in-Ok.ensures.opens; found = c.in-Ok.ensures.found }, c.in-Ok-open_on.ensures.survives)

@@ -1,0 +1,70 @@
+-- Tables that stood for a cluster and a book, opened again.
+use Rattle.std.proofs.Common.{◌≡◌, ◌∙◌, refl, sym, ap, subst}
+use Rattle.std.proofs.Math.Logic.{∥∥₁_elim}
+use Rattle.sqlite.specs.Effect.{Database, IsDatabase}
+use Rattle.sqlite.specs.Files.{HoldsDatabase}
+use Rattle.sqlite.specs.Tree.{Trees}
+use Rattle.sqlite.specs.State.{State}
+use Rattle.sqlite_wal.specs.Recovery.{Image}
+use Rattle.fr_base.specs.Cluster.{Cluster, IsWellFormed}
+use Rattle.fr_base.specs.Book.{Book}
+use Rattle.fr_store.specs.Rows.{RegisterRow}
+use Rattle.fr_store.specs.Tables.{Tables, HasTables, tables_in}
+use Rattle.fr_store.specs.StandsFor.{StandsFor}
+use Rattle.fr_store.specs.Reading.{Stands}
+use Rattle.fr_store.specs.Store.{TellsOf, AreOrdered, IsRegisterOf, IsRegisterFor, FindsAgain}
+use Rattle.fr_store.specs.StoreFiles.{IsHeld, HoldsRegister, HoldsBook, database_of}
+use Rattle.fr_store.specs.Opening.{Explains, numbered, our_schema_number}
+use Rattle.fr_store.specs.declared.fault.StoreFault.{StoreFault}
+use Rattle.fr_store.specs.declared.fault.StoreFault.TheVariants.{NotEmpty, NotARegister, WrongSchema, Unavailable}
+use Rattle.fr_store.proofs.TypedLemmas.{in_order}
+use Rattle.fr_store.proofs.SameCluster.{same_cluster}
+
+-- tables that stand for a book tell of its cluster
+tells_of : (t : Tables) (c : Cluster) (b : Book) → StandsFor t c b → TellsOf c t
+tells_of t c b h = record { register = h.register; cluster = h.cluster; suppliers = h.suppliers }
+
+pub still_stands : (old new : State) (c : Cluster) (b : Book) → new.now ≡ old.now → Stands old c b → Stands new c b
+still_stands old new c b same h =
+    record { has = subst HasTables (sym same) h.has; for = subst (λ (d : Database). StandsFor (tables_in d.trees) c b) (sym same) h.for }
+
+pub found_again : (old new : State) (found : Cluster) → new.now ≡ old.now → IsWellFormed found → (AreOrdered old.now.trees → IsRegisterOf found new.now) → FindsAgain old new found
+found_again old new found same good is c b fine stood =
+    let stands = still_stands old new c b same stood in
+    (same_cluster found c (tables_in new.now.trees) good fine (is (in_order old.now stood.has)).tells (tells_of (tables_in new.now.trees) c b stands.for), stands)
+
+-- a register is refused for no other reason
+pub only_unavailable : (c : Cluster) (db : Database) (e : StoreFault) → IsRegisterOf c db → Explains db e → e ≡ Unavailable
+only_unavailable c db NotEmpty is h = absurd h
+only_unavailable c db NotARegister is h = absurd (h our_schema_number (record { has = is.has; number = is.tells.register }))
+only_unavailable c db WrongSchema is h =
+    let it = h is.has in
+    let same : numbered it.0 ≡ numbered our_schema_number = cc (sym it.2.number ∙ is.tells.register) in
+    absurd (it.1 (ap (λ (r : RegisterRow). r.schema) same))
+only_unavailable c db Unavailable is h = refl
+
+-- nor are files that hold one
+pub only_unavailable_files : (image : Image) (c : Cluster) (db : Trees) (e : StoreFault) → HoldsRegister c image db
+    → ((d : Database) → IsDatabase d → HoldsDatabase image d.trees → Explains d e) → e ≡ Unavailable
+only_unavailable_files image c db Unavailable h told = refl
+only_unavailable_files image c db NotEmpty h told = absurd (∥∥₁_elim h.held.holds (hlevel) (λ held. told (database_of db) h.held.sound held))
+only_unavailable_files image c db NotARegister h told =
+    absurd (∥∥₁_elim h.held.holds (hlevel) (λ held. told (database_of db) h.held.sound held our_schema_number (record { has = h.is.has; number = h.is.tells.register })))
+only_unavailable_files image c db WrongSchema h told =
+    absurd (∥∥₁_elim h.held.holds (hlevel) (λ held. let is = only_unavailable c (database_of db) WrongSchema h.is (told (database_of db) h.held.sound held) in cc))
+
+-- what files hold, as a connection sees it
+pub held_stands : (image : Image) (s : State) (c : Cluster) (b : Book) (h : HoldsBook c b image) → s.now ≡ database_of h.trees → Stands s c b
+held_stands image s c b h is =
+    record { has = subst HasTables (sym is) h.register.is.has; for = subst (λ (d : Database). StandsFor (tables_in d.trees) c b) (sym is) h.for }
+
+-- a register whose tables stand for a book, in files
+pub holds_book : (image : Image) (db : Database) (c : Cluster) (b : Book) → IsWellFormed c → IsRegisterFor c b db → IsHeld image db → HoldsBook c b image
+holds_book image db c b fine is held =
+    let same : database_of db.trees ≡ db = λ i. record { schema = sym is.has.schema i; trees = db.trees } in
+    let of : IsRegisterOf c db = record { has = is.has; tells = tells_of (tables_in db.trees) c b is.for } in
+    record {
+      trees = db.trees;
+      register = record { held = subst (IsHeld image) (sym same) held; formed = fine; is = subst (IsRegisterOf c) (sym same) of };
+      for = is.for;
+    }

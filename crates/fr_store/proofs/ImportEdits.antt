@@ -1,0 +1,52 @@
+-- What the tables stand for after an import is kept.
+use Rattle.std.proofs.Common.{◌≡◌, ℕ, pos, None, List, Result, Ok, Err, OnOk, MatchResult, sym, subst}
+use Rattle.sqlite.specs.State.{State}
+use Rattle.fr_base.specs.Tables.{get}
+use Rattle.fr_base.specs.Keys.{owned}
+use Rattle.fr_base.specs.Cluster.{Cluster}
+use Rattle.fr_base.specs.Book.{Kept, Book}
+use Rattle.fr_base.specs.declared.name.Name.{Name}
+use Rattle.fr_world.specs.BookEdits.{applied}
+use Rattle.fr_world.specs.declared.edit.Edit.{Edit}
+use Rattle.fr_world.specs.declared.edit.Edit.TheVariants.{KeepImport}
+use Rattle.fr_store.specs.Rows.{ImportRow}
+use Rattle.fr_store.specs.Tables.{Tables}
+use Rattle.fr_store.specs.Changes.{Changes, Stays, tables_of}
+use Rattle.fr_store.specs.Statements.{with_import}
+use Rattle.fr_store.specs.StandsFor.{StandsFor, import_row}
+use Rattle.fr_store.specs.Reading.{Stands}
+use Rattle.fr_store.proofs.EntryLemmas.{added_row}
+
+module _ (s label v : Name) (body : List ℕ) (rows : ℕ) where
+  abbrev kept : Kept
+  kept = record { variant = v; body = body; rows = rows }
+
+  abbrev row : ImportRow
+  row = record { supplier = s; label = label; variant = v; body = body; rows = pos rows }
+
+  abbrev keeping : Edit
+  keeping = KeepImport s label v body rows
+
+  keep_import : (t : Tables) (c : Cluster) (b : Book) → StandsFor t c b → get b.imports (s, label) ≡ None → StandsFor (with_import row t) c (applied b keeping)
+  unfolding applied
+  keep_import t c b h new = record {
+    register = h.register;
+    cluster = h.cluster;
+    suppliers = h.suppliers;
+    known = h.known;
+    nodes = h.nodes;
+    imports = added_row owned b.imports (s, label) kept new import_row t.imports h.imports;
+    stored = h.stored;
+    variants = h.variants;
+    grants = h.grants;
+    frames = h.frames;
+    placements = h.placements;
+    signals = h.signals;
+    dropped = h.dropped;
+    each = h.each;
+  }
+
+  pub import_kept : {X E : Type 0} (old state : State) (r : Result X E) → MatchResult r (λ _. Changes (with_import row) old state) (λ _. Stays old state) → (c : Cluster) (b : Book) → Stands old c b → get b.imports (s, label) ≡ None
+      → OnOk r (Stands state c (applied b keeping))
+  import_kept old state (Ok done) h c b stands new = record { has = h.has; for = subst (λ t. StandsFor t c (applied b keeping)) (sym h.now) (keep_import (tables_of old) c b stands.for new) }
+  import_kept old state (Err e) h c b stands new = tt

@@ -1,0 +1,39 @@
+use Rattle.std.proofs.Common.{rules, ◌≡◌, arith, subst}
+use Rattle.sqlite.specs.Held.{state}
+use Rattle.sqlite.specs.State.{HasCleanDisk, Survives}
+use Rattle.fr_world.specs.BookEdits.{all_applied}
+use Rattle.fr_store.specs.Applying.{LeavesAll}
+use Rattle.fr_store.specs.Reading.{Stands}
+use Rattle.fr_store.proofs.CommitLemmas.{begun_inside, begun_stands, crash_leaves}
+use Rattle.fr_store.proofs.AgainLemmas.{still_stands}
+use Rattle.fr_store.proofs.apply.in_one.Goals as goal
+
+pub returns-in_default-clause-survives : goal.returns-in_default-clause-survives
+returns-in_default-clause-survives g c =
+    let end = c.commit.new.self.0 in
+    let same : end ≡ c.conn-2-1.given.0 = search rules in
+    let inside = begun_inside g.S.Store c.args.conn.now c.transaction-tx.result.conn.now c.transaction-tx.ensures.begun in
+    subst (λ h. Survives (state g.S.Store c.args.conn.now) (state g.S.Store h) (LeavesAll c.args.edits.now (state g.S.Store c.args.conn.now))) same
+    (crash_leaves g.S.Store c.args.conn.now c.transaction-tx.result.conn.now c.transaction-tx.ensures.begun c.args.edits.now (state g.S.Store c.all.new.tx.conn.now) (state g.S.Store end)
+    (λ clean cluster b stands fit. c.in_ok-all.ensures.carried clean inside cluster b stands fit) c.all.ensures.survives c.commit.ensures.survives)
+
+pub returns-clause-survives : goal.returns-clause-survives
+returns-clause-survives g c =
+    let end = c.commit.new.self.0 in
+    let same : end ≡ c.conn-2-1.given.0 = search rules in
+    let inside = begun_inside g.S.Store c.args.conn.now c.transaction-tx.result.conn.now c.transaction-tx.ensures.begun in
+    subst (λ h. Survives (state g.S.Store c.args.conn.now) (state g.S.Store h) (LeavesAll c.args.edits.now (state g.S.Store c.args.conn.now))) same
+    (crash_leaves g.S.Store c.args.conn.now c.transaction-tx.result.conn.now c.transaction-tx.ensures.begun c.args.edits.now (state g.S.Store c.all.new.tx.conn.now) (state g.S.Store end)
+    (λ clean cluster b stands fit. c.in_ok-all.ensures.carried clean inside cluster b stands fit) c.all.ensures.survives c.commit.ensures.survives)
+
+pub returns-clause-stands : goal.returns-clause-stands
+returns-clause-stands g c clean cluster b stands fit =
+    let end = c.commit.new.self.0 in
+    let same : end ≡ c.conn-2-1.given.0 = search rules in
+    let late : HasCleanDisk (state g.S.Store end) = search rules in
+    let mid = state g.S.Store c.all.new.tx.conn.now in
+    let clean_mid : HasCleanDisk mid = omega (arith, c.commit.ensures.survives.clean) in
+    let inside = begun_inside g.S.Store c.args.conn.now c.transaction-tx.result.conn.now c.transaction-tx.ensures.begun in
+    let carried = c.in_ok-all.ensures.carried clean_mid inside cluster b (begun_stands g.S.Store c.args.conn.now c.transaction-tx.result.conn.now c.transaction-tx.ensures.begun cluster b stands) fit in
+    subst (λ h. Stands (state g.S.Store h) cluster (all_applied b c.args.edits.now)) same
+    (still_stands mid (state g.S.Store end) cluster (all_applied b c.args.edits.now) (c.in-Ok.ensures.ok late).1.now_is carried)

@@ -1,0 +1,21 @@
+use Rattle.std.proofs.Common.{rules, ◌≡◌, subst, option_map}
+use Rattle.sqlite.specs.Held.{state}
+use Rattle.fr_world.specs.Pages.{IsKept, rows_data}
+use Rattle.fr_store.specs.Changes.{tables_of}
+use Rattle.fr_store.specs.Paging.{TellsRows}
+use Rattle.fr_store.proofs.PageLemmas.{none_told, page_told}
+use Rattle.fr_store.proofs.page.page.Goals as goal
+
+pub returns-in_default-clause-page : goal.returns-in_default-clause-page
+returns-in_default-clause-page g c clean cluster b stands =
+    let tables = tables_of (state g.S.Store c.args.conn.now) in
+    let told = subst (λ o. TellsRows c.args.params.now c.args.supplier.now c.args.variant.now tables (option_map rows_data o)) c.in_default.is (c.in_ok-rows.ensures.told clean stands.has).0 in
+    none_told c.args.params.now c.args.supplier.now c.args.variant.now tables told cluster b stands.for
+
+pub returns-in-Ok-Some-clause-page : goal.returns-in-Ok-Some-clause-page
+returns-in-Ok-Some-clause-page g c clean cluster b stands =
+    let tables = tables_of (state g.S.Store c.args.conn.now) in
+    let told = subst (λ o. TellsRows c.args.params.now c.args.supplier.now c.args.variant.now tables (option_map rows_data o)) c.in-Some.is (c.in_ok-rows.ensures.told clean stands.has).0 in
+    let is : c.in-Ok-Some.page ≡ rows_data c.in-Some.rows = search rules in
+    let kept : IsKept (rows_data c.in-Some.rows) = search rules in
+    page_told c.args.params.now c.args.supplier.now c.args.variant.now tables (rows_data c.in-Some.rows) c.in-Ok-Some.page told is kept cluster b stands.for

@@ -1,0 +1,34 @@
+-- An edit of one frame, carried out in the tables.
+use Rattle.std.specs.Prelude.{◌≡◌, false, Option, Some, is_some, IsTrue, Result, OnOk}
+use Rattle.sqlite.specs.State.{State, HasCleanDisk}
+use Rattle.fr_base.specs.Tables.{get, contains}
+use Rattle.fr_base.specs.Cluster.{Cluster}
+use Rattle.fr_base.specs.Book.{Frame, Variant, Book}
+use Rattle.fr_base.specs.declared.name.Name.{Name}
+use Rattle.fr_base.specs.declared.request.Change.TheVariants.{Frame as OfFrame}
+use Rattle.fr_base.specs.declared.request.FrameChange.{FrameChange}
+use Rattle.fr_base.specs.declared.request.FrameChange.TheVariants.{Add, Place}
+use Rattle.fr_world.specs.BookEdits.{applied}
+use Rattle.fr_world.specs.declared.edit.Edit.TheVariants.{Rows}
+use Rattle.fr_store.specs.Changes.{tables_of}
+use Rattle.fr_store.specs.Reading.{Stands}
+use Rattle.fr_store.specs.Tables.{Tables}
+use Rattle.fr_store.specs.Whole.{IsWhole}
+
+-- the variant is there, it is open, and it is stored whole
+pub record IsOpenWhole (v : Name) (x : Variant) (t : Tables) (b : Book) : Type 0 where
+  pub there : get b.variants v ≡ Some x
+  pub unreleased : x.released ≡ false
+  pub whole : IsWhole v t
+
+-- a frame and a placement that are added are new, and a frame that is changed or dropped is there; `there` is what stands at the frame's name
+abbrev pub FitsAt : Option Frame → FrameChange → Type 0
+FitsAt there (Add node) = is_some there ≡ false
+FitsAt (Some frame) (Place q) = contains frame.placements q ≡ false
+FitsAt there what = IsTrue (is_some there)
+
+-- A statement inside a transaction makes this change of the supplier's frame in the variant, or it fails.
+abbrev pub EditsFrame : {X E : Type 0} → Name → Name → Name → FrameChange → State → State → Result X E → Type 0
+EditsFrame v s f what old new r =
+    HasCleanDisk new → IsTrue old.in_transaction → (c : Cluster) (b : Book) (x : Variant) → Stands old c b → IsOpenWhole v x (tables_of old) b → FitsAt (get x.frames (s, f)) what
+    → OnOk r (Stands new c (applied b (Rows s v (OfFrame f what))))

@@ -1,0 +1,83 @@
+//! Edits of the register's rows, all carried out in one transaction, or none.
+
+ghost use Rattle.std.specs.Prelude.{◌≡◌, false, IfErr, OnErr, OnOk};
+ghost use Rattle.sqlite.specs.State.{HasCleanDisk, Survives};
+ghost use Rattle.sqlite.specs.Held.{state};
+ghost use Rattle.fr_world.specs.BookEdits.{all_applied};
+ghost use Rattle.fr_world.specs.Fits.{AllFit};
+ghost use Rattle.fr_store.specs.Applying.{CarriesOutAll, LeavesAll, StaysInside};
+ghost use Rattle.fr_store.specs.Opening.{AreAsBefore};
+ghost use Rattle.fr_store.specs.Reading.{Stands};
+ghost use Rattle.fr_store.specs.Tables.{HasTables};
+ghost use Rattle.fr_store.specs.declared.fault.StoreFault.TheVariants.{Unavailable};
+
+use crate::applying::edits::carry_out;
+use crate::applying::whole::see_whole;
+use crate::fault::StoreFault;
+use crate::store::Store;
+use fr_world::Edit;
+use sqlite::{Alter, Connection, Transaction};
+
+/// Carries the edits out, one after the other.
+fn all<S: Alter>(tx: &mut Transaction<'_, S>, edits: &[Edit]) -> Result<(), StoreFault>
+    ensures same_reference { tx.new.conn.ghost_name ≡ tx.old.conn.ghost_name }
+    ensures carried { CarriesOutAll edits.now (state S.Store tx.old.conn.now) (state S.Store tx.new.conn.now) result }
+    ensures stays { StaysInside (state S.Store tx.old.conn.now) (state S.Store tx.new.conn.now) result }
+    ensures refused { IfErr result (λ fault. fault ≡ Unavailable) }
+    ensures survives { Survives (state S.Store tx.old.conn.now) (state S.Store tx.new.conn.now) (λ _. ⊥) }
+{
+    let mut whole = None;
+    for edit in edits {
+        whole = see_whole(tx, whole, edit)?;
+        let Ok(_) = carry_out(tx, edit) else {
+            return Err(StoreFault::Unavailable);
+        };
+    }
+    Ok(())
+}
+
+/// Carries all edits out in one transaction.
+fn in_one<S: Alter>(conn: &mut Connection<S>, edits: &[Edit]) -> Result<(), StoreFault>
+    requires { conn.old.in_transaction ≡ false }
+    ensures stands { HasCleanDisk (state S.Store conn.new) → (c : _) (b : _) → Stands (state S.Store conn.old) c b → AllFit b edits.now
+        → OnOk result (Stands (state S.Store conn.new) c (all_applied b edits.now)) }
+    ensures committed { HasCleanDisk (state S.Store conn.new) → OnOk result ((state S.Store conn.new).committed ≡ (state S.Store conn.new).now) }
+    ensures undone { HasCleanDisk (state S.Store conn.new) → HasTables (state S.Store conn.old).now → OnErr result (AreAsBefore (state S.Store conn.old) (state S.Store conn.new)) }
+    ensures refused { IfErr result (λ fault. fault ≡ Unavailable) }
+    ensures autocommit { conn.new.in_transaction ≡ false }
+    ensures survives { Survives (state S.Store conn.old) (state S.Store conn.new) (LeavesAll edits.now (state S.Store conn.old)) }
+{
+    let _settled = conn.is_autocommit();
+    let mut tx = conn.transaction();
+    all(&mut tx, edits)?;
+    let Ok(()) = tx.commit() else {
+        return Err(StoreFault::Unavailable);
+    };
+    Ok(())
+}
+
+impl<S: Alter> Store<S> {
+    /// Carries the edits out, one after the other, in one transaction: all of them, or none. Each has to
+    /// fit the rows that those before it left: what it adds has a new key, what it names or takes out is
+    /// there, a variant that changes is open, and a parent is released. The only refusal is
+    /// `Unavailable`, and then the rows are as they were.
+    pub fn apply(&mut self, edits: &[Edit]) -> Result<(), StoreFault>
+        ensures stands { HasCleanDisk (state S.Store self.new.conn) → (c : _) (b : _) → Stands (state S.Store self.old.conn) c b → AllFit b edits.now
+            → OnOk result (Stands (state S.Store self.new.conn) c (all_applied b edits.now)) }
+        ensures committed { HasCleanDisk (state S.Store self.new.conn) → OnOk result ((state S.Store self.new.conn).committed ≡ (state S.Store self.new.conn).now) }
+        ensures undone { HasCleanDisk (state S.Store self.new.conn) → HasTables (state S.Store self.old.conn).now
+            → OnErr result (AreAsBefore (state S.Store self.old.conn) (state S.Store self.new.conn)) }
+        ensures refused { IfErr result (λ fault. fault ≡ Unavailable) }
+        ensures outside { self.old.conn.in_transaction ≡ false → self.new.conn.in_transaction ≡ false }
+        ensures config { self.new.config ≡ self.old.config }
+        ensures survives { Survives (state S.Store self.old.conn) (state S.Store self.new.conn) (LeavesAll edits.now (state S.Store self.old.conn)) }
+    {
+        if !self.conn.is_autocommit() {
+            return Err(StoreFault::Unavailable);
+        }
+        in_one(&mut self.conn, edits)
+    }
+}
+
+#[cfg(test)]
+mod tests;

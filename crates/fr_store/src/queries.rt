@@ -1,0 +1,109 @@
+//! What a register tells of its rows.
+
+ghost use Rattle.std.specs.Prelude.{◌≡◌, IfErr, option_map};
+ghost use Rattle.sqlite.specs.Held.{state};
+ghost use Rattle.fr_base.specs.Book.{own};
+ghost use Rattle.fr_base.specs.Tables.{get, len};
+ghost use Rattle.fr_world.specs.BookEdits.{variants_in};
+ghost use Rattle.fr_world.specs.Pages.{nodes_in};
+ghost use Rattle.fr_store.specs.Changes.{Spares};
+ghost use Rattle.fr_store.specs.Paging.{page_of};
+ghost use Rattle.fr_store.specs.Reading.{Leaves, Tells, as_holder, as_kept, holder_in};
+ghost use Rattle.fr_store.specs.declared.fault.StoreFault.TheVariants.{Unavailable};
+
+use crate::fault::StoreFault;
+use crate::kept::Kept;
+use crate::slot_holder::Holder;
+use crate::store::Store;
+use crate::{page, reading};
+use fr_base::{Channel, Name, Slot};
+use fr_world::{Page, VariantRow};
+use sqlite::Alter;
+use std::alloc::Global;
+
+impl<S: Alter> Store<S> {
+    /// The supplier's page of the variant, if the variant is there. The only refusal is `Unavailable`.
+    pub fn page(
+        &mut self,
+        alloc: Global,
+        supplier: &Name,
+        variant: &Name,
+    ) -> Result<Option<Page>, StoreFault>
+        ensures page { Tells (state S.Store self.old.conn) (state S.Store self.new.conn) result (λ c b found. found ≡ page_of self.old.config.params b supplier.now variant.now) }
+        ensures config { self.new.config ≡ self.old.config }
+        ensures refused { IfErr result (λ fault. fault ≡ Unavailable) }
+        ensures stays { Leaves (state S.Store self.old.conn) (state S.Store self.new.conn) }
+        ensures spares { Spares (state S.Store self.old.conn) (state S.Store self.new.conn) }
+    {
+        let params = self.config.params();
+        page::page(alloc, &mut self.conn, &params, supplier, variant)
+    }
+
+    /// Who holds the slot on the channel in the variant. The only refusal is `Unavailable`.
+    pub fn holder(
+        &mut self,
+        variant: &Name,
+        slot: Slot,
+        channel: Channel,
+    ) -> Result<Option<Holder>, StoreFault>
+        ensures holder { Tells (state S.Store self.old.conn) (state S.Store self.new.conn) result (λ c b found. option_map as_holder found ≡ holder_in b variant.now (slot, channel)) }
+        ensures config { self.new.config ≡ self.old.config }
+        ensures refused { IfErr result (λ fault. fault ≡ Unavailable) }
+        ensures stays { Leaves (state S.Store self.old.conn) (state S.Store self.new.conn) }
+        ensures spares { Spares (state S.Store self.old.conn) (state S.Store self.new.conn) }
+    {
+        reading::holder(&mut self.conn, variant, slot, channel)
+    }
+
+    /// The variants, by name. The only refusal is `Unavailable`.
+    pub fn variants(&mut self, alloc: Global) -> Result<Vec<VariantRow>, StoreFault>
+        ensures variants { Tells (state S.Store self.old.conn) (state S.Store self.new.conn) result (λ c b rows. rows.items ≡ variants_in b) }
+        ensures config { self.new.config ≡ self.old.config }
+        ensures refused { IfErr result (λ fault. fault ≡ Unavailable) }
+        ensures stays { Leaves (state S.Store self.old.conn) (state S.Store self.new.conn) }
+        ensures spares { Spares (state S.Store self.old.conn) (state S.Store self.new.conn) }
+    {
+        reading::variants(alloc, &mut self.conn)
+    }
+
+    /// The supplier's nodes, in byte order. The only refusal is `Unavailable`.
+    pub fn nodes(&mut self, alloc: Global, supplier: &Name) -> Result<Vec<Name>, StoreFault>
+        ensures nodes { Tells (state S.Store self.old.conn) (state S.Store self.new.conn) result (λ c b names. names.items ≡ nodes_in b supplier.now) }
+        ensures config { self.new.config ≡ self.old.config }
+        ensures refused { IfErr result (λ fault. fault ≡ Unavailable) }
+        ensures stays { Leaves (state S.Store self.old.conn) (state S.Store self.new.conn) }
+        ensures spares { Spares (state S.Store self.old.conn) (state S.Store self.new.conn) }
+    {
+        reading::nodes(alloc, &mut self.conn, supplier)
+    }
+
+    /// The import that the supplier has under the label, if it is kept. The only refusal is `Unavailable`.
+    pub fn import(
+        &mut self,
+        alloc: Global,
+        supplier: &Name,
+        label: &Name,
+    ) -> Result<Option<Kept>, StoreFault>
+        ensures import { Tells (state S.Store self.old.conn) (state S.Store self.new.conn) result (λ c b found. option_map as_kept found ≡ get b.imports (supplier.now, label.now)) }
+        ensures config { self.new.config ≡ self.old.config }
+        ensures refused { IfErr result (λ fault. fault ≡ Unavailable) }
+        ensures stays { Leaves (state S.Store self.old.conn) (state S.Store self.new.conn) }
+        ensures spares { Spares (state S.Store self.old.conn) (state S.Store self.new.conn) }
+    {
+        reading::import(alloc, &mut self.conn, supplier, label)
+    }
+
+    /// How many imports of the supplier are kept. The only refusal is `Unavailable`.
+    pub fn imports(&mut self, supplier: &Name) -> Result<u32, StoreFault>
+        ensures imports { Tells (state S.Store self.old.conn) (state S.Store self.new.conn) result (λ c b count. count ≡ len (own supplier.now b.imports)) }
+        ensures config { self.new.config ≡ self.old.config }
+        ensures refused { IfErr result (λ fault. fault ≡ Unavailable) }
+        ensures stays { Leaves (state S.Store self.old.conn) (state S.Store self.new.conn) }
+        ensures spares { Spares (state S.Store self.old.conn) (state S.Store self.new.conn) }
+    {
+        reading::imports(&mut self.conn, supplier)
+    }
+}
+
+#[cfg(test)]
+mod tests;
