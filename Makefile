@@ -1,6 +1,8 @@
 # make run      proves and builds the program where that is still to be done, and runs a script
-# make test     the gate: every proof from nothing, the must-fail edits, the tests, and the built program tried
+# make test     the gate: every proof from nothing, the must-fail edits, the tests, how rows are found, and the
+#               built program tried
 # make try      tries the built program alone, as the gate does: rows, examples, faults, limits
+# make store    tries a register's files, its pages and edits, with the SQLite of python3; no part of the gate
 # make install  puts the proved program at $(PREFIX)/bin/slotplan
 # make bench    prints the program's speed and memory beside those of a plain reader, how a change's time grows
 #               with its supplier's rows, and the speed of texts alone; no test
@@ -11,7 +13,7 @@ PREFIX ?= /usr/local
 program := crates/fr_cli/out/fr_cli
 build_log := out/build.log
 
-.PHONY: run test try install bench build toolchain
+.PHONY: run test try store install bench build toolchain
 
 run: build
 	@$(program) run < $(SCRIPT)
@@ -21,6 +23,10 @@ test: toolchain
 
 try: build
 	@python3 tests/program.py $(program)
+
+store: toolchain
+	@python3 tests/store_files.py
+	@python3 tests/store_pages.py
 
 install: build
 	install -D -m 755 $(program) $(DESTDIR)$(PREFIX)/bin/slotplan

@@ -1,5 +1,6 @@
 #!/usr/bin/env python3
-"""The gate: `rt ci`, and then the program that it built, tried as each compiler made it. The last line counts both."""
+"""The gate: `rt ci`, how another SQLite finds the rows of each statement, and then the program that was built, tried as each
+compiler made it. The last line counts all."""
 import re
 import subprocess
 import sys
@@ -29,8 +30,9 @@ def counted(name, words):
 
 def main():
     proved = counted("rt ci", ["rt", "ci"])
+    sought = counted("the statements", [sys.executable, "tests/statements.py"])
     tried = counted("the built program", [sys.executable, "tests/program.py", PROGRAM, f"{PROGRAM}.by-rattle"])
-    passed, failed = (sum(both) for both in zip(proved, tried))
+    passed, failed = (sum(both) for both in zip(proved, sought, tried))
     print(f"{passed} passed, {failed} failed")
     return 1 if failed else 0
 

@@ -1,0 +1,319 @@
+#!/usr/bin/env python3
+"""Prints how long a register in a file takes, beside python3's `sqlite3` on the same file: store.py [--runs N] [--program FILE]
+
+Pages are loaded, of 4, 64 and 256 frames, each of 8 placements and 15 signals; a placement is put and ended, each in a
+transaction of its own; so are 512 of them in one; and a register of about 100,000 rows is opened and closed. Then the same page
+and the same edit in a register of 1 and of 64 suppliers, of 16 frames each.
+
+`sqlite3` runs the statements of `fr_store`, in as many transactions, over files of its own making, with a log. Where a page is
+loaded it makes tuples of the rows, and no page. Where a file is opened it does what comes nearest: PRAGMA integrity_check and
+foreign_key_check. One program does our part; it is proved and built first, in a folder that is gone afterwards.
+
+Figures are of processor time, the least of some runs, less that of a run that does it once, in which starting, opening and closing
+count too: what a disk takes is not in them. The ratios hold for their machine: they promise nothing."""
+import argparse
+import shutil
+import sqlite3
+import sys
+import tempfile
+import time
+from contextlib import closing
+from pathlib import Path
+
+from programs import built
+from texts import seconds
+
+TOP = Path(__file__).resolve().parent.parent
+sys.path.append(str(TOP / "tests"))
+from made import LARGE, suppliers
+from statements import SOURCES, TEXT
+from store_files import connected, filled
+
+PLACEMENTS, SIGNALS, BATCH = 8, 15, 512
+
+PROGRAM = r"""//! Loads pages of a register in a file, edits it, or opens it, again and again.
+#![tactic(auto)]
+
+use anyhow::{Context, Error, bail};
+use fr_base::{Change, Channels, CycleSet, FrameChange, Name, Placement, Slot};
+use fr_store::Store;
+use fr_world::Edit;
+use sqlite::{FileFrom, FileStore, Unknown};
+use std::alloc::Global;
+use std::env;
+
+type Register = Store<FileStore<FileFrom<Unknown>>>;
+
+/// The first word is `nothing`, or what is done: `page`, `edit`, `batch` or `open`. The second is the
+/// file's path, and the third says how often. Prints the frames of the pages.
+fn main(rt: HostRuntime) -> Result<(), Error> {
+    let mut words = env::args(&rt)?.skip(1);
+    let what = words.next().context("no word")?;
+    if what.as_str() == "nothing" {
+        return Ok(());
+    }
+    let path = words.next().context("no path")?;
+    let times: u32 = words.next().context("no number")?.parse()?;
+    let frames = match what.as_str() {
+        "page" => load(&rt, path.as_str(), times)?,
+        "edit" => change(&rt, path.as_str(), times, 1)?,
+        "batch" => change(&rt, path.as_str(), times, 512)?,
+        "open" => open(&rt, path.as_str(), times)?,
+        _ => bail!("none of these words"),
+    };
+    println!(rt; "{frames}")?;
+    Ok(())
+}
+
+fn opened(rt: &HostRuntime, path: &str) -> Result<Register, Error> {
+    match Store::open_at(rt, path, Unknown) {
+        Ok(store) => Ok(store),
+        Err(fault) => bail!("{fault:?}"),
+    }
+}
+
+fn closed(store: Register) -> Result<(), Error> {
+    match store.close() {
+        Ok(_files) => Ok(()),
+        Err(fault) => bail!("{fault:?}"),
+    }
+}
+
+fn name(text: &str) -> Result<Name, Error> {
+    Name::read(text).context("no name")
+}
+
+fn open(rt: &HostRuntime, path: &str, times: u32) -> Result<usize, Error> {
+    for _ in 0..times {
+        closed(opened(rt, path)?)?;
+    }
+    Ok(0)
+}
+
+fn load(rt: &HostRuntime, path: &str, times: u32) -> Result<usize, Error> {
+    let (supplier, variant) = (name("s1")?, name("v1")?);
+    let mut store = opened(rt, path)?;
+    let mut frames = 0;
+    for _ in 0..times {
+        frames = frames_of(rt.alloc(), &mut store, &supplier, &variant)?;
+    }
+    closed(store)?;
+    Ok(frames)
+}
+
+/// How many frames the page has.
+fn frames_of(
+    alloc: Global,
+    store: &mut Register,
+    supplier: &Name,
+    variant: &Name,
+) -> Result<usize, Error> {
+    match store.page(alloc, supplier, variant) {
+        Ok(Some(page)) => Ok(page.frames().len()),
+        _ => bail!("no page"),
+    }
+}
+
+fn change(rt: &HostRuntime, path: &str, times: u32, count: u32) -> Result<usize, Error> {
+    let placed = edits(rt.alloc(), count, true)?;
+    let ended = edits(rt.alloc(), count, false)?;
+    let mut store = opened(rt, path)?;
+    for _ in 0..times {
+        apply(&mut store, placed.as_slice())?;
+        apply(&mut store, ended.as_slice())?;
+    }
+    closed(store)?;
+    Ok(0)
+}
+
+fn apply(store: &mut Register, edits: &[Edit]) -> Result<(), Error> {
+    match store.apply(edits) {
+        Ok(()) => Ok(()),
+        Err(fault) => bail!("{fault:?}"),
+    }
+}
+
+/// So many placements of the frames of `v2`, 8 each: put, or ended.
+fn edits(alloc: Global, count: u32, is_put: bool) -> Result<Vec<Edit>, Error> {
+    let mut edits = Vec::new(alloc);
+    for at in 0..count {
+        edits.push(edit(alloc, at, is_put)?)?;
+    }
+    Ok(edits)
+}
+
+fn edit(alloc: Global, at: u32, is_put: bool) -> Result<Edit, Error> {
+    let (supplier, variant) = (name("s1")?, name("v2")?);
+    let frame = format!(in alloc; "f{}", at / 8)?;
+    let frame = name(frame.as_str())?;
+    let placement = placement(at)?;
+    let change = if is_put {
+        FrameChange::Place(placement)
+    } else {
+        FrameChange::Unplace(placement)
+    };
+    let change = Change::Frame { frame, change };
+    Ok(Edit::Rows {
+        supplier,
+        variant,
+        change,
+    })
+}
+
+fn placement(at: u32) -> Result<Placement, Error> {
+    let Ok(cycles) = CycleSet::new(at % 64, 64) else {
+        bail!("no cycles");
+    };
+    Ok(Placement {
+        slot: Slot::new(at / 64 % 8 + 1).context("no slot")?,
+        channels: Channels::B,
+        cycles,
+    })
+}
+"""
+
+
+def statement(table, begin):
+    """The text of `fr_store` that begins so."""
+    text, = {text for text in TEXT.findall((SOURCES / f"tables/{table}.rt").read_text()) if text.startswith(begin)}
+    return text
+
+
+ONE_VARIANT = statement("variants", "SELECT name, parent, depth, released, overlay FROM variants WHERE")
+NODES = statement("nodes", "SELECT")
+GRANTS = statement("grants", "SELECT slot")
+FRAMES = statement("frames", "SELECT name")
+OF_FRAME = [text for table in ("placements", "signals") for text in TEXT.findall((SOURCES / f"tables/{table}.rt").read_text()) if "frame = ?3 ORDER" in text]
+PUT, END = statement("placements", "INSERT INTO placements (variant, supplier, frame, slot, channels, base, repetition) VALUES"), statement("placements", "DELETE")
+
+
+def register(path, owners, frames):
+    """A register of so many suppliers with so many frames each in `v1`; in `v2` the first has 64 without a placement. Gives how many rows it has."""
+    slots = max(1, frames // 8)
+    rows = {table: [] for table in ("nodes", "variants", "grants", "frames", "placements", "signals")}
+    rows["variants"] = [("v1", None, 1, 0, 0), ("v2", None, 1, 0, 0)]
+    rows["grants"] = [("v2", slot, "B", "s1", "n1") for slot in range(1, 9)]
+    rows["frames"] = [("v2", "s1", f"f{frame}", "n1") for frame in range(64)]
+    for owner in range(owners):
+        key = ("v1", f"s{owner + 1}")
+        rows["nodes"].append((key[1], "n1"))
+        rows["grants"] += [("v1", owner * slots + slot + 1, channel, key[1], "n1") for slot in range(slots) for channel in "AB"]
+        for frame in range(frames):
+            name, slot, base = f"f{frame}", owner * slots + frame % slots + 1, frame // slots * PLACEMENTS
+            rows["frames"].append((*key, name, "n1"))
+            rows["placements"] += [(*key, name, slot, "A", base + at, 64) for at in range(PLACEMENTS)]
+            rows["signals"] += [(*key, name, f"x{at}", 16 * at, 16, 0) for at in range(SIGNALS)]
+    filled(path, {**LARGE, "suppliers": suppliers(owners)}, pragmas=("journal_mode = WAL",))
+    with closing(connected(path)) as conn:
+        conn.execute("BEGIN")
+        for table, made in rows.items():
+            conn.executemany(f"INSERT INTO {table} VALUES ({','.join('?' * len(made[0]))})", made)
+        conn.execute("COMMIT")
+        return sum(conn.execute(f"SELECT count(*) FROM {table}").fetchone()[0] for table, in conn.execute("SELECT name FROM sqlite_schema WHERE type = 'table'").fetchall())
+
+
+def load(conn, times):
+    frames = []
+    for _ in range(times):
+        conn.execute(ONE_VARIANT, ("v1",)).fetchall()
+        conn.execute(NODES, ("s1",)).fetchall()
+        conn.execute(GRANTS, ("v1", "s1")).fetchall()
+        frames = conn.execute(FRAMES, ("v1", "s1")).fetchall()
+        for name, _ in frames:
+            for text in OF_FRAME:
+                conn.execute(text, ("v1", "s1", name)).fetchall()
+    return len(frames)
+
+
+def change(count):
+    rows = [("v2", "s1", f"f{at // 8}", at // 64 % 8 + 1, "B", at % 64, 64) for at in range(count)]
+
+    def changed(conn, times):
+        for _ in range(times):
+            for text in PUT, END:
+                conn.execute("BEGIN")
+                conn.execute(ONE_VARIANT, ("v2",)).fetchall()
+                conn.executemany(text, rows)
+                conn.execute("COMMIT")
+        return 0
+
+    return changed
+
+
+def by_sqlite(path, do, times):
+    """What this takes in seconds, once the file is open, and what it gives."""
+    with closing(connected(path)) as conn:
+        do(conn, 1)
+        start = time.process_time()
+        given = do(conn, times)
+        return time.process_time() - start, given
+
+
+def opened_by_sqlite(path, times):
+    start = time.process_time()
+    for _ in range(times):
+        with closing(connected(path)) as conn:
+            for pragma in "integrity_check", "foreign_key_check":
+                conn.execute(f"PRAGMA {pragma}").fetchall()
+    return time.process_time() - start, 0
+
+
+def measured(program, what, path, times, runs, theirs):
+    """Microseconds that doing this once takes us and them, on copies of the file. Both give the same."""
+    whole, rest, other = [], [], []
+    with tempfile.TemporaryDirectory(dir=path.parent) as room:
+        mine, yours = (Path(room) / f"{whose}.db" for whose in ("mine", "yours"))
+        for copy in mine, yours:
+            shutil.copyfile(path, copy)
+        for _ in range(runs):
+            used, printed = seconds([program, what, mine, str(times)], b"")
+            whole.append(used)
+            rest.append(seconds([program, what, mine, "1"], b"")[0])
+            taken, given = theirs(yours, times)
+            other.append(taken)
+            if int(printed) != given:
+                sys.exit(f"{what}: {int(printed)} and {given}")
+    return (min(whole) - min(rest)) / (times - 1) * 1e6, min(other) / times * 1e6
+
+
+def show(name, ours, theirs):
+    print(f"{name:34} {ours:12.1f} {theirs:12.1f} {ours / theirs:7.2f}", flush=True)
+    return ours
+
+
+def main():
+    words = argparse.ArgumentParser(description=__doc__, formatter_class=argparse.RawDescriptionHelpFormatter)
+    words.add_argument("--runs", type=int, default=5)
+    words.add_argument("--program", type=Path, help="the program, built before")
+    given = words.parse_args()
+    runs = given.runs
+    (TOP / "out").mkdir(exist_ok=True)
+    with tempfile.TemporaryDirectory(dir=TOP / "out") as room:
+        room = Path(room)
+        program = given.program or built(room / "store_speed", ["fr_base", "fr_store", "fr_world"], ["sqlite", "anyhow"], PROGRAM, ["nothing"])
+        counts = {(owners, frames): register(room / f"{owners}_{frames}.db", owners, frames) for owners, frames in ((1, 4), (1, 16), (1, 64), (1, 256), (64, 16), (64, 64))}
+        print(f"{'':34} {'us':>12} {'sqlite3, us':>12} {'time':>7}")
+
+        def pages(owners, frames, times):
+            path = room / f"{owners}_{frames}.db"
+            return measured(program, "page", path, times, runs, lambda copy, times: by_sqlite(copy, load, times))
+
+        def edits(owners, frames, what, count, times):
+            path = room / f"{owners}_{frames}.db"
+            return measured(program, what, path, times, runs, lambda copy, times: by_sqlite(copy, change(count), times))
+
+        show("page of 4 frames", *pages(1, 4, 8_000))
+        show("page of 64 frames", *pages(1, 64, 1_000))
+        show("page of 256 frames", *pages(1, 256, 150))
+        show("placement put, and ended", *edits(1, 64, "edit", 1, 4_000))
+        show("512 placements put, and ended", *edits(1, 64, "batch", BATCH, 20))
+        show(f"opening {counts[64, 64]:,} rows", *measured(program, "open", room / "64_64.db", 3, runs, opened_by_sqlite))
+        print("\nwith 64 suppliers, as part of that with 1:")
+        many, one = (pages(owners, 16, 3_000)[0] for owners in (64, 1))
+        print(f"page of 16 frames          {many / one:7.2f}", flush=True)
+        many, one = (edits(owners, 16, "edit", 1, 4_000)[0] for owners in (64, 1))
+        print(f"placement put, and ended   {many / one:7.2f}")
+
+
+if __name__ == "__main__":
+    main()
