@@ -1,0 +1,84 @@
+-- Pages that are kept: where one stands, and that none becomes stale by being moved.
+use Rattle.std.proofs.Common.{◌≡◌, ℕ, zero, suc, ◌+◌, ◌<◌, ◌≤◌, Bool, true, false, not, cond, List, [], ◌∷◌, ◌++◌, length, take, drop, filter, Some, None, refl, sym, ap, subst, ◌∙◌, add-one, arith, get_or, All}
+use Rattle.std.specs.Prelude.{find, position}
+use Rattle.std.specs.List.{before_first, after_first, position_or_len, remove, slice_get}
+use Rattle.std.proofs.lemmas.Bool.{ltb-false, ltb-true}
+use Rattle.std.proofs.Math.Dec.{ltb}
+use Rattle.std.proofs.lemmas.List.{append-nil, drop_all, take_all}
+use Rattle.std.proofs.lemmas.List.Elements.{All-append, All-drop, All-get_or, All-take}
+use Rattle.std.proofs.lemmas.List.Folds.{find_at}
+use Rattle.std.proofs.lemmas.List.Sums.{passes_at_first}
+use Rattle.std.proofs.lemmas.Option.{slice_get-get_or, slice_get_past}
+
+-- what is left of a list without an element that fails is left of the list
+filter_removed : {X : Type 0} (q : X → Bool) (xs : List X) (i : ℕ) (d : X) → i < length xs → q (get_or xs i d) ≡ false → filter q (remove xs i) ≡ filter q xs
+filter_removed q [] i d within fails = absurd (omega arith)
+filter_removed q (x ∷ xs) zero d within fails = ap (λ b. cond b (x ∷ filter q xs) (filter q xs)) (sym fails)
+filter_removed q (x ∷ xs) (suc i) d within fails = ap (λ rest. cond (q x) (x ∷ rest) rest) (filter_removed q xs i d (omega arith) fails)
+
+module _ {X : Type 0} (p : X → Bool) (xs : List X) where
+  abbrev at : ℕ
+  at = position_or_len p xs
+
+  by_test : (b : Bool) → ltb at (length xs) ≡ b → (i : ℕ) → cond b (Some at) None ≡ Some i → (at ≡ i) × (i < length xs)
+  by_test true e i h = let same : at ≡ i = cc in (same, subst (λ k. k < length xs) same (ltb-true at (length xs) e))
+  by_test false e i h = cc
+
+  -- where the first stands that passes
+  pub found_at : (i : ℕ) → position p xs ≡ Some i → (at ≡ i) × (i < length xs)
+  found_at i h = by_test (ltb at (length xs)) refl i h
+
+  -- it is what stands there
+  pub found-is : (i : ℕ) (x : X) → position p xs ≡ Some i → x ≡ get_or xs i x → find p xs ≡ Some x
+  found-is i x h is =
+      let place = found_at i h in
+      find_at p xs ∙ ap (slice_get xs) place.0 ∙ slice_get-get_or xs i x place.1 ∙ ap Some (sym is)
+
+  -- without it
+  pub removed : (i : ℕ) → position p xs ≡ Some i → remove xs i ≡ before_first p xs ++ after_first p xs
+  removed i h =
+      let place = found_at i h in
+      ap (λ k. take i xs ++ drop k xs) (sym (add-one i)) ∙ ap (λ k. take k xs ++ drop (k + 1) xs) (sym place.0)
+
+  by_none : (b : Bool) → ltb at (length xs) ≡ b → cond b (Some at) None ≡ None → length xs ≤ at
+  by_none true e h = cc
+  by_none false e h = ltb-false at (length xs) e
+
+  nowhere : position p xs ≡ None → length xs ≤ at
+  nowhere h = by_none (ltb at (length xs)) refl h
+
+  pub none_found : position p xs ≡ None → find p xs ≡ None
+  none_found h = find_at p xs ∙ slice_get_past xs at (nowhere h)
+
+  pub none_removed : position p xs ≡ None → xs ≡ before_first p xs ++ after_first p xs
+  none_removed h =
+      let none : drop (at + 1) xs ≡ [] = drop_all (at + 1) xs (omega (arith, nowhere h)) in
+      sym (append-nil xs) ∙ (λ i. sym (take_all at xs (nowhere h)) i ++ sym none i)
+
+  -- what holds of all holds of those beside it
+  pub all_beside : (P : X → Type 0) → All P xs → All P (before_first p xs ++ after_first p xs)
+  all_beside P all = All-append P (before_first p xs) (after_first p xs) (All-take P at xs all) (All-drop P (at + 1) xs all)
+
+  -- and of what stands there
+  pub all_at : (P : X → Type 0) (i : ℕ) (d : X) → position p xs ≡ Some i → All P xs → P (get_or xs i d)
+  all_at P i d h all = All-get_or P xs i d (found_at i h).1 all
+
+  -- nor does it stand among those that fail
+  pub others_removed : (i : ℕ) (d : X) → position p xs ≡ Some i → filter (λ x. not (p x)) (remove xs i) ≡ filter (λ x. not (p x)) xs
+  others_removed i d h =
+      let place = found_at i h in
+      let passes : p (get_or xs i d) ≡ true =
+      ap (λ k. p (get_or xs k d)) (sym place.0) ∙ passes_at_first p xs d (subst (λ k. k < length xs) (sym place.0) place.1) in
+      filter_removed (λ x. not (p x)) xs i d place.1 (ap not passes)
+
+  none_passes : (ys : List X) → find p ys ≡ None → filter (λ x. not (p x)) ys ≡ ys
+  none_passes [] h = refl
+  none_passes (y ∷ ys) h = by_case (p y) refl h (none_passes ys)
+    where
+      by_case : (b : Bool) → p y ≡ b → cond b (Some y) (find p ys) ≡ None → (find p ys ≡ None → filter (λ x. not (p x)) ys ≡ ys) → filter (λ x. not (p x)) (y ∷ ys) ≡ y ∷ ys
+      by_case true e none rest = cc
+      by_case false e none rest = ap (λ b. cond (not b) (y ∷ filter (λ x. not (p x)) ys) (filter (λ x. not (p x)) ys)) e ∙ ap (λ zs. y ∷ zs) (rest none)
+
+  -- where none passes all are left
+  pub all_others : position p xs ≡ None → xs ≡ filter (λ x. not (p x)) xs
+  all_others h = sym (none_passes xs (none_found h))

@@ -1,0 +1,18 @@
+use Rattle.std.proofs.Common.{Ok, Err, subst, rules}
+use Rattle.fr_office.specs.Shown.{FindsPage}
+use Rattle.fr_office.proofs.OwnReplies.{replies-own, replies-none}
+use Rattle.fr_office.proofs.queries.reply_to_supplier.Goals as goal
+
+pub returns-in_err-page-clause-replies : goal.returns-in_err-page-clause-replies
+returns-in_err-page-clause-replies g c = λ clean.
+    let old = g.R.Records.stands c.args.records.now in
+    let new = g.R.Records.stands c.find_page.new.records in
+    replies-none old new c.args.supplier c.args.query.now c.from_residual.result c.in_err-page.field-0.0 (search rules)
+    (subst (λ v. FindsPage old new (Err c.in_err-page.field-0.0) c.args.supplier v) c.variant_asked.ensures (c.in_err-page.ensures.page clean))
+
+pub returns-clause-replies : goal.returns-clause-replies
+returns-clause-replies g c = λ clean.
+    let old = g.R.Records.stands c.args.records.now in
+    let new = g.R.Records.stands c.find_page.new.records in
+    replies-own old new c.args.supplier c.args.query.now c.in_ok-page.page c.show.result
+    (subst (λ v. FindsPage old new (Ok c.in_ok-page.page) c.args.supplier v) c.variant_asked.ensures (c.in_ok-page.ensures.page clean)) c.show.ensures

@@ -1,0 +1,9 @@
+pub mod Answering
+pub mod Carried
+pub mod Decided
+pub mod Headline
+pub mod Held
+pub mod Imports
+pub mod KeptPages
+pub mod Shared
+pub mod Shown

@@ -1,0 +1,24 @@
+//! The office of a register: it answers requests one after another, each of the integrator or of a
+//! supplier, and each supplier is answered as if it were alone.
+#![tactic(auto)]
+
+mod answering;
+mod commands;
+mod desk;
+mod imports;
+mod office;
+mod open_page;
+mod pages;
+mod queries;
+mod records;
+mod running;
+mod suppliers;
+
+pub use desk::Desk;
+pub use office::Office;
+pub use pages::{MAX_PAGES, Pages};
+pub use records::Records;
+pub use running::{Stopped, run};
+
+#[cfg(test)]
+mod tests;

@@ -1,0 +1,34 @@
+//! The page on which a supplier's rows change.
+ghost use Rattle.std.specs.Prelude.{◌≡◌, false, IfOk};
+ghost use Rattle.fr_office.specs.Carried.{Replies};
+ghost use Rattle.fr_office.specs.Decided.{open_page};
+
+use crate::records::Records;
+use crate::suppliers::has_supplier;
+use fr_base::{Name, Refusal};
+use fr_world::Page;
+use std::alloc::Global;
+
+/// The supplier's page of the variant, where the variant is open and the supplier is there. Else
+/// `NoVariant`, `Released`, `NoSupplier`.
+pub(crate) fn open_page<R: Records>(
+    alloc: Global,
+    records: &mut R,
+    supplier: Name,
+    variant: Name,
+) -> Result<Page, Refusal>
+    ensures falls { R.clean records.new → R.clean records.old }
+    ensures open { IfOk result (λ page. page.released ≡ false) }
+    ensures page { R.clean records.new → Replies (R.stands records.old) (R.stands records.new) result (λ c b. open_page c.params b supplier variant) }
+{
+    let Some(page) = records.page(alloc, supplier, variant)? else {
+        return Err(Refusal::NoVariant);
+    };
+    if page.released() {
+        return Err(Refusal::Released);
+    }
+    if !has_supplier(records.config(), supplier) {
+        return Err(Refusal::NoSupplier);
+    }
+    Ok(page)
+}

@@ -1,0 +1,31 @@
+//! Whether a variant is there.
+ghost use Rattle.std.specs.Prelude.{◌≡◌};
+ghost use Rattle.std.specs.List.{list_any};
+ghost use Rattle.fr_base.specs.Names.{same_text};
+ghost use Rattle.fr_base.specs.Tables.{contains};
+ghost use Rattle.fr_office.specs.Held.{Tells};
+
+use crate::records::Records;
+use fr_base::{Name, Refusal};
+use fr_world::VariantRow;
+use std::alloc::Global;
+
+/// Whether there is a variant of this name.
+pub(crate) fn has_variant<R: Records>(
+    alloc: Global,
+    records: &mut R,
+    variant: Name,
+) -> Result<bool, Refusal>
+    ensures falls { R.clean records.new → R.clean records.old }
+    ensures has { R.clean records.new → Tells (R.stands records.old) (R.stands records.new) result (λ c b has. has ≡ contains b.variants variant) }
+{
+    let variants = records.variants(alloc)?;
+    Ok(is_among(&variants, variant))
+}
+
+// Whether one of the variants has this name.
+fn is_among(variants: &[VariantRow], name: Name) -> bool
+    ensures { result ≡ list_any (λ row. same_text row.variant name) variants.now }
+{
+    variants.iter().any(|row| row.variant == name)
+}

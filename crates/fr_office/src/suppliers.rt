@@ -1,0 +1,22 @@
+//! Which suppliers there are.
+ghost use Rattle.std.specs.Prelude.{◌≡◌};
+ghost use Rattle.std.specs.List.{list_any};
+ghost use Rattle.fr_base.specs.Book.{suppliers_of};
+ghost use Rattle.fr_base.specs.Names.{same_text};
+ghost use Rattle.fr_base.specs.Tables.{contains};
+
+use fr_base::{Config, Name, Supplier};
+
+/// Whether the cluster has the supplier.
+pub(crate) fn has_supplier(config: &Config, supplier: Name) -> bool
+    ensures { result ≡ contains (suppliers_of config.now) supplier }
+{
+    is_named(config.suppliers(), supplier)
+}
+
+// Whether one of the suppliers has this name.
+fn is_named(suppliers: &[Supplier], name: Name) -> bool
+    ensures { result ≡ list_any (λ s. same_text name s.name) suppliers.now }
+{
+    suppliers.iter().any(|supplier| name == supplier.name)
+}

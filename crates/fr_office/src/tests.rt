@@ -1,0 +1,125 @@
+//! What the check would let pass: a run that stops, and pages that are not kept, though there is memory.
+use crate::desk::Desk;
+use crate::pages::{MAX_PAGES, Pages};
+use crate::running::run;
+use fr_base::{Actor, Answer, Ask, Channels, Name, Params, RawParams, Request, Text};
+use fr_world::{Edit, Page, PageRows};
+use std::alloc::Global;
+use std::collections::{BTreeMap, BTreeSet};
+use std::test::Fail;
+
+/// A desk that counts what it is asked, and answers with how many it was asked before. Of its rows
+/// nothing is said: it is never clean.
+#[derive(Drop)]
+struct Counter {
+    asked: u32,
+}
+
+impl Desk for Counter {
+    ghost stands = { λ _ _ _. ⊥ };
+
+    ghost clean = { λ _. ⊥ };
+
+    fn ask(&mut self, _alloc: Global, _ask: &Ask) -> Answer {
+        let rows = self.asked;
+        self.asked = rows.saturating_add(1);
+        Answer::Imported { rows }
+    }
+}
+
+// The integrator asks that one more variant be released.
+fn push_release(asks: &mut Vec<Ask>, alloc: Global, variant: &str) -> Result<(), Fail> {
+    let variant = Text::copy(alloc, variant)?;
+    let ask = Ask {
+        actor: Actor::Integrator,
+        request: Request::Release { variant },
+    };
+    Ok(asks.push(ask).map_err(|_| "no memory")?)
+}
+
+// Whether these are the answers to as many requests, in order.
+fn are_in_order(answers: &[Answer]) -> bool {
+    answers.iter().enumerate().all(|(
+        index,
+        answer,
+    )| matches!(answer, Answer::Imported { rows } if *rows as usize == index))
+}
+
+#[test]
+fn each_request_is_asked_once_and_in_order(rt: HostRuntime) -> Result<(), Fail> {
+    let mut asks = Vec::new(rt.alloc());
+    push_release(&mut asks, rt.alloc(), "v1")?;
+    push_release(&mut asks, rt.alloc(), "v2")?;
+    push_release(&mut asks, rt.alloc(), "v3")?;
+    let mut counter = Counter { asked: 0 };
+    let answered = run(rt.alloc(), &mut counter, &asks);
+    let (answers, stopped) = match &answered {
+        Ok(answers) => (answers.as_slice(), false),
+        Err(stopped) => (stopped.answers.as_slice(), true),
+    };
+    // Each request that was asked has its answer.
+    assert_eq!(rt; answers.len(), counter.asked as usize);
+    assert!(rt; are_in_order(answers));
+    if stopped {
+        return Err(Fail::from("no memory"));
+    }
+    assert_eq!(rt; answers.len(), 3);
+    Ok(())
+}
+
+fn supplier() -> Result<Name, Fail> {
+    Ok(Name::read("s1").ok_or("name")?)
+}
+
+fn variant(alloc: Global, number: usize) -> Result<Name, Fail> {
+    let text = format!(in alloc; "v{number}")?;
+    Ok(Name::read(&text).ok_or("name")?)
+}
+
+fn params() -> Result<Params, Fail> {
+    Ok(Params::check(RawParams {
+        channels: Channels::AB,
+        static_slots: 4,
+        slot_macroticks: 10,
+        dynamic_macroticks: 40,
+        symbol_macroticks: 10,
+        idle_macroticks: 10,
+        macroticks_per_cycle: 100,
+        payload_words: 1,
+    })
+    .map_err(|fault| fault.word())?)
+}
+
+// Keeps a page without rows.
+fn keep(pages: &mut Pages, alloc: Global, number: usize) -> Result<(), Fail> {
+    let rows = PageRows {
+        params: params()?,
+        supplier: supplier()?,
+        variant: variant(alloc, number)?,
+        released: false,
+        nodes: BTreeSet::new(alloc),
+        grants: BTreeMap::new(alloc),
+        frames: BTreeMap::new(alloc),
+    };
+    let page = Page::build(alloc, rows)?.ok_or("no page")?;
+    Ok(pages.keep(page)?)
+}
+
+#[test]
+fn as_many_pages_as_may_be_are_kept(rt: HostRuntime) -> Result<(), Fail> {
+    let mut pages = Pages::new(rt.alloc());
+    for number in 0..=MAX_PAGES {
+        keep(&mut pages, rt.alloc(), number)?;
+    }
+    let supplier = supplier()?;
+    assert!(rt; pages.get(supplier, variant(rt.alloc(), 0)?).is_none());
+    assert!(rt; pages.touch(supplier, variant(rt.alloc(), 1)?));
+    keep(&mut pages, rt.alloc(), 0)?;
+    assert!(rt; pages.get(supplier, variant(rt.alloc(), 1)?).is_some());
+    assert!(rt; pages.get(supplier, variant(rt.alloc(), 2)?).is_none());
+    let released = variant(rt.alloc(), 3)?;
+    pages.follow(rt.alloc(), &Edit::SetReleased { variant: released });
+    assert!(rt; pages.get(supplier, released).is_none());
+    assert!(rt; pages.get(supplier, variant(rt.alloc(), 4)?).is_some());
+    Ok(())
+}
