@@ -16,13 +16,14 @@ use Rattle.fr_base.specs.Book as book
 use Rattle.fr_base.specs.Book.{Book, own}
 use Rattle.fr_base.specs.declared.name.Name.{Name}
 use Rattle.fr_base.proofs.SoundRows.{same_text-is}
+use Rattle.fr_world.specs.ImportLabels.{kept_of}
+use Rattle.fr_world.specs.declared.kept_import.KeptImport.{KeptImport}
 use Rattle.fr_store.specs.Rows.{ImportRow}
 use Rattle.fr_store.specs.Tables.{Tables}
 use Rattle.fr_store.specs.Changes.{AreListed}
 use Rattle.fr_store.specs.Statements.{is_import, is_import_of, shows_import, shows_label, labels_cmp, any_order}
 use Rattle.fr_store.specs.StandsFor.{StandsFor, import_row}
-use Rattle.fr_store.specs.Reading.{import_shown, as_kept}
-use Rattle.fr_store.specs.declared.kept.Kept.{Kept}
+use Rattle.fr_store.specs.Reading.{import_shown}
 use Rattle.fr_store.proofs.HolderLemmas.{any_order_total}
 use Rattle.fr_store.proofs.OrderLemmas.{are_listed}
 use Rattle.fr_store.proofs.SectionLemmas.{only_row, row_at}
@@ -61,9 +62,9 @@ module _ (t : Tables) (c : Cluster) (b : Book) (stands : StandsFor t c b) (s : N
     told_by None = refl
     told_by (Some k) = refl
 
-    pub import_told : (rows : List Row) (found : Option Kept) → AreListed shows_import (is_import s l) any_order t.imports rows
-        → option_map as_kept found ≡ option_map import_shown (slice_get rows 0)
-        → option_map as_kept found ≡ get b.imports (s, l)
+    pub import_told : (rows : List Row) (found : Option KeptImport) → AreListed shows_import (is_import s l) any_order t.imports rows
+        → option_map kept_of found ≡ option_map import_shown (slice_get rows 0)
+        → option_map kept_of found ≡ get b.imports (s, l)
     import_told rows found listed read =
         let is = are_listed shows_import (is_import s l) any_order any_order_total (map import_row b.imports.rows) t.imports rows stands.imports
         (subst (IsAscending (λ x y. any_order x y ≡ Less)) (sym one_row) (one_rises (get b.imports (s, l)))) listed ∙ ap (map shows_import) one_row in

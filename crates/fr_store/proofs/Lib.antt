@@ -67,4 +67,5 @@ pub mod WholeLemmas
 pub mod EditSteps
 pub mod CommitLemmas
 pub mod ChainLemmas
+pub mod ReadyLemmas
 pub mod StandsForWorked

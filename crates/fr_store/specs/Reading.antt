@@ -14,7 +14,6 @@ use Rattle.fr_store.specs.Rows.{words, number, bytes, maybe_words}
 use Rattle.fr_store.specs.Tables.{HasTables}
 use Rattle.fr_store.specs.Changes.{Stays, tables_of}
 use Rattle.fr_store.specs.StandsFor.{StandsFor}
-use Rattle.fr_store.specs.declared.kept.Kept.{Kept}
 use Rattle.fr_store.specs.declared.slot_holder.Holder.{Holder}
 
 -- the tables that the connection sees stand for a cluster file and a book
@@ -53,9 +52,6 @@ import_shown r = record { variant = words (column r 0); body = bytes (column r 1
 
 abbrev pub as_holder : Holder → book.Holder
 as_holder h = record { supplier = h.supplier; node = h.node }
-
-abbrev pub as_kept : Kept → book.Kept
-as_kept k = record { variant = k.variant; body = k.body; rows = k.rows }
 
 -- who holds the slot and channel in the variant, if it is there
 abbrev pub held_in : Option Variant → ℕ × Channel → Option book.Holder

@@ -133,6 +133,7 @@ impl Store<MemStore> {
     pub fn create_in_memory(alloc: Global, config: &Config) -> Result<Store<MemStore>, StoreFault>
         ensures made { IfOk result (λ s. IsNewOf config.now (state over_memory s.conn).now) }
         ensures stands { IfOk result (λ s. Stands (state over_memory s.conn) config.now (opening config.now)) }
+        ensures committed { IfOk result (λ s. (state over_memory s.conn).committed ≡ (state over_memory s.conn).now) }
         ensures config { IfOk result (λ s. s.config ≡ config.now) }
         ensures outside { IfOk result (λ s. s.conn.in_transaction ≡ false) }
         ensures told { IfErr result (λ e. e ≡ fault.Unavailable) }

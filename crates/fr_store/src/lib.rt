@@ -10,7 +10,6 @@ mod files;
 pub mod filling;
 #[cfg(test)]
 mod fixture;
-mod kept;
 pub mod making;
 pub mod opening;
 pub mod page;
@@ -25,7 +24,6 @@ pub mod tables;
 mod values;
 
 pub use fault::StoreFault;
-pub use kept::Kept;
 pub use slot_holder::Holder;
 pub use store::Store;
 

@@ -5,19 +5,19 @@ ghost use Rattle.sqlite.specs.Held.{state};
 ghost use Rattle.fr_base.specs.Book.{own};
 ghost use Rattle.fr_base.specs.Tables.{get, len};
 ghost use Rattle.fr_world.specs.BookEdits.{variants_in};
+ghost use Rattle.fr_world.specs.ImportLabels.{kept_of};
 ghost use Rattle.fr_world.specs.Pages.{nodes_in};
 ghost use Rattle.fr_store.specs.Changes.{Spares};
 ghost use Rattle.fr_store.specs.Paging.{page_of};
-ghost use Rattle.fr_store.specs.Reading.{Leaves, Tells, as_holder, as_kept, holder_in};
+ghost use Rattle.fr_store.specs.Reading.{Leaves, Tells, as_holder, holder_in};
 ghost use Rattle.fr_store.specs.declared.fault.StoreFault.TheVariants.{Unavailable};
 
 use crate::fault::StoreFault;
-use crate::kept::Kept;
 use crate::slot_holder::Holder;
 use crate::store::Store;
 use crate::{page, reading};
 use fr_base::{Channel, Name, Slot};
-use fr_world::{Page, VariantRow};
+use fr_world::{KeptImport, Page, VariantRow};
 use sqlite::Alter;
 use std::alloc::Global;
 
@@ -83,8 +83,8 @@ impl<S: Alter> Store<S> {
         alloc: Global,
         supplier: &Name,
         label: &Name,
-    ) -> Result<Option<Kept>, StoreFault>
-        ensures import { Tells (state S.Store self.old.conn) (state S.Store self.new.conn) result (λ c b found. option_map as_kept found ≡ get b.imports (supplier.now, label.now)) }
+    ) -> Result<Option<KeptImport>, StoreFault>
+        ensures import { Tells (state S.Store self.old.conn) (state S.Store self.new.conn) result (λ c b found. option_map kept_of found ≡ get b.imports (supplier.now, label.now)) }
         ensures config { self.new.config ≡ self.old.config }
         ensures refused { IfErr result (λ fault. fault ≡ Unavailable) }
         ensures stays { Leaves (state S.Store self.old.conn) (state S.Store self.new.conn) }
@@ -94,7 +94,7 @@ impl<S: Alter> Store<S> {
     }
 
     /// How many imports of the supplier are kept. The only refusal is `Unavailable`.
-    pub fn imports(&mut self, supplier: &Name) -> Result<u32, StoreFault>
+    pub fn imports(&mut self, supplier: &Name) -> Result<usize, StoreFault>
         ensures imports { Tells (state S.Store self.old.conn) (state S.Store self.new.conn) result (λ c b count. count ≡ len (own supplier.now b.imports)) }
         ensures config { self.new.config ≡ self.old.config }
         ensures refused { IfErr result (λ fault. fault ≡ Unavailable) }

@@ -5,18 +5,18 @@ ghost use Rattle.sqlite.specs.Held.{state};
 ghost use Rattle.fr_base.specs.Book.{own};
 ghost use Rattle.fr_base.specs.Tables.{get, len};
 ghost use Rattle.fr_world.specs.BookEdits.{variants_in};
+ghost use Rattle.fr_world.specs.ImportLabels.{kept_of};
 ghost use Rattle.fr_world.specs.Pages.{nodes_in};
 ghost use Rattle.fr_store.specs.Changes.{Spares};
-ghost use Rattle.fr_store.specs.Reading.{Leaves, Tells, as_holder, as_kept, holder_in, holder_shown, import_shown, name_shown, variant_shown};
+ghost use Rattle.fr_store.specs.Reading.{Leaves, Tells, as_holder, holder_in, holder_shown, import_shown, name_shown, variant_shown};
 ghost use Rattle.fr_store.specs.declared.fault.StoreFault.TheVariants.{Unavailable};
 
 use crate::fault::StoreFault;
-use crate::kept::Kept;
 use crate::slot_holder::Holder;
 use crate::tables;
 use crate::values::{body_at, flag_at, maybe_name_at, name_at, number_at};
 use fr_base::{Channel, Name, Slot};
-use fr_world::VariantRow;
+use fr_world::{KeptImport, VariantRow};
 use sqlite::{Alter, Connection, Row};
 use std::alloc::Global;
 
@@ -125,8 +125,8 @@ pub fn import<S: Alter>(
     conn: &mut Connection<S>,
     supplier: &Name,
     label: &Name,
-) -> Result<Option<Kept>, StoreFault>
-    ensures import { Tells (state S.Store conn.old) (state S.Store conn.new) result (λ c b found. option_map as_kept found ≡ get b.imports (supplier.now, label.now)) }
+) -> Result<Option<KeptImport>, StoreFault>
+    ensures import { Tells (state S.Store conn.old) (state S.Store conn.new) result (λ c b found. option_map kept_of found ≡ get b.imports (supplier.now, label.now)) }
     ensures refused { IfErr result (λ fault. fault ≡ Unavailable) }
     ensures stays { Leaves (state S.Store conn.old) (state S.Store conn.new) }
     ensures spares { Spares (state S.Store conn.old) (state S.Store conn.new) }
@@ -138,19 +138,19 @@ pub fn import<S: Alter>(
 }
 
 // The import in the first row, if there is one. None where it has not its form, or memory is refused.
-fn first_import(alloc: Global, rows: &[Row]) -> Option<Option<Kept>>
-    ensures { IfSome result (λ found. option_map as_kept found ≡ option_map import_shown (slice_get rows.now 0)) }
+fn first_import(alloc: Global, rows: &[Row]) -> Option<Option<KeptImport>>
+    ensures { IfSome result (λ found. option_map kept_of found ≡ option_map import_shown (slice_get rows.now 0)) }
 {
     match rows.first() {
-        Some(row) => Some(Some(kept_of(alloc, row)?)),
+        Some(row) => Some(Some(import_of(alloc, row)?)),
         None => Some(None),
     }
 }
 
-fn kept_of(alloc: Global, row: &Row) -> Option<Kept>
-    ensures { IfSome result (λ found. as_kept found ≡ import_shown row.now) }
+fn import_of(alloc: Global, row: &Row) -> Option<KeptImport>
+    ensures { IfSome result (λ found. kept_of found ≡ import_shown row.now) }
 {
-    Some(Kept {
+    Some(KeptImport {
         variant: name_at(row, 0)?,
         body: body_at(alloc, row, 1)?,
         rows: number_at(row, 2)?,
@@ -158,7 +158,7 @@ fn kept_of(alloc: Global, row: &Row) -> Option<Kept>
 }
 
 /// How many imports of the supplier are kept. The only refusal is `Unavailable`.
-pub fn imports<S: Alter>(conn: &mut Connection<S>, supplier: &Name) -> Result<u32, StoreFault>
+pub fn imports<S: Alter>(conn: &mut Connection<S>, supplier: &Name) -> Result<usize, StoreFault>
     ensures imports { Tells (state S.Store conn.old) (state S.Store conn.new) result (λ c b count. count ≡ len (own supplier.now b.imports)) }
     ensures refused { IfErr result (λ fault. fault ≡ Unavailable) }
     ensures stays { Leaves (state S.Store conn.old) (state S.Store conn.new) }
@@ -167,8 +167,5 @@ pub fn imports<S: Alter>(conn: &mut Connection<S>, supplier: &Name) -> Result<u3
     let Ok(rows) = tables::imports::labels(conn, supplier) else {
         return Err(StoreFault::Unavailable);
     };
-    match u32::try_from(rows.len()) {
-        Ok(count) => Ok(count),
-        Err(_) => Err(StoreFault::Unavailable),
-    }
+    Ok(rows.len())
 }

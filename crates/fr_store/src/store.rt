@@ -1,6 +1,9 @@
 //! A register whose rows are kept by SQL.
 
-ghost use Rattle.std.specs.Prelude.{◌≡◌};
+ghost use Rattle.std.specs.Prelude.{◌≡◌, IsTrue, false};
+ghost use Rattle.sqlite.specs.Held.{state};
+ghost use Rattle.sqlite.specs.State.{HasCleanDisk, IsUnchanged, Survives};
+ghost use Rattle.fr_store.specs.Changes.{Stays};
 
 use fr_base::Config;
 use sqlite::{Alter, Connection};
@@ -32,5 +35,17 @@ impl<S: Alter> Store<S> {
         ensures { result.now ≡ self.now.config }
     {
         &self.config
+    }
+
+    /// Whether the register can be asked: its connection is open, and memory serves. A fault of the disk
+    /// may have shut the connection, and then nothing is known of what the disk has.
+    pub fn is_ready(&mut self) -> bool
+        ensures open { HasCleanDisk (state S.Store self.new.conn) → IsTrue result → IsUnchanged (state S.Store self.old.conn) (state S.Store self.new.conn) }
+        ensures stays { HasCleanDisk (state S.Store self.new.conn) → Stays (state S.Store self.old.conn) (state S.Store self.new.conn) }
+        ensures config { self.new.config ≡ self.old.config }
+        ensures outside { self.old.conn.in_transaction ≡ false → self.new.conn.in_transaction ≡ false }
+        ensures survives { Survives (state S.Store self.old.conn) (state S.Store self.new.conn) (λ _. ⊥) }
+    {
+        self.conn.prepare("SELECT schema FROM register").is_ok()
     }
 }

@@ -6,3 +6,6 @@ returns-in-Ok-create_on-clause-made c = c.in-Ok-create_on.ensures.made (memory_i
 
 pub returns-in-Ok-create_on-clause-stands : goal.returns-in-Ok-create_on-clause-stands
 returns-in-Ok-create_on-clause-stands c = c.in-Ok-create_on.ensures.stands (memory_is_clean c.in-Ok-create_on.store.conn)
+
+pub returns-in-Ok-create_on-clause-committed : goal.returns-in-Ok-create_on-clause-committed
+returns-in-Ok-create_on-clause-committed c = c.in-Ok-create_on.ensures.committed (memory_is_clean c.in-Ok-create_on.store.conn)

@@ -1,0 +1,7 @@
+use Rattle.sqlite.specs.Held.{state}
+use Rattle.fr_store.proofs.ReadyLemmas.{prepared}
+use Rattle.fr_store.proofs.store.Store.is_ready.Goals as goal
+
+pub returns-clause-stays : goal.returns-clause-stays
+returns-clause-stays g c clean =
+    prepared _ (state g.S.Store c.args.self.now.conn) (state g.S.Store c.prepare.new.self) _ c.prepare.result (c.prepare.ensures.ok clean) (c.prepare.ensures.err clean)
