@@ -2,7 +2,7 @@
 use Rattle.std.proofs.Common.{◌≡◌, ◌==◌, ◌<◌, arith, Bool, true, false, cond, Option, Some, None, is_some, Result, Ok, Err, List, [], ◌∷◌, length, map, filter, refl, sym, ap, subst, ◌∙◌, inl, inr}
 use Rattle.std.specs.List.{flat_map}
 use Rattle.std.proofs.lemmas.Bool.{ne_eqb}
-use Rattle.fr_base.specs.Book.{Book, Frame, Sender, Variant, own, is_of, placements_of}
+use Rattle.fr_base.specs.Book.{Book, Frame, Variant, own, is_of, placements_of}
 use Rattle.fr_base.specs.Cells.{cluster_cells}
 use Rattle.fr_base.specs.Cluster.{Cluster}
 use Rattle.fr_base.specs.Names.{same_text}
@@ -20,7 +20,6 @@ use Rattle.fr_base.specs.declared.answer.GapRow.{GapRow}
 use Rattle.fr_base.specs.declared.answer.SignalRow.{SignalRow}
 use Rattle.fr_base.specs.declared.name.Name.{Name}
 use Rattle.fr_base.specs.declared.params.Params.{Params}
-use Rattle.fr_base.specs.declared.placement.Placement.{Placement}
 use Rattle.fr_base.specs.declared.refusal.Refusal.{Refusal}
 use Rattle.fr_base.specs.declared.refusal.Refusal.TheVariants.{NoFrame, NoVariant, Unavailable}
 use Rattle.fr_base.specs.declared.request.Query.{Query}
@@ -28,15 +27,13 @@ use Rattle.fr_base.specs.declared.request.Query.TheVariants.{Grants, Frames, Sch
 use Rattle.fr_base.proofs.SoundTables.{value_of}
 use Rattle.fr_office.specs.Carried.{Replies}
 use Rattle.fr_office.specs.Held.{Standing}
-use Rattle.fr_office.specs.Shared.{grants_held}
+use Rattle.fr_office.specs.Shared.{grants_among, placements_among}
 use Rattle.fr_office.specs.Shown.{AreSignals, Gathers, ShowsAll, frames_named}
-use Rattle.fr_office.specs.declared.queries.grants.Holder.{Holder}
-use Rattle.fr_office.proofs.GrantLaws.{grants-all, grants_among}
+use Rattle.fr_office.proofs.GrantLaws.{grants-all}
 use Rattle.fr_office.proofs.OwnReplies.{Said, reply-none, reply-there}
 use Rattle.fr_office.proofs.PageRows.{sendings-sent}
 use Rattle.fr_office.proofs.SplitLaws.{frames-split, flat-flat_map, map-flat_map, supplier_names}
-use Rattle.fr_world.specs.Sendings.{sent_in}
-use Rattle.fr_world.specs.declared.page.ChannelSlot.{ChannelSlot}
+use Rattle.fr_world.specs.Sendings.{filled_by, sent_in}
 use Rattle.fr_world.proofs.AmongLaws.{In}
 
 -- ---- frames of one name
@@ -77,17 +74,21 @@ same-flat f g xs same = ap (λ h. flat_map h xs) (λ i x. same x i)
 module _ (c : Cluster) (b : Book) (v : Name) (x : Variant) (sound : IsSound c b) (there : get b.variants v ≡ Some x) where
   frames-all : flat_map (λ s. frames_of (own s x.frames)) (supplier_names c) ≡ frames_of x.frames
   unfolding frames_of
-  frames-all = map-flat_map frame_row (λ s. (own s x.frames).rows) (supplier_names c) ∙ ap (map frame_row) (frames-split c b v x sound there x.frames (λ e i. i))
+  frames-all =
+      map-flat_map frame_row (λ s. (own s x.frames).rows) (supplier_names c)
+      ∙ ap (map frame_row) (frames-split c b v x sound there x.frames (λ e i. i))
 
   gaps-all : (p : Params) → flat_map (λ s. gaps_of p (own s x.frames)) (supplier_names c) ≡ gaps_of p x.frames
   unfolding gaps_of
-  gaps-all p = map-flat_map (gap_row p) (λ s. (own s x.frames).rows) (supplier_names c) ∙ ap (map (gap_row p)) (frames-split c b v x sound there x.frames (λ e i. i))
+  gaps-all p =
+      map-flat_map (gap_row p) (λ s. (own s x.frames).rows) (supplier_names c)
+      ∙ ap (map (gap_row p)) (frames-split c b v x sound there x.frames (λ e i. i))
 
-  placements-all : flat_map (λ s. placements_of (own s x.frames)) (supplier_names c) ≡ placements_of x.frames
+  placements-all : placements_among (supplier_names c) x ≡ placements_of x.frames
   unfolding placements_of
   placements-all =
-      flat-flat_map (λ row. map {B = Sender × Placement} (λ q. (record { supplier = row.0.0; frame = row.0.1; node = row.1.node }, q.0)) row.1.placements.rows) (λ s. (own s x.frames).rows) (supplier_names c)
-      ∙ ap (flat_map (λ row. map {B = Sender × Placement} (λ q. (record { supplier = row.0.0; frame = row.0.1; node = row.1.node }, q.0)) row.1.placements.rows)) (frames-split c b v x sound there x.frames (λ e i. i))
+      flat-flat_map (λ row. filled_by row.0 row.1) (λ s. (own s x.frames).rows) (supplier_names c)
+      ∙ ap (flat_map (λ row. filled_by row.0 row.1)) (frames-split c b v x sound there x.frames (λ e i. i))
 
   named-all : (f : Name) → frames_named f (supplier_names c) x ≡ (named f x.frames).rows
   unfolding named only
@@ -98,17 +99,18 @@ module _ (c : Cluster) (b : Book) (v : Name) (x : Variant) (sound : IsSound c b)
 -- ---- what is shown
 
 module _ (old new : Standing) (v : Name) (suppliers : List Name) (known : (c : Cluster) (b : Book) → old c b → suppliers ≡ supplier_names c) where
-  pub all-grants : (held : List (ChannelSlot × Holder)) (rows : List GrantRow) → rows ≡ grants_of (grants_held held) →
-      ((c : Cluster) (b : Book) → old c b → new c b × ((x : Variant) → get b.variants v ≡ Some x → grants_held held ≡ grants_among suppliers x.grants)) → ShowsAll old new (Grants v) (Ok (answer.Grants true rows))
+  pub all-grants : (rows : List GrantRow) →
+      Gathers old new (Ok rows) v (λ p x rows. rows ≡ grants_of (grants_among suppliers x.grants)) → ShowsAll old new (Grants v) (Ok (answer.Grants true rows))
   unfolding shown
-  all-grants held rows e gathers c b stood sound =
+  all-grants rows gathers c b stood sound =
       let told = gathers c b stood in (
         told.0,
         λ x there. ap (λ rs. Ok (answer.Grants true rs))
-            (sym (e ∙ ap grants_of (told.1 x there ∙ ap (λ ss. grants_among ss x.grants) (known c b stood) ∙ grants-all c b v x sound there))),
+            (sym (told.1 x there ∙ ap grants_of (ap (λ ss. grants_among ss x.grants) (known c b stood) ∙ grants-all c b v x sound there))),
       )
 
-  pub all-frames : (rows : List FrameRow) → Gathers old new (Ok rows) v (λ p x rows. rows ≡ flat_map (λ s. frames_of (own s x.frames)) suppliers) → ShowsAll old new (Frames v) (Ok (answer.Frames true rows))
+  pub all-frames : (rows : List FrameRow) →
+      Gathers old new (Ok rows) v (λ p x rows. rows ≡ flat_map (λ s. frames_of (own s x.frames)) suppliers) → ShowsAll old new (Frames v) (Ok (answer.Frames true rows))
   unfolding shown
   all-frames rows gathers c b stood sound =
       let told = gathers c b stood in (
@@ -117,7 +119,8 @@ module _ (old new : Standing) (v : Name) (suppliers : List Name) (known : (c : C
             (sym (told.1 x there ∙ ap (flat_map (λ s. frames_of (own s x.frames))) (known c b stood) ∙ frames-all c b v x sound there)),
       )
 
-  pub all-gaps : (rows : List GapRow) → Gathers old new (Ok rows) v (λ p x rows. rows ≡ flat_map (λ s. gaps_of p (own s x.frames)) suppliers) → ShowsAll old new (Gaps v) (Ok (answer.Gaps true rows))
+  pub all-gaps : (rows : List GapRow) →
+      Gathers old new (Ok rows) v (λ p x rows. rows ≡ flat_map (λ s. gaps_of p (own s x.frames)) suppliers) → ShowsAll old new (Gaps v) (Ok (answer.Gaps true rows))
   unfolding shown
   all-gaps rows gathers c b stood sound =
       let told = gathers c b stood in (
@@ -126,21 +129,22 @@ module _ (old new : Standing) (v : Name) (suppliers : List Name) (known : (c : C
             (sym (told.1 x there ∙ ap (flat_map (λ s. gaps_of c.params (own s x.frames))) (known c b stood) ∙ gaps-all c b v x sound there c.params)),
       )
 
-  pub all-schedule : (p : Params) (placed : List (Sender × Placement)) (rows : List Sending) → ((c : Cluster) (b : Book) → old c b → p ≡ c.params) → rows ≡ sent_in placed (cluster_cells p) →
-      ((c : Cluster) (b : Book) → old c b → new c b × ((x : Variant) → get b.variants v ≡ Some x → placed ≡ flat_map (λ s. placements_of (own s x.frames)) suppliers)) → ShowsAll old new (Schedule v) (Ok (answer.Schedule true rows))
+  pub all-schedule : (p : Params) (rows : List Sending) → ((c : Cluster) (b : Book) → old c b → p ≡ c.params) →
+      Gathers old new (Ok rows) v (λ _ x rows. rows ≡ sent_in (placements_among suppliers x) (cluster_cells p)) → ShowsAll old new (Schedule v) (Ok (answer.Schedule true rows))
   unfolding shown
-  all-schedule p placed rows of_p e gathers c b stood sound =
+  all-schedule p rows of_p gathers c b stood sound =
       let told = gathers c b stood in (
         told.0,
         λ x there. ap (λ rs. Ok (answer.Schedule true rs))
-            (sym (e ∙ ap (λ p. sent_in placed (cluster_cells p)) (of_p c b stood)
-            ∙ sendings-sent c.params x.frames placed (told.1 x there ∙ ap (flat_map (λ s. placements_of (own s x.frames))) (known c b stood) ∙ placements-all c b v x sound there))),
+            (sym (told.1 x there ∙ ap (λ p. sent_in (placements_among suppliers x) (cluster_cells p)) (of_p c b stood)
+            ∙ sendings-sent c.params x.frames (placements_among suppliers x) (ap (λ ss. placements_among ss x) (known c b stood) ∙ placements-all c b v x sound there))),
       )
 
   named-known : (f : Name) (c : Cluster) (b : Book) (x : Variant) → old c b → IsSound c b → get b.variants v ≡ Some x → frames_named f suppliers x ≡ (named f x.frames).rows
   named-known f c b x stood sound there = ap (λ ss. frames_named f ss x) (known c b stood) ∙ named-all c b v x sound there f
 
-  pub all-layout : (f : Name) (rows : List SignalRow) → Gathers old new (Ok (Some rows)) v (λ p x found. AreSignals f suppliers x found) → ShowsAll old new (Layout v f) (Ok (answer.Layout true rows))
+  pub all-layout : (f : Name) (rows : List SignalRow) →
+      Gathers old new (Ok (Some rows)) v (λ p x found. AreSignals f suppliers x found) → ShowsAll old new (Layout v f) (Ok (answer.Layout true rows))
   unfolding shown signals_of len ◌>>◌ refuse◌when◌
   all-layout f rows gathers c b stood sound =
       let told = gathers c b stood in (
@@ -152,7 +156,8 @@ module _ (old new : Standing) (v : Name) (suppliers : List Name) (known : (c : C
             ∙ ap (λ rs. Ok (answer.Layout true rs)) (sym ((told.1 x there).1 ∙ ap (flat_map signal_rows) all)),
       )
 
-  pub all-no_frame : (f : Name) → Gathers {X = Option (List SignalRow)} old new (Ok None) v (λ p x found. AreSignals f suppliers x found) → ShowsAll old new (Layout v f) (Err NoFrame)
+  pub all-no_frame : (f : Name) →
+      Gathers {X = Option (List SignalRow)} old new (Ok None) v (λ p x found. AreSignals f suppliers x found) → ShowsAll old new (Layout v f) (Err NoFrame)
   unfolding shown len ◌>>◌ refuse◌when◌
   all-no_frame f gathers c b stood sound =
       let told = gathers c b stood in (
@@ -183,7 +188,8 @@ module _ {X : Type 0} (old new : Standing) (query : Query) (says : Params → Va
 
 -- ---- the answer to the integrator
 
-module _ (old mid : Standing) (query : Query) (has : Bool) (told : (c : Cluster) (b : Book) → old c b → mid c b × (has ≡ contains b.variants (variant_asked query))) where
+module _ (old mid : Standing) (query : Query) (has : Bool)
+    (told : (c : Cluster) (b : Book) → old c b → mid c b × (has ≡ contains b.variants (variant_asked query))) where
   pub all-replied : (new : Standing) (r : Result Answer Refusal) → has ≡ true → ShowsAll mid new query r → Replies old new r (λ c b. reply c.params b Integrator query)
   all-replied new r is shows c b stood sound =
       let first = told c b stood in

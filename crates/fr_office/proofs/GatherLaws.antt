@@ -16,6 +16,12 @@ use Rattle.fr_base.specs.declared.params.Params.{Params}
 use Rattle.fr_base.specs.declared.refusal.Refusal.{Refusal}
 use Rattle.fr_base.specs.declared.refusal.Refusal.TheVariants.{Unavailable}
 use Rattle.fr_base.proofs.SoundTables.{same_some}
+use Rattle.fr_base.specs.Book.{Sender}
+use Rattle.fr_base.specs.Cells.{cluster_cells}
+use Rattle.fr_base.specs.declared.answer.Sending.{Sending}
+use Rattle.fr_base.specs.declared.placement.Placement.{Placement}
+use Rattle.fr_world.specs.Sendings.{sent_in}
+use Rattle.fr_office.specs.Shared.{placements_among}
 use Rattle.fr_office.specs.Held.{Standing}
 use Rattle.fr_office.specs.Shown.{AreSignals, FindsPage, Gathers, frames_named}
 use Rattle.fr_office.proofs.SplitLaws.{flat-flat_map}
@@ -85,6 +91,14 @@ module _ {X : Type 0} (old mid : Standing) (v : Name) (before : Params → Varia
   gather-lacks new s page r is finds c b stood =
       let found = finds c b (so c b stood).0 in
       (found.0, rw is (inl refl))
+
+-- ---- what placements send
+
+pub sent-gathered : (old new : Standing) (v : Name) (ss : List Name) (p : Params) (placed : List (Sender × Placement)) (rows : List Sending) → rows ≡ sent_in placed (cluster_cells p) →
+    IsSoFar old new v (λ _ x. placed ≡ placements_among ss x) → Gathers old new (Ok rows) v (λ _ x rows. rows ≡ sent_in (placements_among ss x) (cluster_cells p))
+sent-gathered old new v ss p placed rows e so c b stood =
+    let told = so c b stood in
+    (told.0, λ x there. e ∙ ap (λ filled. sent_in filled (cluster_cells p)) (told.1 x there))
 
 -- ---- frames of one name
 

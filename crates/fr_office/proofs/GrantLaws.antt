@@ -3,6 +3,7 @@ use Rattle.std.proofs.Common.{◌≡◌, ℕ, ◌≤◌, Bool, true, false, cond
 use Rattle.std.specs.Prelude.{T}
 use Rattle.std.specs.BTreeMap.{insert_entry}
 use Rattle.std.specs.FinMap.Entries.{find, is_sorted}
+use Rattle.std.proofs.lemmas.List.Concat.{flat_map_single}
 use Rattle.std.specs.List.{flat_map, list_any}
 use Rattle.std.specs.List.Sorted.{IsStrictlySortedBy}
 use Rattle.std.specs.Map.{keys_of}
@@ -18,7 +19,7 @@ use Rattle.fr_base.specs.Queries.{grant_row, grants_of}
 use Rattle.fr_base.specs.Sound.{IsSound}
 use Rattle.fr_base.specs.Step.{own_rows}
 use Rattle.fr_base.specs.TableRows.{first, second}
-use Rattle.fr_base.specs.Tables.{Order, Table, from_rows, get, insert, only}
+use Rattle.fr_base.specs.Tables.{Order, Table, from_rows, get, insert}
 use Rattle.fr_base.specs.declared.answer.GrantRow.{GrantRow}
 use Rattle.fr_base.specs.declared.channel.Channel.{Channel}
 use Rattle.fr_base.specs.declared.name.Name.{Name}
@@ -26,12 +27,12 @@ use Rattle.fr_base.specs.declared.params.Params.{Params}
 use Rattle.fr_base.proofs.AloneCells.{same_text-itself}
 use Rattle.fr_base.proofs.TableLaws.{equal, get-empty, get-insert, get-only, kept, none_above, same_table}
 use Rattle.fr_office.specs.Held.{Standing}
-use Rattle.fr_office.specs.Shared.{grants_held, holder_of, with_rows}
-use Rattle.fr_office.specs.Shown.{FindsPage}
+use Rattle.fr_office.specs.Shared.{grants_among, grants_held, holder_of, with_rows}
+use Rattle.fr_office.specs.Shown.{FindsPage, Gathers}
 use Rattle.fr_office.specs.declared.queries.grants.Holder.{Holder}
 use Rattle.fr_office.proofs.GatherLaws.{IsSoFar, page-rows}
 use Rattle.fr_office.proofs.PageRows.{grant_entry}
-use Rattle.fr_office.proofs.ShownLaws.{flat-map, map-flat}
+use Rattle.fr_office.proofs.ShownLaws.{flat-map}
 use Rattle.fr_office.proofs.SplitLaws.{listed, names-rows, supplier_names}
 use Rattle.fr_world.specs.Maps.{table_of}
 use Rattle.fr_world.specs.Pages.{PageData, own_rows_of}
@@ -52,7 +53,7 @@ pub held-rows : (es : List (ChannelSlot × Holder)) → IsStrictlySortedBy slot_
 unfolding grants_of
 held-rows es h =
     sym (flat-map (λ e. grant_row e ∷ []) held_entry es)
-    ∙ sym (map-flat grant_row (map held_entry es))
+    ∙ (flat_map_single grant_row (map held_entry es))
     ∙ ap (map grant_row) (sym (rows-table_of slot_cmp channel_slots (λ k. (k.slot, k.channel)) holder_of slots_alike es h))
 
 -- ---- a page's grants are added
@@ -96,10 +97,6 @@ module _ {K V : Type 0} (o : Order K) where
       ]
 
 -- ---- the grants of some suppliers
-
--- the grants that one of these suppliers holds
-abbrev pub grants_among : List Name → Table channel_slots book.Holder → Table channel_slots book.Holder
-grants_among ss grants = only (λ _ h. list_any (same_text h.supplier) ss) grants
 
 any-more : (n s : Name) (ss : List Name) → list_any (same_text n) (ss ++ s ∷ []) ≡ (list_any (same_text n) ss || same_text n s)
 any-more n s [] = or_false (same_text n s)
@@ -151,7 +148,8 @@ module _ (old : Standing) (v : Name) where
         ap grants_held e ∙ same_table _ _ (λ k. get-empty channel_slots k ∙ none-among k (get x.grants k) ∙ sym (get-only channel_slots (λ _ h. list_any (same_text h.supplier) []) x.grants k)),
   )
 
-  pub held-more : (mid new : Standing) (s : Name) (before after : List Name) (page : PageData) (es fs : List (ChannelSlot × Holder)) → HoldsSoFar old mid v before es → FindsPage mid new (Ok page) s v →
+  pub held-more : (mid new : Standing) (s : Name) (before after : List Name) (page : PageData) (es fs : List (ChannelSlot × Holder)) →
+      HoldsSoFar old mid v before es → FindsPage mid new (Ok page) s v →
       grants_held fs ≡ with_rows (grants_held es) (own_rows_of page).grants.rows → after ≡ before ++ s ∷ [] → HoldsSoFar old new v after fs
   unfolding own_rows
   held-more mid new s before after page es fs so finds e more =
@@ -185,3 +183,11 @@ grants-all c b v x sound there = same_table _ _ (λ k. get-only channel_slots (�
         let nodes = (sound.variants v x there).1.grant_nodes k h e in
         let among = subst (In h.supplier) (names-rows c b v x sound there) (listed c b v x sound there h.supplier (sound.nodes h.supplier h.node nodes).1) in
         ap (λ t. cond t (Some h) None) (In-any h.supplier (supplier_names c) among)
+
+-- the rows of what is held
+pub held-shown : (old new : Standing) (v : Name) (ss : List Name) (es : List (ChannelSlot × Holder)) (rows : List GrantRow) →
+    rows ≡ grants_of (grants_held es) → HoldsSoFar old new v ss es →
+    Gathers old new (Ok rows) v (λ p x rows. rows ≡ grants_of (grants_among ss x.grants))
+held-shown old new v ss es rows e so c b stood =
+    let told = so c b stood in
+    (told.0, λ x there. e ∙ ap grants_of (told.1 x there))

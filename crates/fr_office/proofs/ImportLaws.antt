@@ -1,21 +1,19 @@
 -- What an import comes to, by its label, its supplier's page, the room for it and its rows.
-use Rattle.std.proofs.Common.{◌≡◌, ℕ, Bool, true, false, not, ◌&&◌, List, [], ◌∷◌, ◌++◌, length, Option, Some, None, Result, Ok, Err, refl, sym, ap, subst, ◌∙◌, ◌⊎◌, inl, inr}
+use Rattle.std.proofs.Common.{◌≡◌, ℕ, true, false, not, ◌&&◌, List, [], ◌∷◌, ◌++◌, length, Option, Some, None, Result, Ok, Err, refl, sym, ap, subst, ◌∙◌, inl, inr}
 use Rattle.std.specs.Prelude.{⊤, option_map}
 use Rattle.fr_base.specs.Refusing.{◌>>=◌, ◌>>◌, ◌or◌, refuse◌when◌}
 use Rattle.fr_base.specs.Tables.{get, contains, len}
 use Rattle.fr_base.specs.Cluster.{Cluster}
-use Rattle.fr_base.specs.Book.{Kept, Variant, Book, own}
+use Rattle.fr_base.specs.Book.{Kept, Book, own}
 use Rattle.fr_base.specs.ImportRows.{rows_of_body}
 use Rattle.fr_base.specs.Names.{same_text}
 use Rattle.fr_base.specs.Sound.{IsSound}
-use Rattle.fr_base.specs.Step.{Outcome, RefusedAt, import, imported}
+use Rattle.fr_base.specs.Step.{Outcome, import, imported}
 use Rattle.fr_base.specs.declared.answer.Answer.{Answer}
 use Rattle.fr_base.specs.declared.answer.Answer.TheVariants.{Imported, RefusedRow}
-use Rattle.fr_base.specs.declared.name.Name.{Name}
 use Rattle.fr_base.specs.declared.import.RowRead.{RowRead}
-use Rattle.fr_base.specs.declared.params.Params.{Params}
 use Rattle.fr_base.specs.declared.refusal.Refusal.{Refusal}
-use Rattle.fr_base.specs.declared.refusal.Refusal.TheVariants.{NoVariant, Released, NoSupplier, LabelUsed, Unavailable}
+use Rattle.fr_base.specs.declared.refusal.Refusal.TheVariants.{NoVariant, Released, NoSupplier, LabelUsed}
 use Rattle.fr_base.specs.declared.request.Import.{Import}
 use Rattle.fr_world.specs.BookEdits.{applied, all_applied}
 use Rattle.fr_world.specs.Fits.{AllFit}
@@ -29,7 +27,7 @@ use Rattle.fr_world.proofs.BookFits.{import-fits}
 use Rattle.fr_world.proofs.ImportRoom.{new-import-decides}
 use Rattle.fr_world.proofs.LabelLaws.{label-decides}
 use Rattle.fr_world.proofs.RowsDecide.{applied-more, rows-checked}
-use Rattle.fr_office.specs.Carried.{Replies, IsRefused}
+use Rattle.fr_office.specs.Carried.{Replies}
 use Rattle.fr_office.specs.Decided.{open_page}
 use Rattle.fr_office.specs.Held.{Standing, Applies, Tells}
 use Rattle.fr_office.specs.Imports.{GivesImport, GivesRows, rows_outcome}

@@ -17,3 +17,4 @@ pub mod GatherLaws
 pub mod VariantLaws
 pub mod GrantLaws
 pub mod AllReplies
+pub mod StoredLaws

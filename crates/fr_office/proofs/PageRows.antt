@@ -1,5 +1,6 @@
 -- What queries show of a page's rows.
 use Rattle.std.proofs.Common.{◌≡◌, ℕ, All, List, [], ◌∷◌, map, refl, sym, ap, subst, ◌∙◌}
+use Rattle.std.proofs.lemmas.List.Concat.{flat_map_single}
 use Rattle.std.specs.List.{flat_map}
 use Rattle.std.specs.List.Sorted.{IsStrictlySortedBy}
 use Rattle.std.specs.Map.{keys_of}
@@ -21,7 +22,7 @@ use Rattle.fr_world.proofs.AmongLaws.{In, In-map}
 use Rattle.fr_world.proofs.ApartLaws.{In-All, In-find}
 use Rattle.fr_world.proofs.KeyLaws.{name_cmp, own_alike, frames_rise, slot_cmp, slots_alike}
 use Rattle.fr_world.proofs.MapLaws.{rows-table_of}
-use Rattle.fr_office.proofs.ShownLaws.{map-flat, flat-map}
+use Rattle.fr_office.proofs.ShownLaws.{flat-map}
 
 -- ---- frames
 
@@ -52,11 +53,11 @@ module _ (page : PageData) (es : List (Name × PageFrame)) (e : frames_data es �
 
   pub frames-page : frames_shown (λ e. frame_row e ∷ []) page.supplier es ≡ frames_of (own_rows_of page).frames
   unfolding frames_of
-  frames-page = shown-page (λ e. frame_row e ∷ []) ∙ sym (map-flat frame_row (own_rows_of page).frames.rows)
+  frames-page = shown-page (λ e. frame_row e ∷ []) ∙ (flat_map_single frame_row (own_rows_of page).frames.rows)
 
   pub gaps-page : (p : Params) → frames_shown (λ e. gap_row p e ∷ []) page.supplier es ≡ gaps_of p (own_rows_of page).frames
   unfolding gaps_of
-  gaps-page p = shown-page (λ e. gap_row p e ∷ []) ∙ sym (map-flat (gap_row p) (own_rows_of page).frames.rows)
+  gaps-page p = shown-page (λ e. gap_row p e ∷ []) ∙ (flat_map_single (gap_row p) (own_rows_of page).frames.rows)
 
   pub placements-page : frames_shown (λ e. filled_by e.0 e.1) page.supplier es ≡ book.placements_of (own_rows_of page).frames
   unfolding book.placements_of
@@ -88,6 +89,6 @@ pub grants-page : (page : PageData) (es : List (ChannelSlot × Name)) → es ≡
 unfolding grants_of
 grants-page page es e h =
     sym (flat-map (λ e. grant_row e ∷ []) (grant_entry page.supplier) es)
-    ∙ sym (map-flat grant_row (map (grant_entry page.supplier) es))
+    ∙ (flat_map_single grant_row (map (grant_entry page.supplier) es))
     ∙ ap (map grant_row) (sym (rows-table_of slot_cmp channel_slots (λ k. (k.slot, k.channel)) (holder_of page.supplier) slots_alike es h))
     ∙ ap (λ gs. grants_of (own_rows_of (record page { grants = gs })).grants) e

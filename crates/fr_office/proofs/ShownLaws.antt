@@ -2,11 +2,7 @@
 use Rattle.std.proofs.Common.{◌≡◌, List, [], ◌∷◌, ◌++◌, map, refl, sym, ap, ◌∙◌, append_assoc, append-nil}
 use Rattle.std.specs.List.{flat_map}
 
--- one row each
-pub map-flat : {A R : Type 0} (g : A → R) (xs : List A) → map g xs ≡ flat_map (λ x. g x ∷ []) xs
-map-flat g [] = refl
-map-flat g (x ∷ xs) = ap (λ rs. g x ∷ rs) (map-flat g xs)
-
+-- what is made of what is made of each
 pub flat-map : {A B R : Type 0} (f : B → List R) (g : A → B) (xs : List A) → flat_map f (map g xs) ≡ flat_map (λ x. f (g x)) xs
 flat-map f g [] = refl
 flat-map f g (x ∷ xs) = ap (λ rest. f (g x) ++ rest) (flat-map f g xs)

@@ -22,6 +22,7 @@ use Rattle.fr_base.proofs.ActorsLemmas.{supplier_rows}
 use Rattle.fr_base.proofs.SoundRows.{same_text-is}
 use Rattle.fr_base.proofs.AloneCells.{same_text-itself}
 use Rattle.fr_base.proofs.SoundTables.{value_of}
+use Rattle.fr_office.proofs.ShownLaws.{flat-map}
 use Rattle.fr_world.proofs.AmongLaws.{In, In-map}
 use Rattle.fr_world.proofs.ApartLaws.{In-find, find-In}
 
@@ -83,7 +84,8 @@ module _ {V : Type 0} where
       ++ passed e es s ts is (second _ _ above) i)
 
   -- one row more, the first
-  one_more : (e : (Name × Name) × V) (es : List ((Name × Name) × V)) (ss : List (Name × Key)) → T (below_all owned.compare e.0 es) → T (is_sorted names.compare ss) → In e.0.0 (map (λ t. t.0) ss) →
+  one_more : (e : (Name × Name) × V) (es : List ((Name × Name) × V)) (ss : List (Name × Key)) →
+      T (below_all owned.compare e.0 es) → T (is_sorted names.compare ss) → In e.0.0 (map (λ t. t.0) ss) →
       flat_map (λ t. rows_of t.0 (e ∷ es)) ss ≡ e ∷ flat_map (λ t. rows_of t.0 es) ss
   one_more e es [] below rise i = absurd i
   one_more e es (s ∷ ss) below rise i = elim (cases_Bool (same_text e.0.0 s.0)) [
@@ -107,7 +109,8 @@ module _ {V : Type 0} where
   nothing (s ∷ ss) = nothing ss
 
   -- rows in order, whose suppliers are among these
-  split : (es : List ((Name × Name) × V)) (ss : List (Name × Key)) → T (is_sorted owned.compare es) → T (is_sorted names.compare ss) → ((e : (Name × Name) × V) → In e es → In e.0.0 (map (λ t. t.0) ss)) →
+  split : (es : List ((Name × Name) × V)) (ss : List (Name × Key)) →
+      T (is_sorted owned.compare es) → T (is_sorted names.compare ss) → ((e : (Name × Name) × V) → In e es → In e.0.0 (map (λ t. t.0) ss)) →
       flat_map (λ t. rows_of t.0 es) ss ≡ es
   split [] ss sorted rise known = nothing ss
   split (e ∷ es) ss sorted rise known =
@@ -123,10 +126,6 @@ map-flat_map g h (x ∷ xs) = ap (λ rest. map g (h x) ++ rest) (map-flat_map g 
 pub flat-flat_map : {A B R : Type 0} (g : B → List R) (h : A → List B) (xs : List A) → flat_map (λ x. flat_map g (h x)) xs ≡ flat_map g (flat_map h xs)
 flat-flat_map g h [] = refl
 flat-flat_map g h (x ∷ xs) = ap (λ rest. flat_map g (h x) ++ rest) (flat-flat_map g h xs) ∙ sym (flat_map-append g (h x) (flat_map h xs))
-
-pub flat-of-map : {A B R : Type 0} (f : B → List R) (g : A → B) (xs : List A) → flat_map f (map g xs) ≡ flat_map (λ x. f (g x)) xs
-flat-of-map f g [] = refl
-flat-of-map f g (x ∷ xs) = ap (λ rest. f (g x) ++ rest) (flat-of-map f g xs)
 
 -- ---- in a sound book
 
@@ -160,5 +159,5 @@ module _ (c : Cluster) (b : Book) (v : Name) (x : Variant) (sound : IsSound c b)
   unfolding only
   frames-split t among =
       ap (flat_map (λ s. (own s t).rows)) (sym names-rows)
-      ∙ flat-of-map (λ s. (own s t).rows) (λ (e : Name × Key). e.0) (suppliers_of c).rows
+      ∙ flat-map (λ s. (own s t).rows) (λ (e : Name × Key). e.0) (suppliers_of c).rows
       ∙ split t.rows (suppliers_of c).rows t.sorted (suppliers_of c).sorted (λ e i. known-frames e (among e i))

@@ -1,5 +1,5 @@
 -- What the office makes of a request.
-use Rattle.std.specs.Prelude.{◌≡◌, Bool, true, List, [], ◌∷◌, Result, Ok, Err, IsTrue, MatchResult, ⊤}
+use Rattle.std.specs.Prelude.{◌≡◌, Bool, true, [], ◌∷◌, Result, Ok, Err, IsTrue, MatchResult, ⊤}
 use Rattle.fr_base.specs.Book.{Book, suppliers_of}
 use Rattle.fr_base.specs.Cluster.{Cluster}
 use Rattle.fr_base.specs.Run.{IsRun}

@@ -1,5 +1,5 @@
 -- What the office makes of an import.
-use Rattle.std.specs.Prelude.{◌≡◌, List, length, Result, Ok, None, IsTrue, MatchResult}
+use Rattle.std.specs.Prelude.{◌≡◌, length, Result, Ok, None, IsTrue, MatchResult}
 use Rattle.fr_base.specs.Book.{Book}
 use Rattle.fr_base.specs.Cluster.{Cluster}
 use Rattle.fr_base.specs.ImportRows.{rows_of_body}

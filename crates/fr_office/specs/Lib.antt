@@ -7,3 +7,4 @@ pub mod Imports
 pub mod KeptPages
 pub mod Shared
 pub mod Shown
+pub mod Stored

@@ -5,6 +5,8 @@
 mod answering;
 mod commands;
 mod desk;
+#[cfg(test)]
+mod fixture;
 mod imports;
 mod office;
 mod open_page;
@@ -12,6 +14,7 @@ mod pages;
 mod queries;
 mod records;
 mod running;
+mod store_records;
 mod suppliers;
 
 pub use desk::Desk;

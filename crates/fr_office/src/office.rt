@@ -19,6 +19,13 @@ pub struct Office<R: Records> {
     records: R,
 }
 
+// It is written out, so that a caller does not prove again how the records are dropped.
+impl<R: Records + Drop> Drop for Office<R> {
+    fn drop(self) {
+        let Office { records: _ } = self;
+    }
+}
+
 impl<R: Records> Desk for Office<R> {
     ghost stands = { λ office c b. R.stands office.records c b };
 
@@ -79,3 +86,6 @@ impl<R: Records> Office<R> {
         run(alloc, self, asks)
     }
 }
+
+#[cfg(test)]
+mod tests;

@@ -15,14 +15,14 @@ mod variants;
 
 use crate::queries::frames::{gather_frames, push_frames};
 use crate::queries::gaps::{gather_gaps, push_gaps};
-use crate::queries::grants::{gather_grants, grant_rows, page_grants};
+use crate::queries::grants::{gather_grants, page_grants};
 use crate::queries::layout::{gather_signals, push_signals};
-use crate::queries::schedule::{gather_placements, page_schedule};
+use crate::queries::schedule::{gather_schedule, page_schedule};
 use crate::queries::suppliers::supplier_names;
 use crate::queries::variants::has_variant;
 use crate::records::Records;
 use fr_base::{Actor, Answer, Name, Query, Refusal, Rows};
-use fr_world::{Page, schedule};
+use fr_world::Page;
 use std::alloc::Global;
 
 /// The answer to a query with checked values: to a supplier of its own rows, to the integrator of those
@@ -69,8 +69,7 @@ fn show_all<R: Records>(alloc: Global, records: &mut R, query: &Query) -> Result
     let variant = variant_asked(query);
     match query {
         Query::Grants { .. } => {
-            let held = gather_grants(alloc, records, &suppliers, variant)?;
-            let rows = grant_rows(alloc, &held)?;
+            let rows = gather_grants(alloc, records, &suppliers, variant)?;
             Ok(Answer::Grants { all: true, rows })
         }
         Query::Frames { .. } => {
@@ -78,8 +77,7 @@ fn show_all<R: Records>(alloc: Global, records: &mut R, query: &Query) -> Result
             Ok(Answer::Frames { all: true, rows })
         }
         Query::Schedule { .. } => {
-            let placed = gather_placements(alloc, records, &suppliers, variant)?;
-            let rows = schedule(alloc, &params, &placed)?;
+            let rows = gather_schedule(alloc, records, &params, &suppliers, variant)?;
             Ok(Answer::Schedule { all: true, rows })
         }
         Query::Gaps { .. } => {

@@ -1,10 +1,7 @@
 //! The grants that a query shows.
 ghost use Rattle.std.specs.Prelude.{◌≡◌, IfOk, OnOk};
-ghost use Rattle.std.specs.List.{list_any};
-ghost use Rattle.fr_base.specs.Names.{same_text};
 ghost use Rattle.fr_base.specs.Queries.{grants_of};
-ghost use Rattle.fr_base.specs.Tables.{only};
-ghost use Rattle.fr_office.specs.Shared.{grants_held, with_rows};
+ghost use Rattle.fr_office.specs.Shared.{grants_among, grants_held, with_rows};
 ghost use Rattle.fr_office.specs.Shown.{Gathers};
 ghost use Rattle.fr_world.specs.Pages.{own_rows_of};
 
@@ -39,15 +36,29 @@ pub(crate) fn page_grants(alloc: Global, page: &Page) -> Result<Rows<GrantRow>, 
     Ok(rows)
 }
 
-/// Who of these suppliers holds which slot and channel in the variant.
+/// Who of these suppliers holds which slot and channel in the variant, by slot and channel.
 pub(crate) fn gather_grants<R: Records>(
+    alloc: Global,
+    records: &mut R,
+    suppliers: &[Name],
+    variant: Name,
+) -> Result<Rows<GrantRow>, Refusal>
+    ensures falls { R.clean records.new → R.clean records.old }
+    ensures gathers { R.clean records.new → Gathers (R.stands records.old) (R.stands records.new) result variant (λ p x rows. rows ≡ grants_of (grants_among suppliers.now x.grants)) }
+{
+    let held = gather_holders(alloc, records, suppliers, variant)?;
+    Ok(grant_rows(alloc, &held)?)
+}
+
+// The holders among these suppliers, by slot and channel.
+fn gather_holders<R: Records>(
     alloc: Global,
     records: &mut R,
     suppliers: &[Name],
     variant: Name,
 ) -> Result<BTreeMap<ChannelSlot, Holder>, Refusal>
     ensures falls { R.clean records.new → R.clean records.old }
-    ensures gathers { R.clean records.new → Gathers (R.stands records.old) (R.stands records.new) result variant (λ p x held. grants_held held.entries ≡ only (λ _ h. list_any (same_text h.supplier) suppliers.now) x.grants) }
+    ensures gathers { R.clean records.new → Gathers (R.stands records.old) (R.stands records.new) result variant (λ p x held. grants_held held.entries ≡ grants_among suppliers.now x.grants) }
 {
     let mut held = BTreeMap::new(alloc);
     for supplier in suppliers {
@@ -57,8 +68,8 @@ pub(crate) fn gather_grants<R: Records>(
     Ok(held)
 }
 
-/// The rows of these grants, by slot and channel.
-pub(crate) fn grant_rows(
+// The rows of these grants, by slot and channel.
+fn grant_rows(
     alloc: Global,
     held: &BTreeMap<ChannelSlot, Holder>,
 ) -> Result<Rows<GrantRow>, NoMemory>

@@ -1,15 +1,16 @@
 //! The schedule that a query shows.
 ghost use Rattle.std.specs.Prelude.{◌≡◌, ◌++◌, IfOk, OnOk};
-ghost use Rattle.std.specs.List.{flat_map};
-ghost use Rattle.fr_base.specs.Book.{own, placements_of};
+ghost use Rattle.fr_base.specs.Book.{placements_of};
+ghost use Rattle.fr_base.specs.Cells.{cluster_cells};
+ghost use Rattle.fr_office.specs.Shared.{placements_among};
 ghost use Rattle.fr_office.specs.Shown.{Gathers};
 ghost use Rattle.fr_base.specs.Queries.{sendings_of};
 ghost use Rattle.fr_world.specs.Pages.{own_rows_of};
-ghost use Rattle.fr_world.specs.Sendings.{filled};
+ghost use Rattle.fr_world.specs.Sendings.{filled, sent_in};
 
 use crate::queries::find_page;
 use crate::records::Records;
-use fr_base::{Name, NoMemory, Refusal, Rows, Sending};
+use fr_base::{Name, NoMemory, Params, Refusal, Rows, Sending};
 use fr_world::{FrameTriggering, Page, push_frame, schedule};
 use std::alloc::Global;
 
@@ -34,15 +35,31 @@ fn push_placements(page: &Page, placed: &mut Vec<FrameTriggering>) -> Result<(),
     Ok(())
 }
 
-/// The placements of these suppliers' frames in the variant, one supplier's after another's.
-pub(crate) fn gather_placements<R: Records>(
+/// Which of these suppliers' frames is sent in which cycle, slot and channel of the cluster in the
+/// variant: by cycle, slot and channel. Where several have a cell, the first one is sent.
+pub(crate) fn gather_schedule<R: Records>(
+    alloc: Global,
+    records: &mut R,
+    params: &Params,
+    suppliers: &[Name],
+    variant: Name,
+) -> Result<Rows<Sending>, Refusal>
+    ensures falls { R.clean records.new → R.clean records.old }
+    ensures gathers { R.clean records.new → Gathers (R.stands records.old) (R.stands records.new) result variant (λ p x rows. rows ≡ sent_in (placements_among suppliers.now x) (cluster_cells params.now)) }
+{
+    let placed = gather_placements(alloc, records, suppliers, variant)?;
+    Ok(schedule(alloc, params, &placed)?)
+}
+
+// The placements of these suppliers' frames, one supplier's after another's.
+fn gather_placements<R: Records>(
     alloc: Global,
     records: &mut R,
     suppliers: &[Name],
     variant: Name,
 ) -> Result<Vec<FrameTriggering>, Refusal>
     ensures falls { R.clean records.new → R.clean records.old }
-    ensures gathers { R.clean records.new → Gathers (R.stands records.old) (R.stands records.new) result variant (λ p x placed. filled placed.items ≡ flat_map (λ s. placements_of (own s x.frames)) suppliers.now) }
+    ensures gathers { R.clean records.new → Gathers (R.stands records.old) (R.stands records.new) result variant (λ p x placed. filled placed.items ≡ placements_among suppliers.now x) }
 {
     let mut placed = Vec::new(alloc);
     for supplier in suppliers {

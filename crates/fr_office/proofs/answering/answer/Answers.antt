@@ -1,5 +1,4 @@
 use Rattle.std.proofs.Common.{rules, Ok, Err}
-use Rattle.fr_office.specs.Answering.{Answers}
 use Rattle.fr_office.proofs.StepLaws.{acted, passed, unchecked, unknown}
 use Rattle.fr_office.proofs.answering.answer.Goals as goal
 

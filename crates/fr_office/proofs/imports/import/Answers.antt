@@ -1,4 +1,4 @@
-use Rattle.std.proofs.Common.{rules, ap}
+use Rattle.std.proofs.Common.{rules}
 use Rattle.fr_office.proofs.ImportLaws.{IsNew, count_lacked, label_again, label_free, label_stopped, no_room, page_stopped, refused_so, rows_given}
 use Rattle.fr_office.proofs.imports.import.Goals as goal
 

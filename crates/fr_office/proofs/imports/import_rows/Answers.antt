@@ -1,4 +1,4 @@
-use Rattle.std.proofs.Common.{rules, refl, subst}
+use Rattle.std.proofs.Common.{rules}
 use Rattle.fr_office.proofs.ImportLaws.{rows_refused, rows_kept, rows_lacked}
 use Rattle.fr_office.proofs.imports.import_rows.Goals as goal
 

@@ -9,8 +9,6 @@ use Rattle.fr_base.specs.declared.request.Query.TheVariants.{Grants, Frames, Sch
 use Rattle.fr_office.specs.Shown.{AreSignals, Gathers, ShowsAll}
 use Rattle.fr_office.proofs.AllReplies.{all-grants, all-frames, all-schedule, all-gaps, all-layout, all-no_frame}
 use Rattle.fr_office.proofs.SplitLaws.{supplier_names}
-use Rattle.fr_world.specs.Sendings.{filled, sent_in}
-use Rattle.fr_base.specs.Cells.{cluster_cells}
 use Rattle.fr_office.proofs.queries.show_all.Goals as goal
 
 pub returns-in-Grants-clause-shows : goal.returns-in-Grants-clause-shows
@@ -22,7 +20,7 @@ returns-in-Grants-clause-shows g c = λ now.
     let known : (k : Cluster) (b : Book) → old k b → c.deref.result.now ≡ supplier_names k =
     λ k b stood. c.deref.ensures.value ∙ c.in_ok-suppliers.ensures ∙ ap supplier_names (c.config-2.ensures.config k b stood) in
     subst (λ q. ShowsAll old (records.stands c.gather_grants.new.records) q (Ok (answer.Grants true c.in_ok-rows-in-Grants.rows))) (sym asked)
-    (all-grants old (records.stands c.gather_grants.new.records) v c.deref.result.now known c.in_ok-held-in-Grants.held.entries c.in_ok-rows-in-Grants.rows c.in_ok-rows-in-Grants.ensures (c.in_ok-held-in-Grants.ensures.gathers now))
+    (all-grants old (records.stands c.gather_grants.new.records) v c.deref.result.now known c.in_ok-rows-in-Grants.rows (c.in_ok-rows-in-Grants.ensures.gathers now))
 
 pub returns-in-Frames-clause-shows : goal.returns-in-Frames-clause-shows
 returns-in-Frames-clause-shows g c = λ now.
@@ -43,11 +41,10 @@ returns-in-Schedule-clause-shows g c = λ now.
     let asked : c.args.query.now ≡ Schedule v = c.in-Schedule.is ∙ ap Schedule (sym (c.variant_asked-variant.ensures ∙ ap variant_asked c.in-Schedule.is)) in
     let known : (k : Cluster) (b : Book) → old k b → c.deref-in-Schedule.result.now ≡ supplier_names k =
     λ k b stood. c.deref-in-Schedule.ensures.value ∙ c.in_ok-suppliers.ensures ∙ ap supplier_names (c.config-2.ensures.config k b stood) in
-    subst (λ q. ShowsAll old (records.stands c.gather_placements.new.records) q (Ok (answer.Schedule true c.in_ok-rows-in-Schedule.rows))) (sym asked)
-    (all-schedule old (records.stands c.gather_placements.new.records) v c.deref-in-Schedule.result.now known c.params-params.result (filled c.in_ok-placed-in-Schedule.placed.items) c.in_ok-rows-in-Schedule.rows
+    subst (λ q. ShowsAll old (records.stands c.gather_schedule.new.records) q (Ok (answer.Schedule true c.in_ok-rows-in-Schedule.rows))) (sym asked)
+    (all-schedule old (records.stands c.gather_schedule.new.records) v c.deref-in-Schedule.result.now known c.params-params.result c.in_ok-rows-in-Schedule.rows
     (λ k b stood. c.params-params.ensures.value ∙ ap (λ (k : Cluster). k.params) (c.config.ensures.config k b stood))
-    (c.in_ok-rows-in-Schedule.ensures ∙ ap (λ ps. sent_in (filled ps) (cluster_cells c.params-params.result)) c.deref-in-Schedule-2.ensures.value)
-    (c.in_ok-placed-in-Schedule.ensures.gathers now))
+    (c.in_ok-rows-in-Schedule.ensures.gathers now))
 
 pub returns-in-Gaps-clause-shows : goal.returns-in-Gaps-clause-shows
 returns-in-Gaps-clause-shows g c = λ now.

@@ -9,5 +9,6 @@ invariant-loop-supplier g l =
     let records = g.R.Records in
     record {
       falls : records.clean l.records → records.clean l.fn.records;
-      gathered : records.clean l.records → IsSoFar (records.stands l.fn.records) (records.stands l.records) l.variant (λ p x. l.rows ≡ each_own (λ p t. frames_of t) p x (take l.supplier-index l.suppliers));
+      gathered : records.clean l.records →
+          IsSoFar (records.stands l.fn.records) (records.stands l.records) l.variant (λ p x. l.rows ≡ each_own (λ p t. frames_of t) p x (take l.supplier-index l.suppliers));
     }

@@ -8,6 +8,8 @@ invariant-loop-supplier g l =
     let records = g.R.Records in
     record {
       falls : records.clean l.records → records.clean l.fn.records;
-      gathered : records.clean l.records → IsSoFar (records.stands l.fn.records) (records.stands l.records) l.variant (λ p x. l.rows ≡ each_own (signals_named l.name) p x (take l.supplier-index l.suppliers));
-      found : records.clean l.records → IsSoFar (records.stands l.fn.records) (records.stands l.records) l.variant (λ p x. IsFound l.name (take l.supplier-index l.suppliers) l.found x);
+      gathered : records.clean l.records →
+          IsSoFar (records.stands l.fn.records) (records.stands l.records) l.variant (λ p x. l.rows ≡ each_own (signals_named l.name) p x (take l.supplier-index l.suppliers));
+      found : records.clean l.records →
+          IsSoFar (records.stands l.fn.records) (records.stands l.records) l.variant (λ p x. IsFound l.name (take l.supplier-index l.suppliers) l.found x);
     }

@@ -1,6 +1,6 @@
 use Rattle.std.proofs.Common.{take}
 use Rattle.fr_office.proofs.GrantLaws.{HoldsSoFar}
-use Rattle.fr_office.proofs.queries.grants.gather_grants.Given as goal
+use Rattle.fr_office.proofs.queries.grants.gather_holders.Given as goal
 
 -- the grants of the suppliers so far
 abbrev pub invariant-loop-supplier : goal.invariant-loop-supplier

@@ -1,0 +1,54 @@
+-- What the records of a store are known to hold after a call.
+use Rattle.std.proofs.Common.{◌≡◌, ℕ, Option, Some, None, is_some, option_map, IsTrue, inl, inr, refl, sym, ap, subst, ◌∙◌, Ok, Err, Result, MatchResult, IfOk}
+use Rattle.sqlite.specs.State.{State, HasCleanDisk}
+use Rattle.fr_base.specs.Book.{Book, Variant}
+use Rattle.fr_base.specs.Cluster.{Cluster}
+use Rattle.fr_base.specs.Tables.{get}
+use Rattle.fr_base.specs.declared.channel.Channel.{Channel}
+use Rattle.fr_base.specs.declared.name.Name.{Name}
+use Rattle.fr_base.specs.declared.refusal.Refusal.{Refusal}
+use Rattle.fr_base.specs.declared.refusal.Refusal.TheVariants.{Unavailable}
+use Rattle.fr_store.specs.Changes.{Stays}
+use Rattle.fr_store.specs.Reading.{Leaves, as_holder, holder_in}
+use Rattle.fr_store.specs.declared.fault.StoreFault.{StoreFault}
+use Rattle.fr_store.specs.declared.slot_holder.Holder as store
+use Rattle.fr_store.proofs.ChainLemmas.{still_stands}
+use Rattle.fr_office.specs.Held.{held_in}
+use Rattle.fr_office.specs.Stored.{StandsStored}
+
+-- what the store tells is answered so
+abbrev pub Answers : {X : Type 0} → Result X StoreFault → Result X Refusal → Type 0
+Answers told r = MatchResult told (λ x. r ≡ Ok x) (λ _. r ≡ Err Unavailable)
+
+was_open : (old new : State) → Stays old new → IsTrue new.is_open → IsTrue old.is_open
+was_open old new (inl same) up = same.0.was_open
+was_open old new (inr back) up = back.was_open up
+
+module _ (old new : State) (kept found : Cluster) (same : found ≡ kept) (clean : HasCleanDisk new) (c : Cluster) (b : Book) (stored : StandsStored kept old c b) where
+  -- nothing is changed, or a transaction of which nothing was committed is undone
+  pub stays_stored : Stays old new → StandsStored found new c b
+  stays_stored stays = record {
+    config = same ∙ stored.config;
+    rows = λ up. let before = stored.rows (was_open old new stays up) in still_stands old new (λ _ _. stays) clean up before.1 c b before.0;
+  }
+
+  pub leaves_stored : IsTrue old.is_open → Leaves old new → StandsStored found new c b
+  leaves_stored ready leaves = stays_stored (leaves clean (stored.rows ready).0.has)
+
+  -- what is read of the book
+  pub told : {X : Type 0} (says : X → Type 0) (r : Result X StoreFault) (o : Result X Refusal) → Answers r o → IsTrue old.is_open → Leaves old new → IfOk r says
+      → StandsStored found new c b × MatchResult o says (λ e. e ≡ Unavailable)
+  told says (Ok x) o is ready leaves h = (leaves_stored ready leaves, subst (λ o. MatchResult o says (λ e. e ≡ Unavailable)) (sym is) h)
+  told says (Err e) o is ready leaves h = (leaves_stored ready leaves, subst (λ o. MatchResult o says (λ e. e ≡ Unavailable)) (sym is) refl)
+
+some_same : (o : Option store.Holder) → is_some o ≡ is_some (option_map as_holder o)
+some_same None = refl
+some_same (Some x) = refl
+
+-- whether somebody holds the slot and channel, from who holds them
+pub held_as : (b : Book) (v : Name) (at : ℕ × Channel) (o : Option store.Holder) → option_map as_holder o ≡ holder_in b v at → is_some o ≡ held_in b v at
+held_as b v at o h = some_same o ∙ ap is_some h ∙ known (get b.variants v) refl
+  where
+    known : (x : Option Variant) → get b.variants v ≡ x → is_some (holder_in b v at) ≡ held_in b v at
+    known None is = rw is refl
+    known (Some x) is = rw is refl

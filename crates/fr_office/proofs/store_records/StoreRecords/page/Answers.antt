@@ -1,0 +1,16 @@
+use Rattle.std.proofs.Common.{◌≡◌, arith, subst, IfOk}
+use Rattle.sqlite.specs.Held.{state}
+use Rattle.sqlite.specs.State.{HasCleanDisk}
+use Rattle.fr_office.specs.Held.{page_of}
+use Rattle.fr_office.proofs.StoredLaws.{told}
+use Rattle.fr_office.proofs.store_records.StoreRecords.page.Goals as goal
+
+pub returns-clause-page : goal.returns-clause-page
+returns-clause-page g c clean cluster b stored =
+    let mid = state g.S.Store c.see_open.new.store.conn in
+    let clean_mid : HasCleanDisk mid = omega (arith, c.page.ensures.spares.clean, clean) in
+    let there = c.in_ok-see_open.ensures.stands clean_mid cluster b stored in
+    let ready = c.in_ok-see_open.ensures.open clean_mid in
+    told mid (state g.S.Store c.page.new.self.conn) c.see_open.new.store.config c.page.new.self.config c.page.ensures.config clean cluster b there
+    (λ found. found ≡ page_of cluster.params b c.args.supplier c.args.variant) c.page.result c.answer.result c.answer.ensures ready c.page.ensures.stays
+    (subst (λ x. IfOk c.page.result (λ found. found ≡ page_of x.params b c.args.supplier c.args.variant)) there.config (c.page.ensures.page clean cluster b (there.rows ready).0))
