@@ -68,7 +68,7 @@ fn main(rt: HostRuntime) -> Result<(), Error> {
 fn opened(rt: &HostRuntime, path: &str) -> Result<Register, Error> {
     match Store::open_at(rt, path, Unknown) {
         Ok(store) => Ok(store),
-        Err(fault) => bail!("{fault:?}"),
+        Err((fault, _left)) => bail!("{fault:?}"),
     }
 }
 
@@ -183,7 +183,7 @@ ONE_VARIANT = statement("variants", "SELECT name, parent, depth, released, overl
 NODES = statement("nodes", "SELECT")
 GRANTS = statement("grants", "SELECT slot")
 FRAMES = statement("frames", "SELECT name")
-OF_FRAME = [text for table in ("placements", "signals") for text in TEXT.findall((SOURCES / f"tables/{table}.rt").read_text()) if "frame = ?3 ORDER" in text]
+PLACED, SIGNALLED = statement("placements", "SELECT"), statement("signals", "SELECT")
 PUT, END = statement("placements", "INSERT INTO placements (variant, supplier, frame, slot, channels, base, repetition) VALUES"), statement("placements", "DELETE")
 
 
@@ -219,9 +219,8 @@ def load(conn, times):
         conn.execute(NODES, ("s1",)).fetchall()
         conn.execute(GRANTS, ("v1", "s1")).fetchall()
         frames = conn.execute(FRAMES, ("v1", "s1")).fetchall()
-        for name, _ in frames:
-            for text in OF_FRAME:
-                conn.execute(text, ("v1", "s1", name)).fetchall()
+        for text in PLACED, SIGNALLED:
+            conn.execute(text, ("v1", "s1")).fetchall()
     return len(frames)
 
 

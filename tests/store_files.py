@@ -53,7 +53,7 @@ fn main(rt: HostRuntime) -> Result<(), Error> {
     let end = words.next().context("no end")?;
     let found = match what.as_str() {
         "make" => made(&rt, path.as_str())?,
-        "open" => Store::open_at(&rt, path.as_str(), Unknown),
+        "open" => opened(&rt, path.as_str()),
         _ => bail!("neither make nor open"),
     };
     tell(&rt, found, end.as_str() == "close")
@@ -62,9 +62,20 @@ fn main(rt: HostRuntime) -> Result<(), Error> {
 /// A register of the cluster file on standard input.
 fn made(rt: &HostRuntime, path: &str) -> Result<Found, Error> {
     let text = read(rt)?;
-    match read_config(rt.alloc(), text.as_slice()) {
-        Ok(config) => Ok(Store::create_at(rt, path, &config, Unknown)),
+    let config = match read_config(rt.alloc(), text.as_slice()) {
+        Ok(config) => config,
         Err(fault) => bail!("{fault}"),
+    };
+    match Store::create_at(rt, path, &config, Unknown) {
+        Ok(store) => Ok(Ok(store)),
+        Err((fault, _left)) => Ok(Err(fault)),
+    }
+}
+
+fn opened(rt: &HostRuntime, path: &str) -> Found {
+    match Store::open_at(rt, path, Unknown) {
+        Ok(store) => Ok(store),
+        Err((fault, _left)) => Err(fault),
     }
 }
 

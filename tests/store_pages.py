@@ -3,7 +3,8 @@
 
 A program makes a register in a file, or opens the one that is there, carries edits out, prints what it is asked for, and
 closes the file. python3's `sqlite3` then reads each row that the edits are to have made. And it makes the same register by
-the statements of docs/FORMATS.md, where the program is to find the same pages. What is wanted is made here by rule.
+the statements of docs/FORMATS.md, where the program is to find the same pages. What is wanted is made here by rule. At last
+come registers with rows that are no register's (tests/foreign_rows.py).
 
 `rt run` proves and builds the program, in a folder that is gone afterwards: the gate wants no crate that `crates.txt` does
 not name. With --keep the program is put into that file, and with its path as PROGRAM it is not built again. The last line is
@@ -17,6 +18,7 @@ from contextlib import closing
 from itertools import zip_longest
 from pathlib import Path
 
+from foreign_rows import foreign
 from made import FRAMES, LARGE, NODES, PLACEMENTS, SIGNALS, SLOTS, VARIANTS, cluster_file, suppliers
 from store_files import SECONDS, TOP, Tried, connected, filled, of_cluster, tables
 
@@ -81,14 +83,14 @@ fn made(rt: &HostRuntime, path: &str, cluster: &str) -> Result<Register, Error> 
     };
     match Store::create_at(rt, path, &config, Unknown) {
         Ok(store) => Ok(store),
-        Err(fault) => bail!("{fault:?}"),
+        Err((fault, _left)) => bail!("{fault:?}"),
     }
 }
 
 fn opened(rt: &HostRuntime, path: &str) -> Result<Register, Error> {
     match Store::open_at(rt, path, Unknown) {
         Ok(store) => Ok(store),
-        Err(fault) => bail!("{fault:?}"),
+        Err((fault, _left)) => bail!("{fault:?}"),
     }
 }
 
@@ -607,6 +609,8 @@ def main():
             later = followed(rows)
             tells(tried, f"edited, {end}", "open", room / f"{end}.db", later, [LATER])
             holds(tried, f"edited, {end}", room / f"{end}.db", later)
+        (room / "foreign").mkdir()
+        foreign(tried, room / "foreign")
     print(f"{tried.passed} passed, {tried.failed} failed")
     return 1 if tried.failed else 0
 

@@ -43,6 +43,10 @@ found_trees image found db holds held = ∥∥₁_elim held.holds (Trees-set _ _
 pub found_database : (image : Image) (found db : Database) → IsDatabase found → ((t : Trees) → HoldsDatabase image t → found.trees ≡ t) → IsHeld image db → found ≡ db
 found_database image found db sound holds held = same_database found db sound held.sound (found_trees image found.trees db holds held)
 
+-- the same database is held
+pub held_as : (image : Image) (a b : Database) → a ≡ b → IsHeld image a → IsHeld image b
+held_as image a b same held = subst (IsHeld image) same held
+
 -- what is told of a database is told of the files that hold it
 pub may_forbid : (schema : Schema) (fault : StoreFault) → Forbids schema fault → MayForbid schema fault
 may_forbid schema NotEmpty h = h

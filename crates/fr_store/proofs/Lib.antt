@@ -43,6 +43,7 @@ pub mod TurnLemmas
 pub mod HolderLemmas
 pub mod ReadingLemmas
 pub mod OwnLemmas
+pub mod DealtLemmas
 pub mod FramePartLemmas
 pub mod OwnFrameLemmas
 pub mod SignalPartLemmas

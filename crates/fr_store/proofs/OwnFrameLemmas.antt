@@ -146,39 +146,28 @@ module _ (t : Tables) (v s : Name) where
       (c : Cluster) (b : Book) (stands : StandsFor t c b) (x : Variant) → get b.variants v ≡ Some x
       → table_of owned (λ n. (s, n)) frame_in frames ≡ from_rows (map (entry_shown (stands.stored v).own s) (reverse rows))
 
-  -- so many of the query's rows are loaded
-  pub record IsSoFar (rows : List Row) (at : ℕ) (frames : List (Name × PageFrame)) : Type 0 where
-    pub listed : AreListed shows_frame (is_frame_of v s) frames_cmp t.frames rows
-    pub loaded : AreLoaded (take at rows) frames
-
-  pub none_yet : (rows shown : List Row) (frames : List (Name × PageFrame)) → shown ≡ rows → frames ≡ []
-      → AreListed shows_frame (is_frame_of v s) frames_cmp t.frames rows → IsSoFar shown 0 frames
+  pub none_yet : (rows : List Row) (frames : List (Name × PageFrame)) → rows ≡ [] → frames ≡ [] → AreLoaded rows frames
   unfolding table_of
-  none_yet rows shown frames same none listed = record {
-    listed = subst (AreListed shows_frame (is_frame_of v s) frames_cmp t.frames) (sym same) listed;
-    loaded = λ c b stands x there. ap (table_of owned (λ n. (s, n)) frame_in) none;
-  }
+  none_yet rows frames none empty c b stands x there =
+      ap (table_of owned (λ n. (s, n)) frame_in) empty ∙ ap (λ rs. from_rows (map (entry_shown (stands.stored v).own s) (reverse rs))) (sym none)
 
-  -- one row more
-  pub one_more : (p : Params) (rows : List Row) (at : ℕ) (row : Row) (n node : Name) (f : PageFrame) (old new : List (Name × PageFrame))
-      → at < length rows → get_or rows at row ≡ row → n ≡ name_shown row → node ≡ node_shown row
-      → TellsFrame p v s n node t (frame_data f) → IsStrictlySortedBy name_cmp (keys_of old) → new ≡ insert_entry name_cmp old n f → IsSoFar rows at old → IsSoFar rows (at + 1) new
-  one_more p rows at row n node f old new low is name its_node tells ordered put so_far = record {
-    listed = so_far.listed;
-    loaded = λ c b stands x there.
+  module _ (rows : List Row) (listed : AreListed shows_frame (is_frame_of v s) frames_cmp t.frames rows) where
+    -- one row more
+    pub one_more : (p : Params) (at : ℕ) (row : Row) (n node : Name) (f : PageFrame) (old new : List (Name × PageFrame))
+        → at < length rows → get_or rows at row ≡ row → n ≡ name_shown row → node ≡ node_shown row
+        → TellsFrame p v s n node t (frame_data f) → IsStrictlySortedBy name_cmp (keys_of old) → new ≡ insert_entry name_cmp old n f → AreLoaded (take at rows) old → AreLoaded (take (at + 1) rows) new
+    one_more p at row n node f old new low is name its_node tells ordered put so_far c b stands x there =
         let stored : Table owned Frame = (stands.stored v).own in
-        let here : IsOfFrame stored s row = subst (IsOfFrame stored s) is (frames_listed v s t c b stands x there rows so_far.listed at row low) in
+        let here : IsOfFrame stored s row = subst (IsOfFrame stored s) is (frames_listed v s t c b stands x there rows listed at row low) in
         let stands_here : get stored (s, n) ≡ Some here.0 = ap (λ m. get stored (s, m)) name ∙ here.1 in
         let told : frame_in f ≡ here.0 = (tells c b stands x here.0 there stands_here (here.2 ∙ sym its_node)).0 in
         let entry : entry_shown stored s row ≡ ((s, n), frame_in f) =
         ap (λ m. ((s, m), found (get stored (s, m)))) (sym name) ∙ ap (λ o. ((s, n), found o)) stands_here ∙ ap (λ g. ((s, n), g)) (sym told) in
-        one_in s old new (map (entry_shown stored s) (reverse (take at rows))) n f ordered put (so_far.loaded c b stands x there)
-        ∙ ap from_rows (ap (λ e. e ∷ map (entry_shown stored s) (reverse (take at rows))) (sym entry) ∙ sym (ap (map (entry_shown stored s)) (turned rows at row low is)));
-  }
+        one_in s old new (map (entry_shown stored s) (reverse (take at rows))) n f ordered put (so_far c b stands x there)
+        ∙ ap from_rows (ap (λ e. e ∷ map (entry_shown stored s) (reverse (take at rows))) (sym entry) ∙ sym (ap (map (entry_shown stored s)) (turned rows at row low is)))
 
-  -- all rows
-  pub frames_told : (rows : List Row) (at : ℕ) (frames : List (Name × PageFrame)) → take at rows ≡ rows → IsSoFar rows at frames → TellsFrames v s t (frames_data frames)
-  unfolding table_of
-  frames_told rows at frames whole so_far c b stands x there =
-      ap from_rows (map-map (λ e. ((s, e.0), frame_of e.1)) (λ e. (e.0, frame_data e.1)) frames) ∙ so_far.loaded c b stands x there
-      ∙ ap (λ rs. from_rows (map (entry_shown (stands.stored v).own s) (reverse rs))) whole ∙ all_listed v s t c b stands x there rows so_far.listed
+    -- all rows
+    pub frames_told : (frames : List (Name × PageFrame)) → AreLoaded rows frames → TellsFrames v s t (frames_data frames)
+    unfolding table_of
+    frames_told frames loaded c b stands x there =
+        ap from_rows (map-map (λ e. ((s, e.0), frame_of e.1)) (λ e. (e.0, frame_data e.1)) frames) ∙ loaded c b stands x there ∙ all_listed v s t c b stands x there rows listed

@@ -20,7 +20,7 @@ use Rattle.fr_store.specs.Schema.{register_schema, placements}
 use Rattle.fr_store.specs.Rows.{PlacementRow, of_placement, placement_in}
 use Rattle.fr_store.specs.Tables.{HasTables}
 use Rattle.fr_store.specs.Changes.{Changes, Stays, Copies}
-use Rattle.fr_store.specs.Statements.{with_placement, without_placement, with_placements, placement_for, placements_for, is_placement, is_placed_by, is_placement_of, shows_placement, placements_cmp}
+use Rattle.fr_store.specs.Statements.{with_placement, without_placement, with_placements, placement_for, placements_for, is_placement, is_placed_by, shows_placement, placements_cmp}
 use Rattle.fr_store.proofs.Compared.{equal_texts, equal_integers, cast_null, cast_integer}
 use Rattle.fr_store.proofs.InsertLemmas.{Adds, adds, added}
 use Rattle.fr_store.proofs.RemoveLemmas.{Removes, removes}
@@ -110,21 +110,6 @@ by_supplier variant supplier = record {
   project = col 1 3 ∷ col 1 4 ∷ col 1 5 ∷ col 1 6 ∷ col 1 7 ∷ [];
   is = record { names = codes "frame" ∷ codes "slot" ∷ codes "channels" ∷ codes "base" ∷ codes "repetition" ∷ []; is = refl; unlisted = refl; plain = (refl, refl); stored = λ db. refl };
   tested = λ p. rw (equal_texts p.1.variant variant, equal_texts p.1.supplier supplier, and_true);
-  compared = λ a b. rw (value_cmp-Text a.1.frame b.1.frame, value_cmp-Int a.1.slot b.1.slot, value_cmp-Text a.1.channels b.1.channels, value_cmp-Int a.1.base b.1.base, value_cmp-Int a.1.repetition b.1.repetition, then-Equal);
-  projected = λ p. refl;
-}
-
-abbrev pub frame_text : List ℕ
-frame_text = codes "SELECT frame, slot, channels, base, repetition FROM placements WHERE variant = ?1 AND supplier = ?2 AND frame = ?3 ORDER BY frame, slot, channels, base, repetition"
-
-pub by_frame : (variant : List ℕ) (supplier : List ℕ) (frame : List ℕ) → Queries of_placement shows_placement (is_placement_of variant supplier frame) placements_cmp 13 frame_text (Text variant ∷ Text supplier ∷ Text frame ∷ [])
-unfolding understood everything
-by_frame variant supplier frame = record {
-  tests = op2 (Compare Eq Binary) (col 1 1) (col 0 0) ∷ op2 (Compare Eq Binary) (col 1 2) (col 0 1) ∷ op2 (Compare Eq Binary) (col 1 3) (col 0 2) ∷ [];
-  order = (col 1 3, ascending Binary) ∷ (col 1 4, ascending Binary) ∷ (col 1 5, ascending Binary) ∷ (col 1 6, ascending Binary) ∷ (col 1 7, ascending Binary) ∷ [];
-  project = col 1 3 ∷ col 1 4 ∷ col 1 5 ∷ col 1 6 ∷ col 1 7 ∷ [];
-  is = record { names = codes "frame" ∷ codes "slot" ∷ codes "channels" ∷ codes "base" ∷ codes "repetition" ∷ []; is = refl; unlisted = refl; plain = (refl, refl); stored = λ db. refl };
-  tested = λ p. rw (equal_texts p.1.variant variant, equal_texts p.1.supplier supplier, equal_texts p.1.frame frame, and_true);
   compared = λ a b. rw (value_cmp-Text a.1.frame b.1.frame, value_cmp-Int a.1.slot b.1.slot, value_cmp-Text a.1.channels b.1.channels, value_cmp-Int a.1.base b.1.base, value_cmp-Int a.1.repetition b.1.repetition, then-Equal);
   projected = λ p. refl;
 }

@@ -20,7 +20,7 @@ use Rattle.fr_store.specs.Schema.{register_schema, signals}
 use Rattle.fr_store.specs.Rows.{SignalRow, of_signal, signal_in}
 use Rattle.fr_store.specs.Tables.{HasTables}
 use Rattle.fr_store.specs.Changes.{Changes, Stays, Copies}
-use Rattle.fr_store.specs.Statements.{with_signal, without_signal, with_signals, signal_for, signals_for, is_signal, is_signalled_by, is_signal_of, shows_signal, signals_cmp}
+use Rattle.fr_store.specs.Statements.{with_signal, without_signal, with_signals, signal_for, signals_for, is_signal, is_signalled_by, shows_signal, signals_cmp}
 use Rattle.fr_store.proofs.Compared.{equal_texts, cast_null, cast_integer}
 use Rattle.fr_store.proofs.InsertLemmas.{Adds, adds, added}
 use Rattle.fr_store.proofs.RemoveLemmas.{Removes, removes}
@@ -110,21 +110,6 @@ by_supplier variant supplier = record {
   project = col 1 3 ∷ col 1 4 ∷ col 1 5 ∷ col 1 6 ∷ col 1 7 ∷ [];
   is = record { names = codes "frame" ∷ codes "name" ∷ codes "start" ∷ codes "length" ∷ codes "big" ∷ []; is = refl; unlisted = refl; plain = (refl, refl); stored = λ db. refl };
   tested = λ p. rw (equal_texts p.1.variant variant, equal_texts p.1.supplier supplier, and_true);
-  compared = λ a b. rw (value_cmp-Text a.1.frame b.1.frame, value_cmp-Text a.1.name b.1.name, then-Equal);
-  projected = λ p. refl;
-}
-
-abbrev pub frame_text : List ℕ
-frame_text = codes "SELECT frame, name, start, length, big FROM signals WHERE variant = ?1 AND supplier = ?2 AND frame = ?3 ORDER BY frame, name"
-
-pub by_frame : (variant : List ℕ) (supplier : List ℕ) (frame : List ℕ) → Queries of_signal shows_signal (is_signal_of variant supplier frame) signals_cmp 15 frame_text (Text variant ∷ Text supplier ∷ Text frame ∷ [])
-unfolding understood everything
-by_frame variant supplier frame = record {
-  tests = op2 (Compare Eq Binary) (col 1 1) (col 0 0) ∷ op2 (Compare Eq Binary) (col 1 2) (col 0 1) ∷ op2 (Compare Eq Binary) (col 1 3) (col 0 2) ∷ [];
-  order = (col 1 3, ascending Binary) ∷ (col 1 4, ascending Binary) ∷ [];
-  project = col 1 3 ∷ col 1 4 ∷ col 1 5 ∷ col 1 6 ∷ col 1 7 ∷ [];
-  is = record { names = codes "frame" ∷ codes "name" ∷ codes "start" ∷ codes "length" ∷ codes "big" ∷ []; is = refl; unlisted = refl; plain = (refl, refl); stored = λ db. refl };
-  tested = λ p. rw (equal_texts p.1.variant variant, equal_texts p.1.supplier supplier, equal_texts p.1.frame frame, and_true);
   compared = λ a b. rw (value_cmp-Text a.1.frame b.1.frame, value_cmp-Text a.1.name b.1.name, then-Equal);
   projected = λ p. refl;
 }

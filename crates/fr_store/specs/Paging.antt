@@ -4,7 +4,7 @@ use Rattle.std.specs.Ordering.{int_eq}
 use Rattle.sqlite.specs.Order.{Row, column}
 use Rattle.sqlite.specs.State.{State, HasCleanDisk, IsUnchanged}
 use Rattle.fr_base.specs.Tables.{get}
-use Rattle.fr_base.specs.Keys.{owned, channel_slots, placement_order}
+use Rattle.fr_base.specs.Keys.{owned, channel_slots}
 use Rattle.fr_base.specs.Channels.{channel_of_text, channels_of_text}
 use Rattle.fr_base.specs.Cluster.{Cluster}
 use Rattle.fr_base.specs.Book.{Book, Variant, Frame, own, own_grants}
@@ -13,7 +13,6 @@ use Rattle.fr_base.specs.declared.channel.Channels.TheVariants.{AB}
 use Rattle.fr_base.specs.declared.name.Name.{Name}
 use Rattle.fr_base.specs.declared.params.Params.{Params}
 use Rattle.fr_base.specs.declared.signal.Order.TheVariants.{Little, Big}
-use Rattle.fr_base.specs.Layouts.{LayoutData}
 use Rattle.fr_base.specs.Signals.{SignalData}
 use Rattle.fr_base.specs.Step.{own_rows, layout_of}
 use Rattle.fr_base.specs.declared.placement.Placement.{Placement}
@@ -22,8 +21,10 @@ use Rattle.fr_world.specs.Pages.{FrameData, PageData, frame_of, holder_of, own_r
 use Rattle.fr_world.specs.declared.page.ChannelSlot.{ChannelSlot}
 use Rattle.fr_store.specs.Rows.{words, number}
 use Rattle.fr_store.specs.Tables.{Tables, HasTables}
-use Rattle.fr_store.specs.Changes.{Stays, tables_of}
+use Rattle.fr_store.specs.Changes.{Stays, AreListed, tables_of}
+use Rattle.fr_store.specs.Statements.{is_frame_of, shows_frame, frames_cmp, is_placed_by, shows_placement, placements_cmp, is_signalled_by, shows_signal, signals_cmp}
 use Rattle.fr_store.specs.StandsFor.{StandsFor}
+use Rattle.fr_store.specs.declared.page.frames.FrameRows.{FrameRows}
 
 -- A call that reads says this of the tables and leaves them, or it fails.
 abbrev pub Reads : {X E : Type 0} → (Tables → X → Type 0) → State → State → Result X E → Type 0
@@ -64,12 +65,6 @@ placement_shown r = record {
   cycles = record { base = nat_abs (number (column r 3)); repetition = nat_abs (number (column r 4)) };
 }
 
--- these are the placements of the variant's own frame under the supplier and the name
-abbrev pub TellsPlacements : Name → Name → Name → Tables → List Placement → Type 0
-TellsPlacements v s f t placements =
-    (c : Cluster) (b : Book) (stands : StandsFor t c b) (x : Variant) (frame : Frame) → get b.variants v ≡ Some x → get (stands.stored v).own (s, f) ≡ Some frame
-    → set_of placement_order (λ q. q) placements ≡ frame.placements
-
 -- ---- a frame's signals
 
 abbrev pub signal_shown : Row → SignalData
@@ -80,12 +75,6 @@ signal_shown r = record {
   order = if int_eq (number (column r 4)) (pos 1) then Big else Little;
 }
 
--- this is the layout of the variant's own frame under the supplier and the name
-abbrev pub TellsLayout : Params → Name → Name → Name → Tables → LayoutData → Type 0
-TellsLayout p v s f t layout =
-    (c : Cluster) (b : Book) (stands : StandsFor t c b) (x : Variant) (frame : Frame) → get b.variants v ≡ Some x → get (stands.stored v).own (s, f) ≡ Some frame
-    → layout ≡ layout_of p frame
-
 -- this is the variant's own frame under the supplier and the name
 abbrev pub TellsFrame : Params → Name → Name → Name → Name → Tables → FrameData → Type 0
 TellsFrame p v s f n t rows =
@@ -93,6 +82,12 @@ TellsFrame p v s f n t rows =
     → (frame_of rows ≡ frame) × (rows.layout ≡ layout_of p frame)
 
 -- ---- the variant's own frames
+
+-- the rows are those of the supplier's frames among the variant's own, of their placements and of their signals
+pub record AreFrameRows (v s : Name) (t : Tables) (rows : FrameRows) : Type 0 where
+  pub frames : AreListed shows_frame (is_frame_of v s) frames_cmp t.frames rows.frames.items
+  pub placements : AreListed shows_placement (is_placed_by v s) placements_cmp t.placements rows.placements.items
+  pub signals : AreListed shows_signal (is_signalled_by v s) signals_cmp t.signals rows.signals.items
 
 abbrev pub node_shown : Row → Name
 node_shown r = words (column r 1)

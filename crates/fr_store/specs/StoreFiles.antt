@@ -1,9 +1,12 @@
 -- What a database file and its log hold.
 use Rattle.std.specs.Prelude.{◌≡◌}
 use Rattle.sqlite.specs.Effect.{Database, IsDatabase}
+use Rattle.sqlite.specs.Closing.{files_left}
 use Rattle.sqlite.specs.Files.{HoldsDatabase, file_state}
 use Rattle.sqlite.specs.Held.{Held}
 use Rattle.sqlite.specs.State.{State, HasCleanDisk, Opens, IsLive, Survives}
+use Rattle.sqlite.specs.declared.file.Leftover.{Leftover}
+use Rattle.sqlite_wal.specs.Files.{seen_image}
 use Rattle.sqlite_disk.specs.declared.Disk.{Ghosts}
 use Rattle.sqlite_store.specs.declared.store.FileStore.{FileStore}
 use Rattle.sqlite.specs.Tree.{Trees}
@@ -45,6 +48,10 @@ abbrev pub FindsBook : Image → State → Cluster → Type 0
 FindsBook image s found = (c : Cluster) (b : Book) → HoldsBook c b image → (found ≡ c) × Stands s c b
 
 module _ {D : Type 0} {g : Ghosts D} where
+  -- what is left of two files
+  abbrev pub image_left : Leftover D g → Image
+  image_left left = let both = files_left left in seen_image g both.0 both.1
+
   -- a connection that has opened files of this content
   pub record HasOpened (image : Image) (c : Held (FileStore D g)) : Type 0 where
     pub opens : HasCleanDisk (file_state c) → Opens (file_state c) × IsLive (file_state c)

@@ -1,6 +1,6 @@
 //! A register in a database file and its log.
 
-ghost use Rattle.std.specs.Prelude.{◌≡◌, IsTrue, IfOk, IfErr, IfSome, None, false};
+ghost use Rattle.std.specs.Prelude.{◌≡◌, ◌≢◌, IsTrue, IfOk, IfErr, IfSome, None, false};
 ghost use Rattle.sqlite_wal.specs.Files.{outcomes};
 ghost use Rattle.sqlite_wal.specs.Reads.{AreClean};
 ghost use Rattle.sqlite.specs.Effect.{IsDatabase};
@@ -26,7 +26,7 @@ use sqlite_disk::Disk;
 use std::alloc::Global;
 
 /// Gives the files back, with each commit in the database file.
-fn closed<D: Disk + Drop>(conn: Connection<FileStore<D>>) -> Option<Files<D>>
+pub(crate) fn closed<D: Disk + Drop>(conn: Connection<FileStore<D>>) -> Option<Files<D>>
     ensures usable { IfSome result (λ files. IsTrue (D.Disk.is_usable files.log) × IsTrue (D.Disk.is_usable files.db)) }
     ensures clean { IfSome result (λ files. AreClean D.Disk files.log files.db → HasCleanDisk (file_state conn) × IsTrue (file_state conn).is_open) }
     ensures held { IfSome result (λ files. AreClean D.Disk files.log files.db → IsHeld (image_of D.Disk files) (file_state conn).committed) }
@@ -55,6 +55,7 @@ fn connected<D: Disk + Drop>(
     ensures found { IfOk result (λ c. HasCleanDisk (file_state c) → (db : _) → HoldsDatabase (image_of D.Disk files) db → (file_state c).now.trees ≡ db) }
     ensures honest { IfOk result (λ c. HasCleanDisk (file_state c) → AreClean D.Disk files.log files.db) }
     ensures told { IfErr result (λ e. AreClean D.Disk e.1.log e.1.db → (db : _) → HoldsDatabase (image_of D.Disk files) db → e.0 ≡ fault.Unavailable) }
+    ensures not_made { IfErr result (λ e. e.0 ≢ fault.NotEmpty) }
 {
     let conn = match Connection::open_files(alloc, files, options) {
         Ok(conn) => conn,
@@ -73,6 +74,7 @@ impl<D: Disk + Drop> Store<FileStore<D>> {
     /// Gives the files back, with each commit in the database file.
     pub fn close(self) -> Result<Files<D>, StoreFault>
         ensures usable { IfOk result (λ files. IsTrue (D.Disk.is_usable files.log) × IsTrue (D.Disk.is_usable files.db)) }
+        ensures clean { IfOk result (λ files. AreClean D.Disk files.log files.db → HasCleanDisk (file_state self.conn) × IsTrue (file_state self.conn).is_open) }
         ensures held { IfOk result (λ files. AreClean D.Disk files.log files.db → IsRegisterOf self.config (file_state self.conn).committed → HoldsRegister self.config (image_of D.Disk files) (file_state self.conn).committed.trees) }
         ensures book { IfOk result (λ files. AreClean D.Disk files.log files.db → KeepsBook self.config (file_state self.conn).committed (image_of D.Disk files)) }
         ensures survives { IfOk result (λ files. AreClean D.Disk files.log files.db → (image : _) → outcomes D.Disk files.log files.db image
@@ -137,6 +139,7 @@ impl<D: Disk + Drop> Store<FileStore<D>> {
         ensures outside { IfOk result (λ s. s.conn.in_transaction ≡ false) }
         ensures survives { IfOk result (λ s. SurvivesSince (image_of D.Disk files) s.conn (λ _. ⊥)) }
         ensures told { IfErr result (λ e. IfSome e.1 (λ left. AreClean D.Disk left.log left.db → (d : _) → IsDatabase d → HoldsDatabase (image_of D.Disk files) d.trees → Explains d e.0)) }
+        ensures not_made { IfErr result (λ e. e.0 ≢ fault.NotEmpty) }
         ensures known { IfErr result (λ e. IfSome e.1 (λ left. AreClean D.Disk left.log left.db → (c : _) (db : _) → HoldsRegister c (image_of D.Disk files) db → e.0 ≡ fault.Unavailable)) }
         ensures lost { IfErr result (λ e. e.1 ≡ None → e.0 ≡ fault.Unavailable) }
     {

@@ -132,6 +132,7 @@ fn recognized<S: Alter>(alloc: Global, conn: &mut Connection<S>) -> Result<Confi
     ensures ours { OnOk result ((state S.Store conn.new).now.schema ≡ register_schema) }
     ensures stands { HasCleanDisk (state S.Store conn.new) → IsTrue (state S.Store conn.new).is_open → AreOrdered (state S.Store conn.old).now.trees → IfOk result (λ c. IsRegisterOf c (state S.Store conn.new).now) }
     ensures told { HasCleanDisk (state S.Store conn.new) → IfErr result (Explains (state S.Store conn.old).now) }
+    ensures not_made { IfErr result (λ e. e ≢ fault.NotEmpty) }
     ensures same { HasCleanDisk (state S.Store conn.new) → AreAsBefore (state S.Store conn.old) (state S.Store conn.new) }
     ensures autocommit { conn.new.in_transaction ≡ false }
     ensures survives { Survives (state S.Store conn.old) (state S.Store conn.new) (λ _. ⊥) }
@@ -165,6 +166,7 @@ impl<S: Alter + Drop> Store<S> {
         ensures outside { IfOk result (λ s. s.conn.in_transaction ≡ false) }
         ensures survives { IfOk result (λ s. Survives (state S.Store conn) (state S.Store s.conn) (λ _. ⊥)) }
         ensures told { IfErr result (λ e. HasCleanDisk (state S.Store e.1) → Explains (state S.Store conn).now e.0) }
+        ensures not_made { IfErr result (λ e. e.0 ≢ fault.NotEmpty) }
         ensures known { IfErr result (λ e. HasCleanDisk (state S.Store e.1) → (c : _) → IsRegisterOf c (state S.Store conn).now → e.0 ≡ fault.Unavailable) }
         ensures unharmed { IfErr result (λ e. HasCleanDisk (state S.Store e.1) → AreAsBefore (state S.Store conn) (state S.Store e.1)) }
         ensures outside_still { IfErr result (λ e. conn.in_transaction ≡ false → e.1.in_transaction ≡ false) }

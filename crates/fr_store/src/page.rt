@@ -1,6 +1,6 @@
 //! A supplier's page of a variant, from its rows in the tables.
 
-ghost use Rattle.std.specs.Prelude.{◌≡◌, map, option_map, pos, reverse, slice_get, IfErr, IfSome};
+ghost use Rattle.std.specs.Prelude.{◌≡◌, map, option_map, pos, reverse, slice_get, IfErr, IfOk, IfSome};
 ghost use Rattle.sqlite.specs.Held.{state};
 ghost use Rattle.sqlite.specs.Order.{column};
 ghost use Rattle.sqlite.specs.declared.types.Value.TheVariants.{Int};
@@ -33,6 +33,7 @@ pub fn page<S: Alter>(
     variant: &Name,
 ) -> Result<Option<Page>, StoreFault>
     ensures page { Tells (state S.Store conn.old) (state S.Store conn.new) result (λ c b found. found ≡ page_of params.now b supplier.now variant.now) }
+    ensures params { IfOk result (λ found. IfSome found (λ page. page.params ≡ params.now)) }
     ensures refused { IfErr result (λ fault. fault ≡ Unavailable) }
     ensures stays { Leaves (state S.Store conn.old) (state S.Store conn.new) }
     ensures spares { Spares (state S.Store conn.old) (state S.Store conn.new) }
@@ -55,6 +56,7 @@ fn rows<S: Alter>(
     variant: &Name,
 ) -> Result<Option<PageRows>, StoreFault>
     ensures told { Reads (λ t found. TellsRows params.now supplier.now variant.now t (option_map rows_data found)) (state S.Store conn.old) (state S.Store conn.new) result }
+    ensures params { IfOk result (λ found. IfSome found (λ rows. rows.params ≡ params.now)) }
     ensures refused { IfErr result (λ fault. fault ≡ Unavailable) }
     ensures spares { Spares (state S.Store conn.old) (state S.Store conn.new) }
 {

@@ -1,82 +1,119 @@
 //! A register in the database file at a path.
 
-ghost use Rattle.std.specs.Prelude.{◌≡◌, ◌≢◌, IsTrue, IfOk, IfErr, false};
+ghost use Rattle.std.specs.Prelude.{◌≡◌, ◌≢◌, IsTrue, IfOk, IfErr, IfSome, None, false};
 ghost use Rattle.sqlite_wal.specs.Files.{image_at};
-ghost use Rattle.sqlite.specs.State.{HasCleanDisk};
-ghost use Rattle.sqlite.specs.Files.{file_state};
+ghost use Rattle.sqlite.specs.State.{HasCleanDisk, Opens, IsLive};
+ghost use Rattle.sqlite.specs.Effect.{IsDatabase};
+ghost use Rattle.sqlite.specs.Files.{file_state, HoldsDatabase, IsCleanLeft};
 ghost use Rattle.fr_base.specs.Book.{opening};
 ghost use Rattle.fr_store.specs.Filling.{with_config};
 ghost use Rattle.fr_store.specs.Making.{no_rows};
+ghost use Rattle.fr_store.specs.Opening.{Explains};
 ghost use Rattle.fr_store.specs.Reading.{Stands};
-ghost use Rattle.fr_store.specs.Store.{IsNewOf, IsRegisterOf};
-ghost use Rattle.fr_store.specs.StoreFiles.{HoldsRegister, FindsBook, SurvivesSince, database_of};
+ghost use Rattle.fr_store.specs.Schema.{register_schema};
+ghost use Rattle.fr_store.specs.Store.{AreOrdered, IsNewOf, IsRegisterOf, MayForbid};
+ghost use Rattle.fr_store.specs.StoreFiles.{HoldsRegister, FindsBook, IsHeld, SurvivesSince, database_of, image_left};
 ghost use Rattle.fr_store.specs.Tables.{tables_in};
 ghost use Rattle.fr_store.specs.declared.fault.StoreFault.TheVariants as fault;
 
 use crate::fault::StoreFault;
+use crate::files::closed;
 use crate::settle::settle;
 use crate::store::Store;
 use fr_base::Config;
-use sqlite::{Connection, Error, ErrorCode, FileFrom, FileStore, Start};
+use sqlite::{Connection, Error, ErrorCode, FileFrom, FileStore, Leftover, Start};
 use std::rt::HostRuntime;
 
+/// The database in the file at a path, or an empty one where there is none.
+fn connected<S: Start>(
+    rt: &HostRuntime,
+    path: &str,
+    start: S,
+) -> Result<Connection<FileStore<FileFrom<S>>>, (StoreFault, Option<Leftover<FileFrom<S>>>)>
+    ensures opens { IfOk result (λ c. HasCleanDisk (file_state c) → Opens (file_state c) × IsLive (file_state c)) }
+    ensures ordered { IfOk result (λ c. HasCleanDisk (file_state c) → (file_state c).now.schema ≡ register_schema → AreOrdered (file_state c).now.trees) }
+    ensures found { IfOk result (λ c. HasCleanDisk (file_state c) → (db : _) → HoldsDatabase (image_at S.Start) db → (file_state c).now.trees ≡ db) }
+    ensures told { IfErr result (λ e. IfSome e.1 (λ left. IsCleanLeft left → (db : _) → HoldsDatabase (image_at S.Start) db → e.0 ≡ fault.Unavailable)) }
+    ensures not_made { IfErr result (λ e. e.0 ≢ fault.NotEmpty) }
+    ensures lost { IfErr result (λ e. e.1 ≡ None → e.0 ≡ fault.Unavailable) }
+{
+    let conn = match Connection::open_from(rt, path, false, start) {
+        Ok(conn) => conn,
+        Err((Error::SqliteFailure(ErrorCode::NotADatabase), Some(left))) => {
+            return Err((StoreFault::NotARegister, Some(left)));
+        }
+        Err((_, left)) => return Err((StoreFault::Unavailable, left)),
+    };
+    match settle(rt.alloc(), conn) {
+        Ok(conn) => Ok(conn),
+        Err((_, store)) => Err((StoreFault::Unavailable, Some(Leftover::Store(store)))),
+    }
+}
+
 impl<S: Start> Store<FileStore<FileFrom<S>>> {
-    /// Makes a register of this cluster in the file at a path, or in a new one. `start` says what is supposed of the file.
+    /// Makes a register of this cluster in the file at a path, or in a new one: all of it, or nothing. It is NotEmpty
+    /// where the file holds one of a register's tables already, and then it holds what it held. `start` says what is
+    /// supposed of the file. A refusal gives back what is left of the files, unless they were not opened or fail to close.
     pub fn create_at(
         rt: &HostRuntime,
         path: &str,
         config: &Config,
         start: S,
-    ) -> Result<Store<FileStore<FileFrom<S>>>, StoreFault>
+    ) -> Result<Store<FileStore<FileFrom<S>>>, (StoreFault, Option<Leftover<FileFrom<S>>>)>
         ensures made { IfOk result (λ s. HasCleanDisk (file_state s.conn) → IsNewOf config.now (file_state s.conn).now) }
         ensures stands { IfOk result (λ s. HasCleanDisk (file_state s.conn) → Stands (file_state s.conn) config.now (opening config.now)) }
         ensures committed { IfOk result (λ s. HasCleanDisk (file_state s.conn) → (file_state s.conn).committed ≡ (file_state s.conn).now) }
         ensures config { IfOk result (λ s. s.config ≡ config.now) }
         ensures survives { IfOk result (λ s. SurvivesSince (image_at S.Start) s.conn (λ db. tables_in db ≡ with_config config.now no_rows)) }
         ensures outside { IfOk result (λ s. s.conn.in_transaction ≡ false) }
-        ensures not_found { IfErr result (λ e. e ≢ fault.NotARegister) }
-        ensures not_ours { IfErr result (λ e. e ≢ fault.WrongSchema) }
+        ensures told { IfErr result (λ e. IfSome e.1 (λ left. IsCleanLeft left → (d : _) → IsDatabase d → HoldsDatabase (image_at S.Start) d.trees → MayForbid d.schema e.0)) }
+        ensures untouched { IfErr result (λ e. e.0 ≡ fault.NotEmpty → IfSome e.1 (λ left. IsCleanLeft left → (d : _) → IsDatabase d → HoldsDatabase (image_at S.Start) d.trees → IsHeld (image_left left) d)) }
+        ensures not_found { IfErr result (λ e. e.0 ≢ fault.NotARegister) }
+        ensures not_ours { IfErr result (λ e. e.0 ≢ fault.WrongSchema) }
+        ensures lost { IfErr result (λ e. e.1 ≡ None → e.0 ≡ fault.Unavailable) }
     {
-        let Ok(conn) = Connection::open_from(rt, path, false, start) else {
-            return Err(StoreFault::Unavailable);
+        let conn = match Connection::open_from(rt, path, false, start) {
+            Ok(conn) => conn,
+            Err((_, left)) => return Err((StoreFault::Unavailable, left)),
         };
         match Store::create_on(rt.alloc(), conn, config) {
             Ok(store) => Ok(store),
-            Err((StoreFault::NotEmpty, _)) => Err(StoreFault::NotEmpty),
-            Err(_) => Err(StoreFault::Unavailable),
+            Err((fault, conn)) => match closed(conn) {
+                Some(files) => Err((fault, Some(Leftover::Files(files)))),
+                None => Err((StoreFault::Unavailable, None)),
+            },
         }
     }
 
     /// The register in the file at a path. `start` says what is supposed of the file. Where there is no file it is
-    /// NotARegister, and a database with no table is then there.
+    /// NotARegister, and a database with no table is then there. A refusal gives back what is left of the files, unless
+    /// they were not opened or fail to close.
     pub fn open_at(
         rt: &HostRuntime,
         path: &str,
         start: S,
-    ) -> Result<Store<FileStore<FileFrom<S>>>, StoreFault>
+    ) -> Result<Store<FileStore<FileFrom<S>>>, (StoreFault, Option<Leftover<FileFrom<S>>>)>
         ensures stands { IfOk result (λ s. HasCleanDisk (file_state s.conn) → IsTrue (file_state s.conn).is_open → IsRegisterOf s.config (file_state s.conn).now) }
         ensures opened { IfOk result (λ s. HasCleanDisk (file_state s.conn) → IsTrue (file_state s.conn).is_open → (c : _) (db : _) → HoldsRegister c (image_at S.Start) db
             → ((file_state s.conn).now ≡ database_of db) × ((file_state s.conn).committed ≡ database_of db)) }
         ensures again { IfOk result (λ s. HasCleanDisk (file_state s.conn) → IsTrue (file_state s.conn).is_open → FindsBook (image_at S.Start) (file_state s.conn) s.config) }
         ensures survives { IfOk result (λ s. SurvivesSince (image_at S.Start) s.conn (λ _. ⊥)) }
         ensures outside { IfOk result (λ s. s.conn.in_transaction ≡ false) }
-        ensures not_made { IfErr result (λ e. e ≢ fault.NotEmpty) }
+        ensures told { IfErr result (λ e. IfSome e.1 (λ left. IsCleanLeft left → (d : _) → IsDatabase d → HoldsDatabase (image_at S.Start) d.trees → Explains d e.0)) }
+        ensures not_made { IfErr result (λ e. e.0 ≢ fault.NotEmpty) }
+        ensures known { IfErr result (λ e. IfSome e.1 (λ left. IsCleanLeft left → (c : _) (db : _) → HoldsRegister c (image_at S.Start) db → e.0 ≡ fault.Unavailable)) }
+        ensures lost { IfErr result (λ e. e.1 ≡ None → e.0 ≡ fault.Unavailable) }
     {
-        let conn = match Connection::open_from(rt, path, false, start) {
+        let conn = match connected(rt, path, start) {
             Ok(conn) => conn,
-            Err((Error::SqliteFailure(ErrorCode::NotADatabase), _)) => {
-                return Err(StoreFault::NotARegister);
-            }
-            Err(_) => return Err(StoreFault::Unavailable),
-        };
-        let Ok(conn) = settle(rt.alloc(), conn) else {
-            return Err(StoreFault::Unavailable);
+            Err((fault, left)) => return Err((fault, left)),
         };
         match Store::open_on(rt.alloc(), conn) {
             Ok(store) => Ok(store),
-            Err((StoreFault::NotARegister, _)) => Err(StoreFault::NotARegister),
-            Err((StoreFault::WrongSchema, _)) => Err(StoreFault::WrongSchema),
-            Err(_) => Err(StoreFault::Unavailable),
+            Err((fault, conn)) => match closed(conn) {
+                Some(files) => Err((fault, Some(Leftover::Files(files)))),
+                None => Err((StoreFault::Unavailable, None)),
+            },
         }
     }
 }

@@ -1,6 +1,6 @@
 //! What a register tells of its rows.
 
-ghost use Rattle.std.specs.Prelude.{◌≡◌, IfErr, option_map};
+ghost use Rattle.std.specs.Prelude.{◌≡◌, IfErr, IfOk, IfSome, option_map};
 ghost use Rattle.sqlite.specs.Held.{state};
 ghost use Rattle.fr_base.specs.Book.{own};
 ghost use Rattle.fr_base.specs.Tables.{get, len};
@@ -30,6 +30,7 @@ impl<S: Alter> Store<S> {
         variant: &Name,
     ) -> Result<Option<Page>, StoreFault>
         ensures page { Tells (state S.Store self.old.conn) (state S.Store self.new.conn) result (λ c b found. found ≡ page_of self.old.config.params b supplier.now variant.now) }
+        ensures params { IfOk result (λ found. IfSome found (λ page. page.params ≡ self.old.config.params)) }
         ensures config { self.new.config ≡ self.old.config }
         ensures refused { IfErr result (λ fault. fault ≡ Unavailable) }
         ensures stays { Leaves (state S.Store self.old.conn) (state S.Store self.new.conn) }
@@ -104,6 +105,3 @@ impl<S: Alter> Store<S> {
         reading::imports(&mut self.conn, supplier)
     }
 }
-
-#[cfg(test)]
-mod tests;

@@ -5,6 +5,7 @@ use fr_base::{Body, Change, Channel, Channels, CycleSet, FrameChange, Order, Pla
 use fr_world::{Edit, Page};
 use sqlite::MemStore;
 use std::alloc::Global;
+use std::process::Abort;
 use std::test::Fail;
 
 fn made(alloc: Global) -> Result<Store<MemStore>, Fail> {
@@ -108,6 +109,17 @@ fn page(store: &mut Store<MemStore>, alloc: Global, variant: &str) -> Result<Pag
     Ok(page.ok_or("no page")?)
 }
 
+/// The import is kept, as the only one.
+fn is_kept(rt: &impl Abort, alloc: Global, store: &mut Store<MemStore>) -> Result<(), Fail> {
+    let supplier = name("s1")?;
+    let kept = store.import(alloc, &supplier, &name("a")?)?;
+    let kept = kept.ok_or("no import")?;
+    assert!(rt; kept.body.as_slice() == b"f1".as_slice());
+    assert!(rt; kept.variant == name("v1")? && kept.rows == 2);
+    assert_eq!(rt; store.imports(&supplier)?, 1);
+    Ok(())
+}
+
 /// Each kind of edit is carried out. A frame that is dropped in a variant stays in the one that it was
 /// opened from.
 #[test]
@@ -122,6 +134,5 @@ fn edits_are_carried_out(rt: HostRuntime) -> Result<(), Fail> {
     assert!(rt; frame.placements.len() == 1 && frame.layout.signals().len() == 1);
     let second = page(&mut store, rt.alloc(), "v2")?;
     assert!(rt; !second.released() && second.grants().len() == 1 && second.frames().is_empty());
-    assert_eq!(rt; store.imports(&name("s1")?)?, 1);
-    Ok(())
+    is_kept(&rt, rt.alloc(), &mut store)
 }

@@ -1,14 +1,17 @@
-//! A supplier's own frames in a variant, from their rows in the tables.
+//! A supplier's frames among a variant's own, from their rows in the tables.
 
 ghost use Rattle.fr_base.specs.Layouts.{IsLayout};
-ghost use Rattle.std.specs.Prelude.{IsPermutation, ◌≤◌, ◌≡◌, map, reverse, IfErr, IfSome};
+ghost use Rattle.std.specs.Prelude.{IsPermutation, IsSorted, ◌≤◌, ◌≡◌, bytes_eq, filter, map, reverse, IfErr, IfSome};
+ghost use Rattle.std.specs.Ordering.{is_le, is_lt, on};
 ghost use Rattle.sqlite.specs.Held.{state};
 ghost use Rattle.fr_base.specs.Keys.{placement_order};
 ghost use Rattle.fr_world.specs.Maps.{set_of};
 ghost use Rattle.fr_world.specs.Pages.{frame_data, frames_data};
 ghost use Rattle.fr_store.specs.Changes.{Spares};
-ghost use Rattle.fr_store.specs.Paging.{Reads, TellsPlacements, TellsLayout, TellsFrame, TellsFrames, node_shown, placement_shown, signal_shown};
+ghost use Rattle.fr_store.specs.Paging.{Reads, AreFrameRows, TellsFrame, TellsFrames, node_shown, placement_shown, signal_shown};
 ghost use Rattle.fr_store.specs.Reading.{name_shown};
+ghost use Rattle.fr_store.specs.Statements.{text_cmp};
+ghost use Rattle.fr_store.specs.Tables.{Tables};
 ghost use Rattle.fr_store.specs.declared.fault.StoreFault.TheVariants.{Unavailable};
 
 use crate::fault::StoreFault;
@@ -18,7 +21,9 @@ use fr_base::{CycleSet, Name, Order, Params, Placement, Signal};
 use fr_layout::Layout;
 use fr_world::PageFrame;
 use sqlite::{Alter, Connection, Row};
+use sqlite_value::value::ValueRef;
 use std::alloc::Global;
+use std::cmp::Ordering;
 use std::collections::{BTreeMap, BTreeSet};
 
 /// The supplier's frames among the variant's own, by their names.
@@ -33,18 +38,59 @@ pub(super) fn own_frames<S: Alter>(
     ensures refused { IfErr result (λ fault. fault ≡ Unavailable) }
     ensures spares { Spares (state S.Store conn.old) (state S.Store conn.new) }
 {
-    let Ok(rows) = tables::frames::of_supplier(conn, variant, supplier) else {
+    let rows = frame_rows(conn, variant, supplier)?;
+    frames_of(alloc, params, &rows).ok_or(StoreFault::Unavailable)
+}
+
+// What the tables have of a supplier's frames among a variant's own, each list by the frame's name, which is
+// the first column.
+#[derive(Drop)]
+struct FrameRows {
+    frames: Vec<Row>,
+    placements: Vec<Row>,
+    signals: Vec<Row>,
+}
+
+// One query each.
+fn frame_rows<S: Alter>(
+    conn: &mut Connection<S>,
+    variant: &Name,
+    supplier: &Name,
+) -> Result<FrameRows, StoreFault>
+    ensures told { Reads (λ t rows. AreFrameRows variant.now supplier.now t rows) (state S.Store conn.old) (state S.Store conn.new) result }
+    ensures refused { IfErr result (λ fault. fault ≡ Unavailable) }
+    ensures spares { Spares (state S.Store conn.old) (state S.Store conn.new) }
+{
+    let Ok(frames) = tables::frames::of_supplier(conn, variant, supplier) else {
         return Err(StoreFault::Unavailable);
     };
+    let Ok(placements) = tables::placements::of_supplier(conn, variant, supplier) else {
+        return Err(StoreFault::Unavailable);
+    };
+    let Ok(signals) = tables::signals::of_supplier(conn, variant, supplier) else {
+        return Err(StoreFault::Unavailable);
+    };
+    Ok(FrameRows {
+        frames,
+        placements,
+        signals,
+    })
+}
+
+// The frames in the rows. None where a row of one has not its form, the signals of one make no layout, or
+// memory is refused.
+fn frames_of(alloc: Global, params: &Params, rows: &FrameRows) -> Option<BTreeMap<Name, PageFrame>>
+    ensures { IfSome result (λ frames. (v s : Name) (t : Tables) → AreFrameRows v s t rows.now → TellsFrames v s t (frames_data frames.entries)) }
+{
     let mut frames = BTreeMap::new(alloc);
-    for row in rows.as_slice() {
-        let (name, node) = names_in(row).ok_or(StoreFault::Unavailable)?;
-        let frame = own_frame(alloc, conn, params, variant, supplier, &name, node)?;
+    for row in rows.frames.as_slice() {
+        let (name, node) = names_in(row)?;
+        let frame = frame_of(alloc, params, rows, &name, node)?;
         let Ok(_) = frames.insert(name, frame) else {
-            return Err(StoreFault::Unavailable);
+            return None;
         };
     }
-    Ok(frames)
+    Some(frames)
 }
 
 // The frame's name and its node's.
@@ -53,24 +99,6 @@ fn names_in(row: &Row) -> Option<(Name, Name)>
     ensures node { IfSome result (λ names. names.1 ≡ node_shown row.now) }
 {
     Some((name_at(row, 0)?, name_at(row, 1)?))
-}
-
-// Where the variant's own frame of this name is placed.
-fn own_placements<S: Alter>(
-    alloc: Global,
-    conn: &mut Connection<S>,
-    variant: &Name,
-    supplier: &Name,
-    frame: &Name,
-) -> Result<BTreeSet<Placement>, StoreFault>
-    ensures told { Reads (λ t placements. TellsPlacements variant.now supplier.now frame.now t placements.keys) (state S.Store conn.old) (state S.Store conn.new) result }
-    ensures refused { IfErr result (λ fault. fault ≡ Unavailable) }
-    ensures spares { Spares (state S.Store conn.old) (state S.Store conn.new) }
-{
-    let Ok(rows) = tables::placements::of_frame(conn, variant, supplier, frame) else {
-        return Err(StoreFault::Unavailable);
-    };
-    placements_of(alloc, rows.as_slice()).ok_or(StoreFault::Unavailable)
 }
 
 // The placements in the rows. None where a row has not its form, or memory is refused.
@@ -94,25 +122,6 @@ fn placement_of(row: &Row) -> Option<Placement>
         channels: channels_at(row, 2)?,
         cycles: CycleSet::new(number_at(row, 3)?, number_at(row, 4)?).ok()?,
     })
-}
-
-// The signals of the variant's own frame of this name, as a layout of the cluster's payload.
-fn own_layout<S: Alter>(
-    alloc: Global,
-    conn: &mut Connection<S>,
-    params: &Params,
-    variant: &Name,
-    supplier: &Name,
-    frame: &Name,
-) -> Result<Layout, StoreFault>
-    ensures told { Reads (TellsLayout params.now variant.now supplier.now frame.now) (state S.Store conn.old) (state S.Store conn.new) result }
-    ensures refused { IfErr result (λ fault. fault ≡ Unavailable) }
-    ensures spares { Spares (state S.Store conn.old) (state S.Store conn.new) }
-{
-    let Ok(rows) = tables::signals::of_frame(conn, variant, supplier, frame) else {
-        return Err(StoreFault::Unavailable);
-    };
-    layout_of(alloc, params.payload_words(), rows.as_slice()).ok_or(StoreFault::Unavailable)
 }
 
 // The layout of the signals in the rows. None where a row has not its form, the signals make no layout of
@@ -151,25 +160,50 @@ fn signal_of(row: &Row) -> Option<Signal>
     .ok()
 }
 
-// The variant's own frame of this name and node.
-fn own_frame<S: Alter>(
+// The frame of this name and node.
+fn frame_of(
     alloc: Global,
-    conn: &mut Connection<S>,
     params: &Params,
-    variant: &Name,
-    supplier: &Name,
+    rows: &FrameRows,
     frame: &Name,
     node: Name,
-) -> Result<PageFrame, StoreFault>
-    ensures told { Reads (λ t found. TellsFrame params.now variant.now supplier.now frame.now node t (frame_data found)) (state S.Store conn.old) (state S.Store conn.new) result }
-    ensures refused { IfErr result (λ fault. fault ≡ Unavailable) }
-    ensures spares { Spares (state S.Store conn.old) (state S.Store conn.new) }
+) -> Option<PageFrame>
+    ensures { IfSome result (λ found. (v s : Name) (t : Tables) → AreFrameRows v s t rows.now → TellsFrame params.now v s frame.now node t (frame_data found)) }
 {
-    let placements = own_placements(alloc, conn, variant, supplier, frame)?;
-    let layout = own_layout(alloc, conn, params, variant, supplier, frame)?;
-    Ok(PageFrame {
+    let placements = rows_of(rows.placements.as_slice(), frame);
+    let signals = rows_of(rows.signals.as_slice(), frame);
+    Some(PageFrame {
         node,
-        placements,
-        layout,
+        placements: placements_of(alloc, placements)?,
+        layout: layout_of(alloc, params.payload_words(), signals)?,
     })
+}
+
+// Those of the rows, which stand by their frames' names, that are this frame's.
+fn rows_of<'rows>(rows: &'rows [Row], frame: &Name) -> &'rows [Row]
+    ensures { IsSorted (on name_shown text_cmp) rows.now → result.now ≡ filter (λ r. bytes_eq (name_shown r) frame.now) rows.now }
+{
+    let from = rows.partition_point(
+        |row: &Row| -> bool
+            ensures { result ≡ is_lt (text_cmp (name_shown row.now) frame.entry.now) }
+        { compare(row, frame).is_lt() },
+    );
+    let others = &rows[from..];
+    let to = others.partition_point(
+        |row: &Row| -> bool
+            ensures { result ≡ is_le (text_cmp (name_shown row.now) frame.entry.now) }
+        { compare(row, frame).is_le() },
+    );
+    &others[..to]
+}
+
+// How the name in the row's first column stands to this one.
+fn compare(row: &Row, name: &Name) -> Ordering
+    ensures { result ≡ text_cmp (name_shown row.now) name.now }
+{
+    let text: &[u8] = match row.get_ref(0) {
+        Ok(ValueRef::Text(bytes)) => bytes,
+        _ => &[],
+    };
+    text.cmp(name.as_str().as_bytes())
 }

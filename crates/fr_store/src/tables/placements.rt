@@ -91,19 +91,3 @@ pub fn of_supplier<S: Alter>(
         params![variant.as_str(), supplier.as_str()],
     )
 }
-
-/// The placements of the frame, in their order.
-pub fn of_frame<S: Alter>(
-    conn: &mut Connection<S>,
-    variant: &Name,
-    supplier: &Name,
-    frame: &Name,
-) -> Result<Vec<Row>, Error>
-    ensures listed { Finds shows_placement (is_placement_of variant.now supplier.now frame.now) placements_cmp (λ t. t.placements) (state S.Store conn.old) (state S.Store conn.new) result }
-    ensures spares { Spares (state S.Store conn.old) (state S.Store conn.new) }
-{
-    conn.query_all(
-        "SELECT frame, slot, channels, base, repetition FROM placements WHERE variant = ?1 AND supplier = ?2 AND frame = ?3 ORDER BY frame, slot, channels, base, repetition",
-        params![variant.as_str(), supplier.as_str(), frame.as_str()],
-    )
-}

@@ -98,19 +98,3 @@ pub fn of_supplier<S: Alter>(
         params![variant.as_str(), supplier.as_str()],
     )
 }
-
-/// The signals of the frame, by name.
-pub fn of_frame<S: Alter>(
-    conn: &mut Connection<S>,
-    variant: &Name,
-    supplier: &Name,
-    frame: &Name,
-) -> Result<Vec<Row>, Error>
-    ensures listed { Finds shows_signal (is_signal_of variant.now supplier.now frame.now) signals_cmp (λ t. t.signals) (state S.Store conn.old) (state S.Store conn.new) result }
-    ensures spares { Spares (state S.Store conn.old) (state S.Store conn.new) }
-{
-    conn.query_all(
-        "SELECT frame, name, start, length, big FROM signals WHERE variant = ?1 AND supplier = ?2 AND frame = ?3 ORDER BY frame, name",
-        params![variant.as_str(), supplier.as_str(), frame.as_str()],
-    )
-}

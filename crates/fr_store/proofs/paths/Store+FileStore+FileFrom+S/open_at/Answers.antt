@@ -1,45 +1,59 @@
-use Rattle.std.proofs.Common.{◌≡◌, ◌∙◌, arith, ap, sym}
+use Rattle.std.proofs.Common.{◌≡◌, ◌∙◌, arith, ap, sym, subst}
+use Rattle.std.proofs.lemmas.Option.{IfSome_then}
 use Rattle.sqlite_wal.specs.Files.{image_at}
 use Rattle.sqlite.specs.Effect.{Database}
 use Rattle.sqlite.specs.State.{HasCleanDisk}
-use Rattle.sqlite.specs.Files.{file_state, HoldsDatabase}
-use Rattle.sqlite.specs.Tree.{Trees}
+use Rattle.sqlite.specs.Files.{file_state}
 use Rattle.fr_store.specs.Schema.{register_schema}
+use Rattle.fr_store.specs.Opening.{Explains}
 use Rattle.fr_store.specs.StoreFiles.{database_of}
-use Rattle.fr_store.proofs.FileLemmas.{found_database}
-use Rattle.fr_store.proofs.AgainLemmas.{held_stands}
+use Rattle.fr_store.proofs.FileLemmas.{same_database, found_database}
+use Rattle.fr_store.proofs.AgainLemmas.{held_stands, only_unavailable_files}
 use Rattle.fr_store.proofs.paths.Store+FileStore+FileFrom+S.open_at.Goals as goal
+
+pub returns-in-Err-clause-told : goal.returns-in-Err-clause-told
+returns-in-Err-clause-told g c =
+    IfSome_then c.in-Err.left c.in-Err.ensures.told (λ rest told clean d is held. subst (Explains d) (sym (told clean d.trees held)) tt)
+
+pub returns-in-Err-clause-known : goal.returns-in-Err-clause-known
+returns-in-Err-clause-known g c =
+    IfSome_then c.in-Err.left c.in-Err.ensures.told (λ rest told clean k db holds.
+    only_unavailable_files (image_at g.S.Start) k db c.in-Err.fault holds (λ d is held. subst (Explains d) (sym (told clean d.trees held)) tt))
 
 pub returns-in-Ok-open_on-clause-stands : goal.returns-in-Ok-open_on-clause-stands
 returns-in-Ok-open_on-clause-stands g c clean up =
-    let before : HasCleanDisk (file_state c.in-Ok-settle.conn) = omega (arith, c.in-Ok-open_on.ensures.survives.clean, clean) in
+    let before : HasCleanDisk (file_state c.in-Ok.conn) = omega (arith, c.in-Ok-open_on.ensures.survives.clean, clean) in
     let same = c.in-Ok-open_on.ensures.opened clean up in
-    let schema : (file_state c.in-Ok-settle.conn).now.schema ≡ register_schema = ap (λ (d : Database). d.schema) (sym same.1) ∙ c.in-Ok-open_on.ensures.ours in
-    c.in-Ok-open_on.ensures.stands clean up (c.in-Ok-settle.ensures.ordered before schema)
+    let schema : (file_state c.in-Ok.conn).now.schema ≡ register_schema = ap (λ (d : Database). d.schema) (sym same.1) ∙ c.in-Ok-open_on.ensures.ours in
+    c.in-Ok-open_on.ensures.stands clean up (c.in-Ok.ensures.ordered before schema)
 
 pub returns-in-Ok-open_on-clause-opened : goal.returns-in-Ok-open_on-clause-opened
 returns-in-Ok-open_on-clause-opened g c clean up k db holds =
-    let before : HasCleanDisk (file_state c.in-Ok-settle.conn) = omega (arith, c.in-Ok-open_on.ensures.survives.clean, clean) in
-    let first : HasCleanDisk (file_state c.in-Ok.conn) = omega (arith, c.in-Ok-settle.ensures.clean, before) in
+    let before : HasCleanDisk (file_state c.in-Ok.conn) = omega (arith, c.in-Ok-open_on.ensures.survives.clean, clean) in
     let same = c.in-Ok-open_on.ensures.opened clean up in
-    let is = c.in-Ok-settle.ensures.opens before in
-    let trees = λ (t : Trees) (h : HoldsDatabase (image_at g.S.Start) t). c.in-Ok-settle.ensures.trees before ∙ (c.in-Ok.ensures.found first).holds t h in
-    let found = found_database (image_at g.S.Start) (file_state c.in-Ok-settle.conn).now (database_of db) (is.1 is.0.is_open).0 trees holds.held in
+    let is = c.in-Ok.ensures.opens before in
+    let found = found_database (image_at g.S.Start) (file_state c.in-Ok.conn).now (database_of db) (is.1 is.0.is_open).0 (c.in-Ok.ensures.found before) holds.held in
     (same.1 ∙ found, same.2 ∙ sym is.0.clean ∙ found)
 
 pub returns-in-Ok-open_on-clause-again : goal.returns-in-Ok-open_on-clause-again
 returns-in-Ok-open_on-clause-again g c clean up k b holds =
-    let before : HasCleanDisk (file_state c.in-Ok-settle.conn) = omega (arith, c.in-Ok-open_on.ensures.survives.clean, clean) in
-    let first : HasCleanDisk (file_state c.in-Ok.conn) = omega (arith, c.in-Ok-settle.ensures.clean, before) in
-    let is = c.in-Ok-settle.ensures.opens before in
+    let before : HasCleanDisk (file_state c.in-Ok.conn) = omega (arith, c.in-Ok-open_on.ensures.survives.clean, clean) in
+    let is = c.in-Ok.ensures.opens before in
     let image = image_at g.S.Start in
-    let trees = λ (t : Trees) (h : HoldsDatabase image t). c.in-Ok-settle.ensures.trees before ∙ (c.in-Ok.ensures.found first).holds t h in
-    let found = found_database image (file_state c.in-Ok-settle.conn).now (database_of holds.trees) (is.1 is.0.is_open).0 trees holds.register.held in
-    c.in-Ok-open_on.ensures.again clean up k b holds.register.formed (held_stands image (file_state c.in-Ok-settle.conn) k b holds found)
+    let found = found_database image (file_state c.in-Ok.conn).now (database_of holds.trees) (is.1 is.0.is_open).0 (c.in-Ok.ensures.found before) holds.register.held in
+    c.in-Ok-open_on.ensures.again clean up k b holds.register.formed (held_stands image (file_state c.in-Ok.conn) k b holds found)
+
+pub returns-in-Some-clause-told : goal.returns-in-Some-clause-told
+returns-in-Some-clause-told g c clean d is held =
+    let late = (c.in-Some.ensures.clean clean).0 in
+    let before : HasCleanDisk (file_state c.in-Ok.conn) = omega (arith, c.in-Err-open_on.ensures.survives_still.clean, late) in
+    let opens = c.in-Ok.ensures.opens before in
+    let same : (file_state c.in-Ok.conn).now ≡ d = same_database (file_state c.in-Ok.conn).now d (opens.1 opens.0.is_open).0 is (c.in-Ok.ensures.found before d.trees held) in
+    subst (λ (e : Database). Explains e c.in-Err-open_on.fault) same (c.in-Err-open_on.ensures.told late)
+
+pub returns-in-Some-clause-known : goal.returns-in-Some-clause-known
+returns-in-Some-clause-known g c clean k db holds =
+    only_unavailable_files (image_at g.S.Start) k db c.in-Err-open_on.fault holds (returns-in-Some-clause-told g c clean)
 
 pub returns-in-Ok-open_on-clause-survives : goal.returns-in-Ok-open_on-clause-survives
-returns-in-Ok-open_on-clause-survives g c =
-    let found = λ (clean : HasCleanDisk (file_state c.in-Ok-settle.conn)) (t : Trees) (h : HoldsDatabase (image_at g.S.Start) t).
-    let first : HasCleanDisk (file_state c.in-Ok.conn) = omega (arith, c.in-Ok-settle.ensures.clean, clean) in
-    c.in-Ok-settle.ensures.trees clean ∙ (c.in-Ok.ensures.found first).holds t h in
-    (c.in-Ok-settle.conn, record { opens = c.in-Ok-settle.ensures.opens; found = found }, c.in-Ok-open_on.ensures.survives)
+returns-in-Ok-open_on-clause-survives g c = (c.in-Ok.conn, record { opens = c.in-Ok.ensures.opens; found = c.in-Ok.ensures.found }, c.in-Ok-open_on.ensures.survives)

@@ -1,0 +1,159 @@
+"""Registers in files whose rows another hand changed, so that they have not their form or make no page.
+
+Each is told as Unavailable where such a row is met, in a run that ends, and the file stays as it was. What meets no such row is
+told as before. tests/store_pages.py has the program that is asked."""
+import subprocess
+from contextlib import closing
+
+from made import CLUSTER, cluster_file
+from store_files import SECONDS, connected, filled
+
+PLANNED = [
+    "INSERT INTO nodes VALUES ('s1', 'n1'), ('s2', 'n2')",
+    "INSERT INTO variants VALUES ('v1', NULL, 1, 1, 0), ('v2', 'v1', 2, 0, 0)",
+    "INSERT INTO grants VALUES ('v1', 1, 'A', 's1', 'n1'), ('v1', 1, 'B', 's2', 'n2'), ('v2', 2, 'B', 's1', 'n1')",
+    "INSERT INTO frames VALUES ('v1', 's1', 'f1', 'n1'), ('v1', 's2', 'f2', 'n2')",
+    "INSERT INTO placements VALUES ('v1', 's1', 'f1', 1, 'A', 0, 64), ('v1', 's2', 'f2', 1, 'B', 0, 64)",
+    "INSERT INTO signals VALUES ('v1', 's1', 'f1', 'x', 0, 8, 0)",
+    "INSERT INTO imports VALUES ('s1', 'l1', 'v1', x'00', 1)",
+]
+
+# What the register tells before any row is changed.
+TOLD = {
+    "page s1 v1": ["s1 v1 true", "node n1", "grant 1 A n1", "frame f1 n1", "place f1 1 A 0 64", "signal f1 x 0 8 little"],
+    "page s2 v1": ["s2 v1 true", "node n2", "grant 1 B n2", "frame f2 n2", "place f2 1 B 0 64"],
+    "page s1 v2": ["s1 v2 false", "node n1", "grant 2 B n1"],
+    "variants": ["variant v1 - 1 true", "variant v2 v1 2 false"],
+    "nodes s1": ["node n1"],
+    "nodes s2": ["node n2"],
+    "holder v1 1 A": ["holder s1 n1"],
+    "holder v1 1 B": ["holder s2 n2"],
+    "import s1 l1": ["imports 1", "import v1 1 1"],
+}
+
+HERE = ["page s1 v1"]
+BOTH = ["page s1 v1", "page s1 v2", "nodes s1"]
+HELD = ["page s1 v1", "holder v1 1 A"]
+LISTED = ["variants"]
+
+
+def many(table, count, row):
+    """Rows that a number from 1 makes."""
+    numbers = " UNION ALL ".join(f"SELECT {number} AS n" for number in range(1, count + 1))
+    return f"INSERT INTO {table} SELECT {row} FROM ({numbers})"
+
+
+# What is changed, and what is then Unavailable.
+CHANGES = [
+    ("UPDATE nodes SET name = '1n' WHERE supplier = 's1'", BOTH),
+    ("UPDATE nodes SET name = 'n' || char(10) WHERE supplier = 's1'", BOTH),
+    ("UPDATE nodes SET name = '" + "n" * 33 + "' WHERE supplier = 's1'", BOTH),
+    ("UPDATE grants SET slot = 0 WHERE variant = 'v1' AND supplier = 's1'", HERE),
+    ("UPDATE grants SET slot = 1024 WHERE variant = 'v1' AND supplier = 's1'", HERE),
+    ("UPDATE grants SET slot = 4294967297 WHERE variant = 'v1' AND supplier = 's1'", HERE),
+    ("UPDATE grants SET channel = 'AB' WHERE variant = 'v1' AND supplier = 's1'", HERE),
+    ("UPDATE grants SET node = '' WHERE variant = 'v1' AND supplier = 's1'", HELD),
+    ("UPDATE grants SET supplier = '1s' WHERE variant = 'v1' AND supplier = 's1'", HELD),
+    ("UPDATE frames SET name = 'f-1' WHERE supplier = 's1'", HERE),
+    ("UPDATE frames SET node = '9' WHERE supplier = 's1'", HERE),
+    ("UPDATE frames SET node = 'n9' WHERE supplier = 's1'", HERE),
+    ("UPDATE placements SET channels = 'BA' WHERE supplier = 's1'", HERE),
+    ("UPDATE placements SET channels = 'AB' WHERE supplier = 's1'", HERE),
+    ("UPDATE placements SET slot = -1 WHERE supplier = 's1'", HERE),
+    ("UPDATE placements SET slot = 2 WHERE supplier = 's1'", HERE),
+    ("UPDATE placements SET base = 64 WHERE supplier = 's1'", HERE),
+    ("UPDATE placements SET repetition = 3 WHERE supplier = 's1'", HERE),
+    ("UPDATE placements SET repetition = 4294967360 WHERE supplier = 's1'", HERE),
+    ("INSERT INTO placements VALUES ('v1', 's1', 'f1', 1, 'A', 0, 2)", HERE),
+    (many("placements", 8, "'v1', 's1', 'f1', 1, 'A', n, 64"), HERE),
+    (many("frames", 256, "'v1', 's1', 'g' || n, 'n1'"), HERE),
+    (many("nodes", 64, "'s1', 'm' || n"), ["page s1 v1", "page s1 v2"]),
+    ("UPDATE signals SET name = 'x y'", HERE),
+    ("UPDATE signals SET start = -1", HERE),
+    ("UPDATE signals SET start = 9", HERE),
+    ("UPDATE signals SET length = 0", HERE),
+    ("UPDATE signals SET length = 65", HERE),
+    ("UPDATE signals SET big = 2", HERE),
+    ("INSERT INTO signals VALUES ('v1', 's1', 'f1', 'y', 7, 1, 0)", HERE),
+    ("UPDATE variants SET name = 'v 1' WHERE name = 'v1'", LISTED),
+    ("UPDATE variants SET parent = '' WHERE name = 'v2'", LISTED),
+    ("UPDATE variants SET depth = -1 WHERE name = 'v2'", LISTED),
+    ("UPDATE variants SET released = 2 WHERE name = 'v2'", ["variants", "page s1 v2"]),
+    ("UPDATE variants SET overlay = 2 WHERE name = 'v2'", ["page s1 v2"]),
+    ("UPDATE imports SET variant = 'v 1'", ["import s1 l1"]),
+    ("UPDATE imports SET rows = -1", ["import s1 l1"]),
+]
+
+# A variant that shows its parent's rows, where there is no such parent, or each is the other's or its own.
+PARENTS = [
+    "UPDATE variants SET overlay = 1, parent = 'v9' WHERE name = 'v2'",
+    "UPDATE variants SET overlay = 1, parent = 'v2' WHERE name = 'v2'",
+    "UPDATE variants SET overlay = 1, parent = CASE name WHEN 'v1' THEN 'v2' ELSE 'v1' END",
+]
+
+
+def changed(path, statement):
+    """A register that `sqlite3` makes and then changes, with no rule of its tables at work."""
+    filled(path, more=PLANNED)
+    with closing(connected(path)) as conn:
+        for rule in "foreign_keys = OFF", "ignore_check_constraints = ON":
+            conn.execute(f"PRAGMA {rule}")
+        conn.execute(statement)
+    return path
+
+
+def ask(tried, path, question, edits=""):
+    given = f"{cluster_file(CLUSTER)}---\n{edits}---\n{question}\n"
+    return subprocess.run([tried.program, "open", path], input=given, capture_output=True, text=True, timeout=SECONDS)
+
+
+def is_refused(tried, name, path, question, edits=""):
+    ran = ask(tried, path, question, edits)
+    tried.equal(f"{name}: {question}{edits}", ("Unavailable" in ran.stderr, ran.returncode), (True, 1))
+
+
+def is_answered(tried, name, path, question):
+    ran = ask(tried, path, question)
+    lines = "".join(f"{line}\n" for line in [f"> {question}", *TOLD[question]])
+    tried.equal(f"{name}: {question}", (ran.stdout, ran.stderr, ran.returncode), (lines, "", 0))
+
+
+def content(path):
+    with closing(connected(path)) as conn:
+        return list(conn.iterdump())
+
+
+def foreign(tried, room):
+    for question in TOLD:
+        is_answered(tried, "as planned", filled(room / f"{question}.db", more=PLANNED), question)
+    for number, (statement, unavailable) in enumerate(CHANGES):
+        path = changed(room / f"changed_{number}.db", statement)
+        before = content(path)
+        for question in unavailable:
+            is_refused(tried, statement, path, question)
+        for question in "page s2 v1", "holder v1 1 B":
+            if "variants" not in statement or "'v1'" not in statement:
+                is_answered(tried, statement, path, question)
+        tried.equal(f"{statement}: the file stays", content(path) == before, True)
+    for number, statement in enumerate(PARENTS):
+        path = changed(room / f"parents_{number}.db", statement)
+        before = content(path)
+        is_refused(tried, statement, path, "page s1 v2")
+        is_refused(tried, statement, path, "nodes s1", "frame v2 s1 f3 n1\n")
+        is_refused(tried, statement, path, "nodes s1", "release v2\nvariant v3 v2 3\n")
+        tried.equal(f"{statement}: the file stays", content(path) == before, True)
+    wrong_kind(tried, room / "kind.db")
+
+
+def wrong_kind(tried, path):
+    """A text where a number belongs, written while the table's statement was another."""
+    filled(path, more=PLANNED)
+    for strict, other in (" STRICT", ""), ("", " STRICT"):
+        with closing(connected(path)) as conn:
+            conn.execute("PRAGMA writable_schema = ON")
+            text, = conn.execute("SELECT sql FROM sqlite_schema WHERE name = 'signals'").fetchone()
+            conn.execute("UPDATE sqlite_schema SET sql = ? WHERE name = 'signals'", (text.rstrip().removesuffix(strict.strip()).rstrip() + other,))
+        if strict:
+            with closing(connected(path)) as conn:
+                conn.execute("UPDATE signals SET start = 'four'")
+    is_refused(tried, "a text where a number belongs", path, "page s1 v1")
