@@ -353,6 +353,3 @@ pub fn read_config(alloc: Global, bytes: &[u8]) -> Result<Config, ConfigFault>
     let fields = Fields::read(alloc, &file)?;
     fields.check(alloc)
 }
-
-#[cfg(test)]
-mod tests;

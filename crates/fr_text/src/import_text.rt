@@ -244,6 +244,3 @@ fn number(digits: &[u8]) -> Option<u32>
     }
     Some(value)
 }
-
-#[cfg(test)]
-mod tests;

@@ -18,8 +18,3 @@ pub use import_text::read_import;
 pub use laws::written_is_read_back;
 pub use report::{write_gaps, write_layout, write_lines, write_schedule};
 pub use request_text::read_command;
-
-#[cfg(test)]
-mod fixture;
-#[cfg(test)]
-mod tests;

@@ -49,6 +49,3 @@ fn request_in(alloc: Global, fields: &Fields) -> Result<Request, Refusal>
         _ => Err(Refusal::BadText),
     }
 }
-
-#[cfg(test)]
-mod tests;
