@@ -1,32 +1,44 @@
 -- Pages that were the register's before an edit are the register's after it: those that it leaves alone, and the one that was amended.
-use Rattle.std.proofs.Common.{◌≡◌, false, ◌&&◌, cond, map, List, [], ◌∷◌, Option, Some, None, refl, sym, ap, subst, ◌∙◌, inl, inr, true≢false}
+use Rattle.std.proofs.Common.{◌≡◌, true, false, not, ◌&&◌, cond, map, List, [], ◌∷◌, Option, Some, None, refl, sym, ap, subst, ◌∙◌, inl, inr, true≢false}
 use Rattle.std.specs.Prelude.{◌||◌}
 use Rattle.std.specs.Ordering.{eq_by_cmp}
 use Rattle.std.proofs.lemmas.Bool.{cases_Bool}
 use Rattle.std.proofs.Math.Bool.{and-true}
 use Rattle.std.proofs.lemmas.List.Elements.{All-cons, All-head, All-nil, All-tail}
-use Rattle.fr_base.specs.Book.{Variant, Book, is_of}
+use Rattle.fr_base.specs.Alone.{is_another}
+use Rattle.fr_base.specs.Book.{Holder, Variant, Book, held_by, is_of}
 use Rattle.fr_base.specs.Cluster.{Cluster}
 use Rattle.fr_base.specs.Keys.{names, owned}
 use Rattle.fr_base.specs.Names.{same_text}
-use Rattle.fr_base.specs.Step.{own_rows, with_variant, changed}
+use Rattle.fr_base.specs.Step.{OwnRows, own_rows, with_variant, changed}
 use Rattle.fr_base.specs.Tables.{get}
 use Rattle.fr_base.specs.declared.name.Name.{Name}
 use Rattle.fr_base.specs.declared.params.Params.{Params}
 use Rattle.fr_base.specs.declared.request.Change.{Change}
+use Rattle.fr_base.specs.declared.request.Change.TheVariants.{Grant, Revoke, Frame}
 use Rattle.fr_base.proofs.AloneCells.{same_text-itself}
 use Rattle.fr_base.proofs.SoundRows.{same_text-is}
 use Rattle.fr_base.proofs.SoundTables.{only-insert_other, same_key, same_some}
 use Rattle.fr_base.proofs.TableLaws.{equal, get-insert}
-use Rattle.fr_world.specs.BookEdits.{applied, changed_at}
+use Rattle.fr_world.specs.BookEdits.{SparesOthers, all_applied, applied, changed_at}
 use Rattle.fr_world.specs.Edits.{IsOf, edited, releases}
+use Rattle.fr_world.specs.Fits.{AllFit, Fits, FitsVariant}
 use Rattle.fr_world.specs.Pages.{IsKept, PageData, nodes_in, own_rows_of, page_in}
 use Rattle.fr_world.specs.declared.edit.Edit.{Edit}
 use Rattle.fr_world.specs.declared.edit.Edit.TheVariants.{NewVariant, SetReleased, NewNode, Rows, KeepImport}
 use Rattle.fr_world.proofs.AgreeLaws.{edits-agree, others-stay}
 use Rattle.fr_world.proofs.PageLaws.{rows-registers}
-use Rattle.fr_office.specs.KeptPages.{AreFresh, IsFresh, Spares, touches, untouched}
+use Rattle.fr_office.specs.KeptPages.{AreFresh, IsFresh, Spares, touches, untouched, untouched_by}
 use Rattle.fr_office.proofs.PageBack.{same-page, same-rows}
+
+-- an edit leaves the parameters
+pub edited_params : (rows : OwnRows) (edit : Edit) → (edited rows edit).params ≡ rows.params
+unfolding edited
+edited_params rows (NewVariant v parent depth) = refl
+edited_params rows (SetReleased v) = refl
+edited_params rows (NewNode s n) = refl
+edited_params rows (Rows s v what) = refl
+edited_params rows (KeepImport s label v body rows-kept) = refl
 
 -- a variant of another name stays
 other_variant : (b : Book) (v w : Name) (y : Variant) → same_text w v ≡ false → get (with_variant b v y).variants w ≡ get b.variants w
@@ -114,7 +126,7 @@ module _ (c : Cluster) (b : Book) (page : PageData) (fresh : IsFresh c.params b 
       }
 
 -- pages that the edit leaves as they are
-pub all_untouched : (c : Cluster) (b : Book) (edit : Edit) → Spares b edit → (pages : List PageData) → AreFresh c.params b pages → AreFresh c.params (applied b edit) (untouched edit pages)
+all_untouched : (c : Cluster) (b : Book) (edit : Edit) → Spares b edit → (pages : List PageData) → AreFresh c.params b pages → AreFresh c.params (applied b edit) (untouched edit pages)
 all_untouched c b edit spares [] fresh = All-nil (IsFresh c.params (applied b edit))
 all_untouched c b edit spares (page ∷ pages) fresh =
     let rest = all_untouched c b edit spares pages (All-tail (IsFresh c.params b) page pages fresh) in
@@ -122,3 +134,30 @@ all_untouched c b edit spares (page ∷ pages) fresh =
       | inl e ↦ rw e rest
       | inr e ↦ rw e (All-cons (IsFresh c.params (applied b edit)) page (untouched edit pages) (untouched-fresh c b page (All-head (IsFresh c.params b) page pages fresh) edit e spares) rest)
     ]
+
+-- ---- edits that fit
+
+own_held : (s : Name) (o : Option Holder) → held_by s o ≡ true → is_another s o ≡ false
+own_held s None held = cc
+own_held s (Some h) held = ap not held
+
+change_spares : (b : Book) (s v : Name) (x : Variant) (what : Change) → FitsVariant b.nodes s x what → SparesOthers s x (Rows s v what)
+change_spares b s v x (Grant slot channel node) fits = ap (is_another s) fits.1
+change_spares b s v x (Revoke slot channel) fits = own_held s (get x.grants (slot, channel)) fits
+change_spares b s v x (Frame f what) fits = tt
+
+-- an edit that fits leaves other suppliers what they hold
+fit_spares : (b : Book) (edit : Edit) → Fits b edit → Spares b edit
+fit_spares b (NewVariant v parent depth) fits = tt
+fit_spares b (SetReleased v) fits = tt
+fit_spares b (NewNode s n) fits = tt
+fit_spares b (Rows s v what) fits = λ x there.
+    change_spares b s v x what (subst (λ y. FitsVariant b.nodes s y what) (same_some fits.0 x (sym fits.1.there ∙ there)) fits.2)
+fit_spares b (KeepImport s label v body rows) fits = tt
+
+-- pages that edits leave as they are
+pub all-untouched_by : (c : Cluster) (edits : List Edit) (b : Book) (pages : List PageData) → AllFit b edits → AreFresh c.params b pages →
+    AreFresh c.params (all_applied b edits) (untouched_by edits pages)
+all-untouched_by c [] b pages fits fresh = fresh
+all-untouched_by c (edit ∷ edits) b pages fits fresh =
+    all-untouched_by c edits (applied b edit) (untouched edit pages) fits.1 (all_untouched c b edit (fit_spares b edit fits.0) pages fresh)

@@ -1,6 +1,7 @@
 -- What an import comes to, by its label, its supplier's page, the room for it and its rows.
-use Rattle.std.proofs.Common.{◌≡◌, ℕ, true, false, not, ◌&&◌, List, [], ◌∷◌, ◌++◌, length, Option, Some, None, Result, Ok, Err, refl, sym, ap, subst, ◌∙◌, inl, inr}
-use Rattle.std.specs.Prelude.{⊤, option_map}
+use Rattle.std.proofs.Common.{◌≡◌, ◌≤◌, ℕ, true, false, not, ◌&&◌, List, [], ◌∷◌, ◌++◌, length, Option, Some, None, Result, Ok, Err, refl, sym, ap, subst, ◌∙◌, inl, inr}
+use Rattle.std.specs.List.{AllByRecursion}
+use Rattle.std.specs.Prelude.{⊤, is_err, option_map}
 use Rattle.fr_base.specs.Refusing.{◌>>=◌, ◌>>◌, ◌or◌, refuse◌when◌}
 use Rattle.fr_base.specs.Tables.{get, contains, len}
 use Rattle.fr_base.specs.Cluster.{Cluster}
@@ -8,19 +9,21 @@ use Rattle.fr_base.specs.Book.{Kept, Book, own}
 use Rattle.fr_base.specs.ImportRows.{rows_of_body}
 use Rattle.fr_base.specs.Names.{same_text}
 use Rattle.fr_base.specs.Sound.{IsSound}
-use Rattle.fr_base.specs.Step.{Outcome, import, imported}
+use Rattle.fr_base.specs.Step.{Outcome, at_line, import, imported}
 use Rattle.fr_base.specs.declared.answer.Answer.{Answer}
 use Rattle.fr_base.specs.declared.answer.Answer.TheVariants.{Imported, RefusedRow}
 use Rattle.fr_base.specs.declared.import.RowRead.{RowRead}
+use Rattle.fr_base.specs.declared.limits.TheConstants.{MAX_ROWS}
 use Rattle.fr_base.specs.declared.refusal.Refusal.{Refusal}
 use Rattle.fr_base.specs.declared.refusal.Refusal.TheVariants.{NoVariant, Released, NoSupplier, LabelUsed}
 use Rattle.fr_base.specs.declared.request.Import.{Import}
+use Rattle.fr_base.proofs.ImportForms.{IsRead, few_rows}
 use Rattle.fr_world.specs.BookEdits.{applied, all_applied}
 use Rattle.fr_world.specs.Fits.{AllFit}
 use Rattle.fr_world.specs.ImportLabels.{label_decision, after_label}
 use Rattle.fr_world.specs.ImportLimits.{import_room, new_import}
 use Rattle.fr_world.specs.Pages.{PageData, page_in}
-use Rattle.fr_world.specs.RowDecisions.{rows_decision}
+use Rattle.fr_world.specs.RowDecisions.{DraftData, draft_of, make_read, make_row, make_rows, rows_decision}
 use Rattle.fr_world.specs.declared.edit.Edit.{Edit}
 use Rattle.fr_world.specs.declared.edit.Edit.TheVariants.{KeepImport}
 use Rattle.fr_world.proofs.BookFits.{import-fits}
@@ -66,6 +69,34 @@ module _ (c : Cluster) (b : Book) (i : Import) (sound : IsSound c b) (known : co
   -- a new import is decided by its page, and then the room for it
   pub new_told : import c.params b i None ≡ (open_page c.params b i.supplier i.variant >>= made_of)
   new_told = new-import-decides c b i sound known ∙ by_page
+
+-- ---- how many rows there are
+
+one_read : (d after : DraftData) (read : RowRead) → make_read d read ≡ Ok after → IsRead read
+unfolding make_read at_line ◌>>=◌
+one_read d after read made = elim read.row as (λ row. at_line read.line (row >>= make_row d) ≡ Ok after → is_err row ≡ false) [
+  | Ok row ↦ λ h. refl
+  | Err e ↦ λ h. cc
+] made
+
+-- of rows that were all made none is refused by its own text
+all_read : (reads : List RowRead) (d last : DraftData) → make_rows d reads ≡ Ok last → AllByRecursion IsRead reads
+unfolding make_rows ◌>>=◌
+all_read [] d last made = tt
+all_read (read ∷ rest) d last made = elim (make_read d read) as (λ r. make_read d read ≡ r → (r >>= λ after. make_rows after rest) ≡ Ok last → AllByRecursion IsRead (read ∷ rest)) [
+  | Ok after ↦ λ is h. (one_read d after read is, all_read rest after last h)
+  | Err e ↦ λ is h. cc
+] refl made
+
+-- so they are few
+pub few_made : (page : PageData) (body : List ℕ) (reads : List RowRead) (edits : List Edit) → reads ≡ rows_of_body page.params body → rows_decision page reads ≡ Ok edits → length reads ≤ MAX_ROWS
+unfolding rows_decision ◌>>=◌
+few_made page body reads edits is decided =
+    let read : AllByRecursion IsRead reads = elim (make_rows (draft_of page) reads) as (λ r. make_rows (draft_of page) reads ≡ r → (r >>= λ last. Ok last.edits) ≡ Ok edits → AllByRecursion IsRead reads) [
+      | Ok last ↦ λ made h. all_read reads (draft_of page) last made
+      | Err e ↦ λ made h. cc
+    ] refl decided in
+    subst (λ rows. length rows ≤ MAX_ROWS) (sym is) (few_rows page.params body (subst (AllByRecursion IsRead) is read))
 
 -- ---- the rows
 

@@ -5,7 +5,7 @@ use Rattle.std.specs.List.{before_first, after_first, position_or_len, remove, s
 use Rattle.std.proofs.lemmas.Bool.{ltb-false, ltb-true}
 use Rattle.std.proofs.Math.Dec.{ltb}
 use Rattle.std.proofs.lemmas.List.{append-nil, drop_all, take_all}
-use Rattle.std.proofs.lemmas.List.Elements.{All-append, All-drop, All-get_or, All-take}
+use Rattle.std.proofs.lemmas.List.Elements.{All-head, All-tail}
 use Rattle.std.proofs.lemmas.List.Folds.{find_at}
 use Rattle.std.proofs.lemmas.List.Sums.{passes_at_first}
 use Rattle.std.proofs.lemmas.Option.{slice_get-get_or, slice_get_past}
@@ -34,12 +34,6 @@ module _ {X : Type 0} (p : X → Bool) (xs : List X) where
       let place = found_at i h in
       find_at p xs ∙ ap (slice_get xs) place.0 ∙ slice_get-get_or xs i x place.1 ∙ ap Some (sym is)
 
-  -- without it
-  pub removed : (i : ℕ) → position p xs ≡ Some i → remove xs i ≡ before_first p xs ++ after_first p xs
-  removed i h =
-      let place = found_at i h in
-      ap (λ k. take i xs ++ drop k xs) (sym (add-one i)) ∙ ap (λ k. take k xs ++ drop (k + 1) xs) (sym place.0)
-
   by_none : (b : Bool) → ltb at (length xs) ≡ b → cond b (Some at) None ≡ None → length xs ≤ at
   by_none true e h = cc
   by_none false e h = ltb-false at (length xs) e
@@ -50,19 +44,6 @@ module _ {X : Type 0} (p : X → Bool) (xs : List X) where
   pub none_found : position p xs ≡ None → find p xs ≡ None
   none_found h = find_at p xs ∙ slice_get_past xs at (nowhere h)
 
-  pub none_removed : position p xs ≡ None → xs ≡ before_first p xs ++ after_first p xs
-  none_removed h =
-      let none : drop (at + 1) xs ≡ [] = drop_all (at + 1) xs (omega (arith, nowhere h)) in
-      sym (append-nil xs) ∙ (λ i. sym (take_all at xs (nowhere h)) i ++ sym none i)
-
-  -- what holds of all holds of those beside it
-  pub all_beside : (P : X → Type 0) → All P xs → All P (before_first p xs ++ after_first p xs)
-  all_beside P all = All-append P (before_first p xs) (after_first p xs) (All-take P at xs all) (All-drop P (at + 1) xs all)
-
-  -- and of what stands there
-  pub all_at : (P : X → Type 0) (i : ℕ) (d : X) → position p xs ≡ Some i → All P xs → P (get_or xs i d)
-  all_at P i d h all = All-get_or P xs i d (found_at i h).1 all
-
   -- nor does it stand among those that fail
   pub others_removed : (i : ℕ) (d : X) → position p xs ≡ Some i → filter (λ x. not (p x)) (remove xs i) ≡ filter (λ x. not (p x)) xs
   others_removed i d h =
@@ -71,6 +52,7 @@ module _ {X : Type 0} (p : X → Bool) (xs : List X) where
       ap (λ k. p (get_or xs k d)) (sym place.0) ∙ passes_at_first p xs d (subst (λ k. k < length xs) (sym place.0) place.1) in
       filter_removed (λ x. not (p x)) xs i d place.1 (ap not passes)
 
+  -- it passes, and what holds of all holds of it
   none_passes : (ys : List X) → find p ys ≡ None → filter (λ x. not (p x)) ys ≡ ys
   none_passes [] h = refl
   none_passes (y ∷ ys) h = by_case (p y) refl h (none_passes ys)
@@ -82,3 +64,11 @@ module _ {X : Type 0} (p : X → Bool) (xs : List X) where
   -- where none passes all are left
   pub all_others : position p xs ≡ None → xs ≡ filter (λ x. not (p x)) xs
   all_others h = sym (none_passes xs (none_found h))
+
+-- what is found passes, and what holds of all holds of it
+pub found_all : {X : Type 0} (p : X → Bool) (P : X → Type 0) (xs : List X) (x : X) → find p xs ≡ Some x → All P xs → (p x ≡ true) × P x
+found_all p P [] x found all = cc
+found_all p P (y ∷ ys) x found all = elim (p y) as (λ b. p y ≡ b → cond b (Some y) (find p ys) ≡ Some x → (p x ≡ true) × P x) [
+  | true ↦ λ passes is. let same : y ≡ x = cc in (subst (λ z. p z ≡ true) same passes, subst P same (All-head P y ys all))
+  | false ↦ λ fails is. found_all p P ys x is (All-tail P y ys all)
+] refl found

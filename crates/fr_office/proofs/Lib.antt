@@ -7,6 +7,7 @@ pub mod RunLaws
 pub mod PageBack
 pub mod FreshLaws
 pub mod KeptLaws
+pub mod WarmLaws
 pub mod ShownLaws
 pub mod PageRows
 pub mod NamedLaws

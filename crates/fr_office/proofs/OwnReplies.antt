@@ -25,7 +25,9 @@ use Rattle.fr_base.specs.declared.request.Query.TheVariants.{Grants, Frames, Sch
 use Rattle.fr_office.specs.Carried.{Replies}
 use Rattle.fr_office.specs.Held.{Standing, page_of}
 use Rattle.fr_base.proofs.SoundTables.{same_some}
+use Rattle.fr_office.specs.KeptPages.{Keeps}
 use Rattle.fr_office.specs.Shown.{FindsPage, ShowsOwn}
+use Rattle.fr_office.proofs.WarmLaws.{page-fresh}
 use Rattle.fr_world.specs.Pages.{PageData, own_rows_of, page_in}
 use Rattle.fr_world.proofs.PageLaws.{rows-registers}
 
@@ -82,6 +84,12 @@ module _ (old new : Standing) (s v : Name) (found : Option PageData) (tells : (c
   finds-none is c b stood =
       let told = tells c b stood in
       (told.0, inr (refl, closed (page_in c.params b s v) (get b.variants v) (sym is ∙ told.1)))
+
+-- it was found, and given back
+pub finds-kept : (old mid new : Standing) (s v : Name) (page : PageData) → FindsPage old mid (Ok page) s v → Keeps mid new page → FindsPage old new (Ok page) s v
+finds-kept old mid new s v page finds keeps c b stood =
+    let found = finds c b stood in
+    (keeps c b found.0 (page-fresh c.params b s v found.1.0 page found.1.1 found.1.2), found.1)
 
 -- ---- the answer to a supplier
 

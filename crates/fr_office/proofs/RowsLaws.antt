@@ -1,6 +1,7 @@
 -- A change of a supplier's rows: what the supplier's page and the grants of all decide.
 use Rattle.std.proofs.Common.{◌≡◌, ℕ, Bool, true, false, not, List, Option, Some, None, Result, Ok, Err, refl, sym, ap, subst, ◌∙◌, ◌⊎◌, inl, inr}
-use Rattle.std.specs.Prelude.{⊤, option_map}
+use Rattle.std.specs.Prelude.{⊤, MatchResult, Vec, option_map}
+use Rattle.std.specs.declared.alloc.Global.{Global}
 use Rattle.fr_base.specs.Refusing.{◌>>=◌, ◌>>◌, ◌or◌, refuse◌when◌}
 use Rattle.fr_base.specs.Tables.{get, contains}
 use Rattle.fr_base.specs.Cluster.{Cluster}
@@ -16,16 +17,18 @@ use Rattle.fr_base.specs.declared.request.Change.{Change}
 use Rattle.fr_base.specs.declared.request.Change.TheVariants.{Grant, Revoke, Frame}
 use Rattle.fr_world.specs.BookEdits.{all_applied}
 use Rattle.fr_world.specs.Decisions.{IsChecked, decision}
-use Rattle.fr_world.specs.Fits.{IsUnheld}
+use Rattle.fr_world.specs.Fits.{AllFit, IsUnheld}
 use Rattle.fr_world.specs.declared.edit.Edit.{Edit}
 use Rattle.fr_world.specs.Pages.{PageData, page_in}
 use Rattle.fr_world.proofs.BookFits.{decision-fits}
 use Rattle.fr_world.proofs.FitsLaws.{none_there}
 use Rattle.fr_world.proofs.StepLaws.{grant-decides, revoke-decides, supplier-decides}
-use Rattle.fr_office.specs.Carried.{Does, Replies}
-use Rattle.fr_office.specs.Decided.{open_page, is_taken}
-use Rattle.fr_office.specs.Held.{Standing, Applies, Tells, held_in, page_of}
-use Rattle.fr_office.proofs.CommandLaws.{Known, carried, refused}
+use Rattle.fr_office.specs.Carried.{Allows, Does, IsRefused, Makes, Replies}
+use Rattle.fr_office.specs.Decided.{allowed, open_page, is_taken}
+use Rattle.fr_office.specs.Held.{Standing, Tells, held_in, page_of}
+use Rattle.fr_office.specs.KeptPages.{IsFresh, Keeps}
+use Rattle.fr_office.proofs.CommandLaws.{Known}
+use Rattle.fr_office.proofs.WarmLaws.{page-fresh, told-fresh}
 
 -- ---- what is open to a supplier
 
@@ -126,6 +129,58 @@ unheld b v x (Grant k channel n) found free = none_there (get x.grants (k, chann
 unheld b v x (Revoke k channel) found free = tt
 unheld b v x (Frame f what) found free = tt
 
+-- what is decided and not taken is carried out in turn
+in_turn : (b : Book) (decided : Result (List Edit) Refusal) (t : Bool) →
+    (decided >>= λ edits. (refuse Taken when t) >> Ok (all_applied b edits)) ≡ ((decided >>= λ edits. (refuse Taken when t) >> Ok edits) >>= λ edits. Ok (all_applied b edits))
+unfolding ◌>>=◌ ◌>>◌ refuse◌when◌
+in_turn b (Ok edits) true = refl
+in_turn b (Ok edits) false = refl
+in_turn b (Err e) t = refl
+
+both_passed : (decided : Result (List Edit) Refusal) (t : Bool) (edits : List Edit) → (decided >>= λ edits. (refuse Taken when t) >> Ok edits) ≡ Ok edits → (decided ≡ Ok edits) × (t ≡ false)
+unfolding ◌>>=◌ ◌>>◌ refuse◌when◌
+both_passed (Ok es) true edits is = cc
+both_passed (Ok es) false edits is = (is, refl)
+both_passed (Err e) t edits is = cc
+
+-- the page refuses, or is not known to allow
+pub not_allowed : (old : Standing) (page : PageData) (change : Change) (r : Result (Vec Edit Global) Refusal) (e : Refusal) → r ≡ Err e → (e ≡ Unavailable) ⊎ (decision page change ≡ Err e) →
+    Allows old old r page change
+unfolding allowed ◌>>=◌
+not_allowed old page change (Ok es) e said refuses c b stood = cc
+not_allowed old page change (Err f) e said refuses c b stood =
+    let same : f ≡ e = cc in (
+      stood,
+      elim refuses [
+        | inl lacked ↦ inl (same ∙ lacked)
+        | inr refused ↦ inr (ap (λ d. d >>= λ edits. (refuse Taken when is_taken b page.variant change) >> Ok edits) refused ∙ ap Err (sym same))
+      ],
+    )
+
+module _ (old new : Standing) (page : PageData) (change : Change) (edits : Vec Edit Global) (decided : decision page change ≡ Ok edits.items) where
+  -- it is not known whether it is held
+  pub not_known : (r : Result (Vec Edit Global) Refusal) (asked : Result Bool Refusal) (e : Refusal) → r ≡ Err e → asked ≡ Err e → Tells old new asked (λ c b is. is ≡ is_taken b page.variant change) →
+      Allows old new r page change
+  not_known (Ok es) asked e said lacks tells c b stood = cc
+  not_known (Err f) (Ok t) e said lacks tells c b stood = cc
+  not_known (Err f) (Err h) e said lacks tells c b stood =
+      let t = tells c b stood in
+      let same : f ≡ h = cc in
+      (t.0, inl (same ∙ t.1))
+
+  -- it is held, or not
+  pub is_allowed : (t : Bool) → t ≡ false → Tells old new (Ok t) (λ c b is. is ≡ is_taken b page.variant change) → Allows old new (Ok edits) page change
+  unfolding allowed ◌>>=◌ ◌>>◌ refuse◌when◌
+  is_allowed t free tells c b stood =
+      let k = tells c b stood in
+      (k.0, rw (decided, sym k.1 ∙ free) refl)
+
+  pub is_held : (t : Bool) → t ≡ true → Tells old new (Ok t) (λ c b is. is ≡ is_taken b page.variant change) → Allows old new (Err Taken) page change
+  unfolding allowed ◌>>=◌ ◌>>◌ refuse◌when◌
+  is_held t held tells c b stood =
+      let k = tells c b stood in
+      (k.0, inr (rw (decided, sym k.1 ∙ held) refl))
+
 -- ---- the records, by the page that was read
 
 module _ (old mid : Standing) (s v : Name) (change : Change) where
@@ -147,53 +202,56 @@ module _ (old mid : Standing) (s v : Name) (change : Change) where
       )
 
   module _ (page : PageData) (read : Replies old mid (Ok page) (λ c b. open_page c.params b s v)) where
-    page-told : Known old mid (λ c b. does c b ≡ (decision page change >>= λ edits. (refuse Taken when is_taken b v change) >> Ok (all_applied b edits)))
-    unfolding ◌>>=◌
+    -- the page is the book's, and what is allowed on it decides
+    page-told : Known old mid (λ c b. IsFresh c.params b page × (does c b ≡ (allowed b page change >>= λ edits. Ok (all_applied b edits))))
+    unfolding ◌>>=◌ allowed
     page-told c b stood sound =
         let t = read c b stood sound in
-        (t.0, rows-told c b s v change sound ∙ ap (λ o. o >>= made_of c b s v change sound) t.1)
-
-    -- the page refuses
-    pub rows_refused : (r : Result ⊤ Refusal) (e : Refusal) → r ≡ Err e → (e ≡ Unavailable) ⊎ (decision page change ≡ Err e) → Does old mid r does
-    unfolding ◌>>=◌
-    rows_refused (Ok x) e said refuses c b stood sound = cc
-    rows_refused (Err f) e said refuses c b stood sound =
-        let t = page-told c b stood sound in
-        let same : e ≡ f = cc in (
+        let o = opened-there c.params b s v page t.1 in
+        let variant : v ≡ page.variant = ap (λ (q : PageData). q.variant) o.2 in (
           t.0,
-          elim refuses [
-            | inl lacked ↦ inl (sym same ∙ lacked)
-            | inr refused ↦ inr (t.1 ∙ ap (λ d. d >>= λ edits. (refuse Taken when is_taken b v change) >> Ok (all_applied b edits)) refused ∙ ap Err same)
+          (
+            page-fresh c.params b s v o.0 page o.1 (sym o.2),
+            rows-told c b s v change sound ∙ ap (λ o. o >>= made_of c b s v change sound) t.1
+                ∙ ap (λ w. decision page change >>= λ edits. (refuse Taken when is_taken b w change) >> Ok (all_applied b edits)) variant
+                ∙ in_turn b (decision page change) (is_taken b page.variant change),
+          ),
+        )
+
+    -- it is refused, and the page is given back
+    pub rows_refused : (next new : Standing) (r : Result ⊤ Refusal) (e : Refusal) → r ≡ Err e → Allows mid next (Err e) page change → Keeps next new page → Does old new r does
+    unfolding ◌>>=◌
+    rows_refused next new (Ok x) e said asked keeps c b stood sound = cc
+    rows_refused next new (Err f) e said asked keeps c b stood sound =
+        let k = page-told c b stood sound in
+        let a = asked c b k.0 in
+        let same : f ≡ e = cc in (
+          keeps c b a.0 k.1.0,
+          elim a.1 [
+            | inl lacked ↦ inl (same ∙ lacked)
+            | inr refused ↦ inr (k.1.1 ∙ ap (λ d. d >>= λ edits. Ok (all_applied b edits)) refused ∙ ap Err (sym same))
           ],
         )
 
-    module _ (edits : List Edit) (allowed : decision page change ≡ Ok edits) where
-      allowed-told : (t : Bool) → Known old mid (λ c b. is_taken b v change ≡ t → does c b ≡ ((refuse Taken when t) >> Ok (all_applied b edits)))
-      unfolding ◌>>=◌
-      allowed-told t c b stood sound =
-          let k = page-told c b stood sound in
-          (k.0, λ is. k.1 ∙ ap (λ d. d >>= λ edits. (refuse Taken when is_taken b v change) >> Ok (all_applied b edits)) allowed ∙ ap (λ t. (refuse Taken when t) >> Ok (all_applied b edits)) is)
-
-      -- another holds what is to be granted
-      pub rows_taken : (next : Standing) (t : Bool) → t ≡ true → Tells mid next (Ok t) (λ c b is. is ≡ is_taken b v change) → Does old next (Err Taken) does
-      unfolding ◌>>◌ refuse◌when◌
-      rows_taken next t held asked c b stood sound =
-          let k = allowed-told true c b stood sound in
-          let a = asked c b k.0 in
-          (a.0, inr (k.1 (sym a.1 ∙ held)))
-
-      -- the edits are made
-      pub rows_carried : (next new : Standing) (t : Bool) (r : Result ⊤ Refusal) → t ≡ false → Tells mid next (Ok t) (λ c b is. is ≡ is_taken b v change) → IsChecked page.params change
-          → Applies next new r edits → Does old new r does
-      unfolding ◌>>◌ refuse◌when◌
-      rows_carried next new t r free asked checked = carried old next new does edits r (λ c b stood sound.
-          let k = allowed-told false c b stood sound in
-          let a = asked c b k.0 in
-          let o = opened-there c.params b s v page (read c b stood sound).1 in
-          let of_cluster : IsChecked c.params change = subst (λ (q : PageData). IsChecked q.params change) (sym o.2) checked in (
-            a.0,
-            (
-              decision-fits c b s v o.0 change edits sound o.1 of_cluster (unheld b v o.0 change o.1 (sym a.1 ∙ free)) (ap (λ q. decision q change) o.2 ∙ allowed),
-              k.1 (sym a.1 ∙ free),
-            ),
-          ))
+    -- the edits are made
+    pub rows_made : (next new : Standing) (edits : Vec Edit Global) (r : Result ⊤ Refusal) → Allows mid next (Ok edits) page change → IsChecked page.params change →
+        Makes next new r page edits.items → Does old new r does
+    unfolding ◌>>=◌ allowed
+    rows_made next new edits r asked checked makes c b stood sound =
+        let k = page-told c b stood sound in
+        let a = asked c b k.0 in
+        let o = opened-there c.params b s v page (read c b stood sound).1 in
+        let passed = both_passed (decision page change) (is_taken b page.variant change) edits.items a.1 in
+        let variant : v ≡ page.variant = ap (λ (q : PageData). q.variant) o.2 in
+        let of_cluster : IsChecked c.params change = subst (λ (q : PageData). IsChecked q.params change) (sym o.2) checked in
+        let fits : AllFit b edits.items =
+        decision-fits c b s v o.0 change edits.items sound o.1 of_cluster (unheld b v o.0 change o.1 (ap (λ w. is_taken b w change) variant ∙ passed.1))
+        (ap (λ q. decision q change) o.2 ∙ passed.0) in
+        let does_so : does c b ≡ Ok (all_applied b edits.items) = k.1.1 ∙ ap (λ d. d >>= λ edits. Ok (all_applied b edits)) a.1 in
+        done_so c b edits.items r does_so (makes c b a.0 k.1.0 fits)
+      where
+        done_so : (c : Cluster) (b : Book) (es : List Edit) (r : Result ⊤ Refusal) → does c b ≡ Ok (all_applied b es) →
+            MatchResult r (λ _. new c (all_applied b es)) (λ e. (e ≡ Unavailable) × new c b) →
+            MatchResult r (λ _. (after : Book) × (does c b ≡ Ok after) × new c after) (λ e. IsRefused new c b e (does c b))
+        done_so c b es (Ok x) does_so made = (all_applied b es, does_so, made)
+        done_so c b es (Err e) does_so made = (made.1, inl made.0)

@@ -1,13 +1,14 @@
 -- Pages that are kept in memory beside the register.
-use Rattle.std.specs.Prelude.{◌≡◌, ◌+◌, ◌-◌, Bool, false, ◌&&◌, not, List, [], ◌∷◌, ◌++◌, length, drop, find, filter, All, Option, Some, None, ⊤}
-use Rattle.std.specs.List.{before_first, after_first}
+use Rattle.std.specs.Prelude.{◌≡◌, ◌+◌, ◌-◌, Bool, false, ◌&&◌, not, List, [], ◌∷◌, ◌++◌, length, drop, find, filter, All, Option, Some, ⊤}
 use Rattle.fr_base.specs.Book.{Variant, Book}
+use Rattle.fr_base.specs.Cluster.{Cluster}
 use Rattle.fr_base.specs.Names.{same_text}
 use Rattle.fr_base.specs.Tables.{get}
 use Rattle.fr_base.specs.declared.name.Name.{Name}
 use Rattle.fr_base.specs.declared.params.Params.{Params}
 use Rattle.fr_world.specs.BookEdits.{SparesOthers}
 use Rattle.fr_world.specs.Pages.{PageData, page_in}
+use Rattle.fr_office.specs.Held.{Standing}
 use Rattle.fr_office.specs.declared.pages.TheConstants.{MAX_PAGES}
 use Rattle.fr_world.specs.declared.edit.Edit.{Edit}
 use Rattle.fr_world.specs.declared.edit.Edit.TheVariants.{NewVariant, SetReleased, NewNode, Rows, KeepImport}
@@ -18,9 +19,26 @@ pub record IsFresh (p : Params) (b : Book) (page : PageData) : Type 0 where
   pub there : get b.variants page.variant ≡ Some variant
   pub same : page ≡ page_in p b page.supplier page.variant variant
 
+-- Each page has these parameters.
+abbrev pub AreOf : Params → List PageData → Type 0
+AreOf p pages = All (λ page. page.params ≡ p) pages
+
 -- No page is stale.
 abbrev pub AreFresh : Params → Book → List PageData → Type 0
 AreFresh p b pages = All (IsFresh p b) pages
+
+-- Records take a page back that is theirs, and stand for the same book as before.
+abbrev pub Keeps : Standing → Standing → PageData → Type 0
+Keeps old new page = (c : Cluster) (b : Book) → old c b → IsFresh c.params b page → new c b
+
+-- records, and pages that are kept beside them
+pub record WarmData (R : Type 0) : Type 0 where
+  pub records : R
+  pub pages : List PageData
+
+-- The records stand for the book, and no page beside them is stale.
+abbrev pub StandsWarm : {R : Type 0} → (R → Standing) → WarmData R → Standing
+StandsWarm stands warm c b = stands warm.records c b × AreFresh c.params b warm.pages
 
 -- whether it is the supplier's page of the variant
 abbrev pub is_page_of : Name → Name → PageData → Bool
@@ -29,17 +47,6 @@ is_page_of s v page = same_text page.supplier s && same_text page.variant v
 -- the supplier's page of the variant, where it is kept
 abbrev pub page_at : Name → Name → List PageData → Option PageData
 page_at s v pages = find (is_page_of s v) pages
-
--- the pages before and after it
-abbrev pub beside_page : Name → Name → List PageData → List PageData
-beside_page s v pages = before_first (is_page_of s v) pages ++ after_first (is_page_of s v) pages
-
--- ---- which was used last
-
--- the pages after the supplier's page of the variant was used, where it is kept: it stands last
-abbrev pub used : Name → Name → List PageData → Option PageData → List PageData
-used s v pages None = pages
-used s v pages (Some page) = beside_page s v pages ++ page ∷ []
 
 -- the pages of other suppliers or variants
 abbrev pub others_than : Name → Name → List PageData → List PageData
@@ -66,12 +73,12 @@ touches (KeepImport s label v body rows) page = false
 abbrev pub untouched : Edit → List PageData → List PageData
 untouched edit pages = filter (λ page. not (touches edit page)) pages
 
+-- the pages that edits leave as they are, one after another
+abbrev pub untouched_by : List Edit → List PageData → List PageData
+untouched_by [] pages = pages
+untouched_by (edit ∷ edits) pages = untouched_by edits (untouched edit pages)
+
 -- The edit grants or ends nothing that a supplier other than its own holds.
 abbrev pub Spares : Book → Edit → Type 0
 Spares b (Rows s v what) = (x : Variant) → get b.variants v ≡ Some x → SparesOthers s x (Rows s v what)
 Spares b _ = ⊤
-
--- the page of which an edit changes single rows, where it is kept
-abbrev pub edited_page : Edit → List PageData → Option PageData
-edited_page (Rows s v what) pages = page_at s v pages
-edited_page _ pages = None

@@ -7,7 +7,7 @@ use crate::imports::import;
 use crate::queries::reply;
 use crate::records::Records;
 use crate::suppliers::has_supplier;
-use fr_base::{Actor, Answer, Ask, Checked, Config, Params, Refusal, check};
+use fr_base::{Actor, Answer, Ask, Checked, Config, Refusal, check};
 use std::alloc::Global;
 
 /// Answers a request: `UnknownKey` where who asks is not there; then what the request's own text refuses;
@@ -22,7 +22,7 @@ pub(crate) fn answer<R: Records>(alloc: Global, records: &mut R, ask: &Ask) -> A
     }
     let params = config.params();
     match check(&params, &ask.actor, &ask.request) {
-        Ok(valid) => match act(alloc, records, params, &ask.actor, &valid) {
+        Ok(valid) => match act(alloc, records, &ask.actor, &valid) {
             Ok(answer) => answer,
             Err(refusal) => Answer::Refused(refusal),
         },
@@ -40,21 +40,20 @@ fn is_known(config: &Config, actor: &Actor) -> bool
     }
 }
 
-// Carries out a request that was checked under these parameters, the cluster's.
+// Carries out a request that was checked under the cluster's parameters.
 fn act<R: Records>(
     alloc: Global,
     records: &mut R,
-    params: Params,
     actor: &Actor,
     valid: &Checked<'_>,
 ) -> Result<Answer, Refusal>
-    requires passed { HasPassed params actor.now valid.now }
+    requires passed { HasPassed (R.params records.old) actor.now valid.now }
     ensures falls { R.clean records.new → R.clean records.old }
     ensures acts { R.clean records.new → Acts (R.stands records.old) (R.stands records.new) result actor.now valid.now }
 {
     match valid {
         Checked::Command(command) => {
-            carry_out(alloc, records, params, command)?;
+            carry_out(alloc, records, command)?;
             Ok(Answer::Done)
         }
         Checked::Import(new) => import(alloc, records, new),

@@ -11,18 +11,17 @@ use crate::commands::common::change_common;
 use crate::commands::nodes::add_node;
 use crate::commands::rows::change_rows;
 use crate::records::Records;
-use fr_base::{Command, Params, Refusal};
+use fr_base::{Command, Refusal};
 use std::alloc::Global;
 
-/// Carries out a command whose values were checked under these parameters, the cluster's. It is refused
+/// Carries out a command whose values were checked under the cluster's parameters. It is refused
 /// as the register refuses it, or with `Unavailable`, and then nothing was done.
 pub(crate) fn carry_out<R: Records>(
     alloc: Global,
     records: &mut R,
-    params: Params,
     command: &Command,
 ) -> Result<(), Refusal>
-    requires checked { IsCheckedCommand params command.now }
+    requires checked { IsCheckedCommand (R.params records.old) command.now }
     ensures falls { R.clean records.new → R.clean records.old }
     ensures does { R.clean records.new → Performs (R.stands records.old) (R.stands records.new) result (λ c b. perform c.params b command.now) }
 {
@@ -33,6 +32,6 @@ pub(crate) fn carry_out<R: Records>(
             supplier,
             variant,
             change,
-        } => change_rows(alloc, records, params, *supplier, *variant, change),
+        } => change_rows(alloc, records, *supplier, *variant, change),
     }
 }

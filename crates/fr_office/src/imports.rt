@@ -63,7 +63,8 @@ fn import_rows<R: Records>(
     rows_are_checked();
     match decide_rows(alloc, page, rows.as_slice()) {
         Ok(edits) => {
-            let count = u32::try_from(rows.len()).map_err(|_| Refusal::Unavailable)?;
+            // A file of which no row is refused has at most 512.
+            let count = rows.len() as u32;
             keep(alloc, records, import, edits, count)?;
             Ok(Answer::Imported { rows: count })
         }

@@ -2,6 +2,7 @@
 //! supplier, and each supplier is answered as if it were alone.
 #![tactic(auto)]
 
+mod amending;
 mod answering;
 mod commands;
 mod desk;
@@ -16,10 +17,11 @@ mod records;
 mod running;
 mod store_records;
 mod suppliers;
+mod warm;
 
 pub use desk::Desk;
 pub use office::Office;
-pub use pages::{MAX_PAGES, Pages};
+pub use pages::MAX_PAGES;
 pub use records::Records;
 pub use running::{Stopped, run};
 

@@ -19,12 +19,15 @@ pub(crate) fn open_page<R: Records>(
 ) -> Result<Page, Refusal>
     ensures falls { R.clean records.new → R.clean records.old }
     ensures open { IfOk result (λ page. page.released ≡ false) }
+    ensures same { R.params records.new ≡ R.params records.old }
+    ensures params { IfOk result (λ page. page.params ≡ R.params records.old) }
     ensures page { R.clean records.new → Replies (R.stands records.old) (R.stands records.new) result (λ c b. open_page c.params b supplier variant) }
 {
     let Some(page) = records.page(alloc, supplier, variant)? else {
         return Err(Refusal::NoVariant);
     };
     if page.released() {
+        records.keep(page);
         return Err(Refusal::Released);
     }
     if !has_supplier(records.config(), supplier) {

@@ -1,24 +1,19 @@
 //! Pages of the register that are kept in memory, so that they need not be read for each request.
-ghost use Rattle.std.specs.Prelude.{◌≡◌, ◌+◌, ◌-◌, ◌<◌, ◌≤◌, [], not, drop, length, vec_capacity, vec_len, is_some, position, IfOk, IfSome, OnErr, OnOk};
-ghost use Rattle.std.specs.Option.{option_copied};
-ghost use Rattle.fr_base.specs.Book.{Book};
-ghost use Rattle.fr_base.specs.Cluster.{Cluster};
-ghost use Rattle.fr_world.specs.BookEdits.{applied};
-ghost use Rattle.fr_world.specs.Edits.{Takes};
-ghost use Rattle.fr_world.specs.Pages.{own_rows_of};
-ghost use Rattle.fr_office.specs.KeptPages.{AreFresh, IsFresh, Spares, beside_page, edited_page, is_page_of, others_than, page_at, touches, untouched, used, with_page};
+ghost use Rattle.std.specs.Prelude.{◌≡◌, ◌+◌, ◌-◌, ◌<◌, ◌≤◌, [], not, drop, length, vec_capacity, vec_len, position, OnErr, OnOk};
+ghost use Rattle.fr_office.specs.KeptPages.{is_page_of, others_than, page_at, touches, untouched, untouched_by, with_page};
 
-use fr_base::{Name, NoMemory, Refusal};
+use fr_base::{Name, NoMemory};
 use fr_world::{Edit, Page};
 use std::alloc::Global;
 use std::marker::Model;
 
-/// The most pages that are kept.
+/// The most pages that are kept. A page with all the rows that it may have takes at most 2.2 MB, so all
+/// of them take at most 140 MB.
 pub const MAX_PAGES: usize = 64;
 
 /// At most [`MAX_PAGES`] pages, of which the one that was used last stands at the end.
 #[derive(Drop)]
-pub struct Pages {
+pub(crate) struct Pages {
     kept: Vec<Page>,
 }
 
@@ -36,7 +31,7 @@ impl Model for Pages {
 
 impl Pages {
     /// No pages.
-    pub fn new(alloc: Global) -> Pages
+    pub(crate) fn new(alloc: Global) -> Pages
         ensures { result ≡ [] }
     {
         Pages {
@@ -44,34 +39,10 @@ impl Pages {
         }
     }
 
-    /// The supplier's page of the variant, where it is kept.
-    pub fn get(&self, supplier: Name, variant: Name) -> Option<&Page>
-        ensures value { option_copied result ≡ page_at supplier variant self.now }
-        ensures fresh { (c : Cluster) (b : Book) → AreFresh c.params b self.now → IfSome result (λ page. IsFresh c.params b page.now) }
-    {
-        self.kept
-            .iter()
-            .find(|page| is_page_of(page, supplier, variant))
-    }
-
-    /// Uses the supplier's page of the variant, and answers whether it is kept.
-    pub fn touch(&mut self, supplier: Name, variant: Name) -> bool
-        ensures found { result ≡ is_some (page_at supplier variant self.old) }
-        ensures used { self.new ≡ used supplier variant self.old (page_at supplier variant self.old) }
-        ensures fresh { (c : Cluster) (b : Book) → AreFresh c.params b self.old → AreFresh c.params b self.new }
-    {
-        let Some(place) = place_of(&self.kept, supplier, variant) else {
-            return false;
-        };
-        let page = self.kept.remove(place);
-        self.kept.push(page).is_ok()
-    }
-
     /// Takes the supplier's page of the variant out, where it is kept. None is kept then.
-    pub fn take(&mut self, supplier: Name, variant: Name) -> Option<Page>
+    pub(crate) fn take(&mut self, supplier: Name, variant: Name) -> Option<Page>
         ensures value { result ≡ page_at supplier variant self.old }
         ensures others { self.new ≡ others_than supplier variant self.old }
-        ensures fresh { (c : Cluster) (b : Book) → AreFresh c.params b self.old → AreFresh c.params b self.new × IfSome result (IsFresh c.params b) }
     {
         let place = place_of(&self.kept, supplier, variant)?;
         let page = self.kept.remove(place);
@@ -81,10 +52,9 @@ impl Pages {
 
     /// Keeps a page, in place of its supplier's in its variant. Where there are too many, the one
     /// longest unused is let go. The page is given up where memory is refused.
-    pub fn keep(&mut self, page: Page) -> Result<(), NoMemory>
+    pub(crate) fn keep(&mut self, page: Page) -> Result<(), NoMemory>
         ensures ok { OnOk result (self.new ≡ with_page page self.old) }
         ensures err { OnErr result (self.new ≡ others_than page.supplier page.variant self.old) }
-        ensures fresh { (c : Cluster) (b : Book) → AreFresh c.params b self.old → IsFresh c.params b page → AreFresh c.params b self.new }
     {
         let_go_of(&mut self.kept, page.supplier(), page.variant());
         make_room(&mut self.kept);
@@ -92,36 +62,11 @@ impl Pages {
         Ok(())
     }
 
-    /// Follows an edit of the register. The page whose single rows it changes takes it, and is changed
-    /// where it lies; where memory is refused, it is let go. So are all other pages that the edit may
-    /// change.
-    pub fn follow(&mut self, alloc: Global, edit: &Edit)
-        requires takes { IfSome (edited_page edit.now self.old) (λ page. Takes page.variant (own_rows_of page) edit.now) }
-        ensures fresh { (c : Cluster) (b : Book) → AreFresh c.params b self.old → Spares b edit.now → AreFresh c.params (applied b edit.now) self.new }
+    /// Lets go of the pages that edits of the register may change.
+    pub(crate) fn let_go(&mut self, edits: &[Edit])
+        ensures { self.new ≡ untouched_by edits.now self.old }
     {
-        let page = self.take_edited(edit);
-        let_go_touched(&mut self.kept, edit);
-        let Some(page) = page else {
-            return;
-        };
-        if let Ok(page) = amended(page, alloc, edit) {
-            let _ = self.keep(page);
-        }
-    }
-
-    // Takes the page out of which the edit changes single rows, where it is kept.
-    fn take_edited(&mut self, edit: &Edit) -> Option<Page>
-        ensures value { result ≡ edited_page edit.now self.old }
-        ensures fresh { (c : Cluster) (b : Book) → AreFresh c.params b self.old → AreFresh c.params b self.new × IfSome result (IsFresh c.params b) }
-    {
-        match edit {
-            Edit::Rows {
-                supplier,
-                variant,
-                ..
-            } => self.take(*supplier, *variant),
-            _ => None,
-        }
+        let_go_touched(&mut self.kept, edits);
     }
 }
 
@@ -137,8 +82,18 @@ fn let_go_of(pages: &mut Vec<Page>, supplier: Name, variant: Name)
     );
 }
 
+// Lets go of the pages that one of the edits may change.
+fn let_go_touched(pages: &mut Vec<Page>, edits: &[Edit])
+    ensures items { pages.new.items ≡ untouched_by edits.now pages.old.items }
+    ensures bound { length pages.new.items ≤ length pages.old.items }
+{
+    for edit in edits {
+        let_go_by(pages, edit);
+    }
+}
+
 // Lets go of the pages that the edit may change.
-fn let_go_touched(pages: &mut Vec<Page>, edit: &Edit)
+fn let_go_by(pages: &mut Vec<Page>, edit: &Edit)
     ensures items { pages.new.items ≡ untouched edit.now pages.old.items }
     ensures bound { length pages.new.items ≤ length pages.old.items }
 {
@@ -147,17 +102,6 @@ fn let_go_touched(pages: &mut Vec<Page>, edit: &Edit)
             ensures { result ≡ not (touches edit.entry.now page.now) }
         { !touches(edit, page) },
     );
-}
-
-// The page with the edit made in it; `Unavailable` where memory is refused.
-fn amended(mut page: Page, alloc: Global, edit: &Edit) -> Result<Page, Refusal>
-    requires takes { Takes page.variant (own_rows_of page) edit.now }
-    ensures fresh { IfOk result (λ new. (c : Cluster) (b : Book) → IsFresh c.params b page → IsFresh c.params (applied b edit.now) new) }
-{
-    page.amend(alloc, edit)?;
-    // Gives the proof that the rows are a page's.
-    let _frames = page.frames();
-    Ok(page)
 }
 
 // Lets go of the page longest unused where there are as many as may be.

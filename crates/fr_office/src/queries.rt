@@ -1,5 +1,5 @@
 //! What queries are answered from the records.
-ghost use Rattle.std.specs.Prelude.{◌≡◌};
+ghost use Rattle.std.specs.Prelude.{◌≡◌, IfOk};
 ghost use Rattle.fr_base.specs.Queries.{reply, variant_asked};
 ghost use Rattle.fr_base.specs.declared.actor.Actor.TheVariants.{Integrator, Supplier};
 ghost use Rattle.fr_office.specs.Carried.{Replies};
@@ -104,7 +104,9 @@ fn reply_to_supplier<R: Records>(
     ensures replies { R.clean records.new → Replies (R.stands records.old) (R.stands records.new) result (λ c b. reply c.params b (Supplier supplier) query.now) }
 {
     let page = find_page(alloc, records, supplier, variant_asked(query))?;
-    show(alloc, &page, query)
+    let answer = show(alloc, &page, query);
+    records.keep(page);
+    answer
 }
 
 /// The supplier's page of the variant; `NoVariant` where it is not there.
@@ -115,6 +117,7 @@ pub(crate) fn find_page<R: Records>(
     variant: Name,
 ) -> Result<Page, Refusal>
     ensures falls { R.clean records.new → R.clean records.old }
+    ensures params { IfOk result (λ page. page.params ≡ R.params records.new) }
     ensures page { R.clean records.new → FindsPage (R.stands records.old) (R.stands records.new) result supplier variant }
 {
     match records.page(alloc, supplier, variant)? {

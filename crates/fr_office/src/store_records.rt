@@ -17,6 +17,8 @@ impl<S: Alter> Records for Store<S> {
 
     ghost clean = { λ s. HasCleanDisk (state S.Store s.conn) };
 
+    ghost params = { λ s. s.config.params };
+
     fn config(&self) -> &Config {
         self.config()
     }
@@ -30,6 +32,8 @@ impl<S: Alter> Records for Store<S> {
         see_open(self)?;
         answer(self.page(alloc, &supplier, &variant))
     }
+
+    fn keep(&mut self, _page: Page) {}
 
     fn is_held(&mut self, variant: Name, slot: Slot, channel: Channel) -> Result<bool, Refusal> {
         see_open(self)?;
@@ -71,6 +75,7 @@ impl<S: Alter> Records for Store<S> {
 // That the register can be asked. Of one that a fault has shut nothing is told and nothing is changed.
 fn see_open<S: Alter>(store: &mut Store<S>) -> Result<(), Refusal>
     ensures falls { HasCleanDisk (state S.Store store.new.conn) → HasCleanDisk (state S.Store store.old.conn) }
+    ensures config { store.new.config ≡ store.old.config }
     ensures open { HasCleanDisk (state S.Store store.new.conn) → OnOk result (IsTrue (state S.Store store.new.conn).is_open) }
     ensures stands { HasCleanDisk (state S.Store store.new.conn) → (c : _) (b : _) → StandsStored store.old.config (state S.Store store.old.conn) c b → StandsStored store.new.config (state S.Store store.new.conn) c b }
     ensures refused { IfErr result (λ e. e ≡ Unavailable) }

@@ -105,21 +105,29 @@ fn keep(pages: &mut Pages, alloc: Global, number: usize) -> Result<(), Fail> {
     Ok(pages.keep(page)?)
 }
 
+// Whether the page is kept, which is used then.
+fn is_kept(pages: &mut Pages, alloc: Global, number: usize) -> Result<bool, Fail> {
+    let Some(page) = pages.take(supplier()?, variant(alloc, number)?) else {
+        return Ok(false);
+    };
+    pages.keep(page)?;
+    Ok(true)
+}
+
 #[test]
 fn as_many_pages_as_may_be_are_kept(rt: HostRuntime) -> Result<(), Fail> {
     let mut pages = Pages::new(rt.alloc());
     for number in 0..=MAX_PAGES {
         keep(&mut pages, rt.alloc(), number)?;
     }
-    let supplier = supplier()?;
-    assert!(rt; pages.get(supplier, variant(rt.alloc(), 0)?).is_none());
-    assert!(rt; pages.touch(supplier, variant(rt.alloc(), 1)?));
+    assert!(rt; !is_kept(&mut pages, rt.alloc(), 0)?);
+    assert!(rt; is_kept(&mut pages, rt.alloc(), 1)?);
     keep(&mut pages, rt.alloc(), 0)?;
-    assert!(rt; pages.get(supplier, variant(rt.alloc(), 1)?).is_some());
-    assert!(rt; pages.get(supplier, variant(rt.alloc(), 2)?).is_none());
-    let released = variant(rt.alloc(), 3)?;
-    pages.follow(rt.alloc(), &Edit::SetReleased { variant: released });
-    assert!(rt; pages.get(supplier, released).is_none());
-    assert!(rt; pages.get(supplier, variant(rt.alloc(), 4)?).is_some());
+    assert!(rt; is_kept(&mut pages, rt.alloc(), 1)?);
+    assert!(rt; !is_kept(&mut pages, rt.alloc(), 2)?);
+    let variant = variant(rt.alloc(), 3)?;
+    pages.let_go(&[Edit::SetReleased { variant }]);
+    assert!(rt; !is_kept(&mut pages, rt.alloc(), 3)?);
+    assert!(rt; is_kept(&mut pages, rt.alloc(), 4)?);
     Ok(())
 }

@@ -1,17 +1,26 @@
 //! What the check would let pass: an office that is always `Unavailable`, or runs no list to its end, though memory
 //! is there.
-use crate::fixture::FILE;
+use crate::fixture::{FILE, name};
 use crate::office::Office;
 use crate::records::Records;
-use fr_base::{Answer, Ask};
+use fr_base::{Actor, Answer, Ask, Name, NoMemory};
 use fr_store::Store;
-use fr_text::{read_command, read_config, write_answer};
+use fr_text::{
+    read_command, read_config, write_answer, write_gaps, write_layout, write_lines, write_schedule,
+};
+use fr_world::{Page, PageFrame};
 use sqlite::MemStore;
 use std::alloc::Global;
 use std::test::Fail;
 
-/// Who asks, with which key, what; and the answer.
-const ASKED: [(&str, &str, &str); 16] = [
+/// The most frames of a supplier in a variant.
+const MAX_FRAMES: usize = 256;
+
+/// With which key, what is asked, and the answer.
+type Line = (&'static str, &'static str, &'static str);
+
+/// The first script.
+const FIRST: [Line; 6] = [
     (
         "integrator1",
         r#"{"do":"open_variant","variant":"v1"}"#,
@@ -42,6 +51,10 @@ const ASKED: [(&str, &str, &str); 16] = [
         r#"{"do":"schedule","variant":"v1"}"#,
         r#"{"lines":["00 0001 A f1 n1"],"ok":"schedule"}"#,
     ),
+];
+
+/// After it: other actors, an import that comes again, a release.
+const IMPORTS: [Line; 10] = [
     (
         "integrator1",
         r#"{"do":"schedule","variant":"v1"}"#,
@@ -94,9 +107,78 @@ const ASKED: [(&str, &str, &str); 16] = [
     ),
 ];
 
+/// After the first script: one slot for two suppliers and two nodes, and a grant that ends.
+const GRANTS: [Line; 13] = [
+    (
+        "integrator1",
+        r#"{"do":"add_node","supplier":"s2","node":"m1"}"#,
+        r#"{"ok":"done"}"#,
+    ),
+    (
+        "integrator1",
+        r#"{"do":"grant","variant":"v1","slot":1,"channel":"A","supplier":"s2","node":"m1"}"#,
+        r#"{"no":24,"refused":"Taken"}"#,
+    ),
+    (
+        "supplier01",
+        r#"{"do":"grants","variant":"v1"}"#,
+        r#"{"lines":["0001 A n1"],"ok":"grants"}"#,
+    ),
+    (
+        "supplier02",
+        r#"{"do":"grants","variant":"v1"}"#,
+        r#"{"lines":[],"ok":"grants"}"#,
+    ),
+    (
+        "integrator1",
+        r#"{"do":"grant","variant":"v1","slot":1,"channel":"A","supplier":"s1","node":"n1"}"#,
+        r#"{"no":19,"refused":"Exists"}"#,
+    ),
+    (
+        "integrator1",
+        r#"{"do":"add_node","supplier":"s1","node":"n2"}"#,
+        r#"{"ok":"done"}"#,
+    ),
+    (
+        "integrator1",
+        r#"{"do":"grant","variant":"v1","slot":1,"channel":"A","supplier":"s1","node":"n2"}"#,
+        r#"{"no":20,"refused":"NodeDiffers"}"#,
+    ),
+    (
+        "integrator1",
+        r#"{"do":"revoke","variant":"v1","slot":1,"channel":"A","supplier":"s1"}"#,
+        r#"{"no":22,"refused":"InUse"}"#,
+    ),
+    (
+        "supplier01",
+        r#"{"do":"unplace","variant":"v1","frame":"f1","slot":1,"channels":"A","base":0,"repetition":64}"#,
+        r#"{"ok":"done"}"#,
+    ),
+    (
+        "integrator1",
+        r#"{"do":"revoke","variant":"v1","slot":1,"channel":"A","supplier":"s1"}"#,
+        r#"{"ok":"done"}"#,
+    ),
+    (
+        "integrator1",
+        r#"{"do":"revoke","variant":"v1","slot":1,"channel":"A","supplier":"s1"}"#,
+        r#"{"no":21,"refused":"NotGranted"}"#,
+    ),
+    (
+        "integrator1",
+        r#"{"do":"grant","variant":"v1","slot":2,"channel":"A","supplier":"s2","node":"m1"}"#,
+        r#"{"ok":"done"}"#,
+    ),
+    (
+        "integrator1",
+        r#"{"do":"revoke","variant":"v1","slot":2,"channel":"A","supplier":"s1"}"#,
+        r#"{"no":21,"refused":"NotGranted"}"#,
+    ),
+];
+
 fn office(alloc: Global) -> Result<Office<Store<MemStore>>, Fail> {
     let config = read_config(alloc, FILE.as_bytes())?;
-    Ok(Office::new(Store::create_in_memory(alloc, &config)?))
+    Ok(Office::new(alloc, Store::create_in_memory(alloc, &config)?))
 }
 
 // What the text asks, and who with this key.
@@ -106,41 +188,162 @@ fn ask<R: Records>(alloc: Global, office: &Office<R>, key: &str, text: &str) -> 
     Ok(Ask { actor, request })
 }
 
-fn is_answered<R: Records>(
+fn push_lines<R: Records>(
+    asks: &mut Vec<Ask>,
     alloc: Global,
-    office: &mut Office<R>,
-    key: &str,
-    text: &str,
-    answer: &str,
-) -> Result<bool, Fail> {
-    let ask = ask(alloc, office, key, text)?;
-    let given = write_answer(alloc, &office.ask(alloc, &ask))?;
-    Ok(given.as_slice() == answer.as_bytes())
-}
-
-#[test]
-fn office_succeeds_where_memory_is_ample(rt: HostRuntime) -> Result<(), Fail> {
-    let mut office = office(rt.alloc())?;
-    for (key, text, answer) in ASKED {
-        assert!(rt;
-            is_answered(rt.alloc(), &mut office, key, text, answer)?,
-            "{text}"
-        );
+    office: &Office<R>,
+    lines: &[Line],
+) -> Result<(), Fail> {
+    for (key, text, _) in lines {
+        asks.push(ask(alloc, office, key, text)?)?;
     }
     Ok(())
 }
 
+fn run<R: Records>(
+    alloc: Global,
+    office: &mut Office<R>,
+    asks: &[Ask],
+) -> Result<Vec<Answer>, Fail> {
+    match office.run(alloc, asks) {
+        Ok(answers) => Ok(answers),
+        Err(_) => Err(Fail::from("no memory")),
+    }
+}
+
+// The answers to the lines, as one list, which are as the lines say.
+fn answered<R: Records>(
+    alloc: Global,
+    office: &mut Office<R>,
+    lines: &[Line],
+) -> Result<Vec<Answer>, Fail> {
+    let mut asks = Vec::new(alloc);
+    push_lines(&mut asks, alloc, office, lines)?;
+    let answers = run(alloc, office, &asks)?;
+    for (answer, (_, text, wanted)) in answers.iter().zip(lines) {
+        if write_answer(alloc, answer)?.as_slice() != wanted.as_bytes() {
+            return Err(Fail::from(*text));
+        }
+    }
+    Ok(answers)
+}
+
+fn is_report(report: Result<Vec<u8>, NoMemory>, lines: &str) -> Result<bool, Fail> {
+    Ok(report?.as_slice() == lines.as_bytes())
+}
+
+// Whether the integrator's schedule, the gaps and the layout are written as reports.
+fn are_reported(alloc: Global, answers: &[Answer]) -> Result<bool, Fail> {
+    let schedule = answers.first().ok_or("no schedule")?;
+    let gaps = answers.get(5).ok_or("no gaps")?;
+    let layout = answers.last().ok_or("no layout")?;
+    Ok(is_report(write_lines(alloc, schedule), "00 0001 A f1 n1 s1\n")?
+        && is_report(write_schedule(alloc, schedule), "00 0001 A f1 n1 s1\n")?
+        && is_report(write_gaps(alloc, gaps), "GAP    6300 f1\n")?
+        && is_report(write_layout(alloc, layout), "0004 08 little x s1\n")?)
+}
+
 #[test]
 fn run_answers_a_list(rt: HostRuntime) -> Result<(), Fail> {
-    let mut office = office(rt.alloc())?;
-    let mut asks = Vec::new(rt.alloc());
-    for (key, text, _) in ASKED {
-        asks.push(ask(rt.alloc(), &office, key, text)?)?;
+    let mut grants = office(rt.alloc())?;
+    assert_eq!(rt; answered(rt.alloc(), &mut grants, &FIRST)?.len(), 6);
+    assert_eq!(rt; answered(rt.alloc(), &mut grants, &GRANTS)?.len(), 13);
+    let mut imports = office(rt.alloc())?;
+    answered(rt.alloc(), &mut imports, &FIRST)?;
+    let answers = answered(rt.alloc(), &mut imports, &IMPORTS)?;
+    assert_eq!(rt; answers.len(), 10);
+    assert!(rt; are_reported(rt.alloc(), &answers)?);
+    Ok(())
+}
+
+/// Another supplier's, which the integrator serves and which adds a frame more than it may.
+fn push_stranger(
+    asks: &mut Vec<Ask>,
+    alloc: Global,
+    office: &Office<Store<MemStore>>,
+) -> Result<(), Fail> {
+    let node = r#"{"do":"add_node","supplier":"s2","node":"m1"}"#;
+    let grant =
+        r#"{"do":"grant","variant":"v1","slot":1,"channel":"B","supplier":"s2","node":"m1"}"#;
+    asks.push(ask(alloc, office, "integrator1", node)?)?;
+    asks.push(ask(alloc, office, "integrator1", grant)?)?;
+    for number in 0..=MAX_FRAMES {
+        let text = format!(in alloc;
+            r#"{{"do":"add_frame","variant":"v1","frame":"f{number}","node":"m1"}}"#
+        )?;
+        asks.push(ask(alloc, office, "supplier02", &text)?)?;
     }
-    let Ok(answers) = office.run(rt.alloc(), &asks) else {
-        return Err(Fail::from("no memory"));
-    };
-    assert_eq!(rt; answers.len(), 16);
-    assert!(rt; matches!(answers.first(), Some(Answer::Done)));
+    Ok(())
+}
+
+// The first script's requests, and between them those of another supplier.
+fn with_a_stranger(alloc: Global, office: &Office<Store<MemStore>>) -> Result<Vec<Ask>, Fail> {
+    let mut asks = Vec::new(alloc);
+    let (opening, rest) = FIRST.split_at(3);
+    push_lines(&mut asks, alloc, office, opening)?;
+    push_stranger(&mut asks, alloc, office)?;
+    push_lines(&mut asks, alloc, office, rest)?;
+    Ok(asks)
+}
+
+// The answers to a supplier among those to all, each on a line of its own.
+fn answers_to(
+    alloc: Global,
+    supplier: Name,
+    asks: &[Ask],
+    answers: &[Answer],
+) -> Result<Vec<u8>, Fail> {
+    let mut lines = Vec::new(alloc);
+    for (ask, answer) in asks.iter().zip(answers) {
+        if ask.actor == Actor::Supplier(supplier) {
+            lines.extend_from_slice(write_answer(alloc, answer)?.as_slice())?;
+            lines.push(b'\n')?;
+        }
+    }
+    Ok(lines)
+}
+
+fn page(store: &mut Store<MemStore>, alloc: Global, supplier: &str) -> Result<Page, Fail> {
+    let page = store.page(alloc, &name(supplier)?, &name("v1")?)?;
+    Ok(page.ok_or("no page")?)
+}
+
+fn is_same_frame(frame: &PageFrame, other: &PageFrame) -> bool {
+    frame.node == other.node
+        && frame.placements == other.placements
+        && frame.layout.signals() == other.layout.signals()
+}
+
+fn is_same(page: &Page, other: &Page) -> bool {
+    page.nodes() == other.nodes()
+        && page.grants() == other.grants()
+        && page.frames().keys().eq(other.frames().keys())
+        && page
+            .frames()
+            .values()
+            .zip(other.frames().values())
+            .all(|(frame, other)| is_same_frame(frame, other))
+}
+
+/// Two lists that are alike in what is `s1`'s: its answers and its page are the same.
+#[test]
+fn a_supplier_does_not_notice_another(rt: HostRuntime) -> Result<(), Fail> {
+    let alloc = rt.alloc();
+    let (mut alone, mut beside) = (office(alloc)?, office(alloc)?);
+    let mut few = Vec::new(alloc);
+    push_lines(&mut few, alloc, &alone, &FIRST)?;
+    let many = with_a_stranger(alloc, &beside)?;
+    let answers = run(alloc, &mut alone, &few)?;
+    let more = run(alloc, &mut beside, &many)?;
+    let supplier = name("s1")?;
+    assert_eq!(rt;
+        answers_to(alloc, supplier, &few, &answers)?,
+        answers_to(alloc, supplier, &many, &more)?
+    );
+    let limit = answers_to(alloc, name("s2")?, &many, &more)?;
+    assert!(rt; limit.ends_with(b"{\"ok\":\"done\"}\n{\"no\":23,\"refused\":\"Limit\"}\n"));
+    let (alone, beside) = (&mut alone.into_records(), &mut beside.into_records());
+    assert!(rt; is_same(&page(alone, alloc, "s1")?, &page(beside, alloc, "s1")?));
+    assert!(rt; !is_same(&page(alone, alloc, "s2")?, &page(beside, alloc, "s2")?));
     Ok(())
 }

@@ -42,6 +42,7 @@ pub(crate) fn gather_frames<R: Records>(
     for supplier in suppliers {
         let page = find_page(alloc, records, *supplier, variant)?;
         push_frames(alloc, &page, &mut rows)?;
+        records.keep(page);
     }
     Ok(rows)
 }

@@ -39,6 +39,7 @@ pub(crate) fn gather_gaps<R: Records>(
     for supplier in suppliers {
         let page = find_page(alloc, records, *supplier, variant)?;
         push_gaps(&page, &mut rows)?;
+        records.keep(page);
     }
     Ok(rows)
 }

@@ -64,6 +64,7 @@ fn gather_holders<R: Records>(
     for supplier in suppliers {
         let page = find_page(alloc, records, *supplier, variant)?;
         add_grants(&page, &mut held)?;
+        records.keep(page);
     }
     Ok(held)
 }

@@ -49,6 +49,7 @@ pub(crate) fn gather_signals<R: Records>(
         if push_signals(&page, name, &mut rows)? {
             found = true;
         }
+        records.keep(page);
     }
     Ok(if found { Some(rows) } else { None })
 }

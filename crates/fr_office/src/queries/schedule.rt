@@ -65,6 +65,7 @@ fn gather_placements<R: Records>(
     for supplier in suppliers {
         let page = find_page(alloc, records, *supplier, variant)?;
         push_placements(&page, &mut placed)?;
+        records.keep(page);
     }
     Ok(placed)
 }

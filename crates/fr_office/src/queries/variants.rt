@@ -6,16 +6,50 @@ ghost use Rattle.fr_base.specs.Tables.{contains};
 ghost use Rattle.fr_office.specs.Held.{Tells};
 
 use crate::records::Records;
-use fr_base::{Name, Refusal};
+use fr_base::{Config, Name, Refusal};
 use fr_world::VariantRow;
 use std::alloc::Global;
 
-/// Whether there is a variant of this name.
+/// Whether there is a variant of this name. The first supplier's page of it tells, which may be in memory;
+/// where there is no supplier the variants are listed.
 pub(crate) fn has_variant<R: Records>(
     alloc: Global,
     records: &mut R,
     variant: Name,
 ) -> Result<bool, Refusal>
+    ensures falls { R.clean records.new → R.clean records.old }
+    ensures has { R.clean records.new → Tells (R.stands records.old) (R.stands records.new) result (λ c b has. has ≡ contains b.variants variant) }
+{
+    match first_supplier(records.config()) {
+        Some(supplier) => has_page(alloc, records, supplier, variant),
+        None => is_listed(alloc, records, variant),
+    }
+}
+
+// The first supplier, if there is one.
+fn first_supplier(config: &Config) -> Option<Name> {
+    config.suppliers().first().map(|supplier| supplier.name)
+}
+
+// Whether the supplier has a page of the variant.
+fn has_page<R: Records>(
+    alloc: Global,
+    records: &mut R,
+    supplier: Name,
+    variant: Name,
+) -> Result<bool, Refusal>
+    ensures falls { R.clean records.new → R.clean records.old }
+    ensures has { R.clean records.new → Tells (R.stands records.old) (R.stands records.new) result (λ c b has. has ≡ contains b.variants variant) }
+{
+    let Some(page) = records.page(alloc, supplier, variant)? else {
+        return Ok(false);
+    };
+    records.keep(page);
+    Ok(true)
+}
+
+// Whether the variant is one of those that are listed.
+fn is_listed<R: Records>(alloc: Global, records: &mut R, variant: Name) -> Result<bool, Refusal>
     ensures falls { R.clean records.new → R.clean records.old }
     ensures has { R.clean records.new → Tells (R.stands records.old) (R.stands records.new) result (λ c b has. has ≡ contains b.variants variant) }
 {

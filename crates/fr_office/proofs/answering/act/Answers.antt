@@ -24,7 +24,7 @@ pub returns-in-Import-clause-acts : goal.returns-in-Import-clause-acts
 returns-in-Import-clause-acts g c = λ clean.
     let old = g.R.Records.stands c.args.records.now in
     let new = g.R.Records.stands c.import.new.records in
-    let asks : c.args.actor.now ≡ Supplier c.in-Import.new.supplier = subst (λ (valid : Checked). HasPassed c.args.params c.args.actor.now valid) c.in-Import.is c.requires.passed in
+    let asks : c.args.actor.now ≡ Supplier c.in-Import.new.supplier = subst (λ (valid : Checked). HasPassed (g.R.Records.params c.args.records.now) c.args.actor.now valid) c.in-Import.is c.requires.passed in
     subst (λ (valid : Checked). Acts old new c.import.result c.args.actor.now valid) (sym c.in-Import.is)
     (import_acts old new c.args.actor.now c.in-Import.new c.import.result asks (c.import.ensures.gives clean))
 

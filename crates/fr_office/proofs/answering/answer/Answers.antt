@@ -1,4 +1,6 @@
-use Rattle.std.proofs.Common.{rules, Ok, Err}
+use Rattle.std.proofs.Common.{rules, ◌≡◌, ◌∙◌, Ok, Err, subst, sym}
+use Rattle.fr_base.specs.declared.params.Params.{Params}
+use Rattle.fr_office.specs.Answering.{HasPassed}
 use Rattle.fr_office.proofs.StepLaws.{acted, passed, unchecked, unknown}
 use Rattle.fr_office.proofs.answering.answer.Goals as goal
 
@@ -7,7 +9,10 @@ returns-then-not-is_known-clause-answers g c = λ clean.
     unknown (g.R.Records.stands c.args.records.now) c.config-config.result.now c.config-config.ensures.config c.args.ask.now (search rules)
 
 pub act-requires : goal.act-requires
-act-requires g c = record { passed = passed c.params-params.result c.args.ask.now.actor c.args.ask.now.request c.in-Ok.valid (search rules) }
+act-requires g c =
+    let cluster : c.params-params.result ≡ g.R.Records.params c.args.records.now = search rules in
+    let fits = passed c.params-params.result c.args.ask.now.actor c.args.ask.now.request c.in-Ok.valid (search rules) in
+    record { passed = subst (λ (p : Params). HasPassed p c.args.ask.now.actor c.in-Ok.valid) cluster fits }
 
 pub returns-in-Ok-act-clause-answers : goal.returns-in-Ok-act-clause-answers
 returns-in-Ok-act-clause-answers g c = λ clean.

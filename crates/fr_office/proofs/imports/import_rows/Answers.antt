@@ -1,16 +1,23 @@
-use Rattle.std.proofs.Common.{rules}
-use Rattle.fr_office.proofs.ImportLaws.{rows_refused, rows_kept, rows_lacked}
+use Rattle.std.proofs.Common.{rules, arith, ◌≡◌, ◌≤◌, length}
+use Rattle.fr_base.specs.declared.limits.TheConstants.{MAX_ROWS}
+use Rattle.fr_office.proofs.ImportLaws.{few_made, rows_refused, rows_kept, rows_lacked}
 use Rattle.fr_office.proofs.imports.import_rows.Goals as goal
+
+pub overflow_cast-count : goal.overflow_cast-count
+overflow_cast-count g c =
+    let few : length c.in_ok-rows.rows ≤ MAX_ROWS = few_made c.args.page c.args.import.now.body c.in_ok-rows.rows c.in-Ok.edits.items (search rules) (search rules) in
+    let counted : c.len-count.result ≡ length c.in_ok-rows.rows = search rules in
+    omega (arith, few, counted)
 
 pub returns-in-Ok-clause-gives : goal.returns-in-Ok-clause-gives
 returns-in-Ok-clause-gives g c = λ clean.
     rows_kept c.args.import.now c.args.page c.in_ok-rows.rows (search rules) (g.R.Records.stands c.args.records.now) (g.R.Records.stands c.keep.new.records) c.in-Ok.edits.items (search rules) (search rules)
-    c.in_ok-count-in-Ok.count (search rules) c.keep.result (search rules) (c.keep.ensures.applies clean)
+    c.len-count.result (search rules) c.keep.result (search rules) (c.keep.ensures.applies clean)
 
 pub returns-in_err-keep-in-Ok-clause-gives : goal.returns-in_err-keep-in-Ok-clause-gives
 returns-in_err-keep-in-Ok-clause-gives g c = λ clean.
     rows_lacked c.args.import.now c.args.page c.in_ok-rows.rows (search rules) (g.R.Records.stands c.args.records.now) (g.R.Records.stands c.keep.new.records) c.in-Ok.edits.items (search rules) (search rules)
-    c.in_ok-count-in-Ok.count (search rules) c.from_residual-in_err-keep-in-Ok.result c.keep.result c.in_err-keep-in-Ok.field-0.0 (search rules) (search rules) (c.keep.ensures.applies clean)
+    c.len-count.result (search rules) c.from_residual-in_err-keep-in-Ok.result c.keep.result c.in_err-keep-in-Ok.field-0.0 (search rules) (search rules) (c.keep.ensures.applies clean)
 
 pub returns-in-Err-Row-clause-gives : goal.returns-in-Err-Row-clause-gives
 returns-in-Err-Row-clause-gives g c = λ clean.

@@ -1,6 +1,7 @@
 use Rattle.std.proofs.Common.{◌∙◌, inr, sym}
 use Rattle.fr_office.proofs.CommandLaws.{named-there}
 use Rattle.fr_office.proofs.RowsLaws.{open-none, open-frozen, open-unknown, opened}
+use Rattle.fr_office.proofs.WarmLaws.{told-fresh}
 use Rattle.fr_office.proofs.open_page.open_page.Goals as goal
 
 pub returns-in_default-clause-page : goal.returns-in_default-clause-page
@@ -10,8 +11,11 @@ returns-in_default-clause-page g c = λ clean cl b stood sound.
 
 pub returns-then-released-clause-page : goal.returns-then-released-clause-page
 returns-then-released-clause-page g c = λ clean cl b stood sound.
-    let told = c.in_ok-page.ensures.page clean cl b stood in
-    (told.0, inr (open-frozen cl.params b c.args.supplier c.args.variant c.in-Some.page (sym c.in-Some.is ∙ told.1) (sym c.released.ensures ∙ c.if-released.true)))
+    let told = c.in_ok-page.ensures.page (c.keep.ensures.falls clean) cl b stood in
+    let is = sym c.in-Some.is ∙ told.1 in (
+      c.keep.ensures.keeps clean cl b told.0 (told-fresh cl.params b c.args.supplier c.args.variant c.in-Some.page is),
+      inr (open-frozen cl.params b c.args.supplier c.args.variant c.in-Some.page is (sym c.released.ensures ∙ c.if-released.true)),
+    )
 
 pub returns-then-not-has_supplier-clause-page : goal.returns-then-not-has_supplier-clause-page
 returns-then-not-has_supplier-clause-page g c = λ clean cl b stood sound.

@@ -1,9 +1,8 @@
-use Rattle.std.proofs.Common.{◌≡◌, None, Some, sym, ap, subst, ◌∙◌, get_or}
+use Rattle.std.proofs.Common.{◌≡◌, None, Some, sym, ap, ◌∙◌, get_or}
 use Rattle.std.specs.Prelude.{position}
 use Rattle.std.specs.List.{remove}
-use Rattle.std.proofs.lemmas.List.Elements.{All-filter}
-use Rattle.fr_office.specs.KeptPages.{AreFresh, IsFresh, is_page_of, others_than}
-use Rattle.fr_office.proofs.KeptLaws.{all_at, all_others, found-is, none_found, others_removed}
+use Rattle.fr_office.specs.KeptPages.{is_page_of, others_than}
+use Rattle.fr_office.proofs.KeptLaws.{all_others, found-is, none_found, others_removed}
 use Rattle.fr_office.proofs.pages.Pages.take.Goals as goal
 
 -- the page stands nowhere
@@ -42,10 +41,3 @@ returns-clause-value c = sym (found-is (is_page_of c.args.supplier c.args.varian
 
 pub returns-clause-others : goal.returns-clause-others
 returns-clause-others c = left c
-
-pub returns-clause-fresh : goal.returns-clause-fresh
-returns-clause-fresh c = λ cluster book fresh.
-    let P = IsFresh cluster.params book in (
-      subst (AreFresh cluster.params book) (sym (left c)) (All-filter _ P c.args.self.now fresh),
-      subst P (sym (taken c)) (all_at (is_page_of c.args.supplier c.args.variant) c.args.self.now P c.in_ok-place.place c.remove-page.result (stands c) fresh),
-    )

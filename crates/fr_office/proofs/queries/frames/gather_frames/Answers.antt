@@ -2,6 +2,7 @@ use Rattle.std.proofs.Common.{◌+◌, ◌∙◌, ◌++◌, [], ◌∷◌, take,
 use Rattle.std.proofs.lemmas.List.{take_more}
 use Rattle.fr_base.specs.Queries.{frames_of}
 use Rattle.fr_office.proofs.GatherLaws.{gathered-more, gathered-all}
+use Rattle.fr_office.proofs.OwnReplies.{finds-kept}
 use Rattle.fr_office.proofs.queries.frames.gather_frames.Goals as goal
 
 pub loop-supplier-preserved : goal.loop-supplier-preserved
@@ -10,11 +11,11 @@ loop-supplier-preserved g c =
     let i = c.loop-supplier.supplier-index in
     let suppliers = c.args.suppliers.now in
     record {
-      falls = λ now. c.loop-supplier.invariant.falls (c.find_page.ensures.falls now);
+      falls = λ now. c.loop-supplier.invariant.falls (c.find_page.ensures.falls (c.keep.ensures.falls now));
       gathered = λ now.
-          gathered-more (λ p t. frames_of t) (records.stands c.args.records.now) c.args.variant (records.stands c.loop-supplier.records) (records.stands c.find_page.new.records)
+          gathered-more (λ p t. frames_of t) (records.stands c.args.records.now) c.args.variant (records.stands c.loop-supplier.records) (records.stands c.keep.new.self)
           c.supplier-item.result (take i suppliers) (take (i + 1) suppliers) c.in_ok-page.page c.loop-supplier.rows c.push_frames.new.rows
-          (c.loop-supplier.invariant.gathered (c.find_page.ensures.falls now)) (c.in_ok-page.ensures.page now) c.in_ok-push_frames.ensures
+          (c.loop-supplier.invariant.gathered (c.find_page.ensures.falls (c.keep.ensures.falls now))) (finds-kept _ _ _ _ _ _ (c.in_ok-page.ensures.page (c.keep.ensures.falls now)) (c.keep.ensures.keeps now)) c.in_ok-push_frames.ensures
           (take_more suppliers i c.supplier-item.result c.loop-supplier-test.true ∙ ap (λ s. take i suppliers ++ s ∷ []) (sym c.supplier-item.is));
     }
 

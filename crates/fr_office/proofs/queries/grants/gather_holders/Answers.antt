@@ -1,6 +1,7 @@
 use Rattle.std.proofs.Common.{◌+◌, ◌∙◌, ◌++◌, [], ◌∷◌, take, sym, ap}
 use Rattle.std.proofs.lemmas.List.{take_more}
 use Rattle.fr_office.proofs.GrantLaws.{held-none, held-more, held-all}
+use Rattle.fr_office.proofs.OwnReplies.{finds-kept}
 use Rattle.fr_office.proofs.queries.grants.gather_holders.Goals as goal
 
 pub loop-supplier-init : goal.loop-supplier-init
@@ -16,11 +17,11 @@ loop-supplier-preserved g c =
     let i = c.loop-supplier.supplier-index in
     let suppliers = c.args.suppliers.now in
     record {
-      falls = λ now. c.loop-supplier.invariant.falls (c.find_page.ensures.falls now);
+      falls = λ now. c.loop-supplier.invariant.falls (c.find_page.ensures.falls (c.keep.ensures.falls now));
       gathered = λ now.
-          held-more (records.stands c.args.records.now) c.args.variant (records.stands c.loop-supplier.records) (records.stands c.find_page.new.records)
+          held-more (records.stands c.args.records.now) c.args.variant (records.stands c.loop-supplier.records) (records.stands c.keep.new.self)
           c.supplier-item.result (take i suppliers) (take (i + 1) suppliers) c.in_ok-page.page c.loop-supplier.held.entries c.add_grants.new.held.entries
-          (c.loop-supplier.invariant.gathered (c.find_page.ensures.falls now)) (c.in_ok-page.ensures.page now) c.in_ok-add_grants.ensures
+          (c.loop-supplier.invariant.gathered (c.find_page.ensures.falls (c.keep.ensures.falls now))) (finds-kept _ _ _ _ _ _ (c.in_ok-page.ensures.page (c.keep.ensures.falls now)) (c.keep.ensures.keeps now)) c.in_ok-add_grants.ensures
           (take_more suppliers i c.supplier-item.result c.loop-supplier-test.true ∙ ap (λ s. take i suppliers ++ s ∷ []) (sym c.supplier-item.is));
     }
 

@@ -1,9 +1,17 @@
-use Rattle.std.proofs.Common.{◌≡◌, arith, subst, IfOk}
+use Rattle.std.proofs.Common.{◌≡◌, ap, arith, subst, IfOk, IfSome}
 use Rattle.sqlite.specs.Held.{state}
 use Rattle.sqlite.specs.State.{HasCleanDisk}
+use Rattle.fr_base.specs.Cluster.{Cluster}
+use Rattle.fr_base.specs.declared.params.Params.{Params}
 use Rattle.fr_office.specs.Held.{page_of}
-use Rattle.fr_office.proofs.StoredLaws.{told}
+use Rattle.fr_office.proofs.StoredLaws.{answered, told}
 use Rattle.fr_office.proofs.store_records.StoreRecords.page.Goals as goal
+
+pub returns-clause-params : goal.returns-clause-params
+returns-clause-params g c =
+    let same = ap (λ (k : Cluster). k.params) c.see_open.ensures.config in
+    answered (λ found. IfSome found (λ page. page.params ≡ c.args.self.now.config.params)) c.page.result c.answer.result c.answer.ensures
+    (subst (λ (p : Params). IfOk c.page.result (λ found. IfSome found (λ page. page.params ≡ p))) same c.page.ensures.params)
 
 pub returns-clause-page : goal.returns-clause-page
 returns-clause-page g c clean cluster b stored =

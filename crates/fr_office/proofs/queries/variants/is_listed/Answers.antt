@@ -3,7 +3,7 @@ use Rattle.std.specs.List.{list_any}
 use Rattle.fr_base.specs.Names.{same_text}
 use Rattle.fr_world.specs.declared.variants.VariantRow.{VariantRow}
 use Rattle.fr_office.proofs.VariantLaws.{variant-listed}
-use Rattle.fr_office.proofs.queries.variants.has_variant.Goals as goal
+use Rattle.fr_office.proofs.queries.variants.is_listed.Goals as goal
 
 pub returns-clause-has : goal.returns-clause-has
 returns-clause-has g c = λ now k b stood.
