@@ -11,6 +11,9 @@ PLACEMENTS = 8
 SIGNALS = 64
 VARIANTS = 64
 DEPTH = 16
+IMPORTS = 1000
+IMPORT_ROWS = 512
+IMPORT_BYTES = 65_536
 
 CLUSTER = {
     "channels": '"AB"',
@@ -62,6 +65,14 @@ def request(key, do, **fields):
 
 def refused(number, name):
     return f'{{"no":{number},"refused":"{name}"}}'
+
+
+def refused_row(line, number, name):
+    return f'{{"line":{line},"no":29,"refused":"BadRow","row":{refused(number, name)}}}'
+
+
+def imported(rows):
+    return f'{{"ok":"imported","rows":{rows}}}'
 
 
 def done(key, do, **fields):
@@ -198,3 +209,56 @@ def with_a_stranger(first):
         limit("supplier02", "add_frame", **of_s2, frame="f257"),
     ]
     return [*first[:1], *stranger[:1], *first[1:3], *stranger[1:100], *first[3:5], *stranger[100:], *first[5:]]
+
+
+PLACEMENTS_FILE = "frame,node,slot,channels,base,repetition\n"
+
+
+def imports_of_rows():
+    """An import of as many rows as a file may have, after one with a row more: each of 64 frames in all slots of a cycle of its own."""
+    integrator, key, in_v1 = "integrator1", "supplier01", dict(variant="v1")
+    cells = [(slot, channel) for slot in range(1, 5) for channel in "AB"]
+    rows = [f"f{frame},n1,{slot},{channel},{frame},64\n" for frame in range(CYCLES) for slot, channel in cells]
+
+    yield done(integrator, "open_variant", **in_v1)
+    yield done(integrator, "add_node", supplier="s1", node="n1")
+    for slot, channel in cells:
+        yield done(integrator, "grant", **in_v1, slot=slot, channel=channel, supplier="s1", node="n1")
+    file = dict(**in_v1, label="a", body=PLACEMENTS_FILE + "".join(rows))
+    more = dict(**in_v1, label="a", body=PLACEMENTS_FILE + "".join(rows) + "x\n")
+    yield request(key, "import", **more), refused_row(IMPORT_ROWS + 2, 23, "Limit")
+    yield request(key, "frames", **in_v1), '{"lines":[],"ok":"frames"}'
+    yield request(key, "import", **file), imported(IMPORT_ROWS)
+    yield request(key, "import", **file), imported(IMPORT_ROWS)
+    yield request(key, "import", **more), refused(9, "LabelUsed")
+    sent = [f"{cycle:02} {slot:04} {channel} f{cycle} n1" for cycle in range(CYCLES) for slot, channel in cells]
+    yield request(key, "schedule", **in_v1), json.dumps({"lines": sent, "ok": "schedule"}, separators=(",", ":"))
+
+
+def imports_that_are_kept():
+    """As many imports as a supplier may keep, and one more; files as long as they may be, and longer ones."""
+    integrator, key, in_v1 = "integrator1", "supplier01", dict(variant="v1")
+    kept = dict(**in_v1, label="a", body=PLACEMENTS_FILE + "f1,n1,1,A,0,2\nf2,n1,1,A,1,4\nf3,n1,1,A,3,4")
+    longest = PLACEMENTS_FILE + "\n" * (IMPORT_BYTES - len(PLACEMENTS_FILE))
+    too_long = longest + "\n"
+
+    yield done(integrator, "open_variant", **in_v1)
+    yield done(integrator, "add_node", supplier="s1", node="n1")
+    yield done(integrator, "grant", **in_v1, slot=1, channel="A", supplier="s1", node="n1")
+    yield request(key, "import", **kept), imported(3)
+    yield request(key, "import", **in_v1, label="a", body=too_long), refused(9, "LabelUsed")
+    yield limit(key, "import", **in_v1, label="b", body=too_long)
+    yield limit(key, "import", **in_v1, label="b", body="\u00e4" * (IMPORT_BYTES // 2) + "x")
+    yield request(key, "import", variant="v9", label="a", body=kept["body"]), refused(9, "LabelUsed")
+    yield request(key, "import", variant="v9", label="b", body=too_long), refused(10, "NoVariant")
+    yield request(key, "import", **in_v1, label="longest", body=longest), imported(0)
+    for n in range(2, IMPORTS):
+        yield request(key, "import", **in_v1, label=f"l{n}", body=PLACEMENTS_FILE), imported(0)
+    yield limit(key, "import", **in_v1, label="more", body=PLACEMENTS_FILE)
+    yield limit(key, "import", **in_v1, label="more", body="")
+    yield request(key, "import", **kept), imported(3)
+    yield request(key, "import", **in_v1, label=f"l{IMPORTS - 1}", body=PLACEMENTS_FILE), imported(0)
+    yield request("supplier02", "import", **in_v1, label="more", body=PLACEMENTS_FILE), imported(0)
+    yield done(integrator, "release", **in_v1)
+    yield request(key, "import", **in_v1, label="more", body=too_long), refused(11, "Released")
+    yield request(key, "import", **kept), imported(3)

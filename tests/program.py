@@ -11,11 +11,14 @@ from itertools import product, zip_longest
 from pathlib import Path
 from typing import NamedTuple, Sequence
 
-from made import CLUSTER, DONE, LARGE, answers, at_the_limits, cluster_file, refused, script, suppliers, with_a_stranger
+import imported
+from made import CLUSTER, DONE, LARGE, answers, at_the_limits, cluster_file, imports_of_rows, imports_that_are_kept
+from made import refused, script, suppliers, with_a_stranger
 
 TOP = Path(__file__).resolve().parent.parent
 SCRIPT_BYTES = 16_777_216
 SECONDS = 120
+MIXES = ("plan", "refused", "queries", "place", "imports", "all")
 
 OPEN = 'integrator1 {"do":"open_variant","variant":"v1"}'
 FIRST = (TOP / "examples/first.script").read_bytes()
@@ -62,6 +65,20 @@ def made_scripts():
     yield Case("a stranger's lines between those of the first script", script(CLUSTER, pairs), answers(pairs))
     pairs = list(at_the_limits())
     yield Case("a script at the limits", script({**LARGE, "suppliers": suppliers(64)}, pairs), answers(pairs))
+    for imports in imports_of_rows, imports_that_are_kept:
+        pairs = list(imports())
+        yield Case(f"a script of {imports.__name__}", script(CLUSTER, pairs), answers(pairs))
+
+
+def output_of(words, given=b""):
+    return subprocess.run([sys.executable, *words], cwd=TOP, input=given, stdout=subprocess.PIPE, check=True).stdout
+
+
+def another_registers():
+    """Scripts of thousands of requests, by their mixture, with the answers of a register that python3's sqlite3 keeps."""
+    for mix, seed in product(MIXES, "123"):
+        given = output_of(["bench/scripts.py", mix, "--lines", "2000", "--seed", seed])
+        yield Case(f"the mixture {mix}, made with {seed}", given, output_of(["tests/naive.py"], given))
 
 
 def words():
@@ -171,6 +188,37 @@ def lines():
     yield Case("a last line of one carriage return", start + b"\r", f"{refused(1, 'BadText')}\n".encode())
 
 
+def texts():
+    """Numbers and texts at the edge of what TOML and JSON have, and the longest gap."""
+    yield fault("a number below 2 ^ 63", script({**CLUSTER, "static_slots": "9223372036854775807"}, []), "BadField")
+    yield fault("a number of 2 ^ 63", script({**CLUSTER, "static_slots": "9223372036854775808"}, []), "BadToml")
+    not_utf8 = cluster_file({**CLUSTER, "channels": None}).encode() + b'channels = "\xff"\n---\n'
+    yield fault("a text of a cluster file that is not UTF-8", not_utf8, "BadToml")
+
+    revoke = r'integrator1 {"do":"revoke","variant":"v1","slot":%s,"channel":"B","supplier":"s1"}'
+    pairs = [
+        (r'supplier01 {"do":"gaps","variant":"\ud83d\ude00\/\n"}', refused(4, "BadName")),
+        (r'supplier01 {"do":"gaps","variant":"\ud83d"}', refused(1, "BadText")),
+        ('supplier01 {"do":"gaps","variant":01,"variant":"v1"}', refused(1, "BadText")),
+        ('supplier01 {"do":7,"variant":"v1"}', refused(1, "BadText")),
+        ('supplier01 {"do":"layout","variant":"v1","frame":["f1"]}', refused(1, "BadText")),
+        (revoke % "01", refused(1, "BadText")),
+        (revoke % "4294967295", refused(6, "BadSlot")),
+    ]
+    yield Case("texts and numbers of requests", script(CLUSTER, pairs), answers(pairs))
+
+    longest = script({**CLUSTER, "dynamic_macroticks": "15940", "macroticks_per_cycle": "16000"}, []) + FIRST.partition(b"---\n")[2]
+    gap = b'supplier01 {"do":"gaps","variant":"v1"}\n'
+    yield Case("the longest gap", longest + gap, FIRST_ANSWERS + b'{"lines":["GAP 1024000 f1"],"ok":"gaps"}\n')
+
+
+def import_files():
+    """Files of imports, as they are read."""
+    for name, pairs in ("files of imports", imported.files()), ("a file of 512 rows", imported.full_file()):
+        pairs = list(pairs)
+        yield Case(name, script(CLUSTER, pairs), answers(pairs))
+
+
 def sizes():
     feeds = b"\n" * SCRIPT_BYTES
     yield fault("as many line feeds as a script has bytes", feeds, "NoSeparator")
@@ -234,7 +282,7 @@ def main(programs):
     for program in set(programs) - set(there):
         failed += 1
         print(f"{program} is not there")
-    for part in files, made_scripts, words, cluster_files, separators, lines, sizes, streams:
+    for part in files, made_scripts, another_registers, words, cluster_files, separators, lines, texts, import_files, sizes, streams:
         for case, program in product(part(), there):
             wrong = differences(program, case)
             passed, failed = passed + (not wrong), failed + bool(wrong)

@@ -1,49 +1,49 @@
--- Names, and those that a supplier owns, compare as the register's keys; and suppliers are found by theirs.
-use Rattle.std.proofs.Common.{◌≡◌, Ordering, refl, ap, ◌∙◌, true, false, cond, ◌||◌, List, [], ◌∷◌, map, Some, is_some}
-use Rattle.std.specs.List.{list_any}
-use Rattle.std.specs.FinMap.Entries.{find}
-use Rattle.fr_base.specs.Tables.{contains, from_rows}
-use Rattle.fr_base.specs.Book.{suppliers_of}
+-- A key is a text, so what is none is nobody's key.
+use Rattle.std.proofs.Common.{◌≡◌, ℕ, ◌<◌, Bool, true, false, cond, List, [], ◌∷◌, map, find, Option, None, IsTrue, IsUtf8, arith, refl, sym, ap, ◌∙◌, subst, inl, inr}
+use Rattle.std.specs.List.{list_all}
+use Rattle.std.specs.Option.{option_map}
+use Rattle.std.specs.Str.{IsAscii}
+use Rattle.std.proofs.lemmas.Bool.{and_parts, cases_Bool}
+use Rattle.std.proofs.lemmas.Bool.Decides.{nat_tests}
+use Rattle.std.proofs.lemmas.Slice.Eq.{bytes_eq-Decides}
+use Rattle.std.proofs.lemmas.Str.{IsUtf8-from_ascii}
+use Rattle.std.proofs.lemmas.Str.Ascii.{IsAscii-nil, IsAscii-cons}
+use Rattle.fr_base.specs.Actors.{actor_of}
+use Rattle.fr_base.specs.Book.{Book}
 use Rattle.fr_base.specs.Cluster.{Cluster}
-use Rattle.fr_base.specs.Names.{same_text}
-use Rattle.fr_base.specs.Keys.{names, owned}
+use Rattle.fr_base.specs.Names.{is_key, is_key_byte, same_text}
+use Rattle.fr_base.specs.Sound.{IsSound}
+use Rattle.fr_base.specs.declared.actor.Actor.TheVariants as actor
 use Rattle.fr_base.specs.declared.config.Supplier.{Supplier}
-use Rattle.fr_base.specs.declared.name.Name.{Name}
-use Rattle.std.proofs.lemmas.Map.Text.{is_eq-slice_cmp}
-use Rattle.fr_base.proofs.TableLaws.{get-from_rows}
-use Rattle.fr_world.proofs.KeyLaws as world
-use Rattle.fr_cli.specs.declared.plan.Owned.{Owned}
-use Rattle.fr_cli.specs.contracts.plan.OwnedOrd.TheImpl as by_owner
+use Rattle.fr_base.proofs.ActorsLemmas.{has_key, listed}
 
-abbrev pub name_cmp : Name → Name → Ordering
-name_cmp = world.name_cmp
+key_byte_is_ascii : (c : ℕ) → is_key_byte c ≡ true → c < 128
+key_byte_is_ascii c h = grind (arith, nat_tests)
 
-pub names_alike : (x y : Name) → name_cmp x y ≡ names.compare x y
-unfolding names
-names_alike x y = refl
+key_bytes_are_ascii : (text : List ℕ) → list_all is_key_byte text ≡ true → IsAscii text
+key_bytes_are_ascii [] h = IsAscii-nil
+key_bytes_are_ascii (c ∷ text) h = IsAscii-cons c text (key_byte_is_ascii c (and_parts _ _ h).0) (key_bytes_are_ascii text (and_parts _ _ h).1)
 
-abbrev pub owned_cmp : Owned → Owned → Ordering
-owned_cmp = by_owner.cmp-value.it
+key_is_text : (text : List ℕ) → is_key text ≡ true → IsUtf8 text
+unfolding is_key
+key_is_text text h = IsUtf8-from_ascii text (key_bytes_are_ascii text (and_parts _ _ h).1)
 
-pub owned_alike : (x y : Owned) → owned_cmp x y ≡ owned.compare (x.supplier, x.name) (y.supplier, y.name)
-unfolding owned names
-owned_alike x y = refl
+-- what is no text is not this key
+other_than : (k text : List ℕ) → is_key k ≡ true → (IsUtf8 text → ⊥) → same_text k text ≡ false
+other_than k text is none = elim (cases_Bool (same_text k text)) [
+  | inl same ↦ absurd (none (subst IsUtf8 ((bytes_eq-Decides k text).0 same) (key_is_text k is)))
+  | inr other ↦ other
+]
 
-find-suppliers : (ss : List Supplier) (n : Name) → is_some (find names.compare n (map (λ s. (s.name, s.key)) ss)) ≡ list_any (λ s. same_text n s.name) ss
-unfolding names
-find-suppliers [] n = refl
-find-suppliers (s ∷ ss) n =
-    ap (λ b. is_some (cond b (Some s.key) (find names.compare n (map (λ s. (s.name, s.key)) ss)))) (is_eq-slice_cmp n s.name)
-    ∙ elim (same_text n s.name) as (λ b. is_some (cond b (Some s.key) (find names.compare n (map (λ s. (s.name, s.key)) ss))) ≡ (b || list_any (λ s. same_text n s.name) ss)) [
-      | true ↦ refl
-      | false ↦ find-suppliers ss n
-    ]
+-- nor is it one of the suppliers'
+none_has : (ss : List Supplier) (text : List ℕ) → list_all is_key (map (λ s. s.key) ss) ≡ true → (IsUtf8 text → ⊥) → find (has_key text) ss ≡ None
+none_has [] text are none = refl
+none_has (s ∷ ss) text are none =
+    let both = and_parts _ _ are in
+    rw (other_than s.key text both.0 none) (none_has ss text both.1 none)
 
--- whether there is a supplier of this name
-pub contains-suppliers : (ss : List Supplier) (n : Name) → contains {o = names} (from_rows (map (λ s. (s.name, s.key)) ss)) n ≡ list_any (λ s. same_text n s.name) ss
-contains-suppliers ss n = ap is_some (get-from_rows names (map (λ s. (s.name, s.key)) ss) n) ∙ find-suppliers ss n
-
--- the suppliers of a cluster file among them
-pub contains-cluster : (c : Cluster) (n : Name) → contains (suppliers_of c) n ≡ list_any (λ s. same_text n s.name) c.suppliers
-unfolding suppliers_of
-contains-cluster c n = contains-suppliers c.suppliers n
+pub nobodys : (c : Cluster) (b : Book) (key : List ℕ) → IsSound c b → (IsUtf8 key → ⊥) → None ≡ actor_of c b key
+nobodys c b key sound none =
+    let both = and_parts _ _ sound.cluster.keys in
+    sym (ap (option_map (λ s. actor.Supplier s.name)) (none_has c.suppliers key both.1 none))
+    ∙ listed c b key sound.cluster.cluster sound.suppliers (other_than c.integrator key both.0 none)

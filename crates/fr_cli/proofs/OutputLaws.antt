@@ -8,13 +8,17 @@ use Rattle.fr_base.specs.Sound.{IsSound}
 use Rattle.fr_base.proofs.SoundSteps.{step-sound}
 use Rattle.fr_base.proofs.SoundLaws.{opening-sound}
 use Rattle.fr_base.specs.declared.answer.Answer.{Answer}
+use Rattle.fr_base.specs.declared.answer.Answer.TheVariants.{Refused}
 use Rattle.fr_base.specs.declared.refusal.Refusal.{Refusal}
+use Rattle.fr_base.specs.declared.refusal.Refusal.TheVariants.{Unavailable}
 use Rattle.fr_base.specs.declared.request.Ask.{Ask}
+use Rattle.fr_office.specs.Answering.{Answers}
+use Rattle.fr_office.specs.Held.{Standing}
 use Rattle.fr_text.specs.AnswerText.{text_of}
 use Rattle.fr_cli.specs.Asked.{ask_in}
-use Rattle.fr_cli.specs.Answers.{Answers, Replied}
+use Rattle.fr_cli.specs.Answering.{AnswersLine, AnswersLines, Reads}
 use Rattle.fr_cli.specs.Laws.{asks_of, answers_of}
-use Rattle.fr_cli.specs.Output.{AreAnswered, text_of_answers, IsAnsweredTo}
+use Rattle.fr_cli.specs.Output.{AreAnswered, Replied, text_of_answers, IsAnsweredTo}
 
 -- After some lines, one line more is answered.
 answered-more : (c : Cluster) (b mid last : Book) (lines : List (List ℕ)) (line : List ℕ) (answers : List Answer) (answer : Answer)
@@ -24,17 +28,11 @@ answered-more c b mid last [] line (x ∷ xs) answer so replied = absurd so
 answered-more c b mid last (l ∷ ls) line [] answer so replied = absurd so
 answered-more c b mid last (l ∷ ls) line (x ∷ xs) answer so replied = (so.0, so.1, answered-more c so.0 mid last ls line xs answer so.2 replied)
 
--- A request that is answered leaves a sound book sound.
-pub answers-sound : (c : Cluster) (old new : Book) (ask : Ask) (answer : Answer) → Answers c old ask answer new → IsSound c old → IsSound c new
-answers-sound c old new ask answer answers sound = elim answers [
-  | inl lacks ↦ subst (IsSound c) (sym lacks.2) sound
-  | inr steps ↦ subst (IsSound c) (sym steps.1) (step-sound c old sound ask.actor ask.request)
-]
-
--- and so does a line
+-- A line that is answered leaves a sound book sound.
 replied-sound : (c : Cluster) (old new : Book) (read : Result Ask Refusal) (answer : Answer) → Replied c old read answer new → IsSound c old → IsSound c new
-replied-sound c old new (Ok ask) answer replied sound = answers-sound c old new ask answer replied sound
 replied-sound c old new (Err refusal) answer replied sound = subst (IsSound c) (sym replied.1) sound
+replied-sound c old new (Ok ask) answer (inl lacks) sound = subst (IsSound c) (sym lacks.2) sound
+replied-sound c old new (Ok ask) answer (inr steps) sound = subst (IsSound c) (sym steps.1) (step-sound c old sound ask.actor ask.request)
 
 answered-sound : (c : Cluster) (b last : Book) (lines : List (List ℕ)) (answers : List Answer) → AreAnswered c b lines answers last → IsSound c b → IsSound c last
 answered-sound c b last [] [] so sound = subst (IsSound c) (sym so) sound
@@ -48,12 +46,8 @@ pub record Answering (c : Cluster) (lines : List (List ℕ)) (book : Book) (writ
   pub answered : AreAnswered c (opening c) lines answers book
   pub bytes : written ≡ text_of_answers answers
 
--- No line is answered yet.
-pub answering-none : (c : Cluster) (book : Book) → book ≡ opening c → Answering c [] book []
-answering-none c book e = record { answers = []; answered = e; bytes = refl }
-
 -- One line more is answered.
-pub answering-more : (c : Cluster) (lines : List (List ℕ)) (line : List ℕ) (book new : Book) (answer : Answer) (written : List ℕ)
+answering-more : (c : Cluster) (lines : List (List ℕ)) (line : List ℕ) (book new : Book) (answer : Answer) (written : List ℕ)
     → Answering c lines book written → Replied c book (ask_in c book line) answer new
     → Answering c (lines ++ line ∷ []) new (written ++ (text_of answer ++ codes "\n"))
 answering-more c lines line book new answer written so replied =
@@ -64,16 +58,8 @@ answering-more c lines line book new answer written so replied =
       bytes = ap (λ l. l ++ ended answer) so.bytes ∙ flat_map_more ended [] so.answers answer;
     }
 
--- The same, where the register has the cluster by another name.
-pub answering-line : (c d : Cluster) (lines : List (List ℕ)) (line : List ℕ) (book new : Book) (answer : Answer) (written text : List ℕ)
-    → Answering c lines book written → d ≡ c → Replied d book (ask_in d book line) answer new → text ≡ text_of answer ++ codes "\n"
-    → Answering c (lines ++ line ∷ []) new (written ++ text)
-answering-line c d lines line book new answer written text so same replied e =
-    subst (λ t. Answering c (lines ++ line ∷ []) new (written ++ t)) (sym e)
-    (answering-more c lines line book new answer written so (subst (λ x. Replied x book (ask_in x book line) answer new) same replied))
-
 -- The lines are answered up to those that are left.
-pub answered_to : (c : Cluster) (lines front left : List (List ℕ)) (book : Book) (written : List ℕ) → IsWellFormed c → lines ≡ front ++ left
+answered_to : (c : Cluster) (lines front left : List (List ℕ)) (book : Book) (written : List ℕ) → IsWellFormed c → lines ≡ front ++ left
     → Answering c front book written → IsAnsweredTo c lines left written
 answered_to c lines front left book written formed whole so = record {
   front = front;
@@ -87,10 +73,51 @@ answered_to c lines front left book written formed whole so = record {
   };
 }
 
--- The register is sound after the lines that were answered.
-pub answering-sound : (c d : Cluster) (lines : List (List ℕ)) (book : Book) (written : List ℕ) → IsWellFormed c → d ≡ c → Answering c lines book written → IsSound d book
-answering-sound c d lines book written formed same so =
-    subst (λ x. IsSound x book) (sym same) (answered-sound c (opening c) book lines so.answers so.answered (opening-sound c formed))
+-- ---- the lines are answered from records
+
+-- What a line asks was answered.
+pub line_asks : (old new : Standing) (line : List ℕ) (ask : Ask) (answer : Answer)
+    → Reads old line (Ok ask) → Answers old new ask answer → AnswersLine old new line answer
+line_asks old new line ask answer (inl none) answers = absurd cc
+line_asks old new line ask answer (inr reads) answers = λ c b stands sound.
+    let (last, after, run) = answers c b stands sound in
+    (last, after, subst (λ r. Replied c b r answer last) (reads c b stands sound) run)
+
+-- A line that asks nothing was refused.
+pub line_refused : (old : Standing) (line : List ℕ) (refusal : Refusal)
+    → (refusal ≡ Unavailable → ⊥) → Reads old line (Err refusal)
+    → AnswersLine old old line (Refused refusal)
+line_refused old line refusal other (inl same) = absurd (other cc)
+line_refused old line refusal other (inr reads) = λ c b stands sound.
+    (b, stands, subst (λ r. Replied c b r (Refused refusal) b) (reads c b stands sound) (refl, refl))
+
+-- The lines were answered by these bytes, from records that stood for a register that was just made; they now stand for the book after that.
+abbrev pub AnsweredSoFar : Standing → Standing → List (List ℕ) → List ℕ → Type 0
+AnsweredSoFar old new lines written = (c : Cluster) → IsWellFormed c → old c (opening c) → (book : Book) × new c book × Answering c lines book written
+
+-- No line is answered yet.
+pub none_answered : (old : Standing) → AnsweredSoFar old old [] []
+none_answered old c formed stands = (opening c, stands, record { answers = []; answered = refl; bytes = refl })
+
+-- One line more is answered.
+pub one_answered : (old mid new : Standing) (lines : List (List ℕ)) (line : List ℕ) (answer : Answer) (written text : List ℕ)
+    → AnsweredSoFar old mid lines written → AnswersLine mid new line answer → text ≡ text_of answer ++ codes "\n"
+    → AnsweredSoFar old new (lines ++ line ∷ []) (written ++ text)
+one_answered old mid new lines line answer written text so next e c formed stands =
+    let (book, there, answering) = so c formed stands in
+    let sound = answered-sound c (opening c) book lines answering.answers answering.answered (opening-sound c formed) in
+    let (last, after, replied) = next c book there sound in (
+      last,
+      after,
+      subst (λ t. Answering c (lines ++ line ∷ []) last (written ++ t)) (sym e) (answering-more c lines line book last answer written answering replied),
+    )
+
+-- All are answered up to those that are left.
+pub answered_up_to : (old new : Standing) (lines front left : List (List ℕ)) (written : List ℕ) → lines ≡ front ++ left
+    → AnsweredSoFar old new front written → AnswersLines old lines left written
+answered_up_to old new lines front left written whole so c formed stands =
+    let (book, _, answering) = so c formed stands in
+    answered_to c lines front left book written formed whole answering
 
 -- ---- the asks among the lines are a run
 

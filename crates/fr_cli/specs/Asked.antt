@@ -1,5 +1,5 @@
 -- What a request's line asks, as the book stands.
-use Rattle.std.specs.Prelude.{ℕ, Bool, true, false, if◌then◌else◌, List, Option, Some, None, Result, Ok, Err}
+use Rattle.std.specs.Prelude.{ℕ, List, Option, Some, None, Result, Ok, Err}
 use Rattle.fr_base.specs.Actors.{actor_of}
 use Rattle.fr_base.specs.Book.{Book}
 use Rattle.fr_base.specs.Cluster.{Cluster}
@@ -8,7 +8,6 @@ use Rattle.fr_base.specs.declared.refusal.Refusal.{Refusal}
 use Rattle.fr_base.specs.declared.refusal.Refusal.TheVariants.{BadText, UnknownKey}
 use Rattle.fr_base.specs.declared.request.Ask.{Ask}
 use Rattle.fr_base.specs.declared.request.Request.{Request}
-use Rattle.fr_base.specs.declared.request.Request.TheVariants.{Import}
 use Rattle.fr_text.specs.RequestText.{request_of}
 use Rattle.fr_cli.specs.Script.{key_and_text}
 
@@ -22,20 +21,10 @@ abbrev pub asked : Option Request → Option Actor → Result Ask Refusal
 asked None actor = Err BadText
 asked (Some request) actor = asked_by actor request
 
--- the runner answers no import yet
-abbrev pub is_answered : Request → Bool
-is_answered (Import variant label body) = false
-is_answered _ = true
-
--- the request, if the runner answers it
-abbrev pub answered : Option Request → Option Request
-answered None = None
-answered (Some request) = if is_answered request then Some request else None
-
 -- a line without a space, or whose text is no request, is refused before its key is looked up
 abbrev pub ask_of : Cluster → Book → Option (List ℕ × List ℕ) → Result Ask Refusal
 ask_of c b None = Err BadText
-ask_of c b (Some (key, text)) = asked (answered (request_of text)) (actor_of c b key)
+ask_of c b (Some (key, text)) = asked (request_of text) (actor_of c b key)
 
 -- who asks what by the line
 unfoldable pub ask_in : Cluster → Book → List ℕ → Result Ask Refusal

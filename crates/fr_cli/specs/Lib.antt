@@ -2,15 +2,8 @@ pub mod Script
 pub mod ScriptFault
 pub mod Asked
 pub mod Output
+pub mod Answering
 pub mod Laws
 pub mod Words
 pub mod Endings
-pub mod Plans
-pub mod Registers
-pub mod Kept
-pub mod Applied
-pub mod Decided
-pub mod Answers
-pub mod Fitting
-pub mod Seen
 pub mod Runs

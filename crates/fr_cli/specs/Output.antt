@@ -1,17 +1,25 @@
 -- What the run of a script writes.
-use Rattle.std.specs.Prelude.{◌≡◌, ◌≤◌, ℕ, List, [], ◌∷◌, ◌++◌, length, codes, Option, Some, Result, Ok, option_map}
+use Rattle.std.specs.Prelude.{◌≡◌, ◌≤◌, ℕ, List, [], ◌∷◌, ◌++◌, length, codes, Option, Some, Result, Ok, Err, option_map}
 use Rattle.std.specs.List.{flat_map}
 use Rattle.fr_base.specs.Book.{Book, opening}
-use Rattle.fr_base.specs.Cluster.{Cluster}
-use Rattle.fr_base.specs.Cluster.{IsWellFormed}
+use Rattle.fr_base.specs.Cluster.{Cluster, IsWellFormed}
+use Rattle.fr_base.specs.Run.{IsRun}
 use Rattle.fr_base.specs.Sound.{IsSound}
 use Rattle.fr_base.specs.declared.answer.Answer.{Answer}
+use Rattle.fr_base.specs.declared.answer.Answer.TheVariants.{Refused}
+use Rattle.fr_base.specs.declared.refusal.Refusal.{Refusal}
+use Rattle.fr_base.specs.declared.request.Ask.{Ask}
 use Rattle.fr_text.specs.AnswerText.{text_of}
-use Rattle.fr_cli.specs.Answers.{Replied}
 use Rattle.fr_cli.specs.Asked.{ask_in}
 use Rattle.fr_text.specs.ClusterFile.{config_of}
 use Rattle.fr_cli.specs.Script.{max_script, parts_of, request_lines}
 use Rattle.fr_text.specs.declared.cluster_file.ConfigFault.{ConfigFault}
+
+-- From the old book a line that reads so may be answered so, and then the book is the new one: what it asks is a step of the
+-- register, or Unavailable where that may be; a line that asks nothing is refused, and changes nothing.
+abbrev pub Replied : Cluster → Book → Result Ask Refusal → Answer → Book → Type 0
+Replied c old (Ok ask) answer new = IsRun c old (ask ∷ []) (answer ∷ []) new
+Replied c old (Err refusal) answer new = (answer ≡ Refused refusal) × (new ≡ old)
 
 -- From this book the lines may be answered so, one after another, and then the book is the last: what a line asks, as the
 -- book then stands, is answered; a line that asks nothing is refused, and changes nothing.

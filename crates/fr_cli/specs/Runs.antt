@@ -1,12 +1,17 @@
 -- The run of a script: what it writes where it ends well, and what stands where a fault ends it.
-use Rattle.std.specs.Prelude.{◌≡◌, ◌⊎◌, ◌<◌, ℕ, List, length, Option, Some, None, Result, Err, IfSome, IsErrOf, OnOk, ⊤}
+use Rattle.std.specs.Prelude.{◌≡◌, ◌⊎◌, ◌<◌, ℕ, List, length, Option, Some, None, Result, Ok, Err, IfSome, IsErrOf, OnOk, ⊤}
 use Rattle.std.specs.Io.KnownBytes.{Appends, IsAtEnd, Keeps}
+use Rattle.fr_base.specs.Cluster.{Cluster, IsWellFormed}
 use Rattle.fr_text.specs.declared.cluster_file.ConfigFault.{ConfigFault}
 use Rattle.fr_text.specs.declared.cluster_file.ConfigFault.TheVariants as cluster
 use Rattle.fr_cli.specs.Output.{IsCutShort, IsOutput, LacksMemory, cluster_in}
 use Rattle.fr_cli.specs.Script.{max_script}
 use Rattle.fr_cli.specs.declared.script_fault.ScriptFault.{ScriptFault}
 use Rattle.fr_cli.specs.declared.script_fault.ScriptFault.TheVariants.{TooLong, TooManyReads, ReadFailed, NoSeparator, Config, Unavailable, NoMemory, WriteFailed}
+
+-- The script's cluster file is one.
+abbrev pub HasCluster : List ℕ → Type 0
+HasCluster script = (c : Cluster) × IsWellFormed c × (cluster_in script ≡ Some (Ok c))
 
 -- The run ended so: the reader had this script and has this left, and the writer had the old bytes and has the new ones.
 pub record IsRunOf (script left old new : Option (List ℕ)) (done : Result ⊤ ScriptFault) : Type 0 where
@@ -21,4 +26,4 @@ pub record IsRunOf (script left old new : Option (List ℕ)) (done : Result ⊤ 
   pub no_memory : IsErrOf done NoMemory → Keeps old new
       ⊎ IfSome script (λ s. (written : List ℕ) × Appends old new written × LacksMemory s written)
   pub write_failed : IsErrOf done WriteFailed → IfSome script (λ s. (written : List ℕ) × Appends old new written × IsCutShort s written)
-  pub available : IsErrOf done Unavailable → ⊥
+  pub unavailable : IsErrOf done Unavailable → Keeps old new × IsAtEnd left × IfSome script HasCluster

@@ -1,19 +1,11 @@
 //! The program `slotplan`.
 #![tactic(auto)]
 
-mod answers;
-mod apply;
-mod changes;
 mod input;
 mod laws;
 mod lines;
-mod lists;
 mod output;
-mod pages;
-mod plan;
 mod program;
-mod queries;
-mod register;
 mod script;
 mod script_fault;
 

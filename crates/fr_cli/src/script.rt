@@ -1,32 +1,33 @@
 //! Runs a script: reads it, and writes the answer to each of its requests.
-ghost use Rattle.std.specs.Prelude.{◌≡◌, ◌⊎◌, ◌++◌, ◌∷◌, ℕ, List, [], codes, None, Some, Err, IfErr, IfOk, IsErrOf, IsTrue, OnOk};
+ghost use Rattle.std.specs.Prelude.{◌≡◌, ◌⊎◌, ◌++◌, ◌∷◌, ℕ, List, [], codes, IfErr, IfOk, IsErrOf, OnOk};
 ghost use Rattle.std.specs.Io.KnownBytes.{Appends};
-ghost use Rattle.fr_base.specs.Step.{knows};
+ghost use Rattle.fr_base.specs.Actors.{actor_of};
+ghost use Rattle.fr_base.specs.Book.{Book};
+ghost use Rattle.fr_base.specs.Cluster.{Cluster};
 ghost use Rattle.fr_base.specs.Sound.{IsSound};
-ghost use Rattle.fr_base.specs.Cluster.{IsWellFormed};
-ghost use Rattle.fr_cli.specs.Asked.{answered, ask_in};
-ghost use Rattle.fr_cli.specs.Answers.{Replied};
-ghost use Rattle.fr_cli.specs.Registers.{book_of};
-ghost use Rattle.fr_cli.specs.Output.{IsAnsweredTo};
+ghost use Rattle.fr_office.specs.KeptPages.{StandsWarm};
+ghost use Rattle.fr_cli.specs.Answering.{AnswersLine, AnswersLines, HasWritten, Reads};
 ghost use Rattle.fr_cli.specs.Runs.{IsRunOf};
 ghost use Rattle.fr_cli.specs.Script.{request_lines};
 ghost use Rattle.fr_text.specs.AnswerText.{text_of};
-ghost use Rattle.fr_text.specs.RequestText.{request_of};
 
 use crate::input::read_all;
 use crate::lines::{RequestLines, key_and_text, split_script};
 use crate::output::Output;
-use crate::register::Register;
 use crate::script_fault::ScriptFault;
-use fr_base::{Answer, Ask, Config, NoMemory, Refusal, Request};
+use fr_base::{Actor, Answer, Ask, NoMemory, Refusal};
+use fr_office::{Office, Records};
+use fr_store::Store;
 use fr_text::{read_command, read_config, write_answer};
 use std::alloc::Global;
 use std::io::{Read, Write};
+use std::str;
 
 /// Reads a whole script, and answers its requests in order, each on a line of its own. What it
-/// writes is the output of the script. A fault of reading, a missing separator and a fault of the
-/// cluster file come before anything is written; want of memory for a request comes after whole
-/// answers to all before it, and a failed write may cut an answer short.
+/// writes is the output of the script. A fault of reading, a missing separator, a fault of the
+/// cluster file and a register that could not be made come before anything is written; want of
+/// memory for a request comes after whole answers to all before it, and a failed write may cut an
+/// answer short.
 pub fn run_script<R: Read, W: Write>(
     alloc: Global,
     reader: &mut R,
@@ -37,32 +38,50 @@ pub fn run_script<R: Read, W: Write>(
     let script = read_all(alloc, reader)?;
     let (cluster, requests) = split_script(&script).ok_or(ScriptFault::NoSeparator)?;
     let config = read_config(alloc, cluster)?;
+    let store = Store::create_in_memory(alloc, &config).map_err(|_| ScriptFault::Unavailable)?;
+    let mut office = Office::new(alloc, store);
+    answer_requests(alloc, &mut office, requests, writer)
+}
+
+// Answers the requests. All that is written shares the retries of one output.
+fn answer_requests<R: Records, W: Write>(
+    alloc: Global,
+    office: &mut Office<R>,
+    requests: &[u8],
+    writer: &mut W,
+) -> Result<(), ScriptFault>
+    ensures falls { R.clean office.new.warm.records → R.clean office.old.warm.records }
+    ensures written { R.clean office.new.warm.records →
+        HasWritten (StandsWarm R.stands office.old.warm) (request_lines requests.now) (W.contents writer.old) (W.contents writer.new) result }
+{
     let mut output = Output::new(writer);
-    answer_requests(alloc, config, requests, &mut output)
+    write_answers(alloc, office, requests, &mut output)
 }
 
 // Writes the answer to each request, before the next one is read.
-fn answer_requests<W: Write>(
+fn write_answers<R: Records, W: Write>(
     alloc: Global,
-    config: Config,
+    office: &mut Office<R>,
     requests: &[u8],
     output: &mut Output<'_, W>,
 ) -> Result<(), ScriptFault>
-    requires { IsWellFormed config }
-    ensures all { OnOk result ((written : List ℕ) × Appends (W.contents output.old.writer.now) (W.contents output.new.writer.now) written
-        × IsAnsweredTo config (request_lines requests.now) [] written) }
-    ensures no_memory { IsErrOf result ScriptFault.NoMemory → (line : List ℕ) × (left : List (List ℕ)) × (written : List ℕ)
+    ensures falls { R.clean office.new.warm.records → R.clean office.old.warm.records }
+    ensures all { R.clean office.new.warm.records → OnOk result ((written : List ℕ)
         × Appends (W.contents output.old.writer.now) (W.contents output.new.writer.now) written
-        × IsAnsweredTo config (request_lines requests.now) (line ∷ left) written }
-    ensures write_failed { IsErrOf result ScriptFault.WriteFailed → (left : List (List ℕ)) × (missing : List ℕ) × (written : List ℕ)
+        × AnswersLines (StandsWarm R.stands office.old.warm) (request_lines requests.now) [] written) }
+    ensures no_memory { R.clean office.new.warm.records → IsErrOf result ScriptFault.NoMemory →
+        (line : List ℕ) × (left : List (List ℕ)) × (written : List ℕ)
         × Appends (W.contents output.old.writer.now) (W.contents output.new.writer.now) written
-        × IsAnsweredTo config (request_lines requests.now) left (written ++ missing) }
+        × AnswersLines (StandsWarm R.stands office.old.warm) (request_lines requests.now) (line ∷ left) written }
+    ensures write_failed { R.clean office.new.warm.records → IsErrOf result ScriptFault.WriteFailed →
+        (left : List (List ℕ)) × (missing : List ℕ) × (written : List ℕ)
+        × Appends (W.contents output.old.writer.now) (W.contents output.new.writer.now) written
+        × AnswersLines (StandsWarm R.stands office.old.warm) (request_lines requests.now) left (written ++ missing) }
     ensures faults { IfErr result (λ fault. (fault ≡ ScriptFault.NoMemory) ⊎ (fault ≡ ScriptFault.WriteFailed)) }
     ensures same { output.new.writer.ghost_name ≡ output.old.writer.ghost_name }
 {
-    let mut register = Register::new(alloc, config);
     for line in RequestLines::new(requests) {
-        let answer = answer_line(alloc, &mut register, line)?;
+        let answer = answer_line(alloc, office, line)?;
         let text = text_line(alloc, answer)?;
         output.write_all(&text)?;
     }
@@ -79,16 +98,17 @@ fn text_line(alloc: Global, answer: Answer) -> Result<Vec<u8>, NoMemory>
 }
 
 // The answer to a request's line, which may change the register.
-fn answer_line(alloc: Global, register: &mut Register, line: &[u8]) -> Result<Answer, ScriptFault>
-    requires formed { IsWellFormed register.old.config }
-    requires sound { IsSound register.old.config (book_of register.old) }
-    ensures config { register.new.config ≡ register.old.config }
-    ensures replied { IfOk result (λ answer.
-        Replied register.old.config (book_of register.old) (ask_in register.old.config (book_of register.old) line.now) answer (book_of register.new)) }
+fn answer_line<R: Records>(
+    alloc: Global,
+    office: &mut Office<R>,
+    line: &[u8],
+) -> Result<Answer, ScriptFault>
+    ensures falls { R.clean office.new.warm.records → R.clean office.old.warm.records }
+    ensures answers { R.clean office.new.warm.records → IfOk result (λ answer. AnswersLine (StandsWarm R.stands office.old.warm) (StandsWarm R.stands office.new.warm) line.now answer) }
     ensures fault { IfErr result (λ fault. fault ≡ ScriptFault.NoMemory) }
 {
-    match read_ask(alloc, register, line) {
-        Ok(ask) => Ok(register.answer(alloc, &ask)),
+    match read_ask(alloc, office, line) {
+        Ok(ask) => Ok(office.ask(alloc, &ask)),
         Err(Refusal::Unavailable) => Err(ScriptFault::NoMemory),
         Err(refusal) => Ok(Answer::Refused(refusal)),
     }
@@ -97,25 +117,20 @@ fn answer_line(alloc: Global, register: &mut Register, line: &[u8]) -> Result<An
 // Who asks what, by a request's line: `BadText` comes before `UnknownKey`. Want of memory is
 // `Unavailable`.
 #[tactic(auto, unfolding(crate::specs::Asked::ask_in))]
-fn read_ask(alloc: Global, register: &Register, line: &[u8]) -> Result<Ask, Refusal>
-    ensures asked { (result ≡ Err Refusal.Unavailable) ⊎ (result ≡ ask_in register.now.config (book_of register.now) line.now) }
-    ensures known { IfOk result (λ ask. IsTrue (knows (book_of register.now) ask.actor)) }
+fn read_ask<R: Records>(alloc: Global, office: &Office<R>, line: &[u8]) -> Result<Ask, Refusal>
+    ensures { Reads (StandsWarm R.stands office.now.warm) line.now result }
 {
     let (key, text) = key_and_text(line).ok_or(Refusal::BadText)?;
-    let request = read_request(alloc, text)?;
-    let actor = register.actor_of(key).ok_or(Refusal::UnknownKey)?;
+    let request = read_command(alloc, text)?;
+    let actor = actor_of(office, key).ok_or(Refusal::UnknownKey)?;
     Ok(Ask { actor, request })
 }
 
-// The request that the text is, if the runner answers it: it answers no import yet.
-fn read_request(alloc: Global, text: &[u8]) -> Result<Request, Refusal>
-    ensures read { IfOk result (λ request. answered (request_of text.now) ≡ Some request) }
-    ensures refused { IfErr result (λ refusal. (refusal ≡ Refusal.Unavailable) ⊎ ((answered (request_of text.now) ≡ None) × (refusal ≡ Refusal.BadText))) }
+// Who asks with this key. A key that is not UTF-8 is nobody's.
+fn actor_of<R: Records>(office: &Office<R>, key: &[u8]) -> Option<Actor>
+    ensures { (c : Cluster) (b : Book) → StandsWarm R.stands office.now.warm c b → IsSound c b → result ≡ actor_of c b key.now }
 {
-    match read_command(alloc, text)? {
-        Request::Import { .. } => Err(Refusal::BadText),
-        request => Ok(request),
-    }
+    office.actor_of(str::from_utf8(key).ok()?)
 }
 
 #[cfg(test)]

@@ -1,0 +1,97 @@
+-- How the run of a script ends where its register was made.
+use Rattle.std.proofs.Common.{◌≡◌, ◌⊎◌, ◌≤◌, ℕ, List, [], ◌∷◌, ◌++◌, length, Option, Some, None, Result, Ok, Err, IfSome, sym, ap, ◌∙◌, subst, inl, inr}
+use Rattle.std.specs.Prelude.{⊤}
+use Rattle.std.specs.Io.KnownBytes.{Appends, IsAtEnd}
+use Rattle.std.specs.Option.{option_map}
+use Rattle.fr_base.specs.Book.{opening}
+use Rattle.fr_base.specs.Cluster.{Cluster, IsWellFormed}
+use Rattle.fr_text.specs.ClusterFile.{config_of}
+use Rattle.fr_office.specs.Held.{Standing}
+use Rattle.fr_cli.specs.Answering.{HasWritten}
+use Rattle.fr_cli.specs.Output.{IsAnsweredTo, IsCutShort, IsOutputTo, LacksMemory}
+use Rattle.fr_cli.specs.Runs.{IsRunOf}
+use Rattle.fr_cli.specs.Script.{max_script, parts_of, request_lines}
+use Rattle.fr_cli.specs.declared.script_fault.ScriptFault.{ScriptFault}
+use Rattle.fr_cli.specs.declared.script_fault.ScriptFault.TheVariants.{NoMemory, WriteFailed}
+
+-- what is so of the bytes that were read is so of the script, if it is known
+on_script : (P : List ℕ → Type 0) (script : Option (List ℕ)) (bytes : List ℕ) → IfSome script (λ all. bytes ≡ all) → P bytes → IfSome script P
+on_script P None bytes whole so = tt
+on_script P (Some s) bytes whole so = subst P whole so
+
+-- A script of these parts, whose cluster file is read so.
+pub record HasParts (script : List ℕ) (c : Cluster) (requests : List ℕ) : Type 0 where
+  pub size : length script ≤ max_script
+  pub cluster : List ℕ
+  pub split : parts_of script ≡ Some (cluster, requests)
+  pub file : config_of cluster ≡ Ok c
+  pub formed : IsWellFormed c
+
+output_to : (script requests : List ℕ) (c : Cluster) (left : List (List ℕ)) (written : List ℕ) → HasParts script c requests
+    → IsAnsweredTo c (request_lines requests) left written → IsOutputTo script left written
+output_to script requests c left written has answered = record {
+  size = has.size;
+  cluster = c;
+  formed = has.formed;
+  lines = request_lines requests;
+  file = ap (option_map (λ parts. config_of parts.0)) has.split ∙ ap Some has.file;
+  requests = ap (option_map (λ parts. request_lines parts.1)) has.split;
+  answered = answered;
+}
+
+-- Where memory was wanting, and where a write failed, no more is to be said.
+lacked : (script left a b : Option (List ℕ)) → IfSome script (λ s. (written : List ℕ) × Appends a b written × LacksMemory s written) → IsRunOf script left a b (Err NoMemory)
+lacked script left a b so = record {
+  output = tt;
+  whole_script = tt;
+  too_long = λ e. absurd cc;
+  too_many_reads = λ e. absurd cc;
+  read_failed = λ e. absurd cc;
+  no_separator = λ e. absurd cc;
+  config = λ fault e. absurd cc;
+  no_memory = λ e. inr so;
+  write_failed = λ e. absurd cc;
+  unavailable = λ e. absurd cc;
+}
+
+failed : (script left a b : Option (List ℕ)) → IfSome script (λ s. (written : List ℕ) × Appends a b written × IsCutShort s written) → IsRunOf script left a b (Err WriteFailed)
+failed script left a b so = record {
+  output = tt;
+  whole_script = tt;
+  too_long = λ e. absurd cc;
+  too_many_reads = λ e. absurd cc;
+  read_failed = λ e. absurd cc;
+  no_separator = λ e. absurd cc;
+  config = λ fault e. absurd cc;
+  no_memory = λ e. absurd cc;
+  write_failed = λ e. so;
+  unavailable = λ e. absurd cc;
+}
+
+pub run_of : (old : Standing) (script left a b : Option (List ℕ)) (bytes requests : List ℕ) (c : Cluster) (done : Result ⊤ ScriptFault)
+    → IfSome script (λ all. bytes ≡ all) → IsAtEnd left → HasParts bytes c requests → old c (opening c)
+    → HasWritten old (request_lines requests) a b done → IsRunOf script left a b done
+run_of old script left a b bytes requests c (Ok x) whole end has stands w = record {
+  output =
+      let (written, appended, answered) = w.all in
+      on_script _ script bytes whole (written, appended, output_to bytes requests c [] written has (answered c has.formed stands));
+  whole_script = end;
+  too_long = λ e. absurd cc;
+  too_many_reads = λ e. absurd cc;
+  read_failed = λ e. absurd cc;
+  no_separator = λ e. absurd cc;
+  config = λ fault e. absurd cc;
+  no_memory = λ e. absurd cc;
+  write_failed = λ e. absurd cc;
+  unavailable = λ e. absurd cc;
+}
+run_of old script left a b bytes requests c (Err fault) whole end has stands w = elim w.faults [
+  | inl is ↦
+      let (line, rest, written, appended, answered) = w.no_memory (ap Err is) in
+      subst (λ f. IsRunOf script left a b (Err f)) (sym is)
+      (lacked script left a b (on_script _ script bytes whole (written, appended, (line, rest, output_to bytes requests c (line ∷ rest) written has (answered c has.formed stands)))))
+  | inr is ↦
+      let (rest, missing, written, appended, answered) = w.write_failed (ap Err is) in
+      subst (λ f. IsRunOf script left a b (Err f)) (sym is)
+      (failed script left a b (on_script _ script bytes whole (written, appended, (rest, missing, output_to bytes requests c rest (written ++ missing) has (answered c has.formed stands)))))
+]
