@@ -4,8 +4,8 @@
 # make try      tries the built program alone, as the gate does: rows, examples, faults, limits
 # make store    tries a register's files, its pages and edits, with the SQLite of python3; no part of the gate
 # make install  puts the proved program at $(PREFIX)/bin/slotplan
-# make bench    prints the program's speed and memory beside those of a plain reader, how a change's time grows
-#               with its supplier's rows, and the speed of texts alone; no test
+# make bench    prints the program's speed and memory beside those of a register that python3's sqlite3 keeps, how
+#               a change's time grows with its supplier's rows and beside others', and the speed of texts alone; no test
 
 SCRIPT ?= examples/first.script
 PREFIX ?= /usr/local
@@ -34,6 +34,7 @@ install: build
 bench: build
 	@python3 bench/run.py
 	@python3 bench/growth.py
+	@python3 bench/turns.py
 	@python3 bench/texts.py
 
 # `rt run` proves what has changed, compiles it, and runs the program once on its stored script. What

@@ -54,14 +54,15 @@ def processor_seconds():
     return resource.getrusage(resource.RUSAGE_CHILDREN).ru_utime
 
 
-def seconds(program, lines):
-    script = "\n".join([*cluster_file(["s0"]), *lines]).encode()
+def seconds_of(program, cluster, lines):
+    """The least of some runs; no request may be refused."""
+    script = "\n".join([*cluster, *lines]).encode()
     runs = []
     for _ in range(RUNS):
         before = processor_seconds()
         answers = subprocess.run([program, "run"], input=script, stdout=subprocess.PIPE, check=True).stdout
         runs.append(processor_seconds() - before)
-        if answers != b'{"ok":"done"}\n' * len(lines):
+        if answers.count(b"\n") != len(lines) or b"refused" in answers:
             sys.exit("a request was refused")
     return min(runs)
 
@@ -75,8 +76,9 @@ def main():
     before = None
     for frames in FRAMES:
         lines, more = list(plan(frames)), changes(frames, given.changes)
-        alone = seconds(given.program, lines)
-        each = (seconds(given.program, lines + more) - alone) / len(more)
+        cluster = cluster_file(["s0"])
+        alone = seconds_of(given.program, cluster, lines)
+        each = (seconds_of(given.program, cluster, lines + more) - alone) / len(more)
         growth = f"{each / before:6.2f}" if before else ""
         print(f"{frames:6} {frames * PLACEMENTS:10} {alone:7.2f} {each * 1e6:10.0f} {growth}", flush=True)
         before = each

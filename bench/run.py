@@ -1,8 +1,9 @@
 #!/usr/bin/env python3
-"""Prints requests per second and peak memory of `slotplan run`, as ratios to a plain reader: run.py [--program FILE] [--lines N] [--suppliers S] [--seed X]
+"""Prints requests per second and peak memory of `slotplan run` beside two programs of python3: run.py [--program FILE] [--lines N] [--suppliers S] [--seed X]
 
-The plain reader is python3, which reads the same lines with its json and answers nothing. Both run in turn, and the
-best of three runs counts. Ratios are those of one run on one machine: they promise nothing."""
+The register is `tests/naive.py`, which answers the same script, by python3's sqlite3 in memory; its answers have to be the
+same. The reader reads the same lines with python3's json and answers nothing. All run in turn, and the best of three runs
+counts. Ratios are those of one run on one machine: they promise nothing."""
 import argparse
 import subprocess
 import sys
@@ -11,7 +12,8 @@ import time
 from pathlib import Path
 
 HERE = Path(__file__).resolve().parent
-MIXES = ("refused", "queries", "plan", "place", "all")
+MIXES = ("refused", "queries", "plan", "place", "imports", "all")
+NAIVE = HERE.parent / "tests/naive.py"
 RUNS = 3
 
 READER = r"""
@@ -68,27 +70,27 @@ def tally(answers):
 def main():
     words = argparse.ArgumentParser(description=__doc__, formatter_class=argparse.RawDescriptionHelpFormatter)
     words.add_argument("--program", default=HERE.parent / "crates/fr_cli/out/fr_cli", type=Path)
-    words.add_argument("--lines", type=int, default=10_000)
+    words.add_argument("--lines", type=int, default=20_000)
     words.add_argument("--suppliers", type=int, default=8)
     words.add_argument("--seed", type=int, default=1)
     given = words.parse_args()
-    print(f"{'mix':8} {'lines':>7} {'done':>6} {'refused':>7} {'lines/s':>9} {'MB':>6}   {'reader lines/s':>14} {'MB':>6}   {'time':>6} {'memory':>6}")
+    print(f"{'mix':8} {'lines':>7} {'done':>6} {'refused':>7} {'lines/s':>9} {'MB':>6}   {'register: times':>15} {'MB':>6}   {'reader: times':>13} {'MB':>6}")
     for mix in MIXES:
         with tempfile.TemporaryDirectory() as room:
-            script, answers, nothing = (Path(room) / name for name in ("script", "answers", "nothing"))
+            script, answers, expected, nothing = (Path(room) / name for name in ("script", "answers", "expected", "nothing"))
             made = [sys.executable, HERE / "scripts.py", mix, "--lines", str(given.lines), "--suppliers", str(given.suppliers), "--seed", str(given.seed)]
             script.write_bytes(subprocess.run(made, check=True, stdout=subprocess.PIPE).stdout)
-            ours, theirs = [], []
+            runs = {name: [] for name in ("ours", "register", "reader")}
             for _ in range(RUNS):
-                ours.append(measured([given.program, "run"], script, answers))
-                theirs.append(measured([sys.executable, "-c", READER], script, nothing))
+                runs["ours"].append(measured([given.program, "run"], script, answers))
+                runs["register"].append(measured([sys.executable, NAIVE], script, expected))
+                runs["reader"].append(measured([sys.executable, "-c", READER], script, nothing))
+            if answers.read_bytes() != expected.read_bytes():
+                sys.exit(f"{mix}: the answers differ from those of {NAIVE.name}")
             lines, done, refused = tally(answers)
-            (seconds, memory), (reader_seconds, reader_memory) = best(ours), best(theirs)
-        print(
-            f"{mix:8} {lines:7} {done:6} {refused:7} {lines / seconds:9.0f} {memory / 1e6:6.1f}   "
-            f"{lines / reader_seconds:14.0f} {reader_memory / 1e6:6.1f}   {seconds / reader_seconds:6.2f} {memory / reader_memory:6.2f}",
-            flush=True,
-        )
+        (seconds, memory), *others = (best(of) for of in runs.values())
+        beside = "   ".join(f"{other / seconds:{width}.2f} {more / 1e6:6.1f}" for (other, more), width in zip(others, (15, 13)))
+        print(f"{mix:8} {lines:7} {done:6} {refused:7} {lines / seconds:9.0f} {memory / 1e6:6.1f}   {beside}", flush=True)
 
 
 if __name__ == "__main__":

@@ -6,7 +6,8 @@ MIX is one of
   refused   requests that are refused, for nearly each reason that there is, over a small plan
   queries   each query, on a small plan, of the integrator and of the suppliers
   place     each request is a placement, on a variant that fills up
-  all       plan, refused and queries, mixed line by line
+  imports   files of up to 20 rows, of placements or signals; some come again, some have a row that is refused
+  all       plan, refused, queries and imports, mixed line by line
 """
 import argparse
 import json
@@ -58,6 +59,7 @@ class Plan:
         self.frames = {}  # of a variant and a supplier, its frames, each with its node
         self.placed = {}  # of a variant and a supplier, the placements that were asked for
         self.signals = {}  # of a variant and a supplier, the frames and signals that were asked for
+        self.imports = {}  # of a supplier, the files that were sent
 
     def line(self, actor, do, **fields):
         key = "integrator1" if actor is None else key_of(actor)
@@ -123,6 +125,33 @@ class Plan:
         start = self.dice.randrange(PAYLOAD_BITS)
         return self.line(supplier, "add_signal", variant=variant, frame=frame, signal=signal, start=start, length=length, order=order)
 
+    def placement_row(self, variant, supplier):
+        """A row for a frame that is there or new, in a slot of its node."""
+        frame = f"frame{self.dice.randrange(FRAMES)}"
+        node = dict(self.frames[variant, supplier]).get(frame, self.dice.randrange(NODES))
+        slot, channel = self.dice.choice(self.held[variant, supplier, node])
+        repetition = self.dice.choice((32, 64))
+        return f"{frame},node{node},{slot},{channel},{self.dice.randrange(repetition)},{repetition}"
+
+    def signal_row(self, variant, supplier):
+        frame, _ = self.dice.choice(self.frames[variant, supplier])
+        return f"{frame},signal{self.dice.randrange(1000)},{self.dice.randrange(PAYLOAD_BITS - 8)},{self.dice.randint(1, 4)},little"
+
+    def an_import(self, variant, supplier):
+        """A file under a label of its own; or one that was sent before, whole or with a row more."""
+        before = self.imports.setdefault(supplier, [])
+        if before and self.dice.random() < 0.2:
+            fields = self.dice.choice(before)
+            more = {"body": fields["body"] + "more\n"} if self.dice.random() < 0.2 else {}
+            return self.line(supplier, "import", **{**fields, **more})
+        header, row = self.dice.choice((
+            ("frame,node,slot,channels,base,repetition", self.placement_row), ("frame,signal,start,length,order", self.signal_row),
+        ))
+        rows = [row(variant, supplier) for _ in range(self.dice.choice((0, 1, 1, 2, 2, 3, 20)))]
+        fields = dict(variant=variant, label=f"label{len(before)}", body="".join(f"{line}\n" for line in [header, *rows]))
+        before.append(fields)
+        return self.line(supplier, "import", **fields)
+
     def taken(self, rows, key):
         """One of these rows, which then is among them no more; None where there is none."""
         of = rows.get(key)
@@ -160,6 +189,12 @@ class Plan:
         if kind < 0.6:
             return self.end(variant, supplier)
         return self.place(variant, supplier)
+
+    def some_import(self):
+        """Into an open variant in which the supplier has frames, and each node a slot; else a step of the plan."""
+        variant, supplier = self.dice.choice(self.variants), self.dice.choice(self.suppliers)
+        ready = self.frames.get((variant, supplier)) and all(self.held.get((variant, supplier, node)) for node in range(NODES))
+        return self.an_import(variant, supplier) if ready else self.plan()
 
     def refused(self):
         supplier, variant = self.dice.choice(self.suppliers), self.variants[0]
@@ -217,7 +252,8 @@ def script(mix, lines, suppliers, seed):
         "refused": [plan.refused],
         "queries": [plan.query],
         "place": [lambda: plan.place("v0", plan.dice.choice(names))],
-        "all": [plan.plan, plan.plan, plan.plan, plan.refused, plan.query],
+        "imports": [lambda: plan.an_import("v0", plan.dice.choice(names))],
+        "all": [plan.plan, plan.plan, plan.plan, plan.refused, plan.query, plan.some_import],
     }[mix]
     more = (plan.dice.choice(kinds)() for _ in range(max(0, lines - len(opening))))
     return cluster_file(names) + opening[:lines] + list(more)
@@ -225,7 +261,7 @@ def script(mix, lines, suppliers, seed):
 
 def main():
     words = argparse.ArgumentParser(description=__doc__, formatter_class=argparse.RawDescriptionHelpFormatter)
-    words.add_argument("mix", choices=("plan", "refused", "queries", "place", "all"))
+    words.add_argument("mix", choices=("plan", "refused", "queries", "place", "imports", "all"))
     words.add_argument("--lines", type=int, default=10_000)
     words.add_argument("--suppliers", type=int, default=8, choices=range(1, 65), metavar="1..64")
     words.add_argument("--seed", type=int, default=1)

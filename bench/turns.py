@@ -1,0 +1,97 @@
+#!/usr/bin/env python3
+"""Prints what a request costs on a page that is kept, on one that is read anew, and beside other suppliers: turns.py [--program FILE] [--requests N]
+
+In each variant two suppliers have as many frames as the row says, each with 8 placements. A placement is taken back and
+made again, or a layout is asked for: in one variant (its page is kept); in 63 variants by both suppliers in turn (126 pages,
+more than are kept, so each is read anew). Then one supplier does the same in one variant beside 0, 15 and 63 others that
+have as many rows there. The processor time is that of the whole run less that of a run without these requests, each the
+least of five, in microseconds a request. Like all of bench/, it promises nothing."""
+import argparse
+import json
+from pathlib import Path
+
+from growth import CYCLES, PLACEMENTS, placement, seconds_of
+from scripts import cluster_file, key_of
+
+HERE = Path(__file__).resolve().parent
+FRAMES = (4, 64, 256)
+BESIDE = 16  # frames of each supplier where others have rows too
+OTHERS = (0, 15, 63)
+VARIANTS = 64
+
+
+def line(key, do, **fields):
+    return f"{key} {json.dumps({'do': do, **fields}, separators=(',', ':'))}"
+
+
+def plan(suppliers, frames, variant="v0"):
+    """A variant in which each supplier has so many frames, each with all its placements, in slots of its own."""
+    yield line("integrator1", "open_variant", variant=variant)
+    slots = max(1, frames * PLACEMENTS // CYCLES)
+    for nth, supplier in enumerate(suppliers):
+        node = dict(supplier=supplier, node="node0")
+        yield line("integrator1", "add_node", **node)
+        for slot in range(slots):
+            yield line("integrator1", "grant", variant=variant, slot=nth * slots + slot + 1, channel="A", **node)
+        for frame in range(frames):
+            yield line(key_of(supplier), "add_frame", variant=variant, frame=f"frame{frame}", node="node0")
+            for place in range(PLACEMENTS):
+                at = placement(frame, place)
+                yield line(key_of(supplier), "place", variant=variant, **{**at, "slot": nth * slots + at["slot"]})
+
+
+def copies():
+    """The variant is released, and all others are opened from it."""
+    yield line("integrator1", "release", variant="v0")
+    for n in range(1, VARIANTS):
+        yield line("integrator1", "open_variant", variant=f"v{n}", **{"from": "v0"})
+
+
+def change(nth, supplier, variant, frames):
+    """A placement in the middle of the plan, taken back and made again, in turn."""
+    at = placement(frames // 2, 0)
+    slots = max(1, frames * PLACEMENTS // CYCLES)
+    fields = {**at, "slot": int(supplier[1:]) * slots + at["slot"]}
+    return line(key_of(supplier), ("unplace", "place")[nth % 2], variant=variant, **fields)
+
+
+def query(_, supplier, variant, frames):
+    return line(key_of(supplier), "layout", variant=variant, frame=f"frame{frames // 2}")
+
+
+def in_turn(asked, places, count, frames):
+    """So many requests, each place in turn; all places before the next request of a pair."""
+    return [asked(n // len(places), *places[n % len(places)], frames) for n in range(count - count % (2 * len(places)))]
+
+
+def each(program, names, lines, more):
+    cluster = cluster_file(names)
+    return (seconds_of(program, cluster, lines + more) - seconds_of(program, cluster, lines)) / len(more) * 1e6
+
+
+def main():
+    words = argparse.ArgumentParser(description=__doc__, formatter_class=argparse.RawDescriptionHelpFormatter)
+    words.add_argument("--program", default=HERE.parent / "crates/fr_cli/out/fr_cli", type=Path)
+    words.add_argument("--requests", type=int, default=1_008)
+    given = words.parse_args()
+    names = ["s0", "s1"]
+    anew = [(supplier, f"v{n}") for n in range(1, VARIANTS) for supplier in names]
+    print(f"{'frames':>6} {'change, kept':>13} {'read anew':>10} {'layout, kept':>13} {'read anew':>10}")
+    for frames in FRAMES:
+        lines = [*plan(names, frames), *copies()]
+        costs = [
+            each(given.program, names, lines, in_turn(asked, places, given.requests, frames))
+            for asked in (change, query) for places in ([("s0", "v1")], anew)
+        ]
+        print(f"{frames:6} {costs[0]:13.0f} {costs[1]:10.0f} {costs[2]:13.0f} {costs[3]:10.0f}", flush=True)
+    print(f"\n{'others':>6} {'change, kept':>13} {'ratio':>6}")
+    first = None
+    for others in OTHERS:
+        names = [f"s{n}" for n in range(others + 1)]
+        cost = each(given.program, names, list(plan(names, BESIDE)), in_turn(change, [("s0", "v0")], given.requests, BESIDE))
+        first = first or cost
+        print(f"{others:6} {cost:13.0f} {cost / first:6.2f}", flush=True)
+
+
+if __name__ == "__main__":
+    main()
