@@ -2,7 +2,7 @@
 """Prints how the time of a change grows with the rows that its supplier has: growth.py [--program FILE] [--changes N]
 
 A supplier plans 64, 128 and 256 frames of 8 placements each. Then one placement is taken back and made again, N times.
-The processor time of these requests is that of the whole run less that of a run without them, each the least of five.
+The processor time of these requests is that of the whole run less that of a run without them, each the least of three.
 The last column says how many times that of the row above it is. Like all of bench/, it promises nothing."""
 import argparse
 import json
@@ -17,7 +17,7 @@ HERE = Path(__file__).resolve().parent
 FRAMES = (64, 128, 256)
 PLACEMENTS = 8
 CYCLES = 64
-RUNS = 5
+RUNS = 3
 
 
 def line(key, do, **fields):

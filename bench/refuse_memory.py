@@ -3,8 +3,9 @@
 
 The answers that are right stand beside the script, in SCRIPT with the ending .answers. With one allocation refused, a run
 answers Unavailable where that request found no memory, and every other line as the register without that request does; or
-it ends with status 1 and the word NoMemory, and wrote whole lines so far. Each allocation is refused by a small library
-that cc makes, loaded before the C library. It is no test of the gate."""
+it ends with status 1 and the word NoMemory, and wrote whole lines so far; or with the word Unavailable, and wrote nothing,
+where the register could not be made. Each allocation is refused by a small library that cc makes, loaded before the C
+library. It is no test of the gate."""
 import argparse
 import os
 import subprocess
@@ -75,6 +76,8 @@ def fault_of(program, script, out, err, status):
         return None if true == right else "an answer is wrong"
     if status == 1 and err == b"slotplan: NoMemory\n":
         return None if true == right[: len(true)] else "an answer is wrong"
+    if status == 1 and err == b"slotplan: Unavailable\n":
+        return "something was written" if out else None
     return f"status {status}, {err!r}"
 
 
@@ -86,7 +89,7 @@ def main():
     script = given.script.read_bytes()
     if run(given.program, script) != (given.script.with_suffix(".answers").read_bytes(), b"", 0):
         sys.exit("the answers are not those beside the script")
-    ended = unavailable = calls = 0
+    ended = unmade = unavailable = calls = 0
     with tempfile.TemporaryDirectory() as room:
         refuser = Refuser(room)
         while True:
@@ -97,9 +100,11 @@ def main():
             wrong = fault_of(given.program, script, out, err, status)
             if wrong:
                 sys.exit(f"allocation {calls} refused: {wrong}")
-            ended += status
+            ended += err == b"slotplan: NoMemory\n"
+            unmade += err == b"slotplan: Unavailable\n"
             unavailable += out.count(UNAVAILABLE)
-    print(f"{calls} allocations refused in turn: {ended} runs ended in NoMemory, {unavailable} answers were Unavailable, no answer was wrong")
+    ends = f"{ended} runs ended in NoMemory, {unmade} in Unavailable"
+    print(f"{calls} allocations refused in turn: {ends}, {unavailable} answers were Unavailable, no answer was wrong")
 
 
 if __name__ == "__main__":

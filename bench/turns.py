@@ -1,11 +1,12 @@
 #!/usr/bin/env python3
 """Prints what a request costs on a page that is kept, on one that is read anew, and beside other suppliers: turns.py [--program FILE] [--requests N]
 
-In each variant two suppliers have as many frames as the row says, each with 8 placements. A placement is taken back and
-made again, or a layout is asked for: in one variant (its page is kept); in 63 variants by both suppliers in turn (126 pages,
-more than are kept, so each is read anew). Then one supplier does the same in one variant beside 0, 15 and 63 others that
-have as many rows there. The processor time is that of the whole run less that of a run without these requests, each the
-least of five, in microseconds a request. Like all of bench/, it promises nothing."""
+In each variant two suppliers have as many frames as the row says, each with 8 placements. One placement is taken back and
+made again, in the only variant. A layout is asked for: in one of 64 variants (its page is kept), and in 63 of them by both
+suppliers in turn (126 pages, more than are kept, so each is read anew). Then a placement is taken back and made again by one
+supplier beside 0, 15 and 63 others that have as many rows in the variant, and its schedule is asked for. The processor time
+is that of the whole run less that of a run without these requests, each the least of three, in microseconds a request. Like
+all of bench/, it promises nothing."""
 import argparse
 import json
 from pathlib import Path
@@ -55,8 +56,12 @@ def change(nth, supplier, variant, frames):
     return line(key_of(supplier), ("unplace", "place")[nth % 2], variant=variant, **fields)
 
 
-def query(_, supplier, variant, frames):
+def layout(_, supplier, variant, frames):
     return line(key_of(supplier), "layout", variant=variant, frame=f"frame{frames // 2}")
+
+
+def schedule(_, supplier, variant, frames):
+    return line(key_of(supplier), "schedule", variant=variant)
 
 
 def in_turn(asked, places, count, frames):
@@ -76,21 +81,23 @@ def main():
     given = words.parse_args()
     names = ["s0", "s1"]
     anew = [(supplier, f"v{n}") for n in range(1, VARIANTS) for supplier in names]
-    print(f"{'frames':>6} {'change, kept':>13} {'read anew':>10} {'layout, kept':>13} {'read anew':>10}")
+    print(f"{'frames':>6} {'change':>8} {'layout, kept':>13} {'read anew':>10}")
     for frames in FRAMES:
-        lines = [*plan(names, frames), *copies()]
+        first = list(plan(names, frames))
+        lines = [*first, *copies()]
         costs = [
             each(given.program, names, lines, in_turn(asked, places, given.requests, frames))
-            for asked in (change, query) for places in ([("s0", "v1")], anew)
+            for lines, asked, places in ((first, change, [("s0", "v0")]), (lines, layout, [("s0", "v1")]), (lines, layout, anew))
         ]
-        print(f"{frames:6} {costs[0]:13.0f} {costs[1]:10.0f} {costs[2]:13.0f} {costs[3]:10.0f}", flush=True)
-    print(f"\n{'others':>6} {'change, kept':>13} {'ratio':>6}")
-    first = None
+        print(f"{frames:6} {costs[0]:8.0f} {costs[1]:13.1f} {costs[2]:10.0f}", flush=True)
+    print(f"\n{'others':>6} {'change':>8} {'ratio':>6} {'schedule':>9} {'ratio':>6}")
+    alone = None
     for others in OTHERS:
         names = [f"s{n}" for n in range(others + 1)]
-        cost = each(given.program, names, list(plan(names, BESIDE)), in_turn(change, [("s0", "v0")], given.requests, BESIDE))
-        first = first or cost
-        print(f"{others:6} {cost:13.0f} {cost / first:6.2f}", flush=True)
+        lines = list(plan(names, BESIDE))
+        costs = [each(given.program, names, lines, in_turn(asked, [("s0", "v0")], given.requests, BESIDE)) for asked in (change, schedule)]
+        alone = alone or costs
+        print(f"{others:6} {costs[0]:8.0f} {costs[0] / alone[0]:6.2f} {costs[1]:9.0f} {costs[1] / alone[1]:6.2f}", flush=True)
 
 
 if __name__ == "__main__":
