@@ -237,10 +237,12 @@ fn are_reported(alloc: Global, answers: &[Answer]) -> Result<bool, Fail> {
     let schedule = answers.first().ok_or("no schedule")?;
     let gaps = answers.get(5).ok_or("no gaps")?;
     let layout = answers.last().ok_or("no layout")?;
-    Ok(is_report(write_lines(alloc, schedule), "00 0001 A f1 n1 s1\n")?
-        && is_report(write_schedule(alloc, schedule), "00 0001 A f1 n1 s1\n")?
-        && is_report(write_gaps(alloc, gaps), "GAP    6300 f1\n")?
-        && is_report(write_layout(alloc, layout), "0004 08 little x s1\n")?)
+    Ok(
+        is_report(write_lines(alloc, schedule), "00 0001 A f1 n1 s1\n")?
+            && is_report(write_schedule(alloc, schedule), "00 0001 A f1 n1 s1\n")?
+            && is_report(write_gaps(alloc, gaps), "GAP    6300 f1\n")?
+            && is_report(write_layout(alloc, layout), "0004 08 little x s1\n")?,
+    )
 }
 
 #[test]
