@@ -3,7 +3,7 @@
 
 One program does both, and reads the file N times. It is proved and built first, which takes minutes where the crates below
 are still to be proved.
-Figures are of processor time, the least of seven runs, less that of starting. The ratios hold for their machine: they
+Figures are of processor time, the least of 21 runs, less that of starting. The ratios hold for their machine: they
 promise nothing."""
 import argparse
 import sys
@@ -15,7 +15,7 @@ from texts import seconds
 
 TOP = Path(__file__).resolve().parent.parent
 ROWS = 512
-RUNS = 7
+RUNS = 21
 
 PROGRAM = r"""//! Reads an import's file again and again: its rows, or the records alone that `csv` finds in it.
 #![tactic(auto)]
@@ -99,21 +99,21 @@ def signals():
         yield f"frame_{row // 8},signal_{row % 8},{row % 8 * 8},8,{('little', 'big')[row % 2]}"
 
 
-def microseconds(program, what, count, body, times):
-    """What reading the file once takes: its rows, or its records alone. There must be so many."""
-    runs, starts = [], []
+def microseconds(program, counts, body, times):
+    """What reading the file once takes, each way. There must be so many. The ways take turns, so that both meet the same machine."""
+    taken = {what: [] for what in counts}
     for _ in range(RUNS):
-        used, printed = seconds([program, what, str(times)], body)
-        if int(printed) != count:
-            sys.exit(f"{what}: {int(printed)} in place of {count}")
-        runs.append(used)
-        starts.append(seconds([program, what, "0"], body)[0])
-    return (min(runs) - min(starts)) / times * 1e6
+        for what, count in counts.items():
+            used, printed = seconds([program, what, str(times)], body)
+            if int(printed) != count:
+                sys.exit(f"{what}: {int(printed)} in place of {count}")
+            taken[what].append((used, seconds([program, what, "0"], body)[0]))
+    return [(min(used for used, _ in runs) - min(start for _, start in runs)) / times * 1e6 for runs in taken.values()]
 
 
 def main():
     words = argparse.ArgumentParser(description=__doc__, formatter_class=argparse.RawDescriptionHelpFormatter)
-    words.add_argument("--times", type=int, default=2_000)
+    words.add_argument("--times", type=int, default=500)
     times = words.parse_args().times
     (TOP / "out").mkdir(exist_ok=True)
     with tempfile.TemporaryDirectory(dir=TOP / "out") as room:
@@ -121,8 +121,7 @@ def main():
         print(f"{'512 rows of':12} {'bytes':>8} {'rows, us':>10} {'csv, us':>10} {'time':>6}")
         for name, lines in (("placements", placements()), ("signals", signals())):
             body = "".join(f"{line}\n" for line in lines).encode()
-            ours = microseconds(program, "rows", ROWS, body, times)
-            theirs = microseconds(program, "records", ROWS + 1, body, times)
+            ours, theirs = microseconds(program, {"rows": ROWS, "records": ROWS + 1}, body, times)
             print(f"{name:12} {len(body):8} {ours:10.1f} {theirs:10.1f} {ours / theirs:6.2f}", flush=True)
 
 

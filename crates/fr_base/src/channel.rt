@@ -52,10 +52,18 @@ impl Channels {
     pub fn read(text: &str) -> Option<Channels>
         ensures { result ≡ channels_of_text text.now }
     {
-        match text {
-            "A" => Some(Channels::A),
-            "AB" => Some(Channels::AB),
-            "B" => Some(Channels::B),
+        Channels::from_bytes(text.as_bytes())
+    }
+
+    /// The same of bytes, which need not be a text.
+    #[inline(always)]
+    pub fn from_bytes(bytes: &[u8]) -> Option<Channels>
+        ensures { result ≡ channels_of_text bytes.now }
+    {
+        match bytes {
+            [b'A'] => Some(Channels::A),
+            [b'A', b'B'] => Some(Channels::AB),
+            [b'B'] => Some(Channels::B),
             _ => None,
         }
     }

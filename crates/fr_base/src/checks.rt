@@ -96,7 +96,8 @@ pub fn check<'a>(
             repetition,
         } => {
             let (supplier, variant, frame) = (asking(actor)?, name(variant)?, name(frame)?);
-            let placement = placement(params, *slot, channels.as_str(), *base, *repetition)?;
+            let channels = channels.as_str().as_bytes();
+            let placement = placement(params, *slot, channels, *base, *repetition)?;
             Ok(of_frame(supplier, variant, frame, FrameChange::Place(placement)))
         }
         Request::Unplace {
@@ -108,7 +109,8 @@ pub fn check<'a>(
             repetition,
         } => {
             let (supplier, variant, frame) = (asking(actor)?, name(variant)?, name(frame)?);
-            let placement = placement(params, *slot, channels.as_str(), *base, *repetition)?;
+            let channels = channels.as_str().as_bytes();
+            let placement = placement(params, *slot, channels, *base, *repetition)?;
             Ok(of_frame(supplier, variant, frame, FrameChange::Unplace(placement)))
         }
         Request::AddSignal {
@@ -120,7 +122,8 @@ pub fn check<'a>(
             order,
         } => {
             let (supplier, variant, frame) = (asking(actor)?, name(variant)?, name(frame)?);
-            let signal = signal(name(text)?, *start, *length, order.as_str())?;
+            let order = order.as_str().as_bytes();
+            let signal = signal(name(text)?, *start, *length, order)?;
             Ok(of_frame(supplier, variant, frame, FrameChange::AddSignal(signal)))
         }
         Request::DropSignal {
@@ -233,6 +236,7 @@ pub(crate) fn read_name(bytes: &[u8]) -> Result<Name, Refusal>
 
 // The cycles that base and repetition select.
 #[tactic(auto, unfolding(crate::specs::Checks::cycles))]
+#[inline(always)]
 fn cycles(base: u32, repetition: u32) -> Result<CycleSet, Refusal>
     ensures { result ≡ cycles base repetition }
 {
@@ -241,6 +245,7 @@ fn cycles(base: u32, repetition: u32) -> Result<CycleSet, Refusal>
 
 // The static slot of this number, if the cluster has it.
 #[tactic(auto, unfolding(crate::specs::Checks::slot))]
+#[inline(always)]
 fn slot(params: &Params, number: u32) -> Result<Slot, Refusal>
     ensures { result ≡ slot params.now number }
 {
@@ -264,10 +269,11 @@ fn channel(params: &Params, text: &Text) -> Result<Channel, Refusal>
 
 // The channels that are written so, if the cluster has them all.
 #[tactic(auto, unfolding(crate::proofs::ChecksLemmas::checks_open))]
-fn channels(params: &Params, text: &str) -> Result<Channels, Refusal>
+#[inline(always)]
+fn channels(params: &Params, text: &[u8]) -> Result<Channels, Refusal>
     ensures { result ≡ channels params.now text.now }
 {
-    match Channels::read(text) {
+    match Channels::from_bytes(text) {
         Some(channels) if has_all(params.channels(), channels) => Ok(channels),
         _ => Err(Refusal::BadChannel),
     }
@@ -275,10 +281,11 @@ fn channels(params: &Params, text: &str) -> Result<Channels, Refusal>
 
 /// The placement in these cycles, this slot and these channels, if the cluster has them.
 #[tactic(auto, unfolding(crate::proofs::ChecksLemmas::checks_open))]
+#[inline(always)]
 pub(crate) fn placement(
     params: &Params,
     number: u32,
-    text: &str,
+    text: &[u8],
     base: u32,
     repetition: u32,
 ) -> Result<Placement, Refusal>
@@ -304,10 +311,11 @@ fn parent_name(parent: &Option<Text>) -> Result<Option<Name>, Refusal>
 
 /// The signal of this name, if it has 1 to 64 bits in one of the two orders.
 #[tactic(auto, unfolding(crate::proofs::ChecksLemmas::checks_open))]
-pub(crate) fn signal(name: Name, start: u32, length: u32, text: &str) -> Result<Signal, Refusal>
+#[inline(always)]
+pub(crate) fn signal(name: Name, start: u32, length: u32, text: &[u8]) -> Result<Signal, Refusal>
     ensures { result ≡ signal name start length text.now }
 {
-    let order = Order::read(text).ok_or(Refusal::BadSignal)?;
+    let order = Order::from_bytes(text).ok_or(Refusal::BadSignal)?;
     Signal::new(name, start, length, order).map_err(|_| Refusal::BadSignal)
 }
 

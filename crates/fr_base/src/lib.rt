@@ -10,6 +10,7 @@ mod channel;
 mod checks;
 mod config;
 mod cycles;
+mod desk;
 mod fixed_text;
 mod import;
 mod key;
@@ -33,6 +34,7 @@ pub use checks::check;
 pub use config::{Config, Supplier, Suppliers};
 pub use cycles::{BadCycles, CYCLE_COUNT, CycleSet};
 pub use import::{Header, Row, RowRead};
+pub use desk::Desk;
 pub use key::Key;
 pub use laws::{
     bad_variant_is_bad_name, equal_views, first_taken_is_own, holder_sends, import_acts_once,

@@ -24,9 +24,17 @@ impl Order {
     pub fn read(text: &str) -> Option<Order>
         ensures { result ≡ order_of_text text.now }
     {
-        match text {
-            "little" => Some(Order::Little),
-            "big" => Some(Order::Big),
+        Order::from_bytes(text.as_bytes())
+    }
+
+    /// The same of bytes, which need not be a text.
+    #[inline(always)]
+    pub fn from_bytes(bytes: &[u8]) -> Option<Order>
+        ensures { result ≡ order_of_text bytes.now }
+    {
+        match bytes {
+            b"little" => Some(Order::Little),
+            b"big" => Some(Order::Big),
             _ => None,
         }
     }

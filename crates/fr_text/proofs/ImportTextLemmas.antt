@@ -1,8 +1,10 @@
 -- An import's rows one after the other, and the records that a reader has left.
 use Rattle.std.proofs.Common.{◌≡◌, ℕ, zero, suc, ◌+◌, ◌-◌, ◌*◌, ◌<◌, ◌≤◌, Bool, true, false, List, [], ◌∷◌, length, Some, None, Option, Result, Ok, Err, ◌^◌, Bor, refl, sym, ap, ◌∙◌, inl, inr, ◌⊎◌, ◌++◌, add-one, arith, map, take, drop, get_or, append-nil, append_assoc}
-use Rattle.std.specs.Prelude.{⊤, IfSome, is_err, option_map, not, ◌&&◌, ◌==◌, if◌then◌else◌}
+use Rattle.std.specs.Prelude.{⊤, IfSome, is_err, option_map, codes, not, ◌&&◌, ◌==◌, if◌then◌else◌}
 use Rattle.std.proofs.lemmas.Bool.{le-ltb}
 use Rattle.std.specs.List.{list_all}
+use Rattle.std.specs.Result.{result_ok, is_ok}
+use Rattle.std.proofs.lemmas.Slice.Eq.{bytes_eq-Decides}
 use Rattle.std.specs.Cmp.Lexicographic.{pointwise}
 use Rattle.std.specs.Char.{digit_value}
 use Rattle.std.specs.Str.Parse.{digits_value}
@@ -25,15 +27,19 @@ use Rattle.csv.specs.Records.{field_at}
 use Rattle.csv.proofs.ReadFacts.{rows-end as none-read, rows-more as one-read}
 use Rattle.fr_base.specs.Refusing.{◌>>=◌, ◌>>◌, ◌or◌, refuse◌when◌}
 use Rattle.fr_base.specs.Names.{same_text, is_digit, is_name}
-use Rattle.fr_base.specs.Checks.{name}
+use Rattle.fr_base.specs.Channels.{channels_of_text}
+use Rattle.fr_base.specs.Signals.{order_of_text}
+use Rattle.fr_base.specs.Checks.{name, placement as placement_of, cycles as cycles_of, slot as slot_of, channels as channels_of, signal as signal_of}
 use Rattle.fr_base.proofs.NameLemmas.{name_is_text}
 use Rattle.fr_base.specs.ImportRows.{records_of, header_of, text_at, number, number_at, placement_row, signal_row, placement_in, signal_in, row_of, row_at, rows_from, rows_below, rows_of_records, up_to_refused, rows_of_body}
 use Rattle.fr_base.specs.declared.import.Header.{Header}
+use Rattle.fr_base.specs.declared.import.Header.TheVariants.{Placements, Signals}
 use Rattle.fr_base.specs.declared.import.Row.{Row}
+use Rattle.fr_base.specs.declared.import.Row.TheVariants.{Place, AddSignal}
 use Rattle.fr_base.specs.declared.import.RowRead.{RowRead}
 use Rattle.fr_base.specs.declared.params.Params.{Params}
 use Rattle.fr_base.specs.declared.refusal.Refusal.{Refusal}
-use Rattle.fr_base.specs.declared.refusal.Refusal.TheVariants.{BadText, BadName, Limit}
+use Rattle.fr_base.specs.declared.refusal.Refusal.TheVariants.{BadText, BadChannel, Limit}
 use Rattle.fr_text.specs.ImportText.{records_left, left_of, IsPlain}
 
 -- what a proof about a row opens
@@ -302,82 +308,132 @@ pub number_at_none : (fields : List (List ℕ)) (i : ℕ) → field_at fields i 
 unfolding ◌>>=◌ ◌>>◌ ◌or◌ refuse◌when◌ text_at number_at
 number_at_none fields i e = rw e refl
 
--- whether both are texts, in which a row's names stand
-abbrev pub are_texts : List ℕ → List ℕ → Bool
-are_texts frame other = is_utf8 frame && is_utf8 other
+-- ---- a row that nothing refuses
 
--- a row begins with two texts, or is refused
-texts_first : {A : Type 0} (fields : List (List ℕ)) (f g : List ℕ) (rest : List ℕ → List ℕ → Result A Refusal) → field_at fields 0 ≡ Some f → field_at fields 1 ≡ Some g
-    → (text_at fields 0 >>= λ a. text_at fields 1 >>= λ b. rest a b) ≡ (if are_texts f g then rest f g else Err BadText)
+text_at-is : (fields : List (List ℕ)) (i : ℕ) (f : List ℕ) → field_at fields i ≡ Some f → is_utf8 f ≡ true → text_at fields i ≡ Ok f
 unfolding ◌>>=◌ ◌>>◌ ◌or◌ refuse◌when◌ text_at
-texts_first {A} fields f g rest e h = rw (e, h) (by (is_utf8 f) (is_utf8 g))
+text_at-is fields i f e is = rw (e, is) refl
+
+number_at-is : (fields : List (List ℕ)) (i : ℕ) (f : List ℕ) (n : ℕ) → field_at fields i ≡ Some f → number f ≡ Ok n → number_at fields i ≡ Ok n
+number_at-is fields i f n e is = number_at_bytes fields i f e ∙ is
+
+name_text : (text : List ℕ) → is_name text ≡ true → is_utf8 text ≡ true
+name_text text named = is_utf8-from_IsUtf8 text (name_is_text text named)
+
+-- what is no text is none of the words of channels, and of orders
+other_word : (text word : List ℕ) → is_name word ≡ true → is_utf8 text ≡ false → same_text text word ≡ false
+other_word text word named e = by (same_text text word) refl
   where
-    by : (a b : Bool) → (((refuse BadText when not a) >> Ok f) >>= λ x. ((refuse BadText when not b) >> Ok g) >>= λ y. rest x y) ≡ (if a && b then rest f g else Err BadText)
-    by true true = refl
-    by true false = refl
-    by false true = refl
-    by false false = refl
+    by : (b : Bool) → same_text text word ≡ b → b ≡ false
+    by true same =
+        let equal : text ≡ word = (bytes_eq-Decides text word).0 same in
+        let is : is_utf8 word ≡ true = name_text word named in
+        cc
+    by false same = refl
 
--- a row that is read is of names, which are texts
-named : (frame other : List ℕ) → is_name frame ≡ true → is_name other ≡ true → are_texts frame other ≡ true
-named frame other f g =
-    let frame_is = is_utf8-from_IsUtf8 frame (name_is_text frame f) in
-    let other_is = is_utf8-from_IsUtf8 other (name_is_text other g) in
-    rw (frame_is, other_is) refl
+no_channels : (text : List ℕ) → is_utf8 text ≡ false → channels_of_text text ≡ None
+unfolding is_name
+no_channels text e = rw (other_word text (codes "A") refl e, other_word text (codes "AB") refl e, other_word text (codes "B") refl e) refl
 
-names_read : {A : Type 0} (frame other : List ℕ) (rest : List ℕ → List ℕ → Result A Refusal) → is_err (name frame >>= λ f. name other >>= λ n. rest f n) ≡ false → are_texts frame other ≡ true
-unfolding ◌>>=◌ name
-names_read {A} frame other rest e = by (is_name frame) refl (is_name other) refl e
+no_order : (text : List ℕ) → is_utf8 text ≡ false → order_of_text text ≡ None
+unfolding is_name
+no_order text e = rw (other_word text (codes "little") refl e, other_word text (codes "big") refl e) refl
+
+no_placement : (p : Params) (slot : ℕ) (text : List ℕ) (base repetition : ℕ) → is_utf8 text ≡ false → result_ok (placement_of p slot text base repetition) ≡ None
+unfolding placement_of channels_of ◌>>=◌ ◌or◌
+no_placement p slot text base repetition e = rw (no_channels text e) (by (cycles_of base repetition) (slot_of p slot))
   where
-    by : (a : Bool) → is_name frame ≡ a → (b : Bool) → is_name other ≡ b
-        → is_err ((if a then Ok frame else Err BadName) >>= λ f. (if b then Ok other else Err BadName) >>= λ n. rest f n) ≡ false → are_texts frame other ≡ true
-    by true f true g e = named frame other f g
-    by true f false g e = cc
-    by false f b g e = cc
+    by : {A B C : Type 0} (r : Result A Refusal) (k : Result B Refusal) → result_ok {T = C} (r >>= λ _. k >>= λ _. Err BadChannel) ≡ None
+    by (Ok r) (Ok k) = refl
+    by (Ok r) (Err e) = refl
+    by (Err e) k = refl
 
--- what follows the two names of a row of placements, and of signals
-placement_rest : Params → List (List ℕ) → List ℕ → List ℕ → Result Row Refusal
-placement_rest p fields frame node = do
-  slot ← number_at fields 2
-  channels ← text_at fields 3
-  base ← number_at fields 4
-  repetition ← number_at fields 5
-  placement_row p frame node slot channels base repetition
+no_signal : (name : List ℕ) (start size : ℕ) (text : List ℕ) → is_utf8 text ≡ false → result_ok (signal_of name start size text) ≡ None
+unfolding signal_of ◌>>=◌ ◌or◌
+no_signal name start size text e = rw (no_order text e) refl
 
-signal_rest : List (List ℕ) → List ℕ → List ℕ → Result Row Refusal
-signal_rest fields frame named = do
-  start ← number_at fields 2
-  length ← number_at fields 3
-  order ← text_at fields 4
-  signal_row frame named start length order
+-- what was made of a value was made of one that is there
+made : {A B : Type 0} (f : A → B) (r : Result A Refusal) (x : B) → option_map f (result_ok r) ≡ Some x → (r >>= λ v. Ok (f v)) ≡ Ok x
+unfolding ◌>>=◌
+made f (Ok v) x e = cc
+made f (Err e) x h = cc
 
--- what is read is of texts, so it is the row
-read_or_texts : (f g : List ℕ) (row whole : Result Row Refusal) → whole ≡ (if are_texts f g then row else Err BadText)
-    → (is_err row ≡ false → are_texts f g ≡ true) → (is_err row ≡ false) ⊎ (are_texts f g ≡ true) → row ≡ whole
-read_or_texts f g row whole e names (inl read) = sym (rw (names read) at e)
-read_or_texts f g row whole e names (inr texts) = sym (rw texts at e)
+-- and of a text, where of no other bytes any is made
+of_text : {A B : Type 0} (f : A → B) (r : Result A Refusal) (x : B) (text : List ℕ) → option_map f (result_ok r) ≡ Some x → (is_utf8 text ≡ false → result_ok r ≡ None) → is_utf8 text ≡ true
+of_text f r x text e none = by (is_utf8 text) refl
+  where
+    by : (b : Bool) → is_utf8 text ≡ b → b ≡ true
+    by true is = refl
+    by false is = let gone = none is in let no : option_map f None ≡ Some x = rw gone at e in cc
 
-pub placement-read : (p : Params) (fields : List (List ℕ)) (frame node channels : List ℕ) (slot base repetition : ℕ) (row : Result Row Refusal)
-    → field_at fields 0 ≡ Some frame → field_at fields 1 ≡ Some node → number_at fields 2 ≡ Ok slot → text_at fields 3 ≡ Ok channels
-    → number_at fields 4 ≡ Ok base → number_at fields 5 ≡ Ok repetition → row ≡ placement_row p frame node slot channels base repetition
-    → (is_err row ≡ false) ⊎ (are_texts frame node ≡ true) → row ≡ placement_in p fields
-unfolding placement_in placement_row placement_rest ◌>>=◌
-placement-read p fields frame node channels slot base repetition row e0 e1 e2 e3 e4 e5 is how =
-    let rest : placement_rest p fields frame node ≡ row = rw (e2, e3, e4, e5) (sym is) in
-    let whole : placement_in p fields ≡ (if are_texts frame node then row else Err BadText) =
-    texts_first fields frame node (placement_rest p fields) e0 e1 ∙ ap (λ r. if are_texts frame node then r else Err BadText) rest in
-    read_or_texts frame node row (placement_in p fields) whole (λ read. names_read frame node _ (rw is at read)) how
+placement_row-is : (p : Params) (frame node channels : List ℕ) (slot base repetition : ℕ) (row : Row) → is_name frame ≡ true → is_name node ≡ true
+    → option_map (Place frame node) (result_ok (placement_of p slot channels base repetition)) ≡ Some row → placement_row p frame node slot channels base repetition ≡ Ok row
+unfolding placement_row name ◌>>=◌
+placement_row-is p frame node channels slot base repetition row f n e = rw (f, n) (made (Place frame node) (placement_of p slot channels base repetition) row e)
 
-pub signal-read : (fields : List (List ℕ)) (frame other order : List ℕ) (start size : ℕ) (row : Result Row Refusal)
-    → field_at fields 0 ≡ Some frame → field_at fields 1 ≡ Some other → number_at fields 2 ≡ Ok start → number_at fields 3 ≡ Ok size
-    → text_at fields 4 ≡ Ok order → row ≡ signal_row frame other start size order
-    → (is_err row ≡ false) ⊎ (are_texts frame other ≡ true) → row ≡ signal_in fields
-unfolding signal_in signal_row signal_rest ◌>>=◌
-signal-read fields frame other order start size row e0 e1 e2 e3 e4 is how =
-    let rest : signal_rest fields frame other ≡ row = rw (e2, e3, e4) (sym is) in
-    let whole : signal_in fields ≡ (if are_texts frame other then row else Err BadText) =
-    texts_first fields frame other (signal_rest fields) e0 e1 ∙ ap (λ r. if are_texts frame other then r else Err BadText) rest in
-    read_or_texts frame other row (signal_in fields) whole (λ read. names_read frame other _ (rw is at read)) how
+signal_row-is : (frame other order : List ℕ) (start size : ℕ) (row : Row) → is_name frame ≡ true → is_name other ≡ true
+    → option_map (AddSignal frame) (result_ok (signal_of other start size order)) ≡ Some row → signal_row frame other start size order ≡ Ok row
+unfolding signal_row name ◌>>=◌
+signal_row-is frame other order start size row f n e = rw (f, n) (made (AddSignal frame) (signal_of other start size order) row e)
+
+-- a field that was read as a name is one
+pub name-read : (fields : List (List ℕ)) (i : ℕ) (bytes named : List ℕ) → field_at fields i ≡ Some bytes → Some named ≡ (if is_name bytes then Some bytes else None)
+    → (field_at fields i ≡ Some named) × (is_name named ≡ true)
+name-read fields i bytes named at e = by (is_name bytes) refl e
+  where
+    by : (b : Bool) → is_name bytes ≡ b → Some named ≡ (if b then Some bytes else None) → (field_at fields i ≡ Some named) × (is_name named ≡ true)
+    by true is e = let same : bytes ≡ named = cc in (at ∙ ap (λ x. Some x) same, sym (ap is_name same) ∙ is)
+    by false is e = cc
+
+if_some : {A : Type 0} (o : Option A) (P : A → Type 0) → ((x : A) → o ≡ Some x → P x) → IfSome o P
+if_some (Some x) P gives = gives x refl
+if_some None P gives = tt
+
+pub plain_placement-is : (p : Params) (fields : List (List ℕ)) (frame node slot channels base repetition : List ℕ) (s b r : ℕ) (read : Option Row)
+    → length fields ≡ 6 → field_at fields 0 ≡ Some frame → field_at fields 1 ≡ Some node → field_at fields 2 ≡ Some slot → field_at fields 3 ≡ Some channels
+    → field_at fields 4 ≡ Some base → field_at fields 5 ≡ Some repetition → is_name frame ≡ true → is_name node ≡ true
+    → number slot ≡ Ok s → number base ≡ Ok b → number repetition ≡ Ok r
+    → read ≡ option_map (Place frame node) (result_ok (placement_of p s channels b r)) → IfSome read (λ row. row_of p Placements fields ≡ Ok row)
+unfolding row_of placement_in ◌>>=◌ ◌>>◌ refuse◌when◌
+plain_placement-is p fields frame node slot channels base repetition s b r read size e0 e1 e2 e3 e4 e5 f n ns nb nr is = if_some read _ (λ row some.
+    let e = sym is ∙ some in
+    let text = of_text (Place frame node) (placement_of p s channels b r) row channels e (no_placement p s channels b r) in
+    rw (
+      size,
+      text_at-is fields 0 frame e0 (name_text frame f),
+      text_at-is fields 1 node e1 (name_text node n),
+      number_at-is fields 2 slot s e2 ns,
+      text_at-is fields 3 channels e3 text,
+      number_at-is fields 4 base b e4 nb,
+      number_at-is fields 5 repetition r e5 nr,
+    )
+    (placement_row-is p frame node channels s b r row f n e))
+
+pub plain_signal-is : (p : Params) (fields : List (List ℕ)) (frame other start size order : List ℕ) (s l : ℕ) (read : Option Row)
+    → length fields ≡ 5 → field_at fields 0 ≡ Some frame → field_at fields 1 ≡ Some other → field_at fields 2 ≡ Some start → field_at fields 3 ≡ Some size
+    → field_at fields 4 ≡ Some order → is_name frame ≡ true → is_name other ≡ true → number start ≡ Ok s → number size ≡ Ok l
+    → read ≡ option_map (AddSignal frame) (result_ok (signal_of other s l order)) → IfSome read (λ row. row_of p Signals fields ≡ Ok row)
+unfolding row_of signal_in ◌>>=◌ ◌>>◌ refuse◌when◌
+plain_signal-is p fields frame other start size order s l read count e0 e1 e2 e3 e4 f n ns nl is = if_some read _ (λ row some.
+    let e = sym is ∙ some in
+    let text = of_text (AddSignal frame) (signal_of other s l order) row order e (no_signal other s l order) in
+    rw (
+      count,
+      text_at-is fields 0 frame e0 (name_text frame f),
+      text_at-is fields 1 other e1 (name_text other n),
+      number_at-is fields 2 start s e2 ns,
+      number_at-is fields 3 size l e3 nl,
+      text_at-is fields 4 order e4 text,
+    )
+    (signal_row-is frame other order s l row f n e))
+
+pub refused-where : {A E : Type 0} (r : Result A E) → is_ok r ≡ false → is_err r ≡ true
+refused-where (Ok x) e = cc
+refused-where (Err x) e = refl
+
+pub read-where : {A E : Type 0} (r : Result A E) → is_ok r ≡ true → is_err r ≡ false
+read-where (Ok x) e = refl
+read-where (Err x) e = cc
 
 -- ---- a header
 

@@ -1,15 +1,16 @@
 //! Reads an import's file: comma-separated records, of which the first is a header that says what the
 //! others are.
-ghost use Rattle.std.specs.Prelude.{◌≡◌, ◌∷◌, ◌&&◌, [], map, MatchResult, Ok, Err, Some, None, if◌then◌else◌};
+ghost use Rattle.std.specs.Prelude.{◌≡◌, ◌∷◌, ◌&&◌, [], map, MatchResult, Ok, Err, Some, None, if◌then◌else◌, ◌++◌, true, false, IfOk, IfSome, OnOk};
 ghost use Rattle.std.specs.Option.{MatchOption};
-ghost use Rattle.std.specs.Str.{is_utf8};
+ghost use Rattle.std.specs.Result.{is_ok};
 ghost use Rattle.std.specs.Cmp.Lexicographic.{pointwise};
 ghost use Rattle.csv.specs.Records.{field_at, fields_of};
 ghost use Rattle.fr_base.specs.Names.{same_text};
+ghost use Rattle.fr_base.specs.declared.params.RawParams.{RawParams};
 ghost use Rattle.fr_base.specs.ImportRows.{records_of, spelled, header_of, text_at, number, number_at, placement_in, signal_in, row_of, rows_of_body};
 
 use csv::{ByteRecord, Reader, ReaderBuilder};
-use fr_base::{Header, MAX_ROWS, Params, Refusal, Row, RowRead, Rows};
+use fr_base::{Header, MAX_ROWS, Name, NoMemory, Params, Refusal, Row, RowRead, Rows};
 use std::alloc::Global;
 use std::marker::Model;
 
@@ -38,9 +39,7 @@ pub fn read_import(alloc: Global, params: &Params, body: &[u8]) -> Result<Rows<R
         if !records.read(&mut fields)? {
             return Ok(rows);
         }
-        let row = row_of(params, header, &fields);
-        rows.push(RowRead { line, row })?;
-        if row.is_err() {
+        if !push_row(&mut rows, line, params, header, &fields)? {
             return Ok(rows);
         }
     }
@@ -138,8 +137,75 @@ fn has_fields(fields: &ByteRecord, names: &[&str]) -> bool
     true
 }
 
+/// Adds the row that the fields below the header are, or its first refusal, and says which: `true` for a
+/// row.
+#[inline(always)]
+fn push_row(
+    rows: &mut Rows<RowRead>,
+    line: u32,
+    params: &Params,
+    header: Header,
+    fields: &ByteRecord,
+) -> Result<bool, NoMemory>
+    ensures rows { OnOk result (rows.new ≡ rows.old ++ record { line = line; row = row_of params.now header (fields_of fields.now) } ∷ []) }
+    ensures read { IfOk result (λ read. read ≡ is_ok (row_of params.now header (fields_of fields.now))) }
+{
+    match header {
+        Header::Placements => {
+            if let Some(row) = plain_placement(params, fields) {
+                rows.push(RowRead { line, row: Ok(row) })?;
+                return Ok(true);
+            }
+        }
+        Header::Signals => {
+            if let Some(row) = plain_signal(fields) {
+                rows.push(RowRead { line, row: Ok(row) })?;
+                return Ok(true);
+            }
+        }
+    }
+    let row = row_of(params, header, fields);
+    rows.push(RowRead { line, row })?;
+    Ok(row.is_ok())
+}
+
+/// The row of placements that the fields are, unless one of them refuses it: why is asked of `row_of`.
+#[inline(always)]
+fn plain_placement(params: &Params, fields: &ByteRecord) -> Option<Row>
+    ensures { IfSome result (λ row. row_of params.now Header.Placements (fields_of fields.now) ≡ Ok row) }
+{
+    if fields.len() != names(Header::Placements).len() {
+        return None;
+    }
+    let frame = Name::from_bytes(fields.get(0)?)?;
+    let node = Name::from_bytes(fields.get(1)?)?;
+    let slot = number(fields.get(2)?)?;
+    let channels = fields.get(3)?;
+    let base = number(fields.get(4)?)?;
+    let repetition = number(fields.get(5)?)?;
+    Row::place(params, frame, node, slot, channels, base, repetition)
+}
+
+/// The row of signals that the fields are, unless one of them refuses it: why is asked of `row_of`.
+#[inline(always)]
+fn plain_signal(fields: &ByteRecord) -> Option<Row>
+    ensures { (params : RawParams) → IfSome result (λ row. row_of params Header.Signals (fields_of fields.now) ≡ Ok row) }
+{
+    if fields.len() != names(Header::Signals).len() {
+        return None;
+    }
+    let frame = Name::from_bytes(fields.get(0)?)?;
+    let signal = Name::from_bytes(fields.get(1)?)?;
+    let start = number(fields.get(2)?)?;
+    let length = number(fields.get(3)?)?;
+    let order = fields.get(4)?;
+    Row::add_signal(frame, signal, start, length, order)
+}
+
 /// The row that the fields below the header are, or its first refusal.
 #[tactic(auto, unfolding(crate::proofs::ImportTextLemmas::rows_open))]
+#[cold]
+#[inline(never)]
 fn row_of(params: &Params, header: Header, fields: &ByteRecord) -> Result<Row, Refusal>
     ensures { result ≡ row_of params.now header (fields_of fields.now) }
 {
@@ -157,17 +223,13 @@ fn row_of(params: &Params, header: Header, fields: &ByteRecord) -> Result<Row, R
 fn placement_in(params: &Params, fields: &ByteRecord) -> Result<Row, Refusal>
     ensures { result ≡ placement_in params.now (fields_of fields.now) }
 {
-    let frame = field_at(fields, 0)?;
-    let node = field_at(fields, 1)?;
+    let frame = text_at(fields, 0)?.as_bytes();
+    let node = text_at(fields, 1)?.as_bytes();
     let slot = number_at(fields, 2)?;
     let channels = text_at(fields, 3)?;
     let base = number_at(fields, 4)?;
     let repetition = number_at(fields, 5)?;
-    let row = Row::placement(params, frame, node, slot, channels, base, repetition);
-    if row.is_err() && !(is_text(frame) && is_text(node)) {
-        return Err(Refusal::BadText);
-    }
-    row
+    Row::placement(params, frame, node, slot, channels, base, repetition)
 }
 
 /// The row of signals that the fields are.
@@ -175,25 +237,12 @@ fn placement_in(params: &Params, fields: &ByteRecord) -> Result<Row, Refusal>
 fn signal_in(fields: &ByteRecord) -> Result<Row, Refusal>
     ensures { result ≡ signal_in (fields_of fields.now) }
 {
-    let frame = field_at(fields, 0)?;
-    let signal = field_at(fields, 1)?;
+    let frame = text_at(fields, 0)?.as_bytes();
+    let signal = text_at(fields, 1)?.as_bytes();
     let start = number_at(fields, 2)?;
     let length = number_at(fields, 3)?;
     let order = text_at(fields, 4)?;
-    let row = Row::signal(frame, signal, start, length, order);
-    if row.is_err() && !(is_text(frame) && is_text(signal)) {
-        return Err(Refusal::BadText);
-    }
-    row
-}
-
-/// Whether the field is a text. A name is ASCII, so where names are to stand this is asked only of a row
-/// that is refused.
-#[tactic(auto, using(crate::proofs::FieldsLemmas::utf8_tests))]
-fn is_text(field: &[u8]) -> bool
-    ensures { result ≡ is_utf8 field.now }
-{
-    str::from_utf8(field).is_ok()
+    Row::signal(frame, signal, start, length, order)
 }
 
 /// The field at a place.
@@ -217,7 +266,6 @@ fn text_at(fields: &ByteRecord, place: usize) -> Result<&str, Refusal>
 
 /// The field at a place, a number.
 #[tactic(auto, using(crate::proofs::ImportTextLemmas::number_at_bytes, crate::proofs::ImportTextLemmas::number_at_none))]
-#[inline(always)]
 fn number_at(fields: &ByteRecord, place: usize) -> Result<u32, Refusal>
     ensures { MatchResult result
         (λ value. number_at (fields_of fields.now) place ≡ Ok value)
@@ -227,10 +275,11 @@ fn number_at(fields: &ByteRecord, place: usize) -> Result<u32, Refusal>
 }
 
 /// The number that the bytes are: 1 to 10 digits.
+#[inline(always)]
 fn number(digits: &[u8]) -> Option<u32>
     ensures { MatchOption result (number digits.now ≡ Err Refusal.BadText) (λ value. number digits.now ≡ Ok value) }
 {
-    if digits.is_empty() || digits.len() > 10 {
+    if !(1..=10).contains(&digits.len()) {
         return None;
     }
     let mut value: u32 = 0;

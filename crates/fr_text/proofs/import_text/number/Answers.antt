@@ -1,14 +1,15 @@
-use Rattle.std.proofs.Common.{◌≡◌, ◌∙◌, ◌+◌, true, Ok, ap, sym, rules, arith}
+use Rattle.std.proofs.Common.{◌≡◌, ◌≤◌, length, false, ◌∙◌, ◌+◌, true, Ok, ap, sym, rules, arith}
 use Rattle.std.proofs.lemmas.List.{take_all}
 use Rattle.std.specs.List.{list_all}
 use Rattle.std.specs.Str.Parse.{digits_value}
-use Rattle.std.specs.Prelude.{get_or}
+use Rattle.std.specs.Prelude.{get_or, ◌==◌}
+use Rattle.std.proofs.lemmas.Bool.Decides.{nat_tests}
 use Rattle.fr_base.specs.Names.{is_digit}
 use Rattle.fr_text.proofs.ImportTextLemmas.{number-size, number-other, number-large, number-read, value-more, digits-more}
 use Rattle.fr_text.proofs.import_text.number.Goals as goal
 
-pub returns-then-is_empty : goal.returns-then-is_empty
-returns-then-is_empty c = number-size c.args.digits.now (search rules)
+pub returns-then-not-contains : goal.returns-then-not-contains
+returns-then-not-contains c = number-size c.args.digits.now (grind (arith, nat_tests))
 
 pub returns-then-not-is_ascii_digit : goal.returns-then-not-is_ascii_digit
 returns-then-not-is_ascii_digit c = number-other c.args.digits.now c.loop-digit.digit-index c.loop-digit-test.true (search rules)
@@ -40,4 +41,6 @@ returns c =
     let whole = take_all c.loop-digit.digit-index text (omega arith) in
     let value : c.loop-digit.value ≡ digits_value 10 text = c.loop-digit.invariant.1 ∙ ap (digits_value 10) whole in
     let digits : list_all is_digit text ≡ true = sym (ap (list_all is_digit) whole) ∙ c.loop-digit.invariant.0 in
-    number-read text (search rules) (omega arith) digits (omega (arith, value, c.loop-digit.invariant.2)) ∙ ap (λ n. Ok n) (sym value)
+    let low : (length text == 0) ≡ false = grind (arith, nat_tests) in
+    let high : length text ≤ 10 = grind (arith, nat_tests) in
+    number-read text low high digits (omega (arith, value, c.loop-digit.invariant.2)) ∙ ap (λ n. Ok n) (sym value)
