@@ -59,6 +59,25 @@ pub struct PageRows {
     pub frames: BTreeMap<Name, PageFrame>,
 }
 
+impl Clone for PageRows {
+    ghost use Rattle.std.specs.Prelude.{◌≡◌};
+    ghost use Rattle.fr_world.specs.Pages.{rows_data};
+
+    ghost is_clone = { λ r n. rows_data n ≡ rows_data r };
+
+    fn clone(&self) -> Result<PageRows, NoMemory> {
+        Ok(PageRows {
+            params: self.params,
+            supplier: self.supplier,
+            variant: self.variant,
+            released: self.released,
+            nodes: self.nodes.clone()?,
+            grants: self.grants.clone()?,
+            frames: self.frames.clone()?,
+        })
+    }
+}
+
 /// A supplier's rows in a variant, in the order of their keys: at most 64 nodes and 256 frames, each
 /// frame with at most 8 placements, which fit the cluster and lie in grants to its node, and with
 /// signals that make a layout of the cluster's payload. No cell lies in two placements. Whether the
@@ -76,6 +95,18 @@ impl Model for Page {
     ghost view = { λ p. rows_data p.rows };
 
     ghost invariant = { λ p. IsKept (rows_data p.rows) };
+}
+
+impl Clone for Page {
+    ghost use Rattle.std.specs.Prelude.{◌≡◌};
+
+    ghost is_clone = { λ p n. n ≡ p };
+
+    fn clone(&self) -> Result<Page, NoMemory> {
+        Ok(Page {
+            rows: self.rows.clone()?,
+        })
+    }
 }
 
 impl Page {
