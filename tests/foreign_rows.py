@@ -1,7 +1,8 @@
 """Registers in files whose rows another hand changed, so that they have not their form or make no page.
 
 Each is told as Unavailable where such a row is met, in a run that ends, and the file stays as it was. What meets no such row is
-told as before. tests/store_pages.py has the program that is asked."""
+told as before. Where a row breaks the rules of its table, `sqlite` reads no database in the file, so it is NotARegister.
+tests/store_pages.py has the program that is asked."""
 import subprocess
 from contextlib import closing
 
@@ -34,7 +35,14 @@ TOLD = {
 HERE = ["page s1 v1"]
 BOTH = ["page s1 v1", "page s1 v2", "nodes s1"]
 HELD = ["page s1 v1", "holder v1 1 A"]
-LISTED = ["variants"]
+# Where a name of the supplier stands: its node's, its frame's.
+NODE = [("nodes", "name"), ("grants", "node"), ("frames", "node")]
+FRAME = [("frames", "name"), ("placements", "frame"), ("signals", "frame")]
+
+
+def renamed(columns, name):
+    """The name is another wherever it stands, so that the tables' rules stay met."""
+    return ";".join(f"UPDATE {table} SET {column} = {name} WHERE supplier = 's1'" for table, column in columns)
 
 
 def many(table, count, row):
@@ -43,20 +51,19 @@ def many(table, count, row):
     return f"INSERT INTO {table} SELECT {row} FROM ({numbers})"
 
 
-# What is changed, and what is then Unavailable.
+# What is changed within the tables' rules, and what is then Unavailable.
 CHANGES = [
-    ("UPDATE nodes SET name = '1n' WHERE supplier = 's1'", BOTH),
-    ("UPDATE nodes SET name = 'n' || char(10) WHERE supplier = 's1'", BOTH),
-    ("UPDATE nodes SET name = '" + "n" * 33 + "' WHERE supplier = 's1'", BOTH),
+    (renamed(NODE, "'1n'"), [*BOTH, *HELD]),
+    (renamed(NODE, "''"), [*BOTH, *HELD]),
+    (renamed(NODE, "'n' || char(10)"), [*BOTH, *HELD]),
+    (renamed(NODE, "'" + "n" * 33 + "'"), [*BOTH, *HELD]),
     ("UPDATE grants SET slot = 0 WHERE variant = 'v1' AND supplier = 's1'", HERE),
     ("UPDATE grants SET slot = 1024 WHERE variant = 'v1' AND supplier = 's1'", HERE),
     ("UPDATE grants SET slot = 4294967297 WHERE variant = 'v1' AND supplier = 's1'", HERE),
     ("UPDATE grants SET channel = 'AB' WHERE variant = 'v1' AND supplier = 's1'", HERE),
-    ("UPDATE grants SET node = '' WHERE variant = 'v1' AND supplier = 's1'", HELD),
-    ("UPDATE grants SET supplier = '1s' WHERE variant = 'v1' AND supplier = 's1'", HELD),
-    ("UPDATE frames SET name = 'f-1' WHERE supplier = 's1'", HERE),
-    ("UPDATE frames SET node = '9' WHERE supplier = 's1'", HERE),
-    ("UPDATE frames SET node = 'n9' WHERE supplier = 's1'", HERE),
+    ("DELETE FROM grants WHERE variant = 'v1' AND supplier = 's1'", HERE),
+    (renamed(FRAME, "'f-1'"), HERE),
+    ("INSERT INTO nodes VALUES ('s1', 'n9'); UPDATE frames SET node = 'n9' WHERE supplier = 's1'", HERE),
     ("UPDATE placements SET channels = 'BA' WHERE supplier = 's1'", HERE),
     ("UPDATE placements SET channels = 'AB' WHERE supplier = 's1'", HERE),
     ("UPDATE placements SET slot = -1 WHERE supplier = 's1'", HERE),
@@ -73,33 +80,59 @@ CHANGES = [
     ("UPDATE signals SET start = 9", HERE),
     ("UPDATE signals SET length = 0", HERE),
     ("UPDATE signals SET length = 65", HERE),
-    ("UPDATE signals SET big = 2", HERE),
     ("INSERT INTO signals VALUES ('v1', 's1', 'f1', 'y', 7, 1, 0)", HERE),
-    ("UPDATE variants SET name = 'v 1' WHERE name = 'v1'", LISTED),
-    ("UPDATE variants SET parent = '' WHERE name = 'v2'", LISTED),
-    ("UPDATE variants SET depth = -1 WHERE name = 'v2'", LISTED),
-    ("UPDATE variants SET released = 2 WHERE name = 'v2'", ["variants", "page s1 v2"]),
-    ("UPDATE variants SET overlay = 2 WHERE name = 'v2'", ["page s1 v2"]),
     ("UPDATE imports SET variant = 'v 1'", ["import s1 l1"]),
     ("UPDATE imports SET rows = -1", ["import s1 l1"]),
+    # Then v2 shows the frame of v1, which is placed in a slot that its node is not granted in v2.
+    ("UPDATE variants SET overlay = 1 WHERE name = 'v2'", ["page s1 v2"]),
 ]
 
-# A variant that shows its parent's rows, where there is no such parent, or each is the other's or its own.
-PARENTS = [
+# Variants that cannot have been opened one from the other: then all is Unavailable.
+UNOPENED = [
+    "UPDATE variants SET name = 'v 1' WHERE name = 'v1'",
+    "UPDATE variants SET parent = '' WHERE name = 'v2'",
+    "UPDATE variants SET parent = 'v9' WHERE name = 'v2'",
+    "UPDATE variants SET parent = 'v2' WHERE name = 'v2'",
+    "UPDATE variants SET parent = CASE name WHEN 'v1' THEN 'v2' ELSE 'v1' END",
+    "UPDATE variants SET parent = NULL WHERE name = 'v2'",
+    "UPDATE variants SET released = 0 WHERE name = 'v1'",
+    *(f"UPDATE variants SET depth = {depth} WHERE name = 'v2'" for depth in (1, 3)),
+    "UPDATE variants SET depth = 2 WHERE name = 'v1'",
     "UPDATE variants SET overlay = 1, parent = 'v9' WHERE name = 'v2'",
     "UPDATE variants SET overlay = 1, parent = 'v2' WHERE name = 'v2'",
     "UPDATE variants SET overlay = 1, parent = CASE name WHEN 'v1' THEN 'v2' ELSE 'v1' END",
+    many("variants", 63, "'w' || n, NULL, 1, 0, 0"),
 ]
 
+# What breaks the tables' rules: then the file is not opened either.
+BROKEN = [
+    *(f"UPDATE variants SET depth = {depth} WHERE name = 'v2'" for depth in (-1, 0, 17)),
+    "UPDATE variants SET released = 2 WHERE name = 'v2'",
+    "UPDATE variants SET overlay = 2 WHERE name = 'v2'",
+    "UPDATE signals SET big = 2",
+    "UPDATE nodes SET name = 'n9' WHERE supplier = 's1'",
+    "UPDATE grants SET node = 'n9' WHERE variant = 'v1' AND supplier = 's1'",
+    "UPDATE grants SET supplier = '1s' WHERE variant = 'v1' AND supplier = 's1'",
+    "UPDATE frames SET node = 'n9' WHERE supplier = 's1'",
+    "DELETE FROM frames WHERE supplier = 's1'",
+    "INSERT INTO placements VALUES ('v1', 's1', 'f9', 1, 'A', 1, 64)",
+    "INSERT INTO signals VALUES ('v1', 's1', 'f9', 'x', 0, 1, 0)",
+]
 
-def changed(path, statement):
+def changed(path, statements):
     """A register that `sqlite3` makes and then changes, with no rule of its tables at work."""
     filled(path, more=PLANNED)
     with closing(connected(path)) as conn:
         for rule in "foreign_keys = OFF", "ignore_check_constraints = ON":
             conn.execute(f"PRAGMA {rule}")
-        conn.execute(statement)
+        conn.executescript(statements)
     return path
+
+
+def keeps_rules(path):
+    """Whether `sqlite3` finds the tables' rules met."""
+    with closing(connected(path)) as conn:
+        return (conn.execute("PRAGMA integrity_check").fetchall(), conn.execute("PRAGMA foreign_key_check").fetchall()) == ([("ok",)], [])
 
 
 def ask(tried, path, question, edits=""):
@@ -107,9 +140,9 @@ def ask(tried, path, question, edits=""):
     return subprocess.run([tried.program, "open", path], input=given, capture_output=True, text=True, timeout=SECONDS)
 
 
-def is_refused(tried, name, path, question, edits=""):
+def is_refused(tried, name, path, question, edits="", fault="Unavailable"):
     ran = ask(tried, path, question, edits)
-    tried.equal(f"{name}: {question}{edits}", ("Unavailable" in ran.stderr, ran.returncode), (True, 1))
+    tried.equal(f"{name}: {question}{edits}", (ran.stderr.split()[-1:], ran.returncode), ([fault], 1))
 
 
 def is_answered(tried, name, path, question):
@@ -124,24 +157,25 @@ def content(path):
 
 
 def foreign(tried, room):
-    for question in TOLD:
-        is_answered(tried, "as planned", filled(room / f"{question}.db", more=PLANNED), question)
-    for number, (statement, unavailable) in enumerate(CHANGES):
-        path = changed(room / f"changed_{number}.db", statement)
+    for number, question in enumerate(TOLD):
+        is_answered(tried, "as planned", filled(room / f"planned_{number}.db", more=PLANNED), question)
+    for number, (statements, unavailable) in enumerate(CHANGES):
+        path = changed(room / f"changed_{number}.db", statements)
         before = content(path)
+        tried.equal(f"{statements}: the rules are met", keeps_rules(path), True)
         for question in unavailable:
-            is_refused(tried, statement, path, question)
+            is_refused(tried, statements, path, question)
         for question in "page s2 v1", "holder v1 1 B":
-            if "variants" not in statement or "'v1'" not in statement:
-                is_answered(tried, statement, path, question)
-        tried.equal(f"{statement}: the file stays", content(path) == before, True)
-    for number, statement in enumerate(PARENTS):
-        path = changed(room / f"parents_{number}.db", statement)
-        before = content(path)
-        is_refused(tried, statement, path, "page s1 v2")
-        is_refused(tried, statement, path, "nodes s1", "frame v2 s1 f3 n1\n")
-        is_refused(tried, statement, path, "nodes s1", "release v2\nvariant v3 v2 3\n")
-        tried.equal(f"{statement}: the file stays", content(path) == before, True)
+            is_answered(tried, statements, path, question)
+        tried.equal(f"{statements}: the file stays", content(path) == before, True)
+    for fault, changes in ("Unavailable", UNOPENED), ("NotARegister", BROKEN):
+        for number, statements in enumerate(changes):
+            path = changed(room / f"{fault}_{number}.db", statements)
+            before = content(path)
+            tried.equal(f"{statements}: the rules are met", keeps_rules(path), changes is UNOPENED)
+            for question, edits in ("page s1 v1", ""), ("page s1 v2", ""), ("variants", ""), ("nodes s1", "node s1 n2\n"):
+                is_refused(tried, statements, path, question, edits, fault)
+            tried.equal(f"{statements}: the file stays", content(path) == before, True)
     wrong_kind(tried, room / "kind.db")
 
 
@@ -156,4 +190,4 @@ def wrong_kind(tried, path):
         if strict:
             with closing(connected(path)) as conn:
                 conn.execute("UPDATE signals SET start = 'four'")
-    is_refused(tried, "a text where a number belongs", path, "page s1 v1")
+    is_refused(tried, "a text where a number belongs", path, "page s1 v1", fault="NotARegister")

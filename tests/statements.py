@@ -3,11 +3,14 @@
 
 The schema is that of docs/FORMATS.md, the texts are those of the sources. Each column that a statement gives a value for in its
 WHERE is to be sought in one index, and no statement is to sort. Only the lists of all variants and suppliers, and the
-tables of one row, are read whole. It needs nothing built. The last line is 'N passed, M failed'."""
+tables of one row, are read whole. At last the query of docs/FORMATS.md for what variants show is tried on rows of tests/overlays.py. It
+needs nothing built. The last line is 'N passed, M failed'."""
 import re
 import sqlite3
 import sys
 from pathlib import Path
+
+from overlays import queried
 
 TOP = Path(__file__).resolve().parent.parent
 SOURCES = TOP / "crates/fr_store/src"
@@ -130,6 +133,9 @@ def main():
         # SQLite may tell of the rows that go with those of the table too.
         also = with_it.get(table_of(statement), [])
         tried.equal(f"{name}: {statement}", [step for step in found(conn, statement) if step not in also], wanted(statement))
+
+    conn.execute("INSERT INTO suppliers VALUES ('s1', 'supplier01'), ('s2', 'supplier02')")
+    queried(tried, conn)
     print(f"{tried.passed} passed, {tried.failed} failed")
     return 1 if tried.failed else 0
 

@@ -4,7 +4,8 @@
 A program makes a register in a file, or opens the one that is there, carries edits out, prints what it is asked for, and
 closes the file. python3's `sqlite3` then reads each row that the edits are to have made. And it makes the same register by
 the statements of docs/FORMATS.md, where the program is to find the same pages. What is wanted is made here by rule. At last
-come registers with rows that are no register's (tests/foreign_rows.py).
+come registers with rows that are no register's (tests/foreign_rows.py), and pages of variants that are laid over their parents
+(tests/overlays.py).
 
 `rt run` proves and builds the program, in a folder that is gone afterwards: the gate wants no crate that `crates.txt` does
 not name. With --keep the program is put into that file, and with its path as PROGRAM it is not built again. The last line is
@@ -20,6 +21,7 @@ from pathlib import Path
 
 from foreign_rows import foreign
 from made import FRAMES, LARGE, NODES, PLACEMENTS, SIGNALS, SLOTS, VARIANTS, cluster_file, suppliers
+from overlays import overlays
 from store_files import SECONDS, TOP, Tried, connected, filled, of_cluster, tables
 
 sys.path.append(str(TOP / "bench"))
@@ -459,7 +461,7 @@ def signals():
 
 
 def planned():
-    """The rows of the register: `v2` is opened from `v1`, all other variants are empty."""
+    """The rows of the register, each variant with all that it shows: `v2` is opened from `v1`, all other variants are empty."""
     rows = of_cluster(CLUSTER)
     rows["nodes"] = [("s1", f"n{at}") for at in range(1, NODES + 1)] + [(f"s{at}", "n1") for at in range(2, 65)]
     rows["variants"] = [("v1", None, 1, 1, 0), ("v2", "v1", 2, 0, 0)] + [(f"v{at}", None, 1, 0, 0) for at in range(3, VARIANTS + 1)]
@@ -512,6 +514,25 @@ def followed(rows):
         "variants": [("v2", "v1", 2, 1, 0)],
     }
     return rows | {table: [row for row in rows[table] if not is_gone(row)] + new.get(table, []) for table, is_gone in gone.items()}
+
+
+def contents(rows, variant):
+    """A variant's frames by supplier and name, each with its node, placements and signals."""
+    made = {row[1:3]: ([row[3]], [], []) for row in rows["frames"] if row[0] == variant}
+    for at, table in (1, "placements"), (2, "signals"):
+        for row in sorted(rows[table]):
+            if row[0] == variant:
+                made[row[1:3]][at].append(row[3:])
+    return made
+
+
+def laid_over(rows):
+    """The same register with `v2` laid over `v1`: only the frames that differ have rows, and what `v1` has more is dropped."""
+    below, above = contents(rows, "v2"), contents(rows, "v1")
+    same = {frame for frame, content in below.items() if above.get(frame) == content}
+    kept = {table: [row for row in rows[table] if row[0] != "v2" or row[1:3] not in same] for table in ("frames", "placements", "signals")}
+    variants = [(*row[:4], 1) if row[0] == "v2" else row for row in rows["variants"]]
+    return rows | kept | {"variants": variants, "dropped": [("v2", *frame) for frame in above if frame not in below]}
 
 
 def page(rows, supplier, variant):
@@ -579,10 +600,11 @@ def holds(tried, name, path, rows):
 
 def made_there(path, rows):
     """The register that `sqlite3` makes of these rows, each table's last row first."""
+    planned_in = [table for table in ("nodes", "variants", "grants", "frames", "placements", "signals", "imports", "dropped") if rows[table]]
     filled(path, CLUSTER)
     with closing(connected(path)) as conn:
         conn.execute("BEGIN")
-        for table in ("nodes", "variants", "grants", "frames", "placements", "signals", "imports"):
+        for table in planned_in:
             conn.executemany(f"INSERT INTO {table} VALUES ({','.join('?' * len(rows[table][0]))})", reversed(rows[table]))
         conn.execute("COMMIT")
     return path
@@ -601,16 +623,18 @@ def main():
             shutil.copy(program, given.keep)
         tried, rows = Tried(program), planned()
         tells(tried, "made here", "make", room / "here.db", rows, batches())
-        holds(tried, "made here", room / "here.db", rows)
+        holds(tried, "made here", room / "here.db", laid_over(rows))
         tells(tried, "made here, opened again", "open", room / "here.db", rows)
 
-        tells(tried, "made by sqlite3", "open", made_there(room / "there.db", rows), rows)
-        for end in "here", "there":
-            later = followed(rows)
+        tells(tried, "made by sqlite3", "open", made_there(room / "there.db", laid_over(rows)), rows)
+        tells(tried, "made whole by sqlite3", "open", made_there(room / "whole.db", rows), rows)
+        later = followed(rows)
+        for end, kept in ("here", laid_over(later)), ("there", laid_over(later)), ("whole", later):
             tells(tried, f"edited, {end}", "open", room / f"{end}.db", later, [LATER])
-            holds(tried, f"edited, {end}", room / f"{end}.db", later)
+            holds(tried, f"edited, {end}", room / f"{end}.db", kept)
         (room / "foreign").mkdir()
         foreign(tried, room / "foreign")
+        overlays(tried, room)
     print(f"{tried.passed} passed, {tried.failed} failed")
     return 1 if tried.failed else 0
 

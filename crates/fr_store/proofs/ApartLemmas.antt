@@ -1,5 +1,5 @@
 -- A table's rows apart from the one at a key, and lists that are made of them.
-use Rattle.std.proofs.Common.{◌≡◌, Bool, true, false, not, cond, None, Some, Option, List, [], ◌∷◌, ◌++◌, filter, flat_map, Equal, refl, ap, ap₂, ◌∙◌, subst, subst₂, ◌⊎◌, inl, inr, IsPermutation}
+use Rattle.std.proofs.Common.{◌≡◌, Bool, true, false, not, cond, None, Some, Option, List, [], ◌∷◌, ◌++◌, filter, flat_map, Equal, refl, sym, ap, ap₂, ◌∙◌, subst, subst₂, ◌⊎◌, inl, inr, IsPermutation, true≢false}
 use Rattle.std.specs.Prelude.{T}
 use Rattle.std.specs.Ordering.{is_eq, eq_by_cmp}
 use Rattle.std.specs.FinMap.Entries.{is_sorted, find}
@@ -9,7 +9,7 @@ use Rattle.fr_base.specs.TableRows.{first, second}
 use Rattle.fr_base.specs.Tables.{Order, Table, Fate, Becomes, Gone, get, insert, only, remove, settle}
 use Rattle.fr_base.proofs.TableLaws.{equal, get-insert, kept, none_above}
 use Rattle.fr_base.proofs.AloneTables.{get-remove, only-settle_other}
-use Rattle.fr_base.proofs.SoundTables.{same_key, insert-cases, remove-stood, only-insert_other}
+use Rattle.fr_base.proofs.SoundTables.{same_key, insert-cases, remove-stood, get-remove_other, only-insert_other}
 use Rattle.fr_store.proofs.SectionLemmas.{row_at}
 
 -- ---- lists that are made of the rows that pass a test
@@ -65,10 +65,23 @@ module _ {K V : Type 0} (o : Order K) (t : Table o V) (k : K) where
   kept_itself None = refl
   kept_itself (Some v) = ap (λ b. cond (not b) (Some v) None) (same_key o k)
 
+  untied : (q : K) → eq_by_cmp o.compare k q ≡ false → eq_by_cmp o.compare q k ≡ false
+  untied q other = by_test (eq_by_cmp o.compare q k) refl
+    where
+      by_test : (b : Bool) → eq_by_cmp o.compare q k ≡ b → b ≡ false
+      by_test false e = refl
+      by_test true e = absurd (true≢false (sym (ap (λ j. eq_by_cmp o.compare k j) (o.exact q k (equal _ e)) ∙ same_key o k) ∙ other))
+
   pub get-settle : (fate : Fate V) → get (settle t k fate) k ≡ becomes fate
   unfolding settle
   get-settle (Becomes v) = get-insert t k v k ∙ ap (λ b. cond b (Some v) (get t k)) (same_key o k)
   get-settle Gone = get-remove o (λ k v. true) t k k ∙ kept_itself (get t k)
+
+  -- what stands at another key stands there still
+  pub get-settle_other : (fate : Fate V) (q : K) → eq_by_cmp o.compare k q ≡ false → get (settle t k fate) q ≡ get t q
+  unfolding settle
+  get-settle_other (Becomes v) q other = get-insert t k v q ∙ ap (λ b. cond b (Some v) (get t q)) (untied q other)
+  get-settle_other Gone q other = get-remove_other o t k q other
 
   -- what stands at any key then is that, or stood there before
   pub settle-cases : (fate : Fate V) (q : K) (w : V) → get (settle t k fate) q ≡ Some w → (becomes fate ≡ Some w) ⊎ (get t q ≡ Some w)

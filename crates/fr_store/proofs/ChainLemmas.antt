@@ -55,6 +55,10 @@ pub record IsQuiet (old now : State) : Type 0 where
   pub spares : Spares old now
   pub same : HasCleanDisk now → HasTables old.now → IsUnchanged old now
 
+-- as after a first read
+pub quiet_first : {Said : Type 0} (old now : State) → Spares old now → (HasCleanDisk now → HasTables old.now → Said × IsUnchanged old now) → IsQuiet old now
+quiet_first old now spares told = record { spares = spares; same = λ clean was. (told clean was).1 }
+
 module _ (old mid now : State) (quiet : IsQuiet old mid) (spares : Spares mid now) where
   still_clean : HasCleanDisk now → HasCleanDisk mid
   still_clean clean = omega (arith, spares.clean, clean)

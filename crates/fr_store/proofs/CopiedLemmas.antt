@@ -1,23 +1,21 @@
 -- A variant's rows among all rows, and their copies for another variant.
-use Rattle.std.proofs.Common.{◌≡◌, true, false, Some, List, [], ◌∷◌, map, filter, flat_map, refl, ap, ◌∙◌, subst, IsPermutation, bytes_eq}
+use Rattle.std.proofs.Common.{◌≡◌, true, false, Some, List, [], map, filter, flat_map, refl, ap, ◌∙◌, subst, IsPermutation, bytes_eq}
 use Rattle.std.specs.List.{AllByRecursion}
 use Rattle.std.specs.Ordering.{is_eq}
 use Rattle.std.proofs.lemmas.List.Sorted.{IsPermutation-trans, IsPermutation-map}
 use Rattle.std.proofs.lemmas.Slice.Eq.{bytes_eq-Decides}
-use Rattle.sqlite_keyed.proofs.ListLemmas.{map-flat_map, flat_map_same_on, filter_all, filter_none, all_of, all_weaker, all_map, all-flat_map, IsPermutation-filter}
+use Rattle.sqlite_keyed.proofs.ListLemmas.{filter_all, filter_none, all_of, all_weaker, all_map, IsPermutation-filter}
 use Rattle.fr_base.specs.Tables.{Table, get}
 use Rattle.fr_base.specs.Keys.{names}
 use Rattle.fr_base.specs.Cluster.{Cluster}
 use Rattle.fr_base.specs.Book.{Variant, Book}
 use Rattle.fr_base.specs.declared.name.Name.{Name}
-use Rattle.fr_store.specs.Rows.{GrantRow, FrameRow}
+use Rattle.fr_store.specs.Rows.{GrantRow}
 use Rattle.fr_store.specs.Tables.{Tables}
 use Rattle.fr_store.specs.Statements.{grant_for, grants_for}
-use Rattle.fr_store.specs.StandsFor.{StandsFor, Entry, of_frames, grant_rows, frame_row}
-use Rattle.fr_store.specs.Whole.{IsWhole}
+use Rattle.fr_store.specs.StandsFor.{StandsFor, grant_rows}
 use Rattle.fr_store.proofs.HolderLemmas.{other_name}
 use Rattle.fr_store.proofs.SectionLemmas.{at, only_at}
-use Rattle.fr_store.proofs.StoredLemmas.{own_frames}
 
 -- ---- the rows of one variant
 
@@ -45,28 +43,9 @@ module _ {X : Type 0} (variant : X → Name) (rows : Name × Variant → List X)
 
 -- ---- each table's rows
 
-row_of : Name → Entry → List FrameRow
-row_of v f = frame_row v f ∷ []
-
 its_grants : (e : Name × Variant) → AllByRecursion (λ (g : GrantRow). g.variant ≡ e.0) (grant_rows e)
 its_grants e = all_map (λ (g : GrantRow). g.variant ≡ e.0) _ e.1.grants.rows (all_of _ (λ g. refl) e.1.grants.rows)
 
 module _ (t : Tables) (c : Cluster) (b : Book) (stands : StandsFor t c b) (p v : Name) (x : Variant) (there : get b.variants p ≡ Some x) where
   pub grants_copied : (ys : List GrantRow) → IsPermutation (grants_for p v t) ys → IsPermutation (map (grant_for v) (grant_rows (p, x))) ys
   grants_copied ys same = copied (λ (g : GrantRow). g.variant) grant_rows its_grants b.variants p x there (grant_for v) t.grants ys stands.grants same
-
-  module _ {X : Type 0} (variant : X → Name) (rows : Name → Entry → List X) (own : (w : Name) (f : Entry) → AllByRecursion (λ r. variant r ≡ w) (rows w f)) (into : X → X) (turns : (f : Entry) → map into (rows p f) ≡ rows v f)
-      (whole : IsWhole p t) (xs ys : List X) (all : IsPermutation (of_frames rows stands.stored b.variants) xs) (same : IsPermutation (map into (filter (λ r. bytes_eq (variant r) p) xs)) ys) where
-    abbrev of_variant : Name × Variant → List X
-    of_variant e = flat_map (rows e.0) (stands.stored e.0).own.rows
-
-    own_rows : (e : Name × Variant) → AllByRecursion (λ r. variant r ≡ e.0) (of_variant e)
-    own_rows e = all-flat_map (λ r. variant r ≡ e.0) (rows e.0) _ (all_of _ (own e.0) (stands.stored e.0).own.rows)
-
-    turned : map into (of_variant (p, x)) ≡ flat_map (rows v) x.frames.rows
-    turned =
-        map-flat_map into (rows p) _ ∙ flat_map_same_on (λ f. map into (rows p f)) (rows v) turns (stands.stored p).own.rows ∙ ap (λ frames. flat_map (rows v) frames.rows) (own_frames t c b stands p x there whole)
-
-    pub frames_copied : IsPermutation (flat_map (rows v) x.frames.rows) ys
-    unfolding of_frames
-    frames_copied = subst (λ rs. IsPermutation rs ys) turned (copied variant of_variant own_rows b.variants p x there into xs ys all same)

@@ -1,5 +1,5 @@
 -- What a query over one table says of the table's values.
-use Rattle.std.proofs.Common.{◌≡◌, ℕ, List, [], ◌∷◌, map, Bool, Ordering, inl, inr, Ok, Err, Result, MatchResult, IfOk, IfErr}
+use Rattle.std.proofs.Common.{◌≡◌, ℕ, List, [], ◌∷◌, ◌⊎◌, map, Bool, Ordering, inl, inr, Ok, Err, Result, MatchResult, IfOk, IfErr}
 use Rattle.std.specs.Prelude.{Vec}
 use Rattle.std.specs.declared.alloc.Global.{Global}
 use Rattle.std.specs.List.{list_all}
@@ -8,7 +8,7 @@ use Rattle.sqlite.specs.declared.error.Error.{Error}
 use Rattle.sqlite.specs.Order.{Row}
 use Rattle.sqlite.specs.Term.{Term, eval_all, holds}
 use Rattle.sqlite.specs.Query.{sort_cmp}
-use Rattle.sqlite.specs.State.{State, Shown, FailsToQuery, IsUnchanged, Survives, CommitsShowing}
+use Rattle.sqlite.specs.State.{State, Shown, FailsToQuery, IsTooLate, IsUnchanged, Survives, CommitsShowing}
 use Rattle.sqlite.proofs.Callers.{never_commits}
 use Rattle.sqlite_value.specs.declared.keys.Key.{Key}
 use Rattle.fr_store.specs.Schema.{register_schema}
@@ -48,3 +48,14 @@ module _ {X : Type 0} (columns shows : X → Row) (read : Row → X) (passes : X
     closes = s.closes;
     crash = λ clean db left. elim (s.crash clean db left) [ inl before ↦ inl before | inr commits ↦ inr (λ was. never_commits text params old db (rw was.schema q.is.plain) commits) ];
   }
+
+-- ---- a query inside a transaction
+
+module _ {X : Type 0} (columns shows : X → Row) (read : Row → X) (passes : X → Bool) (cmp : X → X → Ordering) (tree : ℕ) (text : List ℕ) (params : Row) (q : Queries columns shows passes cmp tree text params)
+    (old new : State) where
+  pub finds_inside : HasTables old.now → AreKept columns read (old.now.trees tree) → (r : Result (Vec Row Global) Error)
+      → IfOk r (λ rows. Shown text params old new rows.items) → IfErr r (λ e. FailsToQuery text params old new e ⊎ IsTooLate text params old new e)
+      → MatchResult r (λ rows. AreListed shows passes cmp (map read (old.now.trees tree)) rows.items × IsUnchanged old new) (λ _. Stays old new)
+  finds_inside was kept (Ok rows) h k = finds columns shows read passes cmp tree text params q old new was kept (Ok rows) h tt
+  finds_inside was kept (Err e) h (inl fails) = finds columns shows read passes cmp tree text params q old new was kept (Err e) tt fails
+  finds_inside was kept (Err e) h (inr late) = inl late.5

@@ -1,25 +1,24 @@
 -- What the tables stand for after one frame of a variant is another.
-use Rattle.std.proofs.Common.{◌≡◌, ◌≢◌, ℕ, pos, Bool, true, false, not, cond, ◌||◌, None, Some, Option, List, [], ◌∷◌, ◌++◌, map, filter, flat_map, refl, sym, ap, ◌∙◌, subst, subst₂, inl, inr, IsPermutation, IsSorted, IsTrue, true≢false}
+use Rattle.std.proofs.Common.{◌≡◌, ◌≢◌, ℕ, Bool, true, false, not, cond, ◌||◌, None, Some, Option, List, [], ◌∷◌, ◌++◌, map, filter, flat_map, refl, sym, ap, ap₂, ◌∙◌, subst, subst₂, inl, inr, IsPermutation, IsSorted, IsTrue, true≢false}
 use Rattle.std.specs.Ordering.{is_eq, on, nat_cmp}
-use Rattle.std.specs.List.{list_any}
+use Rattle.std.specs.List.{All, list_any}
 use Rattle.std.proofs.lemmas.Bool.{false_from_ne_true}
-use Rattle.std.proofs.lemmas.List.Elements.{recursion_from_All}
-use Rattle.std.proofs.lemmas.List.Sorted.{IsPermutation-sym, IsPermutation-trans, IsPermutation-map, All-permutation}
+use Rattle.std.proofs.lemmas.List.Sorted.{IsPermutation-sym, IsPermutation-trans, IsPermutation-map}
 use Rattle.sqlite_keyed.proofs.ListLemmas.{IsPermutation-flat_map, map_same, filter-map}
-use Rattle.fr_base.specs.Tables.{Table, get, insert, remove}
+use Rattle.fr_base.specs.Tables.{Table, get, contains, insert, remove}
 use Rattle.fr_base.specs.Keys.{names, owned}
 use Rattle.fr_base.specs.Cluster.{Cluster}
 use Rattle.fr_base.specs.Book.{Frame, Variant, Book}
 use Rattle.fr_base.specs.Queries.{placements_in}
 use Rattle.fr_base.specs.Step.{with_variant}
 use Rattle.fr_base.specs.declared.name.Name.{Name}
-use Rattle.fr_base.proofs.TableLaws.{equal, get-insert, same_table}
+use Rattle.fr_base.proofs.TableLaws.{equal, get-insert}
 use Rattle.fr_base.proofs.SoundTables.{insert-cases, contains-more, same_key, same_some}
-use Rattle.fr_store.specs.Rows.{FrameRow, PlacementRow, SignalRow}
+use Rattle.fr_store.specs.Rows.{FrameRow, PlacementRow, SignalRow, DroppedRow}
 use Rattle.fr_store.specs.Tables.{Tables}
 use Rattle.fr_store.specs.Statements.{placement_row, signal_row, is_frame, is_placement_of, is_signal_of, is_dropped}
 use Rattle.fr_store.specs.StandsFor.{StandsFor, Stored, Entry, IsAsStored, HasItsParent, flag, variant_row, grant_rows, frame_row, placement_rows, signal_rows, of_frames, seen, own_or, is_hidden, of_parent}
-use Rattle.fr_store.specs.FrameEdits.{IsOpenWhole}
+use Rattle.fr_world.specs.Fits.{IsOpen}
 use Rattle.fr_store.proofs.ApartLemmas.{apart, remove-insert}
 use Rattle.fr_store.proofs.FrameSections.{section, others, parted, others_stay, others_apart}
 use Rattle.fr_store.proofs.FramePartLemmas.{is_it, all_or_none}
@@ -46,11 +45,11 @@ SignalsTurn v s f = Turns signal_rows (is_signal_of v s f) v s f
 
 -- ---- rows of another frame are not the frame's
 
-abbrev Apart : {X : Type 0} → (Name → Entry → List X) → (X → Bool) → Name → Name → Name → Type 0
+abbrev pub Apart : {X : Type 0} → (Name → Entry → List X) → (X → Bool) → Name → Name → Name → Type 0
 Apart rows passes v s f = (w : Name) (e : Entry) → is_it v s f w e.0 ≡ false → filter passes (rows w e) ≡ []
 
 module _ (v s f : Name) where
-  frame_apart : Apart one_row (is_frame v s f) v s f
+  pub frame_apart : Apart one_row (is_frame v s f) v s f
   frame_apart w e other = ap (λ b. cond b (frame_row w e ∷ []) []) other
 
   placements_apart : Apart placement_rows (is_placement_of v s f) v s f
@@ -63,20 +62,24 @@ module _ (v s f : Name) where
       filter-map (is_signal_of v s f) (signal_row w e.0.0 e.0.1) e.1.signals
       ∙ ap (map (signal_row w e.0.0 e.0.1)) (all_or_none (is_it v s f w e.0) e.1.signals ∙ ap (λ b. cond b e.1.signals []) other)
 
--- ---- a variant that is stored whole
-
-unflagged : (b : Bool) → flag b ≡ pos 0 → b ≡ false
-unflagged false h = refl
-unflagged true h = absurd cc
-
-all_hidden : (own inherited : Option Frame) → own_or own true inherited ≡ own
-all_hidden None inherited = refl
-all_hidden (Some frame) inherited = refl
-
 abbrev pub ByStart : Frame → Type 0
 ByStart g = IsSorted (on (λ s. s.start) nat_cmp) g.signals
 
-module _ (t : Tables) (c : Cluster) (b : Book) (h : StandsFor t c b) (v s f : Name) (x : Variant) (is : IsOpenWhole v x t b) where
+-- ---- the frames that a variant has not of its parent's
+
+module _ (t : Tables) (b : Book) (v s f : Name) where
+  -- the same are dropped in all variants, but for this frame in this variant
+  pub record DropsElsewhere (drops : List DroppedRow) : Type 0 where
+    pub others : (w : Name) (k : Name × Name) → (w ≡ v → k ≡ (s, f) → ⊥) → list_any (is_dropped w k.0 k.1) drops ≡ list_any (is_dropped w k.0 k.1) t.dropped
+    pub known : All (λ d. IsTrue (contains b.variants d.variant)) drops
+
+module _ (t : Tables) (c : Cluster) (b : Book) (h : StandsFor t c b) (v s f : Name) where
+  pub as_dropped : DropsElsewhere t b v s f t.dropped
+  as_dropped = record { others = λ w k other. refl; known = h.dropped }
+
+-- ---- a variant whose frame changes
+
+module _ (t : Tables) (c : Cluster) (b : Book) (h : StandsFor t c b) (v s f : Name) (x : Variant) (is : IsOpen b v x) where
   -- the variant's row, and those of the others
   abbrev parts : List (Name × Variant)
   parts = (v, x) ∷ (remove b.variants v).rows
@@ -84,23 +87,12 @@ module _ (t : Tables) (c : Cluster) (b : Book) (h : StandsFor t c b) (v s f : Na
   rows_apart : IsPermutation parts b.variants.rows
   rows_apart = subst (λ o. IsPermutation (row_at v o ++ (remove b.variants v).rows) b.variants.rows) is.there (apart names v b.variants)
 
-  not_over : (h.stored v).overlay ≡ false
-  not_over =
-      let rows : IsPermutation (map (variant_row h.stored) parts) t.variants = IsPermutation-trans _ _ _ (IsPermutation-map (variant_row h.stored) _ _ rows_apart) h.variants in
-      let whole = recursion_from_All (λ r. r.name ≡ v → r.overlay ≡ pos 0) (map (variant_row h.stored) parts)
-      (All-permutation (λ r. r.name ≡ v → r.overlay ≡ pos 0) t.variants (map (variant_row h.stored) parts) (IsPermutation-sym _ _ rows) is.whole) in
-      unflagged _ (whole.0 refl)
+  -- what it shows then: its own frames, and the parent's that are not hidden
+  abbrev pub Shows : Table owned Frame → Table owned Frame → List DroppedRow → Type 0
+  Shows own frames drops = (k : Name × Name) → get frames k ≡ own_or (get own k) (is_hidden drops v (h.stored v) k) (of_parent b.variants x.parent k)
 
-  hidden : (k : Name × Name) → is_hidden t.dropped v (h.stored v) k ≡ true
-  hidden k = ap (λ o. not o || list_any (is_dropped v k.0 k.1) t.dropped) not_over
-
-  -- all its frames are its own
-  own_frames : x.frames ≡ (h.stored v).own
-  unfolding seen
-  own_frames = same_table x.frames (h.stored v).own (λ k.
-      (h.each v x is.there).frames k ∙ ap (λ o. own_or (get (h.stored v).own k) o (of_parent b.variants x.parent k)) (hidden k) ∙ all_hidden _ _)
-
-  module _ (frames : Table owned Frame) (kept : remove frames (s, f) ≡ remove x.frames (s, f)) (sorted : (k : Name × Name) (g : Frame) → get frames k ≡ Some g → ByStart g) where
+  module _ (own frames : Table owned Frame) (drops : List DroppedRow) (kept : remove own (s, f) ≡ remove (h.stored v).own (s, f)) (elsewhere : DropsElsewhere t b v s f drops) (shows : Shows own frames drops)
+      (sorted : (k : Name × Name) (g : Frame) → get frames k ≡ Some g → ByStart g) where
     abbrev after : Variant
     after = record x { frames = frames }
 
@@ -108,7 +100,7 @@ module _ (t : Tables) (c : Cluster) (b : Book) (h : StandsFor t c b) (v s f : Na
     next = insert b.variants v after
 
     abbrev stored_after : Stored
-    stored_after = record (h.stored v) { own = frames }
+    stored_after = record (h.stored v) { own = own }
 
     abbrev stored_next : Name → Stored
     stored_next w = cond (is_eq (names.compare v w)) stored_after (h.stored w)
@@ -151,15 +143,14 @@ module _ (t : Tables) (c : Cluster) (b : Book) (h : StandsFor t c b) (v s f : Na
     -- ---- the frames, placements and signals
 
     turned : {X : Type 0} (rows : Name → Entry → List X) (passes : X → Bool) → Apart rows passes v s f → (all all_next : List X) → IsPermutation (of_frames rows h.stored b.variants) all
-        → Turns rows passes v s f (get x.frames (s, f)) (get frames (s, f)) all all_next → IsPermutation (of_frames rows stored_next next) all_next
+        → Turns rows passes v s f (get (h.stored v).own (s, f)) (get own (s, f)) all all_next → IsPermutation (of_frames rows stored_next next) all_next
     turned rows passes apart all all_next same turns =
         let stay : others rows v s f stored_next next ≡ others rows v s f h.stored b.variants =
-        others_stay rows v s f h.stored stored_next b.variants next (ap (λ st. remove st.own (s, f)) at_v ∙ kept ∙ ap (λ u. remove u (s, f)) own_frames)
+        others_stay rows v s f h.stored stored_next b.variants next (ap (λ st. remove st.own (s, f)) at_v ∙ kept)
         (remove-insert names b.variants v after) at_other in
-        let before : IsPermutation (section rows v s f (get x.frames (s, f)) ++ others rows v s f h.stored b.variants) all =
-        IsPermutation-trans _ _ _ (subst (λ u. IsPermutation (section rows v s f (get u (s, f)) ++ others rows v s f h.stored b.variants) (of_frames rows h.stored b.variants)) (sym own_frames)
-        (parted rows v s f h.stored b.variants x is.there)) same in
-        let split : IsPermutation (section rows v s f (get frames (s, f)) ++ others rows v s f h.stored b.variants) (of_frames rows stored_next next) =
+        let before : IsPermutation (section rows v s f (get (h.stored v).own (s, f)) ++ others rows v s f h.stored b.variants) all =
+        IsPermutation-trans _ _ _ (parted rows v s f h.stored b.variants x is.there) same in
+        let split : IsPermutation (section rows v s f (get own (s, f)) ++ others rows v s f h.stored b.variants) (of_frames rows stored_next next) =
         subst₂ (λ st rest. IsPermutation (section rows v s f (get st.own (s, f)) ++ rest) (of_frames rows stored_next next)) at_v stay (parted rows v s f stored_next next after there_next) in
         IsPermutation-trans _ _ _ (IsPermutation-sym _ _ split) (turns (others rows v s f h.stored b.variants) (others_apart rows v s f passes apart h.stored b.variants) before)
 
@@ -185,37 +176,41 @@ module _ (t : Tables) (c : Cluster) (b : Book) (h : StandsFor t c b) (v s f : Na
     same_parent None d has k = refl
     same_parent (Some name) d has k = rw (still_there name has.0 has.1 has.2)
 
-    itself : IsAsStored t.dropped next stored_after v after
+    itself : IsAsStored drops next stored_after v after
     unfolding seen
     itself = record {
       parent = still_parent x.parent x.depth (h.each v x is.there).parent;
-      frames = λ k. sym (ap (λ o. own_or (get frames k) o (of_parent next x.parent k)) (hidden k) ∙ all_hidden _ _);
+      frames = λ k. shows k ∙ ap (own_or (get own k) (is_hidden drops v (h.stored v) k)) (sym (same_parent x.parent x.depth (h.each v x is.there).parent k));
       by_start = sorted;
     }
 
-    another : (w : Name) (y : Variant) → get b.variants w ≡ Some y → IsAsStored t.dropped next (h.stored w) w y
+    -- none of another variant's frames is dropped, or no more
+    same_hidden : (w : Name) → w ≢ v → (k : Name × Name) → is_hidden t.dropped w (h.stored w) k ≡ is_hidden drops w (h.stored w) k
+    same_hidden w other k = ap (λ is. not (h.stored w).overlay || is) (sym (elsewhere.others w k (λ same _. other same)))
+
+    another : (w : Name) (y : Variant) → w ≢ v → get b.variants w ≡ Some y → IsAsStored drops next (h.stored w) w y
     unfolding seen
-    another w y there =
+    another w y other there =
         let old = h.each w y there in
         record {
           parent = still_parent y.parent y.depth old.parent;
-          frames = λ k. old.frames k ∙ ap (own_or (get (h.stored w).own k) (is_hidden t.dropped w (h.stored w) k)) (sym (same_parent y.parent y.depth old.parent k));
+          frames = λ k. old.frames k ∙ ap₂ (own_or (get (h.stored w).own k)) (same_hidden w other k) (sym (same_parent y.parent y.depth old.parent k));
           by_start = old.by_start;
         }
 
     other_tie : (w : Name) → w ≢ v → is_eq (names.compare v w) ≡ false
     other_tie w other = false_from_ne_true _ (λ tie. other (sym (names.exact v w (equal _ tie))))
 
-    each_next : (w : Name) (y : Variant) → get next w ≡ Some y → IsAsStored t.dropped next (stored_next w) w y
+    each_next : (w : Name) (y : Variant) → get next w ≡ Some y → IsAsStored drops next (stored_next w) w y
     each_next w y found = elim (insert-cases b.variants v after w y found) [
-      | inl it ↦ subst₂ (λ u z. IsAsStored t.dropped next (stored_next u) u z) (sym it.0) it.1 (subst (λ st. IsAsStored t.dropped next st v after) (sym at_v) itself)
-      | inr other ↦ subst (λ st. IsAsStored t.dropped next st w y) (sym (at_other w (other_tie w other.0))) (another w y other.1)
+      | inl it ↦ subst₂ (λ u z. IsAsStored drops next (stored_next u) u z) (sym it.0) it.1 (subst (λ st. IsAsStored drops next st v after) (sym at_v) itself)
+      | inr other ↦ subst (λ st. IsAsStored drops next st w y) (sym (at_other w (other_tie w other.0))) (another w y other.0 other.1)
     ]
 
     -- the tables with the frame's rows turned stand for the book with its variant's frames
-    pub frame_changed : (fs : List FrameRow) (ps : List PlacementRow) (ss : List SignalRow) → FramesTurn v s f (get x.frames (s, f)) (get frames (s, f)) t.frames fs
-        → PlacementsTurn v s f (get x.frames (s, f)) (get frames (s, f)) t.placements ps → SignalsTurn v s f (get x.frames (s, f)) (get frames (s, f)) t.signals ss
-        → StandsFor (record t { frames = fs; placements = ps; signals = ss }) c (with_variant b v after)
+    pub frame_changed : (fs : List FrameRow) (ps : List PlacementRow) (ss : List SignalRow) → FramesTurn v s f (get (h.stored v).own (s, f)) (get own (s, f)) t.frames fs
+        → PlacementsTurn v s f (get (h.stored v).own (s, f)) (get own (s, f)) t.placements ps → SignalsTurn v s f (get (h.stored v).own (s, f)) (get own (s, f)) t.signals ss
+        → StandsFor (record t { frames = fs; placements = ps; signals = ss; dropped = drops }) c (with_variant b v after)
     frame_changed fs ps ss in_frames in_placements in_signals = record {
       register = h.register;
       cluster = h.cluster;
@@ -229,6 +224,6 @@ module _ (t : Tables) (c : Cluster) (b : Book) (h : StandsFor t c b) (v s f : Na
       frames = turned one_row (is_frame v s f) (frame_apart v s f) t.frames fs h.frames in_frames;
       placements = turned placement_rows (is_placement_of v s f) (placements_apart v s f) t.placements ps h.placements in_placements;
       signals = turned signal_rows (is_signal_of v s f) (signals_apart v s f) t.signals ss h.signals in_signals;
-      dropped = λ k d low. contains-more b.variants v after _ (h.dropped k d low);
+      dropped = λ k d low. contains-more b.variants v after _ (elsewhere.known k d low);
       each = each_next;
     }

@@ -1,5 +1,7 @@
 -- What the tables stand for after an edit of a frame.
-use Rattle.std.proofs.Common.{◌≡◌, true, false, not, cond, None, Some, Option, List, [], map, filter, Result, Ok, Err, OnOk, MatchResult, refl, sym, ap, ◌∙◌, subst, subst₂, inl, inr, arith, is_some, true≢false}
+use Rattle.std.proofs.Common.{◌≡◌, Bool, true, false, not, ◌||◌, cond, None, Some, Option, List, [], map, filter, Result, Ok, Err, OnOk, MatchResult, refl, sym, ap, ap₂, ◌∙◌, subst, subst₂, inl, inr, arith, is_some, IsTrue, true≢false}
+use Rattle.std.specs.List.{list_any}
+use Rattle.std.specs.Ordering.{eq_by_cmp}
 use Rattle.std.proofs.lemmas.Bool.{and_from}
 use Rattle.std.proofs.lemmas.List.Sorted.{IsPermutation-refl}
 use Rattle.sqlite.specs.State.{State}
@@ -17,22 +19,27 @@ use Rattle.fr_base.specs.declared.placement.Placement.{Placement}
 use Rattle.fr_base.specs.declared.request.Change.TheVariants.{Frame as OfFrame}
 use Rattle.fr_base.specs.declared.request.FrameChange.{FrameChange}
 use Rattle.fr_base.specs.declared.request.FrameChange.TheVariants.{Add, Drop, Place, Unplace, AddSignal, DropSignal}
-use Rattle.fr_base.proofs.SoundTables.{same_some}
+use Rattle.fr_base.proofs.SoundTables.{same_some, other_key}
+use Rattle.fr_base.proofs.TableLaws.{equal}
+use Rattle.fr_world.specs.Fits.{IsOpen}
 use Rattle.fr_world.specs.BookEdits.{applied, changed_at}
 use Rattle.fr_world.specs.declared.edit.Edit.TheVariants.{Rows}
-use Rattle.fr_store.specs.Rows.{FrameRow, PlacementRow, SignalRow}
+use Rattle.fr_store.specs.Rows.{FrameRow, PlacementRow, SignalRow, DroppedRow}
 use Rattle.fr_store.specs.Tables.{Tables}
 use Rattle.fr_store.specs.Changes.{Changes, Stays, tables_of}
 use Rattle.fr_store.specs.Statements as statements
-use Rattle.fr_store.specs.Statements.{with_frame, without_frame, with_placement, without_placement, is_frame, is_placement, is_placement_of, is_signal, is_signal_of, placement_row, signal_row}
-use Rattle.fr_store.specs.StandsFor.{StandsFor, placement_rows, signal_rows}
+use Rattle.fr_store.specs.Statements.{with_dropped, is_dropped, with_frame, without_frame, with_placement, without_placement, is_frame, is_placement, is_placement_of, is_signal, is_signal_of, placement_row, signal_row}
+use Rattle.fr_store.specs.StandsFor.{StandsFor, placement_rows, signal_rows, own_or, is_hidden, of_parent, seen}
 use Rattle.fr_store.specs.Reading.{Stands}
-use Rattle.fr_store.specs.FrameEdits.{IsOpenWhole, FitsAt}
-use Rattle.fr_store.proofs.ApartLemmas.{becomes, get-settle, settle-cases, remove-settle}
+use Rattle.fr_store.specs.FrameEdits.{FitsAt}
+use Rattle.fr_store.specs.Owning.{IsStoredSo, is_own}
+use Rattle.fr_store.proofs.ApartLemmas.{becomes, get-settle, get-settle_other, settle-cases, remove-settle}
+use Rattle.fr_store.proofs.DroppedRows.{dropped_row, now_dropped, drops_elsewhere}
 use Rattle.fr_store.proofs.FramePartLemmas.{is_it}
 use Rattle.fr_store.proofs.FrameSections.{section}
-use Rattle.fr_store.proofs.FrameChanges.{one_row, FramesTurn, PlacementsTurn, SignalsTurn, ByStart, frame_changed}
+use Rattle.fr_store.proofs.FrameChanges.{one_row, FramesTurn, PlacementsTurn, SignalsTurn, ByStart, Shows, DropsElsewhere, as_dropped, frame_changed}
 use Rattle.fr_store.proofs.FrameTurns.{turns_not, turns_more, turns_fewer}
+use Rattle.fr_store.proofs.OwningLemmas.{own_as_shown, stored_so}
 use Rattle.fr_store.proofs.PlacementSections.{own_text, none_there, of_frame, place_section, unplace_section}
 use Rattle.fr_store.proofs.SignalSections.{rise-with, rise-without, add_section, of_signal, drop_section}
 
@@ -44,27 +51,71 @@ applied_is b v s f what x there = ap (changed_at b v (changed s (OfFrame f what)
 it_is : (v s f : Name) → is_it v s f v (s, f) ≡ true
 it_is v s f = and_from _ _ (own_text v) (and_from _ _ (own_text s) (own_text f))
 
-module _ (t : Tables) (c : Cluster) (b : Book) (h : StandsFor t c b) (v s f : Name) (x : Variant) (is : IsOpenWhole v x t b) where
-  edited : (what : FrameChange) (there : Option Frame) (fate : Fate Frame) → get x.frames (s, f) ≡ there → frame_after what there ≡ fate → ((g : Frame) → becomes fate ≡ Some g → ByStart g)
-      → (fs : List FrameRow) (ps : List PlacementRow) (ss : List SignalRow)
-      → FramesTurn v s f there (becomes fate) t.frames fs → PlacementsTurn v s f there (becomes fate) t.placements ps → SignalsTurn v s f there (becomes fate) t.signals ss
-      → StandsFor (record t { frames = fs; placements = ps; signals = ss }) c (applied b (Rows s v (OfFrame f what)))
-  edited what there fate at after by_start fs ps ss in_frames in_placements in_signals =
+module _ (t : Tables) (c : Cluster) (b : Book) (h : StandsFor t c b) (v s f : Name) (x : Variant) (is : IsOpen b v x) where
+  -- the frame, where it is the variant's own
+  abbrev own_there : Option Frame
+  own_there = get (h.stored v).own (s, f)
+
+  abbrev hidden : List DroppedRow → Name × Name → Bool
+  hidden drops = is_hidden drops v (h.stored v)
+
+  abbrev of_its_parent : Name × Name → Option Frame
+  of_its_parent = of_parent b.variants x.parent
+
+  settled_shows : (fate : Fate Frame) (drops : List DroppedRow) → DropsElsewhere t b v s f drops → own_or (becomes fate) (hidden drops (s, f)) (of_its_parent (s, f)) ≡ becomes fate
+      → Shows t c b h v s f x is (settle (h.stored v).own (s, f) fate) (settle x.frames (s, f) fate) drops
+  unfolding seen
+  settled_shows fate drops elsewhere closes k = by_test (eq_by_cmp owned.compare (s, f) k) refl
+    where
+      by_test : (tie : Bool) → eq_by_cmp owned.compare (s, f) k ≡ tie
+          → get (settle x.frames (s, f) fate) k ≡ own_or (get (settle (h.stored v).own (s, f) fate) k) (hidden drops k) (of_its_parent k)
+      by_test true tie =
+          subst (λ k. get (settle x.frames (s, f) fate) k ≡ own_or (get (settle (h.stored v).own (s, f) fate) k) (hidden drops k) (of_its_parent k)) (owned.exact (s, f) k (equal _ tie))
+          (get-settle owned x.frames (s, f) fate ∙ sym closes ∙ ap (λ o. own_or o (hidden drops (s, f)) (of_its_parent (s, f))) (sym (get-settle owned (h.stored v).own (s, f) fate)))
+      by_test false apart =
+          get-settle_other owned x.frames (s, f) fate k apart ∙ (h.each v x is.there).frames k
+          ∙ ap₂ (λ o hides. own_or o hides (of_its_parent k)) (sym (get-settle_other owned (h.stored v).own (s, f) fate k apart))
+          (ap (λ is. not (h.stored v).overlay || is) (sym (elsewhere.others v k (λ same key. other_key owned (s, f) k apart (sym key)))))
+
+  edited_with : (what : FrameChange) (there own : Option Frame) (fate : Fate Frame) (drops : List DroppedRow) → DropsElsewhere t b v s f drops
+      → own_or (becomes fate) (hidden drops (s, f)) (of_its_parent (s, f)) ≡ becomes fate → get x.frames (s, f) ≡ there → own_there ≡ own → frame_after what there ≡ fate
+      → ((g : Frame) → becomes fate ≡ Some g → ByStart g) → (fs : List FrameRow) (ps : List PlacementRow) (ss : List SignalRow)
+      → FramesTurn v s f own (becomes fate) t.frames fs → PlacementsTurn v s f own (becomes fate) t.placements ps → SignalsTurn v s f own (becomes fate) t.signals ss
+      → StandsFor (record t { frames = fs; placements = ps; signals = ss; dropped = drops }) c (applied b (Rows s v (OfFrame f what)))
+  edited_with what there own fate drops elsewhere closes at own_at after by_start fs ps ss in_frames in_placements in_signals =
       let frames = settle x.frames (s, f) fate in
+      let owns = settle (h.stored v).own (s, f) fate in
       let sorted = λ (k : Name × Name) (g : Frame) (found : get frames k ≡ Some g).
       let rises : ByStart g = elim (settle-cases owned x.frames (s, f) fate k g found) [ inl new ↦ by_start g new | inr old ↦ (h.each v x is.there).by_start k g old ] in rises in
-      let now_at : get frames (s, f) ≡ becomes fate = get-settle owned x.frames (s, f) fate in
-      let turns = frame_changed t c b h v s f x is frames (remove-settle owned x.frames (s, f) fate) sorted fs ps ss in
-      let stands : StandsFor (record t { frames = fs; placements = ps; signals = ss }) c (with_variant b v (record x { frames = frames })) =
+      let now_at : get owns (s, f) ≡ becomes fate = get-settle owned (h.stored v).own (s, f) fate in
+      let turns = frame_changed t c b h v s f x is owns frames drops (remove-settle owned (h.stored v).own (s, f) fate) elsewhere (settled_shows fate drops elsewhere closes) sorted fs ps ss in
+      let stands : StandsFor (record t { frames = fs; placements = ps; signals = ss; dropped = drops }) c (with_variant b v (record x { frames = frames })) =
       turns
-      (subst₂ (λ o p. FramesTurn v s f o p t.frames fs) (sym at) (sym now_at) in_frames)
-      (subst₂ (λ o p. PlacementsTurn v s f o p t.placements ps) (sym at) (sym now_at) in_placements)
-      (subst₂ (λ o p. SignalsTurn v s f o p t.signals ss) (sym at) (sym now_at) in_signals) in
-      subst (StandsFor (record t { frames = fs; placements = ps; signals = ss }) c)
+      (subst₂ (λ o p. FramesTurn v s f o p t.frames fs) (sym own_at) (sym now_at) in_frames)
+      (subst₂ (λ o p. PlacementsTurn v s f o p t.placements ps) (sym own_at) (sym now_at) in_placements)
+      (subst₂ (λ o p. SignalsTurn v s f o p t.signals ss) (sym own_at) (sym now_at) in_signals) in
+      subst (StandsFor (record t { frames = fs; placements = ps; signals = ss; dropped = drops }) c)
       (sym (applied_is b v s f what x is.there ∙ ap (λ fate. with_variant b v (record x { frames = settle x.frames (s, f) fate })) (ap (frame_after what) at ∙ after))) stands
+
+  -- an edit after which the frame is there
+  edited : (what : FrameChange) (there own : Option Frame) (next : Frame) → get x.frames (s, f) ≡ there → own_there ≡ own → frame_after what there ≡ Becomes next → ByStart next
+      → (fs : List FrameRow) (ps : List PlacementRow) (ss : List SignalRow)
+      → FramesTurn v s f own (Some next) t.frames fs → PlacementsTurn v s f own (Some next) t.placements ps → SignalsTurn v s f own (Some next) t.signals ss
+      → StandsFor (record t { frames = fs; placements = ps; signals = ss }) c (applied b (Rows s v (OfFrame f what)))
+  edited what there own next at own_at after by_start fs ps ss =
+      edited_with what there own (Becomes next) t.dropped (as_dropped t c b h v s f) refl at own_at after (λ g is. subst ByStart (same_some next g is) by_start) fs ps ss
 
   by_start_at : (frame : Frame) → get x.frames (s, f) ≡ Some frame → ByStart frame
   by_start_at frame at = (h.each v x is.there).by_start (s, f) frame at
+
+  -- a frame that the variant does not show is not its own
+  not_own : get x.frames (s, f) ≡ None → own_there ≡ None
+  unfolding seen
+  not_own none = alone own_there (hidden t.dropped (s, f)) (of_its_parent (s, f)) (sym ((h.each v x is.there).frames (s, f)) ∙ none)
+    where
+      alone : (own : Option Frame) (hides : Bool) (inherited : Option Frame) → own_or own hides inherited ≡ None → own ≡ None
+      alone None hides inherited h = refl
+      alone (Some g) hides inherited h = absurd cc
 
   -- ---- a frame is added, or dropped
 
@@ -73,29 +124,63 @@ module _ (t : Tables) (c : Cluster) (b : Book) (h : StandsFor t c b) (v s f : Na
   unfolding frame_after empty
   new_frame node new =
       let next : Frame = record { node = node; placements = empty; signals = [] } in
-      edited (Add node) None (Becomes next) (none_there _ new) refl (λ g is. subst ByStart (same_some next g is) (λ k d low short. absurd (omega arith))) _ _ _
+      let none : get x.frames (s, f) ≡ None = none_there _ new in
+      edited (Add node) None None next none (not_own none) refl (λ k d low short. absurd (omega arith)) _ _ _
       (turns_more one_row (is_frame v s f) v s f None (Some next) t.frames _ (IsPermutation-refl _))
       (turns_not placement_rows (is_placement_of v s f) v s f None (Some next) t.placements refl)
       (turns_not signal_rows (is_signal_of v s f) v s f None (Some next) t.signals refl)
 
-  module _ (frame : Frame) (there : get x.frames (s, f) ≡ Some frame) where
-    all_of_placements : filter (λ r. not (is_placement_of v s f r)) (section placement_rows v s f (Some frame)) ≡ []
-    all_of_placements =
-        filter-map (λ r. not (is_placement_of v s f r)) (placement_row v s f) (placements_in frame)
-        ∙ ap (map (placement_row v s f)) (filter_none (λ q. not (is_placement_of v s f (placement_row v s f q))) (placements_in frame) (all_of _ (λ q. ap not (it_is v s f)) (placements_in frame)))
+  module _ (o : Option Frame) where
+    all_of_frames : filter (λ r. not (is_frame v s f r)) (section one_row v s f o) ≡ []
+    all_of_frames = by_frame o
+      where
+        by_frame : (o : Option Frame) → filter (λ r. not (is_frame v s f r)) (section one_row v s f o) ≡ []
+        by_frame None = refl
+        by_frame (Some frame) = ap (λ b. cond (not b) (section one_row v s f (Some frame)) []) (it_is v s f)
 
-    all_of_signals : filter (λ r. not (is_signal_of v s f r)) (section signal_rows v s f (Some frame)) ≡ []
-    all_of_signals =
-        filter-map (λ r. not (is_signal_of v s f r)) (signal_row v s f) frame.signals
-        ∙ ap (map (signal_row v s f)) (filter_none (λ y. not (is_signal_of v s f (signal_row v s f y))) frame.signals (all_of _ (λ y. ap not (it_is v s f)) frame.signals))
+    all_of_placements : filter (λ r. not (is_placement_of v s f r)) (section placement_rows v s f o) ≡ []
+    all_of_placements = by_frame o
+      where
+        by_frame : (o : Option Frame) → filter (λ r. not (is_placement_of v s f r)) (section placement_rows v s f o) ≡ []
+        by_frame None = refl
+        by_frame (Some frame) =
+            filter-map (λ r. not (is_placement_of v s f r)) (placement_row v s f) (placements_in frame)
+            ∙ ap (map (placement_row v s f)) (filter_none (λ q. not (is_placement_of v s f (placement_row v s f q))) (placements_in frame) (all_of _ (λ q. ap not (it_is v s f)) (placements_in frame)))
 
-    pub end_frame : StandsFor (without_frame v s f t) c (applied b (Rows s v (OfFrame f Drop)))
-    unfolding frame_after
-    end_frame =
-        edited Drop (Some frame) Gone there refl (λ g is. absurd cc) _ _ _
-        (turns_fewer one_row (is_frame v s f) v s f (Some frame) None t.frames (is_frame v s f) (λ r is. is) (ap (λ b. cond (not b) (section one_row v s f (Some frame)) []) (it_is v s f)))
-        (turns_fewer placement_rows (is_placement_of v s f) v s f (Some frame) None t.placements (is_placement_of v s f) (λ r is. is) all_of_placements)
-        (turns_fewer signal_rows (is_signal_of v s f) v s f (Some frame) None t.signals (is_signal_of v s f) (λ r is. is) all_of_signals)
+    all_of_signals : filter (λ r. not (is_signal_of v s f r)) (section signal_rows v s f o) ≡ []
+    all_of_signals = by_frame o
+      where
+        by_frame : (o : Option Frame) → filter (λ r. not (is_signal_of v s f r)) (section signal_rows v s f o) ≡ []
+        by_frame None = refl
+        by_frame (Some frame) =
+            filter-map (λ r. not (is_signal_of v s f r)) (signal_row v s f) frame.signals
+            ∙ ap (map (signal_row v s f)) (filter_none (λ y. not (is_signal_of v s f (signal_row v s f y))) frame.signals (all_of _ (λ y. ap not (it_is v s f)) frame.signals))
+
+  -- the own rows go, if there are any, and the parent's frame is hidden
+  ended : (frame : Frame) → get x.frames (s, f) ≡ Some frame → (drops : List DroppedRow) → DropsElsewhere t b v s f drops → hidden drops (s, f) ≡ true
+      → StandsFor (record (without_frame v s f t) { dropped = drops }) c (applied b (Rows s v (OfFrame f Drop)))
+  unfolding frame_after
+  ended frame there drops elsewhere hides =
+      edited_with Drop (Some frame) own_there Gone drops elsewhere (ap (λ is. own_or None is (of_its_parent (s, f))) hides) there refl refl (λ g is. absurd cc) _ _ _
+      (turns_fewer one_row (is_frame v s f) v s f own_there None t.frames (is_frame v s f) (λ r is. is) (all_of_frames own_there))
+      (turns_fewer placement_rows (is_placement_of v s f) v s f own_there None t.placements (is_placement_of v s f) (λ r is. is) (all_of_placements own_there))
+      (turns_fewer signal_rows (is_signal_of v s f) v s f own_there None t.signals (is_signal_of v s f) (λ r is. is) (all_of_signals own_there))
+
+  pub end_alone : (frame : Frame) → get x.frames (s, f) ≡ Some frame → (h.stored v).overlay ≡ false → StandsFor (without_frame v s f t) c (applied b (Rows s v (OfFrame f Drop)))
+  end_alone frame there alone = ended frame there t.dropped (as_dropped t c b h v s f) (ap (λ over. not over || list_any (is_dropped v s f) t.dropped) alone)
+
+  pub end_over : (frame : Frame) → get x.frames (s, f) ≡ Some frame
+      → StandsFor (with_dropped (dropped_row v s f) (without_frame v s f t)) c (applied b (Rows s v (OfFrame f Drop)))
+  end_over frame there =
+      ended frame there (with_dropped (dropped_row v s f) t).dropped (drops_elsewhere v s f t b x is.there h.dropped) (ap (λ is. not (h.stored v).overlay || is) (now_dropped v s f t.dropped) ∙ either (not (h.stored v).overlay))
+    where
+      either : (o : Bool) → (o || true) ≡ true
+      either true = refl
+      either false = refl
+
+  module _ (frame : Frame) (there : get x.frames (s, f) ≡ Some frame) (is_its_own : IsTrue (is_own v s f t)) where
+    own : own_there ≡ Some frame
+    own = own_as_shown v s f t c b h x is.there frame there is_its_own
 
     -- ---- a placement is added, or ended
 
@@ -103,7 +188,7 @@ module _ (t : Tables) (c : Cluster) (b : Book) (h : StandsFor t c b) (v s f : Na
     unfolding frame_after
     put_placement q new =
         let next : Frame = record frame { placements = insert frame.placements q tt } in
-        edited (Place q) (Some frame) (Becomes next) there refl (λ g is. subst ByStart (same_some next g is) (by_start_at frame there)) _ _ _
+        edited (Place q) (Some frame) (Some frame) next there own refl (by_start_at frame there) _ _ _
         (turns_not one_row (is_frame v s f) v s f (Some frame) (Some next) t.frames refl)
         (turns_more placement_rows (is_placement_of v s f) v s f (Some frame) (Some next) t.placements _ (place_section v s f frame q new))
         (turns_not signal_rows (is_signal_of v s f) v s f (Some frame) (Some next) t.signals refl)
@@ -112,7 +197,7 @@ module _ (t : Tables) (c : Cluster) (b : Book) (h : StandsFor t c b) (v s f : Na
     unfolding frame_after
     end_placement q =
         let next : Frame = record frame { placements = remove frame.placements q } in
-        edited (Unplace q) (Some frame) (Becomes next) there refl (λ g is. subst ByStart (same_some next g is) (by_start_at frame there)) _ _ _
+        edited (Unplace q) (Some frame) (Some frame) next there own refl (by_start_at frame there) _ _ _
         (turns_not one_row (is_frame v s f) v s f (Some frame) (Some next) t.frames refl)
         (turns_fewer placement_rows (is_placement_of v s f) v s f (Some frame) (Some next) t.placements (is_placement (placement_row v s f q))
         (λ r is. of_frame v s f (placement_row v s f q) r refl refl refl is) (unplace_section v s f frame q))
@@ -124,7 +209,7 @@ module _ (t : Tables) (c : Cluster) (b : Book) (h : StandsFor t c b) (v s f : Na
     unfolding frame_after
     put_signal signal =
         let next : Frame = record frame { signals = with_signal signal frame.signals } in
-        edited (AddSignal signal) (Some frame) (Becomes next) there refl (λ g is. subst ByStart (same_some next g is) (rise-with signal frame.signals (by_start_at frame there))) _ _ _
+        edited (AddSignal signal) (Some frame) (Some frame) next there own refl (rise-with signal frame.signals (by_start_at frame there)) _ _ _
         (turns_not one_row (is_frame v s f) v s f (Some frame) (Some next) t.frames refl)
         (turns_not placement_rows (is_placement_of v s f) v s f (Some frame) (Some next) t.placements refl)
         (turns_more signal_rows (is_signal_of v s f) v s f (Some frame) (Some next) t.signals _ (add_section v s f frame signal))
@@ -133,7 +218,7 @@ module _ (t : Tables) (c : Cluster) (b : Book) (h : StandsFor t c b) (v s f : Na
     unfolding frame_after
     end_signal name =
         let next : Frame = record frame { signals = without_signal name frame.signals } in
-        edited (DropSignal name) (Some frame) (Becomes next) there refl (λ g is. subst ByStart (same_some next g is) (rise-without name frame.signals (by_start_at frame there))) _ _ _
+        edited (DropSignal name) (Some frame) (Some frame) next there own refl (rise-without name frame.signals (by_start_at frame there)) _ _ _
         (turns_not one_row (is_frame v s f) v s f (Some frame) (Some next) t.frames refl)
         (turns_not placement_rows (is_placement_of v s f) v s f (Some frame) (Some next) t.placements refl)
         (turns_fewer signal_rows (is_signal_of v s f) v s f (Some frame) (Some next) t.signals (is_signal v s f name) (of_signal v s f frame name) (drop_section v s f frame name))
@@ -144,6 +229,23 @@ pub carried : {X E : Type 0} (change : Tables → Tables) (old new : State) (r :
     → StandsFor (change (tables_of old)) c next → OnOk r (Stands new c next)
 carried change old new (Ok x) c next h for = record { has = h.has; for = subst (λ t. StandsFor t c next) (sym h.now) for }
 carried change old new (Err e) c next h for = tt
+
+-- a frame is dropped by two statements, or by one where the variant is not stored over its parent
+pub ended_over : {X E : Type 0} (v s f : Name) (old mid new : State) (r : Result X E) (c : Cluster) (b : Book) (x : Variant) (frame : Frame) → Stands old c b → IsOpen b v x → get x.frames (s, f) ≡ Some frame
+    → Changes (without_frame v s f) old mid → MatchResult r (λ _. Changes (with_dropped (dropped_row v s f)) mid new) (λ _. Stays mid new) → OnOk r (Stands new c (applied b (Rows s v (OfFrame f Drop))))
+ended_over v s f old mid new (Err e) c b x frame stands is there h k = tt
+ended_over v s f old mid new (Ok n) c b x frame stands is there h k = record {
+  has = k.has;
+  for = subst (λ t. StandsFor t c (applied b (Rows s v (OfFrame f Drop)))) (sym (k.now ∙ ap (with_dropped (dropped_row v s f)) h.now)) (end_over (tables_of old) c b stands.for v s f x is frame there);
+}
+
+pub ended_alone : (v s f : Name) (old new : State) (c : Cluster) (b : Book) (x : Variant) (frame : Frame) → Stands old c b → IsOpen b v x → get x.frames (s, f) ≡ Some frame → IsStoredSo v false (tables_of old)
+    → Changes (without_frame v s f) old new → Stands new c (applied b (Rows s v (OfFrame f Drop)))
+ended_alone v s f old new c b x frame stands is there so h = record {
+  has = h.has;
+  for = subst (λ t. StandsFor t c (applied b (Rows s v (OfFrame f Drop)))) (sym h.now)
+      (end_alone (tables_of old) c b stands.for v s f x is frame there (stored_so (tables_of old) c b stands.for v false so));
+}
 
 -- the frame that a placement's edit finds
 pub place_fits : (there : Option Frame) (q : Placement) → FitsAt there (Place q) → (frame : Frame) × (there ≡ Some frame) × (contains frame.placements q ≡ false)

@@ -80,7 +80,7 @@ module _ (v s f : Name) where
 
   -- ---- placements
 
-  placements_test : (w : Name) (e : Entry) → filter (is_placement_of v s f) (placement_rows w e) ≡ cond (is_it w e.0) (placement_rows w e) []
+  pub placements_test : (w : Name) (e : Entry) → filter (is_placement_of v s f) (placement_rows w e) ≡ cond (is_it w e.0) (placement_rows w e) []
   placements_test w e =
       filter-map (is_placement_of v s f) (placement_row w e.0.0 e.0.1) (placements_in e.1) ∙ ap (map (placement_row w e.0.0 e.0.1)) (all_or_none (is_it w e.0) (placements_in e.1)) ∙ inside (is_it w e.0)
     where

@@ -1,7 +1,7 @@
 -- How the rows of a frame turn: none, one more, or fewer.
 use Rattle.std.proofs.Common.{◌≡◌, Bool, true, false, not, cond, Option, List, [], ◌∷◌, ◌++◌, filter, refl, sym, ap, ap₂, ◌∙◌, subst, IsPermutation, true≢false}
 use Rattle.std.proofs.lemmas.List.Elements.{filter-append}
-use Rattle.std.proofs.lemmas.List.Sorted.{IsPermutation-sym, IsPermutation-trans, IsPermutation-cons, IsPermutation-append_left, IsPermutation-to_front}
+use Rattle.std.proofs.lemmas.List.Sorted.{IsPermutation-sym, IsPermutation-trans, IsPermutation-cons, IsPermutation-append, IsPermutation-append_comm, IsPermutation-append_left, IsPermutation-to_front}
 use Rattle.sqlite_keyed.proofs.ListLemmas.{IsPermutation-filter}
 use Rattle.fr_base.specs.Book.{Frame}
 use Rattle.fr_base.specs.declared.name.Name.{Name}
@@ -19,6 +19,11 @@ module _ {X : Type 0} (rows : Name → Entry → List X) (passes : X → Bool) (
   turns_more row more rest none are =
       IsPermutation-trans _ _ _ (IsPermutation-append_left rest _ _ (IsPermutation-sym _ _ more))
       (IsPermutation-trans _ _ _ (IsPermutation-cons row _ _ are) (IsPermutation-sym _ _ (IsPermutation-to_front all row)))
+
+  -- it has these rows, and had none
+  pub turns_new : (rows_now : List X) → section rows v s f before ≡ [] → IsPermutation (section rows v s f after) rows_now → Turns rows passes v s f before after all (all ++ rows_now)
+  turns_new rows_now had_none has rest none are =
+      IsPermutation-trans _ _ _ (IsPermutation-append_comm (section rows v s f after) rest) (IsPermutation-append _ _ _ _ (subst (λ xs. IsPermutation (xs ++ rest) all) had_none are) has)
 
   -- it has those rows no more that pass
   pub turns_fewer : (gone : X → Bool) → ((r : X) → gone r ≡ true → passes r ≡ true) → filter (λ r. not (gone r)) (section rows v s f before) ≡ section rows v s f after

@@ -47,12 +47,14 @@ pub mod DealtLemmas
 pub mod FramePartLemmas
 pub mod OwnFrameLemmas
 pub mod SignalPartLemmas
+pub mod ViewLemmas
 pub mod PageLemmas
 pub mod ApplyLemmas
 pub mod ApartLemmas
 pub mod FrameSections
 pub mod FrameChanges
 pub mod FrameTurns
+pub mod DroppedRows
 pub mod PlacementSections
 pub mod SignalSections
 pub mod FrameEditLemmas
@@ -64,7 +66,9 @@ pub mod CopiedLemmas
 pub mod NewVariants
 pub mod InsideLemmas
 pub mod EditLemmas
-pub mod WholeLemmas
+pub mod OwningLemmas
+pub mod ClimbLemmas
+pub mod OwnCopies
 pub mod EditSteps
 pub mod CommitLemmas
 pub mod ChainLemmas

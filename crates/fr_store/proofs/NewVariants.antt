@@ -1,39 +1,39 @@
 -- What the tables stand for after a variant is opened.
-use Rattle.std.proofs.Common.{◌≡◌, inl, inr, ℕ, pos, true, false, not, cond, None, Some, Option, List, [], ◌∷◌, ◌++◌, map, flat_map, refl, sym, ap, ap₂, ◌∙◌, subst, append-nil, Result, Ok, Err, OnOk, MatchResult, IsPermutation, IsSorted}
-use Rattle.std.specs.List.{AllByRecursion}
+use Rattle.std.proofs.Common.{◌≡◌, inl, inr, ℕ, pos, Bool, true, false, is_some, true≢false, IsTrue, not, cond, None, Some, List, [], ◌∷◌, ◌++◌, map, flat_map, refl, sym, ap, ap₂, ◌∙◌, subst, append-nil, Result, Ok, Err, OnOk, MatchResult, IsPermutation, IsSorted}
+use Rattle.std.specs.List.{All, AllByRecursion, list_any}
+use Rattle.std.proofs.lemmas.List.Folds.{list_any_none}
 use Rattle.std.specs.Ordering.{on, nat_cmp, is_eq, eq_by_cmp}
-use Rattle.std.proofs.lemmas.Bool.{cases_Bool}
+use Rattle.std.proofs.lemmas.Bool.{cases_Bool, and_parts}
 use Rattle.std.proofs.lemmas.List.Elements.{All-weaker}
 use Rattle.std.proofs.lemmas.List.Sorted.{IsPermutation-refl}
-use Rattle.sqlite_keyed.proofs.ListLemmas.{map-map, all_of, all_map}
-use Rattle.sqlite.specs.State.{State, KeepsCommit}
-use Rattle.fr_base.specs.Tables.{Table, empty, get, insert}
+use Rattle.sqlite_keyed.proofs.ListLemmas.{map-map}
+use Rattle.sqlite.specs.State.{State}
+use Rattle.fr_base.specs.Tables.{Table, empty, get, contains, insert}
 use Rattle.fr_base.specs.Keys.{names, owned}
 use Rattle.fr_base.specs.Cluster.{Cluster}
 use Rattle.fr_base.specs.Book.{Frame, Variant, Book, empty_variant}
 use Rattle.fr_base.specs.Sound.{IsOpenedFrom}
-use Rattle.fr_base.specs.Queries.{placements_in}
 use Rattle.fr_base.specs.declared.name.Name.{Name}
 use Rattle.fr_base.proofs.SoundTables.{contains-more, insert-cases, same_key}
+use Rattle.fr_base.proofs.SoundRows.{same_text-is}
 use Rattle.fr_base.proofs.TableLaws.{equal, get-empty}
 use Rattle.fr_world.specs.BookEdits.{applied}
 use Rattle.fr_world.specs.declared.edit.Edit.TheVariants.{NewVariant}
-use Rattle.fr_store.specs.Applying.{with_rows, CopiesRows}
-use Rattle.fr_store.specs.Rows.{VariantRow, GrantRow, FrameRow, PlacementRow, SignalRow}
+use Rattle.fr_store.specs.Rows.{VariantRow, GrantRow, DroppedRow}
 use Rattle.fr_store.specs.Tables.{Tables}
-use Rattle.fr_store.specs.Changes.{Changes, Stays, tables_of}
-use Rattle.fr_store.specs.Statements.{with_variant, placement_row, signal_row, grant_for, frame_for, placement_for, signal_for, grants_for, frames_for, placements_for, signals_for}
-use Rattle.fr_store.specs.StandsFor.{StandsFor, Stored, Entry, HasItsParent, IsAsStored, own_or, of_parent, seen, of_frames, flag, variant_row, grant_rows, frame_row, placement_rows, signal_rows}
+use Rattle.fr_store.specs.Changes.{Changes, Copies, Stays, tables_of}
+use Rattle.fr_store.specs.Statements.{with_variant, with_grants, grant_for, grants_for, is_dropped}
+use Rattle.fr_store.specs.StandsFor.{StandsFor, Stored, Entry, HasItsParent, IsAsStored, own_or, of_parent, seen, is_hidden, of_frames, flag, variant_row, grant_rows, frame_row, placement_rows, signal_rows}
 use Rattle.fr_store.specs.Reading.{Stands}
-use Rattle.fr_store.specs.Whole.{IsWhole}
-use Rattle.fr_store.proofs.CopiedLemmas.{grants_copied, frames_copied}
+use Rattle.fr_store.proofs.CopiedLemmas.{grants_copied}
 use Rattle.fr_store.proofs.EntryLemmas.{none_there, added_row, added_rows}
 use Rattle.fr_store.proofs.StoredLemmas.{Extends, extends_new, parent_still, stored_still, itself}
 
--- ---- how a variant that is stored whole is stored among the others
+-- ---- how a new variant is stored among the others
 
-abbrev whole_of : Variant → Stored
-whole_of y = record { overlay = false; own = y.frames }
+-- without frames of its own
+abbrev bare : Bool → Stored
+bare over = record { overlay = over; own = empty }
 
 abbrev stored_with : (Name → Stored) → Name → Stored → Name → Stored
 stored_with stored v new w = cond (eq_by_cmp names.compare v w) new (stored w)
@@ -58,31 +58,28 @@ module _ (stored : Name → Stored) (v : Name) (new : Stored) where
     frames_stay [] h = refl
     frames_stay (e ∷ es) h = ap₂ ◌++◌ (ap (λ st. flat_map (rows e.0) st.own.rows) (stored_there e.0 h.0)) (frames_stay es h.1)
 
--- ---- a new variant with these frames
+-- ---- a new variant without frames of its own
 
-module _ (t : Tables) (c : Cluster) (b : Book) (stands : StandsFor t c b) (v : Name) (y : Variant) (none : get b.variants v ≡ None) (parent : HasItsParent b.variants y.parent y.depth)
+module _ (t : Tables) (c : Cluster) (b : Book) (stands : StandsFor t c b) (v : Name) (y : Variant) (over : Bool) (none : get b.variants v ≡ None) (parent : HasItsParent b.variants y.parent y.depth)
+    (shows : (k : Name × Name) → get y.frames k ≡ own_or None (is_hidden t.dropped v (bare over) k) (of_parent (insert b.variants v y) y.parent k))
     (by_start : (k : Name × Name) (f : Frame) → get y.frames k ≡ Some f → IsSorted (on (λ s. s.start) nat_cmp) f.signals) where
   abbrev next : Table names Variant
   next = insert b.variants v y
 
   abbrev stored : Name → Stored
-  stored = stored_with stands.stored v (whole_of y)
+  stored = stored_with stands.stored v (bare over)
 
   abbrev row : VariantRow
-  row = record { name = v; parent = y.parent; depth = pos y.depth; released = flag y.released; overlay = pos 0 }
+  row = record { name = v; parent = y.parent; depth = pos y.depth; released = flag y.released; overlay = flag over }
 
   more : Extends b.variants next
   more = extends_new b.variants v y none
 
-  own_alone : (o inherited : Option Frame) → own_or o true inherited ≡ o
-  own_alone (Some f) inherited = refl
-  own_alone None inherited = refl
-
-  as_new : IsAsStored t.dropped next (whole_of y) v y
+  as_new : IsAsStored t.dropped next (bare over) v y
   unfolding seen
   as_new = record {
     parent = parent_still t.dropped b.variants next more y.parent y.depth parent;
-    frames = λ k. sym (own_alone (get y.frames k) (of_parent next y.parent k));
+    frames = λ k. shows k ∙ ap (λ own. own_or own (is_hidden t.dropped v (bare over) k) (of_parent next y.parent k)) (sym (get-empty owned k));
     by_start = by_start;
   }
 
@@ -91,8 +88,8 @@ module _ (t : Tables) (c : Cluster) (b : Book) (stands : StandsFor t c b) (v : N
 
   each_stored : (w : Name) (z : Variant) → get next w ≡ Some z → IsAsStored t.dropped next (stored w) w z
   each_stored w z at = elim (insert-cases b.variants v y w z at) [
-    | inl here ↦ subst (λ (e : Name × Variant). IsAsStored t.dropped next (stored e.0) e.0 e.1) (λ i. (sym here.0 i, here.1 i)) (subst (λ st. IsAsStored t.dropped next st v y) (sym (stored_here stands.stored v (whole_of y))) as_new)
-    | inr other ↦ subst (λ st. IsAsStored t.dropped next st w z) (sym (stored_there stands.stored v (whole_of y) w (apart w other.0)))
+    | inl here ↦ subst (λ (e : Name × Variant). IsAsStored t.dropped next (stored e.0) e.0 e.1) (λ i. (sym here.0 i, here.1 i)) (subst (λ st. IsAsStored t.dropped next st v y) (sym (stored_here stands.stored v (bare over))) as_new)
+    | inr other ↦ subst (λ st. IsAsStored t.dropped next st w z) (sym (stored_there stands.stored v (bare over) w (apart w other.0)))
         (stored_still t.dropped b.variants next more (stands.stored w) w z z (itself z) (stands.each w z other.1))
   ]
 
@@ -101,22 +98,20 @@ module _ (t : Tables) (c : Cluster) (b : Book) (stands : StandsFor t c b) (v : N
 
   variants_stand : IsPermutation (map (variant_row stored) next.rows) (t.variants ++ row ∷ [])
   variants_stand =
-      let before = subst (λ rs. IsPermutation rs t.variants) (sym (rows_stay stands.stored v (whole_of y) variant_row (λ e s same. ap (λ st. record (variant_row stands.stored e) { overlay = flag st.overlay }) same) b.variants.rows others)) stands.variants in
-      subst (λ r. IsPermutation (map (variant_row stored) next.rows) (t.variants ++ r ∷ [])) (ap (λ st. record row { overlay = flag st.overlay }) (stored_here stands.stored v (whole_of y)))
+      let before = subst (λ rs. IsPermutation rs t.variants) (sym (rows_stay stands.stored v (bare over) variant_row (λ e s same. ap (λ st. record (variant_row stands.stored e) { overlay = flag st.overlay }) same) b.variants.rows others)) stands.variants in
+      subst (λ r. IsPermutation (map (variant_row stored) next.rows) (t.variants ++ r ∷ [])) (ap (λ st. record row { overlay = flag st.overlay }) (stored_here stands.stored v (bare over)))
       (added_row names b.variants v y none (variant_row stored) t.variants before)
 
-  frames_stand : {X : Type 0} (rows : Name → Entry → List X) (xs ys : List X) → IsPermutation (of_frames rows stands.stored b.variants) xs → IsPermutation (flat_map (rows v) y.frames.rows) ys
-      → IsPermutation (of_frames rows stored next) (xs ++ ys)
-  unfolding of_frames
-  frames_stand rows xs ys all own =
-      let before = subst (λ rs. IsPermutation rs xs) (sym (frames_stay stands.stored v (whole_of y) rows b.variants.rows others)) all in
-      let here = subst (λ st. IsPermutation (flat_map (rows v) st.own.rows) ys) (sym (stored_here stands.stored v (whole_of y))) own in
-      added_rows names b.variants v y none (of_variant stands.stored v (whole_of y) rows stored) xs ys before here
+  frames_stand : {X : Type 0} (rows : Name → Entry → List X) (xs : List X) → IsPermutation (of_frames rows stands.stored b.variants) xs → IsPermutation (of_frames rows stored next) xs
+  unfolding of_frames empty
+  frames_stand rows xs all =
+      let before = subst (λ rs. IsPermutation rs xs) (sym (frames_stay stands.stored v (bare over) rows b.variants.rows others)) all in
+      let here = subst (λ st. IsPermutation (flat_map (rows v) st.own.rows) []) (sym (stored_here stands.stored v (bare over))) (IsPermutation-refl []) in
+      subst (λ ys. IsPermutation (flat_map (of_variant stands.stored v (bare over) rows stored) next.rows) ys) (append-nil xs)
+      (added_rows names b.variants v y none (of_variant stands.stored v (bare over) rows stored) xs [] before here)
 
-  new_stands : (gs : List GrantRow) (fs : List FrameRow) (ps : List PlacementRow) (ss : List SignalRow) → IsPermutation (grant_rows (v, y)) gs → IsPermutation (flat_map (λ f. frame_row v f ∷ []) y.frames.rows) fs
-      → IsPermutation (flat_map (placement_rows v) y.frames.rows) ps → IsPermutation (flat_map (signal_rows v) y.frames.rows) ss
-      → StandsFor (with_rows gs fs ps ss (with_variant row t)) c (record b { variants = next })
-  new_stands gs fs ps ss grants frames placements signals = record {
+  new_stands : (gs : List GrantRow) → IsPermutation (grant_rows (v, y)) gs → StandsFor (with_grants gs (with_variant row t)) c (record b { variants = next })
+  new_stands gs grants = record {
     register = stands.register;
     cluster = stands.cluster;
     suppliers = stands.suppliers;
@@ -126,9 +121,9 @@ module _ (t : Tables) (c : Cluster) (b : Book) (stands : StandsFor t c b) (v : N
     stored = stored;
     variants = variants_stand;
     grants = added_rows names b.variants v y none grant_rows t.grants gs stands.grants grants;
-    frames = frames_stand (λ v f. frame_row v f ∷ []) t.frames fs stands.frames frames;
-    placements = frames_stand placement_rows t.placements ps stands.placements placements;
-    signals = frames_stand signal_rows t.signals ss stands.signals signals;
+    frames = frames_stand (λ v f. frame_row v f ∷ []) t.frames stands.frames;
+    placements = frames_stand placement_rows t.placements stands.placements;
+    signals = frames_stand signal_rows t.signals stands.signals;
     dropped = All-weaker _ _ (λ d h. contains-more b.variants v y d.variant h) t.dropped stands.dropped;
     each = each_stored;
   }
@@ -146,74 +141,73 @@ module _ (v : Name) (depth : ℕ) where
   unfolding empty_variant
   no_frames k f at = let no : None ≡ Some f = sym (get-empty owned k) ∙ at in absurd cc
 
-  no_rows_more : (t : Tables) → with_rows [] [] [] [] t ≡ t
-  no_rows_more t i = record t { grants = append-nil t.grants i; frames = append-nil t.frames i; placements = append-nil t.placements i; signals = append-nil t.signals i }
+  none_shown : (t : Tables) (variants : Table names Variant) (k : Name × Name) → get opened.frames k ≡ own_or None (is_hidden t.dropped v (bare false) k) (of_parent variants None k)
+  unfolding empty_variant
+  none_shown t variants k = get-empty owned k
+
+  no_rows_more : (t : Tables) → with_grants [] t ≡ t
+  no_rows_more t i = record t { grants = append-nil t.grants i }
 
   opened_empty : (t : Tables) (c : Cluster) (b : Book) → StandsFor t c b → get b.variants v ≡ None → StandsFor (with_variant opened_row t) c (applied b (NewVariant v None depth))
   unfolding applied empty_variant empty
   opened_empty t c b stands none =
       subst (λ u. StandsFor u c (applied b (NewVariant v None depth))) (no_rows_more (with_variant opened_row t))
-      (new_stands t c b stands v opened none tt no_frames [] [] [] [] (IsPermutation-refl []) (IsPermutation-refl []) (IsPermutation-refl []) (IsPermutation-refl []))
+      (new_stands t c b stands v opened false none tt (none_shown t (insert b.variants v opened)) no_frames [] (IsPermutation-refl []))
 
   pub empty_opened : {X E : Type 0} (old state : State) (r : Result X E) → MatchResult r (λ _. Changes (with_variant opened_row) old state) (λ _. Stays old state) → (c : Cluster) (b : Book) → Stands old c b → get b.variants v ≡ None
       → OnOk r (Stands state c (applied b (NewVariant v None depth)))
   empty_opened old state (Ok done) h c b stands none = record { has = h.has; for = subst (λ t. StandsFor t c (applied b (NewVariant v None depth))) (sym h.now) (opened_empty (tables_of old) c b stands.for none) }
   empty_opened old state (Err e) h c b stands none = tt
 
--- ---- opened from a parent, with copies of its rows
+-- ---- opened over a parent, with copies of its grants
 
-abbrev Copied : Name → Name → List GrantRow → List FrameRow → List PlacementRow → List SignalRow → Tables → Type 0
-Copied v p gs fs ps ss t =
-    IsPermutation (grants_for p v t) gs × IsPermutation (frames_for p v t) fs × IsPermutation (placements_for p v t) ps × IsPermutation (signals_for p v t) ss
+-- nothing is dropped in a variant that is not there
+none_dropped : (t : Tables) (b : Book) → All (λ d. IsTrue (contains b.variants d.variant)) t.dropped → (v : Name) → get b.variants v ≡ None → (k : Name × Name) → list_any (is_dropped v k.0 k.1) t.dropped ≡ false
+none_dropped t b known v none k = list_any_none (is_dropped v k.0 k.1) t.dropped (All-weaker _ _ (λ d there. by_test d there (is_dropped v k.0 k.1 d) refl) t.dropped known)
+  where
+    by_test : (d : DroppedRow) → IsTrue (contains b.variants d.variant) → (is : Bool) → is_dropped v k.0 k.1 d ≡ is → is ≡ false
+    by_test d there false e = refl
+    by_test d there true e =
+        absurd (true≢false (sym there ∙ ap (λ w. contains b.variants w) (same_text-is d.variant v (and_parts _ _ e).0) ∙ ap is_some none))
 
 module _ (v p : Name) (depth : ℕ) where
   abbrev child : Variant → Variant
   child x = record x { parent = Some p; depth = depth; released = false }
 
   abbrev pub child_row : VariantRow
-  child_row = record { name = v; parent = Some p; depth = pos depth; released = pos 0; overlay = pos 0 }
-
-  turned_placements : (f : Entry) → map (placement_for v) (placement_rows p f) ≡ placement_rows v f
-  turned_placements f = map-map (placement_for v) (placement_row p f.0.0 f.0.1) (placements_in f.1)
-
-  turned_signals : (f : Entry) → map (signal_for v) (signal_rows p f) ≡ signal_rows v f
-  turned_signals f = map-map (signal_for v) (signal_row p f.0.0 f.0.1) f.1.signals
-
-  own_placements : (w : Name) (f : Entry) → AllByRecursion (λ (r : PlacementRow). r.variant ≡ w) (placement_rows w f)
-  own_placements w f = all_map (λ (r : PlacementRow). r.variant ≡ w) _ (placements_in f.1) (all_of _ (λ q. refl) (placements_in f.1))
-
-  own_signals : (w : Name) (f : Entry) → AllByRecursion (λ (r : SignalRow). r.variant ≡ w) (signal_rows w f)
-  own_signals w f = all_map (λ (r : SignalRow). r.variant ≡ w) _ f.1.signals (all_of _ (λ s. refl) f.1.signals)
+  child_row = record { name = v; parent = Some p; depth = pos depth; released = pos 0; overlay = pos 1 }
 
   turned_grants : (x : Variant) → map (grant_for v) (grant_rows (p, x)) ≡ grant_rows (v, child x)
   turned_grants x = map-map (grant_for v) _ x.grants.rows
 
-  opened_from : (t : Tables) (c : Cluster) (b : Book) → StandsFor t c b → get b.variants v ≡ None → IsOpenedFrom b.variants (Some p) depth → IsWhole p t
-      → (gs : List GrantRow) (fs : List FrameRow) (ps : List PlacementRow) (ss : List SignalRow) → IsPermutation (grants_for p v t) gs → IsPermutation (frames_for p v t) fs → IsPermutation (placements_for p v t) ps
-      → IsPermutation (signals_for p v t) ss → StandsFor (with_rows gs fs ps ss (with_variant child_row t)) c (applied b (NewVariant v (Some p) depth))
+  parent_in : (variants : Table names Variant) (x : Variant) → get variants p ≡ Some x → (k : Name × Name) → of_parent variants (Some p) k ≡ get x.frames k
+  unfolding of_parent
+  parent_in variants x there k = rw there refl
+
+  -- it shows its parent's frames
+  its_parents : (t : Tables) (c : Cluster) (b : Book) → StandsFor t c b → get b.variants v ≡ None → (x : Variant) → get b.variants p ≡ Some x → (k : Name × Name)
+      → get x.frames k ≡ own_or None (is_hidden t.dropped v (bare true) k) (of_parent (insert b.variants v (child x)) (Some p) k)
+  its_parents t c b stands none x at k =
+      let still = extends_new b.variants v (child x) none p x at in
+      ap (λ frames. get frames k) (sym still.2.frames) ∙ sym (parent_in (insert b.variants v (child x)) still.0 still.1 k)
+      ∙ ap (λ is. own_or None is (of_parent (insert b.variants v (child x)) (Some p) k)) (sym (none_dropped t b stands.dropped v none k))
+
+  opened_from : (t : Tables) (c : Cluster) (b : Book) → StandsFor t c b → get b.variants v ≡ None → IsOpenedFrom b.variants (Some p) depth → (gs : List GrantRow) → IsPermutation (grants_for p v t) gs
+      → StandsFor (with_grants gs (with_variant child_row t)) c (applied b (NewVariant v (Some p) depth))
   unfolding applied
-  opened_from t c b stands none from whole gs fs ps ss grants frames placements signals =
+  opened_from t c b stands none from gs grants =
       let x = from.0 in
       let at = from.1 in
-      let made : StandsFor (with_rows gs fs ps ss (with_variant child_row t)) c (record b { variants = insert b.variants v (child x) }) =
-      new_stands t c b stands v (child x) none from (stands.each p x at).by_start gs fs ps ss
-      (subst (λ rs. IsPermutation rs gs) (turned_grants x) (grants_copied t c b stands p v x at gs grants))
-      (frames_copied t c b stands p v x at (λ (r : FrameRow). r.variant) (λ v f. frame_row v f ∷ []) (λ w f. (refl, tt)) (frame_for v) (λ f. refl) whole t.frames fs stands.frames frames)
-      (frames_copied t c b stands p v x at (λ (r : PlacementRow). r.variant) placement_rows own_placements (placement_for v) turned_placements whole t.placements ps stands.placements placements)
-      (frames_copied t c b stands p v x at (λ (r : SignalRow). r.variant) signal_rows own_signals (signal_for v) turned_signals whole t.signals ss stands.signals signals) in
+      let made : StandsFor (with_grants gs (with_variant child_row t)) c (record b { variants = insert b.variants v (child x) }) =
+      new_stands t c b stands v (child x) true none from (its_parents t c b stands none x at) (stands.each p x at).by_start gs
+      (subst (λ rs. IsPermutation rs gs) (turned_grants x) (grants_copied t c b stands p v x at gs grants)) in
       rw at made
 
-  child_opened : (old mid state : State) → Changes (with_variant child_row) old mid → CopiesRows p v mid state → (c : Cluster) (b : Book) → Stands old c b → get b.variants v ≡ None → IsOpenedFrom b.variants (Some p) depth
-      → IsWhole p (tables_of old) → Stands state c (applied b (NewVariant v (Some p) depth))
-  child_opened old mid state h copies c b stands none from whole =
-      let then = subst (Copied v p copies.grants copies.frames copies.placements copies.signals) h.now (copies.same_grants, copies.same_frames, copies.same_placements, copies.same_signals) in
-      record {
-        has = copies.added.has;
-        for = subst (λ t. StandsFor t c (applied b (NewVariant v (Some p) depth))) (sym (copies.added.now ∙ ap (with_rows copies.grants copies.frames copies.placements copies.signals) h.now))
-            (opened_from (tables_of old) c b stands.for none from whole copies.grants copies.frames copies.placements copies.signals then.0 then.1 then.2 then.3);
-      }
-
-  pub opened_with : {X E : Type 0} (old mid state : State) (r : Result X E) → Changes (with_variant child_row) old mid → MatchResult r (λ _. CopiesRows p v mid state) (λ _. KeepsCommit mid state) → (c : Cluster) (b : Book) → Stands old c b
-      → get b.variants v ≡ None → IsOpenedFrom b.variants (Some p) depth → IsWhole p (tables_of old) → OnOk r (Stands state c (applied b (NewVariant v (Some p) depth)))
-  opened_with old mid state (Ok done) h copies c b stands none from whole = child_opened old mid state h copies c b stands none from whole
-  opened_with old mid state (Err e) h kept c b stands none from whole = tt
+  pub opened_with : {X E : Type 0} (old mid state : State) (r : Result X E) → Changes (with_variant child_row) old mid → MatchResult r (λ _. Copies (grants_for p v) with_grants mid state) (λ _. Stays mid state)
+      → (c : Cluster) (b : Book) → Stands old c b → get b.variants v ≡ None → IsOpenedFrom b.variants (Some p) depth → OnOk r (Stands state c (applied b (NewVariant v (Some p) depth)))
+  opened_with old mid state (Err e) h copies c b stands none from = tt
+  opened_with old mid state (Ok done) h copies c b stands none from = record {
+    has = copies.added.has;
+    for = subst (λ t. StandsFor t c (applied b (NewVariant v (Some p) depth))) (sym (copies.added.now ∙ ap (with_grants copies.copies) h.now))
+        (opened_from (tables_of old) c b stands.for none from copies.copies (subst (λ t. IsPermutation (grants_for p v t) copies.copies) h.now copies.same));
+  }

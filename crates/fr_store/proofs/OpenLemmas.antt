@@ -1,5 +1,5 @@
 -- What is known of a register whose rows were asked for.
-use Rattle.std.proofs.Common.{◌≡◌, ◌∙◌, ℤ, List, [], ◌∷◌, map, filter, Option, Some, None, IfSome, refl, sym, ap, subst}
+use Rattle.std.proofs.Common.{◌≡◌, ◌∙◌, ℤ, List, [], ◌∷◌, map, filter, Option, Some, None, is_some, IfSome, IsTrue, refl, sym, ap, subst}
 use Rattle.std.specs.List.Sorted.{IsPermutation}
 use Rattle.std.proofs.lemmas.List.Sorted.{IsPermutation-sym}
 use Rattle.sqlite.specs.Order.{Row}
@@ -10,8 +10,10 @@ use Rattle.fr_base.specs.declared.config.Supplier.{Supplier}
 use Rattle.fr_store.specs.Rows.{ClusterRow, SupplierRow}
 use Rattle.fr_store.specs.Tables.{HasTables, tables_in}
 use Rattle.fr_store.specs.Changes.{AreListed}
-use Rattle.fr_store.specs.Statements.{cluster_row, shows_cluster, shows_supplier, every, any_order, suppliers_cmp}
+use Rattle.fr_store.specs.Statements.{cluster_row, shows_cluster, shows_supplier, shows_variant, every, any_order, suppliers_cmp, variants_cmp}
 use Rattle.fr_store.specs.Filling.{supplier_row}
+use Rattle.fr_store.specs.Reading.{AreOpened, TellsOpened, variant_shown}
+use Rattle.fr_world.specs.declared.variants.VariantRow.{VariantRow}
 use Rattle.fr_store.specs.Opening.{HasNumber, our_schema_number}
 use Rattle.fr_store.specs.Store.{IsRegisterOf, shown_supplier}
 
@@ -61,6 +63,14 @@ all_suppliers xs rows None listed is = tt
 all_suppliers xs rows (Some c) listed is =
     let same = same_suppliers listed.found c.suppliers (sym is ∙ listed.shown) in
     IsPermutation-sym _ _ (rw (all_pass xs, same) at listed.same)
+
+-- the variants that are read are those of the rows
+pub variants_found : {X : Type 0} (old new : Database) (rows : List Row) (items : X → List VariantRow) (found : Option X) → new ≡ old → HasTables new
+    → (HasTables old → AreListed shows_variant every variants_cmp (tables_in old.trees).variants rows) → IfSome found (λ f. items f ≡ map variant_shown rows) → IfSome found (λ f. AreOpened (items f)) → IsTrue (is_some found)
+    → TellsOpened (tables_in new.trees)
+variants_found old new rows items None same has listed shown opened is = absurd cc
+variants_found old new rows items (Some f) same has listed shown opened is =
+    (rows, subst (λ (d : Database). AreListed shows_variant every variants_cmp (tables_in d.trees).variants rows) (sym same) (listed (subst HasTables same has)), subst AreOpened shown opened)
 
 -- what was read in turn of tables that stayed
 pub register_found : (c : Cluster) (old mid new : Database) (n : ℤ) → mid ≡ old → new ≡ mid → n ≡ our_schema_number → HasTables new → (HasTables old → HasNumber old n)

@@ -1,41 +1,27 @@
 -- The rows that are read of a supplier in a variant are its page of the register.
-use Rattle.std.proofs.Common.{◌≡◌, ℕ, Bool, true, false, None, Some, Option, List, [], ◌∷◌, map, option_map, refl, sym, ap, ◌∙◌}
+use Rattle.std.proofs.Common.{◌≡◌, ℕ, None, Some, List, [], ◌∷◌, map, option_map, refl, sym, ap, ◌∙◌}
 use Rattle.std.specs.List.{AllByRecursion}
 use Rattle.std.specs.List.Sorted.{IsStrictlySortedBy}
 use Rattle.std.proofs.lemmas.List.Elements.{recursion_from_All}
 use Rattle.sqlite_keyed.proofs.ListLemmas.{map-map}
-use Rattle.fr_base.specs.Tables.{get}
 use Rattle.fr_base.specs.Keys.{names, owned, channel_slots, placement_order}
 use Rattle.fr_base.specs.Cluster.{Cluster}
-use Rattle.fr_base.specs.Book.{Book, Variant, Frame, Holder, own}
+use Rattle.fr_base.specs.Book.{Book, Variant, Frame, Holder}
 use Rattle.fr_base.specs.Queries.{placements_in}
 use Rattle.fr_base.specs.Step.{own_rows, layout_of}
 use Rattle.fr_base.specs.declared.channel.Channel.{Channel}
 use Rattle.fr_base.specs.declared.name.Name.{Name}
 use Rattle.fr_base.specs.declared.params.Params.{Params}
 use Rattle.fr_base.specs.declared.placement.Placement.{Placement}
-use Rattle.fr_base.proofs.TableLaws.{same_table}
 use Rattle.fr_world.specs.Maps.{set_of}
-use Rattle.fr_world.specs.Pages.{FrameData, PageData, IsKept, compare_slots, frame_of, holder_of, nodes_in, grants_in, frames_in, page_in}
+use Rattle.fr_world.specs.Pages.{FrameData, PageData, IsKept, compare_slots, frame_of, frames_data, holder_of, nodes_in, grants_in, frames_in, page_in}
 use Rattle.fr_world.specs.declared.page.ChannelSlot.{ChannelSlot}
 use Rattle.fr_world.proofs.KeyLaws.{own_alike}
 use Rattle.fr_world.proofs.MapLaws.{rows-set_of, rows-table_of}
 use Rattle.fr_store.specs.Tables.{Tables}
-use Rattle.fr_store.specs.StandsFor.{StandsFor, seen, own_or, is_hidden, of_parent}
-use Rattle.fr_store.specs.Paging.{AreRowsIn, TellsReleased, TellsNodes, TellsGrants, TellsFrames, TellsRows, page_of}
-
--- ---- a variant that is stored by itself
-
-module _ (t : Tables) (c : Cluster) (b : Book) (stands : StandsFor t c b) (v : Name) (x : Variant) (there : get b.variants v ≡ Some x) where
-  alone : (o : Option Frame) (hidden : Bool) (inherited : Option Frame) → hidden ≡ true → own_or o hidden inherited ≡ o
-  alone (Some f) hidden inherited is = refl
-  alone None hidden inherited is = ap (λ h. own_or None h inherited) is
-
-  -- shows its own frames
-  pub frames_alone : (stands.stored v).overlay ≡ false → (stands.stored v).own ≡ x.frames
-  unfolding seen
-  frames_alone off =
-      same_table _ _ (λ k. sym ((stands.each v x there).frames k ∙ alone (get (stands.stored v).own k) (is_hidden t.dropped v (stands.stored v) k) (of_parent b.variants x.parent k) (rw off refl)))
+use Rattle.fr_store.specs.StandsFor.{StandsFor}
+use Rattle.fr_store.specs.Paging.{AreRowsIn, TellsNodes, TellsGrants, TellsRows, TellsView, page_of}
+use Rattle.fr_store.specs.declared.page.view.View.{View}
 
 -- ---- rows in order are those of the page that they stand for
 
@@ -116,14 +102,14 @@ module _ (p : Params) (b : Book) (s v : Name) (x : Variant) (rows : PageData) (a
 
 -- ---- the parts that are read
 
-module _ (p : Params) (s v : Name) (t : Tables) (released : Bool) (nodes : List Name) (grants : List (ChannelSlot × Name)) (frames : List (Name × FrameData)) where
+module _ (p : Params) (s v : Name) (t : Tables) (view : View) (nodes : List Name) (grants : List (ChannelSlot × Name)) where
   abbrev pub rows_read : PageData
-  rows_read = record { params = p; supplier = s; variant = v; released = released; nodes = nodes; grants = grants; frames = frames }
+  rows_read = record { params = p; supplier = s; variant = v; released = view.released; nodes = nodes; grants = grants; frames = frames_data view.frames.entries }
 
   -- are the supplier's rows
-  pub rows_told : TellsReleased v t (Some released) → TellsNodes s t nodes → TellsGrants v s t grants → TellsFrames v s t frames → TellsRows p s v t (Some rows_read)
+  pub rows_told : TellsView v s t (Some view) → TellsNodes s t nodes → TellsGrants v s t grants → TellsRows p s v t (Some rows_read)
   unfolding own_rows
-  rows_told is its_nodes its_grants its_frames c b stands =
+  rows_told is its_nodes its_grants c b stands =
       let here = is c b stands in (
         here.0,
         here.1,
@@ -131,13 +117,13 @@ module _ (p : Params) (s v : Name) (t : Tables) (released : Bool) (nodes : List 
           params = refl;
           supplier = refl;
           variant = refl;
-          released = sym here.2;
+          released = here.2;
           stand_for = λ i. record {
             params = p;
             supplier = s;
             nodes = its_nodes c b stands i;
             grants = its_grants c b stands here.0 here.1 i;
-            frames = (its_frames c b stands here.0 here.1 ∙ ap (own s) (frames_alone t c b stands v here.0 here.1 here.3)) i;
+            frames = here.3 i;
           };
         },
       )

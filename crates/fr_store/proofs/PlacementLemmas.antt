@@ -1,5 +1,5 @@
 -- What the statements on placements do.
-use Rattle.std.proofs.Common.{◌≡◌, ℕ, List, [], ◌∷◌, codes, lit≤, Ok, Err, Result, MatchResult, ◌==◌, length, bytes_eq, inl, inr, refl}
+use Rattle.std.proofs.Common.{◌≡◌, ℕ, List, [], ◌∷◌, codes, lit≤, Ok, Err, Result, MatchResult, ◌==◌, length, inl, inr, refl}
 use Rattle.std.proofs.lemmas.Bool.{cases_Bool}
 use Rattle.sqlite.specs.declared.types.Value.TheVariants.{Null, Text}
 use Rattle.sqlite.specs.declared.error.Error.{Error}
@@ -20,7 +20,7 @@ use Rattle.fr_store.specs.Schema.{register_schema, placements}
 use Rattle.fr_store.specs.Rows.{PlacementRow, of_placement, placement_in}
 use Rattle.fr_store.specs.Tables.{HasTables}
 use Rattle.fr_store.specs.Changes.{Changes, Stays, Copies}
-use Rattle.fr_store.specs.Statements.{with_placement, without_placement, with_placements, placement_for, placements_for, is_placement, is_placed_by, shows_placement, placements_cmp}
+use Rattle.fr_store.specs.Statements.{with_placement, without_placement, with_placements, placement_for, placement_copies, is_placement, is_placement_of, is_placed_by, shows_placement, placements_cmp}
 use Rattle.fr_store.proofs.Compared.{equal_texts, equal_integers, cast_null, cast_integer}
 use Rattle.fr_store.proofs.InsertLemmas.{Adds, adds, added}
 use Rattle.fr_store.proofs.RemoveLemmas.{Removes, removes}
@@ -75,28 +75,29 @@ deletes q old new (Err e) was h = stays_inside delete_text _ old new e h
 deletes q old new (Ok count) was h =
     let did = removes of_placement placement_in _ placements delete_text _ (delete_is q) old new count was.schema was.placements h.0 in placements_made old new was _ did.0 did.1
 
-abbrev copy_text : List ℕ
-copy_text = codes "INSERT INTO placements (variant, supplier, frame, slot, channels, base, repetition) SELECT ?2, supplier, frame, slot, channels, base, repetition FROM placements WHERE variant = ?1"
-
 copy_idle : (news : List Row) → works register_schema Enforced 0 13 [] news ≡ []
 unfolding everything
 copy_idle news = elim (cases_Bool (length news == 0)) [ inl none ↦ rw none | inr some ↦ rw some ]
 
-copy_is : (parent child : List ℕ) → CopiesBy of_placement placement_in (λ x. bytes_eq x.variant parent) (placement_for child) placements.name placements.tree placements.columns placements.key placements.primary placements.uniques placements.checks placements.references copy_text (Text parent ∷ Text child ∷ [])
+abbrev copy_one_text : List ℕ
+copy_one_text = codes "INSERT INTO placements (variant, supplier, frame, slot, channels, base, repetition) SELECT ?2, supplier, frame, slot, channels, base, repetition FROM placements WHERE variant = ?1 AND supplier = ?3 AND frame = ?4"
+
+copy_one_is : (from to supplier frame : List ℕ)
+    → CopiesBy of_placement placement_in (is_placement_of from supplier frame) (placement_for to) placements.name placements.tree placements.columns placements.key placements.primary placements.uniques placements.checks placements.references copy_one_text (Text from ∷ Text to ∷ Text supplier ∷ Text frame ∷ [])
 unfolding understood everything
-copy_is parent child = record {
-  tests = op2 (Compare Eq Binary) (col 1 1) (col 0 0) ∷ [];
+copy_one_is from to supplier frame = record {
+  tests = op2 (Compare Eq Binary) (col 1 1) (col 0 0) ∷ op2 (Compare Eq Binary) (col 1 2) (col 0 2) ∷ op2 (Compare Eq Binary) (col 1 3) (col 0 3) ∷ [];
   project = lit Null ∷ col 0 1 ∷ col 1 2 ∷ col 1 3 ∷ col 1 4 ∷ col 1 5 ∷ col 1 6 ∷ col 1 7 ∷ [];
   is = record { at = 7; by = Binary ∷ Binary ∷ Binary ∷ Binary ∷ Binary ∷ Binary ∷ Binary ∷ Binary ∷ []; is = refl; plain = (refl, refl); place = refl; bare = refl; stored = λ db. refl; idle = copy_idle };
-  tested = λ p. rw (equal_texts p.1.variant parent, and_true);
+  tested = λ p. rw (equal_texts p.1.variant from, equal_texts p.1.supplier supplier, equal_texts p.1.frame frame, and_true);
   gives = λ p. rw (cast_null, cast_integer p.1.slot, cast_integer p.1.base, cast_integer p.1.repetition);
 }
 
-pub copies : (parent child : List ℕ) (old new : State) (r : Result ℕ Error) → HasTables old.now → ExecutesInside 0 copy_text (Text parent ∷ Text child ∷ []) old new r
-    → MatchResult r (λ _. Copies (placements_for parent child) with_placements old new) (λ _. Stays old new)
-copies parent child old new (Err e) was h = stays_inside copy_text _ old new e h
-copies parent child old new (Ok count) was h =
-    let did = makes_copies of_placement placement_in _ _ placements.name placements.tree placements.columns placements.key placements.primary placements.uniques placements.checks placements.references copy_text _ (copy_is parent child) (λ id x. refl) old new count was.schema was.placements h.0 in
+pub copies_one : (from to supplier frame : List ℕ) (old new : State) (r : Result ℕ Error) → HasTables old.now → ExecutesInside 0 copy_one_text (Text from ∷ Text to ∷ Text supplier ∷ Text frame ∷ []) old new r
+    → MatchResult r (λ _. Copies (placement_copies from to supplier frame) with_placements old new) (λ _. Stays old new)
+copies_one from to supplier frame old new (Err e) was h = stays_inside copy_one_text _ old new e h
+copies_one from to supplier frame old new (Ok count) was h =
+    let did = makes_copies of_placement placement_in _ _ placements.name placements.tree placements.columns placements.key placements.primary placements.uniques placements.checks placements.references copy_one_text _ (copy_one_is from to supplier frame) (λ id x. refl) old new count was.schema was.placements h.0 in
     record { copies = did.copied; same = did.same; added = placements_made old new was _ did.wrote did.made }
 
 abbrev pub select_text : List ℕ

@@ -1,12 +1,12 @@
 -- What the queries show of the book for which the tables stand.
-use Rattle.std.proofs.Common.{◌≡◌, ℕ, pos, Bool, true, false, None, Some, Option, List, map, filter, Less, refl, sym, ap, ◌∙◌, subst, IfSome, IfOk, ok_or, Result, MatchOption, MatchResult, inl, slice_get, option_map, bytes_eq}
+use Rattle.std.proofs.Common.{◌≡◌, ℕ, pos, Bool, true, false, None, Some, Option, List, map, filter, Less, refl, sym, ap, ◌∙◌, subst, IfSome, IfOk, ok_or, Result, MatchResult, inl}
 use Rattle.std.specs.Ordering.{int_eq, ordering_then}
 use Rattle.std.specs.Cmp.{tied_itself, on_total}
 use Rattle.std.specs.Prelude.{⊤}
-use Rattle.sqlite.specs.Order.{Row, column}
-use Rattle.sqlite.specs.declared.types.Value.TheVariants.{Int}
+use Rattle.sqlite.specs.Order.{Row}
 use Rattle.sqlite_trees.specs.Tree.{IsAscending}
 use Rattle.sqlite_keyed.proofs.ListLemmas.{map-map, filter-map, filter_all, all_of, ascending-map}
+use Rattle.fr_base.specs.Refusing.{◌>>=◌, ◌>>◌, ◌or◌, refuse◌when◌}
 use Rattle.fr_base.specs.Tables.{get, only}
 use Rattle.fr_base.specs.Keys.{names, owned}
 use Rattle.fr_base.specs.Cluster.{Cluster}
@@ -14,20 +14,22 @@ use Rattle.fr_base.specs.Book.{Book, Variant, is_of}
 use Rattle.fr_base.specs.declared.name.Name.{Name}
 use Rattle.fr_base.proofs.SoundRows.{same_text-is}
 use Rattle.fr_world.specs.BookEdits.{variants_in}
+use Rattle.fr_world.specs.Common.{depth_after}
 use Rattle.fr_world.specs.Pages.{nodes_in}
 use Rattle.fr_world.specs.declared.variants.VariantRow as world
 use Rattle.fr_store.specs.Rows.{VariantRow, maybe_words, of_maybe}
 use Rattle.fr_store.specs.Tables.{Tables}
 use Rattle.sqlite.specs.State.{State, IsUnchanged}
 use Rattle.fr_store.specs.Changes.{AreListed, Stays}
-use Rattle.fr_store.specs.Statements.{is_node_of, shows_node, nodes_cmp, shows_variant, variants_cmp, every, any_order, is_variant}
+use Rattle.fr_store.specs.Statements.{is_node_of, shows_node, nodes_cmp, shows_variant, variants_cmp, every}
 use Rattle.fr_store.specs.StandsFor.{StandsFor, node_row, variant_row, flag}
 use Rattle.fr_store.specs.Reading.{name_shown, variant_shown}
-use Rattle.fr_store.proofs.SectionLemmas.{only_row, row_at}
-use Rattle.fr_store.proofs.HolderLemmas.{any_order_total, other_name}
-use Rattle.std.proofs.lemmas.Slice.Eq.{bytes_eq-Decides}
-use Rattle.fr_store.specs.Paging.{released_shown}
 use Rattle.fr_store.proofs.OrderLemmas.{IsBefore, rises, rises_among, are_listed}
+
+-- what a proof about the depth of variants opens
+unfoldable pub opened_open : ⊤
+unfolding depth_after ◌>>=◌ ◌>>◌ ◌or◌ refuse◌when◌
+opened_open = tt
 
 -- what is said of the value, if there is one, is said of the answer
 pub told_if : {X E : Type 0} (P Q : X → Type 0) → ((x : X) → P x → Q x) → (r : Option X) (e : E) (o : Result X E) → o ≡ ok_or r e → IfSome r P → IfOk o Q
@@ -39,6 +41,15 @@ pub reads_if : {X E : Type 0} (P Q : X → Type 0) (old new : State) → IsUncha
     → MatchResult o (λ x. Q x × IsUnchanged old new) (λ _. Stays old new)
 reads_if P Q old new same so None e o is h = subst (λ o. MatchResult o (λ x. Q x × IsUnchanged old new) (λ _. Stays old new)) (sym is) (inl same)
 reads_if P Q old new same so (Some x) e o is h = subst (λ o. MatchResult o (λ x. Q x × IsUnchanged old new) (λ _. Stays old new)) (sym is) (so x h, same)
+
+-- what is written is read back
+pub maybe_back : (o : Option (List ℕ)) → maybe_words (of_maybe o) ≡ o
+maybe_back None = refl
+maybe_back (Some w) = refl
+
+pub flag_back : (is : Bool) → int_eq (flag is) (pos 1) ≡ is
+flag_back true = refl
+flag_back false = refl
 
 pub both_if : {X : Type 0} (P Q : X → Type 0) (r : Option X) → IfSome r P → IfSome r Q → IfSome r (λ x. P x × Q x)
 both_if P Q None p q = tt
@@ -88,14 +99,6 @@ module _ (t : Tables) (c : Cluster) (b : Book) (stands : StandsFor t c b) where
   variants_rise =
       subst (IsAscending (λ x y. variants_cmp x y ≡ Less)) (sym all_rows) (ascending-map (λ x y. variants_cmp x y ≡ Less) row_of b.variants.rows (rises names b.variants))
 
-  maybe_back : (o : Option (List ℕ)) → maybe_words (of_maybe o) ≡ o
-  maybe_back None = refl
-  maybe_back (Some w) = refl
-
-  flag_back : (is : Bool) → int_eq (flag is) (pos 1) ≡ is
-  flag_back true = refl
-  flag_back false = refl
-
   abbrev entry_of : Name × Variant → world.VariantRow
   entry_of e = record { variant = e.0; parent = e.1.parent; depth = e.1.depth; released = e.1.released }
 
@@ -108,36 +111,3 @@ module _ (t : Tables) (c : Cluster) (b : Book) (stands : StandsFor t c b) where
       let is = are_listed shows_variant every variants_cmp (on_total (λ v. v.name) names.total) (map row_of b.variants.rows) t.variants rows stands.variants variants_rise listed in
       read ∙ ap (map variant_shown) (is ∙ ap (map shows_variant) all_rows ∙ map-map shows_variant row_of _) ∙ map-map variant_shown (λ e. shows_variant (row_of e)) b.variants.rows
       ∙ (λ i. map (λ e. shown_back e i) b.variants.rows)
-
-  -- ---- one variant
-
-  module _ (v : Name) where
-    abbrev is_it : Name × Variant → Bool
-    is_it e = bytes_eq e.0 v
-
-    one_row : filter (is_variant v) (map row_of b.variants.rows) ≡ map row_of (row_at v (get b.variants v))
-    one_row = filter-map (is_variant v) row_of b.variants.rows ∙ ap (map row_of) (only_row names is_it v (λ e. other_name v e.0) (λ x. (bytes_eq-Decides v v).1 refl) b.variants)
-
-    one_rises : (o : Option Variant) → IsAscending (λ x y. any_order {X = VariantRow} x y ≡ Less) (map row_of (row_at v o))
-    one_rises None = tt
-    one_rises (Some x) = (tt, tt)
-
-    flag_off : (is : Bool) → Int (flag is) ≡ Int (pos 0) → is ≡ false
-    flag_off true e = absurd cc
-    flag_off false e = refl
-
-    abbrev Tells : Option Variant → Option Bool → Type 0
-    Tells o found = MatchOption found (o ≡ None) (λ is. (x : Variant) × (o ≡ Some x) × (x.released ≡ is) × ((stands.stored v).overlay ≡ false))
-
-    by_variant : (o : Option Variant) → IfSome (slice_get (map shows_variant (map row_of (row_at v o))) 0) (λ r. column r 4 ≡ Int (pos 0))
-        → Tells o (option_map released_shown (slice_get (map shows_variant (map row_of (row_at v o))) 0))
-    by_variant None alone = refl
-    by_variant (Some x) alone = (x, refl, sym (flag_back x.released), flag_off (stands.stored v).overlay alone)
-
-    pub released_told : (rows : List Row) (found : Option Bool) → AreListed shows_variant (is_variant v) any_order t.variants rows → found ≡ option_map released_shown (slice_get rows 0)
-        → IfSome (slice_get rows 0) (λ r. column r 4 ≡ Int (pos 0)) → Tells (get b.variants v) found
-    released_told rows found listed read alone =
-        let is = are_listed shows_variant (is_variant v) any_order any_order_total (map row_of b.variants.rows) t.variants rows stands.variants
-        (subst (IsAscending (λ x y. any_order x y ≡ Less)) (sym one_row) (one_rises (get b.variants v))) listed ∙ ap (map shows_variant) one_row in
-        subst (Tells (get b.variants v)) (sym (read ∙ ap (λ rs. option_map released_shown (slice_get rs 0)) is))
-        (by_variant (get b.variants v) (subst (λ rs. IfSome (slice_get rs 0) (λ r. column r 4 ≡ Int (pos 0))) is alone))

@@ -1,5 +1,5 @@
 -- What the statements on signals do.
-use Rattle.std.proofs.Common.{◌≡◌, ℕ, List, [], ◌∷◌, codes, lit≤, Ok, Err, Result, MatchResult, ◌==◌, length, bytes_eq, inl, inr, refl}
+use Rattle.std.proofs.Common.{◌≡◌, ℕ, List, [], ◌∷◌, codes, lit≤, Ok, Err, Result, MatchResult, ◌==◌, length, inl, inr, refl}
 use Rattle.std.proofs.lemmas.Bool.{cases_Bool}
 use Rattle.sqlite.specs.declared.types.Value.TheVariants.{Null, Text}
 use Rattle.sqlite.specs.declared.error.Error.{Error}
@@ -20,7 +20,7 @@ use Rattle.fr_store.specs.Schema.{register_schema, signals}
 use Rattle.fr_store.specs.Rows.{SignalRow, of_signal, signal_in}
 use Rattle.fr_store.specs.Tables.{HasTables}
 use Rattle.fr_store.specs.Changes.{Changes, Stays, Copies}
-use Rattle.fr_store.specs.Statements.{with_signal, without_signal, with_signals, signal_for, signals_for, is_signal, is_signalled_by, shows_signal, signals_cmp}
+use Rattle.fr_store.specs.Statements.{with_signal, without_signal, with_signals, signal_for, signal_copies, is_signal, is_signal_of, is_signalled_by, shows_signal, signals_cmp}
 use Rattle.fr_store.proofs.Compared.{equal_texts, cast_null, cast_integer}
 use Rattle.fr_store.proofs.InsertLemmas.{Adds, adds, added}
 use Rattle.fr_store.proofs.RemoveLemmas.{Removes, removes}
@@ -75,28 +75,29 @@ deletes variant supplier frame name old new (Err e) was h = stays_inside delete_
 deletes variant supplier frame name old new (Ok count) was h =
     let did = removes of_signal signal_in _ signals delete_text _ (delete_is variant supplier frame name) old new count was.schema was.signals h.0 in signals_made old new was _ did.0 did.1
 
-abbrev copy_text : List ℕ
-copy_text = codes "INSERT INTO signals (variant, supplier, frame, name, start, length, big) SELECT ?2, supplier, frame, name, start, length, big FROM signals WHERE variant = ?1"
-
 copy_idle : (news : List Row) → works register_schema Enforced 0 15 [] news ≡ []
 unfolding everything
 copy_idle news = elim (cases_Bool (length news == 0)) [ inl none ↦ rw none | inr some ↦ rw some ]
 
-copy_is : (parent child : List ℕ) → CopiesBy of_signal signal_in (λ x. bytes_eq x.variant parent) (signal_for child) signals.name signals.tree signals.columns signals.key signals.primary signals.uniques signals.checks signals.references copy_text (Text parent ∷ Text child ∷ [])
+abbrev copy_one_text : List ℕ
+copy_one_text = codes "INSERT INTO signals (variant, supplier, frame, name, start, length, big) SELECT ?2, supplier, frame, name, start, length, big FROM signals WHERE variant = ?1 AND supplier = ?3 AND frame = ?4"
+
+copy_one_is : (from to supplier frame : List ℕ)
+    → CopiesBy of_signal signal_in (is_signal_of from supplier frame) (signal_for to) signals.name signals.tree signals.columns signals.key signals.primary signals.uniques signals.checks signals.references copy_one_text (Text from ∷ Text to ∷ Text supplier ∷ Text frame ∷ [])
 unfolding understood everything
-copy_is parent child = record {
-  tests = op2 (Compare Eq Binary) (col 1 1) (col 0 0) ∷ [];
+copy_one_is from to supplier frame = record {
+  tests = op2 (Compare Eq Binary) (col 1 1) (col 0 0) ∷ op2 (Compare Eq Binary) (col 1 2) (col 0 2) ∷ op2 (Compare Eq Binary) (col 1 3) (col 0 3) ∷ [];
   project = lit Null ∷ col 0 1 ∷ col 1 2 ∷ col 1 3 ∷ col 1 4 ∷ col 1 5 ∷ col 1 6 ∷ col 1 7 ∷ [];
   is = record { at = 8; by = Binary ∷ Binary ∷ Binary ∷ Binary ∷ Binary ∷ Binary ∷ Binary ∷ Binary ∷ []; is = refl; plain = (refl, refl); place = refl; bare = refl; stored = λ db. refl; idle = copy_idle };
-  tested = λ p. rw (equal_texts p.1.variant parent, and_true);
+  tested = λ p. rw (equal_texts p.1.variant from, equal_texts p.1.supplier supplier, equal_texts p.1.frame frame, and_true);
   gives = λ p. rw (cast_null, cast_integer p.1.start, cast_integer p.1.length, cast_integer p.1.big);
 }
 
-pub copies : (parent child : List ℕ) (old new : State) (r : Result ℕ Error) → HasTables old.now → ExecutesInside 0 copy_text (Text parent ∷ Text child ∷ []) old new r
-    → MatchResult r (λ _. Copies (signals_for parent child) with_signals old new) (λ _. Stays old new)
-copies parent child old new (Err e) was h = stays_inside copy_text _ old new e h
-copies parent child old new (Ok count) was h =
-    let did = makes_copies of_signal signal_in _ _ signals.name signals.tree signals.columns signals.key signals.primary signals.uniques signals.checks signals.references copy_text _ (copy_is parent child) (λ id x. refl) old new count was.schema was.signals h.0 in
+pub copies_one : (from to supplier frame : List ℕ) (old new : State) (r : Result ℕ Error) → HasTables old.now → ExecutesInside 0 copy_one_text (Text from ∷ Text to ∷ Text supplier ∷ Text frame ∷ []) old new r
+    → MatchResult r (λ _. Copies (signal_copies from to supplier frame) with_signals old new) (λ _. Stays old new)
+copies_one from to supplier frame old new (Err e) was h = stays_inside copy_one_text _ old new e h
+copies_one from to supplier frame old new (Ok count) was h =
+    let did = makes_copies of_signal signal_in _ _ signals.name signals.tree signals.columns signals.key signals.primary signals.uniques signals.checks signals.references copy_one_text _ (copy_one_is from to supplier frame) (λ id x. refl) old new count was.schema was.signals h.0 in
     record { copies = did.copied; same = did.same; added = signals_made old new was _ did.wrote did.made }
 
 abbrev pub select_text : List ℕ

@@ -74,7 +74,7 @@ starts_rise (x ∷ xs) h = (
 )
 
 module _ (v s f : Name) where
-  signals_test : (w : Name) (e : Entry) → filter (is_signal_of v s f) (signal_rows w e) ≡ cond (is_it v s f w e.0) (signal_rows w e) []
+  pub signals_test : (w : Name) (e : Entry) → filter (is_signal_of v s f) (signal_rows w e) ≡ cond (is_it v s f w e.0) (signal_rows w e) []
   signals_test w e =
       filter-map (is_signal_of v s f) (signal_row w e.0.0 e.0.1) e.1.signals ∙ ap (map (signal_row w e.0.0 e.0.1)) (all_or_none (is_it v s f w e.0) e.1.signals) ∙ inside (is_it v s f w e.0)
     where

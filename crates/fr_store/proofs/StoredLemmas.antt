@@ -1,5 +1,5 @@
 -- How a variant is stored stays so where another one changes or is new.
-use Rattle.std.proofs.Common.{◌≡◌, ℕ, suc, pos, Bool, true, false, None, Some, Option, List, IsTrue, refl, sym, ap, ◌∙◌, subst}
+use Rattle.std.proofs.Common.{◌≡◌, ℕ, suc, Bool, true, false, None, Some, Option, List, IsTrue, refl, sym, ap, ◌∙◌, subst}
 use Rattle.std.specs.Ordering.{eq_by_cmp}
 use Rattle.fr_base.specs.Tables.{Table, get, insert}
 use Rattle.fr_base.specs.Keys.{names}
@@ -10,9 +10,7 @@ use Rattle.fr_base.proofs.SoundTables.{same_some, same_key}
 use Rattle.fr_base.proofs.TableLaws.{equal, get-insert, same_table}
 use Rattle.fr_store.specs.Rows.{DroppedRow}
 use Rattle.fr_store.specs.Tables.{Tables}
-use Rattle.fr_store.specs.StandsFor.{StandsFor, Stored, HasItsParent, IsAsStored, of_parent, own_or, is_hidden, seen, flag, variant_row}
-use Rattle.fr_store.specs.Whole.{IsWhole}
-use Rattle.fr_store.proofs.EntryLemmas.{holds_of}
+use Rattle.fr_store.specs.StandsFor.{StandsFor, Stored, HasItsParent, IsAsStored, of_parent, own_or, is_hidden, seen}
 
 -- the variant is the same but for its grants and its release
 pub record IsStill (x y : Variant) : Type 0 where
@@ -85,16 +83,9 @@ module _ (dropped : List DroppedRow) (vs ws : Table names Variant) (more : Exten
         by_start = λ k f there. h.by_start k f (ap (λ frames. get frames k) (sym still.frames) ∙ there);
       }
 
--- ---- a variant that is stored whole
+-- ---- a variant that is not stored over its parent
 
-flag_off : (is : Bool) → flag is ≡ pos 0 → is ≡ false
-flag_off true e = absurd cc
-flag_off false e = refl
-
-module _ (t : Tables) (c : Cluster) (b : Book) (stands : StandsFor t c b) (v : Name) (x : Variant) (there : get b.variants v ≡ Some x) (whole : IsWhole v t) where
-  pub not_over : (stands.stored v).overlay ≡ false
-  not_over = flag_off (stands.stored v).overlay (holds_of names b.variants v x x there (variant_row stands.stored) t.variants stands.variants (λ r. r.name ≡ v → r.overlay ≡ pos 0) whole refl)
-
+module _ (t : Tables) (c : Cluster) (b : Book) (stands : StandsFor t c b) (v : Name) (x : Variant) (there : get b.variants v ≡ Some x) (not_over : (stands.stored v).overlay ≡ false) where
   own_alone : (o inherited : Option Frame) (hidden : Bool) → hidden ≡ true → own_or o hidden inherited ≡ o
   own_alone (Some f) inherited hidden h = refl
   own_alone None inherited hidden h = rw h refl

@@ -1,5 +1,5 @@
 -- An edit of one frame, carried out in the tables.
-use Rattle.std.specs.Prelude.{◌≡◌, false, Option, Some, is_some, IsTrue, Result, OnOk}
+use Rattle.std.specs.Prelude.{◌≡◌, false, Option, Some, is_some, IsTrue, Result, OnOk, ⊤}
 use Rattle.sqlite.specs.State.{State, HasCleanDisk}
 use Rattle.fr_base.specs.Tables.{get, contains}
 use Rattle.fr_base.specs.Cluster.{Cluster}
@@ -7,19 +7,14 @@ use Rattle.fr_base.specs.Book.{Frame, Variant, Book}
 use Rattle.fr_base.specs.declared.name.Name.{Name}
 use Rattle.fr_base.specs.declared.request.Change.TheVariants.{Frame as OfFrame}
 use Rattle.fr_base.specs.declared.request.FrameChange.{FrameChange}
-use Rattle.fr_base.specs.declared.request.FrameChange.TheVariants.{Add, Place}
+use Rattle.fr_base.specs.declared.request.FrameChange.TheVariants.{Add, Drop, Place}
 use Rattle.fr_world.specs.BookEdits.{applied}
+use Rattle.fr_world.specs.Fits.{IsOpen}
 use Rattle.fr_world.specs.declared.edit.Edit.TheVariants.{Rows}
 use Rattle.fr_store.specs.Changes.{tables_of}
 use Rattle.fr_store.specs.Reading.{Stands}
 use Rattle.fr_store.specs.Tables.{Tables}
-use Rattle.fr_store.specs.Whole.{IsWhole}
-
--- the variant is there, it is open, and it is stored whole
-pub record IsOpenWhole (v : Name) (x : Variant) (t : Tables) (b : Book) : Type 0 where
-  pub there : get b.variants v ≡ Some x
-  pub unreleased : x.released ≡ false
-  pub whole : IsWhole v t
+use Rattle.fr_store.specs.Owning.{is_own}
 
 -- a frame and a placement that are added are new, and a frame that is changed or dropped is there; `there` is what stands at the frame's name
 abbrev pub FitsAt : Option Frame → FrameChange → Type 0
@@ -27,8 +22,21 @@ FitsAt there (Add node) = is_some there ≡ false
 FitsAt (Some frame) (Place q) = contains frame.placements q ≡ false
 FitsAt there what = IsTrue (is_some there)
 
--- A statement inside a transaction makes this change of the supplier's frame in the variant, or it fails.
+-- a frame whose placements or signals change is the variant's own
+abbrev pub OwnIfChanged : FrameChange → Name → Name → Name → Tables → Type 0
+OwnIfChanged (Add node) v s f t = ⊤
+OwnIfChanged Drop v s f t = ⊤
+OwnIfChanged what v s f t = IsTrue (is_own v s f t)
+
+-- Statements inside a transaction make this change of the supplier's frame in the open variant, or fail.
 abbrev pub EditsFrame : {X E : Type 0} → Name → Name → Name → FrameChange → State → State → Result X E → Type 0
 EditsFrame v s f what old new r =
-    HasCleanDisk new → IsTrue old.in_transaction → (c : Cluster) (b : Book) (x : Variant) → Stands old c b → IsOpenWhole v x (tables_of old) b → FitsAt (get x.frames (s, f)) what
+    HasCleanDisk new → IsTrue old.in_transaction → (c : Cluster) (b : Book) (x : Variant) → Stands old c b → IsOpen b v x → FitsAt (get x.frames (s, f)) what → OwnIfChanged what v s f (tables_of old)
     → OnOk r (Stands new c (applied b (Rows s v (OfFrame f what))))
+
+-- Statements inside a transaction make the frame the open variant's own, where the change is of its placements or signals, and what the
+-- tables stand for stays; or one fails.
+abbrev pub OwnsChanged : {X E : Type 0} → Name → Name → Name → FrameChange → State → State → Result X E → Type 0
+OwnsChanged v s f what old new r =
+    HasCleanDisk new → IsTrue old.in_transaction → (c : Cluster) (b : Book) (x : Variant) → Stands old c b → IsOpen b v x → FitsAt (get x.frames (s, f)) what
+    → OnOk r (Stands new c b × OwnIfChanged what v s f (tables_of new))

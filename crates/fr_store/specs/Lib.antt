@@ -10,7 +10,7 @@ pub mod Filling
 pub mod Store
 pub mod StoreFiles
 pub mod StandsFor
-pub mod Whole
+pub mod Owning
 pub mod Applying
 pub mod Reading
 pub mod FrameEdits

@@ -20,6 +20,9 @@ cluster_text = codes "SELECT static_slots, slot_macroticks, dynamic_macroticks, 
 abbrev pub suppliers_text : List ℕ
 suppliers_text = codes "SELECT name, key FROM suppliers ORDER BY name"
 
+abbrev pub variants_text : List ℕ
+variants_text = codes "SELECT name, parent, depth, released, overlay FROM variants ORDER BY name"
+
 abbrev pub numbered : ℤ → RegisterRow
 numbered n = record { schema = n }
 

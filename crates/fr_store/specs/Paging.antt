@@ -1,5 +1,5 @@
 -- What is read of a supplier's rows in a variant.
-use Rattle.std.specs.Prelude.{◌≡◌, pos, Bool, false, List, option_map, Option, Some, None, Result, MatchResult, MatchOption, nat_abs, unwrap_or, if◌then◌else◌}
+use Rattle.std.specs.Prelude.{◌≡◌, pos, List, option_map, Option, Some, None, Result, MatchResult, MatchOption, nat_abs, unwrap_or, if◌then◌else◌}
 use Rattle.std.specs.Ordering.{int_eq}
 use Rattle.sqlite.specs.Order.{Row, column}
 use Rattle.sqlite.specs.State.{State, HasCleanDisk, IsUnchanged}
@@ -17,29 +17,35 @@ use Rattle.fr_base.specs.Signals.{SignalData}
 use Rattle.fr_base.specs.Step.{own_rows, layout_of}
 use Rattle.fr_base.specs.declared.placement.Placement.{Placement}
 use Rattle.fr_world.specs.Maps.{table_of, set_of}
-use Rattle.fr_world.specs.Pages.{FrameData, PageData, frame_of, holder_of, own_rows_of, page_in}
+use Rattle.fr_world.specs.Pages.{FrameData, PageData, frame_of, frames_data, holder_of, own_rows_of, page_in}
 use Rattle.fr_world.specs.declared.page.ChannelSlot.{ChannelSlot}
-use Rattle.fr_store.specs.Rows.{words, number}
+use Rattle.fr_store.specs.Rows.{words, maybe_words, number}
 use Rattle.fr_store.specs.Tables.{Tables, HasTables}
 use Rattle.fr_store.specs.Changes.{Stays, AreListed, tables_of}
 use Rattle.fr_store.specs.Statements.{is_frame_of, shows_frame, frames_cmp, is_placed_by, shows_placement, placements_cmp, is_signalled_by, shows_signal, signals_cmp}
-use Rattle.fr_store.specs.StandsFor.{StandsFor}
+use Rattle.fr_store.specs.StandsFor.{Stored, StandsFor}
 use Rattle.fr_store.specs.declared.page.frames.FrameRows.{FrameRows}
+use Rattle.fr_store.specs.declared.page.view.Level.{Level}
+use Rattle.fr_store.specs.declared.page.view.View.{View}
 
 -- A call that reads says this of the tables and leaves them, or it fails.
 abbrev pub Reads : {X E : Type 0} → (Tables → X → Type 0) → State → State → Result X E → Type 0
 Reads says old new r = HasCleanDisk new → HasTables old.now → MatchResult r (λ x. says (tables_of old) x × IsUnchanged old new) (λ _. Stays old new)
 
--- ---- the variant
+-- ---- a variant's row
 
-abbrev pub released_shown : Row → Bool
-released_shown r = int_eq (number (column r 3)) (pos 1)
+-- the parent over which the variant is laid, if it is over one: whose frames it shows too
+abbrev pub laid_over : Stored → Variant → Option Name
+laid_over stored x = if stored.overlay then x.parent else None
 
--- whether the variant is released, if it is there; and it is stored without its parent's rows
-abbrev pub TellsReleased : Name → Tables → Option Bool → Type 0
-TellsReleased v t found =
+abbrev pub level_shown : Row → Level
+level_shown r = record { released = int_eq (number (column r 3)) (pos 1); parent = if int_eq (number (column r 4)) (pos 1) then maybe_words (column r 1) else None }
+
+-- whether the variant is released, and over which parent it is laid, if it is there
+abbrev pub TellsLevel : Name → Tables → Option Level → Type 0
+TellsLevel v t found =
     (c : Cluster) (b : Book) (stands : StandsFor t c b)
-    → MatchOption found (get b.variants v ≡ None) (λ is. (x : Variant) × (get b.variants v ≡ Some x) × (x.released ≡ is) × ((stands.stored v).overlay ≡ false))
+    → MatchOption found (get b.variants v ≡ None) (λ level. (x : Variant) × (get b.variants v ≡ Some x) × (level.released ≡ x.released) × (level.parent ≡ laid_over (stands.stored v) x))
 
 -- ---- nodes and grants
 
@@ -96,6 +102,24 @@ node_shown r = words (column r 1)
 abbrev pub TellsFrames : Name → Name → Tables → List (Name × FrameData) → Type 0
 TellsFrames v s t frames =
     (c : Cluster) (b : Book) (stands : StandsFor t c b) (x : Variant) → get b.variants v ≡ Some x → table_of owned (λ f. (s, f)) frame_of frames ≡ own s (stands.stored v).own
+
+-- ---- the frames that a variant shows
+
+-- these are the supplier's frames in the variant
+abbrev pub AreFramesIn : Name → Variant → List (Name × FrameData) → Type 0
+AreFramesIn s x frames = table_of owned (λ f. (s, f)) frame_of frames ≡ own s x.frames
+
+-- where the first are the supplier's frames in the parent over which the variant is laid, the others are those in the variant
+abbrev pub TellsOver : Name → Name → Name → List (Name × FrameData) → Tables → List (Name × FrameData) → Type 0
+TellsOver v s parent inherited t frames =
+    (c : Cluster) (b : Book) (stands : StandsFor t c b) (x y : Variant) → get b.variants v ≡ Some x → laid_over (stands.stored v) x ≡ Some parent → get b.variants parent ≡ Some y
+    → AreFramesIn s y inherited → AreFramesIn s x frames
+
+-- whether the variant is released, and these are the supplier's frames in it, if it is there
+abbrev pub TellsView : Name → Name → Tables → Option View → Type 0
+TellsView v s t found =
+    (c : Cluster) (b : Book) → StandsFor t c b
+    → MatchOption found (get b.variants v ≡ None) (λ view. (x : Variant) × (get b.variants v ≡ Some x) × (view.released ≡ x.released) × AreFramesIn s x (frames_data view.frames.entries))
 
 -- ---- the page
 

@@ -1,5 +1,5 @@
 -- What is read of the book for which the tables stand.
-use Rattle.std.specs.Prelude.{ℕ, pos, Option, Some, None, Result, IfOk, nat_abs}
+use Rattle.std.specs.Prelude.{◌≡◌, ◌≤◌, ℕ, pos, List, length, map, All, Option, Some, None, Result, Ok, IfOk, nat_abs}
 use Rattle.std.specs.Ordering.{int_eq}
 use Rattle.sqlite.specs.Order.{Row, column}
 use Rattle.sqlite.specs.State.{State, HasCleanDisk}
@@ -8,11 +8,14 @@ use Rattle.fr_base.specs.Cluster.{Cluster}
 use Rattle.fr_base.specs.Book as book
 use Rattle.fr_base.specs.Book.{Book, Variant}
 use Rattle.fr_base.specs.declared.channel.Channel.{Channel}
+use Rattle.fr_base.specs.declared.limits.TheConstants.{MAX_VARIANTS}
 use Rattle.fr_base.specs.declared.name.Name.{Name}
+use Rattle.fr_world.specs.Common.{depth_after}
 use Rattle.fr_world.specs.declared.variants.VariantRow.{VariantRow}
 use Rattle.fr_store.specs.Rows.{words, number, bytes, maybe_words}
-use Rattle.fr_store.specs.Tables.{HasTables}
-use Rattle.fr_store.specs.Changes.{Stays, tables_of}
+use Rattle.fr_store.specs.Tables.{Tables, HasTables}
+use Rattle.fr_store.specs.Changes.{Stays, AreListed, tables_of}
+use Rattle.fr_store.specs.Statements.{shows_variant, every, variants_cmp}
 use Rattle.fr_store.specs.StandsFor.{StandsFor}
 use Rattle.fr_store.specs.declared.slot_holder.Holder.{Holder}
 
@@ -60,3 +63,18 @@ held_in (Some x) at = get x.grants at
 
 abbrev pub holder_in : Book → Name → ℕ × Channel → Option book.Holder
 holder_in b v at = held_in (get b.variants v) at
+
+-- ---- which variants a register can have, whoever wrote its rows
+
+-- the variant is as deep as one that is opened from its parent, or from none
+abbrev pub WasOpened : List VariantRow → VariantRow → Type 0
+WasOpened variants row = depth_after variants row.parent ≡ Ok row.depth
+
+-- no more than may be, each opened empty or from one of them
+pub record AreOpened (variants : List VariantRow) : Type 0 where
+  pub limit : length variants ≤ MAX_VARIANTS
+  pub each : All (WasOpened variants) variants
+
+-- the variants of which the tables tell are such
+abbrev pub TellsOpened : Tables → Type 0
+TellsOpened t = (rows : List Row) × AreListed shows_variant every variants_cmp t.variants rows × AreOpened (map variant_shown rows)

@@ -168,8 +168,9 @@ frames_cmp = on (λ f. f.name) text_cmp
 abbrev pub frame_for : List ℕ → FrameRow → FrameRow
 frame_for variant f = record f { variant = variant }
 
-abbrev pub frames_for : List ℕ → List ℕ → Tables → List FrameRow
-frames_for parent child t = map (frame_for child) (filter (λ f. bytes_eq f.variant parent) t.frames)
+-- the row of one frame of the one variant, for the other
+abbrev pub frame_copies : List ℕ → List ℕ → List ℕ → List ℕ → Tables → List FrameRow
+frame_copies from to supplier name t = map (frame_for to) (filter (is_frame from supplier name) t.frames)
 
 -- ---- placements
 
@@ -212,8 +213,9 @@ placements_cmp =
 abbrev pub placement_for : List ℕ → PlacementRow → PlacementRow
 placement_for variant p = record p { variant = variant }
 
-abbrev pub placements_for : List ℕ → List ℕ → Tables → List PlacementRow
-placements_for parent child t = map (placement_for child) (filter (λ p. bytes_eq p.variant parent) t.placements)
+-- the placements of one frame of the one variant, for the other
+abbrev pub placement_copies : List ℕ → List ℕ → List ℕ → List ℕ → Tables → List PlacementRow
+placement_copies from to supplier frame t = map (placement_for to) (filter (is_placement_of from supplier frame) t.placements)
 
 -- ---- signals
 
@@ -257,8 +259,9 @@ signals_cmp = then_cmp (on (λ s. s.frame) text_cmp) (on (λ s. s.name) text_cmp
 abbrev pub signal_for : List ℕ → SignalRow → SignalRow
 signal_for variant s = record s { variant = variant }
 
-abbrev pub signals_for : List ℕ → List ℕ → Tables → List SignalRow
-signals_for parent child t = map (signal_for child) (filter (λ s. bytes_eq s.variant parent) t.signals)
+-- the signals of one frame of the one variant, for the other
+abbrev pub signal_copies : List ℕ → List ℕ → List ℕ → List ℕ → Tables → List SignalRow
+signal_copies from to supplier frame t = map (signal_for to) (filter (is_signal_of from supplier frame) t.signals)
 
 -- ---- imports
 

@@ -12,7 +12,8 @@ ghost use Rattle.fr_store.specs.Tables.{HasTables};
 ghost use Rattle.fr_store.specs.declared.fault.StoreFault.TheVariants.{Unavailable};
 
 use crate::applying::edits::carry_out;
-use crate::applying::whole::see_whole;
+use crate::applying::ready::make_ready;
+use crate::applying::seen::{Seen, see_variant};
 use crate::fault::StoreFault;
 use crate::store::Store;
 use fr_world::Edit;
@@ -26,10 +27,14 @@ fn all<S: Alter>(tx: &mut Transaction<'_, S>, edits: &[Edit]) -> Result<(), Stor
     ensures refused { IfErr result (λ fault. fault ≡ Unavailable) }
     ensures survives { Survives (state S.Store tx.old.conn.now) (state S.Store tx.new.conn.now) (λ _. ⊥) }
 {
-    let mut whole = None;
+    let mut seen = Seen {
+        variant: None,
+        overlay: false,
+    };
     for edit in edits {
-        whole = see_whole(tx, whole, edit)?;
-        let Ok(_) = carry_out(tx, edit) else {
+        seen = see_variant(tx, seen, edit)?;
+        make_ready(tx, edit, seen.overlay)?;
+        let Ok(_) = carry_out(tx, edit, seen.overlay) else {
             return Err(StoreFault::Unavailable);
         };
     }

@@ -14,8 +14,11 @@ pub mod edits;
 pub mod frames;
 pub mod grants;
 pub mod imports;
+pub mod level;
+pub mod owning;
+pub mod ready;
+pub mod seen;
 pub mod variants;
-pub mod whole;
 
 use crate::tables;
 use fr_base::Name;

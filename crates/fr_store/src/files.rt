@@ -11,7 +11,8 @@ ghost use Rattle.fr_store.specs.Schema.{register_schema};
 ghost use Rattle.fr_store.specs.Filling.{with_config};
 ghost use Rattle.fr_store.specs.Making.{no_rows};
 ghost use Rattle.fr_store.specs.Opening.{Explains};
-ghost use Rattle.fr_store.specs.Reading.{Stands};
+ghost use Rattle.fr_store.specs.Changes.{tables_of};
+ghost use Rattle.fr_store.specs.Reading.{Stands, TellsOpened};
 ghost use Rattle.fr_store.specs.Store.{AreOrdered, IsNewOf, IsRegisterOf, MayForbid};
 ghost use Rattle.fr_store.specs.StoreFiles.{HoldsRegister, KeepsBook, FindsBook, IsHeld, SurvivesSince, database_of};
 ghost use Rattle.fr_store.specs.Tables.{tables_in};
@@ -134,6 +135,7 @@ impl<D: Disk + Drop> Store<FileStore<D>> {
         ensures stands { IfOk result (λ s. HasCleanDisk (file_state s.conn) → IsTrue (file_state s.conn).is_open → IsRegisterOf s.config (file_state s.conn).now) }
         ensures opened { IfOk result (λ s. HasCleanDisk (file_state s.conn) → IsTrue (file_state s.conn).is_open → (c : _) (db : _) → HoldsRegister c (image_of D.Disk files) db
             → ((file_state s.conn).now ≡ database_of db) × ((file_state s.conn).committed ≡ database_of db)) }
+        ensures variants { IfOk result (λ s. HasCleanDisk (file_state s.conn) → IsTrue (file_state s.conn).is_open → TellsOpened (tables_of (file_state s.conn))) }
         ensures again { IfOk result (λ s. HasCleanDisk (file_state s.conn) → IsTrue (file_state s.conn).is_open → FindsBook (image_of D.Disk files) (file_state s.conn) s.config) }
         ensures honest { IfOk result (λ s. HasCleanDisk (file_state s.conn) → AreClean D.Disk files.log files.db) }
         ensures outside { IfOk result (λ s. s.conn.in_transaction ≡ false) }

@@ -7,16 +7,18 @@ ghost use Rattle.sqlite.specs.Held.{state};
 ghost use Rattle.sqlite_trees.specs.View.{doubt};
 ghost use Rattle.fr_base.specs.Cluster.{IsWellFormed};
 ghost use Rattle.fr_store.specs.Schema.{register_schema};
-ghost use Rattle.fr_store.specs.Statements.{shows_register, cluster_row, shows_cluster, shows_supplier, every, any_order, suppliers_cmp};
+ghost use Rattle.fr_store.specs.Statements.{shows_register, cluster_row, shows_cluster, shows_supplier, shows_variant, every, any_order, suppliers_cmp, variants_cmp};
 ghost use Rattle.fr_store.specs.Filling.{supplier_row};
 ghost use Rattle.fr_store.specs.Tables.{HasTables};
 ghost use Rattle.fr_store.specs.Changes.{AreListed, tables_of};
+ghost use Rattle.fr_store.specs.Reading.{TellsOpened};
 ghost use Rattle.fr_store.specs.Store.{AreOrdered, IsRegisterOf, FindsAgain};
 ghost use Rattle.fr_store.specs.Making.{IsFresh};
-ghost use Rattle.fr_store.specs.Opening.{AreAsBefore, HasNumber, Explains, numbered, number_text, cluster_text, suppliers_text};
+ghost use Rattle.fr_store.specs.Opening.{AreAsBefore, HasNumber, Explains, numbered, number_text, cluster_text, suppliers_text, variants_text};
 ghost use Rattle.fr_store.specs.declared.fault.StoreFault.TheVariants as fault;
 
 use crate::fault::StoreFault;
+use crate::reading::opened_variants;
 use crate::schema::same_schema;
 use crate::store::Store;
 use crate::{cluster, making};
@@ -33,6 +35,7 @@ fn asked<S: Alter>(conn: &mut Connection<S>, sql: &str) -> Result<Vec<Row>, Erro
     ensures told { HasCleanDisk (state S.Store conn.new) → sql.now ≡ number_text → HasTables (state S.Store conn.old).now → IfErr result (λ e. (x : _) → e ≢ SqlInputError x) }
     ensures cluster { HasCleanDisk (state S.Store conn.new) → sql.now ≡ cluster_text → HasTables (state S.Store conn.old).now → IfOk result (λ rows. AreListed shows_cluster every any_order (tables_of (state S.Store conn.old)).cluster rows.items) }
     ensures suppliers { HasCleanDisk (state S.Store conn.new) → sql.now ≡ suppliers_text → HasTables (state S.Store conn.old).now → IfOk result (λ rows. AreListed shows_supplier every suppliers_cmp (tables_of (state S.Store conn.old)).suppliers rows.items) }
+    ensures variants { HasCleanDisk (state S.Store conn.new) → sql.now ≡ variants_text → HasTables (state S.Store conn.old).now → IfOk result (λ rows. AreListed shows_variant every variants_cmp (tables_of (state S.Store conn.old)).variants rows.items) }
     ensures same { HasCleanDisk (state S.Store conn.new) → AreAsBefore (state S.Store conn.old) (state S.Store conn.new) }
     ensures autocommit { conn.new.in_transaction ≡ false }
     ensures survives { Survives (state S.Store conn.old) (state S.Store conn.new) (λ _. ⊥) }
@@ -101,11 +104,31 @@ fn is_ours(alloc: Global, schema: &Schema) -> bool
     }
 }
 
-/// The cluster of which the tables tell. None, if their rows make none, or for want of memory.
+/// Whether the variants of which the tables tell are such as were opened one from the other. Want of memory is
+/// told as false.
+fn has_opened_variants<S: Alter>(alloc: Global, conn: &mut Connection<S>) -> bool
+    requires { conn.old.in_transaction ≡ false }
+    ensures opened { HasCleanDisk (state S.Store conn.new) → IsTrue (state S.Store conn.new).is_open → HasTables (state S.Store conn.new).now → IsTrue result → TellsOpened (tables_of (state S.Store conn.new)) }
+    ensures same { HasCleanDisk (state S.Store conn.new) → AreAsBefore (state S.Store conn.old) (state S.Store conn.new) }
+    ensures autocommit { conn.new.in_transaction ≡ false }
+    ensures survives { Survives (state S.Store conn.old) (state S.Store conn.new) (λ _. ⊥) }
+{
+    match asked(
+        conn,
+        "SELECT name, parent, depth, released, overlay FROM variants ORDER BY name",
+    ) {
+        Ok(rows) => opened_variants(alloc, rows.as_slice()).is_some(),
+        Err(_) => false,
+    }
+}
+
+/// The cluster of which the tables tell. None, if their rows make none, if no register has their variants, or for want
+/// of memory.
 fn config<S: Alter>(alloc: Global, conn: &mut Connection<S>) -> Option<Config>
     requires { conn.old.in_transaction ≡ false }
     ensures cluster { HasCleanDisk (state S.Store conn.new) → IsTrue (state S.Store conn.new).is_open → HasTables (state S.Store conn.old).now → IfSome result (λ c. (tables_of (state S.Store conn.old)).cluster ≡ cluster_row c.params c.integrator ∷ []) }
     ensures suppliers { HasCleanDisk (state S.Store conn.new) → IsTrue (state S.Store conn.new).is_open → HasTables (state S.Store conn.old).now → IfSome result (λ c. IsPermutation (map supplier_row c.suppliers) (tables_of (state S.Store conn.old)).suppliers) }
+    ensures variants { HasCleanDisk (state S.Store conn.new) → IsTrue (state S.Store conn.new).is_open → HasTables (state S.Store conn.new).now → IfSome result (λ _. TellsOpened (tables_of (state S.Store conn.new))) }
     ensures formed { IfSome result IsWellFormed }
     ensures same { HasCleanDisk (state S.Store conn.new) → AreAsBefore (state S.Store conn.old) (state S.Store conn.new) }
     ensures autocommit { conn.new.in_transaction ≡ false }
@@ -120,6 +143,9 @@ fn config<S: Alter>(alloc: Global, conn: &mut Connection<S>) -> Option<Config>
     let Ok(suppliers) = asked(conn, "SELECT name, key FROM suppliers ORDER BY name") else {
         return None;
     };
+    if !has_opened_variants(alloc, conn) {
+        return None;
+    }
     cluster::read(alloc, cluster.as_slice(), suppliers.as_slice())
 }
 
@@ -131,6 +157,7 @@ fn recognized<S: Alter>(alloc: Global, conn: &mut Connection<S>) -> Result<Confi
     ensures formed { IfOk result IsWellFormed }
     ensures ours { OnOk result ((state S.Store conn.new).now.schema ≡ register_schema) }
     ensures stands { HasCleanDisk (state S.Store conn.new) → IsTrue (state S.Store conn.new).is_open → AreOrdered (state S.Store conn.old).now.trees → IfOk result (λ c. IsRegisterOf c (state S.Store conn.new).now) }
+    ensures variants { HasCleanDisk (state S.Store conn.new) → IsTrue (state S.Store conn.new).is_open → HasTables (state S.Store conn.new).now → OnOk result (TellsOpened (tables_of (state S.Store conn.new))) }
     ensures told { HasCleanDisk (state S.Store conn.new) → IfErr result (Explains (state S.Store conn.old).now) }
     ensures not_made { IfErr result (λ e. e ≢ fault.NotEmpty) }
     ensures same { HasCleanDisk (state S.Store conn.new) → AreAsBefore (state S.Store conn.old) (state S.Store conn.new) }
@@ -162,6 +189,7 @@ impl<S: Alter + Drop> Store<S> {
         ensures opened { IfOk result (λ s. HasCleanDisk (state S.Store s.conn) → AreAsBefore (state S.Store conn) (state S.Store s.conn)) }
         ensures ours { IfOk result (λ s. (state S.Store s.conn).now.schema ≡ register_schema) }
         ensures stands { IfOk result (λ s. HasCleanDisk (state S.Store s.conn) → IsTrue (state S.Store s.conn).is_open → AreOrdered (state S.Store conn).now.trees → IsRegisterOf s.config (state S.Store s.conn).now) }
+        ensures variants { IfOk result (λ s. HasCleanDisk (state S.Store s.conn) → IsTrue (state S.Store s.conn).is_open → HasTables (state S.Store s.conn).now → TellsOpened (tables_of (state S.Store s.conn))) }
         ensures again { IfOk result (λ s. HasCleanDisk (state S.Store s.conn) → IsTrue (state S.Store s.conn).is_open → FindsAgain (state S.Store conn) (state S.Store s.conn) s.config) }
         ensures outside { IfOk result (λ s. s.conn.in_transaction ≡ false) }
         ensures survives { IfOk result (λ s. Survives (state S.Store conn) (state S.Store s.conn) (λ _. ⊥)) }

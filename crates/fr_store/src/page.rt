@@ -1,28 +1,27 @@
 //! A supplier's page of a variant, from its rows in the tables.
 
-ghost use Rattle.std.specs.Prelude.{◌≡◌, map, option_map, pos, reverse, slice_get, IfErr, IfOk, IfSome};
+ghost use Rattle.std.specs.Prelude.{◌≡◌, map, option_map, reverse, IfErr, IfOk, IfSome};
 ghost use Rattle.sqlite.specs.Held.{state};
-ghost use Rattle.sqlite.specs.Order.{column};
-ghost use Rattle.sqlite.specs.declared.types.Value.TheVariants.{Int};
 ghost use Rattle.fr_base.specs.Keys.{owned, channel_slots};
 ghost use Rattle.fr_world.specs.Maps.{set_of, table_of};
 ghost use Rattle.fr_world.specs.Pages.{holder_of, rows_data};
 ghost use Rattle.fr_store.specs.Changes.{Spares};
-ghost use Rattle.fr_store.specs.Paging.{Reads, TellsReleased, TellsNodes, TellsGrants, TellsRows, released_shown, grant_shown, page_of};
+ghost use Rattle.fr_store.specs.Paging.{Reads, TellsNodes, TellsGrants, TellsRows, grant_shown, page_of};
 ghost use Rattle.fr_store.specs.Reading.{Leaves, Tells, name_shown};
 ghost use Rattle.fr_store.specs.declared.fault.StoreFault.TheVariants.{Unavailable};
 
 mod frames;
+mod view;
 
 use crate::fault::StoreFault;
 use crate::tables;
-use crate::values::{channel_at, flag_at, name_at, slot_at};
-use fr_base::{Name, Params};
+use crate::values::{channel_at, name_at, slot_at};
+use fr_base::{MAX_DEPTH, Name, Params};
 use fr_world::{ChannelSlot, Page, PageRows};
-use frames::own_frames;
 use sqlite::{Alter, Connection, Row};
 use std::alloc::Global;
 use std::collections::{BTreeMap, BTreeSet};
+use view::{View, view_of};
 
 /// The supplier's page of the variant, if the variant is there. The only refusal is `Unavailable`.
 pub fn page<S: Alter>(
@@ -60,7 +59,10 @@ fn rows<S: Alter>(
     ensures refused { IfErr result (λ fault. fault ≡ Unavailable) }
     ensures spares { Spares (state S.Store conn.old) (state S.Store conn.new) }
 {
-    let Some(released) = released(conn, variant)? else {
+    let Some(View { released, frames }) = view_of(
+        alloc, conn, params, variant, supplier, MAX_DEPTH,
+    )?
+    else {
         return Ok(None);
     };
     Ok(Some(PageRows {
@@ -70,37 +72,8 @@ fn rows<S: Alter>(
         released,
         nodes: own_nodes(alloc, conn, supplier)?,
         grants: own_grants(alloc, conn, variant, supplier)?,
-        frames: own_frames(alloc, conn, params, variant, supplier)?,
+        frames,
     }))
-}
-
-// Whether the variant is released, if it is there. One that shows its parent's rows is `Unavailable`.
-fn released<S: Alter>(conn: &mut Connection<S>, variant: &Name) -> Result<Option<bool>, StoreFault>
-    ensures told { Reads (TellsReleased variant.now) (state S.Store conn.old) (state S.Store conn.new) result }
-    ensures refused { IfErr result (λ fault. fault ≡ Unavailable) }
-    ensures spares { Spares (state S.Store conn.old) (state S.Store conn.new) }
-{
-    let Ok(rows) = tables::variants::one(conn, variant) else {
-        return Err(StoreFault::Unavailable);
-    };
-    first_released(rows.as_slice()).ok_or(StoreFault::Unavailable)
-}
-
-// Whether the first row's variant is released, if there is one. None where the row has not its form, or
-// its variant shows its parent's rows.
-fn first_released(rows: &[Row]) -> Option<Option<bool>>
-    ensures found { IfSome result (λ found. found ≡ option_map released_shown (slice_get rows.now 0)) }
-    ensures alone { IfSome result (λ found. IfSome (slice_get rows.now 0) (λ r. column r 4 ≡ Int (pos 0))) }
-{
-    match rows.first() {
-        None => Some(None),
-        Some(row) => {
-            if flag_at(row, 4)? {
-                return None;
-            }
-            Some(Some(flag_at(row, 3)?))
-        }
-    }
 }
 
 // The supplier's nodes.

@@ -9,7 +9,8 @@ ghost use Rattle.fr_base.specs.Book.{opening};
 ghost use Rattle.fr_store.specs.Filling.{with_config};
 ghost use Rattle.fr_store.specs.Making.{no_rows};
 ghost use Rattle.fr_store.specs.Opening.{Explains};
-ghost use Rattle.fr_store.specs.Reading.{Stands};
+ghost use Rattle.fr_store.specs.Changes.{tables_of};
+ghost use Rattle.fr_store.specs.Reading.{Stands, TellsOpened};
 ghost use Rattle.fr_store.specs.Schema.{register_schema};
 ghost use Rattle.fr_store.specs.Store.{AreOrdered, IsNewOf, IsRegisterOf, MayForbid};
 ghost use Rattle.fr_store.specs.StoreFiles.{HoldsRegister, FindsBook, IsHeld, SurvivesSince, database_of, image_left};
@@ -96,6 +97,7 @@ impl<S: Start> Store<FileStore<FileFrom<S>>> {
         ensures stands { IfOk result (λ s. HasCleanDisk (file_state s.conn) → IsTrue (file_state s.conn).is_open → IsRegisterOf s.config (file_state s.conn).now) }
         ensures opened { IfOk result (λ s. HasCleanDisk (file_state s.conn) → IsTrue (file_state s.conn).is_open → (c : _) (db : _) → HoldsRegister c (image_at S.Start) db
             → ((file_state s.conn).now ≡ database_of db) × ((file_state s.conn).committed ≡ database_of db)) }
+        ensures variants { IfOk result (λ s. HasCleanDisk (file_state s.conn) → IsTrue (file_state s.conn).is_open → TellsOpened (tables_of (file_state s.conn))) }
         ensures again { IfOk result (λ s. HasCleanDisk (file_state s.conn) → IsTrue (file_state s.conn).is_open → FindsBook (image_at S.Start) (file_state s.conn) s.config) }
         ensures survives { IfOk result (λ s. SurvivesSince (image_at S.Start) s.conn (λ _. ⊥)) }
         ensures outside { IfOk result (λ s. s.conn.in_transaction ≡ false) }

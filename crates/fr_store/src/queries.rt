@@ -9,7 +9,7 @@ ghost use Rattle.fr_world.specs.ImportLabels.{kept_of};
 ghost use Rattle.fr_world.specs.Pages.{nodes_in};
 ghost use Rattle.fr_store.specs.Changes.{Spares};
 ghost use Rattle.fr_store.specs.Paging.{page_of};
-ghost use Rattle.fr_store.specs.Reading.{Leaves, Tells, as_holder, holder_in};
+ghost use Rattle.fr_store.specs.Reading.{AreOpened, Leaves, Tells, as_holder, holder_in};
 ghost use Rattle.fr_store.specs.declared.fault.StoreFault.TheVariants.{Unavailable};
 
 use crate::fault::StoreFault;
@@ -56,9 +56,10 @@ impl<S: Alter> Store<S> {
         reading::holder(&mut self.conn, variant, slot, channel)
     }
 
-    /// The variants, by name. The only refusal is `Unavailable`.
+    /// The variants, by name, each opened empty or from one of them. The only refusal is `Unavailable`.
     pub fn variants(&mut self, alloc: Global) -> Result<Vec<VariantRow>, StoreFault>
         ensures variants { Tells (state S.Store self.old.conn) (state S.Store self.new.conn) result (λ c b rows. rows.items ≡ variants_in b) }
+        ensures opened { IfOk result (λ rows. AreOpened rows.items) }
         ensures config { self.new.config ≡ self.old.config }
         ensures refused { IfErr result (λ fault. fault ≡ Unavailable) }
         ensures stays { Leaves (state S.Store self.old.conn) (state S.Store self.new.conn) }

@@ -1,21 +1,22 @@
 //! What is read of the register: who holds a slot, its variants, a supplier's nodes, and its imports.
 
-ghost use Rattle.std.specs.Prelude.{◌≡◌, map, IfErr, IfSome, option_map, slice_get};
+ghost use Rattle.std.specs.Prelude.{◌≡◌, map, All, IfErr, IfOk, IfSome, IsTrue, option_map, slice_get};
 ghost use Rattle.sqlite.specs.Held.{state};
 ghost use Rattle.fr_base.specs.Book.{own};
 ghost use Rattle.fr_base.specs.Tables.{get, len};
 ghost use Rattle.fr_world.specs.BookEdits.{variants_in};
+ghost use Rattle.fr_world.specs.Common.{row_of};
 ghost use Rattle.fr_world.specs.ImportLabels.{kept_of};
 ghost use Rattle.fr_world.specs.Pages.{nodes_in};
 ghost use Rattle.fr_store.specs.Changes.{Spares};
-ghost use Rattle.fr_store.specs.Reading.{Leaves, Tells, as_holder, holder_in, holder_shown, import_shown, name_shown, variant_shown};
+ghost use Rattle.fr_store.specs.Reading.{AreOpened, Leaves, Tells, WasOpened, as_holder, holder_in, holder_shown, import_shown, name_shown, variant_shown};
 ghost use Rattle.fr_store.specs.declared.fault.StoreFault.TheVariants.{Unavailable};
 
 use crate::fault::StoreFault;
 use crate::slot_holder::Holder;
 use crate::tables;
 use crate::values::{body_at, flag_at, maybe_name_at, name_at, number_at};
-use fr_base::{Channel, Name, Slot};
+use fr_base::{Channel, MAX_DEPTH, MAX_VARIANTS, Name, Slot};
 use fr_world::{KeptImport, VariantRow};
 use sqlite::{Alter, Connection, Row};
 use std::alloc::Global;
@@ -48,12 +49,13 @@ fn names_of(alloc: Global, rows: &[Row]) -> Option<Vec<Name>>
     Some(names)
 }
 
-/// The variants, by name. The only refusal is `Unavailable`.
+/// The variants, by name, each opened empty or from one of them. The only refusal is `Unavailable`.
 pub fn variants<S: Alter>(
     alloc: Global,
     conn: &mut Connection<S>,
 ) -> Result<Vec<VariantRow>, StoreFault>
     ensures variants { Tells (state S.Store conn.old) (state S.Store conn.new) result (λ c b rows. rows.items ≡ variants_in b) }
+    ensures opened { IfOk result (λ rows. AreOpened rows.items) }
     ensures refused { IfErr result (λ fault. fault ≡ Unavailable) }
     ensures stays { Leaves (state S.Store conn.old) (state S.Store conn.new) }
     ensures spares { Spares (state S.Store conn.old) (state S.Store conn.new) }
@@ -61,7 +63,55 @@ pub fn variants<S: Alter>(
     let Ok(rows) = tables::variants::all(conn) else {
         return Err(StoreFault::Unavailable);
     };
-    variants_of(alloc, rows.as_slice()).ok_or(StoreFault::Unavailable)
+    opened_variants(alloc, rows.as_slice()).ok_or(StoreFault::Unavailable)
+}
+
+/// The variants in the rows. None where a row has not its form, a variant was not opened so, or memory is refused.
+pub(crate) fn opened_variants(alloc: Global, rows: &[Row]) -> Option<Vec<VariantRow>>
+    ensures shown { IfSome result (λ found. found.items ≡ map variant_shown rows.now) }
+    ensures opened { IfSome result (λ found. AreOpened found.items) }
+{
+    let found = variants_of(alloc, rows)?;
+    if found.len() <= MAX_VARIANTS && each_was_opened(found.as_slice()) {
+        Some(found)
+    } else {
+        None
+    }
+}
+
+// Whether each of the variants was opened empty, or from one of them.
+fn each_was_opened(variants: &[VariantRow]) -> bool
+    ensures { IsTrue result → All (WasOpened variants.now) variants.now }
+{
+    for row in variants {
+        if !was_opened(variants, row) {
+            return false;
+        }
+    }
+    true
+}
+
+// Whether the variant has depth 1 and no parent, or its parent is there, released and one less deep.
+#[tactic(auto, unfolding(crate::proofs::ReadingLemmas::opened_open))]
+fn was_opened(variants: &[VariantRow], row: &VariantRow) -> bool
+    ensures { IsTrue result → WasOpened variants.now row.now }
+{
+    let Some(name) = row.parent else {
+        return row.depth == 1;
+    };
+    match find(variants, name) {
+        Some(parent) => {
+            parent.released && parent.depth < MAX_DEPTH && row.depth == parent.depth + 1
+        }
+        None => false,
+    }
+}
+
+// The variant of this name.
+fn find(variants: &[VariantRow], name: Name) -> Option<&VariantRow>
+    ensures { option_map (λ row. row.now) result ≡ row_of variants.now name }
+{
+    variants.iter().find(|row| row.variant == name)
 }
 
 // The variants in the rows. None where a row has not its form, or memory is refused.

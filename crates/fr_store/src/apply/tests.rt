@@ -136,3 +136,68 @@ fn edits_are_carried_out(rt: HostRuntime) -> Result<(), Fail> {
     assert!(rt; !second.released() && second.grants().len() == 1 && second.frames().is_empty());
     is_kept(&rt, rt.alloc(), &mut store)
 }
+
+/// The variant is released, and another is opened from it.
+fn child(alloc: Global) -> Result<Vec<Edit>, Fail> {
+    let released = Edit::SetReleased {
+        variant: name("v1")?,
+    };
+    let opened = Edit::NewVariant {
+        variant: name("v2")?,
+        parent: Some(name("v1")?),
+        depth: 2,
+    };
+    Ok(vec![in alloc; released, opened]?)
+}
+
+/// The frame changes in the child.
+fn change(store: &mut Store<MemStore>, change: FrameChange) -> Result<(), Fail> {
+    let edit = framed("v2", change)?;
+    Ok(store.apply(&[edit])?)
+}
+
+/// How many rows the query shows.
+fn count(store: &mut Store<MemStore>, sql: &str) -> Result<usize, Fail> {
+    Ok(store.conn.query_all(sql, &[])?.len())
+}
+
+/// The child has its parent's frame as its own, with one signal less.
+fn is_copied(rt: &impl Abort, store: &mut Store<MemStore>) -> Result<(), Fail> {
+    let placements = count(store, "SELECT slot FROM placements WHERE variant = 'v2'")?;
+    let signals = count(store, "SELECT name FROM signals WHERE variant = 'v2'")?;
+    assert!(rt; placements == 2 && signals == 1);
+    Ok(())
+}
+
+/// The child has no frame, and not its parent's.
+fn is_dropped(rt: &impl Abort, store: &mut Store<MemStore>) -> Result<(), Fail> {
+    let own = count(store, "SELECT name FROM frames WHERE variant = 'v2'")?;
+    let dropped = count(store, "SELECT frame FROM dropped WHERE variant = 'v2'")?;
+    assert!(rt; own == 0 && dropped == 1);
+    Ok(())
+}
+
+/// The parent's frame is as it was.
+fn is_left(rt: &impl Abort, store: &mut Store<MemStore>) -> Result<(), Fail> {
+    let placements = count(store, "SELECT slot FROM placements WHERE variant = 'v1'")?;
+    let signals = count(store, "SELECT name FROM signals WHERE variant = 'v1'")?;
+    assert!(rt; placements == 2 && signals == 2);
+    Ok(())
+}
+
+/// A frame that is only the parent's is copied whole before it changes. Dropped, it is hidden, and so
+/// it is after it was added again and dropped once more. The parent's stays.
+#[test]
+fn a_variant_over_its_parent_changes(rt: HostRuntime) -> Result<(), Fail> {
+    let mut store = made(rt.alloc())?;
+    store.apply(opened(rt.alloc())?.as_slice())?;
+    store.apply(filled(rt.alloc())?.as_slice())?;
+    store.apply(child(rt.alloc())?.as_slice())?;
+    change(&mut store, FrameChange::DropSignal(name("y")?))?;
+    is_copied(&rt, &mut store)?;
+    change(&mut store, FrameChange::Drop)?;
+    change(&mut store, FrameChange::Add { node: name("n1")? })?;
+    change(&mut store, FrameChange::Drop)?;
+    is_dropped(&rt, &mut store)?;
+    is_left(&rt, &mut store)
+}

@@ -1,6 +1,6 @@
 //! Any edit, carried out in the tables.
 
-ghost use Rattle.std.specs.Prelude.{◌≡◌};
+ghost use Rattle.std.specs.Prelude.{◌≡◌, false};
 ghost use Rattle.sqlite.specs.State.{Survives};
 ghost use Rattle.sqlite.specs.Held.{state};
 ghost use Rattle.fr_base.specs.declared.request.Change.TheVariants.{Frame as OfFrame};
@@ -12,7 +12,7 @@ use fr_base::{Change, FrameChange, Name};
 use fr_world::Edit;
 use sqlite::{Alter, Error, Transaction};
 
-/// Opens a variant: empty, or with all rows of its parent.
+/// Opens a variant: empty, or over its parent.
 fn new_variant<S: Alter>(
     tx: &mut Transaction<'_, S>,
     variant: &Name,
@@ -20,7 +20,7 @@ fn new_variant<S: Alter>(
     depth: u32,
 ) -> Result<usize, Error>
     ensures same_reference { tx.new.conn.ghost_name ≡ tx.old.conn.ghost_name }
-    ensures carried { CarriesOut (NewVariant variant.now parent depth) (state S.Store tx.old.conn.now) (state S.Store tx.new.conn.now) result }
+    ensures carried { CarriesOut (NewVariant variant.now parent depth) false (state S.Store tx.old.conn.now) (state S.Store tx.new.conn.now) result }
     ensures stays { StaysInside (state S.Store tx.old.conn.now) (state S.Store tx.new.conn.now) result }
     ensures survives { Survives (state S.Store tx.old.conn.now) (state S.Store tx.new.conn.now) (λ _. ⊥) }
 {
@@ -37,15 +37,16 @@ fn change_frame<S: Alter>(
     variant: &Name,
     frame: &Name,
     change: &FrameChange,
+    overlay: bool,
 ) -> Result<usize, Error>
     ensures same_reference { tx.new.conn.ghost_name ≡ tx.old.conn.ghost_name }
-    ensures carried { CarriesOut (Rows supplier.now variant.now (OfFrame frame.now change.now)) (state S.Store tx.old.conn.now) (state S.Store tx.new.conn.now) result }
+    ensures carried { CarriesOut (Rows supplier.now variant.now (OfFrame frame.now change.now)) overlay (state S.Store tx.old.conn.now) (state S.Store tx.new.conn.now) result }
     ensures stays { StaysInside (state S.Store tx.old.conn.now) (state S.Store tx.new.conn.now) result }
     ensures survives { Survives (state S.Store tx.old.conn.now) (state S.Store tx.new.conn.now) (λ _. ⊥) }
 {
     match change {
         FrameChange::Add { node } => frames::new_frame(tx, variant, supplier, frame, node),
-        FrameChange::Drop => frames::end_frame(tx, variant, supplier, frame),
+        FrameChange::Drop => frames::end_frame(tx, variant, supplier, frame, overlay),
         FrameChange::Place(placement) => frames::put_placement(
             tx, variant, supplier, frame, placement,
         ),
@@ -63,9 +64,10 @@ fn change_rows<S: Alter>(
     supplier: &Name,
     variant: &Name,
     change: &Change,
+    overlay: bool,
 ) -> Result<usize, Error>
     ensures same_reference { tx.new.conn.ghost_name ≡ tx.old.conn.ghost_name }
-    ensures carried { CarriesOut (Rows supplier.now variant.now change.now) (state S.Store tx.old.conn.now) (state S.Store tx.new.conn.now) result }
+    ensures carried { CarriesOut (Rows supplier.now variant.now change.now) overlay (state S.Store tx.old.conn.now) (state S.Store tx.new.conn.now) result }
     ensures stays { StaysInside (state S.Store tx.old.conn.now) (state S.Store tx.new.conn.now) result }
     ensures survives { Survives (state S.Store tx.old.conn.now) (state S.Store tx.new.conn.now) (λ _. ⊥) }
 {
@@ -78,14 +80,21 @@ fn change_rows<S: Alter>(
         Change::Revoke { slot, channel } => grants::end_grant(
             tx, supplier, variant, *slot, *channel,
         ),
-        Change::Frame { frame, change } => change_frame(tx, supplier, variant, frame, change),
+        Change::Frame { frame, change } => change_frame(
+            tx, supplier, variant, frame, change, overlay,
+        ),
     }
 }
 
-/// Carries the edit out, and says how many rows its last statement wrote.
-pub fn carry_out<S: Alter>(tx: &mut Transaction<'_, S>, edit: &Edit) -> Result<usize, Error>
+/// Carries the edit out, of a variant that is stored over its parent where `overlay` says so. It answers
+/// how many rows its last statement wrote.
+pub fn carry_out<S: Alter>(
+    tx: &mut Transaction<'_, S>,
+    edit: &Edit,
+    overlay: bool,
+) -> Result<usize, Error>
     ensures same_reference { tx.new.conn.ghost_name ≡ tx.old.conn.ghost_name }
-    ensures carried { CarriesOut edit.now (state S.Store tx.old.conn.now) (state S.Store tx.new.conn.now) result }
+    ensures carried { CarriesOut edit.now overlay (state S.Store tx.old.conn.now) (state S.Store tx.new.conn.now) result }
     ensures stays { StaysInside (state S.Store tx.old.conn.now) (state S.Store tx.new.conn.now) result }
     ensures survives { Survives (state S.Store tx.old.conn.now) (state S.Store tx.new.conn.now) (λ _. ⊥) }
 {
@@ -101,7 +110,7 @@ pub fn carry_out<S: Alter>(tx: &mut Transaction<'_, S>, edit: &Edit) -> Result<u
             supplier,
             variant,
             change,
-        } => change_rows(tx, supplier, variant, change),
+        } => change_rows(tx, supplier, variant, change, overlay),
         Edit::KeepImport {
             supplier,
             label,

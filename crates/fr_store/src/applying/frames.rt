@@ -4,9 +4,11 @@ ghost use Rattle.std.specs.Prelude.{◌≡◌};
 ghost use Rattle.sqlite.specs.State.{Survives};
 ghost use Rattle.sqlite.specs.Held.{state};
 ghost use Rattle.fr_base.specs.declared.request.FrameChange.TheVariants.{Add, Drop, Place, Unplace, AddSignal, DropSignal};
-ghost use Rattle.fr_store.specs.Changes.{Makes};
+ghost use Rattle.fr_store.specs.Applying.{StaysInside};
+ghost use Rattle.fr_store.specs.Changes.{Makes, tables_of};
 ghost use Rattle.fr_store.specs.FrameEdits.{EditsFrame};
-ghost use Rattle.fr_store.specs.Statements.{with_frame, without_frame, with_placement, without_placement, with_signal, without_signal, placement_row, signal_row};
+ghost use Rattle.fr_store.specs.Owning.{IsStoredSo};
+ghost use Rattle.fr_store.specs.Statements.{with_frame, with_placement, without_placement, with_signal, without_signal, placement_row, signal_row};
 
 use crate::tables;
 use fr_base::{Name, Placement, Signal};
@@ -28,19 +30,26 @@ pub fn new_frame<S: Alter>(
     tables::frames::insert(tx, variant, supplier, frame, node)
 }
 
-/// Drops a frame with its placements and signals.
+/// Drops a frame with its placements and signals. A variant that is stored over its parent then has not
+/// the parent's either.
 pub fn end_frame<S: Alter>(
     tx: &mut Transaction<'_, S>,
     variant: &Name,
     supplier: &Name,
     frame: &Name,
+    overlay: bool,
 ) -> Result<usize, Error>
     ensures same_reference { tx.new.conn.ghost_name ≡ tx.old.conn.ghost_name }
-    ensures dropped { Makes (without_frame variant.now supplier.now frame.now) (state S.Store tx.old.conn.now) (state S.Store tx.new.conn.now) result }
-    ensures stands { EditsFrame variant.now supplier.now frame.now Drop (state S.Store tx.old.conn.now) (state S.Store tx.new.conn.now) result }
+    ensures stands { IsStoredSo variant.now overlay (tables_of (state S.Store tx.old.conn.now))
+        → EditsFrame variant.now supplier.now frame.now Drop (state S.Store tx.old.conn.now) (state S.Store tx.new.conn.now) result }
+    ensures stays { StaysInside (state S.Store tx.old.conn.now) (state S.Store tx.new.conn.now) result }
     ensures survives { Survives (state S.Store tx.old.conn.now) (state S.Store tx.new.conn.now) (λ _. ⊥) }
 {
-    tables::frames::delete(tx, variant, supplier, frame)
+    let count = tables::frames::delete(tx, variant, supplier, frame)?;
+    if overlay {
+        return tables::dropped::insert(tx, variant, supplier, frame);
+    }
+    Ok(count)
 }
 
 /// Adds a placement of a frame.

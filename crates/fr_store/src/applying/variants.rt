@@ -7,11 +7,10 @@ ghost use Rattle.fr_base.specs.Sound.{IsOpenedFrom};
 ghost use Rattle.fr_base.specs.Tables.{get};
 ghost use Rattle.fr_world.specs.BookEdits.{applied};
 ghost use Rattle.fr_world.specs.declared.edit.Edit.TheVariants.{NewVariant, SetReleased};
-ghost use Rattle.fr_store.specs.Applying.{MakesCopiesOfRows, StaysInside};
-ghost use Rattle.fr_store.specs.Changes.{Makes, tables_of};
+ghost use Rattle.fr_store.specs.Applying.{StaysInside};
+ghost use Rattle.fr_store.specs.Changes.{Makes};
 ghost use Rattle.fr_store.specs.Reading.{Stands};
 ghost use Rattle.fr_store.specs.Statements.{with_variant, with_released};
-ghost use Rattle.fr_store.specs.Whole.{IsWhole};
 
 use crate::tables;
 use fr_base::Name;
@@ -34,23 +33,7 @@ pub fn open_empty<S: Alter>(
     tables::variants::insert(tx, variant, None, depth, false)
 }
 
-/// Adds all rows of the one variant for the other.
-fn copy_rows<S: Alter>(
-    tx: &mut Transaction<'_, S>,
-    parent: &Name,
-    child: &Name,
-) -> Result<usize, Error>
-    ensures same_reference { tx.new.conn.ghost_name ≡ tx.old.conn.ghost_name }
-    ensures copied { MakesCopiesOfRows parent.now child.now (state S.Store tx.old.conn.now) (state S.Store tx.new.conn.now) result }
-    ensures survives { Survives (state S.Store tx.old.conn.now) (state S.Store tx.new.conn.now) (λ _. ⊥) }
-{
-    tables::grants::copy(tx, parent, child)?;
-    tables::frames::copy(tx, parent, child)?;
-    tables::placements::copy(tx, parent, child)?;
-    tables::signals::copy(tx, parent, child)
-}
-
-/// Opens the variant with all rows of its parent, which is stored whole.
+/// Opens the variant over its parent: with the same grants, and no frames of its own.
 pub fn open_from<S: Alter>(
     tx: &mut Transaction<'_, S>,
     variant: &Name,
@@ -60,13 +43,13 @@ pub fn open_from<S: Alter>(
     ensures same_reference { tx.new.conn.ghost_name ≡ tx.old.conn.ghost_name }
     ensures stands { HasCleanDisk (state S.Store tx.new.conn.now) → IsTrue (state S.Store tx.old.conn.now).in_transaction
         → (c : _) (b : _) → Stands (state S.Store tx.old.conn.now) c b → get b.variants variant.now ≡ None
-        → IsOpenedFrom b.variants (Some parent.now) depth → IsWhole parent.now (tables_of (state S.Store tx.old.conn.now))
+        → IsOpenedFrom b.variants (Some parent.now) depth
         → OnOk result (Stands (state S.Store tx.new.conn.now) c (applied b (NewVariant variant.now (Some parent.now) depth))) }
     ensures stays { StaysInside (state S.Store tx.old.conn.now) (state S.Store tx.new.conn.now) result }
     ensures survives { Survives (state S.Store tx.old.conn.now) (state S.Store tx.new.conn.now) (λ _. ⊥) }
 {
-    tables::variants::insert(tx, variant, Some(parent), depth, false)?;
-    copy_rows(tx, parent, variant)
+    tables::variants::insert(tx, variant, Some(parent), depth, true)?;
+    tables::grants::copy(tx, parent, variant)
 }
 
 /// Releases the variant.

@@ -41,6 +41,15 @@ fn newer(alloc: Global) -> Result<Files<Memory>, Fail>
     closed(conn)
 }
 
+/// A register with a variant that was opened from one that is not there.
+fn without_parent(alloc: Global) -> Result<Files<Memory>, Fail>
+    ensures { IfOk result (λ files. IsTrue (memory_is_usable files.log) × IsTrue (memory_is_usable files.db)) }
+{
+    let mut conn = made(alloc)?.into_connection();
+    conn.execute("INSERT INTO variants VALUES ('v2', 'v1', 2, 0, 0)", &[])?;
+    closed(conn)
+}
+
 /// A hundred bytes that are no database.
 fn no_database(alloc: Global) -> Result<Files<Memory>, Fail>
     ensures { IfOk result (λ files. IsTrue (memory_is_usable files.log) × IsTrue (memory_is_usable files.db)) }
@@ -84,6 +93,13 @@ fn files_without_a_register_are_not_opened(rt: HostRuntime) -> Result<(), Fail> 
     let other = files_of(alloc, "CREATE TABLE other (x INTEGER) STRICT")?;
     assert_eq!(rt; opened(alloc, other), Some(StoreFault::NotARegister));
     assert_eq!(rt; opened(alloc, newer(alloc)?), Some(StoreFault::WrongSchema));
+    Ok(())
+}
+
+#[test]
+fn no_register_has_a_variant_without_its_parent(rt: HostRuntime) -> Result<(), Fail> {
+    let files = without_parent(rt.alloc())?;
+    assert_eq!(rt; opened(rt.alloc(), files), Some(StoreFault::Unavailable));
     Ok(())
 }
 

@@ -4,7 +4,7 @@ ghost use Rattle.std.specs.Prelude.{◌≡◌};
 ghost use Rattle.sqlite.specs.State.{Survives};
 ghost use Rattle.sqlite.specs.Held.{state};
 ghost use Rattle.fr_store.specs.Changes.{Makes, MakesCopies, Finds, Spares};
-ghost use Rattle.fr_store.specs.Statements.{with_placement, without_placement, with_placements, placements_for, placement_row, is_placed_by, is_placement_of, shows_placement, placements_cmp};
+ghost use Rattle.fr_store.specs.Statements.{with_placement, without_placement, with_placements, placement_copies, placement_row, is_placed_by, is_placement_of, shows_placement, placements_cmp};
 
 use fr_base::{Name, Placement};
 use sqlite::{Alter, Connection, Error, Row, Transaction, params};
@@ -61,19 +61,26 @@ pub fn delete<S: Alter>(
     )
 }
 
-/// Adds each placement of the one variant for the other.
-pub fn copy<S: Alter>(
+/// Adds the placements of the frame of the one variant for the other.
+pub fn copy_one<S: Alter>(
     tx: &mut Transaction<'_, S>,
-    parent: &Name,
-    child: &Name,
+    from: &Name,
+    to: &Name,
+    supplier: &Name,
+    frame: &Name,
 ) -> Result<usize, Error>
     ensures same_reference { tx.new.conn.ghost_name ≡ tx.old.conn.ghost_name }
-    ensures copied { MakesCopies (placements_for parent.now child.now) with_placements (state S.Store tx.old.conn.now) (state S.Store tx.new.conn.now) result }
+    ensures copied { MakesCopies (placement_copies from.now to.now supplier.now frame.now) with_placements (state S.Store tx.old.conn.now) (state S.Store tx.new.conn.now) result }
     ensures survives { Survives (state S.Store tx.old.conn.now) (state S.Store tx.new.conn.now) (λ _. ⊥) }
 {
     tx.execute(
-        "INSERT INTO placements (variant, supplier, frame, slot, channels, base, repetition) SELECT ?2, supplier, frame, slot, channels, base, repetition FROM placements WHERE variant = ?1",
-        params![parent.as_str(), child.as_str()],
+        "INSERT INTO placements (variant, supplier, frame, slot, channels, base, repetition) SELECT ?2, supplier, frame, slot, channels, base, repetition FROM placements WHERE variant = ?1 AND supplier = ?3 AND frame = ?4",
+        params![
+            from.as_str(),
+            to.as_str(),
+            supplier.as_str(),
+            frame.as_str()
+        ],
     )
 }
 

@@ -4,7 +4,7 @@ ghost use Rattle.std.specs.Prelude.{◌≡◌, pos};
 ghost use Rattle.sqlite.specs.State.{Survives};
 ghost use Rattle.sqlite.specs.Held.{state};
 ghost use Rattle.fr_store.specs.Changes.{Makes, MakesCopies, Finds, Spares};
-ghost use Rattle.fr_store.specs.Statements.{with_signal, without_signal, with_signals, signals_for, signal_row, big_number, is_signalled_by, is_signal_of, shows_signal, signals_cmp};
+ghost use Rattle.fr_store.specs.Statements.{with_signal, without_signal, with_signals, signal_copies, signal_row, big_number, is_signalled_by, is_signal_of, shows_signal, signals_cmp};
 
 use fr_base::{Name, Order, Signal};
 use sqlite::{Alter, Connection, Error, Row, Transaction, params};
@@ -68,19 +68,26 @@ pub fn delete<S: Alter>(
     )
 }
 
-/// Adds each signal of the one variant for the other.
-pub fn copy<S: Alter>(
+/// Adds the signals of the frame of the one variant for the other.
+pub fn copy_one<S: Alter>(
     tx: &mut Transaction<'_, S>,
-    parent: &Name,
-    child: &Name,
+    from: &Name,
+    to: &Name,
+    supplier: &Name,
+    frame: &Name,
 ) -> Result<usize, Error>
     ensures same_reference { tx.new.conn.ghost_name ≡ tx.old.conn.ghost_name }
-    ensures copied { MakesCopies (signals_for parent.now child.now) with_signals (state S.Store tx.old.conn.now) (state S.Store tx.new.conn.now) result }
+    ensures copied { MakesCopies (signal_copies from.now to.now supplier.now frame.now) with_signals (state S.Store tx.old.conn.now) (state S.Store tx.new.conn.now) result }
     ensures survives { Survives (state S.Store tx.old.conn.now) (state S.Store tx.new.conn.now) (λ _. ⊥) }
 {
     tx.execute(
-        "INSERT INTO signals (variant, supplier, frame, name, start, length, big) SELECT ?2, supplier, frame, name, start, length, big FROM signals WHERE variant = ?1",
-        params![parent.as_str(), child.as_str()],
+        "INSERT INTO signals (variant, supplier, frame, name, start, length, big) SELECT ?2, supplier, frame, name, start, length, big FROM signals WHERE variant = ?1 AND supplier = ?3 AND frame = ?4",
+        params![
+            from.as_str(),
+            to.as_str(),
+            supplier.as_str(),
+            frame.as_str()
+        ],
     )
 }
 

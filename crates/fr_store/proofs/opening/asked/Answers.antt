@@ -1,11 +1,12 @@
 use Rattle.std.proofs.Common.{rules, ◌≡◌, [], arith, ap, true, refl, sym, ◌∙◌, subst, IsTrue}
 use Rattle.sqlite.specs.State.{HasCleanDisk}
 use Rattle.sqlite.specs.Held.{state}
-use Rattle.fr_store.specs.Rows.{of_cluster, of_supplier, cluster_in, supplier_in}
-use Rattle.fr_store.specs.Statements.{shows_cluster, shows_supplier, every, any_order, suppliers_cmp}
-use Rattle.fr_store.specs.Opening.{cluster_text, suppliers_text}
+use Rattle.fr_store.specs.Rows.{of_cluster, of_supplier, of_variant, cluster_in, supplier_in, variant_in}
+use Rattle.fr_store.specs.Statements.{shows_cluster, shows_supplier, shows_variant, every, any_order, suppliers_cmp, variants_cmp}
+use Rattle.fr_store.specs.Opening.{cluster_text, suppliers_text, variants_text}
 use Rattle.fr_store.proofs.ClusterLemmas as cluster
 use Rattle.fr_store.proofs.SupplierLemmas as suppliers
+use Rattle.fr_store.proofs.VariantLemmas as variants
 use Rattle.fr_store.proofs.NumberLemmas.{asked_shown, asked_told, asked_listed, as_before, keeps}
 use Rattle.fr_store.proofs.opening.asked.Goals as goal
 
@@ -32,6 +33,12 @@ returns-clause-suppliers g c clean text was =
     let late : HasCleanDisk (state g.S.Store c.drop-tx.new.self.0) = search rules in
     asked_listed of_supplier shows_supplier supplier_in every suppliers_cmp 2 suppliers_text suppliers.by_name c.args.sql.now (state g.S.Store c.args.conn.now) (state g.S.Store c.transaction-tx.result.conn.now) (state g.S.Store c.query_all.new.self.conn.now) c.query_all.result
     text (ap (λ h. (state g.S.Store h).now) c.transaction-tx.ensures.begun) was was.suppliers (c.query_all.ensures.ok (omega (arith, c.drop-tx.ensures.survives.clean)))
+
+pub returns-clause-variants : goal.returns-clause-variants
+returns-clause-variants g c clean text was =
+    let late : HasCleanDisk (state g.S.Store c.drop-tx.new.self.0) = search rules in
+    asked_listed of_variant shows_variant variant_in every variants_cmp 7 variants_text variants.by_order c.args.sql.now (state g.S.Store c.args.conn.now) (state g.S.Store c.transaction-tx.result.conn.now) (state g.S.Store c.query_all.new.self.conn.now) c.query_all.result
+    text (ap (λ h. (state g.S.Store h).now) c.transaction-tx.ensures.begun) was was.variants (c.query_all.ensures.ok (omega (arith, c.drop-tx.ensures.survives.clean)))
 
 pub returns-clause-same : goal.returns-clause-same
 returns-clause-same g c clean up =

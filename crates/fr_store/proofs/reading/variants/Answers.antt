@@ -9,4 +9,7 @@ pub returns-clause-variants : goal.returns-clause-variants
 returns-clause-variants g c clean cluster b stands =
     told_if _ _ (λ found read. variants_told (tables_of (state g.S.Store c.args.conn.now)) cluster b stands.for c.in-Ok.rows.items found.items
     (c.in-Ok.ensures.listed clean stands.has).0 (read ∙ ap (map variant_shown) c.as_slice.ensures.value))
-    c.variants_of.result _ c.ok_or.result c.ok_or.ensures.value c.variants_of.ensures
+    c.opened_variants.result _ c.ok_or.result c.ok_or.ensures.value c.opened_variants.ensures.shown
+
+pub returns-clause-opened : goal.returns-clause-opened
+returns-clause-opened g c = told_if _ _ (λ found opened. opened) c.opened_variants.result _ c.ok_or.result c.ok_or.ensures.value c.opened_variants.ensures.opened

@@ -53,3 +53,6 @@ returns-in-Some-clause-known g c clean k db holds =
 
 pub returns-in-Ok-open_on-clause-survives : goal.returns-in-Ok-open_on-clause-survives
 returns-in-Ok-open_on-clause-survives g c = (c.in-Ok.conn, record { opens = c.in-Ok.ensures.opens; found = c.in-Ok.ensures.found }, c.in-Ok-open_on.ensures.survives)
+
+pub returns-in-Ok-open_on-clause-variants : goal.returns-in-Ok-open_on-clause-variants
+returns-in-Ok-open_on-clause-variants g c clean up = c.in-Ok-open_on.ensures.variants clean up (returns-in-Ok-open_on-clause-stands g c clean up).has

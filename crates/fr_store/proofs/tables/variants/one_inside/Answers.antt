@@ -2,7 +2,7 @@ use Rattle.sqlite.specs.Held.{state}
 use Rattle.fr_store.specs.Rows.{of_variant, variant_in}
 use Rattle.fr_store.specs.Statements.{any_order, shows_variant}
 use Rattle.fr_store.proofs.VariantLemmas.{by_name, one_text}
-use Rattle.fr_store.proofs.WholeLemmas.{finds_inside}
+use Rattle.fr_store.proofs.FindLemmas.{finds_inside}
 use Rattle.fr_store.proofs.tables.variants.one_inside.Goals as goal
 
 pub returns-clause-listed : goal.returns-clause-listed

@@ -1,0 +1,83 @@
+-- The frames that are a variant's own, and how a variant is stored.
+use Rattle.std.specs.Prelude.{◌≡◌, ◌++◌, ◌&&◌, Bool, List, Some, Result, MatchResult, OnOk, IfOk, IsTrue, IsPermutation}
+use Rattle.std.specs.List.{list_any}
+use Rattle.std.specs.Ordering.{int_eq}
+use Rattle.sqlite.specs.State.{State, HasCleanDisk, KeepsCommit}
+use Rattle.fr_base.specs.Tables.{get}
+use Rattle.fr_base.specs.Cluster.{Cluster}
+use Rattle.fr_base.specs.Book.{Frame, Variant, Book}
+use Rattle.fr_base.specs.declared.name.Name.{Name}
+use Rattle.fr_world.specs.Fits.{IsOpen}
+use Rattle.fr_store.specs.Changes.{Changes, tables_of}
+use Rattle.fr_store.specs.Reading.{Stands}
+use Rattle.fr_store.specs.Rows.{VariantRow, FrameRow, PlacementRow, SignalRow}
+use Rattle.fr_store.specs.StandsFor.{StandsFor, flag}
+use Rattle.fr_store.specs.Statements.{is_variant, is_frame, frame_copies, placement_copies, signal_copies}
+use Rattle.fr_store.specs.Tables.{Tables, HasTables}
+use Rattle.fr_store.specs.declared.applying.level.Level.{Level}
+
+-- ---- how a variant is stored
+
+-- the row is the variant's, and says whether it is stored over its parent
+abbrev pub says_over : Name → Bool → VariantRow → Bool
+says_over v over r = is_variant v r && int_eq r.overlay (flag over)
+
+-- the variant is there, and stored over its parent, or else not
+abbrev pub IsStoredSo : Name → Bool → Tables → Type 0
+IsStoredSo v over t = IsTrue (list_any (says_over v over) t.variants)
+
+-- this is how the variant is stored, and its parent
+pub record TellsLevel (v : Name) (t : Tables) (level : Level) : Type 0 where
+  pub overlay : IsStoredSo v level.overlay t
+  pub parent : (c : Cluster) (b : Book) → StandsFor t c b → (x : Variant) → get b.variants v ≡ Some x → x.parent ≡ level.parent
+
+-- ---- a variant's own frames
+
+-- whether the frame has a row in the variant, and is not only its parent's
+abbrev pub is_own : Name → Name → Name → Tables → Bool
+is_own v s f t = list_any (is_frame v s f) t.frames
+
+-- the frame that a variant shows is the owner's own; one that is the variant's own has no other owner
+pub record IsOfOwner (b : Book) (t : Tables) (v s f : Name) (frame : Frame) (owner : Name) : Type 0 where
+  pub variant : Variant
+  pub there : get b.variants owner ≡ Some variant
+  pub shown : get variant.frames (s, f) ≡ Some frame
+  pub own : IsTrue (is_own owner s f t)
+  pub nearest : IsTrue (is_own v s f t) → owner ≡ v
+
+-- the tables are as they were, and this is the owner of the frame that the variant shows, if it shows one
+pub record IsOwner (v s f owner : Name) (old new : State) : Type 0 where
+  pub now : new.now ≡ old.now
+  pub inside : IsTrue new.in_transaction
+  pub of : (c : Cluster) (b : Book) → Stands old c b → (x : Variant) (frame : Frame) → get b.variants v ≡ Some x → get x.frames (s, f) ≡ Some frame → IsOfOwner b (tables_of old) v s f frame owner
+
+-- Queries inside a transaction find the owner of the frame that the variant shows, or one fails.
+abbrev pub FindsOwner : {E : Type 0} → Name → Name → Name → State → State → Result Name E → Type 0
+FindsOwner v s f old new r = HasCleanDisk new → IsTrue old.in_transaction → HasTables old.now → KeepsCommit old new × IfOk r (λ owner. IsOwner v s f owner old new)
+
+-- ---- a frame's rows, copied for another variant
+
+abbrev pub with_frame_rows : List FrameRow → List PlacementRow → List SignalRow → Tables → Tables
+with_frame_rows frames placements signals t =
+    record t { frames = t.frames ++ frames; placements = t.placements ++ placements; signals = t.signals ++ signals }
+
+-- copies of all rows of the one variant's frame are put in for the other, in some order
+pub record CopiesFrame (from to s f : Name) (old new : State) : Type 0 where
+  pub frames : List FrameRow
+  pub placements : List PlacementRow
+  pub signals : List SignalRow
+  pub same_frames : IsPermutation (frame_copies from to s f (tables_of old)) frames
+  pub same_placements : IsPermutation (placement_copies from to s f (tables_of old)) placements
+  pub same_signals : IsPermutation (signal_copies from to s f (tables_of old)) signals
+  pub added : Changes (with_frame_rows frames placements signals) old new
+
+-- Statements inside a transaction make those copies, or fail and commit nothing.
+abbrev pub MakesFrameCopies : {X E : Type 0} → Name → Name → Name → Name → State → State → Result X E → Type 0
+MakesFrameCopies from to s f old new r =
+    HasCleanDisk new → IsTrue old.in_transaction → HasTables old.now → MatchResult r (λ _. CopiesFrame from to s f old new) (λ _. KeepsCommit old new)
+
+-- Statements inside a transaction make the frame that an open variant shows its own, and what each variant shows stays; or they fail.
+abbrev pub MakesOwn : {X E : Type 0} → Name → Name → Name → State → State → Result X E → Type 0
+MakesOwn v s f old new r =
+    HasCleanDisk new → IsTrue old.in_transaction → (c : Cluster) (b : Book) → Stands old c b → (x : Variant) (frame : Frame) → IsOpen b v x → get x.frames (s, f) ≡ Some frame
+    → OnOk r (Stands new c b × IsTrue (is_own v s f (tables_of new)))

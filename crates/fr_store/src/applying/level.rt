@@ -1,0 +1,55 @@
+//! How a variant is stored, asked inside a transaction.
+
+ghost use Rattle.std.specs.Prelude.{◌≡◌, IfErr, IfSome};
+ghost use Rattle.sqlite.specs.Order.{column};
+ghost use Rattle.sqlite.specs.State.{Survives};
+ghost use Rattle.sqlite.specs.Held.{state};
+ghost use Rattle.sqlite.specs.declared.types.Value.TheVariants.{Int};
+ghost use Rattle.fr_store.specs.Owning.{TellsLevel};
+ghost use Rattle.fr_store.specs.Paging.{Reads};
+ghost use Rattle.fr_store.specs.Rows.{of_maybe};
+ghost use Rattle.fr_store.specs.StandsFor.{flag};
+ghost use Rattle.fr_store.specs.declared.fault.StoreFault.TheVariants.{Unavailable};
+
+use crate::fault::StoreFault;
+use crate::tables;
+use crate::values::{flag_at, maybe_name_at};
+use fr_base::Name;
+use sqlite::{Alter, Row, Transaction};
+
+/// A variant's parent, and whether the variant is stored over it.
+#[derive(Clone, Copy)]
+pub struct Level {
+    pub parent: Option<Name>,
+    pub overlay: bool,
+}
+
+// What the row says. None where it has not its form.
+fn level_of(row: &Row) -> Option<Level>
+    ensures parent { IfSome result (λ level. column row.now 1 ≡ of_maybe level.parent) }
+    ensures overlay { IfSome result (λ level. column row.now 4 ≡ Int (flag level.overlay)) }
+{
+    Some(Level {
+        parent: maybe_name_at(row, 1)?,
+        overlay: flag_at(row, 4)?,
+    })
+}
+
+/// How the variant is stored. One that is not there is `Unavailable`.
+pub fn read_level<S: Alter>(
+    tx: &mut Transaction<'_, S>,
+    variant: &Name,
+) -> Result<Level, StoreFault>
+    ensures same_reference { tx.new.conn.ghost_name ≡ tx.old.conn.ghost_name }
+    ensures told { Reads (TellsLevel variant.now) (state S.Store tx.old.conn.now) (state S.Store tx.new.conn.now) result }
+    ensures refused { IfErr result (λ fault. fault ≡ Unavailable) }
+    ensures survives { Survives (state S.Store tx.old.conn.now) (state S.Store tx.new.conn.now) (λ _. ⊥) }
+{
+    let Ok(rows) = tables::variants::one_inside(tx, variant) else {
+        return Err(StoreFault::Unavailable);
+    };
+    let Some(row) = rows.as_slice().first() else {
+        return Err(StoreFault::Unavailable);
+    };
+    level_of(row).ok_or(StoreFault::Unavailable)
+}
