@@ -13,6 +13,7 @@ use Rattle.fr_base.specs.Step.{Outcome, at_line, import, imported}
 use Rattle.fr_base.specs.declared.answer.Answer.{Answer}
 use Rattle.fr_base.specs.declared.answer.Answer.TheVariants.{Imported, RefusedRow}
 use Rattle.fr_base.specs.declared.import.RowRead.{RowRead}
+use Rattle.fr_base.specs.declared.name.Name.{Name}
 use Rattle.fr_base.specs.declared.limits.TheConstants.{MAX_ROWS}
 use Rattle.fr_base.specs.declared.refusal.Refusal.{Refusal}
 use Rattle.fr_base.specs.declared.refusal.Refusal.TheVariants.{NoVariant, Released, NoSupplier, LabelUsed}
@@ -30,11 +31,14 @@ use Rattle.fr_world.proofs.BookFits.{import-fits}
 use Rattle.fr_world.proofs.ImportRoom.{new-import-decides}
 use Rattle.fr_world.proofs.LabelLaws.{label-decides}
 use Rattle.fr_world.proofs.RowsDecide.{applied-more, rows-checked}
-use Rattle.fr_office.specs.Carried.{Replies}
+use Rattle.fr_office.specs.Carried.{Makes, Replies}
 use Rattle.fr_office.specs.Decided.{open_page}
-use Rattle.fr_office.specs.Held.{Standing, Applies, Tells}
+use Rattle.fr_office.specs.Held.{Standing, Tells}
 use Rattle.fr_office.specs.Imports.{GivesImport, GivesRows, rows_outcome}
+use Rattle.fr_office.specs.KeptPages.{IsFresh, Keeps}
+use Rattle.fr_office.proofs.FreshLaws.{untouched-fresh}
 use Rattle.fr_office.proofs.RowsLaws.{opened-there}
+use Rattle.fr_office.proofs.WarmLaws.{page-fresh}
 
 -- ---- the label
 
@@ -105,13 +109,19 @@ module _ (i : Import) (page : PageData) (reads : List RowRead) (read : reads ≡
   read_so : (c : Cluster) (b : Book) → open_page c.params b i.supplier i.variant ≡ Ok page → reads ≡ rows_of_body c.params i.body
   read_so c b opened = read ∙ ap (λ (q : PageData). rows_of_body q.params i.body) (sym (opened-there c.params b i.supplier i.variant page opened).2)
 
+  fresh_so : (c : Cluster) (b : Book) → open_page c.params b i.supplier i.variant ≡ Ok page → IsFresh c.params b page
+  fresh_so c b opened =
+      let t = opened-there c.params b i.supplier i.variant page opened in
+      page-fresh c.params b i.supplier i.variant t.0 page t.1 (sym t.2)
+
   module _ (old new : Standing) where
-    -- the first refused row is told
-    pub rows_refused : (line : ℕ) (refusal : Refusal) → rows_decision page reads ≡ Err (record { line = line; refusal = refusal }) → GivesRows old old (Ok (RefusedRow line refusal)) i page
+    -- the first refused row is told, and the page is given back
+    pub rows_refused : (line : ℕ) (refusal : Refusal) → rows_decision page reads ≡ Err (record { line = line; refusal = refusal }) → Keeps old new page → GivesRows old new (Ok (RefusedRow line refusal)) i page
     unfolding imported ◌>>=◌
-    rows_refused line refusal decided c b stood sound known free opened =
+    rows_refused line refusal decided keeps c b stood sound known free opened =
         let said : rows_decision page (rows_of_body c.params i.body) ≡ Err (record { line = line; refusal = refusal }) = ap (rows_decision page) (sym (read_so c b opened)) ∙ decided in
-        (rw said refl, rw said stood)
+        let same : new c b = keeps c b stood (fresh_so c b opened) in
+        (rw said refl, rw said same)
 
     module _ (edits : List Edit) (decided : rows_decision page reads ≡ Ok edits) (unreleased : page.released ≡ false) (count : ℕ) (counted : count ≡ length reads) where
       abbrev kept_edits : List Edit
@@ -124,24 +134,48 @@ module _ (i : Import) (page : PageData) (reads : List RowRead) (read : reads ≡
           (ap (λ q. rows_decision q (rows_of_body c.params i.body)) t.2 ∙ ap (rows_decision page) (sym (read_so c b opened)) ∙ decided)
 
       -- the edits are made, and the import is kept
-      pub rows_kept : (r : Result ⊤ Refusal) → r ≡ Ok tt → Applies old new r kept_edits → GivesRows old new (Ok (Imported count)) i page
+      pub rows_kept : (r : Result ⊤ Refusal) → r ≡ Ok tt → Makes old new r page kept_edits → GivesRows old new (Ok (Imported count)) i page
       unfolding imported applied ◌>>=◌
-      rows_kept (Err e) made applies c b stood sound known free opened = cc
-      rows_kept (Ok x) made applies c b stood sound known free opened =
+      rows_kept (Err e) made makes c b stood sound known free opened = cc
+      rows_kept (Ok x) made makes c b stood sound known free opened =
           let said : rows_decision page (rows_of_body c.params i.body) ≡ Ok edits = ap (rows_decision page) (sym (read_so c b opened)) ∙ decided in
           let so : count ≡ length (rows_of_body c.params i.body) = counted ∙ ap length (read_so c b opened) in
           let now : new c (applied (all_applied b edits) (KeepImport i.supplier i.label i.variant i.body count)) =
-          subst (new c) (applied-more b edits (KeepImport i.supplier i.label i.variant i.body count)) (applies c b stood (all_fit c b sound known free opened)) in
+          subst (new c) (applied-more b edits (KeepImport i.supplier i.label i.variant i.body count)) (makes c b stood (fresh_so c b opened) (all_fit c b sound known free opened)) in
           rw said (rw (sym so) (refl, now))
 
       -- they are not
-      pub rows_lacked : (said : Result Answer Refusal) (r : Result ⊤ Refusal) (e : Refusal) → said ≡ Err e → r ≡ Err e → Applies old new r kept_edits → GivesRows old new said i page
-      rows_lacked said (Ok x) e is lacks applies c b stood sound known free opened = cc
-      rows_lacked (Ok a) (Err f) e is lacks applies c b stood sound known free opened = cc
-      rows_lacked (Err h) (Err f) e is lacks applies c b stood sound known free opened =
-          let m = applies c b stood (all_fit c b sound known free opened) in
+      pub rows_lacked : (said : Result Answer Refusal) (r : Result ⊤ Refusal) (e : Refusal) → said ≡ Err e → r ≡ Err e → Makes old new r page kept_edits → GivesRows old new said i page
+      rows_lacked said (Ok x) e is lacks makes c b stood sound known free opened = cc
+      rows_lacked (Ok a) (Err f) e is lacks makes c b stood sound known free opened = cc
+      rows_lacked (Err h) (Err f) e is lacks makes c b stood sound known free opened =
+          let m = makes c b stood (fresh_so c b opened) (all_fit c b sound known free opened) in
           let same : h ≡ f = cc in
           (same ∙ m.0, m.1)
+
+-- a page that is fresh is so once an import is kept
+pub import_fresh : (c : Cluster) (b : Book) (page : PageData) (edits : List Edit) (s label v : Name) (body : List ℕ) (rows : ℕ) → IsFresh c.params (all_applied b edits) page →
+    IsFresh c.params (all_applied b (edits ++ KeepImport s label v body rows ∷ [])) page
+import_fresh c b page edits s label v body rows fresh =
+    subst (λ book. IsFresh c.params book page) (sym (applied-more b edits (KeepImport s label v body rows)))
+    (untouched-fresh c (all_applied b edits) page fresh (KeepImport s label v body rows) refl tt)
+
+-- Edits were carried out, of which the last keeps an import,
+module _ (i : Import) (rows : ℕ) (page : PageData) (edits made : List Edit) (all : made ≡ edits ++ KeepImport i.supplier i.label i.variant i.body rows ∷ [])
+    (old mid : Standing) (applies : (c : Cluster) (b : Book) → old c b → AllFit b made → mid c (all_applied b made)) where
+  abbrev also_kept : List Edit
+  also_kept = edits ++ KeepImport i.supplier i.label i.variant i.body rows ∷ []
+
+  -- and the page is let go,
+  pub left_out : (c : Cluster) (b : Book) → old c b → IsFresh c.params b page → AllFit b also_kept → mid c (all_applied b also_kept)
+  left_out c b stood fresh fit =
+      subst (λ es. mid c (all_applied b es)) all (applies c b stood (subst (AllFit b) (sym all) fit))
+
+  -- or given back as they leave it.
+  pub given_back : (after : PageData) → ((c : Cluster) (b : Book) → IsFresh c.params b page → IsFresh c.params (all_applied b edits) after) → (new : Standing) → Keeps mid new after →
+      (c : Cluster) (b : Book) → old c b → IsFresh c.params b page → AllFit b also_kept → new c (all_applied b also_kept)
+  given_back after still new keeps c b stood fresh fit =
+      keeps c (all_applied b also_kept) (left_out c b stood fresh fit) (import_fresh c b after edits i.supplier i.label i.variant i.body rows (still c b fresh))
 
 -- ---- the import
 

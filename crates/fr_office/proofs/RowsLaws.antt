@@ -28,7 +28,7 @@ use Rattle.fr_office.specs.Decided.{allowed, open_page, is_taken}
 use Rattle.fr_office.specs.Held.{Standing, Tells, held_in, page_of}
 use Rattle.fr_office.specs.KeptPages.{IsFresh, Keeps}
 use Rattle.fr_office.proofs.CommandLaws.{Known}
-use Rattle.fr_office.proofs.WarmLaws.{page-fresh, told-fresh}
+use Rattle.fr_office.proofs.WarmLaws.{page-fresh}
 
 -- ---- what is open to a supplier
 

@@ -1,5 +1,5 @@
 -- Records and the pages beside them: what is read of the records and changed in them.
-use Rattle.std.proofs.Common.{◌≡◌, ◌+◌, ◌-◌, ◌&&◌, Bool, true, false, not, List, [], ◌∷◌, ◌++◌, length, drop, Option, Some, None, Result, Ok, Err, All, refl, sym, ap, subst, ◌∙◌}
+use Rattle.std.proofs.Common.{◌≡◌, ◌+◌, ◌-◌, ◌&&◌, Bool, true, false, not, List, [], ◌∷◌, length, drop, Option, Some, None, Result, Ok, Err, All, refl, sym, ap, subst, ◌∙◌}
 use Rattle.std.specs.Prelude.{⊤, OnErr, OnOk, option_map}
 use Rattle.std.proofs.lemmas.List.Elements.{All-drop, All-filter, All-push}
 use Rattle.fr_base.specs.Book.{Variant, Book}

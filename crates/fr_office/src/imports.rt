@@ -1,12 +1,13 @@
 //! What the office makes of an import.
 ghost use Rattle.std.specs.Prelude.{◌≡◌, ◌++◌, [], ◌∷◌, false};
 ghost use Rattle.fr_base.specs.Tables.{get};
-ghost use Rattle.fr_office.specs.Carried.{Replies};
-ghost use Rattle.fr_office.specs.Held.{Applies};
+ghost use Rattle.fr_office.specs.Carried.{Makes, Replies};
+ghost use Rattle.fr_office.specs.Decided.{TakesAll};
 ghost use Rattle.fr_office.specs.Imports.{GivesImport, GivesRows};
 ghost use Rattle.fr_world.specs.ImportLabels.{label_decision};
 ghost use Rattle.fr_world.specs.declared.edit.Edit.TheVariants.{KeepImport};
 
+use crate::amending::amended;
 use crate::open_page::open_page;
 use crate::records::Records;
 use fr_base::{Answer, Body, Import, Refusal};
@@ -48,7 +49,8 @@ fn rows_kept<R: Records>(
     decide_label(kept.as_ref(), import)
 }
 
-// Carries out the rows of the import's file, and keeps it; or tells the first row that is refused.
+// Carries out the rows of the import's file, and keeps it; or tells the first row that is refused. They are
+// decided on a copy of the page, which is given back.
 fn import_rows<R: Records>(
     alloc: Global,
     records: &mut R,
@@ -56,35 +58,44 @@ fn import_rows<R: Records>(
     page: Page,
 ) -> Result<Answer, Refusal>
     requires open { page.released ≡ false }
+    requires params { page.params ≡ R.params records.old }
     ensures falls { R.clean records.new → R.clean records.old }
     ensures gives { R.clean records.new → GivesRows (R.stands records.old) (R.stands records.new) result import.now page }
 {
     let rows = read_import(alloc, &page.params(), import.body.as_slice())?;
     rows_are_checked();
-    match decide_rows(alloc, page, rows.as_slice()) {
+    match decide_rows(alloc, page.clone()?, rows.as_slice()) {
         Ok(edits) => {
             // A file of which no row is refused has at most 512.
             let count = rows.len() as u32;
-            keep(alloc, records, import, edits, count)?;
+            keep(alloc, records, import, page, edits, count)?;
             Ok(Answer::Imported { rows: count })
         }
-        Err(RowFault::Row { line, refusal }) => Ok(Answer::RefusedRow { line, refusal }),
+        Err(RowFault::Row { line, refusal }) => {
+            records.keep(page);
+            Ok(Answer::RefusedRow { line, refusal })
+        }
         Err(RowFault::Unavailable) => Err(Refusal::Unavailable),
     }
 }
 
-// Carries out the edits, and one more that keeps the import with this count of rows.
+// Carries out the edits, which the page takes, and one more that keeps the import with this count of rows;
+// and gives the page back as it is then.
 fn keep<R: Records>(
     alloc: Global,
     records: &mut R,
     import: &Import<'_>,
+    page: Page,
     mut edits: Vec<Edit>,
     rows: u32,
 ) -> Result<(), Refusal>
+    requires params { page.params ≡ R.params records.old }
+    requires takes { TakesAll page edits.items }
     ensures falls { R.clean records.new → R.clean records.old }
-    ensures applies { R.clean records.new → Applies (R.stands records.old) (R.stands records.new) result
+    ensures makes { R.clean records.new → Makes (R.stands records.old) (R.stands records.new) result page
         (edits.items ++ KeepImport import.now.supplier import.now.label import.now.variant import.now.body rows ∷ []) }
 {
+    let amended = amended(page, alloc, &edits);
     edits.push(Edit::KeepImport {
         supplier: import.supplier,
         label: import.label,
@@ -92,5 +103,9 @@ fn keep<R: Records>(
         body: Body::copy(alloc, import.body.as_slice())?,
         rows,
     })?;
-    records.apply(alloc, &edits)
+    records.apply(alloc, &edits)?;
+    if let Ok(page) = amended {
+        records.keep(page);
+    }
+    Ok(())
 }

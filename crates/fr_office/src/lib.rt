@@ -5,7 +5,6 @@
 mod amending;
 mod answering;
 mod commands;
-mod desk;
 #[cfg(test)]
 mod fixture;
 mod imports;
@@ -19,7 +18,6 @@ mod store_records;
 mod suppliers;
 mod warm;
 
-pub use desk::Desk;
 pub use office::Office;
 pub use pages::MAX_PAGES;
 pub use records::Records;

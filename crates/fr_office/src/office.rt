@@ -11,11 +11,10 @@ ghost use Rattle.fr_office.specs.KeptPages.{StandsWarm};
 mod stored;
 
 use crate::answering::answer;
-use crate::desk::Desk;
 use crate::records::Records;
 use crate::running::{Stopped, run};
 use crate::warm::Warm;
-use fr_base::{Actor, Answer, Ask};
+use fr_base::{Actor, Answer, Ask, Desk};
 use std::alloc::Global;
 
 /// The office of a register, which answers requests from its records. It keeps pages of them in memory,
@@ -35,6 +34,10 @@ impl<R: Records> Desk for Office<R> {
     ghost stands = { λ office. StandsWarm R.stands office.warm };
 
     ghost clean = { λ office. R.clean office.warm.records };
+
+    fn actor_of(&self, key: &str) -> Option<Actor> {
+        Office::actor_of(self, key)
+    }
 
     fn ask(&mut self, alloc: Global, ask: &Ask) -> Answer {
         answer(alloc, &mut self.warm, ask)

@@ -5,8 +5,7 @@ ghost use Rattle.fr_base.specs.Cluster.{Cluster};
 ghost use Rattle.fr_base.specs.Sound.{IsSound};
 ghost use Rattle.fr_office.specs.Headline.{WereAnswered};
 
-use crate::desk::Desk;
-use fr_base::{Answer, Ask};
+use fr_base::{Answer, Ask, Desk};
 use std::alloc::Global;
 
 /// There was no memory for one more answer. The requests that were answered were carried out, and of

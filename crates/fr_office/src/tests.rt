@@ -1,8 +1,7 @@
 //! What the check would let pass: a run that stops, and pages that are not kept, though there is memory.
-use crate::desk::Desk;
 use crate::pages::{MAX_PAGES, Pages};
 use crate::running::run;
-use fr_base::{Actor, Answer, Ask, Channels, Name, Params, RawParams, Request, Text};
+use fr_base::{Actor, Answer, Ask, Channels, Desk, Name, Params, RawParams, Request, Text};
 use fr_world::{Edit, Page, PageRows};
 use std::alloc::Global;
 use std::collections::{BTreeMap, BTreeSet};
@@ -19,6 +18,10 @@ impl Desk for Counter {
     ghost stands = { λ _ _ _. ⊥ };
 
     ghost clean = { λ _. ⊥ };
+
+    fn actor_of(&self, _key: &str) -> Option<Actor> {
+        None
+    }
 
     fn ask(&mut self, _alloc: Global, _ask: &Ask) -> Answer {
         let rows = self.asked;

@@ -40,3 +40,6 @@ impl<D: Disk + Drop> Office<Store<FileStore<D>>> {
         self.into_store().close()
     }
 }
+
+#[cfg(test)]
+mod tests;

@@ -9,7 +9,7 @@ use fr_text::{
     read_command, read_config, write_answer, write_gaps, write_layout, write_lines, write_schedule,
 };
 use fr_world::{Page, PageFrame};
-use sqlite::MemStore;
+use sqlite::{Alter, MemStore};
 use std::alloc::Global;
 use std::test::Fail;
 
@@ -17,10 +17,10 @@ use std::test::Fail;
 const MAX_FRAMES: usize = 256;
 
 /// With which key, what is asked, and the answer.
-type Line = (&'static str, &'static str, &'static str);
+pub(super) type Line = (&'static str, &'static str, &'static str);
 
 /// The first script.
-const FIRST: [Line; 6] = [
+pub(super) const FIRST: [Line; 6] = [
     (
         "integrator1",
         r#"{"do":"open_variant","variant":"v1"}"#,
@@ -176,7 +176,7 @@ const GRANTS: [Line; 13] = [
     ),
 ];
 
-fn office(alloc: Global) -> Result<Office<Store<MemStore>>, Fail> {
+pub(super) fn office(alloc: Global) -> Result<Office<Store<MemStore>>, Fail> {
     let config = read_config(alloc, FILE.as_bytes())?;
     Ok(Office::new(alloc, Store::create_in_memory(alloc, &config)?))
 }
@@ -212,7 +212,7 @@ fn run<R: Records>(
 }
 
 // The answers to the lines, as one list, which are as the lines say.
-fn answered<R: Records>(
+pub(super) fn answered<R: Records>(
     alloc: Global,
     office: &mut Office<R>,
     lines: &[Line],
@@ -226,6 +226,18 @@ fn answered<R: Records>(
         }
     }
     Ok(answers)
+}
+
+// In how many lines the supplier is answered.
+pub(super) fn line_count<R: Records>(
+    alloc: Global,
+    office: &mut Office<R>,
+    text: &str,
+) -> Result<usize, Fail> {
+    let asked = ask(alloc, office, "supplier01", text)?;
+    let answer = office.ask(alloc, &asked);
+    let report = write_lines(alloc, &answer)?;
+    Ok(str::from_utf8(&report)?.lines().count())
 }
 
 fn is_report(report: Result<Vec<u8>, NoMemory>, lines: &str) -> Result<bool, Fail> {
@@ -305,7 +317,11 @@ fn answers_to(
     Ok(lines)
 }
 
-fn page(store: &mut Store<MemStore>, alloc: Global, supplier: &str) -> Result<Page, Fail> {
+pub(super) fn page<S: Alter>(
+    store: &mut Store<S>,
+    alloc: Global,
+    supplier: &str,
+) -> Result<Page, Fail> {
     let page = store.page(alloc, &name(supplier)?, &name("v1")?)?;
     Ok(page.ok_or("no page")?)
 }
@@ -316,7 +332,7 @@ fn is_same_frame(frame: &PageFrame, other: &PageFrame) -> bool {
         && frame.layout.signals() == other.layout.signals()
 }
 
-fn is_same(page: &Page, other: &Page) -> bool {
+pub(super) fn is_same(page: &Page, other: &Page) -> bool {
     page.nodes() == other.nodes()
         && page.grants() == other.grants()
         && page.frames().keys().eq(other.frames().keys())

@@ -72,7 +72,7 @@ impl Records for Counted {
 }
 
 /// Which supplier asks, or else the integrator, and what; and how often a page was read by then.
-const ASKED: [(&str, &str, u32); 14] = [
+const ASKED: [(&str, &str, u32); 17] = [
     ("", r#"{"do":"open_variant","variant":"v1"}"#, 0),
     ("", r#"{"do":"add_node","supplier":"s1","node":"n1"}"#, 0),
     (
@@ -100,6 +100,17 @@ const ASKED: [(&str, &str, u32); 14] = [
     ("", r#"{"do":"layout","variant":"v1","frame":"f1"}"#, 2),
     ("", r#"{"do":"add_node","supplier":"s1","node":"n2"}"#, 2),
     ("s1", r#"{"do":"gaps","variant":"v1"}"#, 3),
+    (
+        "s1",
+        r#"{"do":"import","variant":"v1","label":"a","body":"frame,signal,start,length,order\nf1,x,0,8,little\n"}"#,
+        3,
+    ),
+    (
+        "s1",
+        r#"{"do":"import","variant":"v1","label":"b","body":"frame,signal,start,length,order\nf1,x,8,1,little\n"}"#,
+        3,
+    ),
+    ("s1", r#"{"do":"layout","variant":"v1","frame":"f1"}"#, 3),
     ("", r#"{"do":"release","variant":"v1"}"#, 3),
     ("", r#"{"do":"grants","variant":"v1"}"#, 5),
     (

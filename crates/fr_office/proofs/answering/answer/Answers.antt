@@ -1,4 +1,4 @@
-use Rattle.std.proofs.Common.{rules, ◌≡◌, ◌∙◌, Ok, Err, subst, sym}
+use Rattle.std.proofs.Common.{rules, ◌≡◌, Ok, Err, subst}
 use Rattle.fr_base.specs.declared.params.Params.{Params}
 use Rattle.fr_office.specs.Answering.{HasPassed}
 use Rattle.fr_office.proofs.StepLaws.{acted, passed, unchecked, unknown}

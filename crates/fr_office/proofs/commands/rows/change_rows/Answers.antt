@@ -1,4 +1,4 @@
-use Rattle.std.proofs.Common.{rules, Ok, Err}
+use Rattle.std.proofs.Common.{rules, Err}
 use Rattle.fr_office.proofs.RowsLaws.{rows_made, rows_refused, rows_stopped}
 use Rattle.fr_office.proofs.commands.rows.change_rows.Goals as goal
 
