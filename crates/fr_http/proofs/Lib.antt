@@ -1,0 +1,9 @@
+mod StreamLemmas
+pub mod HeadLaws
+pub mod RouteLaws
+pub mod ReplyLaws
+pub mod PlanLaws
+pub mod ReadingLaws
+pub mod ServeLaws
+pub mod KeyLaws
+mod WorkedRows

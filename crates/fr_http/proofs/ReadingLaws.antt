@@ -1,0 +1,62 @@
+-- Laws of what is read of a connection.
+use Rattle.std.proofs.Common.{◌≡◌, ℕ, ◌<◌, ◌≤◌, ◌+◌, ◌-◌, true, false, List, [], ◌∷◌, ◌++◌, length, take, drop, map, Option, Some, None, refl, sym, ap, ◌∙◌, subst, arith, append-nil, append_assoc, length-append}
+use Rattle.std.proofs.lemmas.List.{take_all, length-map, length-take}
+use Rattle.std.proofs.lemmas.Bool.{le-leb, lt-leb}
+use Rattle.std.specs.Prelude.{nat_le}
+use Rattle.httparse.specs.Grammar.{HasNoRequest, NeverHasRequest, ReadsRequest, RequestHead, print_request}
+use Rattle.httparse.specs.Spans.{IsRequestAt, IsRequestOf, IsRequestWithin, RequestOverflows, header_bytes, name_and_value}
+use Rattle.httparse.specs.declared.spans.HeaderSpan.{HeaderSpan}
+use Rattle.httparse.specs.declared.spans.RequestSpans.{RequestSpans}
+use Rattle.fr_http.specs.Head.{BeginsWith, HasNoHead, max_fields, max_head, said}
+use Rattle.fr_http.specs.Outcome.{front}
+use Rattle.fr_http.specs.Reading.{Receives}
+use Rattle.fr_http.specs.Received.{shown}
+
+-- ---- heads
+
+pub no_request_at_first : HasNoRequest []
+unfolding print_request
+no_request_at_first h rest reads = grind (arith, ap length reads.1, length-append, reads.0.method.0)
+
+pub no_head : (bytes : List ℕ) → HasNoRequest bytes → HasNoHead bytes
+no_head bytes none h rest begins = none h rest begins.reads
+
+pub never_head : (bytes : List ℕ) → NeverHasRequest bytes → HasNoHead bytes
+never_head bytes never h rest begins = never [] h rest (begins.reads.0, append-nil bytes ∙ begins.reads.1)
+
+pub crowded_head : (bytes : List ℕ) → RequestOverflows max_fields bytes → HasNoHead bytes
+crowded_head bytes crowded h rest begins = absurd (omega (arith, crowded [] h rest (begins.reads.0, append-nil bytes ∙ begins.reads.1), begins.lines))
+
+received_at : (bytes : List ℕ) (fields : List HeaderSpan) (spans : RequestSpans) (h : RequestHead) → IsRequestAt bytes fields spans h → (shown bytes fields spans).0 ≡ said h
+received_at bytes fields spans h at = λ i. record { method = at.method i; target = at.path i; minor = at.version i; fields = at.fields i }
+
+-- the spans of a whole head show it
+pub receives : (bytes : List ℕ) (fields : List HeaderSpan) (spans : RequestSpans) → length bytes ≤ max_head → length fields ≡ max_fields
+    → IsRequestWithin bytes fields spans → IsRequestOf bytes fields spans → Receives bytes (shown bytes fields spans)
+receives bytes fields spans size room within (h, at) =
+    let count : length (map (header_bytes bytes) (take spans.headers fields)) ≡ length (map name_and_value h.fields) = ap length at.fields in
+    let lines : length h.fields ≤ max_fields = omega (arith, sym (length-map (take spans.headers fields) (header_bytes bytes)) ∙ count ∙ length-map h.fields name_and_value, length-take spans.headers fields, room) in
+    (h, record { reads = at.reads; size = omega (arith, at.len, within.section.len_fits, size); lines = lines }, received_at bytes fields spans h at)
+
+-- ---- bodies
+
+whole : (n : ℕ) (bytes : List ℕ) → length (take n bytes) < n → take n bytes ≡ bytes
+whole n bytes short = take_all n bytes (omega (arith, short, length-take n bytes))
+
+-- a body that is still too short is all that came
+pub cut_short : (n : ℕ) (bytes body : List ℕ) → body ≡ take n bytes → length body < n → front n bytes ≡ None
+cut_short n bytes body is short =
+    let size : length bytes < n = omega (arith, short, ap length is, length-take n bytes) in
+    rw (lt-leb n (length bytes) size) refl
+
+pub complete : (n : ℕ) (bytes body : List ℕ) → body ≡ take n bytes → n ≤ length body → front n bytes ≡ Some body
+complete n bytes body is enough =
+    let size : n ≤ length bytes = omega (arith, enough, ap length is, length-take n bytes) in
+    rw (le-leb n (length bytes) size) (ap (λ b. Some b) (sym is))
+
+pub longer : (n : ℕ) (begun read more body : List ℕ) → body ≡ take n (begun ++ read) → length body < n → length body + length more ≤ n
+    → body ++ more ≡ take n (begun ++ (read ++ more))
+longer n begun read more body is short room =
+    let all : body ≡ begun ++ read = is ∙ whole n (begun ++ read) (subst (λ b. length b < n) is short) in
+    let both : body ++ more ≡ begun ++ (read ++ more) = ap (λ b. b ++ more) all ∙ append_assoc begun read more in
+    both ∙ sym (take_all n (begun ++ (read ++ more)) (omega (arith, ap length both, length-append body more, room)))

@@ -1,0 +1,88 @@
+-- Laws of paths and routes.
+use Rattle.std.proofs.Common.{◌≡◌, ℕ, ◌<◌, Bool, true, false, cond, List, [], ◌∷◌, take, length, refl, sym, ap, ◌∙◌, subst, arith, Option, Some, None, Result, Ok, Err, inl, inr, nat_lt, IsUtf8, Bor, codes}
+use Rattle.std.proofs.lemmas.Bool.{cases_Bool, ltb-false}
+use Rattle.std.proofs.lemmas.List.{take_all}
+use Rattle.std.proofs.lemmas.Str.{IsUtf8-from_ascii}
+use Rattle.std.proofs.lemmas.Str.Ascii.{IsAscii-nil, IsAscii-cons}
+use Rattle.std.proofs.lemmas.Bool.{and_parts}
+use Rattle.std.proofs.lemmas.Bool.Decides.{nat_tests}
+use Rattle.std.specs.Char.{is_ascii}
+use Rattle.std.specs.List.{before_first, list_all, position, position_or_len, slice_get, slice_split}
+use Rattle.std.specs.Option.{option_map, unwrap_or}
+use Rattle.std.specs.Prelude.{◌==◌, is_err}
+use Rattle.std.specs.Str.{IsAscii}
+use Rattle.matchit.specs.Route.{parse_route}
+use Rattle.matchit.specs.Router.{InsertsRead, RouteOf}
+use Rattle.matchit.specs.Rows.{RowsOf}
+use Rattle.matchit.specs.declared.error.InsertError.{InsertError}
+use Rattle.matchit.specs.Route.{Scan}
+use Rattle.fr_http.specs.Routes.{part, router, with_read, with_route}
+use Rattle.fr_http.specs.declared.routes.Route.{Route}
+use Rattle.fr_http.specs.declared.routes.Route.TheVariants.{Commands, Import, Grants, Frames, Schedule, Gaps, Layout}
+
+place_of : (b : Bool) (k at : ℕ) → cond {A = Option ℕ} b (Some k) None ≡ Some at → k ≡ at
+place_of true k at e = grind (arith, e)
+place_of false k at e = grind (arith, e)
+
+none_of : (b : Bool) (k : ℕ) → cond {A = Option ℕ} b (Some k) None ≡ None → b ≡ false
+none_of true k e = grind (arith, e)
+none_of false k e = refl
+
+-- what stands before the first that passes, by its place
+pub before_place : (p : ℕ → Bool) (bytes : List ℕ) (at : ℕ) → position p bytes ≡ Some at → take at bytes ≡ before_first p bytes
+before_place p bytes at found = ap (λ n. take n bytes) (sym (place_of _ _ at found))
+
+pub before_none : (p : ℕ → Bool) (bytes : List ℕ) → position p bytes ≡ None → bytes ≡ before_first p bytes
+before_none p bytes none = sym (take_all (position_or_len p bytes) bytes (omega (arith, ltb-false (position_or_len p bytes) (length bytes) (none_of _ _ none))))
+
+ascii_byte : (b : ℕ) → is_ascii b ≡ true → b < 128
+ascii_byte b h = grind (arith, nat_tests)
+
+ascii_bytes : (bytes : List ℕ) → list_all is_ascii bytes ≡ true → IsAscii bytes
+ascii_bytes [] h = IsAscii-nil
+ascii_bytes (b ∷ bytes) h = IsAscii-cons b bytes (ascii_byte b (and_parts _ _ h).0) (ascii_bytes bytes (and_parts _ _ h).1)
+
+pub ascii_is_text : (bytes : List ℕ) → list_all is_ascii bytes ≡ true → IsUtf8 bytes
+ascii_is_text bytes h = IsUtf8-from_ascii bytes (ascii_bytes bytes h)
+
+inserted_read : (read : Result Scan InsertError) (route : Route) (old new : RowsOf (RouteOf Route)) → InsertsRead read route old new (Ok tt) → new ≡ with_read old route read
+inserted_read (Ok s) route old new h = h.1
+inserted_read (Err e) route old new h = h.0
+
+-- a route that went in is in its place
+pub inserted : (text : List ℕ) (route : Route) (old new : RowsOf (RouteOf Route)) (r : Result (Unit {0}) InsertError) → is_err r ≡ false
+    → InsertsRead (parse_route text) route old new r → new ≡ with_route old (text, route)
+unfolding with_route
+inserted text route old new (Ok u) fine h = inserted_read (parse_route text) route old new h
+inserted text route old new (Err e) fine h = grind (arith, fine)
+
+-- the routes, one after another, are the router
+pub built : (r0 r1 r2 r3 r4 r5 r6 r7 : RowsOf (RouteOf Route)) → r0 ≡ []
+    → r1 ≡ with_route r0 (codes "/v1/commands", Commands)
+    → r2 ≡ with_route r1 (codes "/v1/variants/{variant}/imports/{label}", Import)
+    → r3 ≡ with_route r2 (codes "/v1/variants/{variant}/grants", Grants)
+    → r4 ≡ with_route r3 (codes "/v1/variants/{variant}/frames", Frames)
+    → r5 ≡ with_route r4 (codes "/v1/variants/{variant}/schedule", Schedule)
+    → r6 ≡ with_route r5 (codes "/v1/variants/{variant}/gaps", Gaps)
+    → r7 ≡ with_route r6 (codes "/v1/variants/{variant}/frames/{frame}/layout", Layout)
+    → r7 ≡ router
+unfolding router
+built r0 r1 r2 r3 r4 r5 r6 r7 e0 e1 e2 e3 e4 e5 e6 e7 =
+    e7 ∙ ap (λ r. with_route r (codes "/v1/variants/{variant}/frames/{frame}/layout", Layout)) (
+    e6 ∙ ap (λ r. with_route r (codes "/v1/variants/{variant}/gaps", Gaps)) (
+    e5 ∙ ap (λ r. with_route r (codes "/v1/variants/{variant}/schedule", Schedule)) (
+    e4 ∙ ap (λ r. with_route r (codes "/v1/variants/{variant}/frames", Frames)) (
+    e3 ∙ ap (λ r. with_route r (codes "/v1/variants/{variant}/grants", Grants)) (
+    e2 ∙ ap (λ r. with_route r (codes "/v1/variants/{variant}/imports/{label}", Import)) (
+    e1 ∙ ap (λ r. with_route r (codes "/v1/commands", Commands)) e0))))))
+
+now_of : (r : Option (Bor (List ℕ))) (d : Bor (List ℕ)) → (unwrap_or r d).now ≡ unwrap_or (option_map (λ x. x.now) r) d.now
+now_of None d = refl
+now_of (Some x) d = refl
+
+-- the part that an iterator over the parts found, or none
+pub part_found : (n : ℕ) (path : List ℕ) (found : Option (Bor (List ℕ))) (d result : Bor (List ℕ)) → d.now ≡ [] → result ≡ unwrap_or found d
+    → option_map (λ x. x.now) found ≡ slice_get (slice_split (λ b. b == 47) path) n → result.now ≡ part n path
+unfolding part
+part_found n path found d result empty is there =
+    ap (λ r. r.now) is ∙ now_of found d ∙ ap (λ e. unwrap_or (option_map (λ x. x.now) found) e) empty ∙ ap (λ o. unwrap_or o []) there

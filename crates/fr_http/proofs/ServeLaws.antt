@@ -1,0 +1,401 @@
+-- Laws of a connection's outcome.
+use Rattle.std.proofs.Common.{◌≡◌, ◌≢◌, ℕ, Bool, true, false, List, [], ◌∷◌, ◌++◌, Option, Some, None, Result, Ok, Err, refl, sym, ap, ◌∙◌, subst, append_assoc, append-nil, inl, inr, arith, MatchResult}
+use Rattle.std.proofs.KnownBytes.{Appends-kept, Appends-nil, Appends-trans, Consumes-trans, Keeps-refl}
+use Rattle.std.specs.Io.KnownBytes.{Appends, Consumes, IsAtEnd, Keeps}
+use Rattle.httparse.specs.Grammar.{RequestHead}
+use Rattle.fr_base.specs.Actors.{actor_of}
+use Rattle.fr_base.specs.Book.{Book}
+use Rattle.fr_base.specs.Cluster.{Cluster}
+use Rattle.fr_base.specs.Refusing.{◌>>=◌, ◌>>◌, ◌or◌, refuse◌when◌}
+use Rattle.fr_base.specs.Sound.{IsSound}
+use Rattle.fr_base.specs.declared.actor.Actor.{Actor}
+use Rattle.fr_base.specs.declared.refusal.Refusal.TheVariants.{BadText, UnknownKey}
+use Rattle.fr_base.specs.declared.request.Request.{Request}
+use Rattle.fr_http.specs.Asking.{FindsActor, MakesRequest, Standing}
+use Rattle.std.specs.Prelude.{IfOk, OnErr}
+use Rattle.fr_http.specs.Reply.{Reply, answer_reply, print}
+use Rattle.fr_http.specs.Replying.{IsReply}
+use Rattle.fr_http.specs.declared.reply.ReplyText.{ReplyText}
+use Rattle.fr_http.specs.declared.serve.Served.{Served}
+use Rattle.fr_http.specs.Connection.{HasAnswered, HasReplied, HasSent, HasTaken, IsConnection, IsServed, Replies, WasAsked, InSound, IsInterim, Takes, is_silent}
+use Rattle.fr_http.specs.Head.{BeginsWith, HeadData, key_of, said}
+use Rattle.fr_http.specs.Outcome.{IsOutcome, Wanted, asked_before, continue_if, due, front, holder, interim, outcome_of, plan_of}
+use Rattle.fr_http.specs.Planning.{Plans}
+use Rattle.fr_http.specs.Reading.{FailsToReceive, HasReceived, LacksBody, Receives}
+use Rattle.fr_http.specs.Routes.{method_of, path_of, request_by}
+use Rattle.fr_http.specs.declared.asked.Asked.{Asked}
+use Rattle.fr_http.specs.declared.fault.LinkFault.{LinkFault}
+use Rattle.fr_http.specs.declared.fault.LinkFault.TheVariants.{Truncated, ReadFailed, TooManyReads, WriteFailed, NoMemory}
+use Rattle.fr_http.specs.declared.fault.Rejection.{Rejection}
+use Rattle.fr_http.specs.declared.fault.Unasked.{Unasked}
+use Rattle.fr_http.specs.declared.fault.Unasked.TheVariants.{Engine, Refused, Fault}
+
+-- ---- outcomes, step by step
+
+rejected : (who : List ℕ → Option Actor) (head : HeadData) (rest : List ℕ) (r : Rejection) → plan_of head ≡ Err r → outcome_of who head rest ≡ Err (Engine r)
+unfolding outcome_of ◌>>=◌ ◌>>◌ ◌or◌
+rejected who head rest r h = rw h refl
+
+cut : (who : List ℕ → Option Actor) (head : HeadData) (rest : List ℕ) (w : Wanted) → plan_of head ≡ Ok w → front w.length rest ≡ None
+    → outcome_of who head rest ≡ Err (Fault Truncated)
+unfolding outcome_of ◌>>=◌ ◌>>◌ ◌or◌
+cut who head rest w h none = rw h (rw none refl)
+
+no_text : (who : List ℕ → Option Actor) (head : HeadData) (rest body : List ℕ) (w : Wanted) → plan_of head ≡ Ok w → front w.length rest ≡ Some body
+    → request_by w.route (path_of head.target) body ≡ None → outcome_of who head rest ≡ Err (Refused BadText)
+unfolding outcome_of ◌>>=◌ ◌>>◌ ◌or◌
+no_text who head rest body w h there none = rw h (rw there (rw none refl))
+
+nobody : (who : List ℕ → Option Actor) (head : HeadData) (rest body : List ℕ) (w : Wanted) (request : Request) → plan_of head ≡ Ok w → front w.length rest ≡ Some body
+    → request_by w.route (path_of head.target) body ≡ Some request → holder who (key_of head) ≡ None → outcome_of who head rest ≡ Err (Refused UnknownKey)
+unfolding outcome_of ◌>>=◌ ◌>>◌ ◌or◌
+nobody who head rest body w request h there made none = rw h (rw there (rw made (rw none refl)))
+
+asks : (who : List ℕ → Option Actor) (head : HeadData) (rest body : List ℕ) (w : Wanted) (request : Request) (actor : Actor) → plan_of head ≡ Ok w
+    → front w.length rest ≡ Some body → request_by w.route (path_of head.target) body ≡ Some request → holder who (key_of head) ≡ Some actor
+    → outcome_of who head rest ≡ Ok (record { ask = record { actor = actor; request = request }; method = method_of w.route })
+unfolding outcome_of ◌>>=◌ ◌>>◌ ◌or◌
+asks who head rest body w request actor h there made found = rw h (rw there (rw made (rw found refl)))
+
+interim_none : (head : HeadData) (r : Rejection) → plan_of head ≡ Err r → interim head ≡ []
+unfolding interim
+interim_none head r h = rw h refl
+
+interim_planned : (head : HeadData) (w : Wanted) → plan_of head ≡ Ok w → interim head ≡ continue_if (due w.length head)
+unfolding interim
+interim_planned head w h = rw h refl
+
+begins_more : (bytes more rest : List ℕ) (h : RequestHead) → BeginsWith bytes h rest → BeginsWith (bytes ++ more) h (rest ++ more)
+begins_more bytes more rest h begins = record {
+  reads = (begins.reads.0, ap (λ b. b ++ more) begins.reads.1 ∙ append_assoc _ rest more);
+  size = begins.size;
+  lines = begins.lines;
+}
+
+-- ---- the ways on which nothing is asked
+
+-- no head was received
+pub received_nothing : (stands : Standing) (input left held : Option (List ℕ)) (unasked : Unasked) → HasReceived input left (Err unasked)
+    → HasTaken stands input left held held (Err unasked)
+received_nothing stands input left held (Engine r) (bytes, consumed, fails) = record {
+  bytes = bytes;
+  written = [];
+  consumed = consumed;
+  appended = Appends-nil held;
+  takes = (inl refl, λ c b s i. inr (record { none = fails.none; unasked = Engine r; fails = fails.fails; asks = refl; interim = refl }));
+}
+received_nothing stands input left held (Refused refusal) (bytes, consumed, fails) = absurd fails
+received_nothing stands input left held (Fault Truncated) (bytes, consumed, fails) = record {
+  bytes = bytes;
+  written = [];
+  consumed = consumed;
+  appended = Appends-nil held;
+  takes = (inl refl, fails.1, λ who. inr (record { none = fails.0.none; unasked = Fault Truncated; fails = fails.0.fails; asks = refl; interim = refl }));
+}
+received_nothing stands input left held (Fault ReadFailed) (bytes, consumed, fails) = record {
+  bytes = bytes;
+  written = [];
+  consumed = consumed;
+  appended = Appends-nil held;
+  takes = (fails, λ _. inl refl);
+}
+received_nothing stands input left held (Fault TooManyReads) (bytes, consumed, fails) = record {
+  bytes = bytes;
+  written = [];
+  consumed = consumed;
+  appended = Appends-nil held;
+  takes = (fails, λ _. inl refl);
+}
+received_nothing stands input left held (Fault (WriteFailed asked)) (bytes, consumed, fails) = record {
+  bytes = bytes;
+  written = [];
+  consumed = consumed;
+  appended = Appends-nil held;
+  takes = (fails, λ _. inl refl);
+}
+received_nothing stands input left held (Fault (NoMemory asked)) (bytes, consumed, fails) = record {
+  bytes = bytes;
+  written = [];
+  consumed = consumed;
+  appended = Appends-nil held;
+  takes = (fails, λ _. inl refl);
+}
+
+-- the engine answers to the head, or memory was wanting
+pub planned_nothing : (stands : Standing) (input left held : Option (List ℕ)) (received : HeadData × List ℕ) (unasked : Unasked) → HasReceived input left (Ok received)
+    → Plans received.0 (Err unasked) → HasTaken stands input left held held (Err unasked)
+planned_nothing stands input left held received unasked (bytes, consumed, (h, begins, head)) (inl lacks) = record {
+  bytes = bytes;
+  written = [];
+  consumed = consumed;
+  appended = Appends-nil held;
+  takes = subst (λ u. Takes stands bytes [] left (Err u)) (sym lacks) (refl, λ _. inl refl);
+}
+planned_nothing stands input left held received unasked (bytes, consumed, (h, begins, head)) (inr (r, is, plan)) = record {
+  bytes = bytes;
+  written = [];
+  consumed = consumed;
+  appended = Appends-nil held;
+  takes =
+      let plan_h : plan_of (said h) ≡ Err r = ap plan_of (sym head) ∙ plan in
+      subst (λ u. Takes stands bytes [] left (Err u)) (sym is) (
+        inl refl,
+        λ c b s i.
+            inl (record {
+              head = h;
+              rest = received.1;
+              begins = begins;
+              asks = sym (rejected (actor_of c b) (said h) received.1 r plan_h);
+              interim = sym (interim_none (said h) r plan_h);
+            }),
+      );
+}
+
+-- the interim reply could not be written
+pub not_invited : (stands : Standing) (input left held now : Option (List ℕ)) (received : HeadData × List ℕ) (fault : LinkFault) → HasReceived input left (Ok received)
+    → (fault ≡ WriteFailed false) × ((written : List ℕ) × Appends held now written) → HasTaken stands input left held now (Err (Fault fault))
+not_invited stands input left held now received fault (bytes, consumed, (h, begins, head)) (is, (written, appended)) = record {
+  bytes = bytes;
+  written = written;
+  consumed = consumed;
+  appended = appended;
+  takes = subst (λ f. Takes stands bytes written left (Err (Fault f))) (sym is) (refl, λ silent. grind (arith, silent));
+}
+
+-- ---- behind the head
+
+-- what is known once a body is to be read: the head, what it wants, and what was written
+pub record Invited (input mid held now : Option (List ℕ)) (received : HeadData × List ℕ) (w : Wanted) : Type 0 where
+  pub has : HasReceived input mid (Ok received)
+  pub plan : plan_of received.0 ≡ Ok w
+  pub written : Appends held now (continue_if (due w.length received.0))
+
+abbrev pub Behind : Option (List ℕ) → Option (List ℕ) → List ℕ → Type 0
+Behind mid left more = Consumes mid left more
+
+module _ (stands : Standing) (input mid left held now : Option (List ℕ)) (received : HeadData × List ℕ) (w : Wanted) (more : List ℕ) where
+  -- where the outcome with the head and all that came behind it is this one
+  pub by_head : (invited : Invited input mid held now received w) → Behind mid left more → (outcome : Result Asked Unasked)
+      → Takes stands (invited.has.0 ++ more) (continue_if (due w.length received.0)) left outcome → HasTaken stands input left held now outcome
+  by_head invited behind outcome takes = record {
+    bytes = invited.has.0 ++ more;
+    written = continue_if (due w.length received.0);
+    consumed = Consumes-trans _ _ _ _ _ invited.has.1 behind;
+    appended = invited.written;
+    takes = takes;
+  }
+
+  pub outcome_with : (invited : Invited input mid held now received w) (who : List ℕ → Option Actor) (outcome : Result Asked Unasked)
+      → outcome_of who received.0 (received.1 ++ more) ≡ outcome → IsOutcome who (invited.has.0 ++ more) (continue_if (due w.length received.0)) outcome
+  outcome_with invited who outcome is =
+      let (h, begins, head) = invited.has.2 in
+      inl (record {
+        head = h;
+        rest = received.1 ++ more;
+        begins = begins_more invited.has.0 more received.1 h begins;
+        asks = sym is ∙ ap (λ d. outcome_of who d (received.1 ++ more)) head;
+        interim = sym (interim_planned received.0 w invited.plan) ∙ ap interim head;
+      })
+
+  pub is_interim : (invited : Invited input mid held now received w) → IsInterim (invited.has.0 ++ more) (continue_if (due w.length received.0))
+  is_interim invited =
+      let (h, begins, head) = invited.has.2 in
+      inr (h, received.1 ++ more, begins_more invited.has.0 more received.1 h begins, sym (interim_planned received.0 w invited.plan) ∙ ap interim head)
+
+  -- a fault that says nothing of the bytes
+  pub faulted : (invited : Invited input mid held now received w) → Behind mid left more → (fault : LinkFault) → fault ≢ Truncated → asked_before fault ≡ false
+      → HasTaken stands input left held now (Err (Fault fault))
+  faulted invited behind Truncated other unasked = absurd (other refl)
+  faulted invited behind ReadFailed other unasked = by_head invited behind _ (unasked, λ _. is_interim invited)
+  faulted invited behind TooManyReads other unasked = by_head invited behind _ (unasked, λ _. is_interim invited)
+  faulted invited behind (WriteFailed asked) other unasked = by_head invited behind _ (unasked, λ _. is_interim invited)
+  faulted invited behind (NoMemory asked) other unasked = by_head invited behind _ (unasked, λ _. is_interim invited)
+
+  -- the body is not whole
+  pub no_body : (invited : Invited input mid held now received w) → Behind mid left more → (fault : LinkFault) → LacksBody w.length (received.1 ++ more) left fault
+      → HasTaken stands input left held now (Err (Fault fault))
+  no_body invited behind Truncated (none, end) = by_head invited behind _ (is_interim invited, end, λ who. outcome_with invited who _ (cut who received.0 (received.1 ++ more) w invited.plan none))
+  no_body invited behind ReadFailed lacks = faulted invited behind ReadFailed (λ e. grind (arith, e)) lacks
+  no_body invited behind TooManyReads lacks = faulted invited behind TooManyReads (λ e. grind (arith, e)) lacks
+  no_body invited behind (WriteFailed asked) lacks = faulted invited behind (WriteFailed asked) (λ e. grind (arith, e)) lacks
+  no_body invited behind (NoMemory asked) lacks = faulted invited behind (NoMemory asked) (λ e. grind (arith, e)) lacks
+
+  -- the request's text is none, or memory was wanting
+  pub no_request : (invited : Invited input mid held now received w) → Behind mid left more → (body : List ℕ) → front w.length (received.1 ++ more) ≡ Some body
+      → (unasked : Unasked) → MakesRequest w.route (path_of received.0.target) body (Err unasked) → HasTaken stands input left held now (Err unasked)
+  no_request invited behind body there unasked (inl lacks) =
+      subst (λ u. HasTaken stands input left held now (Err u)) (sym lacks) (faulted invited behind (NoMemory false) (λ e. grind (arith, e)) refl)
+  no_request invited behind body there unasked (inr (is, none)) =
+      subst (λ u. HasTaken stands input left held now (Err u)) (sym is) (by_head invited behind _ (
+        is_interim invited,
+        λ c b s i.
+            outcome_with invited (actor_of c b) _ (no_text (actor_of c b) received.0 (received.1 ++ more) body w invited.plan there none),
+      ))
+
+  -- the key is nobody's
+  pub no_actor : (invited : Invited input mid held now received w) → Behind mid left more → (body : List ℕ) → front w.length (received.1 ++ more) ≡ Some body
+      → (request : Request) → request_by w.route (path_of received.0.target) body ≡ Some request → FindsActor stands received.0 None
+      → HasTaken stands input left held now (Err (Refused UnknownKey))
+  no_actor invited behind body there request made none =
+      by_head invited behind _ (
+        is_interim invited,
+        λ c b s i.
+            outcome_with invited (actor_of c b) _ (nobody (actor_of c b) received.0 (received.1 ++ more) body w request invited.plan there made (sym (none c b s i))),
+      )
+
+  -- the register is to be asked
+  pub to_ask : (invited : Invited input mid held now received w) → Behind mid left more → (body : List ℕ) → front w.length (received.1 ++ more) ≡ Some body
+      → (request : Request) → request_by w.route (path_of received.0.target) body ≡ Some request → (actor : Actor) → FindsActor stands received.0 (Some actor)
+      → HasTaken stands input left held now (Ok (record { ask = record { actor = actor; request = request }; method = method_of w.route }))
+  to_ask invited behind body there request made actor found =
+      by_head invited behind _ (
+        is_interim invited,
+        λ c b s i.
+            outcome_with invited (actor_of c b) _ (asks (actor_of c b) received.0 (received.1 ++ more) body w request actor invited.plan there made (sym (found c b s i))),
+      )
+
+-- ---- replies
+
+pub replied : {E : Type 0} (reply : Result ReplyText E) (expected : Reply) (asked : Bool) (held now : Option (List ℕ)) (done : Result Served LinkFault)
+    → IfOk reply (IsReply expected) → IfOk reply (λ r. HasSent r asked held now done) → OnErr reply ((done ≡ Err (NoMemory asked)) × (now ≡ held))
+    → HasReplied expected asked held now done
+replied (Ok r) expected asked held now (Ok served) is sent none =
+    (subst (Appends held now) is.bytes sent.0, sent.1 ∙ is.status, sent.2)
+replied (Ok r) expected asked held now (Err fault) is sent none = inr sent
+replied (Err e) expected asked held now done is sent none =
+    subst (HasReplied expected asked held now) (sym none.0) (inl (refl, subst (Keeps held) (sym none.1) (Keeps-refl held)))
+
+-- ---- connections
+
+module _ (clean : Type 0) (old new : Standing) (input left held mid now : Option (List ℕ)) where
+  -- the register was asked
+  pub served_asked : (asked : Asked) (done : Result Served LinkFault) → HasTaken old input left held mid (Ok asked) → HasAnswered clean old new asked mid now done
+      → IsConnection clean old new input left held now done
+  served_asked asked (Ok served) t h = record {
+    bytes = t.bytes;
+    written = t.written ++ print (answer_reply asked.method h.answer);
+    consumed = t.consumed;
+    appended = Appends-trans _ _ _ _ _ t.appended h.reply.0;
+    served = λ cl c b s i.
+        let (last, run, stands) = h.step cl c b s i in
+        record {
+          before = t.written;
+          outcome = Ok asked;
+          is_outcome = t.takes.1 c b s i;
+          reply = answer_reply asked.method h.answer;
+          last = last;
+          replied = (h.answer, run, refl);
+          stands = stands;
+          text = refl;
+          status = h.reply.1;
+          asked = h.reply.2;
+        };
+    truncated = λ e. grind (arith, e);
+    silent = tt;
+    asked = λ _. tt;
+  }
+  served_asked asked (Err fault) t h = unanswered h.reply
+    where
+      was_asked : clean → InSound old (λ c b. WasAsked c b new t.bytes)
+      was_asked cl c b s i =
+          let (last, run, stands) = h.step cl c b s i in
+          record { before = t.written; asked = asked; is_outcome = t.takes.1 c b s i; answer = h.answer; last = last; answered = run; stands = stands }
+
+      unanswered : HasReplied (answer_reply asked.method h.answer) true mid now (Err fault) → IsConnection clean old new input left held now (Err fault)
+      unanswered (inl (is, keeps)) = subst (λ f. IsConnection clean old new input left held now (Err f)) (sym is) (record {
+        bytes = t.bytes;
+        written = t.written;
+        consumed = t.consumed;
+        appended = Appends-kept _ _ _ _ t.appended keeps;
+        served = λ _. tt;
+        truncated = λ e. grind (arith, e);
+        silent = λ _. t.takes.0;
+        asked = λ cl _. was_asked cl;
+      })
+      unanswered (inr (is, (w, appended))) = subst (λ f. IsConnection clean old new input left held now (Err f)) (sym is) (record {
+        bytes = t.bytes;
+        written = t.written ++ w;
+        consumed = t.consumed;
+        appended = Appends-trans _ _ _ _ _ t.appended appended;
+        served = λ _. tt;
+        truncated = λ e. grind (arith, e);
+        silent = λ e. grind (arith, e);
+        asked = λ cl _. was_asked cl;
+      })
+
+module _ (clean : Type 0) (old : Standing) (input left held mid now : Option (List ℕ)) where
+  -- a reply was to be written without asking
+  pub served_unasked : (unasked : Unasked) (reply : Reply) (done : Result Served LinkFault) (t : HasTaken old input left held mid (Err unasked))
+      → IsInterim t.bytes t.written → InSound old (λ c b. IsOutcome (actor_of c b) t.bytes t.written (Err unasked))
+      → ((c : Cluster) (b : Book) → Replies c b (Err unasked) reply b) → HasReplied reply false mid now done → IsConnection clean old old input left held now done
+  served_unasked unasked reply (Ok served) t only outcome replies h = record {
+    bytes = t.bytes;
+    written = t.written ++ print reply;
+    consumed = t.consumed;
+    appended = Appends-trans _ _ _ _ _ t.appended h.0;
+    served = λ _ c b s i. record {
+      before = t.written;
+      outcome = Err unasked;
+      is_outcome = outcome c b s i;
+      reply = reply;
+      last = b;
+      replied = replies c b;
+      stands = s;
+      text = refl;
+      status = h.1;
+      asked = h.2;
+    };
+    truncated = λ e. grind (arith, e);
+    silent = tt;
+    asked = λ _. tt;
+  }
+  served_unasked unasked reply (Err fault) t only outcome replies (inl (is, keeps)) = subst (λ f. IsConnection clean old old input left held now (Err f)) (sym is) (record {
+    bytes = t.bytes;
+    written = t.written;
+    consumed = t.consumed;
+    appended = Appends-kept _ _ _ _ t.appended keeps;
+    served = λ _. tt;
+    truncated = λ e. grind (arith, e);
+    silent = λ _. only;
+    asked = λ _ e. grind (arith, e);
+  })
+  served_unasked unasked reply (Err fault) t only outcome replies (inr (is, (w, appended))) = subst (λ f. IsConnection clean old old input left held now (Err f)) (sym is) (record {
+    bytes = t.bytes;
+    written = t.written ++ w;
+    consumed = t.consumed;
+    appended = Appends-trans _ _ _ _ _ t.appended appended;
+    served = λ _. tt;
+    truncated = λ e. grind (arith, e);
+    silent = λ e. grind (arith, e);
+    asked = λ _ e. grind (arith, e);
+  })
+
+  other : (fault : LinkFault) (t : HasTaken old input left held mid (Err (Fault fault))) → (asked_before fault ≡ false) × (is_silent fault ≡ true → IsInterim t.bytes t.written)
+      → fault ≢ Truncated → IsConnection clean old old input left held mid (Err fault)
+  other fault t takes differs = record {
+    bytes = t.bytes;
+    written = t.written;
+    consumed = t.consumed;
+    appended = t.appended;
+    served = λ _. tt;
+    truncated = λ e. absurd (differs (grind (arith, e)));
+    silent = takes.1;
+    asked = λ _ e. grind (arith, e, takes.0);
+  }
+
+  -- a fault came before
+  pub served_fault : (fault : LinkFault) → HasTaken old input left held mid (Err (Fault fault)) → IsConnection clean old old input left held mid (Err fault)
+  served_fault Truncated t = record {
+    bytes = t.bytes;
+    written = t.written;
+    consumed = t.consumed;
+    appended = t.appended;
+    served = λ _. tt;
+    truncated = λ _. (t.takes.1, t.takes.2);
+    silent = λ _. t.takes.0;
+    asked = λ _ e. grind (arith, e);
+  }
+  served_fault ReadFailed t = other ReadFailed t t.takes (λ e. grind (arith, e))
+  served_fault TooManyReads t = other TooManyReads t t.takes (λ e. grind (arith, e))
+  served_fault (WriteFailed asked) t = other (WriteFailed asked) t t.takes (λ e. grind (arith, e))
+  served_fault (NoMemory asked) t = other (NoMemory asked) t t.takes (λ e. grind (arith, e))

@@ -1,0 +1,190 @@
+-- Requests and replies, computed by the definitions.
+use Rattle.std.specs.Fmt.{digits}
+use Rattle.std.specs.Prelude.{⊤, ℕ, ◌≡◌, false, true, List, [], ◌∷◌, ◌++◌, codes, map, if◌then◌else◌, Option, Some, None, Result, Ok, Err, refl}
+use Rattle.matchit.proofs.OnLiterals.{matchit_on_literals}
+use Rattle.matchit.specs.Route.{scan}
+use Rattle.matchit.specs.Seek.{seek, param_step}
+use Rattle.fr_base.specs.Names.{same_text}
+use Rattle.fr_base.specs.Refusing.{◌>>=◌, ◌>>◌, ◌or◌, refuse◌when◌}
+use Rattle.fr_base.specs.declared.actor.Actor.{Actor}
+use Rattle.fr_base.specs.declared.actor.Actor.TheVariants as actor
+use Rattle.fr_base.specs.declared.answer.Answer.TheVariants as answer
+use Rattle.fr_base.specs.declared.channel.Channel.TheVariants as channel
+use Rattle.fr_base.specs.declared.refusal.Refusal.TheVariants as refusal
+use Rattle.fr_base.specs.declared.request.Request.TheVariants as request
+use Rattle.fr_text.specs.AnswerText.{report_of, text_of, text_of_refusal}
+use Rattle.fr_text.specs.Report.{lines_of, schedule_line}
+use Rattle.fr_text.specs.Styles.{plain_lines, json_lines}
+use Rattle.fr_text.specs.Words.{right_in}
+use Rattle.fr_http.specs.Head.{HeadData, values}
+use Rattle.fr_http.specs.Routes.{part, request_by, route_of, router, with_route}
+use Rattle.fr_http.specs.Outcome.{due, interim, length_in, outcome_of, plan_of}
+use Rattle.fr_http.specs.Reply.{answer_reply, body_of, engine_reply, print, status_line}
+use Rattle.fr_http.specs.declared.asked.Asked.{Asked}
+use Rattle.fr_http.specs.declared.fault.Rejection.TheVariants.{BadRequest, NotFound, MethodNotAllowed, LengthRequired, PayloadTooLarge, HeadTooLarge, NotImplemented}
+use Rattle.fr_http.specs.declared.fault.Unasked.TheVariants.{Engine, Refused, Fault}
+use Rattle.fr_http.specs.declared.fault.LinkFault.TheVariants.{Truncated}
+use Rattle.fr_http.specs.declared.method.Method.TheVariants.{Get, Post}
+use Rattle.fr_http.specs.declared.routes.Route.TheVariants.{Commands, Import, Grants, Frames, Schedule, Gaps, Layout}
+
+-- what an answer unfolds to compute these definitions
+unfoldable rows : ⊤
+unfolding seek param_step scan values part request_by route_of router with_route interim due length_in outcome_of plan_of answer_reply engine_reply body_of print ◌>>=◌ ◌>>◌ ◌or◌ refuse◌when◌ report_of text_of text_of_refusal lines_of schedule_line plain_lines json_lines right_in digits
+rows = tt
+
+-- ---- routes
+
+-- the route of each path, and its parts
+pub routes :
+    map route_of (
+    codes "/v1/commands" ∷ codes "/v1/variants/v1/imports/a" ∷ codes "/v1/variants/v1/grants" ∷ codes "/v1/variants/v1/frames"
+    ∷ codes "/v1/variants/v1/schedule" ∷ codes "/v1/variants/v1/gaps" ∷ codes "/v1/variants/v1/frames/f1/layout" ∷ codes "/v1/variants/1%20v/gaps" ∷ []
+    )
+    ≡ Some Commands ∷ Some Import ∷ Some Grants ∷ Some Frames ∷ Some Schedule ∷ Some Gaps ∷ Some Layout ∷ Some Gaps ∷ []
+unfolding rows
+routes = refl
+
+pub no_routes :
+    map route_of (
+    codes "/v1/nothing" ∷ codes "/v1/commands/" ∷ codes "/V1/commands" ∷ codes "/v1/variants//gaps" ∷ codes "/v1/variants/v1" ∷ (codes "/v1/variants/" ++ 195 ∷ 164 ∷ codes "/gaps") ∷ codes "*" ∷ []
+    )
+    ≡ None ∷ None ∷ None ∷ None ∷ None ∷ None ∷ None ∷ []
+unfolding rows
+no_routes = refl
+
+pub requests :
+    request_by Import (codes "/v1/variants/v1/imports/a") (codes "x")
+    ∷ request_by Schedule (codes "/v1/variants/v1/schedule") []
+    ∷ request_by Layout (codes "/v1/variants/v1/frames/f1/layout") []
+    ∷ []
+    ≡ Some (request.Import (codes "v1") (codes "a") (codes "x")) ∷ Some (request.Schedule (codes "v1")) ∷ Some (request.Layout (codes "v1") (codes "f1")) ∷ []
+unfolding rows
+requests = refl
+
+-- ---- heads
+
+abbrev head : List ℕ → List ℕ → List (List ℕ × List ℕ) → HeadData
+head method target fields = record { method = method; target = target; minor = 1; fields = fields }
+
+-- a command with such fields beside its key
+abbrev command : List (List ℕ × List ℕ) → HeadData
+command fields = head (codes "POST") (codes "/v1/commands") ((codes "X-Office-Key", codes "supplier01") ∷ fields)
+
+abbrev length_field : List ℕ → List ℕ × List ℕ
+length_field value = (codes "Content-Length", value)
+
+-- the engine's own answers, in their order
+pub rejections :
+    map plan_of (
+    head (codes "PUT") (codes "/v1/nothing") ((codes "Transfer-Encoding", codes "chunked") ∷ [])
+    ∷ head (codes "PUT") (codes "/v1/nothing") [] ∷ head (codes "PUT") (codes "/v1/commands") [] ∷ head (codes "post") (codes "/v1/variants/v1/gaps") []
+    ∷ command [] ∷ command (length_field (codes "65537") ∷ length_field (codes "65537") ∷ []) ∷ command (length_field (codes "1a") ∷ [])
+    ∷ command (length_field [] ∷ []) ∷ command (length_field (codes "+1") ∷ []) ∷ command (length_field (codes "65537") ∷ [])
+    ∷ command (length_field (codes "999999999999999999999999999999") ∷ []) ∷ []
+    )
+    ≡ Err NotImplemented ∷ Err NotFound ∷ Err (MethodNotAllowed Post) ∷ Err (MethodNotAllowed Get) ∷ Err LengthRequired ∷ Err BadRequest ∷ Err BadRequest
+    ∷ Err BadRequest ∷ Err BadRequest ∷ Err PayloadTooLarge ∷ Err PayloadTooLarge ∷ []
+unfolding rows
+rejections = refl
+
+-- what is asked for
+pub plans :
+    map plan_of (
+    command (length_field (codes "65536") ∷ []) ∷ command (length_field (codes "007") ∷ [])
+    ∷ head (codes "GET") (codes "/v1/variants/v1/gaps?x=1") (length_field (codes "1a") ∷ []) ∷ []
+    )
+    ≡ Ok (record { route = Commands; length = 65536 }) ∷ Ok (record { route = Commands; length = 7 }) ∷ Ok (record { route = Gaps; length = 0 }) ∷ []
+unfolding rows
+plans = refl
+
+-- `100 Continue` is due for a body that is to come by HTTP/1.1, and else not
+pub continues :
+    map interim (
+    command (length_field (codes "9") ∷ (codes "Expect", codes "other") ∷ (codes "EXPECT", codes "100-Continue") ∷ [])
+    ∷ command (length_field (codes "0") ∷ (codes "expect", codes "100-continue") ∷ [])
+    ∷ record (command (length_field (codes "9") ∷ (codes "expect", codes "100-continue") ∷ [])) { minor = 0 }
+    ∷ command (length_field (codes "9") ∷ (codes "expect", codes "100") ∷ [])
+    ∷ head (codes "GET") (codes "/v1/variants/v1/gaps") (length_field (codes "9") ∷ (codes "expect", codes "100-continue") ∷ []) ∷ []
+    )
+    ≡ codes "HTTP/1.1 100 Continue\r\n\r\n" ∷ [] ∷ [] ∷ [] ∷ [] ∷ []
+unfolding rows
+continues = refl
+
+-- ---- outcomes
+
+-- one supplier has a key
+abbrev who : List ℕ → Option Actor
+who key = if same_text key (codes "supplier01") then Some (actor.Supplier (codes "s1")) else None
+
+pub asks_schedule :
+    outcome_of who (head (codes "GET") (codes "/v1/variants/v1/schedule") ((codes "Host", codes "localhost") ∷ (codes "X-Office-Key", codes "supplier01") ∷ [])) []
+    ≡ Ok (record { ask = record { actor = actor.Supplier (codes "s1"); request = request.Schedule (codes "v1") }; method = Get })
+unfolding rows
+asks_schedule = refl
+
+-- a name that is none is found out when the register is asked; a key that stands twice, or not at all, is nobody's
+pub unknown_keys :
+    map (λ fields. outcome_of who (head (codes "GET") (codes "/v1/variants/1v/gaps") fields) []) (
+    [] ∷ ((codes "x-office-key", codes "supplier02") ∷ []) ∷ ((codes "x-office-key", codes "supplier01") ∷ (codes "X-Office-Key", codes "supplier01") ∷ []) ∷ []
+    )
+    ≡ Err (Refused refusal.UnknownKey) ∷ Err (Refused refusal.UnknownKey) ∷ Err (Refused refusal.UnknownKey) ∷ []
+unfolding rows
+unknown_keys = refl
+
+-- what follows the body is ignored; a body that is cut short is no request
+pub imports :
+    map (λ rest. outcome_of who (head (codes "POST") (codes "/v1/variants/v1/imports/a") ((codes "x-office-key", codes "supplier01") ∷ length_field (codes "2") ∷ [])) rest)
+    (codes "xyz" ∷ codes "x" ∷ [])
+    ≡ Ok (record { ask = record { actor = actor.Supplier (codes "s1"); request = request.Import (codes "v1") (codes "a") (codes "xy") }; method = Post })
+    ∷ Err (Fault Truncated) ∷ []
+unfolding rows
+imports = refl
+
+-- ---- replies
+
+pub schedule_reply :
+    print (answer_reply Get (answer.Schedule false (record { cycle = 0; slot = 1; channel = channel.A; frame = codes "f1"; node = codes "n1"; supplier = codes "s1" } ∷ [])))
+    ≡ codes "HTTP/1.1 200 OK\r\ncontent-type: text/plain; charset=us-ascii\r\ncontent-length: 16\r\nconnection: close\r\n\r\n00 0001 A f1 n1\n"
+unfolding rows
+schedule_reply = refl
+
+pub empty_reply :
+    print (answer_reply Get (answer.Gaps true []))
+    ≡ codes "HTTP/1.1 200 OK\r\ncontent-type: text/plain; charset=us-ascii\r\ncontent-length: 0\r\nconnection: close\r\n\r\n"
+unfolding rows
+empty_reply = refl
+
+pub done_reply :
+    print (answer_reply Post answer.Done)
+    ≡ codes "HTTP/1.1 200 OK\r\ncontent-type: application/json\r\ncontent-length: 13\r\nconnection: close\r\n\r\n{\"ok\":\"done\"}"
+unfolding rows
+done_reply = refl
+
+pub unknown_key_reply :
+    print (answer_reply Get (answer.Refused refusal.UnknownKey))
+    ≡ codes "HTTP/1.1 401 Unauthorized\r\ncontent-type: application/json\r\ncontent-length: 31\r\nwww-authenticate: Office-Key\r\nconnection: close\r\n\r\n{\"no\":2,\"refused\":\"UnknownKey\"}"
+unfolding rows
+unknown_key_reply = refl
+
+pub refused_row_reply :
+    print (answer_reply Post (answer.RefusedRow 2 refusal.BadText))
+    ≡ codes "HTTP/1.1 422 Unprocessable Entity\r\ncontent-type: application/json\r\ncontent-length: 72\r\nconnection: close\r\n\r\n{\"line\":2,\"no\":29,\"refused\":\"BadRow\",\"row\":{\"no\":1,\"refused\":\"BadText\"}}"
+unfolding rows
+refused_row_reply = refl
+
+pub too_large_reply : print (engine_reply PayloadTooLarge) ≡ codes "HTTP/1.1 413 Payload Too Large\r\ncontent-length: 0\r\nconnection: close\r\n\r\n"
+unfolding rows
+too_large_reply = refl
+
+pub not_allowed_reply :
+    print (engine_reply (MethodNotAllowed Get)) ≡ codes "HTTP/1.1 405 Method Not Allowed\r\ncontent-length: 0\r\nallow: GET\r\nconnection: close\r\n\r\n"
+unfolding rows
+not_allowed_reply = refl
+
+-- the first line of each of the engine's own answers
+pub status_lines :
+    map (λ rejection. status_line (engine_reply rejection).status) (BadRequest ∷ NotFound ∷ MethodNotAllowed Post ∷ LengthRequired ∷ PayloadTooLarge ∷ HeadTooLarge ∷ NotImplemented ∷ [])
+    ≡ codes "HTTP/1.1 400 Bad Request\r\n" ∷ codes "HTTP/1.1 404 Not Found\r\n" ∷ codes "HTTP/1.1 405 Method Not Allowed\r\n" ∷ codes "HTTP/1.1 411 Length Required\r\n"
+    ∷ codes "HTTP/1.1 413 Payload Too Large\r\n" ∷ codes "HTTP/1.1 431 Request Header Fields Too Large\r\n" ∷ codes "HTTP/1.1 501 Not Implemented\r\n" ∷ []
+unfolding rows
+status_lines = refl

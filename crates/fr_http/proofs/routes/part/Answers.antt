@@ -1,0 +1,10 @@
+use Rattle.std.proofs.Common.{refl, lit<}
+use Rattle.std.proofs.lemmas.Iterator.Consumers.{nth_from_yields_List}
+use Rattle.std.proofs.lemmas.Iterator.Splits.{YieldsList-from_str_split}
+use Rattle.fr_http.proofs.RouteLaws.{part_found}
+use Rattle.fr_http.proofs.routes.part.Goals as goal
+
+pub returns : goal.returns
+returns c =
+    part_found c.args.slashes c.args.path.now c.nth.result _ c.unwrap_or.result refl c.unwrap_or.ensures
+    (nth_from_yields_List _ _ c.args.slashes c.nth.ensures.ran (YieldsList-from_str_split 47 c.args.path.now (lit< tt) c.split.ensures.text c.split.ensures.has_more c.split.ensures.pattern))

@@ -1,0 +1,42 @@
+-- What is said of a request and of who asks it, on the way to an outcome.
+use Rattle.std.specs.Prelude.{ℕ, ◌≡◌, ◌⊎◌, false, List, Option, None, Some, Result, Ok, Err}
+use Rattle.fr_base.specs.Actors.{actor_of}
+use Rattle.fr_base.specs.Book.{Book}
+use Rattle.fr_base.specs.Cluster.{Cluster}
+use Rattle.fr_base.specs.Sound.{IsSound}
+use Rattle.fr_base.specs.declared.actor.Actor.{Actor}
+use Rattle.fr_base.specs.declared.refusal.Refusal.{Refusal}
+use Rattle.fr_base.specs.declared.refusal.Refusal.TheVariants.{BadText, Unavailable}
+use Rattle.fr_base.specs.declared.request.Request.{Request}
+use Rattle.fr_text.specs.RequestText.{request_of}
+use Rattle.fr_http.specs.Head.{HeadData, key_of}
+use Rattle.fr_http.specs.Outcome.{holder}
+use Rattle.fr_http.specs.Routes.{request_by}
+use Rattle.fr_http.specs.declared.fault.LinkFault.TheVariants.{NoMemory}
+use Rattle.fr_http.specs.declared.fault.Unasked.{Unasked}
+use Rattle.fr_http.specs.declared.fault.Unasked.TheVariants.{Fault, Refused}
+use Rattle.fr_http.specs.declared.routes.Route.{Route}
+
+-- what a register's rows stand for: a cluster file and a book
+abbrev pub Standing : Type 1
+Standing = Cluster → Book → Type 0
+
+-- The request is what the body's text is; or it is none; or memory was wanting.
+abbrev pub MakesCommand : List ℕ → Result Request Unasked → Type 0
+MakesCommand body (Ok request) = request_of body ≡ Some request
+MakesCommand body (Err unasked) = (unasked ≡ Fault (NoMemory false)) ⊎ ((unasked ≡ Refused BadText) × (request_of body ≡ None))
+
+-- The request is the route's; or its text is none; or memory was wanting.
+abbrev pub MakesRequest : Route → List ℕ → List ℕ → Result Request Unasked → Type 0
+MakesRequest route path body (Ok request) = request_by route path body ≡ Some request
+MakesRequest route path body (Err unasked) =
+    (unasked ≡ Fault (NoMemory false)) ⊎ ((unasked ≡ Refused BadText) × (request_by route path body ≡ None))
+
+-- In a sound book this is who has the head's key.
+abbrev pub FindsActor : Standing → HeadData → Option Actor → Type 0
+FindsActor stands head found = (c : Cluster) (b : Book) → stands c b → IsSound c b → found ≡ holder (actor_of c b) (key_of head)
+
+-- why nothing is asked where a request is refused: want of memory is a fault
+abbrev pub unasked_by : Refusal → Unasked
+unasked_by Unavailable = Fault (NoMemory false)
+unasked_by refusal = Refused refusal

@@ -1,0 +1,10 @@
+pub mod Head
+pub mod Received
+pub mod Routes
+pub mod Outcome
+pub mod Planning
+pub mod Reading
+pub mod Asking
+pub mod Reply
+pub mod Replying
+pub mod Connection

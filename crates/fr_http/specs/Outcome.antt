@@ -1,0 +1,140 @@
+-- What the bytes of a connection ask, or why they ask nothing.
+use Rattle.std.specs.Prelude.{ℕ, ◌≡◌, ◌⊎◌, ◌≤◌, ◌<◌, Bool, false, not, ◌&&◌, ◌==◌, nat_lt, nat_le, List, [], ◌∷◌, length, take, codes, Option, Some, None, Result, Ok, Err, if◌then◌else◌}
+use Rattle.std.specs.Char.{is_ascii_digit}
+use Rattle.std.specs.List.{list_all, list_any}
+use Rattle.std.specs.Str.Parse.{digits_value}
+use Rattle.httparse.specs.Grammar.{NeverHasRequest, RequestHead}
+use Rattle.httparse.specs.Spans.{RequestExceeds}
+use Rattle.fr_base.specs.Names.{same_text}
+use Rattle.fr_base.specs.Refusing.{◌>>=◌, ◌>>◌, ◌or◌, refuse◌when◌}
+use Rattle.fr_base.specs.declared.actor.Actor.{Actor}
+use Rattle.fr_base.specs.declared.refusal.Refusal.TheVariants.{BadText, UnknownKey}
+use Rattle.fr_http.specs.Head.{BeginsWith, HasNoHead, HeadData, key_of, max_fields, max_head, said, same_but_case, values}
+use Rattle.fr_http.specs.Routes.{method_of, path_of, request_by, route_of, text_of_method}
+use Rattle.fr_http.specs.declared.asked.Asked.{Asked}
+use Rattle.fr_http.specs.declared.fault.LinkFault.{LinkFault}
+use Rattle.fr_http.specs.declared.fault.LinkFault.TheVariants.{Truncated, ReadFailed, TooManyReads, WriteFailed, NoMemory}
+use Rattle.fr_http.specs.declared.fault.Rejection.{Rejection}
+use Rattle.fr_http.specs.declared.fault.Rejection.TheVariants.{BadRequest, NotFound, MethodNotAllowed, LengthRequired, PayloadTooLarge, HeadTooLarge, NotImplemented}
+use Rattle.fr_http.specs.declared.fault.Unasked.{Unasked}
+use Rattle.fr_http.specs.declared.fault.Unasked.TheVariants.{Engine, Refused, Fault}
+use Rattle.fr_http.specs.declared.method.Method.{Method}
+use Rattle.fr_http.specs.declared.method.Method.TheVariants.{Get, Post}
+use Rattle.fr_http.specs.declared.routes.Route.{Route}
+
+-- how many bytes a body has at most
+abbrev pub max_body : ℕ
+max_body = 65536
+
+-- one or more ASCII digits
+abbrev pub is_decimal : List ℕ → Bool
+is_decimal text = nat_lt 0 (length text) && list_all is_ascii_digit text
+
+-- how long a body is, by the values of its `content-length`
+unfoldable pub length_in : List (List ℕ) → Result ℕ Rejection
+length_in [] = Err LengthRequired
+length_in (value ∷ []) = do
+  refuse BadRequest when not (is_decimal value)
+  refuse PayloadTooLarge when nat_lt max_body (digits_value 10 value)
+  Ok (digits_value 10 value)
+length_in (_ ∷ _ ∷ _) = Err BadRequest
+
+-- the body of a request by GET is not read
+abbrev pub body_length : Method → HeadData → Result ℕ Rejection
+body_length Get head = Ok 0
+body_length Post head = length_in (values (codes "content-length") head.fields)
+
+-- what a head asks for: the route of its path, and how long its body is
+pub record Wanted : Type 0 where
+  pub route : Route
+  pub length : ℕ
+
+-- what the head asks for, or the engine's own answer
+unfoldable pub plan_of : HeadData → Result Wanted Rejection
+plan_of head = do
+  refuse NotImplemented when nat_lt 0 (length (values (codes "transfer-encoding") head.fields))
+  route ← route_of (path_of head.target) or NotFound
+  refuse MethodNotAllowed (method_of route) when not (same_text head.method (text_of_method (method_of route)))
+  n ← body_length (method_of route) head
+  Ok (record { route = route; length = n })
+
+-- whether the field asks for `100 Continue`
+abbrev pub is_continue : List ℕ → Bool
+is_continue value = same_but_case value (codes "100-continue")
+
+-- whether `100 Continue` is due: a body is to come, the version is 1.1, and a field `expect` asks for it
+unfoldable pub due : ℕ → HeadData → Bool
+due n head = nat_lt 0 n && ((head.minor == 1) && list_any is_continue (values (codes "expect") head.fields))
+
+abbrev pub continue_reply : List ℕ
+continue_reply = codes "HTTP/1.1 100 Continue\r\n\r\n"
+
+abbrev pub continue_if : Bool → List ℕ
+continue_if due = if due then continue_reply else []
+
+-- what is written before the body is read
+abbrev pub interim_to : Result Wanted Rejection → HeadData → List ℕ
+interim_to (Ok wanted) head = continue_if (due wanted.length head)
+interim_to (Err _) head = []
+
+unfoldable pub interim : HeadData → List ℕ
+interim head = interim_to (plan_of head) head
+
+-- the first n bytes, if so many are there
+abbrev pub front : ℕ → List ℕ → Option (List ℕ)
+front n bytes = if nat_le n (length bytes) then Some (take n bytes) else None
+
+-- the engine's own answer, as a cause why nothing is asked
+abbrev pub by_engine : {A : Type 0} → Result A Rejection → Result A Unasked
+by_engine (Ok x) = Ok x
+by_engine (Err rejection) = Err (Engine rejection)
+
+-- whether the register was asked before this fault
+abbrev pub asked_before : LinkFault → Bool
+asked_before (WriteFailed asked) = asked
+asked_before (NoMemory asked) = asked
+asked_before Truncated = false
+asked_before ReadFailed = false
+asked_before TooManyReads = false
+
+-- who has the key, if there is one
+abbrev pub holder : (List ℕ → Option Actor) → Option (List ℕ) → Option Actor
+holder who None = None
+holder who (Some key) = who key
+
+-- What is asked, or why nothing is, by the head and by what came after it. The input ended there, if a body is cut short.
+unfoldable pub outcome_of : (List ℕ → Option Actor) → HeadData → List ℕ → Result Asked Unasked
+outcome_of who head rest = do
+  plan ← by_engine (plan_of head)
+  body ← front plan.length rest or Fault Truncated
+  request ← request_by plan.route (path_of head.target) body or Refused BadText
+  actor ← holder who (key_of head) or Refused UnknownKey
+  Ok (record { ask = record { actor = actor; request = request }; method = method_of plan.route })
+
+-- Why nothing is asked by bytes that begin with no head: no head can come of them; or they are too many, or some of their
+-- lines and an empty line would be a head with too many fields; or the input ended before they were too many.
+abbrev pub HeadFails : List ℕ → Unasked → Type 0
+HeadFails bytes (Engine BadRequest) = NeverHasRequest bytes
+HeadFails bytes (Engine HeadTooLarge) = (max_head ≤ length bytes) ⊎ RequestExceeds max_fields bytes
+HeadFails bytes (Fault Truncated) = length bytes < max_head
+HeadFails bytes _ = ⊥
+
+-- The bytes have this outcome by the head with which they begin, before which this was written.
+pub record HeadOutcome (who : List ℕ → Option Actor) (bytes written : List ℕ) (outcome : Result Asked Unasked) : Type 0 where
+  pub head : RequestHead
+  pub rest : List ℕ
+  pub begins : BeginsWith bytes head rest
+  pub asks : outcome ≡ outcome_of who (said head) rest
+  pub interim : written ≡ interim (said head)
+
+-- The bytes have this outcome without a head.
+pub record NoHeadOutcome (bytes written : List ℕ) (outcome : Result Asked Unasked) : Type 0 where
+  pub none : HasNoHead bytes
+  pub unasked : Unasked
+  pub fails : HeadFails bytes unasked
+  pub asks : outcome ≡ Err unasked
+  pub interim : written ≡ []
+
+-- The bytes of a connection have this outcome, before which this was written.
+abbrev pub IsOutcome : (List ℕ → Option Actor) → List ℕ → List ℕ → Result Asked Unasked → Type 0
+IsOutcome who bytes written outcome = HeadOutcome who bytes written outcome ⊎ NoHeadOutcome bytes written outcome

@@ -1,0 +1,42 @@
+-- What is said of the bytes that were read, on the way to an outcome.
+use Rattle.std.specs.Global.{Vec}
+use Rattle.std.specs.Prelude.{ℕ, ◌≡◌, Bool, false, List, ◌++◌, Option, Some, None, Result, Ok, Err, MatchResult}
+use Rattle.std.specs.Io.KnownBytes.{Consumes, IsAtEnd}
+use Rattle.httparse.specs.Grammar.{RequestHead}
+use Rattle.fr_http.specs.Head.{BeginsWith, HasNoHead, HeadData, said}
+use Rattle.fr_http.specs.Outcome.{HeadFails, asked_before, front}
+use Rattle.fr_http.specs.declared.fault.LinkFault.{LinkFault}
+use Rattle.fr_http.specs.declared.fault.LinkFault.TheVariants.{Truncated}
+use Rattle.fr_http.specs.declared.fault.Unasked.{Unasked}
+use Rattle.fr_http.specs.declared.fault.Unasked.TheVariants.{Engine, Refused, Fault}
+
+-- The bytes begin with this head, and this follows it.
+abbrev pub Receives : List ℕ → HeadData × List ℕ → Type 0
+Receives bytes received = (h : RequestHead) × BeginsWith bytes h received.1 × (received.0 ≡ said h)
+
+-- Without a head the bytes have this outcome.
+pub record Fails (bytes : List ℕ) (unasked : Unasked) : Type 0 where
+  pub none : HasNoHead bytes
+  pub fails : HeadFails bytes unasked
+
+-- There was no head to the bytes: that is their outcome, and where they were cut short the input ended; or a fault came that says
+-- nothing of them.
+abbrev pub FailsToReceive : List ℕ → Option (List ℕ) → Unasked → Type 0
+FailsToReceive bytes left (Engine rejection) = Fails bytes (Engine rejection)
+FailsToReceive bytes left (Refused _) = ⊥
+FailsToReceive bytes left (Fault Truncated) = Fails bytes (Fault Truncated) × IsAtEnd left
+FailsToReceive bytes left (Fault fault) = asked_before fault ≡ false
+
+-- What was read of the input, by whether a head was received.
+abbrev pub HasReceived : Option (List ℕ) → Option (List ℕ) → Result (HeadData × List ℕ) Unasked → Type 0
+HasReceived input left result = (bytes : List ℕ) × Consumes input left bytes × MatchResult result (Receives bytes) (FailsToReceive bytes left)
+
+-- There is no whole body: the bytes are cut short, and the input ended; or a fault came that says nothing of them.
+abbrev pub LacksBody : ℕ → List ℕ → Option (List ℕ) → LinkFault → Type 0
+LacksBody n bytes left Truncated = (front n bytes ≡ None) × IsAtEnd left
+LacksBody n bytes left fault = asked_before fault ≡ false
+
+-- What was read of the input behind these bytes, by whether the body was whole.
+abbrev pub HasBody : ℕ → List ℕ → Option (List ℕ) → Option (List ℕ) → Result (Vec ℕ) LinkFault → Type 0
+HasBody n begun input left result = (bytes : List ℕ) × Consumes input left bytes
+    × MatchResult result (λ body. front n (begun ++ bytes) ≡ Some body.items) (LacksBody n (begun ++ bytes) left)

@@ -1,0 +1,83 @@
+-- Which request a path asks for.
+use Rattle.std.specs.Prelude.{ℕ, Bool, ◌==◌, List, [], ◌∷◌, codes, Option, Some, None, Result, Ok, Err, if◌then◌else◌, unwrap_or}
+use Rattle.std.specs.List.{before_first, fold, list_all, slice_get, slice_split}
+use Rattle.std.specs.Option.{option_map}
+use Rattle.std.specs.Char.{is_ascii}
+use Rattle.matchit.specs.Order.{placed}
+use Rattle.matchit.specs.Route.{Scan, parse_route}
+use Rattle.matchit.specs.Router.{RouteOf, route_from}
+use Rattle.matchit.specs.Rows.{RowsOf}
+use Rattle.matchit.specs.Seek.{first}
+use Rattle.matchit.specs.declared.error.InsertError.{InsertError}
+use Rattle.fr_base.specs.declared.request.Request.{Request}
+use Rattle.fr_base.specs.declared.request.Request.TheVariants as request
+use Rattle.fr_text.specs.RequestText.{request_of}
+use Rattle.fr_http.specs.declared.method.Method.{Method}
+use Rattle.fr_http.specs.declared.method.Method.TheVariants.{Get, Post}
+use Rattle.fr_http.specs.declared.routes.Route.{Route}
+use Rattle.fr_http.specs.declared.routes.Route.TheVariants.{Commands, Import, Grants, Frames, Schedule, Gaps, Layout}
+
+-- a method as a request spells it
+abbrev pub text_of_method : Method → List ℕ
+text_of_method Get = codes "GET"
+text_of_method Post = codes "POST"
+
+-- the method of a route
+abbrev pub method_of : Route → Method
+method_of Commands = Post
+method_of Import = Post
+method_of Grants = Get
+method_of Frames = Get
+method_of Schedule = Get
+method_of Gaps = Get
+method_of Layout = Get
+
+-- the routes
+abbrev pub table : List (List ℕ × Route)
+table =
+    (codes "/v1/commands", Commands)
+    ∷ (codes "/v1/variants/{variant}/imports/{label}", Import)
+    ∷ (codes "/v1/variants/{variant}/grants", Grants)
+    ∷ (codes "/v1/variants/{variant}/frames", Frames)
+    ∷ (codes "/v1/variants/{variant}/schedule", Schedule)
+    ∷ (codes "/v1/variants/{variant}/gaps", Gaps)
+    ∷ (codes "/v1/variants/{variant}/frames/{frame}/layout", Layout)
+    ∷ []
+
+-- one more route, as `matchit` reads its text and keeps it
+abbrev pub with_read : RowsOf (RouteOf Route) → Route → Result Scan InsertError → RowsOf (RouteOf Route)
+with_read rows route (Ok s) = placed (s.pattern, route_from s route) rows
+with_read rows route (Err _) = rows
+
+unfoldable pub with_route : RowsOf (RouteOf Route) → List ℕ × Route → RowsOf (RouteOf Route)
+with_route rows r = with_read rows r.1 (parse_route r.0)
+
+-- the router that has these routes
+unfoldable pub router : RowsOf (RouteOf Route)
+router = fold with_route [] table
+
+-- the path is the target up to the first `?`
+abbrev pub path_of : List ℕ → List ℕ
+path_of target = before_first (λ b. b == 63) target
+
+-- the route that the path matches
+abbrev pub matched : List ℕ → Option Route
+matched path = option_map (λ r. r.value) (first router path)
+
+-- a path that is not ASCII matches none
+unfoldable pub route_of : List ℕ → Option Route
+route_of path = if list_all is_ascii path then matched path else None
+
+-- what stands after so many slashes of the path, up to the next
+unfoldable pub part : ℕ → List ℕ → List ℕ
+part n path = unwrap_or (slice_get (slice_split (λ b. b == 47) path) n) []
+
+-- the request for a route: its names are parts of the path, and a command's text or an import's file is the body
+unfoldable pub request_by : Route → List ℕ → List ℕ → Option Request
+request_by Commands path body = request_of body
+request_by Import path body = Some (request.Import (part 3 path) (part 5 path) body)
+request_by Grants path body = Some (request.Grants (part 3 path))
+request_by Frames path body = Some (request.Frames (part 3 path))
+request_by Schedule path body = Some (request.Schedule (part 3 path))
+request_by Gaps path body = Some (request.Gaps (part 3 path))
+request_by Layout path body = Some (request.Layout (part 3 path) (part 5 path))

@@ -1,0 +1,94 @@
+//! How a connection goes on that asks nothing: the engine answers itself, the request is refused, or a fault ends it.
+use crate::method::Method;
+use fr_base::{NoMemory, Refusal};
+
+/// What the engine answers itself.
+#[derive(Clone, Copy, Debug, PartialEq, Eq)]
+pub enum Rejection {
+    /// The bytes are no head and can't become one, or the body's length is no number.
+    BadRequest,
+    /// The path has no route.
+    NotFound,
+    /// The path's route has another method: this one.
+    MethodNotAllowed(Method),
+    /// The body has no length.
+    LengthRequired,
+    /// The body is too long.
+    PayloadTooLarge,
+    /// The head is too long, or has too many field lines.
+    HeadTooLarge,
+    /// The body has a transfer coding.
+    NotImplemented,
+}
+
+/// Why a connection had no final reply, or not a whole one. `asked` says whether the register was asked.
+#[derive(Clone, Copy, Debug, PartialEq, Eq)]
+pub enum LinkFault {
+    /// The input ended before a whole request had come.
+    Truncated,
+    /// A read failed, other than by an interruption.
+    ReadFailed,
+    /// The request did not come in as many reads as the bound.
+    TooManyReads,
+    /// A write failed, took nothing of a piece that is not empty, or was interrupted too often.
+    WriteFailed { asked: bool },
+    /// There was no memory for the request, or for the final reply.
+    NoMemory { asked: bool },
+}
+
+/// Why a connection asks nothing of the register.
+#[derive(Clone, Copy, Debug, PartialEq, Eq)]
+pub enum Unasked {
+    /// The engine answers itself.
+    Engine(Rejection),
+    /// The request is refused: its text is none, or its key is nobody's.
+    Refused(Refusal),
+    /// A fault ends the connection.
+    Fault(LinkFault),
+}
+
+impl From<Rejection> for Unasked {
+    ghost use Rattle.std.specs.Prelude.{◌≡◌};
+    ghost use Rattle.fr_http.specs.declared.fault.Unasked.TheVariants.{Engine};
+
+    ghost from_gives = { λ rejection unasked. unasked ≡ Engine rejection };
+
+    fn from(rejection: Rejection) -> Self {
+        Self::Engine(rejection)
+    }
+}
+
+impl From<LinkFault> for Unasked {
+    ghost use Rattle.std.specs.Prelude.{◌≡◌};
+    ghost use Rattle.fr_http.specs.declared.fault.Unasked.TheVariants.{Fault};
+
+    ghost from_gives = { λ fault unasked. unasked ≡ Fault fault };
+
+    fn from(fault: LinkFault) -> Self {
+        Self::Fault(fault)
+    }
+}
+
+/// Want of memory for a request that was not asked.
+impl From<NoMemory> for LinkFault {
+    ghost use Rattle.std.specs.Prelude.{◌≡◌, false};
+    ghost use Rattle.fr_http.specs.declared.fault.LinkFault.TheVariants.{NoMemory};
+
+    ghost from_gives = { λ _ fault. fault ≡ NoMemory false };
+
+    fn from(_refused: fr_base::NoMemory) -> Self {
+        Self::NoMemory { asked: false }
+    }
+}
+
+impl From<NoMemory> for Unasked {
+    ghost use Rattle.std.specs.Prelude.{◌≡◌, false};
+    ghost use Rattle.fr_http.specs.declared.fault.LinkFault.TheVariants.{NoMemory};
+    ghost use Rattle.fr_http.specs.declared.fault.Unasked.TheVariants.{Fault};
+
+    ghost from_gives = { λ _ unasked. unasked ≡ Fault (NoMemory false) };
+
+    fn from(_refused: fr_base::NoMemory) -> Self {
+        Self::Fault(LinkFault::NoMemory { asked: false })
+    }
+}

@@ -1,0 +1,134 @@
+//! The head of a request, and what came behind it.
+ghost use Rattle.std.specs.Prelude.{◌≡◌};
+ghost use Rattle.std.specs.Iterator.{YieldsFirstRef, item_count};
+ghost use Rattle.httparse.specs.Spans.{IsRequestWithin};
+ghost use Rattle.fr_http.specs.Head.{values};
+ghost use Rattle.fr_http.specs.Received.{shown};
+
+use httparse::spans::{HeaderSpan, RequestSpans};
+use std::marker::Model;
+
+/// How many bytes a head has at most.
+pub const MAX_HEAD: usize = 8192;
+
+/// How many field lines a head has at most.
+pub const MAX_FIELDS: usize = 64;
+
+/// The bytes of a connection that begin with a head: what the head says, and the bytes behind it.
+#[derive(Drop)]
+pub(crate) struct Received {
+    bytes: Vec<u8>,
+    spans: RequestSpans,
+    fields: [HeaderSpan; MAX_FIELDS],
+}
+
+impl Model for Received {
+    ghost use Rattle.std.specs.Prelude.{ℕ, List};
+    ghost use Rattle.fr_http.specs.Head.{HeadData};
+    ghost use Rattle.fr_http.specs.Received.{IsPlaced, shown};
+
+    ghost Value = { HeadData × List ℕ };
+
+    ghost view = { λ r. shown r.bytes.items r.fields r.spans };
+
+    ghost invariant = { λ r. IsPlaced r.bytes.items r.fields r.spans };
+}
+
+impl Received {
+    /// The bytes, where these are the spans of the head with which they begin.
+    pub(crate) fn new(
+        bytes: Vec<u8>,
+        spans: RequestSpans,
+        fields: [HeaderSpan; MAX_FIELDS],
+    ) -> Received
+        requires { IsRequestWithin bytes.items fields spans }
+        ensures { result ≡ shown bytes.items fields spans }
+    {
+        Received {
+            bytes,
+            spans,
+            fields,
+        }
+    }
+
+    /// The method.
+    pub(crate) fn method(&self) -> &[u8]
+        ensures { result.now ≡ self.now.0.method }
+    {
+        self.spans.method.of(&self.bytes)
+    }
+
+    /// The request's target.
+    pub(crate) fn target(&self) -> &[u8]
+        ensures { result.now ≡ self.now.0.target }
+    {
+        self.spans.path.of(&self.bytes)
+    }
+
+    /// The minor version.
+    pub(crate) fn minor(&self) -> u8
+        ensures { result ≡ self.now.0.minor }
+    {
+        self.spans.version
+    }
+
+    /// The values of the fields of this name, in their order.
+    pub(crate) fn values<'a>(&'a self, name: &'a str) -> Values<'a>
+        ensures { result ≡ values name.now self.now.0.fields }
+    {
+        Values {
+            bytes: &self.bytes,
+            fields: &self.fields[..self.spans.headers],
+            name,
+        }
+    }
+
+    /// The bytes behind the head.
+    pub(crate) fn rest(&self) -> &[u8]
+        ensures { result.now ≡ self.now.1 }
+    {
+        &self.bytes[self.spans.len..]
+    }
+}
+
+/// The values of the fields of a name that are left.
+#[derive(Drop)]
+pub(crate) struct Values<'a> {
+    bytes: &'a [u8],
+    fields: &'a [HeaderSpan],
+    name: &'a str,
+}
+
+impl<'a> Model for Values<'a> {
+    ghost use Rattle.std.specs.Prelude.{ℕ, List, length, map, All};
+    ghost use Rattle.httparse.specs.Spans.{IsHeaderWithin, header_bytes};
+    ghost use Rattle.fr_http.specs.Head.{values};
+
+    ghost Value = { List (List ℕ) };
+
+    ghost view = { λ v. values v.name.now (map (header_bytes v.bytes.now) v.fields.now) };
+
+    ghost invariant = { λ v. All (IsHeaderWithin (length v.bytes.now)) v.fields.now };
+}
+
+impl<'a> Iterator for Values<'a> {
+    type Item = &'a [u8];
+
+    ghost next_gives = { YieldsFirstRef (λ left. left) };
+
+    ghost remaining = { item_count (λ left. left) };
+
+    fn next(&mut self) -> Option<&'a [u8]> {
+        while let [field, rest @ ..] = self.fields {
+            self.fields = rest;
+            if field
+                .name
+                .of(self.bytes)
+                .eq_ignore_ascii_case(self.name.as_bytes())
+            {
+                return Some(field.value.of(self.bytes));
+            }
+        }
+        None
+    }
+}

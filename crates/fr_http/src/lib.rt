@@ -1,0 +1,25 @@
+//! One connection of a register: the head and the body of an HTTP request are read, the register is
+//! asked, and its answer is written as the reply.
+#![tactic(auto)]
+
+mod asked;
+mod asking;
+mod body;
+mod fault;
+mod head;
+mod input;
+mod method;
+mod output;
+mod plan;
+mod receive;
+mod reply;
+mod routes;
+mod serve;
+
+pub use fault::{LinkFault, Rejection};
+pub use head::{MAX_FIELDS, MAX_HEAD};
+pub use input::MAX_READS;
+pub use method::Method;
+pub use output::{Output, WRITE_RETRIES, WriteFailed};
+pub use plan::MAX_BODY;
+pub use serve::{Served, serve_one};

@@ -1,0 +1,112 @@
+//! What a head asks for.
+ghost use Rattle.std.specs.Prelude.{◌≡◌, [], ◌∷◌};
+ghost use Rattle.std.specs.Char.{is_ascii_digit};
+ghost use Rattle.std.specs.List.{list_all};
+ghost use Rattle.fr_http.specs.Outcome.{body_length, is_decimal, length_in};
+ghost use Rattle.fr_base.specs.Names.{same_text};
+ghost use Rattle.fr_http.specs.Planning.{Plans};
+ghost use Rattle.fr_http.specs.Routes.{text_of_method};
+
+use crate::fault::{Rejection, Unasked};
+use crate::head::{Received, Values};
+use crate::method::Method;
+use crate::routes::{Route, ascii, find_route, path_of};
+use std::alloc::Global;
+
+/// How many bytes a body has at most.
+pub const MAX_BODY: usize = 65_536;
+
+/// What a head asks for: a route with its path, and how long the body is.
+#[derive(Clone, Copy)]
+pub(crate) struct Plan<'a> {
+    pub(crate) route: Route,
+    pub(crate) path: &'a str,
+    pub(crate) length: usize,
+}
+
+/// What the head asks for, or the engine's own answer.
+pub(crate) fn make_plan(alloc: Global, received: &Received) -> Result<Plan<'_>, Unasked>
+    ensures { Plans received.now.0 result }
+{
+    if received.values("transfer-encoding").next().is_some() {
+        return Err(Unasked::Engine(Rejection::NotImplemented));
+    }
+    let Some(path) = ascii(path_of(received.target())) else {
+        return Err(Unasked::Engine(Rejection::NotFound));
+    };
+    let Some(route) = find_route(alloc, path)? else {
+        return Err(Unasked::Engine(Rejection::NotFound));
+    };
+    if !is_by(received, route.method()) {
+        return Err(Unasked::Engine(Rejection::MethodNotAllowed(route.method())));
+    }
+    match body_length(received, route.method()) {
+        Ok(length) => Ok(Plan {
+            route,
+            path,
+            length,
+        }),
+        Err(rejection) => Err(Unasked::Engine(rejection)),
+    }
+}
+
+// Whether the request is by this method.
+fn is_by(received: &Received, method: Method) -> bool
+    ensures { result ≡ same_text received.now.0.method (text_of_method method) }
+{
+    received.method() == method.as_str().as_bytes()
+}
+
+// How long the body is that a request by this method has.
+fn body_length(received: &Received, method: Method) -> Result<usize, Rejection>
+    ensures { result ≡ body_length method received.now.0 }
+{
+    match method {
+        Method::Get => Ok(0),
+        Method::Post => length_in(received.values("content-length")),
+    }
+}
+
+// How long a body is, by the values of its length's fields.
+fn length_in(mut values: Values<'_>) -> Result<usize, Rejection>
+    ensures { result ≡ length_in values.entry }
+{
+    let Some(value) = values.next() else {
+        return Err(Rejection::LengthRequired);
+    };
+    if values.next().is_some() {
+        return Err(Rejection::BadRequest);
+    }
+    decimal(value)
+}
+
+// The number, if it is a length that a body may have.
+fn decimal(text: &[u8]) -> Result<usize, Rejection>
+    ensures { result ≡ length_in (text.now ∷ []) }
+{
+    if !is_decimal(text) {
+        return Err(Rejection::BadRequest);
+    }
+    let mut length = 0;
+    for digit in text {
+        length = length * 10 + usize::from(*digit - b'0');
+        if length > MAX_BODY {
+            return Err(Rejection::PayloadTooLarge);
+        }
+    }
+    Ok(length)
+}
+
+// Whether the text is one or more ASCII digits.
+fn is_decimal(text: &[u8]) -> bool
+    ensures { result ≡ is_decimal text.now }
+{
+    !text.is_empty() && are_digits(text)
+}
+
+// Whether all the bytes are ASCII digits.
+fn are_digits(bytes: &[u8]) -> bool
+    ensures { result ≡ list_all is_ascii_digit bytes.now }
+{
+    bytes.iter().all(|byte| byte.is_ascii_digit())
+}

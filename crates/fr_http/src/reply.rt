@@ -1,0 +1,215 @@
+//! Writes replies.
+ghost use Rattle.std.specs.Prelude.{◌≡◌, ◌++◌, IfOk, OnOk};
+ghost use Rattle.fr_base.specs.Refusals.{status_of};
+ghost use Rattle.fr_http.specs.Reply.{allow, answer_reply, authenticate, body_of, closing, engine_reply, field_line, is_report, phrase_of, status_line, status_of_answer, status_of_rejection, type_of};
+ghost use Rattle.fr_http.specs.Replying.{IsReply, head_with};
+
+use crate::fault::Rejection;
+use crate::method::Method;
+use fr_base::{Answer, NoMemory, Refusal};
+use fr_text::{write_answer, write_lines};
+use http::StatusCode;
+use itoa::Buffer;
+use std::alloc::Global;
+
+/// A reply's status and its bytes.
+#[derive(Drop)]
+pub(crate) struct ReplyText {
+    pub(crate) status: u16,
+    pub(crate) bytes: Vec<u8>,
+}
+
+/// The reply of the engine itself.
+pub(crate) fn engine_reply(alloc: Global, rejection: Rejection) -> Result<ReplyText, NoMemory>
+    ensures { IfOk result (λ reply. IsReply (engine_reply rejection) reply) }
+{
+    let status = status_of_rejection(rejection);
+    let mut bytes = Vec::new(alloc);
+    push_status(status, &mut bytes)?;
+    push_field("content-length", "0", &mut bytes)?;
+    push_allow(rejection, &mut bytes)?;
+    push_close(&mut bytes)?;
+    Ok(ReplyText {
+        status: status.as_u16(),
+        bytes,
+    })
+}
+
+// Appends which method is allowed, where another was used.
+fn push_allow(rejection: Rejection, out: &mut Vec<u8>) -> Result<(), NoMemory>
+    ensures { OnOk result (out.new.items ≡ out.old.items ++ allow rejection) }
+{
+    match rejection {
+        Rejection::MethodNotAllowed(method) => push_field("allow", method.as_str(), out),
+        Rejection::BadRequest
+        | Rejection::NotFound
+        | Rejection::LengthRequired
+        | Rejection::PayloadTooLarge
+        | Rejection::HeadTooLarge
+        | Rejection::NotImplemented => Ok(()),
+    }
+}
+
+// The status of the engine's own answer.
+fn status_of_rejection(rejection: Rejection) -> StatusCode
+    ensures { result ≡ status_of_rejection rejection }
+{
+    match rejection {
+        Rejection::BadRequest => StatusCode::BAD_REQUEST,
+        Rejection::NotFound => StatusCode::NOT_FOUND,
+        Rejection::MethodNotAllowed(_) => StatusCode::METHOD_NOT_ALLOWED,
+        Rejection::LengthRequired => StatusCode::LENGTH_REQUIRED,
+        Rejection::PayloadTooLarge => StatusCode::PAYLOAD_TOO_LARGE,
+        Rejection::HeadTooLarge => StatusCode::REQUEST_HEADER_FIELDS_TOO_LARGE,
+        Rejection::NotImplemented => StatusCode::NOT_IMPLEMENTED,
+    }
+}
+
+/// The reply that gives a request by this method its answer. Its head is written behind its body, and
+/// then turned to the front, so that no more memory is taken than the reply has bytes.
+pub(crate) fn answer_reply(
+    alloc: Global,
+    method: Method,
+    answer: &Answer,
+) -> Result<ReplyText, NoMemory>
+    ensures { IfOk result (λ reply. IsReply (answer_reply method answer.now) reply) }
+{
+    let report = is_report(method, answer);
+    let mut bytes = write_body(alloc, report, answer)?;
+    let status = status_of_answer(answer);
+    let length = bytes.len();
+    push_head(status, type_of(report), length, &mut bytes)?;
+    bytes.rotate_left(length);
+    Ok(ReplyText {
+        status: status.as_u16(),
+        bytes,
+    })
+}
+
+// The body of a reply: a report's lines, or the answer's text.
+#[tactic(auto, unfolding(crate::specs::Reply::body_of))]
+fn write_body(alloc: Global, report: bool, answer: &Answer) -> Result<Vec<u8>, NoMemory>
+    ensures { IfOk result (λ body. body.items ≡ body_of report answer.now) }
+{
+    if report {
+        write_lines(alloc, answer)
+    } else {
+        write_answer(alloc, answer)
+    }
+}
+
+// The status of an answer.
+fn status_of_answer(answer: &Answer) -> StatusCode
+    ensures { result ≡ status_of_answer answer.now }
+{
+    match answer {
+        Answer::Refused(refusal) => status_of_refusal(refusal),
+        Answer::RefusedRow { .. } => StatusCode::UNPROCESSABLE_ENTITY,
+        Answer::Done
+        | Answer::Imported { .. }
+        | Answer::Grants { .. }
+        | Answer::Frames { .. }
+        | Answer::Schedule { .. }
+        | Answer::Gaps { .. }
+        | Answer::Layout { .. } => StatusCode::OK,
+    }
+}
+
+// The status of a refusal.
+#[tactic(auto, using(crate::proofs::ReplyLaws::refusal_has_status))]
+fn status_of_refusal(refusal: &Refusal) -> StatusCode
+    ensures { result ≡ status_of refusal.now }
+{
+    StatusCode::from_u16(refusal.status()).unwrap()
+}
+
+// Whether the answer to a request by this method is a report's lines.
+fn is_report(method: Method, answer: &Answer) -> bool
+    ensures { result ≡ is_report method answer.now }
+{
+    method == Method::Get && !matches!(answer, Answer::Refused(_) | Answer::RefusedRow { .. })
+}
+
+// The type of a reply's body.
+fn type_of(report: bool) -> &'static str
+    ensures { result.now ≡ type_of report }
+{
+    if report {
+        "text/plain; charset=us-ascii"
+    } else {
+        "application/json"
+    }
+}
+
+// Appends the head of a reply with a body of so many bytes.
+fn push_head(
+    status: StatusCode,
+    kind: &str,
+    length: usize,
+    out: &mut Vec<u8>,
+) -> Result<(), NoMemory>
+    ensures { OnOk result (out.new.items ≡ out.old.items ++ head_with status kind.now length) }
+{
+    push_status(status, out)?;
+    push_field("content-type", kind, out)?;
+    push_field("content-length", Buffer::new().format(length), out)?;
+    push_authenticate(status, out)?;
+    push_close(out)
+}
+
+// Appends how a client that has no known key shows who it is.
+fn push_authenticate(status: StatusCode, out: &mut Vec<u8>) -> Result<(), NoMemory>
+    ensures { OnOk result (out.new.items ≡ out.old.items ++ authenticate status) }
+{
+    if status.as_u16() == 401 {
+        push_field("www-authenticate", "Office-Key", out)
+    } else {
+        Ok(())
+    }
+}
+
+// Appends the first line of a reply.
+fn push_status(status: StatusCode, out: &mut Vec<u8>) -> Result<(), NoMemory>
+    ensures { OnOk result (out.new.items ≡ out.old.items ++ status_line status) }
+{
+    push("HTTP/1.1 ", out)?;
+    push(Buffer::new().format(status.as_u16()), out)?;
+    push(" ", out)?;
+    push(phrase(status), out)?;
+    push("\r\n", out)
+}
+
+// The phrase of a status.
+fn phrase(status: StatusCode) -> &'static str
+    ensures { result.now ≡ phrase_of status }
+{
+    match status.canonical_reason() {
+        Some(phrase) => phrase,
+        None => "",
+    }
+}
+
+// Appends a field's line.
+fn push_field(name: &str, value: &str, out: &mut Vec<u8>) -> Result<(), NoMemory>
+    ensures { OnOk result (out.new.items ≡ out.old.items ++ field_line name.now value.now) }
+{
+    push(name, out)?;
+    push(": ", out)?;
+    push(value, out)?;
+    push("\r\n", out)
+}
+
+// Appends the last field's line, and the empty line behind the fields.
+fn push_close(out: &mut Vec<u8>) -> Result<(), NoMemory>
+    ensures { OnOk result (out.new.items ≡ out.old.items ++ closing) }
+{
+    push_field("connection", "close", out)?;
+    push("\r\n", out)
+}
+
+// Appends the text.
+fn push(text: &str, out: &mut Vec<u8>) -> Result<(), NoMemory>
+    ensures { OnOk result (out.new.items ≡ out.old.items ++ text.now) }
+{
+    out.extend_from_slice(text.as_bytes())
+}

@@ -1,0 +1,189 @@
+//! Serves one connection.
+ghost use Rattle.std.specs.Prelude.{◌≡◌, ℕ, List, Err, IfOk, IfErr, OnOk, OnErr, false};
+ghost use Rattle.std.specs.List.{list_any};
+ghost use Rattle.std.specs.Io.KnownBytes.{Appends};
+ghost use Rattle.fr_http.specs.Connection.{HasAnswered, HasSent, HasTaken, IsConnection, was_asked};
+ghost use Rattle.fr_http.specs.Outcome.{continue_if, due, is_continue};
+
+use crate::asked::Asked;
+use crate::asking::{actor, request};
+use crate::body::read_body;
+use crate::fault::{LinkFault, Unasked};
+use crate::head::{Received, Values};
+use crate::input::Input;
+use crate::method::Method;
+use crate::output::{Output, WriteFailed};
+use crate::plan::{Plan, make_plan};
+use crate::receive::receive;
+use crate::reply::{ReplyText, answer_reply, engine_reply};
+use fr_base::{Answer, Ask, Desk, NoMemory, Refusal};
+use std::alloc::Global;
+use std::io::{Read, Write};
+
+/// A connection was served: the final reply's status, and whether the register was asked.
+#[derive(Clone, Copy, Debug, PartialEq, Eq)]
+pub struct Served {
+    pub status: u16,
+    pub asked: bool,
+}
+
+/// Serves one connection: reads a request, asks the register, and writes the reply.
+pub fn serve_one<R: Read, W: Write, D: Desk>(
+    alloc: Global,
+    reader: &mut R,
+    writer: &mut W,
+    desk: &mut D,
+) -> Result<Served, LinkFault>
+    ensures falls { D.clean desk.new → D.clean desk.old }
+    ensures served { IsConnection (D.clean desk.new) (D.stands desk.old) (D.stands desk.new) (R.remaining reader.old) (R.remaining reader.new) (W.contents writer.old) (W.contents writer.new) result }
+
+    // Where the register was not asked it is as it was.
+    ensures stays { was_asked result ≡ false → desk.new ≡ desk.old }
+{
+    let mut input = Input::new(reader);
+    let mut output = Output::new(writer);
+    serve(alloc, &mut input, &mut output, desk)
+}
+
+// Serves the connection of this input and output.
+fn serve<R: Read, W: Write, D: Desk>(
+    alloc: Global,
+    input: &mut Input<'_, R>,
+    output: &mut Output<'_, W>,
+    desk: &mut D,
+) -> Result<Served, LinkFault>
+    ensures falls { D.clean desk.new → D.clean desk.old }
+    ensures served { IsConnection (D.clean desk.new) (D.stands desk.old) (D.stands desk.new) (R.remaining input.old.reader.now) (R.remaining input.new.reader.now) (W.contents output.old.writer.now) (W.contents output.new.writer.now) result }
+    ensures stays { was_asked result ≡ false → desk.new ≡ desk.old }
+    ensures same_input { input.new.reader.ghost_name ≡ input.old.reader.ghost_name }
+    ensures same_output { output.new.writer.ghost_name ≡ output.old.writer.ghost_name }
+{
+    match take(alloc, input, output, desk) {
+        Ok(asked) => answer(alloc, &asked, output, desk),
+        Err(Unasked::Engine(rejection)) => send(engine_reply(alloc, rejection), output, false),
+        Err(Unasked::Refused(refusal)) => send(
+            answer_reply(alloc, Method::Post, &Answer::Refused(refusal)),
+            output,
+            false,
+        ),
+        Err(Unasked::Fault(fault)) => Err(fault),
+    }
+}
+
+// Reads a request, as far as what it asks of the register, or why it asks nothing.
+fn take<R: Read, W: Write, D: Desk>(
+    alloc: Global,
+    input: &mut Input<'_, R>,
+    output: &mut Output<'_, W>,
+    desk: &D,
+) -> Result<Asked, Unasked>
+    ensures taken { HasTaken (D.stands desk.now) (R.remaining input.old.reader.now) (R.remaining input.new.reader.now) (W.contents output.old.writer.now) (W.contents output.new.writer.now) result }
+    ensures same_input { input.new.reader.ghost_name ≡ input.old.reader.ghost_name }
+    ensures same_output { output.new.writer.ghost_name ≡ output.old.writer.ghost_name }
+{
+    let received = receive(alloc, input)?;
+    let plan = make_plan(alloc, &received)?;
+    invite(&received, &plan, output)?;
+    let body = read_body(alloc, input, received.rest(), plan.length)?;
+    let request = request(alloc, &plan, &body)?;
+    let actor = actor(desk, &received).ok_or(Unasked::Refused(Refusal::UnknownKey))?;
+    Ok(Asked {
+        ask: Ask { actor, request },
+        method: plan.route.method(),
+    })
+}
+
+// Writes the interim reply, if it is due.
+fn invite<W: Write>(
+    received: &Received,
+    plan: &Plan<'_>,
+    output: &mut Output<'_, W>,
+) -> Result<(), LinkFault>
+    ensures ok { OnOk result (Appends (W.contents output.old.writer.now) (W.contents output.new.writer.now) (continue_if (due plan.now.length received.now.0))) }
+    ensures err { IfErr result (λ fault. (fault ≡ LinkFault.WriteFailed false)
+        × ((written : List ℕ) × Appends (W.contents output.old.writer.now) (W.contents output.new.writer.now) written)) }
+    ensures same { output.new.writer.ghost_name ≡ output.old.writer.ghost_name }
+{
+    if is_due(received, plan.length) {
+        write(b"HTTP/1.1 100 Continue\r\n\r\n", output, false)
+    } else {
+        Ok(())
+    }
+}
+
+// Whether `100 Continue` is due: a body is to come, the version is 1.1, and a field asks for it.
+#[tactic(auto, unfolding(crate::specs::Outcome::due))]
+fn is_due(received: &Received, length: usize) -> bool
+    ensures { result ≡ due length received.now.0 }
+{
+    length > 0 && received.minor() == 1 && expects_continue(received.values("expect"))
+}
+
+// Whether a field asks for `100 Continue`.
+#[tactic(auto, using(crate::proofs::HeadLaws::continues))]
+fn expects_continue(mut values: Values<'_>) -> bool
+    ensures { result ≡ list_any is_continue values.entry }
+{
+    while let Some(value) = values.next() {
+        if value.eq_ignore_ascii_case(b"100-continue") {
+            return true;
+        }
+    }
+    false
+}
+
+// Asks the register, and writes its answer.
+fn answer<W: Write, D: Desk>(
+    alloc: Global,
+    asked: &Asked,
+    output: &mut Output<'_, W>,
+    desk: &mut D,
+) -> Result<Served, LinkFault>
+    ensures falls { D.clean desk.new → D.clean desk.old }
+    ensures answered { HasAnswered (D.clean desk.new) (D.stands desk.old) (D.stands desk.new) asked.now (W.contents output.old.writer.now) (W.contents output.new.writer.now) result }
+    ensures same { output.new.writer.ghost_name ≡ output.old.writer.ghost_name }
+{
+    let answer = desk.ask(alloc, &asked.ask);
+    send(answer_reply(alloc, asked.method, &answer), output, true)
+}
+
+// Writes a reply, if there was memory for it.
+fn send<W: Write>(
+    reply: Result<ReplyText, NoMemory>,
+    output: &mut Output<'_, W>,
+    asked: bool,
+) -> Result<Served, LinkFault>
+    ensures sent { IfOk reply (λ r. HasSent r asked (W.contents output.old.writer.now) (W.contents output.new.writer.now) result) }
+    ensures none { OnErr reply ((result ≡ Err (LinkFault.NoMemory asked)) × (W.contents output.new.writer.now ≡ W.contents output.old.writer.now)) }
+    ensures same { output.new.writer.ghost_name ≡ output.old.writer.ghost_name }
+{
+    let reply = reply.map_err(|_| LinkFault::NoMemory { asked })?;
+    write(&reply.bytes, output, asked)?;
+    Ok(Served {
+        status: reply.status,
+        asked,
+    })
+}
+
+// Writes all the bytes, and hands them on.
+fn write<W: Write>(bytes: &[u8], output: &mut Output<'_, W>, asked: bool) -> Result<(), LinkFault>
+    ensures ok { OnOk result (Appends (W.contents output.old.writer.now) (W.contents output.new.writer.now) bytes.now) }
+    ensures err { IfErr result (λ fault. (fault ≡ LinkFault.WriteFailed asked)
+        × ((written : List ℕ) × Appends (W.contents output.old.writer.now) (W.contents output.new.writer.now) written)) }
+    ensures same { output.new.writer.ghost_name ≡ output.old.writer.ghost_name }
+{
+    match write_out(bytes, output) {
+        Ok(()) => Ok(()),
+        Err(WriteFailed) => Err(LinkFault::WriteFailed { asked }),
+    }
+}
+
+// Writes all the bytes, and hands them on.
+fn write_out<W: Write>(bytes: &[u8], output: &mut Output<'_, W>) -> Result<(), WriteFailed>
+    ensures ok { OnOk result (Appends (W.contents output.old.writer.now) (W.contents output.new.writer.now) bytes.now) }
+    ensures err { OnErr result ((written : List ℕ) × Appends (W.contents output.old.writer.now) (W.contents output.new.writer.now) written) }
+    ensures same { output.new.writer.ghost_name ≡ output.old.writer.ghost_name }
+{
+    output.write_all(bytes)?;
+    output.flush()
+}
