@@ -5,7 +5,8 @@ A program makes a register in a file, decides commands and applies what they are
 again. One allocation of the run is refused. Where a call is refused by it, the program looks at the register, which is to be
 the one before the call, and calls again; after each call that is done it is to be the one after it. Where the program itself
 ends for want of memory, the file is opened in a run of its own, and has one of the two. Each allocation is refused by a small
-library that cc makes, loaded before the C library. It is no test of the gate."""
+library that cc makes, loaded before the C library. It is no test of the gate. The registers lie in TMPDIR: where that is in
+memory, as /dev/shm, it takes ten minutes, and on a disk an hour."""
 import argparse
 import os
 import shutil
@@ -461,7 +462,8 @@ def main():
         program = given.program or built(room / "refuse_store", crates, ["sqlite", "anyhow"], PROGRAM, ["nothing"])
         if given.keep:
             shutil.copy(program, given.keep)
-        refuse_each(program, room)
+        with tempfile.TemporaryDirectory() as files:
+            refuse_each(program, Path(files))
 
 
 def refuse_each(program, room):

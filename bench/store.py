@@ -3,7 +3,7 @@
 
 Pages are loaded, of 4, 64 and 256 frames, each of 8 placements and 15 signals; a placement is put and ended, each in a
 transaction of its own; so are 512 of them in one; and a register of about 100,000 rows is opened and closed. Then the same page
-and the same edit in a register of 1 and of 64 suppliers, of 16 frames each.
+and the same edits in a register of 1 and of 64 suppliers, of 16 frames each: in instructions, which valgrind counts.
 
 `sqlite3` runs the statements of `fr_store`, in as many transactions, over files of its own making, with a log. Where a page is
 loaded it makes tuples of the rows, and no page. Where a file is opened it does what comes nearest: PRAGMA integrity_check and
@@ -12,8 +12,10 @@ foreign_key_check. One program does our part; it is proved and built first, in a
 Figures are of processor time, the least of some runs, less that of a run that does it once, in which starting, opening and closing
 count too: what a disk takes is not in them. The ratios hold for their machine: they promise nothing."""
 import argparse
+import re
 import shutil
 import sqlite3
+import subprocess
 import sys
 import tempfile
 import time
@@ -275,9 +277,21 @@ def measured(program, what, path, times, runs, theirs):
     return (min(whole) - min(rest)) / (times - 1) * 1e6, min(other) / times * 1e6
 
 
+def instructions(program, what, path, times):
+    """How many instructions doing this once takes us, on copies of the file."""
+
+    def counted(times):
+        with tempfile.TemporaryDirectory(dir=path.parent) as room:
+            copy = shutil.copyfile(path, Path(room) / "copy.db")
+            words = ["valgrind", "--tool=callgrind", "--callgrind-out-file=/dev/null", program, what, copy, str(times)]
+            said = subprocess.run(words, check=True, capture_output=True, text=True).stderr
+        return int(re.search(r"Collected : (\d+)", said)[1])
+
+    return (counted(times) - counted(1)) / (times - 1)
+
+
 def show(name, ours, theirs):
     print(f"{name:34} {ours:12.1f} {theirs:12.1f} {ours / theirs:7.2f}", flush=True)
-    return ours
 
 
 def main():
@@ -307,11 +321,10 @@ def main():
         show("placement put, and ended", *edits(1, 64, "edit", 1, 4_000))
         show("512 placements put, and ended", *edits(1, 64, "batch", BATCH, 20))
         show(f"opening {counts[64, 64]:,} rows", *measured(program, "open", room / "64_64.db", 3, runs, opened_by_sqlite))
-        print("\nwith 64 suppliers, as part of that with 1:")
-        many, one = (pages(owners, 16, 3_000)[0] for owners in (64, 1))
-        print(f"page of 16 frames          {many / one:7.2f}", flush=True)
-        many, one = (edits(owners, 16, "edit", 1, 4_000)[0] for owners in (64, 1))
-        print(f"placement put, and ended   {many / one:7.2f}")
+        print("\nwith 64 suppliers, as part of that with 1, in instructions:")
+        for name, what, times in ("page of 16 frames", "page", 101), ("placement put, and ended", "edit", 101), ("512 put, and ended", "batch", 3):
+            many, one = (instructions(program, what, room / f"{owners}_16.db", times) for owners in (64, 1))
+            print(f"{name:26} {many / one:7.2f}", flush=True)
 
 
 if __name__ == "__main__":
