@@ -33,8 +33,8 @@ pub use channel::{Channel, Channels};
 pub use checks::check;
 pub use config::{Config, Supplier, Suppliers};
 pub use cycles::{BadCycles, CYCLE_COUNT, CycleSet};
-pub use import::{Header, Row, RowRead};
 pub use desk::Desk;
+pub use import::{Header, Row, RowRead};
 pub use key::Key;
 pub use laws::{
     bad_variant_is_bad_name, equal_views, first_taken_is_own, holder_sends, import_acts_once,
