@@ -151,17 +151,6 @@ planned_nothing stands input left held received unasked (bytes, consumed, (h, be
       );
 }
 
--- the interim reply could not be written
-pub not_invited : (stands : Standing) (input left held now : Option (List ℕ)) (received : HeadData × List ℕ) (fault : LinkFault) → HasReceived input left (Ok received)
-    → (fault ≡ WriteFailed false) × ((written : List ℕ) × Appends held now written) → HasTaken stands input left held now (Err (Fault fault))
-not_invited stands input left held now received fault (bytes, consumed, (h, begins, head)) (is, (written, appended)) = record {
-  bytes = bytes;
-  written = written;
-  consumed = consumed;
-  appended = appended;
-  takes = subst (λ f. Takes stands bytes written left (Err (Fault f))) (sym is) (refl, λ silent. grind (arith, silent));
-}
-
 -- ---- behind the head
 
 -- what is known once a body is to be read: the head, what it wants, and what was written

@@ -35,7 +35,8 @@ pub fn serve_one<R: Read, W: Write, D: Desk>(
     desk: &mut D,
 ) -> Result<Served, LinkFault>
     ensures falls { D.clean desk.new → D.clean desk.old }
-    ensures served { IsConnection (D.clean desk.new) (D.stands desk.old) (D.stands desk.new) (R.remaining reader.old) (R.remaining reader.new) (W.contents writer.old) (W.contents writer.new) result }
+    ensures served { IsConnection (D.clean desk.new) (D.stands desk.old) (D.stands desk.new) (R.remaining reader.old) (R.remaining reader.new)
+        (W.contents writer.old) (W.contents writer.new) result }
 
     // Where the register was not asked it is as it was.
     ensures stays { was_asked result ≡ false → desk.new ≡ desk.old }
@@ -53,7 +54,8 @@ fn serve<R: Read, W: Write, D: Desk>(
     desk: &mut D,
 ) -> Result<Served, LinkFault>
     ensures falls { D.clean desk.new → D.clean desk.old }
-    ensures served { IsConnection (D.clean desk.new) (D.stands desk.old) (D.stands desk.new) (R.remaining input.old.reader.now) (R.remaining input.new.reader.now) (W.contents output.old.writer.now) (W.contents output.new.writer.now) result }
+    ensures served { IsConnection (D.clean desk.new) (D.stands desk.old) (D.stands desk.new) (R.remaining input.old.reader.now) (R.remaining input.new.reader.now)
+        (W.contents output.old.writer.now) (W.contents output.new.writer.now) result }
     ensures stays { was_asked result ≡ false → desk.new ≡ desk.old }
     ensures same_input { input.new.reader.ghost_name ≡ input.old.reader.ghost_name }
     ensures same_output { output.new.writer.ghost_name ≡ output.old.writer.ghost_name }
@@ -77,7 +79,8 @@ fn take<R: Read, W: Write, D: Desk>(
     output: &mut Output<'_, W>,
     desk: &D,
 ) -> Result<Asked, Unasked>
-    ensures taken { HasTaken (D.stands desk.now) (R.remaining input.old.reader.now) (R.remaining input.new.reader.now) (W.contents output.old.writer.now) (W.contents output.new.writer.now) result }
+    ensures taken { HasTaken (D.stands desk.now) (R.remaining input.old.reader.now) (R.remaining input.new.reader.now)
+        (W.contents output.old.writer.now) (W.contents output.new.writer.now) result }
     ensures same_input { input.new.reader.ghost_name ≡ input.old.reader.ghost_name }
     ensures same_output { output.new.writer.ghost_name ≡ output.old.writer.ghost_name }
 {
@@ -99,7 +102,8 @@ fn invite<W: Write>(
     plan: &Plan<'_>,
     output: &mut Output<'_, W>,
 ) -> Result<(), LinkFault>
-    ensures ok { OnOk result (Appends (W.contents output.old.writer.now) (W.contents output.new.writer.now) (continue_if (due plan.now.length received.now.0))) }
+    ensures ok { OnOk result (Appends
+        (W.contents output.old.writer.now) (W.contents output.new.writer.now) (continue_if (due plan.now.length received.now.0))) }
     ensures err { IfErr result (λ fault. (fault ≡ LinkFault.WriteFailed false)
         × ((written : List ℕ) × Appends (W.contents output.old.writer.now) (W.contents output.new.writer.now) written)) }
     ensures same { output.new.writer.ghost_name ≡ output.old.writer.ghost_name }
@@ -140,7 +144,8 @@ fn answer<W: Write, D: Desk>(
     desk: &mut D,
 ) -> Result<Served, LinkFault>
     ensures falls { D.clean desk.new → D.clean desk.old }
-    ensures answered { HasAnswered (D.clean desk.new) (D.stands desk.old) (D.stands desk.new) asked.now (W.contents output.old.writer.now) (W.contents output.new.writer.now) result }
+    ensures answered { HasAnswered (D.clean desk.new) (D.stands desk.old) (D.stands desk.new) asked.now
+        (W.contents output.old.writer.now) (W.contents output.new.writer.now) result }
     ensures same { output.new.writer.ghost_name ≡ output.old.writer.ghost_name }
 {
     let answer = desk.ask(alloc, &asked.ask);
@@ -187,3 +192,6 @@ fn write_out<W: Write>(bytes: &[u8], output: &mut Output<'_, W>) -> Result<(), W
     output.write_all(bytes)?;
     output.flush()
 }
+
+#[cfg(test)]
+mod tests;

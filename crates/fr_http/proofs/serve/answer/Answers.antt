@@ -1,5 +1,4 @@
-use Rattle.std.proofs.Common.{rules, ◌≡◌, true}
-use Rattle.std.specs.Prelude.{OnErr, IfOk}
+use Rattle.std.proofs.Common.{true}
 use Rattle.fr_http.specs.Reply.{answer_reply}
 use Rattle.fr_http.proofs.ServeLaws.{replied}
 use Rattle.fr_http.proofs.serve.answer.Goals as goal

@@ -1,4 +1,4 @@
-use Rattle.std.proofs.Common.{arith, ◌≤◌}
+use Rattle.std.proofs.Common.{arith}
 use Rattle.fr_http.proofs.head.Received.values.Goals as goal
 
 pub shared_ref_as_front-result : goal.shared_ref_as_front-result

@@ -1,4 +1,4 @@
-use Rattle.std.proofs.Common.{rules, refl, ◌≡◌, ℕ, [], ◌∷◌, List, map, sym, ◌∙◌, length, arith, inl, inr, ap}
+use Rattle.std.proofs.Common.{rules, refl, ◌≡◌, [], map, sym, ◌∙◌, length, arith, ap}
 use Rattle.std.proofs.lemmas.List.Elements.{All-drop, All-take}
 use Rattle.httparse.specs.Spans.{IsHeaderWithin, header_bytes}
 use Rattle.fr_http.specs.Head.{values}

@@ -1,0 +1,396 @@
+//! What the check would let pass: a request that is not served though there is memory, and reads and writes that are tried
+//! again too seldom, too often, or after another error. Replies are typed by hand from the formats.
+use super::{Served, serve_one};
+use crate::fault::LinkFault;
+use fr_base::{
+    Actor, Answer, Ask, Channel, Desk, Name, NoMemory, Refusal, Request, Rows, Sending, Slot,
+};
+use std::alloc::Global;
+use std::io;
+use std::io::{ErrorKind, Read, Write};
+use std::test::Fail;
+
+/// A desk that knows one key, counts what it is asked, and answers a schedule with one line and all else with `Done`. Of
+/// its rows nothing is said: it is never clean.
+#[derive(Drop)]
+struct Counter {
+    supplier: Name,
+    sending: Sending,
+    asked: u32,
+}
+
+impl Counter {
+    fn new() -> Result<Counter, Fail> {
+        let supplier = Name::read("s1").ok_or("no name")?;
+        let sending = Sending {
+            cycle: 0,
+            slot: Slot::new(1).ok_or("no slot")?,
+            channel: Channel::A,
+            frame: Name::read("f1").ok_or("no name")?,
+            node: Name::read("n1").ok_or("no name")?,
+            supplier,
+        };
+        Ok(Counter {
+            supplier,
+            sending,
+            asked: 0,
+        })
+    }
+
+    fn schedule(&self, alloc: Global) -> Result<Answer, NoMemory> {
+        let mut rows = Rows::new(alloc);
+        rows.push(self.sending)?;
+        Ok(Answer::Schedule { all: false, rows })
+    }
+}
+
+impl Desk for Counter {
+    ghost stands = { λ _ _ _. ⊥ };
+
+    ghost clean = { λ _. ⊥ };
+
+    fn actor_of(&self, key: &str) -> Option<Actor> {
+        if key == "supplier01" {
+            Some(Actor::Supplier(self.supplier))
+        } else {
+            None
+        }
+    }
+
+    fn ask(&mut self, alloc: Global, ask: &Ask) -> Answer {
+        self.asked = self.asked.saturating_add(1);
+        match ask.request {
+            Request::Schedule { .. } => self
+                .schedule(alloc)
+                .unwrap_or(Answer::Refused(Refusal::Unavailable)),
+            _ => Answer::Done,
+        }
+    }
+}
+
+/// A reader of these bytes, so many a read, that is interrupted so often before; behind them it has the error, if there is
+/// one, each time.
+#[derive(Drop)]
+struct Source<'a> {
+    rest: &'a [u8],
+    piece: usize,
+    waits: u32,
+    error: Option<ErrorKind>,
+}
+
+impl<'a> Read for Source<'a> {
+    fn read(&mut self, buf: &mut [u8]) -> io::Result<usize> {
+        if self.waits > 0 {
+            self.waits -= 1;
+            return Err(io::Error::from(ErrorKind::Interrupted));
+        }
+        if self.rest.is_empty() {
+            if let Some(kind) = self.error {
+                return Err(io::Error::from(kind));
+            }
+        }
+        let n = self.rest.len().min(buf.len()).min(self.piece);
+        let (given, rest) = self.rest.split_at(n);
+        buf[..n].copy_from_slice(given);
+        self.rest = rest;
+        Ok(n)
+    }
+}
+
+fn whole(bytes: &[u8]) -> Source<'_> {
+    Source {
+        rest: bytes,
+        piece: usize::MAX,
+        waits: 0,
+        error: None,
+    }
+}
+
+/// A writer that is interrupted so often, takes so many bytes, at most so many a write, and then has the error each time;
+/// as `WriteZero` it then takes nothing.
+#[derive(Drop)]
+struct Sink {
+    taken: Vec<u8>,
+    waits: u32,
+    room: usize,
+    piece: usize,
+    error: ErrorKind,
+}
+
+impl Sink {
+    fn new(alloc: Global, room: usize, error: ErrorKind) -> Sink {
+        Sink {
+            taken: Vec::new(alloc),
+            waits: 0,
+            room,
+            piece: usize::MAX,
+            error,
+        }
+    }
+}
+
+impl Write for Sink {
+    fn write(&mut self, buf: &[u8]) -> io::Result<usize> {
+        if self.waits > 0 {
+            self.waits -= 1;
+            return Err(io::Error::from(ErrorKind::Interrupted));
+        }
+        let n = buf.len().min(self.room).min(self.piece);
+        if n == 0 {
+            return match self.error {
+                ErrorKind::WriteZero => Ok(0),
+                kind => Err(io::Error::from(kind)),
+            };
+        }
+        self.taken.extend_from_slice(&buf[..n])?;
+        self.room -= n;
+        Ok(n)
+    }
+
+    fn flush(&mut self) -> io::Result<()> {
+        Ok(())
+    }
+}
+
+const SCHEDULE: &str =
+    "GET /v1/variants/v1/schedule HTTP/1.1\r\nHost: localhost\r\nX-Office-Key: supplier01\r\n\r\n";
+
+const SCHEDULED: &str =
+    "HTTP/1.1 200 OK\r\ncontent-type: text/plain; charset=us-ascii\r\ncontent-length: 16\r\nconnection: close\r\n\r\n00 0001 A f1 n1\n";
+
+const ADD_FRAME: &str =
+    "POST /v1/commands HTTP/1.1\r\nx-office-key: supplier01\r\nexpect: 100-continue\r\ncontent-length: 58\r\n\r\n{\"do\":\"add_frame\",\"variant\":\"v1\",\"frame\":\"f1\",\"node\":\"n1\"}";
+
+const CONTINUE: &str = "HTTP/1.1 100 Continue\r\n\r\n";
+
+const DONE: &str =
+    "HTTP/1.1 200 OK\r\ncontent-type: application/json\r\ncontent-length: 13\r\nconnection: close\r\n\r\n{\"ok\":\"done\"}";
+
+const UNKNOWN_KEY: &str =
+    "HTTP/1.1 401 Unauthorized\r\ncontent-type: application/json\r\ncontent-length: 31\r\nwww-authenticate: Office-Key\r\nconnection: close\r\n\r\n{\"no\":2,\"refused\":\"UnknownKey\"}";
+
+const BAD_TEXT: &str =
+    "HTTP/1.1 400 Bad Request\r\ncontent-type: application/json\r\ncontent-length: 28\r\nconnection: close\r\n\r\n{\"no\":1,\"refused\":\"BadText\"}";
+
+const BAD_REQUEST: &str =
+    "HTTP/1.1 400 Bad Request\r\ncontent-length: 0\r\nconnection: close\r\n\r\n";
+
+const NOT_FOUND: &str = "HTTP/1.1 404 Not Found\r\ncontent-length: 0\r\nconnection: close\r\n\r\n";
+
+const TOO_LARGE: &str =
+    "HTTP/1.1 413 Payload Too Large\r\ncontent-length: 0\r\nconnection: close\r\n\r\n";
+
+const HEAD_TOO_LARGE: &str =
+    "HTTP/1.1 431 Request Header Fields Too Large\r\ncontent-length: 0\r\nconnection: close\r\n\r\n";
+
+/// What is sent, and the whole reply.
+const REPLIES: [(&str, &str); 22] = [
+    (SCHEDULE, SCHEDULED),
+    (
+        "GET /v1/variants/v1/schedule?x=1 HTTP/1.0\r\nx-office-key:\t supplier01 \t\r\n\r\n",
+        SCHEDULED,
+    ),
+    (
+        "POST /v1/commands HTTP/1.0\r\nx-office-key: supplier01\r\nexpect: 100-continue\r\ncontent-length: 34\r\n\r\n{\"do\":\"grants\",\"variant\":\"v1\"}    what follows the body",
+        DONE,
+    ),
+    ("GET /v1/variants/v1/frames HTTP/1.1\r\n\r\n", UNKNOWN_KEY),
+    (
+        "GET /v1/variants/v1/frames HTTP/1.1\r\nx-office-key: supplier01\r\nX-Office-Key: supplier01\r\n\r\n",
+        UNKNOWN_KEY,
+    ),
+    (
+        "POST /v1/commands HTTP/1.1\r\nx-office-key: supplier01\r\ncontent-length: 0\r\n\r\n",
+        BAD_TEXT,
+    ),
+    (
+        "POST /v1/commands HTTP/1.1\r\nx-office-key: nobody123\r\ncontent-length: 1\r\n\r\n[",
+        BAD_TEXT,
+    ),
+    (
+        "POST /v1/commands HTTP/1.1\r\ncontent-length: 1\r\ncontent-length: 99999\r\n\r\n{",
+        BAD_REQUEST,
+    ),
+    (
+        "POST /v1/commands HTTP/1.1\r\ncontent-length: 1a\r\n\r\n{",
+        BAD_REQUEST,
+    ),
+    (
+        "POST /v1/commands HTTP/1.1\r\ncontent-length:\r\n\r\n{",
+        BAD_REQUEST,
+    ),
+    (
+        "POST /v1/commands HTTP/1.1\r\ncontent-length: 65537\r\n\r\n",
+        TOO_LARGE,
+    ),
+    (
+        "POST /v1/commands HTTP/1.1\r\ncontent-length: 999999999999999999999999999999\r\n\r\n",
+        TOO_LARGE,
+    ),
+    (
+        "POST /v1/commands HTTP/1.1\r\n\r\n",
+        "HTTP/1.1 411 Length Required\r\ncontent-length: 0\r\nconnection: close\r\n\r\n",
+    ),
+    (
+        "PUT /v1/nothing HTTP/1.1\r\ntransfer-encoding: chunked\r\n\r\n",
+        "HTTP/1.1 501 Not Implemented\r\ncontent-length: 0\r\nconnection: close\r\n\r\n",
+    ),
+    (
+        "PUT /v1/commands HTTP/1.1\r\n\r\n",
+        "HTTP/1.1 405 Method Not Allowed\r\ncontent-length: 0\r\nallow: POST\r\nconnection: close\r\n\r\n",
+    ),
+    (
+        "POST /v1/variants/v1/frames/f1/layout HTTP/1.1\r\n\r\n",
+        "HTTP/1.1 405 Method Not Allowed\r\ncontent-length: 0\r\nallow: GET\r\nconnection: close\r\n\r\n",
+    ),
+    ("GET /v1/nothing HTTP/1.1\r\n\r\n", NOT_FOUND),
+    ("GET /v1/variants//gaps HTTP/1.1\r\n\r\n", NOT_FOUND),
+    ("GET /v1/variants/v1/gaps/ HTTP/1.1\r\n\r\n", NOT_FOUND),
+    ("GET /v1/variants/v1/v2/gaps HTTP/1.1\r\n\r\n", NOT_FOUND),
+    (
+        "GET /v1/variants/v1/frames/layout HTTP/1.1\r\n\r\n",
+        NOT_FOUND,
+    ),
+    ("nothing of the kind\r\n\r\n", BAD_REQUEST),
+];
+
+fn served(alloc: Global, input: &[u8], desk: &mut Counter) -> (Result<Served, LinkFault>, Vec<u8>) {
+    let mut writer = Sink::new(alloc, usize::MAX, ErrorKind::Other);
+    let done = serve_one(alloc, &mut whole(input), &mut writer, desk);
+    (done, writer.taken)
+}
+
+#[test]
+fn each_request_has_its_reply(rt: HostRuntime) -> Result<(), Fail> {
+    let mut desk = Counter::new()?;
+    for (input, reply) in REPLIES {
+        let (done, written) = served(rt.alloc(), input.as_bytes(), &mut desk);
+        assert!(rt; done.is_ok(), "{input}");
+        assert_eq!(rt; written.as_slice(), reply.as_bytes(), "{input}");
+    }
+    assert_eq!(rt; desk.asked, 3);
+    Ok(())
+}
+
+/// So many bytes `x` between these.
+fn with_many(alloc: Global, before: &str, count: usize, after: &str) -> Result<Vec<u8>, Fail> {
+    let mut bytes = Vec::new(alloc);
+    bytes.extend_from_slice(before.as_bytes())?;
+    for _ in 0..count {
+        bytes.push(b'x')?;
+    }
+    bytes.extend_from_slice(after.as_bytes())?;
+    Ok(bytes)
+}
+
+#[test]
+fn a_head_has_at_most_8192_bytes(rt: HostRuntime) -> Result<(), Fail> {
+    let mut desk = Counter::new()?;
+    let (before, after) = ("GET /", " HTTP/1.1\r\n\r\n");
+    let room = 8192 - before.len() - after.len();
+    for (count, reply) in [
+        (room, NOT_FOUND),
+        (room + 1, HEAD_TOO_LARGE),
+        (8200, HEAD_TOO_LARGE),
+    ] {
+        let input = with_many(rt.alloc(), before, count, after)?;
+        let (done, written) = served(rt.alloc(), &input, &mut desk);
+        assert!(rt; done.is_ok());
+        assert_eq!(rt; written.as_slice(), reply.as_bytes(), "{count}");
+    }
+    Ok(())
+}
+
+/// Wherever the input ends or a read fails nothing is asked, and nothing but a whole interim reply is written.
+#[test]
+fn a_request_is_asked_once_it_is_whole(rt: HostRuntime) -> Result<(), Fail> {
+    let mut desk = Counter::new()?;
+    let bytes = ADD_FRAME.as_bytes();
+    let head = ADD_FRAME.len() - 58;
+    for end in 0..bytes.len() {
+        for (error, fault) in [
+            (None, LinkFault::Truncated),
+            (Some(ErrorKind::ConnectionReset), LinkFault::ReadFailed),
+            (Some(ErrorKind::Interrupted), LinkFault::TooManyReads),
+        ] {
+            if end > 0 && error == Some(ErrorKind::Interrupted) {
+                continue;
+            }
+            let mut reader = whole(&bytes[..end]);
+            reader.error = error;
+            let mut writer = Sink::new(rt.alloc(), usize::MAX, ErrorKind::Other);
+            let done = serve_one(rt.alloc(), &mut reader, &mut writer, &mut desk);
+            assert_eq!(rt; done, Err(fault));
+            let interim = if end < head { "" } else { CONTINUE };
+            assert_eq!(rt; writer.taken.as_slice(), interim.as_bytes());
+        }
+    }
+    assert_eq!(rt; desk.asked, 0);
+    let mut reader = whole(bytes);
+    reader.piece = 1;
+    let mut writer = Sink::new(rt.alloc(), usize::MAX, ErrorKind::Other);
+    writer.piece = 1;
+    let done = serve_one(rt.alloc(), &mut reader, &mut writer, &mut desk);
+    assert_eq!(rt;
+        done,
+        Ok(Served {
+            status: 200,
+            asked: true
+        })
+    );
+    assert!(rt;
+        writer.taken.starts_with(CONTINUE.as_bytes()) && writer.taken.ends_with(DONE.as_bytes())
+    );
+    assert_eq!(rt; writer.taken.len(), CONTINUE.len() + DONE.len());
+    Ok(())
+}
+
+/// Where a write fails it is told whether the register was asked before.
+#[test]
+fn a_failed_write_is_told(rt: HostRuntime) -> Result<(), Fail> {
+    for error in [
+        ErrorKind::BrokenPipe,
+        ErrorKind::Interrupted,
+        ErrorKind::WriteZero,
+    ] {
+        for room in 0..CONTINUE.len() + DONE.len() {
+            let mut desk = Counter::new()?;
+            let mut writer = Sink::new(rt.alloc(), room, error);
+            let done = serve_one(
+                rt.alloc(),
+                &mut whole(ADD_FRAME.as_bytes()),
+                &mut writer,
+                &mut desk,
+            );
+            let asked = room >= CONTINUE.len();
+            assert_eq!(rt; done, Err(LinkFault::WriteFailed { asked }));
+            assert_eq!(rt; desk.asked, u32::from(asked));
+            assert_eq!(rt; writer.taken.len(), room);
+        }
+    }
+    Ok(())
+}
+
+/// A connection has 100,000 reads, interrupted ones too, and 1,000 interrupted writes.
+#[test]
+fn interruptions_are_counted(rt: HostRuntime) -> Result<(), Fail> {
+    let mut desk = Counter::new()?;
+    let done = Ok(Served {
+        status: 200,
+        asked: true,
+    });
+    for (reads, writes, ending) in [
+        (99_999, 1_000, done),
+        (100_000, 0, Err(LinkFault::TooManyReads)),
+        (0, 1_001, Err(LinkFault::WriteFailed { asked: true })),
+    ] {
+        let mut reader = whole(SCHEDULE.as_bytes());
+        reader.waits = reads;
+        let mut writer = Sink::new(rt.alloc(), usize::MAX, ErrorKind::Other);
+        writer.waits = writes;
+        let ended = serve_one(rt.alloc(), &mut reader, &mut writer, &mut desk);
+        assert_eq!(rt; ended, ending);
+    }
+    assert_eq!(rt; desk.asked, 2);
+    Ok(())
+}
