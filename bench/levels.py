@@ -25,7 +25,7 @@ from store_pages import build
 RUNS = 7
 SUPPLIERS = 64
 FRAMES = 64
-OPENED = 8
+OPENED = 32
 ASKED = 200
 CHANGED = 4
 

@@ -1,6 +1,7 @@
 #!/usr/bin/env python3
 """The gate: `rt ci`, how another SQLite finds the rows of each statement, and then the program that was built, tried as each
 compiler made it. The last line counts all."""
+import os
 import re
 import subprocess
 import sys
@@ -8,6 +9,8 @@ from pathlib import Path
 
 TOP = Path(__file__).resolve().parent.parent
 PROGRAM = "crates/fr_cli/out/fr_cli"
+# A check on each processor: `rt ci` would reckon with twice the memory that the checks of these crates take, and wait for it.
+os.environ.setdefault("RT_JOBS", str(len(os.sched_getaffinity(0))))
 COUNT = re.compile(r"(\d+) passed, (\d+) failed")
 
 
