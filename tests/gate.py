@@ -9,8 +9,8 @@ from pathlib import Path
 
 TOP = Path(__file__).resolve().parent.parent
 PROGRAM = "crates/fr_cli/out/fr_cli"
-# A check on each processor: `rt ci` would reckon with twice the memory that the checks of these crates take, and wait for it.
-os.environ.setdefault("RT_JOBS", str(len(os.sched_getaffinity(0))))
+# A check on each of up to four processors, 10 GB in all: `rt ci` would reckon with twice the memory, and wait for it.
+os.environ.setdefault("RT_JOBS", str(min(4, len(os.sched_getaffinity(0)))))
 COUNT = re.compile(r"(\d+) passed, (\d+) failed")
 
 
