@@ -21,7 +21,7 @@ from pathlib import Path
 
 from foreign_rows import foreign
 from made import FRAMES, LARGE, NODES, PLACEMENTS, SIGNALS, SLOTS, VARIANTS, cluster_file, suppliers
-from overlays import overlays
+from overlays import overlays, query
 from store_files import SECONDS, TOP, Tried, connected, filled, of_cluster, tables
 
 sys.path.append(str(TOP / "bench"))
@@ -598,6 +598,15 @@ def holds(tried, name, path, rows):
             tried.equal(f"{name}: {table}: the first rows that differ", differing(got, wanted), None)
 
 
+def finds(tried, name, path, rows):
+    """The query of docs/FORMATS.md finds the frames that the variants show."""
+    with closing(connected(path)) as conn:
+        for variant in "v1", "v2":
+            got = [row[:3] for row in conn.execute(query(), {"variant": variant})]
+            wanted = sorted(row[1:] for row in rows["frames"] if row[0] == variant)
+            tried.equal(f"{name}: the frames of {variant} that differ first", differing(got, wanted), None)
+
+
 def made_there(path, rows):
     """The register that `sqlite3` makes of these rows, each table's last row first."""
     planned_in = [table for table in ("nodes", "variants", "grants", "frames", "placements", "signals", "imports", "dropped") if rows[table]]
@@ -632,6 +641,7 @@ def main():
         for end, kept in ("here", laid_over(later)), ("there", laid_over(later)), ("whole", later):
             tells(tried, f"edited, {end}", "open", room / f"{end}.db", later, [LATER])
             holds(tried, f"edited, {end}", room / f"{end}.db", kept)
+            finds(tried, f"queried, {end}", room / f"{end}.db", later)
         (room / "foreign").mkdir()
         foreign(tried, room / "foreign")
         overlays(tried, room)
