@@ -13,7 +13,7 @@ pub divisor_within : (n r : ℕ) → 0 < n → n % r ≡ 0 → r ≤ n
 divisor_within n r some e = le_of_dvd some (dvd_of_mod-eq-zero r e)
 
 -- a number of a range passes a test that all of the range pass
-all-range : (p : ℕ → Bool) (a n k : ℕ) → a ≤ k → k < a + n → list_all p (range_with_len a n) ≡ true → p k ≡ true
+pub all-range : (p : ℕ → Bool) (a n k : ℕ) → a ≤ k → k < a + n → list_all p (range_with_len a n) ≡ true → p k ≡ true
 all-range p a zero k l h all = absurd (omega arith)
 all-range p a (suc n) k l h all =
     let parts = and_parts (p a) _ all in
@@ -31,7 +31,7 @@ unfolding cycle_count
 divides_all = refl
 
 -- where a repetition stands among the numbers from 1
-in_range : (r : ℕ) → is_repetition cycle_count r ≡ true → (1 ≤ r) × (r < 1 + cycle_count)
+pub in_range : (r : ℕ) → is_repetition cycle_count r ≡ true → (1 ≤ r) × (r < 1 + cycle_count)
 unfolding cycle_count
 in_range r h =
     let parts = and_parts (leb 1 r) _ h in
@@ -49,7 +49,7 @@ repetition-divides a b ra rb l =
     eqb-true _ _ (rw (rb, le-leb a b l) at this)
 
 -- a search of a range gives a number that passes where none before it does
-find-range_Some : (p : ℕ → Bool) (a n k : ℕ) → a ≤ k → k < a + n → p k ≡ true → ((j : ℕ) → j < k → p j ≡ false) → find p (range_with_len a n) ≡ Some k
+pub find-range_Some : (p : ℕ → Bool) (a n k : ℕ) → a ≤ k → k < a + n → p k ≡ true → ((j : ℕ) → j < k → p j ≡ false) → find p (range_with_len a n) ≡ Some k
 find-range_Some p a zero k l h t below = absurd (omega arith)
 find-range_Some p a (suc n) k l h t below = elim (cases_eq a k) [
   | inl e ↦ rw e (rw t refl)
@@ -57,12 +57,12 @@ find-range_Some p a (suc n) k l h t below = elim (cases_eq a k) [
 ]
 
 -- and nothing where none passes
-find-range_None : (p : ℕ → Bool) (a n : ℕ) → ((j : ℕ) → j < a + n → p j ≡ false) → find p (range_with_len a n) ≡ None
+pub find-range_None : (p : ℕ → Bool) (a n : ℕ) → ((j : ℕ) → j < a + n → p j ≡ false) → find p (range_with_len a n) ≡ None
 find-range_None p a zero none = refl
 find-range_None p a (suc n) none = rw (none a (omega arith)) (find-range_None p (a + 1) n (λ j h. none j (omega arith)))
 
 -- a search of what a test keeps
-find-filter : {X : Type 0} (p q : X → Bool) (xs : List X) → find p (filter q xs) ≡ find (λ x. q x && p x) xs
+pub find-filter : {X : Type 0} (p q : X → Bool) (xs : List X) → find p (filter q xs) ≡ find (λ x. q x && p x) xs
 find-filter p q [] = refl
 find-filter p q (x ∷ xs) = elim (cases_Bool (q x)) [
   | inl e ↦ rw e (rw (find-filter p q xs) refl)

@@ -1,5 +1,6 @@
 -- Cycle filtering: the cycles that a base and a repetition select.
 use Rattle.std.specs.Prelude.{ℕ, ◌%◌, ◌==◌, Bool, ◌&&◌, List, filter, find, nat_le, nat_lt, nat_eq, Option}
+use Rattle.std.specs.Int.{bit_at}
 use Rattle.std.specs.List.{list_any, range_with_len}
 
 -- a base cycle and a cycle repetition
@@ -34,6 +35,10 @@ cycles_of s = filter (selects s) (all_cycles cycle_count)
 -- whether the cycle is one of them
 unfoldable pub has_cycle : Cycles → ℕ → Bool
 has_cycle s c = list_any (nat_eq c) (cycles_of s)
+
+-- whether the bit of weight 2 ^ c is set in a word
+abbrev pub is_bit_set : ℕ → ℕ → Bool
+is_bit_set word c = bit_at word c == 1
 
 -- the least cycle that is in both lists
 unfoldable pub first_common : Cycles → Cycles → Option ℕ

@@ -36,7 +36,8 @@ impl Model for CycleSet {
 }
 
 impl CycleSet {
-    ghost use Rattle.fr_base.specs.Cycles.{cycle_count, is_cycle_set, has_cycle, first_common};
+    ghost use Rattle.std.specs.Prelude.{ℕ};
+    ghost use Rattle.fr_base.specs.Cycles.{cycle_count, is_cycle_set, has_cycle, first_common, is_bit_set};
 
     /// The cycles of this base and repetition, if they select any.
     #[tactic(auto, using(crate::proofs::CycleLemmas::divisor_within), unfolding(crate::specs::Cycles::cycle_count))]
@@ -74,6 +75,16 @@ impl CycleSet {
         ensures { result ≡ has_cycle self.now cycle }
     {
         u32::from(cycle) < CYCLE_COUNT && cycle % self.repetition == self.base
+    }
+
+    /// The cycles as bits of a word: the bit of weight `2^c` is set where cycle `c` is in the set. It takes
+    /// no memory.
+    pub fn mask(&self) -> u64
+        ensures { (c : ℕ) → is_bit_set result c ≡ has_cycle self.now c }
+    {
+        // So many ones as the repetition is, of which the first is kept: one bit in each repetition.
+        let ones = u64::MAX >> (64 - u32::from(self.repetition));
+        (u64::MAX / ones) << self.base
     }
 
     /// The least cycle that is in both sets.

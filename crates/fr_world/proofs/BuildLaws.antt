@@ -1,5 +1,5 @@
 -- When rows are a page's, by their maps and sets.
-use Rattle.std.proofs.Common.{◌≡◌, ◌<◌, ◌≤◌, Bool, true, false, cond, length, List, [], ◌∷◌, ◌++◌, map, flat_map, Some, refl, sym, ap, subst, ◌∙◌, inl, inr, arith, true≢false}
+use Rattle.std.proofs.Common.{◌≡◌, ◌<◌, ◌≤◌, Bool, true, false, cond, length, List, [], ◌∷◌, ◌++◌, map, flat_map, Option, Some, None, Result, Ok, Err, IfOk, IfSome, IfNone, refl, sym, ap, subst, ◌∙◌, inl, inr, arith, true≢false}
 use Rattle.std.specs.Prelude.{T}
 use Rattle.std.specs.Bool.{Decides}
 use Rattle.std.specs.List.{All, AllByRecursion, AllPairs}
@@ -23,9 +23,12 @@ use Rattle.fr_base.specs.declared.placement.Placement.{Placement}
 use Rattle.fr_base.proofs.SoundTables.{same_key, same_some}
 use Rattle.fr_base.proofs.TableLaws.{equal, none_above}
 use Rattle.fr_world.specs.Building.{IsKeptFrame}
+use Rattle.fr_world.specs.Decisions.{filled_by}
+use Rattle.fr_world.specs.PageCells.{ShareNone, pairs_in}
 use Rattle.fr_world.specs.Pages.{AreApart, IsKept, IsPageFrame, frame_data, frame_of, frames_data, own_rows_of, rows_data}
 use Rattle.fr_world.specs.declared.page.PageFrame.{PageFrame}
 use Rattle.fr_world.specs.declared.page.PageRows.{PageRows}
+use Rattle.fr_world.proofs.DecideFilling.{filled_in, page-apart}
 use Rattle.fr_world.proofs.BuildFrames.{All-from_map}
 use Rattle.fr_world.proofs.KeyLaws.{name_cmp, names_rise, frames_rise, own_alike, slot_cmp, slots_rise}
 use Rattle.fr_world.proofs.MapLaws.{len-set_of, len-table_of, rows-table_of}
@@ -73,8 +76,32 @@ module _ {X Y : Type 0} (R : Y → Y → Type 0) (g : X → Y) where
       subst (λ (p : Y × Y). R p.0 p.1) (λ k. (sym (get_or-map g (x ∷ xs) i x e (omega (arith, low, within))) k, sym (get_or-map g (x ∷ xs) j x e within) k))
       (h i j x low within)
 
-pub none_of : {P : Type 0} → (¬ P) → Decides false P
-none_of none = (λ e. absurd (true≢false (sym e)), λ p. absurd (none p))
+-- ---- what a call built, or did not
+
+pub some_so : {X E : Type 0} {P Q : X → Type 0} (r : Result (Option X) E) → ((x : X) → P x → Q x) → IfOk r (λ o. IfSome o P) → IfOk r (λ o. IfSome o Q)
+some_so (Ok (Some x)) so h = so x h
+some_so (Ok None) so h = tt
+some_so (Err e) so h = tt
+
+pub none_so : {X E : Type 0} {P Q : Type 0} (r : Result (Option X) E) → (P → Q) → IfOk r (λ o. IfNone o P) → IfOk r (λ o. IfNone o Q)
+none_so (Ok (Some x)) so h = tt
+none_so (Ok None) so h = so h
+none_so (Err e) so h = tt
+
+-- ---- the placements of frames, with their names and without
+
+pub pairs-filled : (es : List (Name × PageFrame)) → pairs_in (frames_data es) ≡ filled_in es
+pairs-filled es = flat_map-map (λ e. filled_by e.0 (frame_of e.1)) (λ (e : Name × PageFrame). (e.0, frame_data e.1)) es
+
+without_name : (n : Name) (qs : List Placement) → map (λ (x : Name × Placement). x.1) (map (λ q. (n, q)) qs) ≡ qs
+without_name n [] = refl
+without_name n (q ∷ qs) = ap (λ rest. q ∷ rest) (without_name n qs)
+
+without_names : (es : List (Name × PageFrame)) → map (λ (x : Name × Placement). x.1) (filled_in es) ≡ flat_map (λ e. placements_in (frame_of (frame_data e.1))) es
+without_names [] = refl
+without_names (e ∷ es) =
+    map-append (λ (x : Name × Placement). x.1) (filled_by e.0 (frame_of (frame_data e.1))) (filled_in es)
+    ∙ (λ i. without_name e.0 (placements_in (frame_of (frame_data e.1))) i ++ without_names es i)
 
 -- ---- a page's rows
 
@@ -122,8 +149,8 @@ module _ (r : PageRows) (nodes_rise : IsStrictlySortedBy name_cmp r.nodes.keys) 
       let placements = All-from_map (λ e. IsStrictlySortedBy placement_order.compare e.1.placements) (λ e. (e.0, frame_data e.1)) r.frames.entries kept.order.frames.placements in
       λ i d low. (each i d low, words i d low, placements i d low)
 
-  kept_cells : IsKept (rows_data r) → AllPairs AreApart (flat_map (λ e. placements_in (frame_of (frame_data e.1))) r.frames.entries)
-  kept_cells kept = subst (AllPairs AreApart) all_placements (AllPairs-map AreApart (λ x. x.1) (placements_of (own_rows_of (rows_data r)).frames) kept.page.apart)
+  pub kept_share : IsKept (rows_data r) → ShareNone (pairs_in (frames_data r.frames.entries))
+  kept_share k = subst ShareNone (sym (pairs-filled r.frames.entries)) (page-apart (rows_data r) r.frames.entries refl rises k)
 
   kept : length r.nodes.keys ≤ 64 → length r.frames.entries ≤ 256 → Frames → AllPairs AreApart (flat_map (λ e. placements_in (frame_of (frame_data e.1))) r.frames.entries) → IsKept (rows_data r)
   kept nodes frames each cells = record {
@@ -156,9 +183,7 @@ module _ (r : PageRows) (nodes_rise : IsStrictlySortedBy name_cmp r.nodes.keys) 
   other_frames are none frames k = true≢false (sym (frames.1 (kept_frames k)) ∙ none)
 
   -- else they are a page's where no cell lies in two placements
-  pub kept_decided : (qs : List Placement) (are is : Bool) → length r.nodes.keys ≤ 64 → length r.frames.entries ≤ 256 → are ≡ true → Decides are Frames →
-      qs ≡ flat_map (λ e. placements_in (frame_of (frame_data e.1))) r.frames.entries → Decides is (AllPairs AreApart qs) → Decides is (IsKept (rows_data r))
-  kept_decided qs are is nodes frames whole each all cells = (
-    λ h. kept nodes frames (each.0 whole) (subst (AllPairs AreApart) all (cells.0 h)),
-    λ k. cells.1 (subst (AllPairs AreApart) (sym all) (kept_cells k)),
-  )
+  pub kept_rows : length r.nodes.keys ≤ 64 → length r.frames.entries ≤ 256 → Frames → ShareNone (pairs_in (frames_data r.frames.entries)) → IsKept (rows_data r)
+  kept_rows nodes frames each share =
+      kept nodes frames each
+      (subst (AllPairs AreApart) (without_names r.frames.entries) (AllPairs-map AreApart (λ (x : Name × Placement). x.1) (filled_in r.frames.entries) (subst ShareNone (pairs-filled r.frames.entries) share)))

@@ -1,9 +1,9 @@
 -- What a page decides.
-use Rattle.std.proofs.Common.{◌≡◌, true, false, [], ◌∷◌, Result, Ok, Err, refl, ◌⊎◌, inl, inr}
+use Rattle.std.proofs.Common.{◌≡◌, true, false, [], ◌∷◌, Result, Ok, Err, refl}
 use Rattle.std.specs.Prelude.{⊤}
 use Rattle.fr_base.specs.Refusing.{◌>>◌, refuse◌when◌}
 use Rattle.fr_base.specs.declared.refusal.Refusal.{Refusal}
-use Rattle.fr_base.specs.declared.refusal.Refusal.TheVariants.{Released, Unavailable}
+use Rattle.fr_base.specs.declared.refusal.Refusal.TheVariants.{Released}
 use Rattle.fr_base.specs.declared.request.Change.{Change}
 use Rattle.fr_world.specs.Decisions.{admits_alone, decision}
 use Rattle.fr_world.specs.Pages.{PageData, own_rows_of}
@@ -14,23 +14,17 @@ pub decision_released : (rows : PageData) (what : Change) → rows.released ≡ 
 unfolding decision ◌>>◌ refuse◌when◌
 decision_released rows what closed = rw closed refl
 
--- an answer of memory, or of the page
-abbrev Answers : PageData → Change → Result ⊤ Refusal → Type 0
-Answers rows what r = (r ≡ Err Unavailable) ⊎ (r ≡ admits_alone (own_rows_of rows) what)
-
 module _ (rows : PageData) (what : Change) (unreleased : rows.released ≡ false) where
   decision_open : (r : Result ⊤ Refusal) → r ≡ admits_alone (own_rows_of rows) what → decision rows what ≡ (r >> Ok (Rows rows.supplier rows.variant what ∷ []))
   unfolding decision ◌>>◌ refuse◌when◌
   decision_open r is = rw (unreleased, ← is) refl
 
   -- what is admitted is the edit
-  pub decision_made : (t : ⊤) → Answers rows what (Ok t) → decision rows what ≡ Ok (Rows rows.supplier rows.variant what ∷ [])
+  pub decision_made : (t : ⊤) → Ok t ≡ admits_alone (own_rows_of rows) what → decision rows what ≡ Ok (Rows rows.supplier rows.variant what ∷ [])
   unfolding ◌>>◌
-  decision_made t (inl lacked) = cc
-  decision_made t (inr is) = decision_open (Ok t) is
+  decision_made t is = decision_open (Ok t) is
 
-  -- what refuses it is the refusal, but for a want of memory
-  pub decision_refused : (e : Refusal) → Answers rows what (Err e) → (e ≡ Unavailable) ⊎ (decision rows what ≡ Err e)
+  -- what refuses it is the refusal
+  pub decision_refused : (e : Refusal) → Err e ≡ admits_alone (own_rows_of rows) what → decision rows what ≡ Err e
   unfolding ◌>>◌
-  decision_refused e (inl lacked) = inl cc
-  decision_refused e (inr is) = inr (decision_open (Err e) is)
+  decision_refused e is = decision_open (Err e) is

@@ -1,15 +1,14 @@
 -- Frames and placements that lie apart fill cells that are free.
-use Rattle.std.proofs.Common.{◌≡◌, suc, Bool, true, false, cond, List, [], ◌∷◌, ◌++◌, map, flat_map, All, AllPairs, Option, Some, None, is_none, option_map, IsTrue, refl, sym, ap, subst, ◌∙◌, ◌⊎◌, inl, inr, arith, append_assoc}
+use Rattle.std.proofs.Common.{◌≡◌, suc, Bool, true, false, cond, List, [], ◌∷◌, ◌++◌, map, flat_map, All, AllPairs, Option, Some, None, is_none, option_map, IsTrue, refl, sym, ap, subst, true≢false, ◌∙◌, ◌⊎◌, inl, inr, arith}
 use Rattle.std.specs.Prelude.{⊤, ◌||◌}
 use Rattle.std.specs.List.{list_any}
 use Rattle.std.specs.List.Sorted.{IsStrictlySortedBy}
 use Rattle.std.specs.Map.{keys_of}
 use Rattle.std.specs.Cmp.{tied_itself, on_total, then_total, nat_cmp_total}
 use Rattle.std.specs.Ordering.{is_eq}
-use Rattle.std.proofs.lemmas.Bool.{cases_Bool}
-use Rattle.std.proofs.lemmas.List.{append-nil, map-append}
-use Rattle.std.proofs.lemmas.List.Elements.{All-head, All-tail, All-cons, All-map}
-use Rattle.std.proofs.lemmas.List.Concat.{flat_map-append}
+use Rattle.std.proofs.lemmas.Bool.{cases_Bool, or_cases}
+use Rattle.std.proofs.lemmas.List.{map-append}
+use Rattle.std.proofs.lemmas.List.Elements.{All-nil, All-head, All-tail, All-cons, All-map}
 use Rattle.std.proofs.lemmas.List.Kept.{AllPairs-cons}
 use Rattle.fr_base.specs.Book as book
 use Rattle.fr_base.specs.Book.{Sender, placements_of, schedule_of}
@@ -25,6 +24,8 @@ use Rattle.fr_world.specs.declared.page.PageFrame.{PageFrame}
 use Rattle.fr_world.specs.Decisions.{filled_by, taken_by}
 use Rattle.fr_world.specs.Occupancies.{ShowCells, cell_refused, first_taken_cell, is_free, taken_cell}
 use Rattle.fr_world.specs.Pages.{AreApart, IsKept, PageData, frame_data, frames_data, frame_of, own_rows_of}
+use Rattle.fr_base.proofs.SoundCells.{same_cell-is}
+use Rattle.fr_world.proofs.ApartLaws.{AllPairs-append}
 use Rattle.fr_world.proofs.DecideRows.{frame_rows, frames-rows}
 use Rattle.fr_world.proofs.KeyLaws.{name_cmp}
 
@@ -37,17 +38,9 @@ module _ {X : Type 0} (R : X → X → Type 0) where
   later-pairs : (x : X) (xs : List X) → AllPairs R (x ∷ xs) → AllPairs R xs
   later-pairs x xs h = λ i j d l m. h (suc i) (suc j) d (omega arith) (omega arith)
 
-  all-front : (P : X → Type 0) (xs ys : List X) → All P (xs ++ ys) → All P xs
-  all-front P [] ys h = λ k d l. absurd (omega arith)
-  all-front P (x ∷ xs) ys h = All-cons P x xs (All-head P x (xs ++ ys) h) (all-front P xs ys (All-tail P x (xs ++ ys) h))
-
   all-middle : (P : X → Type 0) (xs : List X) (y : X) (ys : List X) → All P (xs ++ y ∷ ys) → P y
   all-middle P [] y ys h = All-head P y ys h
   all-middle P (x ∷ xs) y ys h = all-middle P xs y ys (All-tail P x (xs ++ y ∷ ys) h)
-
-  pub pairs-front : (xs ys : List X) → AllPairs R (xs ++ ys) → AllPairs R xs
-  pairs-front [] ys h = λ i j d l m. absurd (omega arith)
-  pairs-front (x ∷ xs) ys h = AllPairs-cons R x xs (all-front (R x) xs ys (first-pairs x (xs ++ ys) h)) (pairs-front xs ys (later-pairs x (xs ++ ys) h))
 
   pub pairs-map : {Y : Type 0} (f : Y → X) (ys : List Y) → AllPairs (λ x y. R (f x) (f y)) ys → AllPairs R (map f ys)
   pairs-map f [] h = λ i j d l m. absurd (omega arith)
@@ -117,19 +110,6 @@ pub named-page : (rows : PageData) (es : List (Name × PageFrame)) → frames_da
 unfolding placements_of
 named-page rows es e h = ap (λ rs. map named (flat_map entries_of rs)) (frames-rows rows es e h) ∙ named-frames rows.supplier es
 
--- one frame more
-pub filled_in-more : (es : List (Name × PageFrame)) (e : Name × PageFrame) → filled_in (es ++ e ∷ []) ≡ filled_in es ++ filled_by e.0 (frame_of (frame_data e.1))
-filled_in-more es e =
-    flat_map-append (λ e. filled_by e.0 (frame_of (frame_data e.1))) es (e ∷ [])
-    ∙ ap (λ ps. filled_in es ++ ps) (append-nil (filled_by e.0 (frame_of (frame_data e.1))))
-
--- the frames so far and the next one are apart
-pub frames-apart : (es : List (Name × PageFrame)) (e : Name × PageFrame) (rest : List (Name × PageFrame)) → Apart (filled_in (es ++ e ∷ rest)) → Apart (filled_in es ++ filled_by e.0 (frame_of (frame_data e.1)))
-frames-apart es e rest apart =
-    let here : List (Name × Placement) = filled_by e.0 (frame_of (frame_data e.1)) in
-    pairs-front (λ x y. AreApart x.1 y.1) (filled_in es ++ here) (filled_in rest)
-    (subst Apart (flat_map-append (λ e. filled_by e.0 (frame_of (frame_data e.1))) es (e ∷ rest) ∙ sym (append_assoc (filled_in es) here (filled_in rest))) apart)
-
 -- a page's placements are apart
 pub page-apart : (rows : PageData) (es : List (Name × PageFrame)) → frames_data es ≡ rows.frames → IsStrictlySortedBy name_cmp (keys_of es) → IsKept rows → Apart (filled_in es)
 page-apart rows es e h kept = subst Apart (named-page rows es e h) (pairs-map (λ x y. AreApart x.1 y.1) named (placements_of (own_rows_of rows).frames) kept.page.apart)
@@ -171,3 +151,41 @@ refused-shown pairs frames q shows = ap cell_refused (taken-like (fill pairs) (s
 pub shown-page : (rows : PageData) (es : List (Name × PageFrame)) → frames_data es ≡ rows.frames → IsStrictlySortedBy name_cmp (keys_of es) → ShowCells (filled_in es) (own_rows_of rows).frames
 unfolding schedule_of
 shown-page rows es e h c = ap (λ ps. fill ps c) (sym (named-page rows es e h)) ∙ fill-named (placements_of (own_rows_of rows).frames) c
+
+-- ---- what is free is apart
+
+taken_none : {O : Type 0} (filled : Cell → Option O) (ds : List Cell) (c : Cell) → is_none (first_taken filled ds) ≡ true → list_any (same_cell c) ds ≡ true → filled c ≡ None
+unfolding first_taken
+taken_none filled [] c none h = absurd (true≢false (sym h))
+taken_none filled (d ∷ ds) c none h = elim (option_is (filled d)) [
+  | inl o ↦ let taken = rw o.1 at none in cc
+  | inr e ↦ elim (or_cases _ _ h) [
+    | inl here ↦ ap filled (same_cell-is c d here) ∙ e
+    | inr later ↦ taken_none filled ds c (rw e at none) later
+  ]
+]
+
+unfilled_apart : (xs : List (Name × Placement)) (q : Placement) → ((c : Cell) → has_cell q c ≡ true → fill xs c ≡ None) → All {X = Name × Placement} (λ x. AreApart x.1 q) xs
+unfolding fill
+unfilled_apart [] q none = All-nil (λ (x : Name × Placement). AreApart x.1 q)
+unfilled_apart (x ∷ xs) q none = All-cons (λ (x : Name × Placement). AreApart x.1 q) x xs
+    (λ c has clash. let filled : Some x.0 ≡ None = sym (ap (λ b. cond b (Some x.0) (fill xs c)) has) ∙ none c clash in cc)
+    (unfilled_apart xs q (λ c has. by_cell c (cases_Bool (has_cell x.1 c)) (none c has)))
+  where
+    by_cell : (c : Cell) → (has_cell x.1 c ≡ true) ⊎ (has_cell x.1 c ≡ false) → cond (has_cell x.1 c) (Some x.0) (fill xs c) ≡ None → fill xs c ≡ None
+    by_cell c (inl has) e = let filled : Some x.0 ≡ None = sym (ap (λ b. cond b (Some x.0) (fill xs c)) has) ∙ e in cc
+    by_cell c (inr lacks) e = sym (ap (λ b. cond b (Some x.0) (fill xs c)) lacks) ∙ e
+
+abbrev Alone : Name → Placement → Name × Placement → Type 0
+Alone f q x = All {X = Name × Placement} (λ y. AreApart x.1 y.1) ((f, q) ∷ [])
+
+-- a placement whose cells are free stands apart from all
+pub apart-free : (xs : List (Name × Placement)) (f : Name) (q : Placement) → Apart xs → is_free xs q ≡ true → Apart (xs ++ (f, q) ∷ [])
+unfolding is_free has_cell
+apart-free xs f q apart free =
+    AllPairs-append (λ x y. AreApart x.1 y.1) xs ((f, q) ∷ []) apart (λ i j d l m. absurd (omega (arith, l, m)))
+    (lone xs (unfilled_apart xs q (λ c has. taken_none (fill xs) (cells_of q) c free has)))
+  where
+    lone : (ys : List (Name × Placement)) → All {X = Name × Placement} (λ x. AreApart x.1 q) ys → All (Alone f q) ys
+    lone [] all = All-nil (Alone f q)
+    lone (y ∷ ys) all = All-cons (Alone f q) y ys (All-cons (λ (z : Name × Placement). AreApart y.1 z.1) (f, q) [] (All-head (λ (x : Name × Placement). AreApart x.1 q) y ys all) (All-nil (λ (z : Name × Placement). AreApart y.1 z.1))) (lone ys (All-tail (λ (x : Name × Placement). AreApart x.1 q) y ys all))

@@ -3,6 +3,8 @@ pub mod SharedLaws
 pub mod TakenLaws
 pub mod KeyLaws
 pub mod RowLaws
+pub mod MaskLaws
+pub mod MarkLaws
 pub mod CommonLaws
 pub mod AmongLaws
 pub mod GapLaws
@@ -20,13 +22,13 @@ pub mod RemoveLaws
 pub mod AmendLaws
 pub mod AmendSignals
 pub mod AmendPages
-pub mod BuildApart
 pub mod BuildFrames
 pub mod BuildLaws
 pub mod DecideRows
 pub mod DecideSteps
 pub mod DecideFilling
 pub mod DecideAll
+pub mod PlacedLaws
 pub mod AgreeLaws
 pub mod AmendTakes
 pub mod FitsLaws
@@ -35,6 +37,5 @@ pub mod BookFits
 pub mod LabelLaws
 pub mod RowsDecide
 pub mod ImportRoom
-pub mod DraftCells
 pub mod DraftSteps
 pub mod DraftRows

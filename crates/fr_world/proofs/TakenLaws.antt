@@ -103,7 +103,7 @@ cells-rise q = rising (selects q.cycles) q.slot q.channels 0 cycle_count
 
 -- ---- the first cell that is filled by the former or by the latter
 
-option_is : {A : Type 0} (r : Option A) → ((x : A) × (r ≡ Some x)) ⊎ (r ≡ None)
+pub option_is : {A : Type 0} (r : Option A) → ((x : A) × (r ≡ Some x)) ⊎ (r ≡ None)
 option_is None = inr refl
 option_is (Some x) = inl (x, refl)
 

@@ -1,9 +1,8 @@
 -- By which tests rows are found to be a page's.
-use Rattle.std.specs.Prelude.{◌≡◌, ◌==◌, ◌&&◌, Bool, true, not, List, [], ◌∷◌, nat_le, find, take_while, is_some}
-use Rattle.std.specs.List.{list_any, list_all}
+use Rattle.std.specs.Prelude.{◌≡◌, ◌&&◌, Bool, nat_le}
+use Rattle.std.specs.List.{list_all}
 use Rattle.std.specs.List.Sorted.{IsStrictlySortedBy}
 use Rattle.fr_base.specs.Keys.{placement_order}
-use Rattle.fr_base.specs.Cells.{cells_of, has_cell}
 use Rattle.fr_base.specs.Channels.{channels_in, has_channel}
 use Rattle.fr_base.specs.Cycles.{cycle_count, is_cycle_set}
 use Rattle.fr_base.specs.Book.{granted}
@@ -26,16 +25,3 @@ is_placed page n q = fits page.params q && granted page.grants page.supplier n q
 -- the frame is a page's, its layout is that of the cluster's payload, and its placements stand in order
 abbrev pub IsKeptFrame : OwnRows → FrameData → Type 0
 IsKeptFrame page f = IsPageFrame page (frame_of f) × (f.layout.words ≡ page.params.payload_words) × IsStrictlySortedBy placement_order.compare f.placements
-
--- whether a cell lies in both placements
-unfoldable pub meet : Placement → Placement → Bool
-meet q r = is_some (find (has_cell r) (cells_of q))
-
--- whether one of the first of these, as long as they are in the same slot, shares a cell with the placement
-unfoldable pub meets_next : Placement → List Placement → Bool
-meets_next q rs = list_any (meet q) (take_while (λ r. r.slot == q.slot) rs)
-
--- whether no two of them that follow one another in a slot share a cell
-unfoldable pub none_meets : List Placement → Bool
-none_meets [] = true
-none_meets (q ∷ qs) = not (meets_next q qs) && none_meets qs

@@ -1,4 +1,6 @@
 pub mod Maps
+pub mod Masks
+pub mod PageCells
 pub mod Pages
 pub mod Decisions
 pub mod Edits

@@ -1,18 +1,27 @@
 //! What an edit makes of a page: only the rows that it names change.
-ghost use Rattle.std.specs.Prelude.{◌≡◌, ◌≤◌, ◌||◌, not, filter, Err, IfSome, OnOk, OnErr};
+ghost use Rattle.std.specs.Prelude.{◌≡◌, ◌≤◌, ◌||◌, ◌&&◌, ◌++◌, ◌∷◌, [], not, filter, option_map, Err, IfSome, OnOk, OnErr};
+ghost use Rattle.std.specs.BTreeMap.{is_at};
+ghost use Rattle.std.specs.Cmp.Lexicographic.{slice_cmp};
+ghost use Rattle.std.specs.List.{list_any};
+ghost use Rattle.std.specs.Ordering.{nat_cmp};
 ghost use Rattle.fr_base.specs.Keys.{names, placement_order};
 ghost use Rattle.fr_base.specs.Layouts.{IsLayout, with_signal, without_signal};
-ghost use Rattle.fr_base.specs.Tables.{insert, remove};
+ghost use Rattle.fr_base.specs.Tables.{contains, insert, remove};
 ghost use Rattle.fr_base.specs.declared.name.Name.{Name as NameText};
+ghost use Rattle.fr_base.specs.declared.placement.Placement.{Placement as Cells};
 ghost use Rattle.fr_base.specs.declared.refusal.Refusal.TheVariants.{Unavailable};
 ghost use Rattle.std.specs.List.Sorted.{IsStrictlySortedBy};
 ghost use Rattle.std.specs.Map.{keys_of};
-ghost use Rattle.fr_world.specs.Amends.{AreChanged, LeavesLayout, frame_at, grants_of, nodes_of};
+ghost use Rattle.fr_world.specs.Amends.{AreChanged, LeavesLayout, as_frame, frame_at, grants_of, nodes_of};
 ghost use Rattle.fr_world.specs.Edits.{Takes, edited, releases};
 ghost use Rattle.fr_world.specs.Maps.{set_of};
+ghost use Rattle.fr_world.specs.Occupancies.{is_pair};
+ghost use Rattle.fr_world.specs.PageCells.{ArePlaced, has_placement};
 ghost use Rattle.fr_world.specs.Pages.{compare_slots, frames_data, holder_of, own_rows_of};
 
 use crate::edit::Edit;
+use crate::mask_occupancy::MaskOccupancy;
+use crate::occupancy::Occupancy;
 use crate::page::{ChannelSlot, Page, PageFrame};
 use fr_base::{Change, FrameChange, Name, Placement, Refusal, Signal};
 use fr_layout::Layout;
@@ -57,7 +66,8 @@ impl Page {
                 }
                 Change::Frame { frame, change } => {
                     let words = self.rows.params.payload_words();
-                    change_frame(&mut self.rows.frames, alloc, words, *frame, change)
+                    let (frames, cells) = (&mut self.rows.frames, &mut self.cells);
+                    change_frame(frames, cells, alloc, words, *frame, change)
                 }
             },
             Edit::NewVariant { .. } | Edit::KeepImport { .. } => Ok(()),
@@ -102,9 +112,11 @@ fn end_grant(grants: &mut BTreeMap<ChannelSlot, Name>, at: ChannelSlot)
     grants.remove(&at);
 }
 
-// Makes the change of the frame of this name, in a payload of so many words.
+// Makes the change of the frame of this name, in a payload of so many words, and keeps the cells that
+// the frames fill.
 fn change_frame(
     frames: &mut BTreeMap<Name, PageFrame>,
+    cells: &mut MaskOccupancy,
     alloc: Global,
     words: u32,
     name: Name,
@@ -112,7 +124,9 @@ fn change_frame(
 ) -> Result<(), Refusal>
     requires words { words ≤ 127 }
     requires leaves { IfSome (frame_at name frames.old.entries) (LeavesLayout change.now) }
+    requires placed { ArePlaced cells.old (frames_data frames.old.entries) }
     ensures ok { OnOk result (AreChanged words name change.now frames.old.entries frames.new.entries) }
+    ensures placed { ArePlaced cells.new (frames_data frames.new.entries) }
     ensures err { OnErr result ((frames_data frames.new.entries ≡ frames_data frames.old.entries) × (result ≡ Err Unavailable)) }
 {
     // Gives the proof that the keys are in order.
@@ -124,20 +138,23 @@ fn change_frame(
                 placements: BTreeSet::new(alloc),
                 layout: Layout::new(alloc, words),
             };
-            frames.insert(name, frame)?;
+            let former = frames.insert(name, frame)?;
+            end_cells(cells, name, former);
             Ok(())
         }
         FrameChange::Drop => {
-            frames.remove(&name);
+            let former = frames.remove(&name);
+            end_cells(cells, name, former);
             Ok(())
         }
         FrameChange::Place(placement) => match frames.get_mut(&name) {
-            Some(frame) => put_placement(&mut frame.placements, *placement),
+            Some(frame) => put_placement(&mut frame.placements, cells, name, *placement),
             None => Ok(()),
         },
         FrameChange::Unplace(placement) => match frames.get_mut(&name) {
             Some(frame) => {
                 end_placement(&mut frame.placements, placement);
+                cells.clear(name, placement);
                 Ok(())
             }
             None => Ok(()),
@@ -156,15 +173,49 @@ fn change_frame(
     }
 }
 
-// The placement is one of these.
+// The frame that was there fills no cell any more.
+fn end_cells(cells: &mut MaskOccupancy, name: Name, former: Option<PageFrame>)
+    ensures { (f : NameText) (q : Cells) → list_any (is_pair f q) cells.new ≡ (list_any (is_pair f q) cells.old && not (is_at (slice_cmp nat_cmp f) name && has_placement q (option_map as_frame former))) }
+{
+    if let Some(frame) = former {
+        end_each(cells, name, &frame);
+    }
+}
+
+// The frame of this name does not fill the cells of this one's placements any more.
+fn end_each(cells: &mut MaskOccupancy, name: Name, frame: &PageFrame)
+    ensures { (f : NameText) (q : Cells) → list_any (is_pair f q) cells.new ≡ (list_any (is_pair f q) cells.old && not (is_at (slice_cmp nat_cmp f) name && contains (as_frame frame.now).placements q)) }
+{
+    for placement in &frame.placements {
+        cells.clear(name, placement);
+    }
+}
+
+// The placement is one of these, and the frame of this name fills its cells.
 #[tactic(auto, using(crate::proofs::AmendLaws::insert_placement, crate::proofs::KeyLaws::placements_rise))]
-fn put_placement(placements: &mut BTreeSet<Placement>, placement: Placement) -> Result<(), Refusal>
+fn put_placement(
+    placements: &mut BTreeSet<Placement>,
+    cells: &mut MaskOccupancy,
+    name: Name,
+    placement: Placement,
+) -> Result<(), Refusal>
+    requires { list_any (is_pair name placement) cells.old ≡ contains (set_of placement_order (λ q. q) placements.old.keys) placement }
     ensures table { OnOk result (set_of placement_order (λ q. q) placements.new.keys ≡ insert (set_of placement_order (λ q. q) placements.old.keys) placement tt) }
     ensures order { IsStrictlySortedBy placement_order.compare placements.new.keys }
     ensures err { OnErr result ((placements.new.keys ≡ placements.old.keys) × (result ≡ Err Unavailable)) }
+    ensures placed { OnOk result (cells.new ≡ cells.old ++ (name, placement) ∷ []) }
+    ensures kept { OnErr result ((f : NameText) (q : Cells) → list_any (is_pair f q) cells.new ≡ list_any (is_pair f q) cells.old) }
 {
-    placements.insert(placement)?;
-    Ok(())
+    // Gives the proof that the placements are in order.
+    let _len = placements.len();
+    cells.add(name, &placement)?;
+    match placements.insert(placement) {
+        Ok(_) => Ok(()),
+        Err(_) => {
+            cells.clear(name, &placement);
+            Err(Refusal::Unavailable)
+        }
+    }
 }
 
 // The placement is none of these.

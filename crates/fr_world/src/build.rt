@@ -1,17 +1,16 @@
 //! Which rows are a page's.
 ghost use Rattle.std.specs.Prelude.{◌≡◌, IfNone, IfOk, IfSome};
-ghost use Rattle.std.specs.Bool.{Decides};
-ghost use Rattle.fr_world.specs.Pages.{IsKept, rows_data};
+ghost use Rattle.fr_world.specs.PageCells.{ArePlaced};
+ghost use Rattle.fr_world.specs.Pages.{IsKept, frames_data, rows_data};
 
-mod apart;
+mod cells;
 mod frames;
-mod placements;
 
+use crate::mask_occupancy::MaskOccupancy;
 use crate::page::{Page, PageRows};
-use apart::no_cell_twice;
+use cells::cells_of;
 use fr_base::{MAX_FRAMES, MAX_NODES, NoMemory};
 use frames::are_frames;
-use placements::placements_of;
 use std::alloc::Global;
 
 impl Page {
@@ -24,23 +23,24 @@ impl Page {
         ensures kept { IfOk result (λ built. IfSome built (λ page. IsKept (rows_data rows))) }
         ensures none { IfOk result (λ built. IfNone built (¬ IsKept (rows_data rows))) }
     {
-        if !is_kept(alloc, &rows)? {
+        let Some(cells) = kept_cells(alloc, &rows)? else {
             return Ok(None);
-        }
-        Ok(Some(Page { rows }))
+        };
+        Ok(Some(Page { rows, cells }))
     }
 }
 
-// Whether the rows are a page's.
-fn is_kept(alloc: Global, rows: &PageRows) -> Result<bool, NoMemory>
-    ensures { IfOk result (λ is. Decides is (IsKept (rows_data rows.now))) }
+// The cells that the rows' frames fill, if the rows are a page's.
+fn kept_cells(alloc: Global, rows: &PageRows) -> Result<Option<MaskOccupancy>, NoMemory>
+    ensures some { IfOk result (λ kept. IfSome kept (λ cells. IsKept (rows_data rows.now) × ArePlaced cells (frames_data rows.now.frames.entries))) }
+    ensures none { IfOk result (λ kept. IfNone kept (¬ IsKept (rows_data rows.now))) }
 {
     let nodes = rows.nodes.len();
     let frames = rows.frames.len();
     // Gives the proof that the grants are in order.
     let _grants = rows.grants.len();
     if nodes > MAX_NODES || frames > MAX_FRAMES || !are_frames(rows) {
-        return Ok(false);
+        return Ok(None);
     }
-    Ok(no_cell_twice(placements_of(alloc, rows)?))
+    cells_of(alloc, rows)
 }

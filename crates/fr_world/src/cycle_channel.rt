@@ -5,7 +5,7 @@ ghost use Rattle.fr_base.specs.Cells.{cells_of, has_cell};
 ghost use Rattle.fr_base.specs.Channels.{channels_in, has_channel};
 ghost use Rattle.fr_world.specs.CycleChannels.{cycle_channel};
 
-use fr_base::{Channel, Channels, Placement};
+use fr_base::{Channel, Channels, Placement, Slot};
 
 /// A cell's cycle and channel: all that differs in a placement's cells. The cycle comes first in the
 /// order, then A before B.
@@ -13,6 +13,14 @@ use fr_base::{Channel, Channels, Placement};
 pub(crate) struct CycleChannel {
     pub(crate) cycle: u8,
     pub(crate) channel: Channel,
+}
+
+/// Whether the placement has the cell.
+#[tactic(auto, using(crate::proofs::ScheduleLaws::has_cell_parts))]
+pub(crate) fn has_cell(placement: &Placement, cycle: u8, slot: Slot, channel: Channel) -> bool
+    ensures { result ≡ has_cell placement.now (record { cycle = cycle; slot = slot; channel = channel }) }
+{
+    slot == placement.slot && placement.channels.has(channel) && placement.cycles.contains(cycle)
 }
 
 /// The first cell of a placement that another one has too.

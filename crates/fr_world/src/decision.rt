@@ -6,7 +6,6 @@ ghost use Rattle.fr_world.specs.Edits.{Leads, rows_after};
 ghost use Rattle.fr_world.specs.Pages.{own_rows_of};
 
 mod draft;
-mod filling;
 mod frames;
 mod grants;
 mod import_rows;
@@ -46,7 +45,7 @@ pub fn decide(alloc: Global, page: &Page, change: &Change) -> Result<Vec<Edit>, 
     }
     // They give the proof that the parameters make a cluster, and that the page's rows are kept.
     let (_raw, _frames) = (page.params().raw(), page.frames());
-    admit(alloc, page, change)?;
+    admit(page, change)?;
     let edit = Edit::Rows {
         supplier: page.supplier(),
         variant: page.variant(),
@@ -55,10 +54,9 @@ pub fn decide(alloc: Global, page: &Page, change: &Change) -> Result<Vec<Edit>, 
     Ok(vec![in alloc; edit]?)
 }
 
-// The first refusal of the change in a variant that is open, if there is one; `Unavailable` where memory
-// is refused.
-fn admit(alloc: Global, page: &Page, change: &Change) -> Result<(), Refusal>
-    ensures { (result ≡ Err Unavailable) ⊎ (result ≡ admits_alone (own_rows_of page.now) change.now) }
+// The first refusal of the change in a variant that is open, if there is one.
+fn admit(page: &Page, change: &Change) -> Result<(), Refusal>
+    ensures { result ≡ admits_alone (own_rows_of page.now) change.now }
 {
     match change {
         Change::Grant {
@@ -67,25 +65,18 @@ fn admit(alloc: Global, page: &Page, change: &Change) -> Result<(), Refusal>
             node,
         } => grants::admit_grant(page, *slot, *channel, *node),
         Change::Revoke { slot, channel } => grants::admit_end(page, *slot, *channel),
-        Change::Frame { frame, change } => admit_frame_change(alloc, page, *frame, change),
+        Change::Frame { frame, change } => admit_frame_change(page, *frame, change),
     }
 }
 
 // So for a change of the frame of this name.
-fn admit_frame_change(
-    alloc: Global,
-    page: &Page,
-    frame: Name,
-    change: &FrameChange,
-) -> Result<(), Refusal>
-    ensures { (result ≡ Err Unavailable) ⊎ (result ≡ admits_alone (own_rows_of page.now) (Change.Frame frame change.now)) }
+fn admit_frame_change(page: &Page, frame: Name, change: &FrameChange) -> Result<(), Refusal>
+    ensures { result ≡ admits_alone (own_rows_of page.now) (Change.Frame frame change.now) }
 {
     match change {
         FrameChange::Add { node } => frames::admit_frame(page, frame, *node),
         FrameChange::Drop => frames::admit_drop(page, frame),
-        FrameChange::Place(placement) => {
-            placements::admit_placement(alloc, page, frame, placement)
-        }
+        FrameChange::Place(placement) => placements::admit_placement(page, frame, placement),
         FrameChange::Unplace(placement) => placements::admit_end(page, frame, placement),
         FrameChange::AddSignal(signal) => signals::admit_signal(page, frame, signal),
         FrameChange::DropSignal(signal) => signals::admit_end(page, frame, *signal),

@@ -7,6 +7,7 @@ mod build;
 mod cycle_channel;
 mod decision;
 mod edit;
+mod filled_cycles;
 #[cfg(test)]
 mod fixture;
 mod frame_rows;
@@ -17,6 +18,8 @@ mod import_label;
 mod import_room;
 mod kept_import;
 mod laws;
+mod mask_occupancy;
+mod masks;
 mod nodes;
 mod occupancy;
 mod page;
@@ -39,6 +42,7 @@ pub use laws::{
     revoke_decides, rows_are_checked, rows_are_the_registers, rows_decide, rows_fit, rows_lead,
     sound_rows_are_a_page, supplier_decides,
 };
+pub use mask_occupancy::MaskOccupancy;
 pub use nodes::decide_node;
 pub use occupancy::{Occupancy, TakenCell};
 pub use page::{ChannelSlot, Page, PageFrame, PageRows};

@@ -1,4 +1,5 @@
 //! A supplier's rows in a variant.
+use crate::mask_occupancy::MaskOccupancy;
 use fr_base::{Channel, Name, NoMemory, Params, Placement, Slot};
 use fr_layout::Layout;
 use std::collections::{BTreeMap, BTreeSet};
@@ -81,20 +82,23 @@ impl Clone for PageRows {
 /// A supplier's rows in a variant, in the order of their keys: at most 64 nodes and 256 frames, each
 /// frame with at most 8 placements, which fit the cluster and lie in grants to its node, and with
 /// signals that make a layout of the cluster's payload. No cell lies in two placements. Whether the
-/// nodes of its grants and frames are among its nodes is not asked.
+/// nodes of its grants and frames are among its nodes is not asked. Beside the rows it keeps which cells
+/// its frames fill.
 #[derive(Drop)]
 pub struct Page {
     pub(crate) rows: PageRows,
+    pub(crate) cells: MaskOccupancy,
 }
 
 impl Model for Page {
-    ghost use Rattle.fr_world.specs.Pages.{IsKept, PageData, rows_data};
+    ghost use Rattle.fr_world.specs.PageCells.{ArePlaced};
+    ghost use Rattle.fr_world.specs.Pages.{IsKept, PageData, frames_data, rows_data};
 
     ghost Value = { PageData };
 
     ghost view = { λ p. rows_data p.rows };
 
-    ghost invariant = { λ p. IsKept (rows_data p.rows) };
+    ghost invariant = { λ p. IsKept (rows_data p.rows) × ArePlaced p.cells (frames_data p.rows.frames.entries) };
 }
 
 impl Clone for Page {
@@ -105,13 +109,15 @@ impl Clone for Page {
     fn clone(&self) -> Result<Page, NoMemory> {
         Ok(Page {
             rows: self.rows.clone()?,
+            cells: self.cells.clone()?,
         })
     }
 }
 
 impl Page {
     ghost use Rattle.std.specs.Prelude.{◌≡◌};
-    ghost use Rattle.fr_world.specs.Pages.{IsKept, frames_data};
+    ghost use Rattle.fr_world.specs.Occupancies.{ShowCells};
+    ghost use Rattle.fr_world.specs.Pages.{IsKept, frames_data, own_rows_of};
 
     /// The cluster's parameters.
     pub fn params(&self) -> Params
@@ -161,5 +167,14 @@ impl Page {
         ensures kept { IsKept self.now }
     {
         &self.rows.frames
+    }
+
+    /// Which cells its frames fill.
+    pub(crate) fn cells(&self) -> &MaskOccupancy
+        ensures { ShowCells result.now (own_rows_of self.now).frames }
+    {
+        // Gives the proof that the frames are in order.
+        let _len = self.rows.frames.len();
+        &self.cells
     }
 }

@@ -1,11 +1,15 @@
 //! Occupied cells as a list of placements, which are compared one by one.
-ghost use Rattle.std.specs.Prelude.{◌≡◌, [], map, not};
+ghost use Rattle.std.specs.Prelude.{◌≡◌, ◌++◌, ◌∷◌, [], map, not, OnOk, OnErr};
+ghost use Rattle.fr_base.specs.Schedule.{fill};
+ghost use Rattle.fr_base.specs.declared.channel.Channel.{Channel as OneChannel};
+ghost use Rattle.fr_world.specs.Masks.{AreFilled, word_on};
 ghost use Rattle.fr_world.specs.Occupancies.{is_pair};
 ghost use Rattle.fr_world.specs.CycleChannels.{earlier};
 
-use crate::cycle_channel::{CycleChannel, first_shared};
+use crate::cycle_channel::{CycleChannel, first_shared, has_cell};
+use crate::filled_cycles::{FilledCycles, NONE_FILLED};
 use crate::occupancy::{Occupancy, TakenCell};
-use fr_base::{Name, Placement, Refusal};
+use fr_base::{Channel, Name, NoMemory, Placement, Refusal, Slot};
 use std::alloc::Global;
 
 // A frame's placement.
@@ -18,14 +22,26 @@ struct Row {
 // A filled cell's cycle and channel, and the frame that is sent there.
 #[derive(Clone, Copy)]
 pub(crate) struct Taken {
-    at: CycleChannel,
-    frame: Name,
+    pub(crate) at: CycleChannel,
+    pub(crate) frame: Name,
 }
 
 /// The frames' placements, in a list.
 #[derive(Drop)]
 pub struct RowOccupancy {
     rows: Vec<Row>,
+}
+
+impl Clone for RowOccupancy {
+    ghost use Rattle.std.specs.Prelude.{◌≡◌};
+
+    ghost is_clone = { λ o n. ⟦<RowOccupancy as Occupancy>⟧.pairs n ≡ ⟦<RowOccupancy as Occupancy>⟧.pairs o };
+
+    fn clone(&self) -> Result<RowOccupancy, NoMemory> {
+        Ok(RowOccupancy {
+            rows: self.rows.clone()?,
+        })
+    }
 }
 
 impl RowOccupancy {
@@ -36,6 +52,43 @@ impl RowOccupancy {
         RowOccupancy {
             rows: Vec::new(alloc),
         }
+    }
+
+    /// The frame fills the placement's cells too, filled or not. Where memory is refused, nothing changes.
+    pub(crate) fn push(&mut self, frame: Name, placement: &Placement) -> Result<(), NoMemory>
+        ensures ok { OnOk result (⟦<RowOccupancy as Occupancy>⟧.pairs self.new ≡ ⟦<RowOccupancy as Occupancy>⟧.pairs self.old ++ (frame, placement.now) ∷ []) }
+        ensures err { OnErr result (⟦<RowOccupancy as Occupancy>⟧.pairs self.new ≡ ⟦<RowOccupancy as Occupancy>⟧.pairs self.old) }
+    {
+        self.rows.push(Row {
+            frame,
+            placement: *placement,
+        })?;
+        Ok(())
+    }
+
+    /// The frame that is sent in a cell.
+    pub(crate) fn frame_in(&self, cycle: u8, slot: Slot, channel: Channel) -> Option<Name>
+        ensures { result ≡ fill (⟦<RowOccupancy as Occupancy>⟧.pairs self.now) (record { cycle = cycle; slot = slot; channel = channel }) }
+    {
+        for row in &self.rows {
+            if has_cell(&row.placement, cycle, slot, channel) {
+                return Some(row.frame);
+            }
+        }
+        None
+    }
+
+    /// The cycles in which the slot is filled.
+    pub(crate) fn filled_in(&self, slot: Slot) -> FilledCycles
+        ensures { (x : OneChannel) → AreFilled (⟦<RowOccupancy as Occupancy>⟧.pairs self.now) slot x (word_on x result) }
+    {
+        let mut filled = NONE_FILLED;
+        for row in &self.rows {
+            if row.placement.slot == slot {
+                filled.mark(&row.placement);
+            }
+        }
+        filled
     }
 }
 
@@ -69,10 +122,7 @@ impl Occupancy for RowOccupancy {
     }
 
     fn fill(&mut self, frame: Name, placement: &Placement) -> Result<(), Refusal> {
-        self.rows.push(Row {
-            frame,
-            placement: *placement,
-        })?;
+        self.push(frame, placement)?;
         Ok(())
     }
 
@@ -94,7 +144,7 @@ fn is_row(row: &Row, frame: Name, placement: &Placement) -> bool
 }
 
 // The one of the earlier cell; the former at a tie.
-fn first_of(former: Option<Taken>, latter: Option<Taken>) -> Option<Taken>
+pub(crate) fn first_of(former: Option<Taken>, latter: Option<Taken>) -> Option<Taken>
     ensures { result ≡ earlier former latter }
 {
     match (former, latter) {

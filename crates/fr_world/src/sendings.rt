@@ -1,11 +1,12 @@
 //! What placements send in which cell.
 ghost use Rattle.std.specs.Prelude.{◌≡◌, [], ◌∷◌, ◌++◌, filter, IfOk, OnOk, option_map};
-ghost use Rattle.fr_base.specs.Cells.{Cell, cells_in, cluster_cells, has_cell, slots_of};
+ghost use Rattle.fr_base.specs.Cells.{Cell, cells_in, cluster_cells, slots_of};
 ghost use Rattle.fr_base.specs.Channels.{channels_in};
 ghost use Rattle.fr_base.specs.Schedule.{fill};
 ghost use Rattle.fr_base.specs.Queries.{sending};
 ghost use Rattle.fr_world.specs.Sendings.{cycle_cells, filled, is_due, is_used, sent_in};
 
+use crate::cycle_channel::has_cell;
 use crate::frame_triggering::FrameTriggering;
 use fr_base::{CYCLE_COUNT, Channel, Channels, NoMemory, Params, Placement, Rows, Sending, Slot};
 use std::alloc::Global;
@@ -136,12 +137,4 @@ fn sending(
         }
     }
     None
-}
-
-// Whether the placement has the cell.
-#[tactic(auto, using(crate::proofs::ScheduleLaws::has_cell_parts))]
-fn has_cell(placement: &Placement, cycle: u8, slot: Slot, channel: Channel) -> bool
-    ensures { result ≡ has_cell placement.now (record { cycle = cycle; slot = slot; channel = channel }) }
-{
-    slot == placement.slot && placement.channels.has(channel) && placement.cycles.contains(cycle)
 }

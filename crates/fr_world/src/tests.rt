@@ -8,6 +8,7 @@ use crate::edit::Edit;
 use crate::fixture::{fits, frame, grant, name, no_rows, placement, signal, slot};
 use crate::frame_rows::{frame_row, push_signal_rows};
 use crate::frame_triggering::push_frame;
+use crate::mask_occupancy::MaskOccupancy;
 use crate::occupancy::{Occupancy, TakenCell};
 use crate::page::Page;
 use crate::page_sendings::sent;
@@ -160,7 +161,7 @@ fn a_full_page(rt: HostRuntime) -> Result<(), Fail> {
 }
 
 // Fills the cells, which have to be free.
-fn fill(cells: &mut RowOccupancy, text: &str, placement: &Placement) -> Result<(), Fail> {
+fn fill<O: Occupancy>(cells: &mut O, text: &str, placement: &Placement) -> Result<(), Fail> {
     if !cells.free(placement) {
         return Err(Fail::from("a cell is filled"));
     }
@@ -176,23 +177,51 @@ fn taken(cycle: u8, channel: Channel, text: &str) -> Result<Option<TakenCell>, F
     }))
 }
 
-#[test]
-fn cells_taken_on_a_and_b(rt: HostRuntime) -> Result<(), Fail> {
-    let mut cells = RowOccupancy::new(rt.alloc());
-    let f = placement(1, Channels::AB, 0, 2)?;
-    let on_b = placement(1, Channels::B, 2, 4)?;
-    let both = placement(1, Channels::AB, 2, 4)?;
-    fill(&mut cells, "f", &f)?;
-    assert_eq!(rt; cells.first_taken(&on_b), taken(2, Channel::B, "f")?);
-    assert_eq!(rt; cells.first_taken(&both), taken(2, Channel::A, "f")?);
-    fill(&mut cells, "g", &placement(1, Channels::A, 1, 2)?)?;
-    cells.clear(name("f")?, &f);
-    assert!(rt; cells.free(&both));
-    assert_eq!(rt;
-        cells.first_taken(&placement(1, Channels::AB, 0, 1)?),
-        taken(1, Channel::A, "g")?
-    );
+// The first taken cell has to be this one.
+fn first_is<O: Occupancy>(
+    cells: &O,
+    placement: &Placement,
+    first: Option<TakenCell>,
+) -> Result<(), Fail> {
+    if cells.first_taken(placement) != first {
+        return Err(Fail::from("another cell"));
+    }
     Ok(())
+}
+
+// Three frames come to slot 1, and one of them goes.
+fn share_a_slot<O: Occupancy>(cells: &mut O) -> Result<(), Fail> {
+    let f = placement(1, Channels::AB, 0, 2)?;
+    let on_b = placement(1, Channels::B, 0, 1)?;
+    let left = placement(1, Channels::A, 3, 4)?;
+    fill(cells, "f", &f)?;
+    fill(cells, "g", &placement(1, Channels::A, 1, 4)?)?;
+    first_is(cells, &on_b, taken(0, Channel::B, "f")?)?;
+    first_is(
+        cells,
+        &placement(1, Channels::A, 1, 2)?,
+        taken(1, Channel::A, "g")?,
+    )?;
+    first_is(cells, &left, None)?;
+    fill(cells, "h", &placement(1, Channels::A, 63, 64)?)?;
+    first_is(cells, &left, taken(63, Channel::A, "h")?)?;
+    cells.clear(name("f")?, &f);
+    first_is(
+        cells,
+        &placement(1, Channels::AB, 0, 1)?,
+        taken(1, Channel::A, "g")?,
+    )?;
+    first_is(cells, &on_b, None)
+}
+
+#[test]
+fn a_slot_shared_by_rows(rt: HostRuntime) -> Result<(), Fail> {
+    share_a_slot(&mut RowOccupancy::new(rt.alloc()))
+}
+
+#[test]
+fn a_slot_shared_by_masks(rt: HostRuntime) -> Result<(), Fail> {
+    share_a_slot(&mut MaskOccupancy::new(rt.alloc()))
 }
 
 // The row at the line: the frame of `n1` with this placement.

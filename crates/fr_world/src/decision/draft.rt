@@ -4,51 +4,42 @@ ghost use Rattle.fr_base.specs.Signals.{is_signal_length};
 ghost use Rattle.fr_base.specs.Sound.{FitsCluster};
 ghost use Rattle.fr_base.specs.declared.refusal.Refusal.TheVariants.{Unavailable};
 ghost use Rattle.fr_world.specs.Decisions.{IsChecked, admits_alone};
-ghost use Rattle.fr_world.specs.Drafts.{IsDraft, draft_data};
+ghost use Rattle.fr_world.specs.Drafts.{draft_data};
 ghost use Rattle.fr_world.specs.RowDecisions.{IsCheckedRow, draft_of, make, make_frame, make_row, with_change};
 ghost use Rattle.fr_world.specs.Pages.{own_rows_of};
 
-use super::filling::fill_page;
 use super::frames::admit_frame;
-use super::placements::admit_among;
+use super::placements::admit_placement;
 use super::rows::{frame_named, has_node};
 use super::signals::admit_signal;
 use crate::edit::Edit;
-use crate::occupancy::Occupancy;
 use crate::page::Page;
-use crate::row_occupancy::RowOccupancy;
 use fr_base::{Change, FrameChange, Name, Placement, Refusal, Row, Signal};
 use std::alloc::Global;
 
-/// A page, the cells that its frames fill, and the edits that led to it.
+/// A page, and the edits that led to it.
 #[derive(Drop)]
 pub(super) struct Draft {
     page: Page,
-    cells: RowOccupancy,
     pub(super) edits: Vec<Edit>,
 }
 
 impl Draft {
-    /// The page before any row; `Unavailable` where memory is refused.
-    pub(super) fn new(alloc: Global, page: Page) -> Result<Draft, Refusal>
-        ensures ok { IfOk result (λ draft. IsDraft draft × (draft_data draft ≡ draft_of page)) }
-        ensures err { IfErr result (λ e. e ≡ Unavailable) }
+    /// The page before any row. It takes no memory.
+    pub(super) fn new(alloc: Global, page: Page) -> Draft
+        ensures { draft_data result ≡ draft_of page }
     {
-        let mut cells = RowOccupancy::new(alloc);
-        fill_page(&page, &mut cells)?;
-        Ok(Draft {
+        Draft {
             page,
-            cells,
             edits: Vec::new(alloc),
-        })
+        }
     }
 
     /// What the row does, or its first refusal, which leaves no draft; `Unavailable` where memory is
     /// refused.
     pub(super) fn make_row(&mut self, alloc: Global, row: &Row) -> Result<(), Refusal>
-        requires draft { IsDraft self.old }
         requires checked { IsCheckedRow self.old.page.params row.now }
-        ensures ok { OnOk result (IsDraft self.new × (make_row (draft_data self.old) row.now ≡ Ok (draft_data self.new))) }
+        ensures ok { OnOk result (make_row (draft_data self.old) row.now ≡ Ok (draft_data self.new)) }
         ensures err { IfErr result (λ e. (e ≡ Unavailable) ⊎ (make_row (draft_data self.old) row.now ≡ Err e)) }
     {
         match row {
@@ -66,8 +57,7 @@ impl Draft {
 
     // The frame is there, with the node: it is added where it is not there yet.
     fn make_frame(&mut self, alloc: Global, frame: Name, node: Name) -> Result<(), Refusal>
-        requires draft { IsDraft self.old }
-        ensures ok { OnOk result (IsDraft self.new × (make_frame (draft_data self.old) frame node ≡ Ok (draft_data self.new))) }
+        ensures ok { OnOk result (make_frame (draft_data self.old) frame node ≡ Ok (draft_data self.new)) }
         ensures err { IfErr result (λ e. (e ≡ Unavailable) ⊎ (make_frame (draft_data self.old) frame node ≡ Err e)) }
     {
         if !has_node(&self.page, node) {
@@ -82,8 +72,7 @@ impl Draft {
 
     // The frame is added.
     fn add_frame(&mut self, alloc: Global, frame: Name, node: Name) -> Result<(), Refusal>
-        requires draft { IsDraft self.old }
-        ensures ok { OnOk result (IsDraft self.new × (make (draft_data self.old) (Change.Frame frame (FrameChange.Add node)) ≡ Ok (draft_data self.new))) }
+        ensures ok { OnOk result (make (draft_data self.old) (Change.Frame frame (FrameChange.Add node)) ≡ Ok (draft_data self.new)) }
         ensures err { IfErr result (λ e. (e ≡ Unavailable) ⊎ (make (draft_data self.old) (Change.Frame frame (FrameChange.Add node)) ≡ Err e)) }
     {
         admit_frame(&self.page, frame, node)?;
@@ -92,32 +81,29 @@ impl Draft {
 
     // The frame is sent in the placement's cells too.
     fn place(&mut self, alloc: Global, frame: Name, placement: Placement) -> Result<(), Refusal>
-        requires draft { IsDraft self.old }
         requires checked { FitsCluster self.old.page.params placement }
-        ensures ok { OnOk result (IsDraft self.new × (make (draft_data self.old) (Change.Frame frame (FrameChange.Place placement)) ≡ Ok (draft_data self.new))) }
+        ensures ok { OnOk result (make (draft_data self.old) (Change.Frame frame (FrameChange.Place placement)) ≡ Ok (draft_data self.new)) }
         ensures err { IfErr result (λ e. (e ≡ Unavailable) ⊎ (make (draft_data self.old) (Change.Frame frame (FrameChange.Place placement)) ≡ Err e)) }
     {
-        admit_among(&self.page, &self.cells, frame, &placement)?;
-        self.cells.fill(frame, &placement)?;
+        admit_placement(&self.page, frame, &placement)?;
         self.make(alloc, frame, FrameChange::Place(placement))
     }
 
     // The frame's payload has the signal too.
     fn add_signal(&mut self, alloc: Global, frame: Name, signal: Signal) -> Result<(), Refusal>
-        requires draft { IsDraft self.old }
         requires checked { IsTrue (is_signal_length signal.length) }
-        ensures ok { OnOk result (IsDraft self.new × (make (draft_data self.old) (Change.Frame frame (FrameChange.AddSignal signal)) ≡ Ok (draft_data self.new))) }
+        ensures ok { OnOk result (make (draft_data self.old) (Change.Frame frame (FrameChange.AddSignal signal)) ≡ Ok (draft_data self.new)) }
         ensures err { IfErr result (λ e. (e ≡ Unavailable) ⊎ (make (draft_data self.old) (Change.Frame frame (FrameChange.AddSignal signal)) ≡ Err e)) }
     {
         admit_signal(&self.page, frame, &signal)?;
         self.make(alloc, frame, FrameChange::AddSignal(signal))
     }
 
-    // Makes the change of the frame, which the page admits. The cells stay as they are.
+    // Makes the change of the frame, which the page admits.
     fn make(&mut self, alloc: Global, frame: Name, change: FrameChange) -> Result<(), Refusal>
         requires admitted { admits_alone (own_rows_of self.old.page) (Change.Frame frame change) ≡ Ok tt }
         requires checked { IsChecked self.old.page.params (Change.Frame frame change) }
-        ensures ok { OnOk result ((draft_data self.new ≡ with_change (draft_data self.old) (Change.Frame frame change)) × (self.new.cells ≡ self.old.cells)) }
+        ensures ok { OnOk result (draft_data self.new ≡ with_change (draft_data self.old) (Change.Frame frame change)) }
         ensures err { IfErr result (λ e. e ≡ Unavailable) }
     {
         // They give the proof that the parameters make a cluster, and that the page's rows are kept.

@@ -1,7 +1,7 @@
 //! What the rows of an import are decided to, on the supplier's page.
 ghost use Rattle.std.specs.Prelude.{◌≡◌, ◌⊎◌, false, Ok, Err, IfOk, IfErr, OnOk};
 ghost use Rattle.fr_world.specs.Edits.{Leads, all_edited};
-ghost use Rattle.fr_world.specs.Drafts.{IsDraft, draft_data};
+ghost use Rattle.fr_world.specs.Drafts.{draft_data};
 ghost use Rattle.fr_world.specs.Pages.{own_rows_of};
 ghost use Rattle.fr_world.specs.RowDecisions.{AreChecked, IsCheckedRow, make_read, rows_decision};
 ghost use Rattle.fr_world.specs.RowFaults.{IsFault};
@@ -44,9 +44,7 @@ pub fn decide_rows(alloc: Global, page: Page, rows: &[RowRead]) -> Result<Vec<Ed
 {
     // They give the proof that the parameters make a cluster, and that the page's rows are kept.
     let (_raw, _frames) = (page.params().raw(), page.frames());
-    let Ok(mut draft) = Draft::new(alloc, page) else {
-        return Err(RowFault::Unavailable);
-    };
+    let mut draft = Draft::new(alloc, page);
     for read in rows {
         make_read(alloc, &mut draft, read)?;
     }
@@ -55,9 +53,8 @@ pub fn decide_rows(alloc: Global, page: Page, rows: &[RowRead]) -> Result<Vec<Ed
 
 // What the row does, as it was read.
 fn make_read(alloc: Global, draft: &mut Draft, read: &RowRead) -> Result<(), RowFault>
-    requires draft { IsDraft draft.old }
     requires checked { IfOk read.now.row (IsCheckedRow draft.old.page.params) }
-    ensures ok { OnOk result (IsDraft draft.new × (make_read (draft_data draft.old) read.now ≡ Ok (draft_data draft.new))) }
+    ensures ok { OnOk result (make_read (draft_data draft.old) read.now ≡ Ok (draft_data draft.new)) }
     ensures fault { IfErr result (IsFault (make_read (draft_data draft.old) read.now)) }
 {
     let line = read.line;

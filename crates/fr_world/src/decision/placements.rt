@@ -1,47 +1,26 @@
 //! Whether a placement of a frame, or the end of one, is refused.
-ghost use Rattle.std.specs.Prelude.{◌≡◌, ◌⊎◌, Err};
-ghost use Rattle.fr_base.specs.declared.refusal.Refusal.TheVariants.{Unavailable};
+ghost use Rattle.std.specs.Prelude.{◌≡◌};
 ghost use Rattle.fr_world.specs.Decisions.{admits_alone, has_room};
-ghost use Rattle.fr_world.specs.Occupancies.{ShowCells, cell_refused, first_taken_cell};
+ghost use Rattle.fr_world.specs.Occupancies.{cell_refused, first_taken_cell};
 ghost use Rattle.fr_world.specs.Pages.{own_rows_of};
 
-use super::filling::fill_page;
 use super::rows::frame_named;
 use crate::grants::is_granted;
 use crate::occupancy::Occupancy;
 use crate::page::Page;
-use crate::row_occupancy::RowOccupancy;
 use fr_base::{Change, FrameChange, MAX_PLACEMENTS, Name, Placement, Refusal};
-use std::alloc::Global;
 
-/// `NoFrame`, `NotGranted`, `Limit` or `CellTaken`, where one refuses the frame a placement;
-/// `Unavailable` where memory is refused.
+/// `NoFrame`, `NotGranted`, `Limit` or `CellTaken`, where one refuses the frame a placement. It takes no
+/// memory.
 pub(super) fn admit_placement(
-    alloc: Global,
     page: &Page,
     frame: Name,
     placement: &Placement,
 ) -> Result<(), Refusal>
-    ensures { (result ≡ Err Unavailable) ⊎ (result ≡ admits_alone (own_rows_of page.now) (Change.Frame frame (FrameChange.Place placement.now))) }
-{
-    has_room(page, frame, placement)?;
-    let mut occupancy = RowOccupancy::new(alloc);
-    fill_page(page, &mut occupancy)?;
-    is_free(&occupancy, placement)
-}
-
-/// The same, where the page's cells are known. It takes no memory.
-pub(super) fn admit_among<O: Occupancy>(
-    page: &Page,
-    occupancy: &O,
-    frame: Name,
-    placement: &Placement,
-) -> Result<(), Refusal>
-    requires { ShowCells (O.pairs occupancy.now) (own_rows_of page.now).frames }
     ensures { result ≡ admits_alone (own_rows_of page.now) (Change.Frame frame (FrameChange.Place placement.now)) }
 {
     has_room(page, frame, placement)?;
-    is_free(occupancy, placement)
+    is_free(page.cells(), placement)
 }
 
 // `NoFrame`, `NotGranted` or `Limit`, where one refuses the frame a placement, wherever it is.

@@ -1,4 +1,4 @@
-use Rattle.std.proofs.Common.{◌≡◌, ◌⊎◌, ◌∙◌, [], ◌∷◌, Ok, Err, IfErr, sym, ap, subst, rules}
+use Rattle.std.proofs.Common.{◌≡◌, ◌⊎◌, ◌∙◌, [], ◌∷◌, Ok, Err, IfErr, inr, sym, ap, subst, rules}
 use Rattle.fr_base.specs.Parameters.{check_params}
 use Rattle.fr_base.specs.declared.refusal.Refusal.TheVariants.{Unavailable}
 use Rattle.fr_world.specs.Decisions.{decision}
@@ -20,4 +20,4 @@ pub returns-in_err-admit-clause-refusal : goal.returns-in_err-admit-clause-refus
 returns-in_err-admit-clause-refusal c =
     let same : c.from_residual.result ≡ Err c.in_err-admit.field-0.0 = search rules in
     subst (λ r. IfErr r (λ e. (e ≡ Unavailable) ⊎ (decision c.args.page.now c.args.change.now ≡ Err e))) (sym same)
-    (decision_refused c.args.page.now c.args.change.now (sym c.released.ensures ∙ c.if-released.false) c.in_err-admit.field-0.0 c.in_err-admit.ensures)
+    (inr (decision_refused c.args.page.now c.args.change.now (sym c.released.ensures ∙ c.if-released.false) c.in_err-admit.field-0.0 c.in_err-admit.ensures))

@@ -12,16 +12,14 @@ use Rattle.fr_world.proofs.decision.import_rows.decide_rows.Goals as goal
 
 pub loop-read-init : goal.loop-read-init
 loop-read-init c =
-    let both = c.in-Ok.ensures.ok in
-    (ap (λ d. make_rows d c.args.rows.now) (sym both.1), both.0, ap (λ d. d.page.params) both.1)
+    let is = c.new-draft.ensures in
+    (ap (λ d. make_rows d c.args.rows.now) (sym is), ap (λ d. d.page.params) is)
 
-pub make_read-requires-clause-draft : goal.make_read-requires-clause-draft
-make_read-requires-clause-draft c = c.loop-read.invariant.1
-
-pub make_read-requires-clause-checked : goal.make_read-requires-clause-checked
-make_read-requires-clause-checked c =
-    subst (λ p. IfOk c.read-item.result.row (IsCheckedRow p)) (sym c.loop-read.invariant.2)
-    (subst (λ (r : RowRead). IfOk r.row (IsCheckedRow c.args.page.params)) (sym c.read-item.is) (c.requires.checked c.loop-read.read-index c.read-item.result c.loop-read-test.true))
+pub make_read-requires : goal.make_read-requires
+make_read-requires c = record {
+  checked = subst (λ p. IfOk c.read-item.result.row (IsCheckedRow p)) (sym c.loop-read.invariant.1)
+      (subst (λ (r : RowRead). IfOk r.row (IsCheckedRow c.args.page.params)) (sym c.read-item.is) (c.requires.checked c.loop-read.read-index c.read-item.result c.loop-read-test.true));
+}
 
 pub returns-in_err-make_read-clause-fault : goal.returns-in_err-make_read-clause-fault
 unfolding rows_decision
@@ -44,9 +42,8 @@ loop-read-preserved c =
     let m = draft_data c.make_read.new.draft in
     let next : drop i rows ≡ c.read-item.result ∷ drop (i + 1) rows = drop_more rows i c.read-item.result c.loop-read-test.true ∙ ap (λ r. r ∷ drop (i + 1) rows) (sym c.read-item.is) in
     let made = c.in_ok-make_read.ensures.ok in (
-      c.loop-read.invariant.0 ∙ ap (make_rows d) next ∙ rows-next d m c.read-item.result (drop (i + 1) rows) made.1,
-      made.0,
-      read-params d m c.read-item.result made.1 ∙ c.loop-read.invariant.2,
+      c.loop-read.invariant.0 ∙ ap (make_rows d) next ∙ rows-next d m c.read-item.result (drop (i + 1) rows) made,
+      read-params d m c.read-item.result made ∙ c.loop-read.invariant.1,
     )
 
 pub returns-clause-edits : goal.returns-clause-edits

@@ -9,7 +9,7 @@ returns-in-Err-clause-fault c = read-refused (draft_data c.args.draft.now) c.arg
 
 pub returns-in-Ok-make_row-clause-ok : goal.returns-in-Ok-make_row-clause-ok
 returns-in-Ok-make_row-clause-ok c =
-    (c.in-Ok-make_row.ensures.ok.0, read-made (draft_data c.args.draft.now) c.args.read.now c.in-Ok.row (draft_data c.make_row.new.self) c.in-Ok.is c.in-Ok-make_row.ensures.ok.1)
+    read-made (draft_data c.args.draft.now) c.args.read.now c.in-Ok.row (draft_data c.make_row.new.self) c.in-Ok.is c.in-Ok-make_row.ensures.ok
 
 pub returns-in-Err-2-clause-fault : goal.returns-in-Err-2-clause-fault
 returns-in-Err-2-clause-fault c =

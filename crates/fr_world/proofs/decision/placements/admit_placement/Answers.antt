@@ -1,4 +1,4 @@
-use Rattle.std.proofs.Common.{◌≡◌, ◌∙◌, Ok, Err, inr, refl, sym, rules}
+use Rattle.std.proofs.Common.{◌≡◌, ◌∙◌, Ok, Err, refl, sym, rules}
 use Rattle.fr_base.specs.Refusing.{◌>>◌}
 use Rattle.fr_world.specs.Pages.{own_rows_of}
 use Rattle.fr_world.proofs.DecideFilling.{refused-shown}
@@ -9,10 +9,10 @@ pub returns-in_err-has_room : goal.returns-in_err-has_room
 unfolding ◌>>◌
 returns-in_err-has_room c =
     let same : c.from_residual.result ≡ Err c.in_err-has_room.field-0.0 = search rules in
-    inr (same ∙ place-answer (own_rows_of c.args.page.now) c.args.frame c.args.placement.now (Err c.in_err-has_room.field-0.0) (sym c.in_err-has_room.was ∙ c.has_room.ensures) _ refl)
+    same ∙ place-answer (own_rows_of c.args.page.now) c.args.frame c.args.placement.now (Err c.in_err-has_room.field-0.0) (sym c.in_err-has_room.was ∙ c.has_room.ensures) _ refl
 
 pub returns : goal.returns
 unfolding ◌>>◌
 returns c =
-    inr (place-answer (own_rows_of c.args.page.now) c.args.frame c.args.placement.now (Ok c.in_ok-has_room.field-0) (sym c.in_ok-has_room.was ∙ c.has_room.ensures)
-    c.is_free.result (c.is_free.ensures ∙ refused-shown _ _ c.args.placement.now c.in_ok-fill_page.ensures.ok))
+    place-answer (own_rows_of c.args.page.now) c.args.frame c.args.placement.now (Ok c.in_ok-has_room.field-0) (sym c.in_ok-has_room.was ∙ c.has_room.ensures)
+    c.is_free.result (c.is_free.ensures ∙ refused-shown _ _ c.args.placement.now c.cells.ensures)

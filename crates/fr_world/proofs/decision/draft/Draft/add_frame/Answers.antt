@@ -1,12 +1,11 @@
-use Rattle.std.proofs.Common.{◌≡◌, ◌⊎◌, ◌∙◌, Ok, Err, IfErr, inr, sym, subst, rules}
+use Rattle.std.proofs.Common.{◌≡◌, ◌⊎◌, ◌∙◌, Err, IfErr, inr, sym, subst, rules}
 use Rattle.fr_base.specs.declared.refusal.Refusal.TheVariants.{Unavailable}
 use Rattle.fr_base.specs.declared.request.Change.TheVariants as change
 use Rattle.fr_base.specs.declared.request.FrameChange.TheVariants.{Add}
-use Rattle.fr_world.specs.Decisions.{admits_alone}
-use Rattle.fr_world.specs.Drafts.{draft_data, pairs_of}
-use Rattle.fr_world.specs.RowDecisions.{make, with_change}
+use Rattle.fr_world.specs.Drafts.{draft_data}
+use Rattle.fr_world.specs.RowDecisions.{make}
 use Rattle.fr_world.proofs.AmendLaws.{on_ok}
-use Rattle.fr_world.proofs.DraftSteps.{make-ok, make-refused, drafted, add-draft}
+use Rattle.fr_world.proofs.DraftSteps.{make-ok, make-refused}
 use Rattle.fr_world.proofs.decision.draft.Draft.add_frame.Goals as goal
 
 pub returns-in_err-admit_frame-clause-err : goal.returns-in_err-admit_frame-clause-err
@@ -21,10 +20,4 @@ pub returns-clause-ok : goal.returns-clause-ok
 returns-clause-ok c =
     let old = draft_data c.args.self.now in
     let what = change.Frame c.args.frame (Add c.args.node) in
-    let admitted : admits_alone old.page what ≡ Ok tt = sym c.admit_frame.ensures ∙ c.in_ok-admit_frame.was in
-    on_ok c.make.result
-    (λ both. (
-      drafted c.make.new.self c.args.self.now.cells (with_change old what) both.1 both.0 (add-draft old.page c.args.frame (pairs_of c.args.self.now.cells) c.requires.draft c.args.node admitted),
-      make-ok old (draft_data c.make.new.self) what admitted both.0,
-    ))
-    c.make.ensures.ok
+    on_ok c.make.result (make-ok old (draft_data c.make.new.self) what (sym c.admit_frame.ensures ∙ c.in_ok-admit_frame.was)) c.make.ensures.ok

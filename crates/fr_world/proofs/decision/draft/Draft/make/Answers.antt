@@ -1,4 +1,4 @@
-use Rattle.std.proofs.Common.{◌≡◌, ◌∙◌, ◌++◌, ◌∷◌, [], Ok, refl, subst, sym}
+use Rattle.std.proofs.Common.{◌≡◌, ◌∙◌, ◌++◌, ◌∷◌, [], Ok, subst, sym}
 use Rattle.fr_base.specs.Parameters.{check_params}
 use Rattle.fr_base.specs.declared.name.Name.{Name}
 use Rattle.fr_base.specs.declared.request.Change.TheVariants as change
@@ -20,11 +20,9 @@ amend-requires c =
 pub returns-clause-ok : goal.returns-clause-ok
 unfolding edited
 returns-clause-ok c =
-    let old = c.args.self.now in (
-      λ i. record {
-        variant = c.in_ok-amend.ensures.rest.1 i;
-        page = c.in_ok-amend.ensures.page i;
-        edits = (c.in_ok-push.ensures.items ∙ λ j. old.edits.items ++ Rows (c.supplier.ensures j) (c.variant.ensures j) (change.Frame c.args.frame c.args.change) ∷ []) i;
-      },
-      refl,
-    )
+    let old = c.args.self.now in
+    λ i. record {
+      variant = c.in_ok-amend.ensures.rest.1 i;
+      page = c.in_ok-amend.ensures.page i;
+      edits = (c.in_ok-push.ensures.items ∙ λ j. old.edits.items ++ Rows (c.supplier.ensures j) (c.variant.ensures j) (change.Frame c.args.frame c.args.change) ∷ []) i;
+    }

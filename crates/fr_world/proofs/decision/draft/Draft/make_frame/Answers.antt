@@ -20,7 +20,7 @@ returns-in-Some-clause-ok c =
     let frame = frame_of (frame_data c.in-Some.row.now) in
     let found : get d.page.frames (d.page.supplier, c.args.frame) ≡ Some frame = search (rules, tests) in
     let same : same_text frame.node c.args.node ≡ true = search (rules, tests) in
-    (c.requires.draft, frame-same d c.args.frame c.args.node (sym c.has_node.ensures ∙ c.if-not-has_node.false) frame found same)
+    frame-same d c.args.frame c.args.node (sym c.has_node.ensures ∙ c.if-not-has_node.false) frame found same
 
 pub returns-in-Some-2-clause-err : goal.returns-in-Some-2-clause-err
 returns-in-Some-2-clause-err c =
@@ -34,7 +34,7 @@ pub returns-in-None-clause-ok : goal.returns-in-None-clause-ok
 returns-in-None-clause-ok c =
     let d = draft_data c.args.self.now in
     let none : get d.page.frames (d.page.supplier, c.args.frame) ≡ None = search (rules, tests) in
-    on_ok c.add_frame.result (λ both. (both.0, frame-added d c.args.frame c.args.node (sym c.has_node.ensures ∙ c.if-not-has_node.false) none ∙ both.1)) c.add_frame.ensures.ok
+    on_ok c.add_frame.result (λ is. frame-added d c.args.frame c.args.node (sym c.has_node.ensures ∙ c.if-not-has_node.false) none ∙ is) c.add_frame.ensures.ok
 
 pub returns-in-None-clause-err : goal.returns-in-None-clause-err
 returns-in-None-clause-err c =

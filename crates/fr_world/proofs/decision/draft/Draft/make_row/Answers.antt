@@ -17,18 +17,20 @@ returns-in_err-make_frame-in-Place-clause-err c =
     (refused-so (make_frame d c.in-Place.frame c.in-Place.node) (make_row d c.args.row.now)
     (λ e is. ap (make_row d) c.in-Place.is ∙ place-refused d c.in-Place.frame c.in-Place.node c.in-Place.placement e is) e c.in_err-make_frame-in-Place.ensures.err)
 
-pub place-requires-clause-checked : goal.place-requires-clause-checked
-place-requires-clause-checked c =
+pub place-requires : goal.place-requires
+place-requires c =
     let d = draft_data c.args.self.now in
-    subst (λ p. FitsCluster p c.in-Place.placement) (sym (frame-params d (draft_data c.make_frame.new.self) c.in-Place.frame c.in-Place.node c.in_ok-make_frame-in-Place.ensures.ok.1))
-    (subst (IsCheckedRow d.page.params) c.in-Place.is c.requires.checked)
+    record {
+      checked = subst (λ p. FitsCluster p c.in-Place.placement) (sym (frame-params d (draft_data c.make_frame.new.self) c.in-Place.frame c.in-Place.node c.in_ok-make_frame-in-Place.ensures.ok))
+          (subst (IsCheckedRow d.page.params) c.in-Place.is c.requires.checked);
+    }
 
 pub returns-in_ok-make_frame-in-Place-clause-ok : goal.returns-in_ok-make_frame-in-Place-clause-ok
 returns-in_ok-make_frame-in-Place-clause-ok c =
     let d = draft_data c.args.self.now in
     let m = draft_data c.make_frame.new.self in
     on_ok c.place.result
-    (λ both. (both.0, ap (make_row d) c.in-Place.is ∙ place-row d c.in-Place.frame c.in-Place.node c.in-Place.placement m c.in_ok-make_frame-in-Place.ensures.ok.1 ∙ both.1))
+    (λ is. ap (make_row d) c.in-Place.is ∙ place-row d c.in-Place.frame c.in-Place.node c.in-Place.placement m c.in_ok-make_frame-in-Place.ensures.ok ∙ is)
     c.place.ensures.ok
 
 pub returns-in_ok-make_frame-in-Place-clause-err : goal.returns-in_ok-make_frame-in-Place-clause-err
@@ -37,14 +39,14 @@ returns-in_ok-make_frame-in-Place-clause-err c =
     let m = draft_data c.make_frame.new.self in
     if_err _ _ c.place.result
     (refused-so (make m (change.Frame c.in-Place.frame (Place c.in-Place.placement))) (make_row d c.args.row.now)
-    (λ e is. ap (make_row d) c.in-Place.is ∙ place-row d c.in-Place.frame c.in-Place.node c.in-Place.placement m c.in_ok-make_frame-in-Place.ensures.ok.1 ∙ is))
+    (λ e is. ap (make_row d) c.in-Place.is ∙ place-row d c.in-Place.frame c.in-Place.node c.in-Place.placement m c.in_ok-make_frame-in-Place.ensures.ok ∙ is))
     c.place.ensures.err
 
 pub returns-in-AddSignal-clause-ok : goal.returns-in-AddSignal-clause-ok
 unfolding make_row
 returns-in-AddSignal-clause-ok c =
     let d = draft_data c.args.self.now in
-    on_ok c.add_signal.result (λ both. (both.0, ap (make_row d) c.in-AddSignal.is ∙ both.1)) c.add_signal.ensures.ok
+    on_ok c.add_signal.result (λ is. ap (make_row d) c.in-AddSignal.is ∙ is) c.add_signal.ensures.ok
 
 pub returns-in-AddSignal-clause-err : goal.returns-in-AddSignal-clause-err
 unfolding make_row

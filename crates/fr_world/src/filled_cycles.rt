@@ -1,0 +1,43 @@
+//! The cycles in which a slot is filled.
+ghost use Rattle.std.specs.Prelude.{◌≡◌, ◌||◌, ◌&&◌, ℕ};
+ghost use Rattle.fr_base.specs.Channels.{has_channel};
+ghost use Rattle.fr_base.specs.Cycles.{has_cycle, is_bit_set};
+ghost use Rattle.fr_base.specs.declared.channel.Channel.{Channel as OneChannel};
+ghost use Rattle.fr_world.specs.Masks.{word_on};
+
+use fr_base::{Channel, Placement};
+
+/// The filled cycles of a slot, for each channel as bits of a word: that of weight `2^c` is cycle `c`.
+#[derive(Clone, Copy)]
+pub(crate) struct FilledCycles {
+    a: u64,
+    b: u64,
+}
+
+/// No cycle is filled.
+pub(crate) const NONE_FILLED: FilledCycles = FilledCycles { a: 0, b: 0 };
+
+impl FilledCycles {
+    /// The word of the channel.
+    pub(crate) fn on(self, channel: Channel) -> u64
+        ensures { result ≡ word_on channel self }
+    {
+        match channel {
+            Channel::A => self.a,
+            Channel::B => self.b,
+        }
+    }
+
+    /// The placement's cycles are filled too, on its channels.
+    pub(crate) fn mark(&mut self, placement: &Placement)
+        ensures { (x : OneChannel) (k : ℕ) → is_bit_set (word_on x self.new) k ≡ (is_bit_set (word_on x self.old) k || (has_channel placement.now.channels x && has_cycle placement.now.cycles k)) }
+    {
+        let mask = placement.cycles.mask();
+        if placement.channels.has(Channel::A) {
+            self.a |= mask;
+        }
+        if placement.channels.has(Channel::B) {
+            self.b |= mask;
+        }
+    }
+}
