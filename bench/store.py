@@ -5,7 +5,7 @@ Pages are loaded, of 4, 64 and 256 frames, each of 8 placements and 15 signals; 
 transaction of its own; so are 512 of them in one; and a register of about 100,000 rows is opened and closed. Then the same page
 and the same edits in a register of 1 and of 64 suppliers, of 16 frames each: in instructions, which valgrind counts.
 
-`sqlite3` runs the statements of `fr_store`, in as many transactions, over files of its own making, with a log. Where a page is
+`sqlite3` runs the statements of `fr_tables`, in as many transactions, over files of its own making, with a log. Where a page is
 loaded it makes tuples of the rows, and no page. Where a file is opened it does what comes nearest: PRAGMA integrity_check and
 foreign_key_check. One program does our part; it is proved and built first, in a folder that is gone afterwards.
 
@@ -28,9 +28,10 @@ from texts import seconds
 TOP = Path(__file__).resolve().parent.parent
 sys.path.append(str(TOP / "tests"))
 from made import LARGE, suppliers
-from statements import SOURCES, TEXT
+from statements import TEXT
 from store_files import connected, filled
 
+TABLES = TOP / "crates/fr_tables/src/tables"
 PLACEMENTS, SIGNALS, BATCH = 8, 15, 512
 
 PROGRAM = r"""//! Loads pages of a register in a file, edits it, or opens it, again and again.
@@ -176,8 +177,8 @@ fn placement(at: u32) -> Result<Placement, Error> {
 
 
 def statement(table, begin):
-    """The text of `fr_store` that begins so."""
-    text, = {text for text in TEXT.findall((SOURCES / f"tables/{table}.rt").read_text()) if text.startswith(begin)}
+    """The text of `fr_tables` that begins so."""
+    text, = {text for text in TEXT.findall((TABLES / f"{table}.rt").read_text()) if text.startswith(begin)}
     return text
 
 

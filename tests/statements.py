@@ -1,5 +1,5 @@
 #!/usr/bin/env python3
-"""Asks another SQLite, that of python3, how it would find the rows of each statement of `fr_store`: statements.py
+"""Asks another SQLite, that of python3, how it would find the rows of each statement of `fr_tables` and `fr_store`: statements.py
 
 The schema is that of docs/FORMATS.md, the texts are those of the sources. Each column that a statement gives a value for in its
 WHERE is to be sought in one index, and no statement is to sort. Only the lists of all variants and suppliers, and the
@@ -13,11 +13,11 @@ from pathlib import Path
 from overlays import queried
 
 TOP = Path(__file__).resolve().parent.parent
-SOURCES = TOP / "crates/fr_store/src"
+SOURCES = [TOP / "crates" / crate / "src" for crate in ("fr_tables", "fr_store")]
 
 READ_WHOLE = {"register", "cluster", "suppliers", "variants"}
-# `asked` in opening.rt is given its text by its callers.
-PASSED_ON = [("opening.rt", "sql")]
+# `asked` in asking.rt is given its text by its callers.
+PASSED_ON = [("asking.rt", "sql")]
 
 TEXT = re.compile(r'"((?:CREATE|INSERT|SELECT|UPDATE|DELETE|WITH) [^"]*)"')
 CALL = re.compile(r"\.(?:execute|query)\w*\(\s*(\"|\w+)")
@@ -54,9 +54,9 @@ def schema():
 
 def sources():
     """Each file that is not for tests alone, by its name, with its content."""
-    texts = {file: file.read_text() for file in sorted(SOURCES.rglob("*.rt"))}
+    texts = {(src, file): file.read_text() for src in SOURCES for file in sorted(src.rglob("*.rt"))}
     for_tests = {name for text in texts.values() for name in FOR_TESTS.findall(text)}
-    return [(str(file.relative_to(SOURCES)), text) for file, text in texts.items() if file.stem not in for_tests]
+    return [(str(file.relative_to(src)), text) for (src, file), text in texts.items() if file.stem not in for_tests]
 
 
 def steps(conn, statement):

@@ -1,6 +1,6 @@
 -- Pages that were the register's before an edit are the register's after it: those that it leaves alone, and the one that was amended.
 use Rattle.std.proofs.Common.{◌≡◌, true, false, not, ◌&&◌, cond, map, List, [], ◌∷◌, Option, Some, None, refl, sym, ap, subst, ◌∙◌, inl, inr, true≢false}
-use Rattle.std.specs.Prelude.{◌||◌}
+use Rattle.std.specs.Prelude.{◌||◌, All}
 use Rattle.std.specs.Ordering.{eq_by_cmp}
 use Rattle.std.proofs.lemmas.Bool.{cases_Bool}
 use Rattle.std.proofs.Math.Bool.{and-true}
@@ -28,7 +28,7 @@ use Rattle.fr_world.specs.declared.edit.Edit.{Edit}
 use Rattle.fr_world.specs.declared.edit.Edit.TheVariants.{NewVariant, SetReleased, NewNode, Rows, KeepImport}
 use Rattle.fr_world.proofs.AgreeLaws.{edits-agree, others-stay}
 use Rattle.fr_world.proofs.PageLaws.{rows-registers}
-use Rattle.fr_office.specs.KeptPages.{AreFresh, IsFresh, Spares, touches, untouched, untouched_by}
+use Rattle.fr_office.specs.KeptPages.{AreFresh, IsFresh, KeptData, Spares, touches, untouched, untouched_by}
 use Rattle.fr_office.proofs.PageBack.{same-page, same-rows}
 
 -- an edit leaves the parameters
@@ -126,7 +126,7 @@ module _ (c : Cluster) (b : Book) (page : PageData) (fresh : IsFresh c.params b 
       }
 
 -- pages that the edit leaves as they are
-all_untouched : (c : Cluster) (b : Book) (edit : Edit) → Spares b edit → (pages : List PageData) → AreFresh c.params b pages → AreFresh c.params (applied b edit) (untouched edit pages)
+all_untouched : (c : Cluster) (b : Book) (edit : Edit) → Spares b edit → (pages : List PageData) → All (IsFresh c.params b) pages → All (IsFresh c.params (applied b edit)) (untouched edit pages)
 all_untouched c b edit spares [] fresh = All-nil (IsFresh c.params (applied b edit))
 all_untouched c b edit spares (page ∷ pages) fresh =
     let rest = all_untouched c b edit spares pages (All-tail (IsFresh c.params b) page pages fresh) in
@@ -156,8 +156,10 @@ fit_spares b (Rows s v what) fits = λ x there.
 fit_spares b (KeepImport s label v body rows) fits = tt
 
 -- pages that edits leave as they are
-pub all-untouched_by : (c : Cluster) (edits : List Edit) (b : Book) (pages : List PageData) → AllFit b edits → AreFresh c.params b pages →
-    AreFresh c.params (all_applied b edits) (untouched_by edits pages)
-all-untouched_by c [] b pages fits fresh = fresh
-all-untouched_by c (edit ∷ edits) b pages fits fresh =
-    all-untouched_by c edits (applied b edit) (untouched edit pages) fits.1 (all_untouched c b edit (fit_spares b edit fits.0) pages fresh)
+pub all-untouched_by : (c : Cluster) (edits : List Edit) (b : Book) (kept : KeptData) → AllFit b edits → AreFresh c.params b kept →
+    AreFresh c.params (all_applied b edits) (untouched_by edits kept)
+all-untouched_by c [] b kept fits fresh = fresh
+all-untouched_by c (edit ∷ edits) b kept fits fresh =
+    let spares = fit_spares b edit fits.0 in
+    let left : KeptData = record { recent = untouched edit kept.recent; earlier = untouched edit kept.earlier } in
+    all-untouched_by c edits (applied b edit) left fits.1 (all_untouched c b edit spares kept.recent fresh.0, all_untouched c b edit spares kept.earlier fresh.1)

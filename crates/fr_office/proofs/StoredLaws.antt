@@ -9,7 +9,7 @@ use Rattle.fr_base.specs.declared.channel.Channel.{Channel}
 use Rattle.fr_base.specs.declared.name.Name.{Name}
 use Rattle.fr_base.specs.declared.refusal.Refusal.{Refusal}
 use Rattle.fr_base.specs.declared.refusal.Refusal.TheVariants.{Unavailable}
-use Rattle.fr_store.specs.Changes.{Stays, tables_of}
+use Rattle.fr_tables.specs.Changes.{Stays, tables_of}
 use Rattle.fr_store.specs.Reading.{Leaves, as_holder, holder_in}
 use Rattle.fr_store.specs.StandsFor.{StandsFor}
 use Rattle.fr_store.specs.Store.{IsRegisterFor}

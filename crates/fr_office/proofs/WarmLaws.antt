@@ -1,9 +1,12 @@
 -- Records and the pages beside them: what is read of the records and changed in them.
-use Rattle.std.proofs.Common.{◌≡◌, ◌+◌, ◌-◌, ◌&&◌, Bool, true, false, not, List, [], ◌∷◌, length, drop, Option, Some, None, Result, Ok, Err, All, refl, sym, ap, subst, ◌∙◌}
-use Rattle.std.specs.Prelude.{⊤, OnErr, OnOk, option_map}
-use Rattle.std.proofs.lemmas.List.Elements.{All-drop, All-filter, All-push}
+use Rattle.std.proofs.Common.{◌≡◌, ℕ, ◌+◌, ◌&&◌, Bool, true, false, not, cond, List, [], ◌∷◌, sum_by, Option, Some, None, Result, Ok, Err, All, Less, Equal, Greater, refl, sym, ap, subst, ◌∙◌}
+use Rattle.std.specs.Prelude.{⊤, OnErr, OnOk, find, if◌then◌else◌, nat_le, option_map}
+use Rattle.std.specs.Option.{option_or}
+use Rattle.std.specs.Ordering.{match_ordering}
+use Rattle.std.proofs.lemmas.List.Elements.{All-cons, All-filter, All-head, All-nil, All-tail}
 use Rattle.fr_base.specs.Book.{Variant, Book}
 use Rattle.fr_base.specs.Cluster.{Cluster}
+use Rattle.fr_base.specs.Keys.{owned}
 use Rattle.fr_base.specs.Names.{same_text}
 use Rattle.fr_base.specs.Tables.{get}
 use Rattle.fr_base.specs.declared.name.Name.{Name}
@@ -15,10 +18,9 @@ use Rattle.fr_world.specs.Fits.{AllFit}
 use Rattle.fr_world.specs.Pages.{PageData, page_in}
 use Rattle.fr_world.specs.declared.edit.Edit.{Edit}
 use Rattle.fr_office.specs.Held.{Standing, Applies, Tells, page_of}
-use Rattle.fr_office.specs.KeptPages.{AreFresh, IsFresh, Keeps, StandsWarm, WarmData, is_page_of, others_than, page_at, touches, untouched, untouched_by, with_page}
-use Rattle.fr_office.specs.declared.pages.TheConstants.{MAX_PAGES}
+use Rattle.fr_office.specs.KeptPages.{AreFresh, EachKept, IsFresh, Keeps, KeptData, StandsWarm, WarmData, bytes_of, is_page_of, kept_at, kept_with, kept_without, page_at, touches, untouched, untouched_by, whose, with_page, with_room}
+use Rattle.fr_office.specs.declared.shelf.TheConstants.{MAX_BYTES}
 use Rattle.fr_office.proofs.FreshLaws.{all-untouched_by}
-use Rattle.fr_office.proofs.KeptLaws.{found_all}
 
 -- the book's page is fresh, and what is fresh is the book's page
 pub page-fresh : (p : Params) (b : Book) (s v : Name) (x : Variant) (page : PageData) → get b.variants v ≡ Some x → page ≡ page_in p b s v x → IsFresh p b page
@@ -30,7 +32,7 @@ told-fresh p b s v page = elim (get b.variants v) as (λ o. get b.variants v ≡
   | Some x ↦ λ there is. let same : page ≡ page_in p b s v x = cc in page-fresh p b s v x page there same
 ] refl
 
-both_true : (a b : Bool) → (a && b) ≡ true → (a ≡ true) × (b ≡ true)
+pub both_true : (a b : Bool) → (a && b) ≡ true → (a ≡ true) × (b ≡ true)
 both_true true b h = (refl, h)
 both_true false b h = cc
 
@@ -44,23 +46,62 @@ fresh-told p b s v page named fresh =
 
 -- ---- what holds of all pages
 
--- of those that are left where one was taken out
-pub left_all : (s v : Name) (pages left : List PageData) → left ≡ others_than s v pages → (P : PageData → Type 0) → All P pages → All P left
-left_all s v pages left taken P all = subst (All P) (sym taken) (All-filter (λ page. not (is_page_of s v page)) P pages all)
+-- what is found passes, and what holds of all holds of it
+found_all : {X : Type 0} (p : X → Bool) (P : X → Type 0) (xs : List X) (x : X) → find p xs ≡ Some x → All P xs → (p x ≡ true) × P x
+found_all p P [] x found all = cc
+found_all p P (y ∷ ys) x found all = elim (p y) as (λ b. p y ≡ b → cond b (Some y) (find p ys) ≡ Some x → (p x ≡ true) × P x) [
+  | true ↦ λ passes is. let same : y ≡ x = cc in (subst (λ z. p z ≡ true) same passes, subst P same (All-head P y ys all))
+  | false ↦ λ fails is. found_all p P ys x is (All-tail P y ys all)
+] refl found
 
--- where one was given back
-pub kept_all : {E : Type 0} (P : PageData → Type 0) (page : PageData) (pages later : List PageData) (r : Result ⊤ E) → OnOk r (later ≡ with_page page pages) →
-    OnErr r (later ≡ others_than page.supplier page.variant pages) → All P pages → P page → All P later
-kept_all P page pages later (Ok x) kept given all here =
-    let others = others_than page.supplier page.variant pages in
-    let left = left_all page.supplier page.variant pages others refl P all in
-    subst (All P) (sym kept) (All-push P (drop (length others + 1 - MAX_PAGES) others) page (All-drop P (length others + 1 - MAX_PAGES) others left) here)
-kept_all P page pages later (Err e) kept given all here = left_all page.supplier page.variant pages later given P all
+module _ (P : PageData → Type 0) where
+  -- of one that is found, which is the one that was looked for
+  pub kept_found : (s v : Name) (kept : KeptData) (page : PageData) → kept_at s v kept ≡ Some page → EachKept P kept → (is_page_of s v page ≡ true) × P page
+  kept_found s v kept page found each = elim (page_at s v kept.recent) as (λ o. page_at s v kept.recent ≡ o → option_or o (page_at s v kept.earlier) ≡ Some page → (is_page_of s v page ≡ true) × P page) [
+    | Some x ↦ λ at is. found_all (is_page_of s v) P kept.recent page (at ∙ is) each.0
+    | None ↦ λ at is. found_all (is_page_of s v) P kept.earlier page is each.1
+  ] refl found
 
--- of those that edits leave
-pub untouched_all : (P : PageData → Type 0) (edits : List Edit) (pages : List PageData) → All P pages → All P (untouched_by edits pages)
-untouched_all P [] pages all = all
-untouched_all P (edit ∷ edits) pages all = untouched_all P edits (untouched edit pages) (All-filter (λ page. not (touches edit page)) P pages all)
+  others_all : (s v : Name) (kept : KeptData) → EachKept P kept → EachKept P (kept_without s v kept)
+  others_all s v kept each = (All-filter (λ page. not (is_page_of s v page)) P kept.recent each.0, All-filter (λ page. not (is_page_of s v page)) P kept.earlier each.1)
+
+  -- of those that are left where one was taken out
+  pub left_all : (s v : Name) (kept left : KeptData) → left ≡ kept_without s v kept → EachKept P kept → EachKept P left
+  left_all s v kept left taken each = subst (EachKept P) (sym taken) (others_all s v kept each)
+
+  room_all : (bytes : ℕ) (kept : KeptData) → EachKept P kept → EachKept P (with_room bytes kept)
+  room_all bytes kept each = elim (nat_le (sum_by bytes_of kept.recent + bytes) MAX_BYTES) as (λ b. EachKept P (if b then kept else record { recent = []; earlier = kept.recent })) [
+    | true ↦ each
+    | false ↦ (All-nil P, each.0)
+  ]
+
+  placed_all : (page : PageData) (pages : List PageData) → P page → All P pages → All P (with_page page pages)
+  placed_all page [] here all = All-cons P page [] here (All-nil P)
+  placed_all page (other ∷ pages) here all =
+      let later = placed_all page pages here (All-tail P other pages all) in
+      elim (owned.compare (whose page) (whose other)) as (λ r. All P (match_ordering r (page ∷ other ∷ pages) (page ∷ pages) (other ∷ with_page page pages))) [
+        | Less ↦ All-cons P page (other ∷ pages) here all
+        | Equal ↦ All-cons P page pages here (All-tail P other pages all)
+        | Greater ↦ All-cons P other (with_page page pages) (All-head P other pages all) later
+      ]
+
+  -- where one was given back
+  pub kept_all : {E : Type 0} (page : PageData) (kept later : KeptData) (r : Result ⊤ E) → OnOk r (later ≡ kept_with page kept) →
+      OnErr r (later ≡ with_room (bytes_of page) (kept_without page.supplier page.variant kept)) → EachKept P kept → P page → EachKept P later
+  kept_all page kept later r ok err each here =
+      let room = with_room (bytes_of page) (kept_without page.supplier page.variant kept) in
+      let roomy : EachKept P room = room_all (bytes_of page) (kept_without page.supplier page.variant kept) (others_all page.supplier page.variant kept each) in
+      elim r as (λ r. OnOk r (later ≡ kept_with page kept) → OnErr r (later ≡ room) → EachKept P later) [
+        | Ok x ↦ λ is _. subst (EachKept P) (sym is) (placed_all page room.recent here roomy.0, roomy.1)
+        | Err e ↦ λ _ is. subst (EachKept P) (sym is) roomy
+      ] ok err
+
+  -- of those that edits leave
+  pub untouched_all : (edits : List Edit) (kept : KeptData) → EachKept P kept → EachKept P (untouched_by edits kept)
+  untouched_all [] kept each = each
+  untouched_all (edit ∷ edits) kept each =
+      let left : KeptData = record { recent = untouched edit kept.recent; earlier = untouched edit kept.earlier } in
+      untouched_all edits left (All-filter (λ page. not (touches edit page)) P kept.recent each.0, All-filter (λ page. not (touches edit page)) P kept.earlier each.1)
 
 -- ---- records and the pages beside them
 
@@ -68,7 +109,7 @@ pub same_params : {R : Type 0} (params : R → Params) (inside warm : WarmData R
 same_params params inside warm is = ap (λ w. params w.records) is
 
 -- records beside these pages
-abbrev pub Beside : Standing → List PageData → Standing
+abbrev pub Beside : Standing → KeptData → Standing
 Beside stands pages c b = stands c b × AreFresh c.params b pages
 
 module _ {R : Type 0} (stands : R → Standing) (inside warm : WarmData R) (is : inside ≡ warm) where
@@ -83,32 +124,32 @@ module _ {R : Type 0} (stands : R → Standing) (inside warm : WarmData R) (is :
       let t = told c b s.0 in
       ((t.0, s.1), t.1)
 
-  module _ (s v : Name) (left : List PageData) (taken : left ≡ others_than s v inside.pages) where
+  module _ (s v : Name) (left : KeptData) (taken : left ≡ kept_without s v inside.pages) where
     -- the page is not kept
     pub page_read : (new : Standing) (r : Result (Option PageData) Refusal) → Tells (stands inside.records) new r (λ c b found. found ≡ page_of c.params b s v) →
         Tells (StandsWarm stands warm) (Beside new left) r (λ c b found. found ≡ page_of c.params b s v)
     page_read new r told c b stood =
         let here = stood-inside c b stood in
         let t = told c b here.0 in
-        ((t.0, left_all s v inside.pages left taken (IsFresh c.params b) here.1), t.1)
+        ((t.0, left_all (IsFresh c.params b) s v inside.pages left taken here.1), t.1)
 
     -- the page is kept
-    pub page_taken : (page : PageData) → page_at s v inside.pages ≡ Some page →
+    pub page_taken : (page : PageData) → kept_at s v inside.pages ≡ Some page →
         Tells (StandsWarm stands warm) (Beside (stands inside.records) left) (Ok (Some page)) (λ c b found. found ≡ page_of c.params b s v)
     page_taken page found c b stood =
         let here = stood-inside c b stood in
-        let kept = found_all (is_page_of s v) (IsFresh c.params b) inside.pages page found here.1 in
-        ((here.0, left_all s v inside.pages left taken (IsFresh c.params b) here.1), fresh-told c.params b s v page kept.0 kept.1)
+        let kept = kept_found (IsFresh c.params b) s v inside.pages page found here.1 in
+        ((here.0, left_all (IsFresh c.params b) s v inside.pages left taken here.1), fresh-told c.params b s v page kept.0 kept.1)
 
   -- the page was given back
-  pub page_kept : {E : Type 0} (page : PageData) (later : List PageData) (r : Result ⊤ E) → OnOk r (later ≡ with_page page inside.pages) → OnErr r (later ≡ others_than page.supplier page.variant inside.pages) →
+  pub page_kept : {E : Type 0} (page : PageData) (later : KeptData) (r : Result ⊤ E) → OnOk r (later ≡ kept_with page inside.pages) → OnErr r (later ≡ with_room (bytes_of page) (kept_without page.supplier page.variant inside.pages)) →
       Keeps (StandsWarm stands warm) (Beside (stands inside.records) later) page
   page_kept page later r kept given c b stood fresh =
       let here = stood-inside c b stood in
       (here.0, kept_all (IsFresh c.params b) page inside.pages later r kept given here.1 fresh)
 
   -- edits were carried out
-  pub warm_applied : (new : Standing) (edits : List Edit) (left : List PageData) → left ≡ untouched_by edits inside.pages → (r : Result ⊤ Refusal) → r ≡ Ok tt → Applies (stands inside.records) new r edits →
+  pub warm_applied : (new : Standing) (edits : List Edit) (left : KeptData) → left ≡ untouched_by edits inside.pages → (r : Result ⊤ Refusal) → r ≡ Ok tt → Applies (stands inside.records) new r edits →
       (c : Cluster) (b : Book) → StandsWarm stands warm c b → AllFit b edits → Beside new left c (all_applied b edits)
   warm_applied new edits left untouched (Ok x) made applies c b stood fits =
       let here = stood-inside c b stood in

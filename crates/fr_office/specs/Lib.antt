@@ -6,5 +6,6 @@ pub mod Held
 pub mod Imports
 pub mod KeptPages
 pub mod Shared
+pub mod Shelves
 pub mod Shown
 pub mod Stored

@@ -14,14 +14,15 @@ mod pages;
 mod queries;
 mod records;
 mod running;
+mod shelf;
 mod store_records;
 mod suppliers;
 mod warm;
 
 pub use office::Office;
-pub use pages::MAX_PAGES;
 pub use records::Records;
 pub use running::{Stopped, run};
+pub use shelf::MAX_BYTES;
 
 #[cfg(test)]
 mod tests;

@@ -17,8 +17,8 @@ use crate::warm::Warm;
 use fr_base::{Actor, Answer, Ask, Desk};
 use std::alloc::Global;
 
-/// The office of a register, which answers requests from its records. It keeps pages of them in memory,
-/// at most [`MAX_PAGES`](crate::MAX_PAGES), and none that is stale.
+/// The office of a register, which answers requests from its records. It keeps pages of them in memory, of
+/// at most twice [`MAX_BYTES`](crate::MAX_BYTES), and none that is stale.
 pub struct Office<R: Records> {
     warm: Warm<R>,
 }
@@ -47,7 +47,7 @@ impl<R: Records> Desk for Office<R> {
 impl<R: Records> Office<R> {
     /// The office of the register that has these records. No page is kept yet.
     pub fn new(alloc: Global, records: R) -> Office<R>
-        ensures value { result.warm ≡ record { records = records; pages = [] } }
+        ensures value { result.warm ≡ record { records = records; pages = record { recent = []; earlier = [] } } }
         ensures stands { (c : Cluster) (b : Book) → R.stands records c b → StandsWarm R.stands result.warm c b }
     {
         Office {

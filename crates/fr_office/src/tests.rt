@@ -1,6 +1,7 @@
 //! What the check would let pass: a run that stops, and pages that are not kept, though there is memory.
-use crate::pages::{MAX_PAGES, Pages};
+use crate::pages::Pages;
 use crate::running::run;
+use crate::shelf::MAX_BYTES;
 use fr_base::{Actor, Answer, Ask, Channels, Desk, Name, Params, RawParams, Request, Text};
 use fr_world::{Edit, Page, PageRows};
 use std::alloc::Global;
@@ -117,20 +118,28 @@ fn is_kept(pages: &mut Pages, alloc: Global, number: usize) -> Result<bool, Fail
     Ok(true)
 }
 
+/// As many pages without rows as one shelf has room for.
+const FULL: usize = MAX_BYTES / 8_192;
+
+fn keep_all(pages: &mut Pages, alloc: Global, first: usize, past: usize) -> Result<(), Fail> {
+    for number in first..past {
+        keep(pages, alloc, number)?;
+    }
+    Ok(())
+}
+
 #[test]
 fn as_many_pages_as_may_be_are_kept(rt: HostRuntime) -> Result<(), Fail> {
     let mut pages = Pages::new(rt.alloc());
-    for number in 0..=MAX_PAGES {
-        keep(&mut pages, rt.alloc(), number)?;
-    }
-    assert!(rt; !is_kept(&mut pages, rt.alloc(), 0)?);
-    assert!(rt; is_kept(&mut pages, rt.alloc(), 1)?);
-    keep(&mut pages, rt.alloc(), 0)?;
-    assert!(rt; is_kept(&mut pages, rt.alloc(), 1)?);
-    assert!(rt; !is_kept(&mut pages, rt.alloc(), 2)?);
-    let variant = variant(rt.alloc(), 3)?;
+    keep_all(&mut pages, rt.alloc(), 0, FULL + 1)?;
+    assert!(rt; is_kept(&mut pages, rt.alloc(), 0)?);
+    // With that page the last ones fill a shelf again, but for the very last.
+    keep_all(&mut pages, rt.alloc(), FULL + 1, 2 * FULL)?;
+    assert!(rt; !is_kept(&mut pages, rt.alloc(), 1)?);
+    assert!(rt; is_kept(&mut pages, rt.alloc(), 0)?);
+    let variant = variant(rt.alloc(), 0)?;
     pages.let_go(&[Edit::SetReleased { variant }]);
-    assert!(rt; !is_kept(&mut pages, rt.alloc(), 3)?);
-    assert!(rt; is_kept(&mut pages, rt.alloc(), 4)?);
+    assert!(rt; !is_kept(&mut pages, rt.alloc(), 0)?);
+    assert!(rt; is_kept(&mut pages, rt.alloc(), FULL)?);
     Ok(())
 }

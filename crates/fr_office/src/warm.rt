@@ -39,7 +39,7 @@ impl<R: Records + Drop> Drop for Warm<R> {
 impl<R: Records> Warm<R> {
     /// These records, without a page.
     pub(crate) fn new(alloc: Global, records: R) -> Warm<R>
-        ensures { result ≡ record { records = records; pages = [] } }
+        ensures { result ≡ record { records = records; pages = record { recent = []; earlier = [] } } }
     {
         Warm {
             records,

@@ -8,16 +8,17 @@ use Rattle.sqlite.specs.State.{State}
 use Rattle.sqlite_wal.specs.Recovery.{Image}
 use Rattle.fr_base.specs.Cluster.{Cluster, IsWellFormed}
 use Rattle.fr_base.specs.Book.{Book}
-use Rattle.fr_store.specs.Rows.{RegisterRow}
-use Rattle.fr_store.specs.Tables.{Tables, HasTables, tables_in}
+use Rattle.fr_tables.specs.Rows.{RegisterRow}
+use Rattle.fr_tables.specs.Tables.{Tables, HasTables, tables_in, AreOrdered}
 use Rattle.fr_store.specs.StandsFor.{StandsFor}
 use Rattle.fr_store.specs.Reading.{Stands}
-use Rattle.fr_store.specs.Store.{TellsOf, AreOrdered, IsRegisterOf, IsRegisterFor, FindsAgain}
+use Rattle.fr_store.specs.Store.{TellsOf, IsRegisterOf, IsRegisterFor, FindsAgain}
 use Rattle.fr_store.specs.StoreFiles.{IsHeld, HoldsRegister, HoldsBook, database_of}
-use Rattle.fr_store.specs.Opening.{Explains, numbered, our_schema_number}
+use Rattle.fr_store.specs.Opening.{Explains}
+use Rattle.fr_tables.specs.Asking.{numbered, our_schema_number}
 use Rattle.fr_store.specs.declared.fault.StoreFault.{StoreFault}
 use Rattle.fr_store.specs.declared.fault.StoreFault.TheVariants.{NotEmpty, NotARegister, WrongSchema, Unavailable}
-use Rattle.fr_store.proofs.TypedLemmas.{in_order}
+use Rattle.fr_tables.proofs.TypedLemmas.{in_order}
 use Rattle.fr_store.proofs.SameCluster.{same_cluster}
 
 -- tables that stand for a book tell of its cluster

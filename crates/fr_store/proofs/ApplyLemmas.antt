@@ -11,10 +11,10 @@ use Rattle.fr_base.specs.Book.{Book}
 use Rattle.fr_base.specs.declared.name.Name.{Name}
 use Rattle.fr_world.specs.BookEdits.{applied}
 use Rattle.fr_world.specs.declared.edit.Edit.TheVariants.{NewNode}
-use Rattle.fr_store.specs.Rows.{NodeRow}
-use Rattle.fr_store.specs.Tables.{Tables}
-use Rattle.fr_store.specs.Changes.{Changes, Stays, tables_of}
-use Rattle.fr_store.specs.Statements.{with_node}
+use Rattle.fr_tables.specs.Rows.{NodeRow}
+use Rattle.fr_tables.specs.Tables.{Tables}
+use Rattle.fr_tables.specs.Changes.{Changes, Stays, tables_of}
+use Rattle.fr_tables.specs.Statements.{with_node}
 use Rattle.fr_store.specs.StandsFor.{StandsFor, node_row}
 use Rattle.fr_store.specs.Reading.{Stands}
 

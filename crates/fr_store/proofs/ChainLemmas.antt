@@ -4,8 +4,8 @@ use Rattle.sqlite.specs.State.{State, HasCleanDisk, IsUnchanged}
 use Rattle.sqlite.proofs.StateLemmas.{survives_then}
 use Rattle.fr_base.specs.Book.{Book}
 use Rattle.fr_base.specs.Cluster.{Cluster}
-use Rattle.fr_store.specs.Tables.{Tables, HasTables, tables_in}
-use Rattle.fr_store.specs.Changes.{Stays, Spares, tables_of}
+use Rattle.fr_tables.specs.Tables.{Tables, HasTables, tables_in}
+use Rattle.fr_tables.specs.Changes.{Stays, Spares, tables_of}
 use Rattle.fr_store.specs.Reading.{Leaves, Stands}
 use Rattle.fr_store.specs.StandsFor.{StandsFor}
 

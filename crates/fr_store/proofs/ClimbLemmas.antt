@@ -6,10 +6,10 @@ use Rattle.fr_base.specs.Tables.{get}
 use Rattle.fr_base.specs.Cluster.{Cluster}
 use Rattle.fr_base.specs.Book.{Frame, Variant, Book}
 use Rattle.fr_base.specs.declared.name.Name.{Name}
-use Rattle.fr_store.specs.Changes.{Stays, tables_of}
+use Rattle.fr_tables.specs.Changes.{Stays, tables_of}
 use Rattle.fr_store.specs.Owning.{TellsLevel, IsOwner, is_own}
 use Rattle.fr_store.specs.Reading.{Stands}
-use Rattle.fr_store.specs.Tables.{HasTables, tables_in}
+use Rattle.fr_tables.specs.Tables.{HasTables, tables_in}
 use Rattle.fr_store.specs.declared.applying.level.Level.{Level}
 use Rattle.fr_store.proofs.InsideLemmas.{keeps_stay, keeps_then}
 use Rattle.fr_store.proofs.OwningLemmas.{Shown, above_shows}

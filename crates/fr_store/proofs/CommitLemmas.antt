@@ -16,7 +16,7 @@ use Rattle.fr_store.specs.Reading.{Stands}
 use Rattle.fr_store.specs.StandsFor.{StandsFor}
 use Rattle.fr_store.specs.Store.{IsRegisterFor}
 use Rattle.fr_store.specs.StoreFiles.{database_of}
-use Rattle.fr_store.specs.Tables.{HasTables, tables_in}
+use Rattle.fr_tables.specs.Tables.{HasTables, tables_in}
 use Rattle.fr_store.proofs.AgainLemmas.{still_stands}
 
 -- the trees of tables that stand for a book

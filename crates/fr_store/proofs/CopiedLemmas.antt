@@ -10,9 +10,9 @@ use Rattle.fr_base.specs.Keys.{names}
 use Rattle.fr_base.specs.Cluster.{Cluster}
 use Rattle.fr_base.specs.Book.{Variant, Book}
 use Rattle.fr_base.specs.declared.name.Name.{Name}
-use Rattle.fr_store.specs.Rows.{GrantRow}
-use Rattle.fr_store.specs.Tables.{Tables}
-use Rattle.fr_store.specs.Statements.{grant_for, grants_for}
+use Rattle.fr_tables.specs.Rows.{GrantRow}
+use Rattle.fr_tables.specs.Tables.{Tables}
+use Rattle.fr_tables.specs.Statements.{grant_for, grants_for}
 use Rattle.fr_store.specs.StandsFor.{StandsFor, grant_rows}
 use Rattle.fr_store.proofs.HolderLemmas.{other_name}
 use Rattle.fr_store.proofs.SectionLemmas.{at, only_at}

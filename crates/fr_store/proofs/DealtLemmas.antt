@@ -18,9 +18,9 @@ use Rattle.sqlite_trees.proofs.ListLemmas.{filter_none}
 use Rattle.sqlite_tied.proofs.RuleLemmas.{and_assoc}
 use Rattle.fr_base.specs.declared.name.Name.{Name}
 use Rattle.fr_base.proofs.SoundRows.{same_text-is}
-use Rattle.fr_store.specs.Changes.{AreListed}
-use Rattle.fr_store.specs.Rows.{PlacementRow, SignalRow}
-use Rattle.fr_store.specs.Statements.{text_cmp, shows_placement, is_placed_by, is_placement_of, placements_cmp, shows_signal, is_signalled_by, is_signal_of, signals_cmp}
+use Rattle.fr_tables.specs.Changes.{AreListed}
+use Rattle.fr_tables.specs.Rows.{PlacementRow, SignalRow}
+use Rattle.fr_tables.specs.Statements.{text_cmp, shows_placement, is_placed_by, is_placement_of, placements_cmp, shows_signal, is_signalled_by, is_signal_of, signals_cmp}
 use Rattle.fr_store.specs.Reading.{name_shown}
 
 -- ---- the two parts of a list

@@ -9,9 +9,9 @@ use Rattle.fr_base.specs.Tables.{get, contains}
 use Rattle.fr_base.specs.Book.{Variant, Book}
 use Rattle.fr_base.specs.declared.name.Name.{Name}
 use Rattle.fr_base.proofs.SoundRows.{same_text-is}
-use Rattle.fr_store.specs.Rows.{DroppedRow}
-use Rattle.fr_store.specs.Statements.{is_dropped, with_dropped}
-use Rattle.fr_store.specs.Tables.{Tables}
+use Rattle.fr_tables.specs.Rows.{DroppedRow}
+use Rattle.fr_tables.specs.Statements.{is_dropped, with_dropped}
+use Rattle.fr_tables.specs.Tables.{Tables}
 use Rattle.fr_store.proofs.FrameChanges.{DropsElsewhere}
 use Rattle.fr_store.proofs.PlacementSections.{own_text}
 

@@ -15,11 +15,11 @@ use Rattle.fr_world.specs.declared.edit.Edit.TheVariants.{NewVariant, SetRelease
 use Rattle.fr_world.specs.declared.edit.Edit.{Edit}
 use Rattle.fr_world.specs.Fits.{Fits}
 use Rattle.fr_store.specs.Applying.{CarriesOut, MakesReady, IsReady, IsStoredIfSome, framed_in}
-use Rattle.fr_store.specs.Changes.{tables_of}
+use Rattle.fr_tables.specs.Changes.{tables_of}
 use Rattle.fr_store.specs.FrameEdits.{FitsAt, OwnIfChanged, OwnsChanged, EditsFrame}
 use Rattle.fr_store.specs.Owning.{IsStoredSo, is_own}
 use Rattle.fr_store.specs.StandsFor.{StandsFor}
-use Rattle.fr_store.specs.Tables.{Tables}
+use Rattle.fr_tables.specs.Tables.{Tables}
 use Rattle.fr_store.proofs.OwningLemmas.{own_is, stored_so}
 use Rattle.fr_store.proofs.StoredLemmas.{own_frames}
 

@@ -11,9 +11,9 @@ use Rattle.fr_world.specs.BookEdits.{applied, all_applied}
 use Rattle.fr_world.specs.Fits.{Fits, AllFit}
 use Rattle.fr_world.specs.declared.edit.Edit.{Edit}
 use Rattle.fr_store.specs.Applying.{GoesOn, SeesStored, IsSeen, IsStoredIfSome, IsReady, framed_in}
-use Rattle.fr_store.specs.Changes.{tables_of}
+use Rattle.fr_tables.specs.Changes.{tables_of}
 use Rattle.fr_store.specs.Reading.{Stands}
-use Rattle.fr_store.specs.Tables.{HasTables, tables_in}
+use Rattle.fr_tables.specs.Tables.{HasTables, tables_in}
 use Rattle.fr_store.specs.Owning.{IsStoredSo}
 use Rattle.fr_store.specs.declared.applying.seen.Seen.{Seen}
 use Rattle.fr_store.proofs.AgainLemmas.{still_stands}

@@ -14,10 +14,10 @@ use Rattle.fr_base.specs.Step.{with_variant}
 use Rattle.fr_base.specs.declared.name.Name.{Name}
 use Rattle.fr_base.proofs.TableLaws.{equal, get-insert}
 use Rattle.fr_base.proofs.SoundTables.{insert-cases, contains-more, same_key, same_some}
-use Rattle.fr_store.specs.Rows.{FrameRow, PlacementRow, SignalRow, DroppedRow}
-use Rattle.fr_store.specs.Tables.{Tables}
-use Rattle.fr_store.specs.Statements.{placement_row, signal_row, is_frame, is_placement_of, is_signal_of, is_dropped}
-use Rattle.fr_store.specs.StandsFor.{StandsFor, Stored, Entry, IsAsStored, HasItsParent, flag, variant_row, grant_rows, frame_row, placement_rows, signal_rows, of_frames, seen, own_or, is_hidden, of_parent}
+use Rattle.fr_tables.specs.Rows.{FrameRow, PlacementRow, SignalRow, DroppedRow, flag}
+use Rattle.fr_tables.specs.Tables.{Tables}
+use Rattle.fr_tables.specs.Statements.{placement_row, signal_row, is_frame, is_placement_of, is_signal_of, is_dropped}
+use Rattle.fr_store.specs.StandsFor.{StandsFor, Stored, Entry, IsAsStored, HasItsParent, variant_row, grant_rows, frame_row, placement_rows, signal_rows, of_frames, seen, own_or, is_hidden, of_parent}
 use Rattle.fr_world.specs.Fits.{IsOpen}
 use Rattle.fr_store.proofs.ApartLemmas.{apart, remove-insert}
 use Rattle.fr_store.proofs.FrameSections.{section, others, parted, others_stay, others_apart}

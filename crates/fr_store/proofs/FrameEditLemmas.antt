@@ -24,11 +24,11 @@ use Rattle.fr_base.proofs.TableLaws.{equal}
 use Rattle.fr_world.specs.Fits.{IsOpen}
 use Rattle.fr_world.specs.BookEdits.{applied, changed_at}
 use Rattle.fr_world.specs.declared.edit.Edit.TheVariants.{Rows}
-use Rattle.fr_store.specs.Rows.{FrameRow, PlacementRow, SignalRow, DroppedRow}
-use Rattle.fr_store.specs.Tables.{Tables}
-use Rattle.fr_store.specs.Changes.{Changes, Stays, tables_of}
-use Rattle.fr_store.specs.Statements as statements
-use Rattle.fr_store.specs.Statements.{with_dropped, is_dropped, with_frame, without_frame, with_placement, without_placement, is_frame, is_placement, is_placement_of, is_signal, is_signal_of, placement_row, signal_row}
+use Rattle.fr_tables.specs.Rows.{FrameRow, PlacementRow, SignalRow, DroppedRow}
+use Rattle.fr_tables.specs.Tables.{Tables}
+use Rattle.fr_tables.specs.Changes.{Changes, Stays, tables_of}
+use Rattle.fr_tables.specs.Statements as statements
+use Rattle.fr_tables.specs.Statements.{with_dropped, is_dropped, with_frame, without_frame, with_placement, without_placement, is_frame, is_placement, is_placement_of, is_signal, is_signal_of, placement_row, signal_row}
 use Rattle.fr_store.specs.StandsFor.{StandsFor, placement_rows, signal_rows, own_or, is_hidden, of_parent, seen}
 use Rattle.fr_store.specs.Reading.{Stands}
 use Rattle.fr_store.specs.FrameEdits.{FitsAt}

@@ -21,10 +21,10 @@ use Rattle.fr_base.specs.declared.placement.Placement.{Placement}
 use Rattle.fr_base.proofs.SoundRows.{same_text-is}
 use Rattle.fr_base.proofs.TableLaws.{same_rows}
 use Rattle.fr_world.specs.Maps.{set_of}
-use Rattle.fr_store.specs.Rows.{PlacementRow}
-use Rattle.fr_store.specs.Tables.{Tables}
-use Rattle.fr_store.specs.Changes.{AreListed}
-use Rattle.fr_store.specs.Statements.{placement_row, is_placement_of, shows_placement, placements_cmp}
+use Rattle.fr_tables.specs.Rows.{PlacementRow}
+use Rattle.fr_tables.specs.Tables.{Tables}
+use Rattle.fr_tables.specs.Changes.{AreListed}
+use Rattle.fr_tables.specs.Statements.{placement_row, is_placement_of, shows_placement, placements_cmp}
 use Rattle.fr_store.specs.StandsFor.{StandsFor, Stored, Entry, of_frames, placement_rows}
 use Rattle.fr_store.specs.Paging.{placement_shown}
 use Rattle.fr_store.proofs.HolderLemmas.{other_name}

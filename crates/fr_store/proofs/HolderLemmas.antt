@@ -20,10 +20,10 @@ use Rattle.std.specs.FinMap.{int_cmp-IsAntisymmetric}
 use Rattle.std.specs.Cmp.{int_cmp_total}
 use Rattle.std.proofs.lemmas.Bool.{and_parts}
 use Rattle.std.proofs.lemmas.Slice.Eq.{bytes_eq-Decides}
-use Rattle.fr_store.specs.Rows.{GrantRow}
-use Rattle.fr_store.specs.Tables.{Tables}
-use Rattle.fr_store.specs.Changes.{AreListed}
-use Rattle.fr_store.specs.Statements.{is_grant_at, shows_holder, any_order}
+use Rattle.fr_tables.specs.Rows.{GrantRow}
+use Rattle.fr_tables.specs.Tables.{Tables}
+use Rattle.fr_tables.specs.Changes.{AreListed}
+use Rattle.fr_tables.specs.Statements.{is_grant_at, shows_holder, any_order}
 use Rattle.fr_store.specs.StandsFor.{StandsFor, grant_rows}
 use Rattle.fr_store.specs.Reading.{holder_shown, as_holder, held_in, holder_in}
 use Rattle.fr_store.specs.declared.slot_holder.Holder.{Holder}

@@ -9,10 +9,10 @@ use Rattle.fr_base.specs.declared.name.Name.{Name}
 use Rattle.fr_world.specs.BookEdits.{applied}
 use Rattle.fr_world.specs.declared.edit.Edit.{Edit}
 use Rattle.fr_world.specs.declared.edit.Edit.TheVariants.{KeepImport}
-use Rattle.fr_store.specs.Rows.{ImportRow}
-use Rattle.fr_store.specs.Tables.{Tables}
-use Rattle.fr_store.specs.Changes.{Changes, Stays, tables_of}
-use Rattle.fr_store.specs.Statements.{with_import}
+use Rattle.fr_tables.specs.Rows.{ImportRow}
+use Rattle.fr_tables.specs.Tables.{Tables}
+use Rattle.fr_tables.specs.Changes.{Changes, Stays, tables_of}
+use Rattle.fr_tables.specs.Statements.{with_import}
 use Rattle.fr_store.specs.StandsFor.{StandsFor, import_row}
 use Rattle.fr_store.specs.Reading.{Stands}
 use Rattle.fr_store.proofs.EntryLemmas.{added_row}

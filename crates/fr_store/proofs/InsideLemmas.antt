@@ -5,10 +5,10 @@ use Rattle.std.proofs.lemmas.List.Folds.{list_any-append}
 use Rattle.sqlite.specs.State.{State, KeepsCommit}
 use Rattle.fr_base.specs.declared.name.Name.{Name}
 use Rattle.fr_store.specs.Applying.{GoesOn}
-use Rattle.fr_store.specs.Rows.{VariantRow}
-use Rattle.fr_store.specs.Tables.{Tables}
-use Rattle.fr_store.specs.Changes.{Changes, Copies, Stays, tables_of}
-use Rattle.fr_store.specs.Statements.{with_variant, with_released, released_row, is_variant}
+use Rattle.fr_tables.specs.Rows.{VariantRow}
+use Rattle.fr_tables.specs.Tables.{Tables}
+use Rattle.fr_tables.specs.Changes.{Changes, Copies, Stays, tables_of}
+use Rattle.fr_tables.specs.Statements.{with_variant, with_released, released_row, is_variant}
 use Rattle.fr_store.specs.Owning.{IsStoredSo, says_over}
 
 -- the change leaves how each variant is stored

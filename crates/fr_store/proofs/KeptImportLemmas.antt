@@ -18,10 +18,10 @@ use Rattle.fr_base.specs.declared.name.Name.{Name}
 use Rattle.fr_base.proofs.SoundRows.{same_text-is}
 use Rattle.fr_world.specs.ImportLabels.{kept_of}
 use Rattle.fr_world.specs.declared.kept_import.KeptImport.{KeptImport}
-use Rattle.fr_store.specs.Rows.{ImportRow}
-use Rattle.fr_store.specs.Tables.{Tables}
-use Rattle.fr_store.specs.Changes.{AreListed}
-use Rattle.fr_store.specs.Statements.{is_import, is_import_of, shows_import, shows_label, labels_cmp, any_order}
+use Rattle.fr_tables.specs.Rows.{ImportRow}
+use Rattle.fr_tables.specs.Tables.{Tables}
+use Rattle.fr_tables.specs.Changes.{AreListed}
+use Rattle.fr_tables.specs.Statements.{is_import, is_import_of, shows_import, shows_label, labels_cmp, any_order}
 use Rattle.fr_store.specs.StandsFor.{StandsFor, import_row}
 use Rattle.fr_store.specs.Reading.{import_shown}
 use Rattle.fr_store.proofs.HolderLemmas.{any_order_total}

@@ -6,8 +6,8 @@ use Rattle.fr_base.specs.Tables.{empty, get}
 use Rattle.fr_base.specs.Cluster.{Cluster}
 use Rattle.fr_base.specs.Book.{opening}
 use Rattle.fr_store.specs.StandsFor.{StandsFor, of_frames}
-use Rattle.fr_store.specs.Filling.{with_config}
-use Rattle.fr_store.specs.Making.{no_rows}
+use Rattle.fr_tables.specs.Filling.{with_config}
+use Rattle.fr_tables.specs.Making.{no_rows}
 use Rattle.fr_store.specs.Store.{IsNewOf}
 use Rattle.fr_store.specs.Reading.{Stands}
 

@@ -19,11 +19,11 @@ use Rattle.fr_base.proofs.SoundRows.{same_text-is}
 use Rattle.fr_base.proofs.TableLaws.{equal, get-empty}
 use Rattle.fr_world.specs.BookEdits.{applied}
 use Rattle.fr_world.specs.declared.edit.Edit.TheVariants.{NewVariant}
-use Rattle.fr_store.specs.Rows.{VariantRow, GrantRow, DroppedRow}
-use Rattle.fr_store.specs.Tables.{Tables}
-use Rattle.fr_store.specs.Changes.{Changes, Copies, Stays, tables_of}
-use Rattle.fr_store.specs.Statements.{with_variant, with_grants, grant_for, grants_for, is_dropped}
-use Rattle.fr_store.specs.StandsFor.{StandsFor, Stored, Entry, HasItsParent, IsAsStored, own_or, of_parent, seen, is_hidden, of_frames, flag, variant_row, grant_rows, frame_row, placement_rows, signal_rows}
+use Rattle.fr_tables.specs.Rows.{VariantRow, GrantRow, DroppedRow, flag}
+use Rattle.fr_tables.specs.Tables.{Tables}
+use Rattle.fr_tables.specs.Changes.{Changes, Copies, Stays, tables_of}
+use Rattle.fr_tables.specs.Statements.{with_variant, with_grants, grant_for, grants_for, is_dropped}
+use Rattle.fr_store.specs.StandsFor.{StandsFor, Stored, Entry, HasItsParent, IsAsStored, own_or, of_parent, seen, is_hidden, of_frames, variant_row, grant_rows, frame_row, placement_rows, signal_rows}
 use Rattle.fr_store.specs.Reading.{Stands}
 use Rattle.fr_store.proofs.CopiedLemmas.{grants_copied}
 use Rattle.fr_store.proofs.EntryLemmas.{none_there, added_row, added_rows}

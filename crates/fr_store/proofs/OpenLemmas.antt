@@ -7,15 +7,16 @@ use Rattle.sqlite.specs.Effect.{Database}
 use Rattle.sqlite.proofs.Callers.{one_permutation}
 use Rattle.fr_base.specs.Cluster.{Cluster}
 use Rattle.fr_base.specs.declared.config.Supplier.{Supplier}
-use Rattle.fr_store.specs.Rows.{ClusterRow, SupplierRow}
-use Rattle.fr_store.specs.Tables.{HasTables, tables_in}
-use Rattle.fr_store.specs.Changes.{AreListed}
-use Rattle.fr_store.specs.Statements.{cluster_row, shows_cluster, shows_supplier, shows_variant, every, any_order, suppliers_cmp, variants_cmp}
-use Rattle.fr_store.specs.Filling.{supplier_row}
+use Rattle.fr_tables.specs.Rows.{ClusterRow, SupplierRow}
+use Rattle.fr_tables.specs.Tables.{HasTables, tables_in}
+use Rattle.fr_tables.specs.Changes.{AreListed}
+use Rattle.fr_tables.specs.Statements.{cluster_row, shows_cluster, shows_supplier, shows_variant, every, any_order, suppliers_cmp, variants_cmp}
+use Rattle.fr_tables.specs.Filling.{supplier_row}
 use Rattle.fr_store.specs.Reading.{AreOpened, TellsOpened, variant_shown}
 use Rattle.fr_world.specs.declared.variants.VariantRow.{VariantRow}
-use Rattle.fr_store.specs.Opening.{HasNumber, our_schema_number}
-use Rattle.fr_store.specs.Store.{IsRegisterOf, shown_supplier}
+use Rattle.fr_tables.specs.Asking.{HasNumber, our_schema_number}
+use Rattle.fr_store.specs.Store.{IsRegisterOf}
+use Rattle.fr_tables.specs.ClusterRows.{shown_supplier}
 
 all_pass : {X : Type 0} (xs : List X) → filter every xs ≡ xs
 all_pass [] = refl

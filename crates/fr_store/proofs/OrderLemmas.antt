@@ -11,7 +11,7 @@ use Rattle.sqlite_keyed.proofs.ListLemmas.{IsPermutation-filter}
 use Rattle.sqlite_keyed.proofs.SortLemmas.{sorted_unique}
 use Rattle.fr_base.specs.TableRows.{first, second}
 use Rattle.fr_base.specs.Tables.{Order, Table}
-use Rattle.fr_store.specs.Changes.{AreListed}
+use Rattle.fr_tables.specs.Changes.{AreListed}
 
 less : (r : Ordering) → T (is_lt r) → r ≡ Less
 less Less h = refl

@@ -17,12 +17,12 @@ use Rattle.fr_base.specs.declared.name.Name.{Name}
 use Rattle.fr_base.proofs.TableLaws.{equal, get-insert, same_table}
 use Rattle.fr_world.specs.Fits.{IsOpen}
 use Rattle.fr_store.specs.Owning.{is_own, with_frame_rows, CopiesFrame, IsOwner}
-use Rattle.fr_store.specs.Changes.{tables_of}
+use Rattle.fr_tables.specs.Changes.{tables_of}
 use Rattle.fr_store.specs.Reading.{Stands}
-use Rattle.fr_store.specs.Rows.{FrameRow, PlacementRow, SignalRow}
-use Rattle.fr_store.specs.Statements.{is_frame, is_placement_of, is_signal_of, frame_for, placement_for, signal_for, placement_row, signal_row, frame_copies, placement_copies, signal_copies}
+use Rattle.fr_tables.specs.Rows.{FrameRow, PlacementRow, SignalRow}
+use Rattle.fr_tables.specs.Statements.{is_frame, is_placement_of, is_signal_of, frame_for, placement_for, signal_for, placement_row, signal_row, frame_copies, placement_copies, signal_copies}
 use Rattle.fr_store.specs.StandsFor.{StandsFor, Entry, of_frames, placement_rows, signal_rows, own_or, is_hidden, of_parent, seen}
-use Rattle.fr_store.specs.Tables.{Tables, tables_in}
+use Rattle.fr_tables.specs.Tables.{Tables, tables_in}
 use Rattle.fr_store.proofs.AgainLemmas.{still_stands}
 use Rattle.fr_store.proofs.ApartLemmas.{get-settle, get-settle_other, remove-settle}
 use Rattle.fr_store.proofs.FrameChanges.{one_row, Shows, as_dropped, frame_changed}

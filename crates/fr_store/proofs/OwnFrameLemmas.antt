@@ -23,10 +23,10 @@ use Rattle.fr_world.specs.Pages.{frame_data, frames_data, frame_of}
 use Rattle.fr_world.specs.declared.page.PageFrame.{PageFrame}
 use Rattle.fr_world.proofs.KeyLaws.{name_cmp, own_alike}
 use Rattle.fr_world.proofs.MapLaws.{table_of-insert_entry}
-use Rattle.fr_store.specs.Rows.{FrameRow}
-use Rattle.fr_store.specs.Tables.{Tables}
-use Rattle.fr_store.specs.Changes.{AreListed}
-use Rattle.fr_store.specs.Statements.{is_frame_of, shows_frame, frames_cmp}
+use Rattle.fr_tables.specs.Rows.{FrameRow}
+use Rattle.fr_tables.specs.Tables.{Tables}
+use Rattle.fr_tables.specs.Changes.{AreListed}
+use Rattle.fr_tables.specs.Statements.{is_frame_of, shows_frame, frames_cmp}
 use Rattle.fr_store.specs.StandsFor.{StandsFor, Entry, of_frames, frame_row}
 use Rattle.fr_store.specs.Reading.{name_shown}
 use Rattle.fr_store.specs.Paging.{TellsFrame, TellsFrames, node_shown}

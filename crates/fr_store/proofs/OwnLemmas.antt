@@ -18,10 +18,10 @@ use Rattle.fr_base.proofs.SoundRows.{same_text-is}
 use Rattle.fr_world.specs.Maps.{table_of, set_of}
 use Rattle.fr_world.specs.Pages.{holder_of}
 use Rattle.fr_world.specs.declared.page.ChannelSlot.{ChannelSlot}
-use Rattle.fr_store.specs.Rows.{GrantRow, words, number}
-use Rattle.fr_store.specs.Tables.{Tables}
-use Rattle.fr_store.specs.Changes.{AreListed}
-use Rattle.fr_store.specs.Statements.{is_node_of, shows_node, nodes_cmp, is_grant_of, shows_grant, any_order}
+use Rattle.fr_tables.specs.Rows.{GrantRow, words, number}
+use Rattle.fr_tables.specs.Tables.{Tables}
+use Rattle.fr_tables.specs.Changes.{AreListed}
+use Rattle.fr_tables.specs.Statements.{is_node_of, shows_node, nodes_cmp, is_grant_of, shows_grant, any_order}
 use Rattle.fr_store.specs.StandsFor.{StandsFor, node_row, grant_rows}
 use Rattle.fr_store.specs.Reading.{name_shown}
 use Rattle.fr_store.specs.Paging.{grant_shown}

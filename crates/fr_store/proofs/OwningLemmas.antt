@@ -16,11 +16,11 @@ use Rattle.fr_base.specs.Cluster.{Cluster}
 use Rattle.fr_base.specs.Book.{Frame, Variant, Book}
 use Rattle.fr_base.specs.declared.name.Name.{Name}
 use Rattle.fr_base.proofs.SoundRows.{same_text-is}
-use Rattle.fr_store.specs.Rows.{VariantRow, FrameRow, of_maybe, maybe_words}
-use Rattle.fr_store.specs.Tables.{Tables}
-use Rattle.fr_store.specs.Changes.{AreListed}
-use Rattle.fr_store.specs.Statements.{is_variant, is_frame, shows_variant, shows_frame, any_order}
-use Rattle.fr_store.specs.StandsFor.{StandsFor, Stored, variant_row, flag, own_or, of_parent, is_hidden, seen}
+use Rattle.fr_tables.specs.Rows.{VariantRow, FrameRow, of_maybe, maybe_words, flag}
+use Rattle.fr_tables.specs.Tables.{Tables}
+use Rattle.fr_tables.specs.Changes.{AreListed}
+use Rattle.fr_tables.specs.Statements.{is_variant, is_frame, shows_variant, shows_frame, any_order}
+use Rattle.fr_store.specs.StandsFor.{StandsFor, Stored, variant_row, own_or, of_parent, is_hidden, seen}
 use Rattle.fr_store.specs.Owning.{says_over, IsStoredSo, TellsLevel, is_own}
 use Rattle.fr_store.specs.declared.applying.level.Level.{Level}
 use Rattle.fr_store.proofs.FrameChanges.{one_row, frame_apart}

@@ -18,7 +18,7 @@ use Rattle.fr_world.specs.Pages.{FrameData, PageData, IsKept, compare_slots, fra
 use Rattle.fr_world.specs.declared.page.ChannelSlot.{ChannelSlot}
 use Rattle.fr_world.proofs.KeyLaws.{own_alike}
 use Rattle.fr_world.proofs.MapLaws.{rows-set_of, rows-table_of}
-use Rattle.fr_store.specs.Tables.{Tables}
+use Rattle.fr_tables.specs.Tables.{Tables}
 use Rattle.fr_store.specs.StandsFor.{StandsFor}
 use Rattle.fr_store.specs.Paging.{AreRowsIn, TellsNodes, TellsGrants, TellsRows, TellsView, page_of}
 use Rattle.fr_store.specs.declared.page.view.View.{View}

@@ -17,8 +17,8 @@ use Rattle.fr_base.specs.declared.channel.Channels.TheVariants.{A, AB, B}
 use Rattle.fr_base.specs.declared.name.Name.{Name}
 use Rattle.fr_base.specs.declared.placement.Placement.{Placement}
 use Rattle.fr_base.proofs.TableLaws.{equal}
-use Rattle.fr_store.specs.Rows.{PlacementRow}
-use Rattle.fr_store.specs.Statements.{is_placement, is_placement_of, placement_row}
+use Rattle.fr_tables.specs.Rows.{PlacementRow}
+use Rattle.fr_tables.specs.Statements.{is_placement, is_placement_of, placement_row}
 use Rattle.fr_store.specs.StandsFor.{placement_rows}
 use Rattle.fr_store.proofs.ApartLemmas.{insert_new}
 use Rattle.fr_store.proofs.FrameSections.{section}

@@ -7,7 +7,7 @@ use Rattle.sqlite.specs.Order.{Row}
 use Rattle.sqlite_trees.specs.Tree.{IsAscending}
 use Rattle.sqlite_keyed.proofs.ListLemmas.{map-map, filter-map, filter_all, all_of, ascending-map}
 use Rattle.fr_base.specs.Refusing.{◌>>=◌, ◌>>◌, ◌or◌, refuse◌when◌}
-use Rattle.fr_base.specs.Tables.{get, only}
+use Rattle.fr_base.specs.Tables.{only}
 use Rattle.fr_base.specs.Keys.{names, owned}
 use Rattle.fr_base.specs.Cluster.{Cluster}
 use Rattle.fr_base.specs.Book.{Book, Variant, is_of}
@@ -17,12 +17,12 @@ use Rattle.fr_world.specs.BookEdits.{variants_in}
 use Rattle.fr_world.specs.Common.{depth_after}
 use Rattle.fr_world.specs.Pages.{nodes_in}
 use Rattle.fr_world.specs.declared.variants.VariantRow as world
-use Rattle.fr_store.specs.Rows.{VariantRow, maybe_words, of_maybe}
-use Rattle.fr_store.specs.Tables.{Tables}
+use Rattle.fr_tables.specs.Rows.{VariantRow, maybe_words, of_maybe, flag}
+use Rattle.fr_tables.specs.Tables.{Tables}
 use Rattle.sqlite.specs.State.{State, IsUnchanged}
-use Rattle.fr_store.specs.Changes.{AreListed, Stays}
-use Rattle.fr_store.specs.Statements.{is_node_of, shows_node, nodes_cmp, shows_variant, variants_cmp, every}
-use Rattle.fr_store.specs.StandsFor.{StandsFor, node_row, variant_row, flag}
+use Rattle.fr_tables.specs.Changes.{AreListed, Stays}
+use Rattle.fr_tables.specs.Statements.{is_node_of, shows_node, nodes_cmp, shows_variant, variants_cmp, every}
+use Rattle.fr_store.specs.StandsFor.{StandsFor, node_row, variant_row}
 use Rattle.fr_store.specs.Reading.{name_shown, variant_shown}
 use Rattle.fr_store.proofs.OrderLemmas.{IsBefore, rises, rises_among, are_listed}
 

@@ -3,7 +3,7 @@ use Rattle.std.proofs.Common.{inl, inr, Ok, Err, Result, IfOk, IfErr}
 use Rattle.sqlite.specs.Order.{Row}
 use Rattle.sqlite.specs.State.{State, IsNotRun, IsUnchanged}
 use Rattle.sqlite.specs.declared.error.Error.{Error}
-use Rattle.fr_store.specs.Changes.{Stays}
+use Rattle.fr_tables.specs.Changes.{Stays}
 use Rattle.std.specs.Prelude.{ℕ, List, []}
 
 not_run : (old new : State) (sql : List ℕ) (params : Row) (e : Error) → IsNotRun old new sql params e → Stays old new

@@ -18,10 +18,10 @@ use Rattle.fr_base.specs.declared.key.Key.{Key}
 use Rattle.fr_base.specs.declared.params.RawParams.{RawParams}
 use Rattle.fr_base.proofs.ActorsLemmas.{row, supplier_rows}
 use Rattle.fr_base.proofs.SoundTables.{same_some}
-use Rattle.fr_store.specs.Rows.{SupplierRow}
-use Rattle.fr_store.specs.Tables.{Tables}
-use Rattle.fr_store.specs.Filling.{supplier_row}
-use Rattle.fr_store.specs.Statements.{cluster_row}
+use Rattle.fr_tables.specs.Rows.{SupplierRow}
+use Rattle.fr_tables.specs.Tables.{Tables}
+use Rattle.fr_tables.specs.Filling.{supplier_row}
+use Rattle.fr_tables.specs.Statements.{cluster_row}
 use Rattle.fr_store.specs.Store.{TellsOf}
 use Rattle.fr_store.proofs.OrderLemmas.{rises}
 

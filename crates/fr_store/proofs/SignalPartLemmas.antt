@@ -24,9 +24,9 @@ use Rattle.fr_base.specs.declared.params.Params.{Params}
 use Rattle.fr_base.specs.declared.refusal.Refusal.{Refusal}
 use Rattle.fr_base.specs.declared.signal.Order.{Order}
 use Rattle.fr_base.specs.declared.signal.Order.TheVariants.{Little, Big}
-use Rattle.fr_store.specs.Tables.{Tables}
-use Rattle.fr_store.specs.Changes.{AreListed}
-use Rattle.fr_store.specs.Statements.{signal_row, is_signal_of, shows_signal, signals_cmp, big_number}
+use Rattle.fr_tables.specs.Tables.{Tables}
+use Rattle.fr_tables.specs.Changes.{AreListed}
+use Rattle.fr_tables.specs.Statements.{signal_row, is_signal_of, shows_signal, signals_cmp, big_number}
 use Rattle.fr_store.specs.StandsFor.{StandsFor, Entry, signal_rows, seen, own_or, is_hidden, of_parent}
 use Rattle.fr_store.specs.Paging.{signal_shown}
 use Rattle.fr_store.proofs.FramePartLemmas.{is_it, all_or_none, of_one}

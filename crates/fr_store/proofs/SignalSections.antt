@@ -12,8 +12,8 @@ use Rattle.fr_base.specs.Layouts.{with_signal, without_signal}
 use Rattle.fr_base.specs.Names.{same_text}
 use Rattle.fr_base.specs.Signals.{SignalData}
 use Rattle.fr_base.specs.declared.name.Name.{Name}
-use Rattle.fr_store.specs.Rows.{SignalRow}
-use Rattle.fr_store.specs.Statements.{is_signal, is_signal_of, signal_row}
+use Rattle.fr_tables.specs.Rows.{SignalRow}
+use Rattle.fr_tables.specs.Statements.{is_signal, is_signal_of, signal_row}
 use Rattle.fr_store.specs.StandsFor.{signal_rows}
 use Rattle.fr_store.proofs.FrameSections.{section}
 use Rattle.fr_store.proofs.PlacementSections.{own_text}

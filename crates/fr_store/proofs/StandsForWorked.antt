@@ -16,7 +16,7 @@ use Rattle.fr_base.specs.declared.signal.Order.TheVariants.{Little}
 use Rattle.fr_base.proofs.WorkedRows.{cluster}
 use Rattle.fr_world.specs.BookEdits.{applied, all_applied, or_empty}
 use Rattle.fr_world.specs.declared.edit.Edit.TheVariants.{NewVariant, SetReleased, NewNode, Rows}
-use Rattle.fr_store.specs.Rows.{DroppedRow}
+use Rattle.fr_tables.specs.Rows.{DroppedRow}
 use Rattle.fr_store.specs.StandsFor.{Stored, node_row, variant_row, grant_rows, frame_row, placement_rows, signal_rows, of_frames, of_parent, seen}
 
 -- what the rows below unfold

@@ -8,8 +8,8 @@ use Rattle.fr_base.specs.Cluster.{Cluster}
 use Rattle.fr_base.specs.declared.name.Name.{Name}
 use Rattle.fr_base.proofs.SoundTables.{same_some, same_key}
 use Rattle.fr_base.proofs.TableLaws.{equal, get-insert, same_table}
-use Rattle.fr_store.specs.Rows.{DroppedRow}
-use Rattle.fr_store.specs.Tables.{Tables}
+use Rattle.fr_tables.specs.Rows.{DroppedRow}
+use Rattle.fr_tables.specs.Tables.{Tables}
 use Rattle.fr_store.specs.StandsFor.{StandsFor, Stored, HasItsParent, IsAsStored, of_parent, own_or, is_hidden, seen}
 
 -- the variant is the same but for its grants and its release

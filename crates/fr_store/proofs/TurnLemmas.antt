@@ -12,7 +12,7 @@ use Rattle.std.specs.FinMap.Entries.{find, is_sorted, below_all}
 use Rattle.std.proofs.lemmas.List.{reverse-append}
 use Rattle.sqlite.specs.Order.{Row}
 use Rattle.sqlite_keyed.proofs.ListLemmas.{map-map}
-use Rattle.fr_store.specs.Changes.{AreListed}
+use Rattle.fr_tables.specs.Changes.{AreListed}
 use Rattle.std.proofs.lemmas.List.Elements.{recursion_from_All, All-from_recursion}
 use Rattle.std.proofs.lemmas.List.Sorted.{All-permutation, IsPermutation-sym, IsPermutation-trans, IsPermutation-map, IsPermutation-reverse}
 use Rattle.std.proofs.Math.Seq.{take-suc}

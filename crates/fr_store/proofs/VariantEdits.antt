@@ -20,10 +20,10 @@ use Rattle.fr_base.proofs.TableLaws.{equal}
 use Rattle.fr_world.specs.BookEdits.{applied}
 use Rattle.fr_world.specs.declared.edit.Edit.{Edit}
 use Rattle.fr_world.specs.declared.edit.Edit.TheVariants.{SetReleased, Rows}
-use Rattle.fr_store.specs.Rows.{VariantRow, GrantRow}
-use Rattle.fr_store.specs.Tables.{Tables}
-use Rattle.fr_store.specs.Changes.{Changes, Stays, tables_of}
-use Rattle.fr_store.specs.Statements.{with_grant, without_grant, with_released, is_grant_at, is_variant, released_row}
+use Rattle.fr_tables.specs.Rows.{VariantRow, GrantRow}
+use Rattle.fr_tables.specs.Tables.{Tables}
+use Rattle.fr_tables.specs.Changes.{Changes, Stays, tables_of}
+use Rattle.fr_tables.specs.Statements.{with_grant, without_grant, with_released, is_grant_at, is_variant, released_row}
 use Rattle.fr_store.specs.StandsFor.{StandsFor, Stored, Entry, of_frames, IsAsStored, variant_row, grant_rows, frame_row, placement_rows, signal_rows}
 use Rattle.fr_store.specs.Reading.{Stands}
 use Rattle.fr_store.proofs.ApplyLemmas.{put_new}

@@ -30,11 +30,11 @@ use Rattle.fr_world.specs.Pages.{frame_of, frames_data}
 use Rattle.fr_world.specs.declared.page.PageFrame.{PageFrame}
 use Rattle.fr_world.proofs.AmendLaws.{get_frame}
 use Rattle.fr_world.proofs.KeyLaws.{name_cmp}
-use Rattle.fr_store.specs.Rows.{VariantRow, DroppedRow, maybe_words, of_maybe}
-use Rattle.fr_store.specs.Tables.{Tables}
-use Rattle.fr_store.specs.Changes.{AreListed}
-use Rattle.fr_store.specs.Statements.{any_order, is_variant, shows_variant, is_dropped, is_dropped_by, shows_dropped, dropped_cmp}
-use Rattle.fr_store.specs.StandsFor.{StandsFor, Stored, variant_row, flag, seen, own_or, of_parent}
+use Rattle.fr_tables.specs.Rows.{VariantRow, DroppedRow, maybe_words, of_maybe, flag}
+use Rattle.fr_tables.specs.Tables.{Tables}
+use Rattle.fr_tables.specs.Changes.{AreListed}
+use Rattle.fr_tables.specs.Statements.{any_order, is_variant, shows_variant, is_dropped, is_dropped_by, shows_dropped, dropped_cmp}
+use Rattle.fr_store.specs.StandsFor.{StandsFor, Stored, variant_row, seen, own_or, of_parent}
 use Rattle.fr_store.specs.Reading.{name_shown}
 use Rattle.fr_store.specs.Paging.{TellsLevel, TellsOver, TellsView, TellsFrames, laid_over, level_shown}
 use Rattle.fr_store.specs.declared.page.view.Level.{Level}

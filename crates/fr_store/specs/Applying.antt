@@ -13,8 +13,8 @@ use Rattle.fr_world.specs.declared.edit.Edit.TheVariants.{Rows}
 use Rattle.fr_store.specs.Reading.{Stands}
 use Rattle.fr_store.specs.Store.{IsRegisterFor}
 use Rattle.fr_store.specs.StoreFiles.{database_of}
-use Rattle.fr_store.specs.Tables.{Tables, HasTables}
-use Rattle.fr_store.specs.Changes.{tables_of}
+use Rattle.fr_tables.specs.Tables.{Tables, HasTables}
+use Rattle.fr_tables.specs.Changes.{tables_of}
 use Rattle.fr_store.specs.FrameEdits.{OwnIfChanged}
 use Rattle.fr_store.specs.Owning.{IsStoredSo}
 use Rattle.fr_store.specs.declared.applying.seen.Seen.{Seen}

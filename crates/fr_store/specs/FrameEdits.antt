@@ -11,9 +11,9 @@ use Rattle.fr_base.specs.declared.request.FrameChange.TheVariants.{Add, Drop, Pl
 use Rattle.fr_world.specs.BookEdits.{applied}
 use Rattle.fr_world.specs.Fits.{IsOpen}
 use Rattle.fr_world.specs.declared.edit.Edit.TheVariants.{Rows}
-use Rattle.fr_store.specs.Changes.{tables_of}
+use Rattle.fr_tables.specs.Changes.{tables_of}
 use Rattle.fr_store.specs.Reading.{Stands}
-use Rattle.fr_store.specs.Tables.{Tables}
+use Rattle.fr_tables.specs.Tables.{Tables}
 use Rattle.fr_store.specs.Owning.{is_own}
 
 -- a frame and a placement that are added are new, and a frame that is changed or dropped is there; `there` is what stands at the frame's name

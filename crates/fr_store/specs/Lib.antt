@@ -1,12 +1,4 @@
-pub mod SchemaText
-pub mod Schema
-pub mod Rows
-pub mod Tables
-pub mod Changes
-pub mod Statements
-pub mod Making
 pub mod Opening
-pub mod Filling
 pub mod Store
 pub mod StoreFiles
 pub mod StandsFor

@@ -8,12 +8,12 @@ use Rattle.fr_base.specs.Cluster.{Cluster}
 use Rattle.fr_base.specs.Book.{Frame, Variant, Book}
 use Rattle.fr_base.specs.declared.name.Name.{Name}
 use Rattle.fr_world.specs.Fits.{IsOpen}
-use Rattle.fr_store.specs.Changes.{Changes, tables_of}
+use Rattle.fr_tables.specs.Changes.{Changes, tables_of}
 use Rattle.fr_store.specs.Reading.{Stands}
-use Rattle.fr_store.specs.Rows.{VariantRow, FrameRow, PlacementRow, SignalRow}
-use Rattle.fr_store.specs.StandsFor.{StandsFor, flag}
-use Rattle.fr_store.specs.Statements.{is_variant, is_frame, frame_copies, placement_copies, signal_copies}
-use Rattle.fr_store.specs.Tables.{Tables, HasTables}
+use Rattle.fr_tables.specs.Rows.{VariantRow, FrameRow, PlacementRow, SignalRow, flag}
+use Rattle.fr_store.specs.StandsFor.{StandsFor}
+use Rattle.fr_tables.specs.Statements.{is_variant, is_frame, frame_copies, placement_copies, signal_copies}
+use Rattle.fr_tables.specs.Tables.{Tables, HasTables}
 use Rattle.fr_store.specs.declared.applying.level.Level.{Level}
 
 -- ---- how a variant is stored

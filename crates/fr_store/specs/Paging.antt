@@ -19,10 +19,10 @@ use Rattle.fr_base.specs.declared.placement.Placement.{Placement}
 use Rattle.fr_world.specs.Maps.{table_of, set_of}
 use Rattle.fr_world.specs.Pages.{FrameData, PageData, frame_of, frames_data, holder_of, own_rows_of, page_in}
 use Rattle.fr_world.specs.declared.page.ChannelSlot.{ChannelSlot}
-use Rattle.fr_store.specs.Rows.{words, maybe_words, number}
-use Rattle.fr_store.specs.Tables.{Tables, HasTables}
-use Rattle.fr_store.specs.Changes.{Stays, AreListed, tables_of}
-use Rattle.fr_store.specs.Statements.{is_frame_of, shows_frame, frames_cmp, is_placed_by, shows_placement, placements_cmp, is_signalled_by, shows_signal, signals_cmp}
+use Rattle.fr_tables.specs.Rows.{words, maybe_words, number}
+use Rattle.fr_tables.specs.Tables.{Tables, HasTables}
+use Rattle.fr_tables.specs.Changes.{Stays, AreListed, tables_of}
+use Rattle.fr_tables.specs.Statements.{is_frame_of, shows_frame, frames_cmp, is_placed_by, shows_placement, placements_cmp, is_signalled_by, shows_signal, signals_cmp}
 use Rattle.fr_store.specs.StandsFor.{Stored, StandsFor}
 use Rattle.fr_store.specs.declared.page.frames.FrameRows.{FrameRows}
 use Rattle.fr_store.specs.declared.page.view.Level.{Level}

@@ -12,10 +12,10 @@ use Rattle.fr_base.specs.declared.limits.TheConstants.{MAX_VARIANTS}
 use Rattle.fr_base.specs.declared.name.Name.{Name}
 use Rattle.fr_world.specs.Common.{depth_after}
 use Rattle.fr_world.specs.declared.variants.VariantRow.{VariantRow}
-use Rattle.fr_store.specs.Rows.{words, number, bytes, maybe_words}
-use Rattle.fr_store.specs.Tables.{Tables, HasTables}
-use Rattle.fr_store.specs.Changes.{Stays, AreListed, tables_of}
-use Rattle.fr_store.specs.Statements.{shows_variant, every, variants_cmp}
+use Rattle.fr_tables.specs.Rows.{words, number, bytes, maybe_words}
+use Rattle.fr_tables.specs.Tables.{Tables, HasTables}
+use Rattle.fr_tables.specs.Changes.{Stays, AreListed, tables_of}
+use Rattle.fr_tables.specs.Statements.{shows_variant, every, variants_cmp}
 use Rattle.fr_store.specs.StandsFor.{StandsFor}
 use Rattle.fr_store.specs.declared.slot_holder.Holder.{Holder}
 

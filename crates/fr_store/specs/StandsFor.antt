@@ -1,5 +1,5 @@
 -- When the tables stand for a cluster file and a book.
-use Rattle.std.specs.Prelude.{◌≡◌, ℕ, suc, ℤ, pos, Bool, not, ◌||◌, List, [], ◌∷◌, map, Option, Some, None, IsTrue, IsPermutation, IsSorted, All, ⊤, if◌then◌else◌}
+use Rattle.std.specs.Prelude.{◌≡◌, ℕ, suc, pos, Bool, not, ◌||◌, List, [], ◌∷◌, map, Option, Some, None, IsTrue, IsPermutation, IsSorted, All, ⊤, if◌then◌else◌}
 use Rattle.std.specs.List.{flat_map, list_any}
 use Rattle.std.specs.Ordering.{on, nat_cmp}
 use Rattle.fr_base.specs.Tables.{Table, get, contains}
@@ -9,11 +9,11 @@ use Rattle.fr_base.specs.Cluster.{Cluster}
 use Rattle.fr_base.specs.Book.{Frame, Variant, Kept, Book, suppliers_of}
 use Rattle.fr_base.specs.Queries.{placements_in}
 use Rattle.fr_base.specs.declared.name.Name.{Name}
-use Rattle.fr_store.specs.Rows.{NodeRow, VariantRow, GrantRow, FrameRow, PlacementRow, SignalRow, ImportRow, DroppedRow}
-use Rattle.fr_store.specs.Tables.{Tables}
-use Rattle.fr_store.specs.Statements.{cluster_row, placement_row, signal_row, is_dropped}
-use Rattle.fr_store.specs.Filling.{supplier_row}
-use Rattle.fr_store.specs.Opening.{numbered, our_schema_number}
+use Rattle.fr_tables.specs.Rows.{flag, NodeRow, VariantRow, GrantRow, FrameRow, PlacementRow, SignalRow, ImportRow, DroppedRow}
+use Rattle.fr_tables.specs.Tables.{Tables}
+use Rattle.fr_tables.specs.Statements.{cluster_row, placement_row, signal_row, is_dropped}
+use Rattle.fr_tables.specs.Filling.{supplier_row}
+use Rattle.fr_tables.specs.Asking.{numbered, our_schema_number}
 
 -- ---- how variants are stored
 
@@ -26,10 +26,6 @@ pub record Stored : Type 0 where
 
 abbrev pub node_row : (Name × Name) × ⊤ → NodeRow
 node_row e = record { supplier = e.0.0; name = e.0.1 }
-
--- 1 where it is so, else 0
-abbrev pub flag : Bool → ℤ
-flag is = if is then pos 1 else pos 0
 
 abbrev pub variant_row : (Name → Stored) → Name × Variant → VariantRow
 variant_row stored e =

@@ -1,24 +1,19 @@
 -- A register as it is made and found: its tables, and the cluster of which they tell.
 use Rattle.std.specs.Prelude.{◌≡◌, ℕ, [], ◌∷◌, List, Bool, false, map, IsTrue, IsPermutation, Result, MatchResult, ⊤}
-use Rattle.std.specs.List.{list_all, list_any, AllByRecursion}
+use Rattle.std.specs.List.{list_any}
 use Rattle.sqlite.specs.Table.{Table}
 use Rattle.sqlite.specs.Schema.{Schema}
-use Rattle.sqlite.specs.Order.{Row}
-use Rattle.sqlite.specs.Tree.{Trees, IsTable, rowid}
 use Rattle.sqlite.specs.Effect.{Database}
 use Rattle.sqlite.specs.State.{State, Shows, HasCleanDisk, KeepsCommit}
 use Rattle.sqlite_schema.specs.Names.{same_name}
-use Rattle.sqlite_trees.specs.View.{is_int}
-use Rattle.fr_base.specs.declared.config.Supplier.{Supplier}
 use Rattle.fr_base.specs.Cluster.{Cluster, IsWellFormed}
 use Rattle.fr_base.specs.Book.{Book}
-use Rattle.fr_base.specs.Names.{is_name, is_key}
-use Rattle.fr_store.specs.Schema.{all_tables}
-use Rattle.fr_store.specs.Tables.{Tables, HasTables, tables_in}
-use Rattle.fr_store.specs.Statements.{cluster_row, shows_supplier}
-use Rattle.fr_store.specs.Filling.{supplier_row, with_config}
-use Rattle.fr_store.specs.Making.{IsFresh, no_rows}
-use Rattle.fr_store.specs.Opening.{numbered, our_schema_number}
+use Rattle.fr_tables.specs.Schema.{all_tables}
+use Rattle.fr_tables.specs.Tables.{Tables, HasTables, tables_in}
+use Rattle.fr_tables.specs.Statements.{cluster_row}
+use Rattle.fr_tables.specs.Filling.{supplier_row, with_config}
+use Rattle.fr_tables.specs.Making.{IsFresh, no_rows}
+use Rattle.fr_tables.specs.Asking.{numbered, our_schema_number}
 use Rattle.fr_store.specs.StandsFor.{StandsFor}
 use Rattle.fr_store.specs.Reading.{Stands}
 use Rattle.fr_store.specs.declared.fault.StoreFault.{StoreFault}
@@ -26,22 +21,11 @@ use Rattle.fr_store.specs.declared.fault.StoreFault.TheVariants.{NotEmpty, NotAR
 
 -- ---- of which cluster the tables tell
 
-abbrev pub shown_supplier : Supplier → Row
-shown_supplier s = shows_supplier (supplier_row s)
-
--- each name and each key has its form
-abbrev pub AreFormed : List Supplier → Type 0
-AreFormed list = IsTrue (list_all (λ s. is_name s.name) list) × IsTrue (list_all (λ s. is_key s.key) list)
-
 -- the tables tell the number of this schema, and of this cluster and its suppliers
 pub record TellsOf (c : Cluster) (t : Tables) : Type 0 where
   pub register : t.register ≡ numbered our_schema_number ∷ []
   pub cluster : t.cluster ≡ cluster_row c.params c.integrator ∷ []
   pub suppliers : IsPermutation (map supplier_row c.suppliers) t.suppliers
-
--- the rows of each table have numbers that rise
-abbrev pub AreOrdered : Trees → Type 0
-AreOrdered db = AllByRecursion (λ t. IsTable (db t.tree) × AllByRecursion (λ r. IsTrue (is_int (rowid r))) (db t.tree)) all_tables
 
 -- the database is a register of this cluster
 pub record IsRegisterOf (c : Cluster) (db : Database) : Type 0 where

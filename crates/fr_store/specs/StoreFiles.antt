@@ -13,9 +13,9 @@ use Rattle.sqlite.specs.Tree.{Trees}
 use Rattle.sqlite_wal.specs.Recovery.{Image}
 use Rattle.fr_base.specs.Cluster.{Cluster, IsWellFormed}
 use Rattle.fr_base.specs.Book.{Book}
-use Rattle.fr_store.specs.Schema.{register_schema}
+use Rattle.fr_tables.specs.Schema.{register_schema}
 use Rattle.fr_store.specs.StandsFor.{StandsFor}
-use Rattle.fr_store.specs.Tables.{tables_in}
+use Rattle.fr_tables.specs.Tables.{tables_in}
 use Rattle.fr_store.specs.Reading.{Stands}
 use Rattle.fr_store.specs.Store.{IsRegisterOf, IsRegisterFor}
 

@@ -6,9 +6,9 @@ ghost use Rattle.sqlite.specs.Held.{state};
 ghost use Rattle.fr_world.specs.BookEdits.{all_applied};
 ghost use Rattle.fr_world.specs.Fits.{AllFit};
 ghost use Rattle.fr_store.specs.Applying.{CarriesOutAll, LeavesAll, StaysInside};
-ghost use Rattle.fr_store.specs.Opening.{AreAsBefore};
+ghost use Rattle.fr_tables.specs.Asking.{AreAsBefore};
 ghost use Rattle.fr_store.specs.Reading.{Stands};
-ghost use Rattle.fr_store.specs.Tables.{HasTables};
+ghost use Rattle.fr_tables.specs.Tables.{HasTables};
 ghost use Rattle.fr_store.specs.declared.fault.StoreFault.TheVariants.{Unavailable};
 
 use crate::applying::edits::carry_out;
@@ -83,6 +83,3 @@ impl<S: Alter> Store<S> {
         in_one(&mut self.conn, edits)
     }
 }
-
-#[cfg(test)]
-mod tests;

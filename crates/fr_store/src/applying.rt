@@ -6,9 +6,9 @@ ghost use Rattle.sqlite.specs.Held.{state};
 ghost use Rattle.fr_base.specs.Tables.{get};
 ghost use Rattle.fr_world.specs.BookEdits.{applied};
 ghost use Rattle.fr_world.specs.declared.edit.Edit.TheVariants.{NewNode};
-ghost use Rattle.fr_store.specs.Changes.{Makes};
+ghost use Rattle.fr_tables.specs.Changes.{Makes};
 ghost use Rattle.fr_store.specs.Reading.{Stands};
-ghost use Rattle.fr_store.specs.Statements.{with_node};
+ghost use Rattle.fr_tables.specs.Statements.{with_node};
 
 pub mod edits;
 pub mod frames;
@@ -20,8 +20,8 @@ pub mod ready;
 pub mod seen;
 pub mod variants;
 
-use crate::tables;
 use fr_base::Name;
+use fr_tables::tables;
 use sqlite::{Alter, Error, Transaction};
 
 /// Adds a node of the supplier.

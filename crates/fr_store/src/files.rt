@@ -7,21 +7,21 @@ ghost use Rattle.sqlite.specs.Effect.{IsDatabase};
 ghost use Rattle.sqlite.specs.State.{HasCleanDisk, Opens, IsLive};
 ghost use Rattle.sqlite.specs.Files.{file_state, image_of, HoldsDatabase};
 ghost use Rattle.fr_base.specs.Book.{opening};
-ghost use Rattle.fr_store.specs.Schema.{register_schema};
-ghost use Rattle.fr_store.specs.Filling.{with_config};
-ghost use Rattle.fr_store.specs.Making.{no_rows};
+ghost use Rattle.fr_tables.specs.Schema.{register_schema};
+ghost use Rattle.fr_tables.specs.Filling.{with_config};
+ghost use Rattle.fr_tables.specs.Making.{no_rows};
 ghost use Rattle.fr_store.specs.Opening.{Explains};
-ghost use Rattle.fr_store.specs.Changes.{tables_of};
+ghost use Rattle.fr_tables.specs.Changes.{tables_of};
 ghost use Rattle.fr_store.specs.Reading.{Stands, TellsOpened};
-ghost use Rattle.fr_store.specs.Store.{AreOrdered, IsNewOf, IsRegisterOf, MayForbid};
+ghost use Rattle.fr_tables.specs.Tables.{AreOrdered, tables_in};
+ghost use Rattle.fr_store.specs.Store.{IsNewOf, IsRegisterOf, MayForbid};
 ghost use Rattle.fr_store.specs.StoreFiles.{HoldsRegister, KeepsBook, FindsBook, IsHeld, SurvivesSince, database_of};
-ghost use Rattle.fr_store.specs.Tables.{tables_in};
 ghost use Rattle.fr_store.specs.declared.fault.StoreFault.TheVariants as fault;
 
 use crate::fault::StoreFault;
-use crate::settle::settle;
 use crate::store::Store;
 use fr_base::Config;
+use fr_tables::settle::settle;
 use sqlite::{Connection, Error, ErrorCode, FileStore, Files, Options};
 use sqlite_disk::Disk;
 use std::alloc::Global;
@@ -158,6 +158,3 @@ impl<D: Disk + Drop> Store<FileStore<D>> {
         }
     }
 }
-
-#[cfg(test)]
-mod tests;

@@ -7,7 +7,7 @@ ghost use Rattle.fr_base.specs.Tables.{get, len};
 ghost use Rattle.fr_world.specs.BookEdits.{variants_in};
 ghost use Rattle.fr_world.specs.ImportLabels.{kept_of};
 ghost use Rattle.fr_world.specs.Pages.{nodes_in};
-ghost use Rattle.fr_store.specs.Changes.{Spares};
+ghost use Rattle.fr_tables.specs.Changes.{Spares};
 ghost use Rattle.fr_store.specs.Paging.{page_of};
 ghost use Rattle.fr_store.specs.Reading.{AreOpened, Leaves, Tells, as_holder, holder_in};
 ghost use Rattle.fr_store.specs.declared.fault.StoreFault.TheVariants.{Unavailable};

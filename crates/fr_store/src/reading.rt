@@ -8,15 +8,15 @@ ghost use Rattle.fr_world.specs.BookEdits.{variants_in};
 ghost use Rattle.fr_world.specs.Common.{row_of};
 ghost use Rattle.fr_world.specs.ImportLabels.{kept_of};
 ghost use Rattle.fr_world.specs.Pages.{nodes_in};
-ghost use Rattle.fr_store.specs.Changes.{Spares};
+ghost use Rattle.fr_tables.specs.Changes.{Spares};
 ghost use Rattle.fr_store.specs.Reading.{AreOpened, Leaves, Tells, WasOpened, as_holder, holder_in, holder_shown, import_shown, name_shown, variant_shown};
 ghost use Rattle.fr_store.specs.declared.fault.StoreFault.TheVariants.{Unavailable};
 
 use crate::fault::StoreFault;
 use crate::slot_holder::Holder;
-use crate::tables;
-use crate::values::{body_at, flag_at, maybe_name_at, name_at, number_at};
 use fr_base::{Channel, MAX_DEPTH, MAX_VARIANTS, Name, Slot};
+use fr_tables::tables;
+use fr_tables::values::{body_at, flag_at, maybe_name_at, name_at, number_at};
 use fr_world::{KeptImport, VariantRow};
 use sqlite::{Alter, Connection, Row};
 use std::alloc::Global;

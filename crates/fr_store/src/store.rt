@@ -3,7 +3,7 @@
 ghost use Rattle.std.specs.Prelude.{◌≡◌, IsTrue, false};
 ghost use Rattle.sqlite.specs.Held.{state};
 ghost use Rattle.sqlite.specs.State.{HasCleanDisk, IsUnchanged, Survives};
-ghost use Rattle.fr_store.specs.Changes.{Stays};
+ghost use Rattle.fr_tables.specs.Changes.{Stays};
 
 use fr_base::Config;
 use sqlite::{Alter, Connection};

@@ -5,13 +5,13 @@ ghost use Rattle.sqlite.specs.State.{Survives};
 ghost use Rattle.sqlite.specs.Held.{state};
 ghost use Rattle.fr_base.specs.declared.request.FrameChange.TheVariants.{Add, Drop, Place, Unplace, AddSignal, DropSignal};
 ghost use Rattle.fr_store.specs.Applying.{StaysInside};
-ghost use Rattle.fr_store.specs.Changes.{Makes, tables_of};
+ghost use Rattle.fr_tables.specs.Changes.{Makes, tables_of};
 ghost use Rattle.fr_store.specs.FrameEdits.{EditsFrame};
 ghost use Rattle.fr_store.specs.Owning.{IsStoredSo};
-ghost use Rattle.fr_store.specs.Statements.{with_frame, with_placement, without_placement, with_signal, without_signal, placement_row, signal_row};
+ghost use Rattle.fr_tables.specs.Statements.{with_frame, with_placement, without_placement, with_signal, without_signal, placement_row, signal_row};
 
-use crate::tables;
 use fr_base::{Name, Placement, Signal};
+use fr_tables::tables;
 use sqlite::{Alter, Error, Transaction};
 
 /// Adds a frame, which the node sends.

@@ -8,12 +8,12 @@ ghost use Rattle.fr_base.specs.Tables.{get};
 ghost use Rattle.fr_base.specs.declared.request.Change.TheVariants as change;
 ghost use Rattle.fr_world.specs.BookEdits.{applied};
 ghost use Rattle.fr_world.specs.declared.edit.Edit.TheVariants.{Rows};
-ghost use Rattle.fr_store.specs.Changes.{Makes};
+ghost use Rattle.fr_tables.specs.Changes.{Makes};
 ghost use Rattle.fr_store.specs.Reading.{Stands};
-ghost use Rattle.fr_store.specs.Statements.{with_grant, without_grant};
+ghost use Rattle.fr_tables.specs.Statements.{with_grant, without_grant};
 
-use crate::tables;
 use fr_base::{Channel, Name, Slot};
+use fr_tables::tables;
 use sqlite::{Alter, Error, Transaction};
 
 /// Grants a slot on a channel, which nobody holds, to the supplier's node.

@@ -6,12 +6,12 @@ ghost use Rattle.sqlite.specs.Held.{state};
 ghost use Rattle.fr_base.specs.Tables.{get};
 ghost use Rattle.fr_world.specs.BookEdits.{applied};
 ghost use Rattle.fr_world.specs.declared.edit.Edit.TheVariants.{KeepImport};
-ghost use Rattle.fr_store.specs.Changes.{Makes};
+ghost use Rattle.fr_tables.specs.Changes.{Makes};
 ghost use Rattle.fr_store.specs.Reading.{Stands};
-ghost use Rattle.fr_store.specs.Statements.{with_import};
+ghost use Rattle.fr_tables.specs.Statements.{with_import};
 
-use crate::tables;
 use fr_base::{Body, Name};
+use fr_tables::tables;
 use sqlite::{Alter, Error, Transaction};
 
 /// Keeps the supplier's import, with the number of its rows.

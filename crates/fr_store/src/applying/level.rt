@@ -7,14 +7,13 @@ ghost use Rattle.sqlite.specs.Held.{state};
 ghost use Rattle.sqlite.specs.declared.types.Value.TheVariants.{Int};
 ghost use Rattle.fr_store.specs.Owning.{TellsLevel};
 ghost use Rattle.fr_store.specs.Paging.{Reads};
-ghost use Rattle.fr_store.specs.Rows.{of_maybe};
-ghost use Rattle.fr_store.specs.StandsFor.{flag};
+ghost use Rattle.fr_tables.specs.Rows.{of_maybe, flag};
 ghost use Rattle.fr_store.specs.declared.fault.StoreFault.TheVariants.{Unavailable};
 
 use crate::fault::StoreFault;
-use crate::tables;
-use crate::values::{flag_at, maybe_name_at};
 use fr_base::Name;
+use fr_tables::tables;
+use fr_tables::values::{flag_at, maybe_name_at};
 use sqlite::{Alter, Row, Transaction};
 
 /// A variant's parent, and whether the variant is stored over it.

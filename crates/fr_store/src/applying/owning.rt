@@ -10,8 +10,8 @@ ghost use Rattle.fr_store.specs.declared.fault.StoreFault.TheVariants.{Unavailab
 
 use crate::applying::level::read_level;
 use crate::fault::StoreFault;
-use crate::tables;
 use fr_base::{MAX_DEPTH, Name};
+use fr_tables::tables;
 use sqlite::{Alter, Error, Transaction};
 
 /// Whether the frame is the variant's own.

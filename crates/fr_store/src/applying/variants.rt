@@ -8,12 +8,12 @@ ghost use Rattle.fr_base.specs.Tables.{get};
 ghost use Rattle.fr_world.specs.BookEdits.{applied};
 ghost use Rattle.fr_world.specs.declared.edit.Edit.TheVariants.{NewVariant, SetReleased};
 ghost use Rattle.fr_store.specs.Applying.{StaysInside};
-ghost use Rattle.fr_store.specs.Changes.{Makes};
+ghost use Rattle.fr_tables.specs.Changes.{Makes};
 ghost use Rattle.fr_store.specs.Reading.{Stands};
-ghost use Rattle.fr_store.specs.Statements.{with_variant, with_released};
+ghost use Rattle.fr_tables.specs.Statements.{with_variant, with_released};
 
-use crate::tables;
 use fr_base::Name;
+use fr_tables::tables;
 use sqlite::{Alter, Error, Transaction};
 
 /// Opens the variant empty.

@@ -3,7 +3,7 @@ use Rattle.sqlite.specs.State.{HasCleanDisk}
 use Rattle.sqlite.specs.Held.{state}
 use Rattle.fr_world.specs.declared.edit.Edit.{Edit}
 use Rattle.fr_store.proofs.EditSteps.{has_still, one_more, all_come}
-use Rattle.fr_store.proofs.FillLemmas.{survives_both}
+use Rattle.fr_tables.proofs.FillLemmas.{survives_both}
 use Rattle.fr_store.proofs.apply.all.Goals as goal
 
 pub loop-edit-preserved : goal.loop-edit-preserved

@@ -1,11 +1,11 @@
 use Rattle.std.proofs.Common.{arith, refl, sym, subst, map, IfSome}
 use Rattle.std.specs.List.Sorted.{IsPermutation}
 use Rattle.sqlite.specs.Effect.{Database}
-use Rattle.fr_store.specs.Filling.{supplier_row}
+use Rattle.fr_tables.specs.Filling.{supplier_row}
 use Rattle.sqlite.specs.State.{HasCleanDisk}
 use Rattle.sqlite.specs.Held.{state}
-use Rattle.fr_store.specs.Tables.{HasTables, tables_in}
-use Rattle.fr_store.specs.Changes.{tables_of}
+use Rattle.fr_tables.specs.Tables.{HasTables, tables_in}
+use Rattle.fr_tables.specs.Changes.{tables_of}
 use Rattle.fr_store.proofs.OpenLemmas.{one_cluster, all_suppliers}
 use Rattle.fr_store.proofs.opening.config.Goals as goal
 

@@ -2,10 +2,10 @@ use Rattle.std.proofs.Common.{rules, ◌≡◌, ◌∙◌, arith, sym, subst}
 use Rattle.sqlite.specs.State.{HasCleanDisk}
 use Rattle.sqlite.specs.Effect.{Database}
 use Rattle.sqlite.specs.Held.{state}
-use Rattle.fr_store.specs.Schema.{register_schema}
-use Rattle.fr_store.specs.Opening.{our_schema_number}
-use Rattle.fr_store.specs.Store.{AreOrdered}
-use Rattle.fr_store.proofs.TypedLemmas.{has_tables}
+use Rattle.fr_tables.specs.Schema.{register_schema}
+use Rattle.fr_tables.specs.Asking.{our_schema_number}
+use Rattle.fr_tables.specs.Tables.{AreOrdered}
+use Rattle.fr_tables.proofs.TypedLemmas.{has_tables}
 use Rattle.fr_store.proofs.OpenLemmas.{register_found}
 use Rattle.fr_store.proofs.opening.recognized.Goals as goal
 

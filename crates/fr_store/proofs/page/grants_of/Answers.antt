@@ -3,7 +3,7 @@ use Rattle.fr_base.specs.Keys.{channel_slots}
 use Rattle.fr_base.specs.declared.channel.Channel.TheVariants.{A}
 use Rattle.fr_world.specs.Maps.{table_of}
 use Rattle.fr_world.specs.Pages.{holder_of}
-use Rattle.fr_store.specs.Rows.{words, number}
+use Rattle.fr_tables.specs.Rows.{words, number}
 use Rattle.fr_store.specs.Paging.{grant_shown}
 use Rattle.fr_store.proofs.TurnLemmas.{turned, grant_in}
 use Rattle.fr_store.proofs.page.grants_of.Goals as goal

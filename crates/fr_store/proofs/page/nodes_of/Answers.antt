@@ -1,7 +1,7 @@
 use Rattle.std.proofs.Common.{rules, ◌∙◌, ◌∷◌, map, reverse, take, sym, ap}
 use Rattle.fr_base.specs.Keys.{owned}
 use Rattle.fr_world.specs.Maps.{set_of}
-use Rattle.fr_store.specs.Rows.{words}
+use Rattle.fr_tables.specs.Rows.{words}
 use Rattle.fr_store.specs.Reading.{name_shown}
 use Rattle.fr_store.proofs.TurnLemmas.{turned, node_in}
 use Rattle.fr_store.proofs.page.nodes_of.Goals as goal

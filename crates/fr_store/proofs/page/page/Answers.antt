@@ -1,7 +1,7 @@
 use Rattle.std.proofs.Common.{rules, ◌≡◌, subst, option_map}
 use Rattle.sqlite.specs.Held.{state}
 use Rattle.fr_world.specs.Pages.{IsKept, rows_data}
-use Rattle.fr_store.specs.Changes.{tables_of}
+use Rattle.fr_tables.specs.Changes.{tables_of}
 use Rattle.fr_store.specs.Paging.{TellsRows}
 use Rattle.fr_store.proofs.PageLemmas.{none_told, page_told}
 use Rattle.fr_store.proofs.page.page.Goals as goal

@@ -1,8 +1,8 @@
 use Rattle.std.proofs.Common.{arith, subst}
 use Rattle.sqlite.specs.State.{State, HasCleanDisk}
 use Rattle.sqlite.specs.Held.{state}
-use Rattle.fr_store.specs.Tables.{Tables}
-use Rattle.fr_store.specs.Changes.{tables_of}
+use Rattle.fr_tables.specs.Tables.{Tables}
+use Rattle.fr_tables.specs.Changes.{tables_of}
 use Rattle.fr_store.specs.Paging.{TellsView, TellsNodes, TellsGrants}
 use Rattle.fr_store.proofs.ChainLemmas.{quiet_first, quiet_told, quiet_spares, quiet_then}
 use Rattle.fr_store.proofs.PageLemmas.{rows_told}

@@ -1,6 +1,6 @@
 use Rattle.std.proofs.Common.{◌∙◌, option_map, slice_get, ap}
 use Rattle.sqlite.specs.Held.{state}
-use Rattle.fr_store.specs.Changes.{tables_of}
+use Rattle.fr_tables.specs.Changes.{tables_of}
 use Rattle.fr_store.specs.Reading.{holder_shown}
 use Rattle.fr_store.proofs.ReadingLemmas.{told_if}
 use Rattle.fr_store.proofs.HolderLemmas.{holder_told}

@@ -1,6 +1,6 @@
 use Rattle.std.proofs.Common.{◌≡◌, length, ◌∙◌, rules}
 use Rattle.sqlite.specs.Held.{state}
-use Rattle.fr_store.specs.Changes.{tables_of}
+use Rattle.fr_tables.specs.Changes.{tables_of}
 use Rattle.fr_store.proofs.KeptImportLemmas.{imports_told}
 use Rattle.fr_store.proofs.reading.imports.Goals as goal
 

@@ -1,6 +1,6 @@
 use Rattle.std.proofs.Common.{◌∙◌, map, ap}
 use Rattle.sqlite.specs.Held.{state}
-use Rattle.fr_store.specs.Changes.{tables_of}
+use Rattle.fr_tables.specs.Changes.{tables_of}
 use Rattle.fr_store.specs.Reading.{variant_shown}
 use Rattle.fr_store.proofs.ReadingLemmas.{told_if, variants_told}
 use Rattle.fr_store.proofs.reading.variants.Goals as goal

@@ -1,7 +1,7 @@
 use Rattle.std.proofs.Common.{sym, subst}
 use Rattle.sqlite.specs.Held.{state}
 use Rattle.fr_store.specs.Applying.{CarriesOut}
-use Rattle.fr_store.specs.Statements.{with_released}
+use Rattle.fr_tables.specs.Statements.{with_released}
 use Rattle.fr_store.proofs.InsideLemmas.{one_stays, with_released_stored}
 use Rattle.fr_store.proofs.applying.edits.carry_out.Goals as goal
 

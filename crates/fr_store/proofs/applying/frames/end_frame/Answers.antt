@@ -3,7 +3,7 @@ use Rattle.sqlite.specs.Held.{state}
 use Rattle.sqlite.specs.State.{HasCleanDisk}
 use Rattle.fr_base.proofs.SoundTables.{value_of}
 use Rattle.fr_base.specs.Tables.{get}
-use Rattle.fr_store.specs.Changes.{tables_of}
+use Rattle.fr_tables.specs.Changes.{tables_of}
 use Rattle.fr_store.specs.Owning.{IsStoredSo}
 use Rattle.fr_store.proofs.FrameEditLemmas.{ended_over, ended_alone}
 use Rattle.fr_store.proofs.applying.frames.end_frame.Goals as goal

@@ -1,8 +1,8 @@
 use Rattle.sqlite.specs.Held.{state}
 use Rattle.fr_base.proofs.SoundTables.{value_of}
 use Rattle.fr_base.specs.Tables.{get}
-use Rattle.fr_store.specs.Changes.{tables_of}
-use Rattle.fr_store.specs.Statements.{without_placement, placement_row}
+use Rattle.fr_tables.specs.Changes.{tables_of}
+use Rattle.fr_tables.specs.Statements.{without_placement, placement_row}
 use Rattle.fr_store.proofs.FrameEditLemmas as lemmas
 use Rattle.fr_store.proofs.applying.frames.end_placement.Goals as goal
 

@@ -1,6 +1,6 @@
 use Rattle.sqlite.specs.Held.{state}
-use Rattle.fr_store.specs.Changes.{tables_of}
-use Rattle.fr_store.specs.Statements.{with_frame}
+use Rattle.fr_tables.specs.Changes.{tables_of}
+use Rattle.fr_tables.specs.Statements.{with_frame}
 use Rattle.fr_store.proofs.FrameEditLemmas as lemmas
 use Rattle.fr_store.proofs.applying.frames.new_frame.Goals as goal
 

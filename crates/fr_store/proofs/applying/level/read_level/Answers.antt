@@ -1,6 +1,6 @@
 use Rattle.std.proofs.Common.{◌∙◌, ap, sym, slice_get}
 use Rattle.sqlite.specs.Held.{state}
-use Rattle.fr_store.specs.Changes.{tables_of}
+use Rattle.fr_tables.specs.Changes.{tables_of}
 use Rattle.fr_store.proofs.ReadingLemmas.{both_if, reads_if}
 use Rattle.fr_store.proofs.OwningLemmas.{level_told}
 use Rattle.fr_store.proofs.applying.level.read_level.Goals as goal

@@ -1,6 +1,6 @@
 use Rattle.std.proofs.Common.{rules, ◌≡◌, ◌==◌, length, ◌∙◌, ap, not}
 use Rattle.sqlite.specs.Held.{state}
-use Rattle.fr_store.specs.Changes.{tables_of}
+use Rattle.fr_tables.specs.Changes.{tables_of}
 use Rattle.fr_store.proofs.OwningLemmas.{own_told}
 use Rattle.fr_store.proofs.applying.owning.is_own.Goals as goal
 

@@ -3,7 +3,7 @@ use Rattle.sqlite.specs.State.{HasCleanDisk}
 use Rattle.sqlite.specs.Held.{state}
 use Rattle.fr_store.proofs.ClimbLemmas.{HasClimbed, begins, has_before, owner_kept, is_owner, climbs, survives_itself}
 use Rattle.fr_store.proofs.ChainLemmas.{has_still}
-use Rattle.fr_store.proofs.FillLemmas.{survives_both}
+use Rattle.fr_tables.proofs.FillLemmas.{survives_both}
 use Rattle.fr_store.proofs.applying.owning.owner.Goals as goal
 
 pub loop-init : goal.loop-init

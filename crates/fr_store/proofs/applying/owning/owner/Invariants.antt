@@ -1,7 +1,7 @@
 use Rattle.std.proofs.Common.{◌≡◌, IsTrue}
 use Rattle.sqlite.specs.State.{HasCleanDisk, Survives}
 use Rattle.sqlite.specs.Held.{state}
-use Rattle.fr_store.specs.Tables.{HasTables}
+use Rattle.fr_tables.specs.Tables.{HasTables}
 use Rattle.fr_store.proofs.ClimbLemmas.{HasClimbed}
 use Rattle.fr_store.proofs.applying.owning.owner.Given as goal
 

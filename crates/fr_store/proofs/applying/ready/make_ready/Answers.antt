@@ -1,7 +1,7 @@
 use Rattle.std.proofs.Common.{sym, subst₂}
 use Rattle.sqlite.specs.Held.{state}
 use Rattle.fr_store.specs.Applying.{MakesReady}
-use Rattle.fr_store.specs.Changes.{tables_of}
+use Rattle.fr_tables.specs.Changes.{tables_of}
 use Rattle.fr_store.proofs.EditLemmas.{ready_alone}
 use Rattle.fr_store.proofs.applying.ready.make_ready.Goals as goal
 

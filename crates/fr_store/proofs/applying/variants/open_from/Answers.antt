@@ -1,8 +1,8 @@
 use Rattle.std.proofs.Common.{arith, ◌∙◌}
 use Rattle.sqlite.specs.State.{HasCleanDisk}
 use Rattle.sqlite.specs.Held.{state}
-use Rattle.fr_store.specs.Changes.{Changes}
-use Rattle.fr_store.specs.Statements.{with_variant, with_grants, grants_for}
+use Rattle.fr_tables.specs.Changes.{Changes}
+use Rattle.fr_tables.specs.Statements.{with_variant, with_grants, grants_for}
 use Rattle.fr_store.proofs.InsideLemmas.{opened_stays}
 use Rattle.fr_store.proofs.NewVariants.{child_row, opened_with}
 use Rattle.fr_store.proofs.applying.variants.open_from.Goals as goal

@@ -2,7 +2,7 @@ use Rattle.std.proofs.Common.{◌≡◌, ◌∙◌, arith, ap, sym, subst}
 use Rattle.sqlite.specs.Effect.{Database}
 use Rattle.sqlite.specs.State.{HasCleanDisk}
 use Rattle.sqlite.specs.Files.{file_state, image_of}
-use Rattle.fr_store.specs.Schema.{register_schema}
+use Rattle.fr_tables.specs.Schema.{register_schema}
 use Rattle.fr_store.specs.Opening.{Explains}
 use Rattle.fr_store.specs.StoreFiles.{database_of}
 use Rattle.fr_store.proofs.FileLemmas.{same_database, found_database}

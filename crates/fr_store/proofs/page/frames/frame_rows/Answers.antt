@@ -1,9 +1,9 @@
 use Rattle.std.proofs.Common.{arith}
 use Rattle.sqlite.specs.State.{State, HasCleanDisk}
 use Rattle.sqlite.specs.Held.{state}
-use Rattle.fr_store.specs.Tables.{Tables}
-use Rattle.fr_store.specs.Changes.{AreListed}
-use Rattle.fr_store.specs.Statements.{is_placed_by, shows_placement, placements_cmp, is_signalled_by, shows_signal, signals_cmp}
+use Rattle.fr_tables.specs.Tables.{Tables}
+use Rattle.fr_tables.specs.Changes.{AreListed}
+use Rattle.fr_tables.specs.Statements.{is_placed_by, shows_placement, placements_cmp, is_signalled_by, shows_signal, signals_cmp}
 use Rattle.fr_store.proofs.ChainLemmas.{IsQuiet, quiet_told, quiet_spares, quiet_then}
 use Rattle.fr_store.proofs.page.frames.frame_rows.Goals as goal
 

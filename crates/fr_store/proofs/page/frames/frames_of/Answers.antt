@@ -1,7 +1,7 @@
 use Rattle.std.proofs.Common.{rules, arith, ◌≡◌, refl, sym, subst, take}
 use Rattle.std.proofs.lemmas.List.{take_all}
-use Rattle.fr_store.specs.Changes.{AreListed}
-use Rattle.fr_store.specs.Statements.{is_frame_of, shows_frame, frames_cmp}
+use Rattle.fr_tables.specs.Changes.{AreListed}
+use Rattle.fr_tables.specs.Statements.{is_frame_of, shows_frame, frames_cmp}
 use Rattle.fr_store.specs.Paging.{node_shown}
 use Rattle.fr_store.specs.Reading.{name_shown}
 use Rattle.fr_store.proofs.OwnFrameLemmas.{AreLoaded, none_yet, one_more, frames_told}

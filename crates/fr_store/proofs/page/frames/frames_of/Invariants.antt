@@ -1,6 +1,6 @@
 use Rattle.std.proofs.Common.{take}
 use Rattle.fr_base.specs.declared.name.Name.{Name}
-use Rattle.fr_store.specs.Tables.{Tables}
+use Rattle.fr_tables.specs.Tables.{Tables}
 use Rattle.fr_store.specs.Paging.{AreFrameRows}
 use Rattle.fr_store.proofs.OwnFrameLemmas.{AreLoaded}
 use Rattle.fr_store.proofs.page.frames.frames_of.Given as goal

@@ -3,8 +3,8 @@ use Rattle.sqlite.specs.State.{State, HasCleanDisk}
 use Rattle.sqlite.specs.Held.{state}
 use Rattle.fr_base.specs.declared.name.Name.{Name}
 use Rattle.fr_world.specs.Pages.{frames_data}
-use Rattle.fr_store.specs.Tables.{Tables}
-use Rattle.fr_store.specs.Changes.{tables_of}
+use Rattle.fr_tables.specs.Tables.{Tables}
+use Rattle.fr_tables.specs.Changes.{tables_of}
 use Rattle.fr_store.specs.Paging.{TellsLevel, TellsFrames, TellsOver, TellsView}
 use Rattle.fr_store.proofs.ChainLemmas.{quiet_first, quiet_told, quiet_spares, quiet_then}
 use Rattle.fr_store.proofs.ViewLemmas.{alone_told, laid_told}

@@ -2,8 +2,8 @@ use Rattle.std.proofs.Common.{arith}
 use Rattle.sqlite.specs.State.{State, HasCleanDisk}
 use Rattle.sqlite.specs.Held.{state}
 use Rattle.fr_world.specs.Pages.{frames_data}
-use Rattle.fr_store.specs.Tables.{Tables}
-use Rattle.fr_store.specs.Changes.{tables_of}
+use Rattle.fr_tables.specs.Tables.{Tables}
+use Rattle.fr_tables.specs.Changes.{tables_of}
 use Rattle.fr_store.specs.Paging.{TellsFrames}
 use Rattle.fr_store.proofs.ChainLemmas.{quiet_first, quiet_told, quiet_spares}
 use Rattle.fr_store.proofs.ReadingLemmas.{reads_if}

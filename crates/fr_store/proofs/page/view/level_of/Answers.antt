@@ -1,5 +1,5 @@
 use Rattle.sqlite.specs.Held.{state}
-use Rattle.fr_store.specs.Changes.{tables_of}
+use Rattle.fr_tables.specs.Changes.{tables_of}
 use Rattle.fr_store.proofs.ReadingLemmas.{reads_if}
 use Rattle.fr_store.proofs.ViewLemmas.{level_told}
 use Rattle.fr_store.proofs.page.view.level_of.Goals as goal

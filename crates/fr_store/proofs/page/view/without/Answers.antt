@@ -2,7 +2,7 @@ use Rattle.std.proofs.Common.{rules, ◌∙◌, None, cond, sym, ap}
 use Rattle.std.specs.BTreeMap.{is_at}
 use Rattle.fr_world.specs.Amends.{frame_at}
 use Rattle.fr_world.proofs.KeyLaws.{name_cmp}
-use Rattle.fr_store.specs.Rows.{words}
+use Rattle.fr_tables.specs.Rows.{words}
 use Rattle.fr_store.proofs.ViewLemmas.{less_one}
 use Rattle.fr_store.proofs.page.view.without.Goals as goal
 

@@ -1,8 +1,0 @@
-use Rattle.std.proofs.Common.{not, rules, tests}
-use Rattle.std.proofs.lemmas.Fn.{filter_same}
-use Rattle.fr_office.specs.KeptPages.{is_page_of}
-use Rattle.fr_office.proofs.pages.let_go_of.Goals as goal
-
-pub returns-clause-items : goal.returns-clause-items
-returns-clause-items c =
-    filter_same _ (λ page. not (is_page_of c.args.supplier c.args.variant page)) _ (λ x b f' k. search (rules, tests)) _ _ c.retain.ensures.filtered

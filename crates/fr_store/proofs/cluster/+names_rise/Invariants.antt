@@ -1,5 +1,0 @@
-use Rattle.std.proofs.Common.{length}
-use Rattle.fr_store.proofs.cluster.+names_rise.Given as goal
-
-abbrev pub decreases-names_rise : goal.decreases-names_rise
-decreases-names_rise l = length l.suppliers.now

@@ -1,8 +1,0 @@
-use Rattle.sqlite.specs.Held.{state}
-use Rattle.fr_store.proofs.GrantLemmas.{copies}
-use Rattle.fr_store.proofs.tables.grants.copy.Goals as goal
-
-pub returns-clause-copied : goal.returns-clause-copied
-returns-clause-copied g c clean inside was =
-    copies c.args.parent.now c.args.child.now (state g.S.Store c.args.tx.now.conn.now) (state g.S.Store c.execute.new.self.conn.now) c.execute.result was
-    (rw (c.params-to_sql.ensures, c.params-to_sql-2.ensures, c.as_str.ensures.value, c.as_str-2.ensures.value) at (c.execute.ensures.runs clean inside))

@@ -1,8 +1,0 @@
-use Rattle.sqlite.specs.Held.{state}
-use Rattle.fr_store.proofs.VariantLemmas.{releases}
-use Rattle.fr_store.proofs.tables.variants.release.Goals as goal
-
-pub returns-clause-released : goal.returns-clause-released
-returns-clause-released g c clean inside was =
-    releases c.args.name.now (state g.S.Store c.args.tx.now.conn.now) (state g.S.Store c.execute.new.self.conn.now) c.execute.result was
-    (rw (c.params-to_sql.ensures, c.as_str.ensures.value) at (c.execute.ensures.runs clean inside))

@@ -1,0 +1,266 @@
+-- A change of one table's rows is a change of the tables.
+use Rattle.std.proofs.Common.{◌≡◌, ◌≢◌, ◌==◌, inl, inr, ℕ, List, [], ◌∷◌, map, MatchBool, arith, refl, sym, ap, subst, ◌∙◌, if◌then◌else◌}
+use Rattle.std.specs.Bool.{⊤}
+use Rattle.std.specs.List.{AllByRecursion}
+use Rattle.std.proofs.lemmas.Bool.{cases_Bool}
+use Rattle.std.proofs.lemmas.Bool.Decides.{nat_tests}
+use Rattle.sqlite.specs.Order.{Row}
+use Rattle.sqlite.specs.Table.{Table}
+use Rattle.sqlite.specs.Tree.{Trees}
+use Rattle.sqlite.specs.State.{State, Shows}
+use Rattle.fr_tables.specs.Schema.{register_schema, all_tables}
+use Rattle.fr_tables.specs.Rows.{RegisterRow, ClusterRow, SupplierRow, NodeRow, VariantRow, GrantRow, FrameRow, PlacementRow, SignalRow, ImportRow, DroppedRow, of_register, of_cluster, of_supplier, of_node, of_variant, of_grant, of_frame, of_placement, of_signal, of_import, of_dropped, register_in, cluster_in, supplier_in, node_in, variant_in, grant_in, frame_in, placement_in, signal_in, import_in, dropped_in}
+use Rattle.fr_tables.specs.Tables.{Tables, HasTables, AreKept}
+use Rattle.fr_tables.specs.Changes.{Changes, tables_of}
+use Rattle.fr_tables.proofs.Written.{WritesTo, AreMade}
+
+pub same : {X : Type 0} (columns : X → Row) (read : Row → X) (before after : List Row) → after ≡ before → AreKept columns read before → AreMade columns read after (map read before)
+same columns read before after is kept = record { kept = subst (AreKept columns read) (sym is) kept; values_are = ap (map read) is }
+
+-- what stays, as a list of the trees that are written out
+pub others : (tree : ℕ) (db next : Trees) (ts : List Table) → AllByRecursion (λ t. t.tree ≢ tree → next t.tree ≡ db t.tree) ts
+    → AllByRecursion (λ t. MatchBool (t.tree == tree) ⊤ (next t.tree ≡ db t.tree)) ts
+others tree db next [] h = tt
+others tree db next (t ∷ ts) h = (
+  elim (cases_Bool (t.tree == tree)) [ inl is ↦ rw is tt | inr other ↦ rw other (h.0 (grind (arith, nat_tests))) ],
+  others tree db next ts h.1,
+)
+
+module _ (old new : State) where
+  abbrev next : Trees
+  next = new.now.trees
+
+  pub whole : (after : Tables) → new.now.schema ≡ register_schema → Shows old new new.now (if old.in_transaction then old.committed else new.now) old.in_transaction
+      → AreMade of_register register_in (next 0) after.register
+      → AreMade of_cluster cluster_in (next 1) after.cluster
+      → AreMade of_supplier supplier_in (next 2) after.suppliers
+      → AreMade of_node node_in (next 5) after.nodes
+      → AreMade of_variant variant_in (next 7) after.variants
+      → AreMade of_grant grant_in (next 9) after.grants
+      → AreMade of_frame frame_in (next 11) after.frames
+      → AreMade of_placement placement_in (next 13) after.placements
+      → AreMade of_signal signal_in (next 15) after.signals
+      → AreMade of_import import_in (next 17) after.imports
+      → AreMade of_dropped dropped_in (next 19) after.dropped
+      → (change : Tables → Tables) → after ≡ change (tables_of old) → Changes change old new
+  whole after schema shown a b c d e f g h i j k change is = record {
+    has = record {
+      schema = schema;
+      register = a.kept;
+      cluster = b.kept;
+      suppliers = c.kept;
+      nodes = d.kept;
+      variants = e.kept;
+      grants = f.kept;
+      frames = g.kept;
+      placements = h.kept;
+      signals = i.kept;
+      imports = j.kept;
+      dropped = k.kept;
+    };
+    now = (λ z. record {
+      register = a.values_are z;
+      cluster = b.values_are z;
+      suppliers = c.values_are z;
+      nodes = d.values_are z;
+      variants = e.values_are z;
+      grants = f.values_are z;
+      frames = g.values_are z;
+      placements = h.values_are z;
+      signals = i.values_are z;
+      imports = j.values_are z;
+      dropped = k.values_are z;
+    }) ∙ is;
+    shown = shown;
+  }
+
+  module _ (was : HasTables old.now) where
+    abbrev db : Trees
+    db = old.now.trees
+
+    pub register_made : (f : List RegisterRow → List RegisterRow) → WritesTo register_schema 0 old new → AreMade of_register register_in (next 0) (f (map register_in (db 0))) → Changes (λ t. record t { register = f t.register }) old new
+    register_made f w made =
+        let k = others 0 db next all_tables w.others in
+        whole (record (tables_of old) { register = f (tables_of old).register }) w.schema_is w.shown
+        made
+        (same of_cluster cluster_in (db 1) (next 1) k.1.0 was.cluster)
+        (same of_supplier supplier_in (db 2) (next 2) k.1.1.0 was.suppliers)
+        (same of_node node_in (db 5) (next 5) k.1.1.1.0 was.nodes)
+        (same of_variant variant_in (db 7) (next 7) k.1.1.1.1.0 was.variants)
+        (same of_grant grant_in (db 9) (next 9) k.1.1.1.1.1.0 was.grants)
+        (same of_frame frame_in (db 11) (next 11) k.1.1.1.1.1.1.0 was.frames)
+        (same of_placement placement_in (db 13) (next 13) k.1.1.1.1.1.1.1.0 was.placements)
+        (same of_signal signal_in (db 15) (next 15) k.1.1.1.1.1.1.1.1.0 was.signals)
+        (same of_import import_in (db 17) (next 17) k.1.1.1.1.1.1.1.1.1.0 was.imports)
+        (same of_dropped dropped_in (db 19) (next 19) k.1.1.1.1.1.1.1.1.1.1.0 was.dropped)
+        (λ t. record t { register = f t.register }) refl
+
+    pub cluster_made : (f : List ClusterRow → List ClusterRow) → WritesTo register_schema 1 old new → AreMade of_cluster cluster_in (next 1) (f (map cluster_in (db 1))) → Changes (λ t. record t { cluster = f t.cluster }) old new
+    cluster_made f w made =
+        let k = others 1 db next all_tables w.others in
+        whole (record (tables_of old) { cluster = f (tables_of old).cluster }) w.schema_is w.shown
+        (same of_register register_in (db 0) (next 0) k.0 was.register)
+        made
+        (same of_supplier supplier_in (db 2) (next 2) k.1.1.0 was.suppliers)
+        (same of_node node_in (db 5) (next 5) k.1.1.1.0 was.nodes)
+        (same of_variant variant_in (db 7) (next 7) k.1.1.1.1.0 was.variants)
+        (same of_grant grant_in (db 9) (next 9) k.1.1.1.1.1.0 was.grants)
+        (same of_frame frame_in (db 11) (next 11) k.1.1.1.1.1.1.0 was.frames)
+        (same of_placement placement_in (db 13) (next 13) k.1.1.1.1.1.1.1.0 was.placements)
+        (same of_signal signal_in (db 15) (next 15) k.1.1.1.1.1.1.1.1.0 was.signals)
+        (same of_import import_in (db 17) (next 17) k.1.1.1.1.1.1.1.1.1.0 was.imports)
+        (same of_dropped dropped_in (db 19) (next 19) k.1.1.1.1.1.1.1.1.1.1.0 was.dropped)
+        (λ t. record t { cluster = f t.cluster }) refl
+
+    pub suppliers_made : (f : List SupplierRow → List SupplierRow) → WritesTo register_schema 2 old new → AreMade of_supplier supplier_in (next 2) (f (map supplier_in (db 2))) → Changes (λ t. record t { suppliers = f t.suppliers }) old new
+    suppliers_made f w made =
+        let k = others 2 db next all_tables w.others in
+        whole (record (tables_of old) { suppliers = f (tables_of old).suppliers }) w.schema_is w.shown
+        (same of_register register_in (db 0) (next 0) k.0 was.register)
+        (same of_cluster cluster_in (db 1) (next 1) k.1.0 was.cluster)
+        made
+        (same of_node node_in (db 5) (next 5) k.1.1.1.0 was.nodes)
+        (same of_variant variant_in (db 7) (next 7) k.1.1.1.1.0 was.variants)
+        (same of_grant grant_in (db 9) (next 9) k.1.1.1.1.1.0 was.grants)
+        (same of_frame frame_in (db 11) (next 11) k.1.1.1.1.1.1.0 was.frames)
+        (same of_placement placement_in (db 13) (next 13) k.1.1.1.1.1.1.1.0 was.placements)
+        (same of_signal signal_in (db 15) (next 15) k.1.1.1.1.1.1.1.1.0 was.signals)
+        (same of_import import_in (db 17) (next 17) k.1.1.1.1.1.1.1.1.1.0 was.imports)
+        (same of_dropped dropped_in (db 19) (next 19) k.1.1.1.1.1.1.1.1.1.1.0 was.dropped)
+        (λ t. record t { suppliers = f t.suppliers }) refl
+
+    pub nodes_made : (f : List NodeRow → List NodeRow) → WritesTo register_schema 5 old new → AreMade of_node node_in (next 5) (f (map node_in (db 5))) → Changes (λ t. record t { nodes = f t.nodes }) old new
+    nodes_made f w made =
+        let k = others 5 db next all_tables w.others in
+        whole (record (tables_of old) { nodes = f (tables_of old).nodes }) w.schema_is w.shown
+        (same of_register register_in (db 0) (next 0) k.0 was.register)
+        (same of_cluster cluster_in (db 1) (next 1) k.1.0 was.cluster)
+        (same of_supplier supplier_in (db 2) (next 2) k.1.1.0 was.suppliers)
+        made
+        (same of_variant variant_in (db 7) (next 7) k.1.1.1.1.0 was.variants)
+        (same of_grant grant_in (db 9) (next 9) k.1.1.1.1.1.0 was.grants)
+        (same of_frame frame_in (db 11) (next 11) k.1.1.1.1.1.1.0 was.frames)
+        (same of_placement placement_in (db 13) (next 13) k.1.1.1.1.1.1.1.0 was.placements)
+        (same of_signal signal_in (db 15) (next 15) k.1.1.1.1.1.1.1.1.0 was.signals)
+        (same of_import import_in (db 17) (next 17) k.1.1.1.1.1.1.1.1.1.0 was.imports)
+        (same of_dropped dropped_in (db 19) (next 19) k.1.1.1.1.1.1.1.1.1.1.0 was.dropped)
+        (λ t. record t { nodes = f t.nodes }) refl
+
+    pub variants_made : (f : List VariantRow → List VariantRow) → WritesTo register_schema 7 old new → AreMade of_variant variant_in (next 7) (f (map variant_in (db 7))) → Changes (λ t. record t { variants = f t.variants }) old new
+    variants_made f w made =
+        let k = others 7 db next all_tables w.others in
+        whole (record (tables_of old) { variants = f (tables_of old).variants }) w.schema_is w.shown
+        (same of_register register_in (db 0) (next 0) k.0 was.register)
+        (same of_cluster cluster_in (db 1) (next 1) k.1.0 was.cluster)
+        (same of_supplier supplier_in (db 2) (next 2) k.1.1.0 was.suppliers)
+        (same of_node node_in (db 5) (next 5) k.1.1.1.0 was.nodes)
+        made
+        (same of_grant grant_in (db 9) (next 9) k.1.1.1.1.1.0 was.grants)
+        (same of_frame frame_in (db 11) (next 11) k.1.1.1.1.1.1.0 was.frames)
+        (same of_placement placement_in (db 13) (next 13) k.1.1.1.1.1.1.1.0 was.placements)
+        (same of_signal signal_in (db 15) (next 15) k.1.1.1.1.1.1.1.1.0 was.signals)
+        (same of_import import_in (db 17) (next 17) k.1.1.1.1.1.1.1.1.1.0 was.imports)
+        (same of_dropped dropped_in (db 19) (next 19) k.1.1.1.1.1.1.1.1.1.1.0 was.dropped)
+        (λ t. record t { variants = f t.variants }) refl
+
+    pub grants_made : (f : List GrantRow → List GrantRow) → WritesTo register_schema 9 old new → AreMade of_grant grant_in (next 9) (f (map grant_in (db 9))) → Changes (λ t. record t { grants = f t.grants }) old new
+    grants_made f w made =
+        let k = others 9 db next all_tables w.others in
+        whole (record (tables_of old) { grants = f (tables_of old).grants }) w.schema_is w.shown
+        (same of_register register_in (db 0) (next 0) k.0 was.register)
+        (same of_cluster cluster_in (db 1) (next 1) k.1.0 was.cluster)
+        (same of_supplier supplier_in (db 2) (next 2) k.1.1.0 was.suppliers)
+        (same of_node node_in (db 5) (next 5) k.1.1.1.0 was.nodes)
+        (same of_variant variant_in (db 7) (next 7) k.1.1.1.1.0 was.variants)
+        made
+        (same of_frame frame_in (db 11) (next 11) k.1.1.1.1.1.1.0 was.frames)
+        (same of_placement placement_in (db 13) (next 13) k.1.1.1.1.1.1.1.0 was.placements)
+        (same of_signal signal_in (db 15) (next 15) k.1.1.1.1.1.1.1.1.0 was.signals)
+        (same of_import import_in (db 17) (next 17) k.1.1.1.1.1.1.1.1.1.0 was.imports)
+        (same of_dropped dropped_in (db 19) (next 19) k.1.1.1.1.1.1.1.1.1.1.0 was.dropped)
+        (λ t. record t { grants = f t.grants }) refl
+
+    pub frames_made : (f : List FrameRow → List FrameRow) → WritesTo register_schema 11 old new → AreMade of_frame frame_in (next 11) (f (map frame_in (db 11))) → Changes (λ t. record t { frames = f t.frames }) old new
+    frames_made f w made =
+        let k = others 11 db next all_tables w.others in
+        whole (record (tables_of old) { frames = f (tables_of old).frames }) w.schema_is w.shown
+        (same of_register register_in (db 0) (next 0) k.0 was.register)
+        (same of_cluster cluster_in (db 1) (next 1) k.1.0 was.cluster)
+        (same of_supplier supplier_in (db 2) (next 2) k.1.1.0 was.suppliers)
+        (same of_node node_in (db 5) (next 5) k.1.1.1.0 was.nodes)
+        (same of_variant variant_in (db 7) (next 7) k.1.1.1.1.0 was.variants)
+        (same of_grant grant_in (db 9) (next 9) k.1.1.1.1.1.0 was.grants)
+        made
+        (same of_placement placement_in (db 13) (next 13) k.1.1.1.1.1.1.1.0 was.placements)
+        (same of_signal signal_in (db 15) (next 15) k.1.1.1.1.1.1.1.1.0 was.signals)
+        (same of_import import_in (db 17) (next 17) k.1.1.1.1.1.1.1.1.1.0 was.imports)
+        (same of_dropped dropped_in (db 19) (next 19) k.1.1.1.1.1.1.1.1.1.1.0 was.dropped)
+        (λ t. record t { frames = f t.frames }) refl
+
+    pub placements_made : (f : List PlacementRow → List PlacementRow) → WritesTo register_schema 13 old new → AreMade of_placement placement_in (next 13) (f (map placement_in (db 13))) → Changes (λ t. record t { placements = f t.placements }) old new
+    placements_made f w made =
+        let k = others 13 db next all_tables w.others in
+        whole (record (tables_of old) { placements = f (tables_of old).placements }) w.schema_is w.shown
+        (same of_register register_in (db 0) (next 0) k.0 was.register)
+        (same of_cluster cluster_in (db 1) (next 1) k.1.0 was.cluster)
+        (same of_supplier supplier_in (db 2) (next 2) k.1.1.0 was.suppliers)
+        (same of_node node_in (db 5) (next 5) k.1.1.1.0 was.nodes)
+        (same of_variant variant_in (db 7) (next 7) k.1.1.1.1.0 was.variants)
+        (same of_grant grant_in (db 9) (next 9) k.1.1.1.1.1.0 was.grants)
+        (same of_frame frame_in (db 11) (next 11) k.1.1.1.1.1.1.0 was.frames)
+        made
+        (same of_signal signal_in (db 15) (next 15) k.1.1.1.1.1.1.1.1.0 was.signals)
+        (same of_import import_in (db 17) (next 17) k.1.1.1.1.1.1.1.1.1.0 was.imports)
+        (same of_dropped dropped_in (db 19) (next 19) k.1.1.1.1.1.1.1.1.1.1.0 was.dropped)
+        (λ t. record t { placements = f t.placements }) refl
+
+    pub signals_made : (f : List SignalRow → List SignalRow) → WritesTo register_schema 15 old new → AreMade of_signal signal_in (next 15) (f (map signal_in (db 15))) → Changes (λ t. record t { signals = f t.signals }) old new
+    signals_made f w made =
+        let k = others 15 db next all_tables w.others in
+        whole (record (tables_of old) { signals = f (tables_of old).signals }) w.schema_is w.shown
+        (same of_register register_in (db 0) (next 0) k.0 was.register)
+        (same of_cluster cluster_in (db 1) (next 1) k.1.0 was.cluster)
+        (same of_supplier supplier_in (db 2) (next 2) k.1.1.0 was.suppliers)
+        (same of_node node_in (db 5) (next 5) k.1.1.1.0 was.nodes)
+        (same of_variant variant_in (db 7) (next 7) k.1.1.1.1.0 was.variants)
+        (same of_grant grant_in (db 9) (next 9) k.1.1.1.1.1.0 was.grants)
+        (same of_frame frame_in (db 11) (next 11) k.1.1.1.1.1.1.0 was.frames)
+        (same of_placement placement_in (db 13) (next 13) k.1.1.1.1.1.1.1.0 was.placements)
+        made
+        (same of_import import_in (db 17) (next 17) k.1.1.1.1.1.1.1.1.1.0 was.imports)
+        (same of_dropped dropped_in (db 19) (next 19) k.1.1.1.1.1.1.1.1.1.1.0 was.dropped)
+        (λ t. record t { signals = f t.signals }) refl
+
+    pub imports_made : (f : List ImportRow → List ImportRow) → WritesTo register_schema 17 old new → AreMade of_import import_in (next 17) (f (map import_in (db 17))) → Changes (λ t. record t { imports = f t.imports }) old new
+    imports_made f w made =
+        let k = others 17 db next all_tables w.others in
+        whole (record (tables_of old) { imports = f (tables_of old).imports }) w.schema_is w.shown
+        (same of_register register_in (db 0) (next 0) k.0 was.register)
+        (same of_cluster cluster_in (db 1) (next 1) k.1.0 was.cluster)
+        (same of_supplier supplier_in (db 2) (next 2) k.1.1.0 was.suppliers)
+        (same of_node node_in (db 5) (next 5) k.1.1.1.0 was.nodes)
+        (same of_variant variant_in (db 7) (next 7) k.1.1.1.1.0 was.variants)
+        (same of_grant grant_in (db 9) (next 9) k.1.1.1.1.1.0 was.grants)
+        (same of_frame frame_in (db 11) (next 11) k.1.1.1.1.1.1.0 was.frames)
+        (same of_placement placement_in (db 13) (next 13) k.1.1.1.1.1.1.1.0 was.placements)
+        (same of_signal signal_in (db 15) (next 15) k.1.1.1.1.1.1.1.1.0 was.signals)
+        made
+        (same of_dropped dropped_in (db 19) (next 19) k.1.1.1.1.1.1.1.1.1.1.0 was.dropped)
+        (λ t. record t { imports = f t.imports }) refl
+
+    pub dropped_made : (f : List DroppedRow → List DroppedRow) → WritesTo register_schema 19 old new → AreMade of_dropped dropped_in (next 19) (f (map dropped_in (db 19))) → Changes (λ t. record t { dropped = f t.dropped }) old new
+    dropped_made f w made =
+        let k = others 19 db next all_tables w.others in
+        whole (record (tables_of old) { dropped = f (tables_of old).dropped }) w.schema_is w.shown
+        (same of_register register_in (db 0) (next 0) k.0 was.register)
+        (same of_cluster cluster_in (db 1) (next 1) k.1.0 was.cluster)
+        (same of_supplier supplier_in (db 2) (next 2) k.1.1.0 was.suppliers)
+        (same of_node node_in (db 5) (next 5) k.1.1.1.0 was.nodes)
+        (same of_variant variant_in (db 7) (next 7) k.1.1.1.1.0 was.variants)
+        (same of_grant grant_in (db 9) (next 9) k.1.1.1.1.1.0 was.grants)
+        (same of_frame frame_in (db 11) (next 11) k.1.1.1.1.1.1.0 was.frames)
+        (same of_placement placement_in (db 13) (next 13) k.1.1.1.1.1.1.1.0 was.placements)
+        (same of_signal signal_in (db 15) (next 15) k.1.1.1.1.1.1.1.1.0 was.signals)
+        (same of_import import_in (db 17) (next 17) k.1.1.1.1.1.1.1.1.1.0 was.imports)
+        made
+        (λ t. record t { dropped = f t.dropped }) refl

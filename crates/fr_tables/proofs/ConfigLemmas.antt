@@ -1,0 +1,74 @@
+-- The rows of a cluster, and the tests of its names and keys.
+use Rattle.std.proofs.lemmas.Grind.{common_steps}
+use Rattle.std.proofs.Common.{◌≡◌, ℕ, ◌-◌, ◌≤◌, List, [], ◌∷◌, map, take, drop, length, get_or, not, ◌&&◌, arith, pos, true, false, Bool, IsTrue, Ok, refl, sym, ap, ◌∙◌}
+use Rattle.std.specs.List.{list_any, list_all}
+use Rattle.std.specs.Str.{bytes_eq}
+use Rattle.sqlite.specs.declared.types.Value.TheVariants.{Int, Text}
+use Rattle.fr_base.specs.declared.params.RawParams.{RawParams}
+use Rattle.fr_base.specs.Names.{same_text, is_key}
+use Rattle.fr_base.specs.Channels.{text_of_channels}
+use Rattle.fr_base.specs.Parameters.{check_params}
+use Rattle.fr_base.specs.Refusing.{◌>>◌, refuse◌when◌}
+use Rattle.fr_tables.specs.Statements.{cluster_row, shows_cluster}
+use Rattle.std.specs.Prelude.{⊤}
+use Rattle.std.proofs.lemmas.Bool.{and_from}
+use Rattle.sqlite.specs.Order.{Row, column}
+use Rattle.fr_base.specs.declared.config.Supplier.{Supplier}
+use Rattle.fr_base.specs.Cluster.{Cluster, IsWellFormed, keys_of, keys_differ, is_cluster}
+use Rattle.fr_tables.specs.ClusterRows.{AreFormed}
+
+-- a row of nine columns is these
+nine : (r : Row) → length r ≡ 9
+    → r ≡ column r 0 ∷ column r 1 ∷ column r 2 ∷ column r 3 ∷ column r 4 ∷ column r 5 ∷ column r 6 ∷ column r 7 ∷ column r 8 ∷ []
+nine (a ∷ b ∷ c ∷ d ∷ e ∷ f ∷ g ∷ h ∷ i ∷ []) is = refl
+nine r is = absurd (omega arith)
+
+-- parameters that pass their check are kept as they were
+kept_params : (raw p : RawParams) → check_params raw ≡ Ok p → p ≡ raw
+unfolding check_params ◌>>◌ refuse◌when◌
+kept_params raw p is = grind arith
+
+-- the row whose columns were read is that of the cluster
+pub its_row : (r : Row) (raw p : RawParams) (integrator : List ℕ) → length r ≡ 9 → check_params raw ≡ Ok p → column r 0 ≡ Int (pos raw.static_slots) → column r 1 ≡ Int (pos raw.slot_macroticks)
+    → column r 2 ≡ Int (pos raw.dynamic_macroticks) → column r 3 ≡ Int (pos raw.symbol_macroticks) → column r 4 ≡ Int (pos raw.idle_macroticks) → column r 5 ≡ Int (pos raw.macroticks_per_cycle)
+    → column r 6 ≡ Int (pos raw.payload_words) → column r 7 ≡ Text (text_of_channels raw.channels) → column r 8 ≡ Text integrator → r ≡ shows_cluster (cluster_row p integrator)
+its_row r raw p integrator size checked c0 c1 c2 c3 c4 c5 c6 c7 c8 =
+    nine r size ∙ (λ i. c0 i ∷ c1 i ∷ c2 i ∷ c3 i ∷ c4 i ∷ c5 i ∷ c6 i ∷ c7 i ∷ c8 i ∷ []) ∙ ap (λ q. shows_cluster (cluster_row q integrator)) (sym (kept_params raw p checked))
+
+has_key-keys : (key : List ℕ) (suppliers : List Supplier) → list_any (λ s. bytes_eq key s.key) suppliers ≡ list_any (same_text key) (map (λ s. s.key) suppliers)
+has_key-keys key [] = refl
+has_key-keys key (s ∷ suppliers) = rw (has_key-keys key suppliers) refl
+
+-- one more key
+keys_differ-step : (key : List ℕ) (s : Supplier) (suppliers : List Supplier) → keys_differ (keys_of key (s ∷ suppliers)) ≡ (not (list_any (λ t. bytes_eq key t.key) (s ∷ suppliers)) && keys_differ (keys_of s.key suppliers))
+keys_differ-step key s suppliers = rw (has_key-keys key (s ∷ suppliers))
+
+-- all but the first, as a pattern takes the list apart
+rest_of : (s : Supplier) (suppliers : List Supplier) → take (length (s ∷ suppliers) - 1) (drop 1 (s ∷ suppliers)) ≡ suppliers
+rest_of s suppliers = grind (arith, common_steps)
+
+-- the keys differ where the first is no other's, and those of the rest differ
+pub keys_differ-split : (key : List ℕ) (suppliers : List Supplier) (next : Supplier) → next ≡ get_or suppliers 0 next → 1 ≤ length suppliers
+    → keys_differ (keys_of key suppliers)
+    ≡ (not (list_any (λ t. bytes_eq key t.key) suppliers) && keys_differ (keys_of next.key (take (length suppliers - 1) (drop 1 suppliers))))
+keys_differ-split key [] next is some = absurd (omega arith)
+keys_differ-split key (s ∷ suppliers) next is some = rw (is, rest_of s suppliers) (keys_differ-step key s suppliers)
+
+unfoldable pub is_cluster_open : ⊤
+unfolding is_cluster
+is_cluster_open = tt
+
+both : (a b : Bool) → (a && b) ≡ true → (a ≡ true) × (b ≡ true)
+both true b h = (refl, h)
+both false b h = absurd cc
+
+integrator_and : (integrator : List ℕ) (suppliers : List Supplier) → IsTrue (is_key integrator) → IsTrue (list_all (λ s. is_key s.key) suppliers) → IsTrue (list_all is_key (keys_of integrator suppliers))
+integrator_and integrator suppliers first rest = and_from _ _ first (each suppliers rest)
+  where
+    each : (list : List Supplier) → IsTrue (list_all (λ s. is_key s.key) list) → IsTrue (list_all is_key (map (λ s. s.key) list))
+    each [] h = refl
+    each (s ∷ list) h = let both = both (is_key s.key) (list_all (λ s. is_key s.key) list) h in and_from _ _ both.0 (each list both.1)
+
+-- what was read and tested is a cluster
+pub well_formed : (c : Cluster) → check_params c.params ≡ Ok c.params → is_cluster c.integrator c.suppliers ≡ true → IsTrue (is_key c.integrator) → AreFormed c.suppliers → IsWellFormed c
+well_formed c params cluster integrator formed = record { params = params; cluster = cluster; names = formed.0; keys = integrator_and c.integrator c.suppliers integrator formed.1 }

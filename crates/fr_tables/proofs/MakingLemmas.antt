@@ -1,0 +1,188 @@
+-- What the statements that make the tables do.
+use Rattle.std.proofs.Common.{◌≡◌, ◌++◌, ℕ, List, [], ◌∷◌, map, take, false, None, Ok, Err, Result, MatchResult, IsTrue, refl, sym, ap, subst, ◌∙◌}
+use Rattle.std.specs.List.{AllByRecursion}
+use Rattle.sqlite.specs.Command.TheVariants.{CreateTable, CreateIndex}
+use Rattle.sqlite.specs.Compile.{table_defined_by, index_defined_by}
+use Rattle.sqlite.specs.Change.{created, indexed, next_tree, KeepsRows}
+use Rattle.sqlite.specs.Does.{Tally, Does, lacks_sequence}
+use Rattle.sqlite.specs.Table.{Table}
+use Rattle.sqlite.specs.Tree.{Trees}
+use Rattle.sqlite.specs.Schema.{Schema}
+use Rattle.sqlite.specs.Effect.{Database}
+use Rattle.sqlite.specs.Listing.{understood}
+use Rattle.sqlite.specs.State.{State, mode_of, Shows, Writes, Executes, ExecutesInside}
+use Rattle.sqlite.specs.declared.error.Error.{Error}
+use Rattle.sqlite.proofs.Callers.{IsPlain, command_of, statement_of, runs_as}
+use Rattle.sqlite_tied.specs.Compute.{everything}
+use Rattle.sqlite_trees.proofs.ListLemmas.{all-append}
+use Rattle.fr_tables.specs.Schema.{schema_of, all_tables, register_schema, grants, grants_index, register_at, cluster_at, suppliers_at, nodes_at, variants_at, grants_at, frames_at, placements_at, signals_at, imports_at, dropped_at}
+use Rattle.fr_tables.specs.SchemaText.{index_text, register_text, cluster_text, suppliers_text, nodes_text, variants_text, grants_text, frames_text, placements_text, signals_text, imports_text, dropped_text}
+use Rattle.sqlite_schema.specs.declared.schema.Index.{Index}
+use Rattle.sqlite.specs.Order.{Row}
+use Rattle.fr_tables.specs.Tables.{HasTables, AreKept, tables_in}
+use Rattle.fr_tables.specs.Rows.{of_register, of_cluster, of_supplier, of_node, of_variant, of_grant, of_frame, of_placement, of_signal, of_import, of_dropped, register_in, cluster_in, supplier_in, node_in, variant_in, grant_in, frame_in, placement_in, signal_in, import_in, dropped_in}
+use Rattle.fr_tables.specs.Changes.{Stays}
+use Rattle.fr_tables.specs.Making.{IsFresh, Enlarges, IsMade, no_rows}
+use Rattle.fr_tables.proofs.Steps.{went, same_value}
+use Rattle.fr_tables.proofs.RunLemmas.{stays_inside}
+
+-- the text makes that table, and the schema is then that one
+pub record Defines (before after : Schema) (table : Table) (text : List ℕ) : Type 0 where
+  pub command : command_of (understood before text) ≡ CreateTable
+  pub whole : statement_of text (understood before text) ≡ text
+  pub plain : IsPlain (understood before text)
+  pub defines : table_defined_by text ≡ Ok table
+  pub leaves : created before table ≡ after
+  pub uncounted : lacks_sequence after ≡ false
+
+-- the new table has no row, and the others keep theirs
+record IsAdded (before after : Schema) (old new : State) : Type 0 where
+  pub schema : new.now.schema ≡ after
+  pub empty : new.now.trees (next_tree before) ≡ []
+  pub others : KeepsRows before.tables old.now.trees new.now.trees
+
+adds_table : (before after : Schema) (table : Table) (text : List ℕ) → Defines before after table text → (old new : State) (count : ℕ) → old.now.schema ≡ before → Executes text [] old new (Ok count)
+    → IsAdded before after old new
+adds_table before after table text d old new count has h =
+    let w = subst (λ t. Writes old new None CreateTable t [] count) d.whole (runs_as text [] old new before has CreateTable d.command d.plain count h) in
+    let all = went w.changed in
+    let first = went all.1 in
+    let made = first.1 in
+    let both : Ok made.table ≡ Ok table = sym made.defined ∙ d.defines in
+    let same : made.table ≡ table = cc in
+    let schema : first.0.schema ≡ after = made.is ∙ ap (λ s. created s made.table) has ∙ ap (created before) same ∙ d.leaves in
+    let plain : lacks_sequence first.0.schema ≡ false = ap lacks_sequence schema ∙ d.uncounted in
+    let now : new.now ≡ first.0 = ap (λ (p : Tally × Database). p.1) (same_value all.2) ∙ same_value (rw plain at first.2) in
+    record {
+      schema = ap (λ (d : Database). d.schema) now ∙ schema;
+      empty = ap (λ (d : Database). d.trees (next_tree before)) now ∙ subst (λ s. first.0.trees (next_tree s) ≡ []) has made.empty;
+      others = subst (λ (d : Database). KeepsRows before.tables old.now.trees d.trees) (sym now) (subst (λ (s : Schema). KeepsRows s.tables old.now.trees first.0.trees) has made.others);
+    }
+
+still_empty : (ts : List Table) (db next : Trees) → AllByRecursion (λ t. db t.tree ≡ []) ts → KeepsRows ts db next → AllByRecursion (λ t. next t.tree ≡ []) ts
+still_empty [] db next empty kept = tt
+still_empty (t ∷ ts) db next empty kept = (kept.0 ∙ empty.0, still_empty ts db next empty.1 kept.1)
+
+module _ (count others count_next others_next : ℕ) (table : ℕ → Table) (text : List ℕ) (d : Defines (schema_of count others) (schema_of count_next others_next) (table 0) text)
+    (last : take count_next all_tables ≡ take count all_tables ++ table (next_tree (schema_of count others)) ∷ []) (tree : (table (next_tree (schema_of count others))).tree ≡ next_tree (schema_of count others)) where
+  pub makes : (old new : State) (r : Result ℕ Error) → IsTrue old.in_transaction → IsFresh count others old.now → ExecutesInside 0 text [] old new r
+      → MatchResult r (λ _. Enlarges count_next others_next old new) (λ _. Stays old new)
+  makes old new (Err e) inside was h = stays_inside text [] old new e h
+  makes old new (Ok n) inside was h =
+      let added = adds_table (schema_of count others) (schema_of count_next others_next) (table 0) text d old new n was.schema h.0 in
+      let before = still_empty (take count all_tables) old.now.trees new.now.trees was.empty added.others in
+      record {
+        fresh = record {
+          schema = added.schema;
+          empty = subst (λ ts. AllByRecursion (λ t. new.now.trees t.tree ≡ []) ts) (sym last) (all-append _ (take count all_tables) _ before (subst (λ n. new.now.trees n ≡ []) (sym tree) added.empty, tt));
+        };
+        shown = subst (λ b. Shows old new new.now old.committed b) (sym inside) h.1;
+      }
+
+pub register_is : Defines (schema_of 0 0) (schema_of 1 0) (register_at 0) register_text
+unfolding understood everything
+register_is = record { command = refl; whole = refl; plain = (refl, refl); defines = refl; leaves = refl; uncounted = refl }
+
+pub cluster_is : Defines (schema_of 1 0) (schema_of 2 0) (cluster_at 0) cluster_text
+unfolding understood everything
+cluster_is = record { command = refl; whole = refl; plain = (refl, refl); defines = refl; leaves = refl; uncounted = refl }
+
+pub suppliers_is : Defines (schema_of 2 0) (schema_of 3 2) (suppliers_at 0) suppliers_text
+unfolding understood everything
+suppliers_is = record { command = refl; whole = refl; plain = (refl, refl); defines = refl; leaves = refl; uncounted = refl }
+
+pub nodes_is : Defines (schema_of 3 2) (schema_of 4 3) (nodes_at 0) nodes_text
+unfolding understood everything
+nodes_is = record { command = refl; whole = refl; plain = (refl, refl); defines = refl; leaves = refl; uncounted = refl }
+
+pub variants_is : Defines (schema_of 4 3) (schema_of 5 4) (variants_at 0) variants_text
+unfolding understood everything
+variants_is = record { command = refl; whole = refl; plain = (refl, refl); defines = refl; leaves = refl; uncounted = refl }
+
+pub grants_is : Defines (schema_of 5 4) (schema_of 6 5) (grants_at 0) grants_text
+unfolding understood everything
+grants_is = record { command = refl; whole = refl; plain = (refl, refl); defines = refl; leaves = refl; uncounted = refl }
+
+pub frames_is : Defines (schema_of 6 5) (schema_of 7 6) (frames_at 0) frames_text
+unfolding understood everything
+frames_is = record { command = refl; whole = refl; plain = (refl, refl); defines = refl; leaves = refl; uncounted = refl }
+
+pub placements_is : Defines (schema_of 7 6) (schema_of 8 7) (placements_at 0) placements_text
+unfolding understood everything
+placements_is = record { command = refl; whole = refl; plain = (refl, refl); defines = refl; leaves = refl; uncounted = refl }
+
+pub signals_is : Defines (schema_of 8 7) (schema_of 9 8) (signals_at 0) signals_text
+unfolding understood everything
+signals_is = record { command = refl; whole = refl; plain = (refl, refl); defines = refl; leaves = refl; uncounted = refl }
+
+pub imports_is : Defines (schema_of 9 8) (schema_of 10 9) (imports_at 0) imports_text
+unfolding understood everything
+imports_is = record { command = refl; whole = refl; plain = (refl, refl); defines = refl; leaves = refl; uncounted = refl }
+
+pub dropped_is : Defines (schema_of 10 9) (schema_of 11 10) (dropped_at 0) dropped_text
+unfolding understood everything
+dropped_is = record { command = refl; whole = refl; plain = (refl, refl); defines = refl; leaves = refl; uncounted = refl }
+
+-- ---- the index, made last
+
+record IsIndex : Type 0 where
+  pub command : command_of (understood (schema_of 11 10) index_text) ≡ CreateIndex 5
+  pub whole : statement_of index_text (understood (schema_of 11 10) index_text) ≡ index_text
+  pub plain : IsPlain (understood (schema_of 11 10) index_text)
+  pub made : Index
+  pub defines : index_defined_by grants index_text ≡ Ok made
+  pub leaves : indexed (schema_of 11 10) grants made ≡ register_schema
+
+index_is : IsIndex
+unfolding understood everything
+index_is = record { command = refl; whole = refl; plain = (refl, refl); made = record grants_index { tree = 0 }; defines = refl; leaves = refl }
+
+none_kept : {X : Type 0} (columns : X → Row) (read : Row → X) (rows : List Row) → rows ≡ [] → AreKept columns read rows
+none_kept columns read rows none = subst (AreKept columns read) (sym none) (record { rise = tt; numbered = tt; typed = tt })
+
+-- tables with no row
+empty_tables : (db : Database) → db.schema ≡ register_schema → AllByRecursion (λ t. db.trees t.tree ≡ []) all_tables → HasTables db × (tables_in db.trees ≡ no_rows)
+empty_tables db schema e = (
+  record {
+    schema = schema;
+    register = none_kept of_register register_in (db.trees 0) e.0;
+    cluster = none_kept of_cluster cluster_in (db.trees 1) e.1.0;
+    suppliers = none_kept of_supplier supplier_in (db.trees 2) e.1.1.0;
+    nodes = none_kept of_node node_in (db.trees 5) e.1.1.1.0;
+    variants = none_kept of_variant variant_in (db.trees 7) e.1.1.1.1.0;
+    grants = none_kept of_grant grant_in (db.trees 9) e.1.1.1.1.1.0;
+    frames = none_kept of_frame frame_in (db.trees 11) e.1.1.1.1.1.1.0;
+    placements = none_kept of_placement placement_in (db.trees 13) e.1.1.1.1.1.1.1.0;
+    signals = none_kept of_signal signal_in (db.trees 15) e.1.1.1.1.1.1.1.1.0;
+    imports = none_kept of_import import_in (db.trees 17) e.1.1.1.1.1.1.1.1.1.0;
+    dropped = none_kept of_dropped dropped_in (db.trees 19) e.1.1.1.1.1.1.1.1.1.1.0;
+  },
+  λ i. record {
+    register = map register_in (e.0 i);
+    cluster = map cluster_in (e.1.0 i);
+    suppliers = map supplier_in (e.1.1.0 i);
+    nodes = map node_in (e.1.1.1.0 i);
+    variants = map variant_in (e.1.1.1.1.0 i);
+    grants = map grant_in (e.1.1.1.1.1.0 i);
+    frames = map frame_in (e.1.1.1.1.1.1.0 i);
+    placements = map placement_in (e.1.1.1.1.1.1.1.0 i);
+    signals = map signal_in (e.1.1.1.1.1.1.1.1.0 i);
+    imports = map import_in (e.1.1.1.1.1.1.1.1.1.0 i);
+    dropped = map dropped_in (e.1.1.1.1.1.1.1.1.1.1.0 i);
+  },
+)
+
+pub makes_all : (old new : State) (r : Result ℕ Error) → IsTrue old.in_transaction → IsFresh 11 10 old.now → ExecutesInside 0 index_text [] old new r → MatchResult r (λ _. IsMade old new) (λ _. Stays old new)
+makes_all old new (Err e) inside was h = stays_inside index_text [] old new e h
+makes_all old new (Ok count) inside was h =
+    let schema = schema_of 11 10 in
+    let w = runs_as index_text [] old new schema was.schema (CreateIndex 5) index_is.command index_is.plain count h.0 in
+    let changed = subst (λ s. Does old.step_limit (mode_of old) [] (record { schema = s; trees = old.now.trees }) (statement_of index_text (understood schema index_text)) None (CreateIndex 5) (Ok (w.tally, new.now))) was.schema w.changed in
+    let all = went (subst (λ t. Does old.step_limit (mode_of old) [] (record { schema = schema; trees = old.now.trees }) t None (CreateIndex 5) (Ok (w.tally, new.now))) index_is.whole changed) in
+    let it = all.1 in
+    let both : Ok it.index ≡ Ok index_is.made = sym it.defined ∙ index_is.defines in
+    let same : it.index ≡ index_is.made = cc in
+    let now : new.now ≡ all.0 = ap (λ (p : Tally × Database). p.1) (same_value all.2) in
+    let empty = subst (λ (d : Database). AllByRecursion (λ t. d.trees t.tree ≡ []) all_tables) (sym now) (still_empty all_tables old.now.trees all.0.trees was.empty it.rows) in
+    let tables = empty_tables new.now (ap (λ (d : Database). d.schema) now ∙ it.is ∙ ap (indexed schema grants) same ∙ index_is.leaves) empty in
+    record { has = tables.0; empty = tables.1; shown = subst (λ b. Shows old new new.now old.committed b) (sym inside) h.1 }

@@ -1,0 +1,163 @@
+-- What asking for the number of the register does.
+use Rattle.std.proofs.Common.{◌≡◌, ◌≢◌, ◌⊎◌, inl, inr, ℕ, ℤ, List, [], ◌∷◌, map, filter, true, None, Some, Ok, Err, Result, IfOk, IfErr, IfSome, IsTrue, refl, sym, ap, subst, ◌∙◌}
+use Rattle.std.specs.Prelude.{Vec, Option, Bool}
+use Rattle.std.specs.declared.cmp.Ordering.{Ordering}
+use Rattle.std.specs.declared.alloc.Global.{Global}
+use Rattle.std.specs.List.Sorted.{IsPermutation}
+use Rattle.std.proofs.lemmas.List.Sorted.{IsPermutation-map, IsPermutation-sym}
+use Rattle.sqlite.specs.Order.{Row}
+use Rattle.sqlite_trees.specs.declared.error.StoreError.{StoreError}
+use Rattle.sqlite_trees.specs.declared.error.StoreError.TheVariants as cause
+use Rattle.sqlite_schema.specs.declared.command.Returning.{Returning}
+use Rattle.sqlite_schema.specs.declared.command.Command.{Command}
+use Rattle.sqlite_schema.specs.declared.command.Command.TheVariants.{Select, Rows}
+use Rattle.sqlite_resolve.specs.declared.compiled.Compiled.{Compiled}
+use Rattle.sqlite_resolve.specs.declared.error.CompileError.{CompileError}
+use Rattle.sqlite.specs.Listing.{understood}
+use Rattle.sqlite.specs.Effect.{Database, RefusesToRead}
+use Rattle.sqlite.specs.State.{State, Shown, ShowsRows, FailsToQuery, FailsToShow, IsNotRun, IsTooLate, IsRolledBack, IsUnchanged, KeepsCommit, store_error}
+use Rattle.sqlite.specs.declared.error.Error.{Error}
+use Rattle.sqlite.specs.declared.error.Error.TheVariants.{SqlInputError}
+use Rattle.sqlite.proofs.Callers.{IsPlain, one_permutation}
+use Rattle.fr_tables.specs.Schema.{register_schema}
+use Rattle.fr_tables.specs.Rows.{RegisterRow, of_register, register_in}
+use Rattle.fr_tables.specs.Tables.{HasTables, AreKept, tables_in}
+use Rattle.fr_tables.specs.Changes.{AreListed}
+use Rattle.fr_tables.proofs.FindLemmas.{Queries}
+use Rattle.fr_tables.specs.Statements.{shows_register, every}
+use Rattle.fr_tables.specs.Asking.{number_text, numbered, HasNumber}
+use Rattle.fr_tables.proofs.RegisterLemmas.{its_row}
+use Rattle.fr_tables.proofs.ReadLemmas.{reads, stored_as, known, all_known, listed}
+
+-- ---- whatever the text means, nothing is committed inside a transaction
+
+same_commit : (old new : State) → IsUnchanged old new → KeepsCommit old new
+same_commit old new h = record { was_open = λ _. h.0.was_open; committed = λ _. h.0.committed_is }
+
+undone_commit : (old new : State) → IsRolledBack old new → KeepsCommit old new
+undone_commit old new h = record { was_open = h.was_open; committed = λ up. (h.undone up).1 }
+
+module _ (sql : List ℕ) (old new : State) (inside : old.in_transaction ≡ true) where
+  shows_keeps : (c : Compiled) (params : Row) (rows : List Row) (what : Option Returning) → ShowsRows old new sql c params rows what → KeepsCommit old new
+  shows_keeps c params rows None h = same_commit old new h.3
+  shows_keeps c params rows (Some what) h = record { was_open = λ _. h.1.shown.was_open; committed = λ _. rw inside at h.1.shown.committed_is }
+
+  pub shown_keeps : (params : Row) (rows : List Row) → Shown sql params old new rows → KeepsCommit old new
+  unfolding Shown
+  shown_keeps params rows h = shows_keeps h.0 _ rows h.0.returning h.2
+
+  refused_keeps : (c : Compiled) (params : Row) (e : Error) (what : Option Returning) → FailsToShow old new sql c params e what → KeepsCommit old new
+  refused_keeps c params e None h = same_commit old new h.3
+  refused_keeps c params e (Some what) (inl h) = same_commit old new h.1
+  refused_keeps c params e (Some what) (inr h) = undone_commit old new h.3
+
+  pub failed_keeps : (params : Row) (e : Error) → FailsToQuery sql params old new e ⊎ IsTooLate sql params old new e → KeepsCommit old new
+  unfolding FailsToQuery IsNotRun
+  failed_keeps params e (inl (inl (inl h))) = same_commit old new h.1
+  failed_keeps params e (inl (inl (inr h))) = undone_commit old new h.3
+  failed_keeps params e (inl (inr h)) = refused_keeps h.0 _ e h.0.returning h.2
+  failed_keeps params e (inr h) = same_commit old new h.5
+
+  pub keeps : (params : Row) (r : Result (Vec Row Global) Error) → IfOk r (λ rows. Shown sql params old new rows.items) → IfErr r (λ e. FailsToQuery sql params old new e ⊎ IsTooLate sql params old new e)
+      → KeepsCommit old new
+  keeps params (Ok rows) h k = shown_keeps params rows.items h
+  keeps params (Err e) h k = failed_keeps params e k
+
+-- what was asked inside is undone
+pub as_before : (old mid new : State) → (IsTrue old.is_open → old.now ≡ old.committed) → KeepsCommit old mid → IsRolledBack mid new → IsTrue new.is_open
+    → IsTrue old.is_open × (new.now ≡ old.now) × (new.committed ≡ old.committed)
+as_before old mid new settled kept undone up =
+    let there = undone.was_open up in
+    let same = kept.committed there in
+    (kept.was_open there, (undone.undone up).0 ∙ same ∙ sym (settled (kept.was_open there)), (undone.undone up).1 ∙ same)
+
+-- ---- of a register
+
+all_pass : (xs : List RegisterRow) → filter every xs ≡ xs
+all_pass [] = refl
+all_pass (x ∷ xs) = ap (λ ys. x ∷ ys) (all_pass xs)
+
+pub numbers_shown : (old new : State) (rows : List Row) → HasTables old.now → Shown number_text [] old new rows → IsPermutation (map shows_register (tables_in old.now.trees).register) rows
+numbers_shown old new rows was h =
+    let q = its_row in
+    let scans = reads register_schema number_text 0 q.tests q.order q.project q.is [] old new rows was.schema h (stored_as of_register) (map (known register_in) (old.now.trees 0)) (all_known of_register register_in (old.now.trees 0) was.register.typed) in
+    let all = listed of_register shows_register register_in every _ (old.now.trees 0) [] q.tests q.order q.project rows q.tested q.compared q.projected scans in
+    subst (IsPermutation (map shows_register (tables_in old.now.trees).register)) (sym all.shown) (IsPermutation-map shows_register _ _ (rw all_pass at all.same))
+
+no_text_fault : (kind : StoreError) (x : _) → store_error kind ≢ SqlInputError x
+no_text_fault cause.OutOfMemory x e = absurd cc
+no_text_fault cause.Io x e = absurd cc
+no_text_fault cause.Corrupt x e = absurd cc
+no_text_fault cause.Full x e = absurd cc
+no_text_fault cause.Broken x e = absurd cc
+no_text_fault cause.Unstorable x e = absurd cc
+
+read_is_no_text : (limit : Option ℕ) (command : Command) (db : Database) (params : Row) (e : Error) (x : _) → RefusesToRead limit command db params e → e ≢ SqlInputError x
+read_is_no_text limit (Select q names) db params e x (inl h) is = absurd (let k = h.0 in cc)
+read_is_no_text limit (Select q names) db params e x (inr (inl h)) is = absurd (let k = h.0 in cc)
+read_is_no_text limit (Select q names) db params e x (inr (inr h)) is = absurd (let k = h.0 in cc)
+read_is_no_text limit (Rows values width names) db params e x h is = absurd (let k = h.0 in cc)
+read_is_no_text limit _ db params e x h is = absurd cc
+
+plain_not_err : (r : Result Compiled CompileError) (fault : CompileError) → IsPlain r → r ≢ Err fault
+plain_not_err (Ok c) fault plain e = absurd cc
+plain_not_err (Err f) fault plain e = absurd plain
+
+-- the text is understood, so the error is another
+pub no_text_error : (old new : State) (e : Error) (x : _) → HasTables old.now → FailsToQuery number_text [] old new e ⊎ IsTooLate number_text [] old new e → e ≢ SqlInputError x
+unfolding FailsToQuery IsNotRun
+no_text_error old new e x was (inl (inl (inl h))) is = elim h.0 [
+  | inl bad ↦ absurd (plain_not_err _ bad.0 its_row.is.plain (sym (ap (λ s. understood s number_text) was.schema) ∙ bad.1))
+  | inr other ↦ elim other.2 [ inl many ↦ absurd (let k = many.1 in cc) | inr rest ↦ elim rest [ inl few ↦ absurd (let k = few.1 in cc) | inr late ↦ absurd (let k = late.1 in cc) ] ]
+]
+no_text_error old new e x was (inl (inl (inr h))) is = absurd (no_text_fault h.0 x (sym h.1 ∙ is))
+no_text_error old new e x was (inl (inr h)) is =
+    let plain : IsPlain (understood old.now.schema number_text) = rw was.schema its_row.is.plain in
+    let bare = subst IsPlain h.1.is plain in
+    let refused = rw bare.0 at h.2 in
+    absurd (read_is_no_text _ h.0.command refused.0 _ e x refused.2 is)
+no_text_error old new e x was (inr h) is = absurd (let k = h.4 in cc)
+
+pub asked_shown : (sql : List ℕ) (old begun mid : State) (r : Result (Vec Row Global) Error) → sql ≡ number_text → begun.now ≡ old.now → HasTables old.now → IfOk r (λ rows. Shown sql [] begun mid rows.items)
+    → IfOk r (λ rows. IsPermutation (map shows_register (tables_in old.now.trees).register) rows.items)
+asked_shown sql old begun mid (Ok rows) text same was h =
+    subst (λ (d : Database). IsPermutation (map shows_register (tables_in d.trees).register) rows.items) same
+    (numbers_shown begun mid rows.items (subst HasTables (sym same) was) (subst (λ t. Shown t [] begun mid rows.items) text h))
+asked_shown sql old begun mid (Err e) text same was h = tt
+
+pub asked_told : (sql : List ℕ) (old begun mid : State) (r : Result (Vec Row Global) Error) → sql ≡ number_text → begun.now ≡ old.now → HasTables old.now
+    → IfErr r (λ e. FailsToQuery sql [] begun mid e ⊎ IsTooLate sql [] begun mid e) → IfErr r (λ e. (x : CompileError) → e ≢ SqlInputError x)
+asked_told sql old begun mid (Ok rows) text same was h = tt
+asked_told sql old begun mid (Err e) text same was h = λ x. no_text_error begun mid e x (subst HasTables (sym same) was) (subst (λ t. FailsToQuery t [] begun mid e ⊎ IsTooLate t [] begun mid e) text h)
+
+-- what is asked of another table
+module _ {X : Type 0} (columns shows : X → Row) (read : Row → X) (passes : X → Bool) (cmp : X → X → Ordering) (tree : ℕ) (text : List ℕ) (q : Queries columns shows passes cmp tree text []) where
+  rows_listed : (begun mid : State) (rows : List Row) → HasTables begun.now → AreKept columns read (begun.now.trees tree) → Shown text [] begun mid rows → AreListed shows passes cmp (map read (begun.now.trees tree)) rows
+  rows_listed begun mid rows was kept h =
+      let scans = reads register_schema text tree q.tests q.order q.project q.is [] begun mid rows was.schema h (stored_as columns) (map (known read) (begun.now.trees tree)) (all_known columns read (begun.now.trees tree) kept.typed) in
+      listed columns shows read passes cmp (begun.now.trees tree) [] q.tests q.order q.project rows q.tested q.compared q.projected scans
+
+  pub asked_listed : (sql : List ℕ) (old begun mid : State) (r : Result (Vec Row Global) Error) → sql ≡ text → begun.now ≡ old.now → HasTables old.now → AreKept columns read (old.now.trees tree)
+      → IfOk r (λ rows. Shown sql [] begun mid rows.items) → IfOk r (λ rows. AreListed shows passes cmp (map read (old.now.trees tree)) rows.items)
+  asked_listed sql old begun mid (Ok rows) is same was kept h =
+      subst (λ (d : Database). AreListed shows passes cmp (map read (d.trees tree)) rows.items) same
+      (rows_listed begun mid rows.items (subst HasTables (sym same) was) (subst (λ (d : Database). AreKept columns read (d.trees tree)) (sym same) kept) (subst (λ t. Shown t [] begun mid rows.items) is h))
+  asked_listed sql old begun mid (Err e) is same was kept h = tt
+
+one_number : (xs : List RegisterRow) (n : ℤ) → map shows_register xs ≡ shows_register (numbered n) ∷ [] → xs ≡ numbered n ∷ []
+one_number [] n e = absurd cc
+one_number (x ∷ []) n e = let same : x.schema ≡ n = cc in ap (λ m. numbered m ∷ []) same
+one_number (x ∷ y ∷ xs) n e = absurd cc
+
+-- the rows are those of one number, and so is the register
+pub number_known : (db : Database) (n : ℤ) (rows : List Row) → rows ≡ shows_register (numbered n) ∷ [] → IsPermutation (map shows_register (tables_in db.trees).register) rows → HasTables db → HasNumber db n
+number_known db n rows is same was =
+    record { has = was; number = one_number (tables_in db.trees).register n (one_permutation (shows_register (numbered n)) _ (IsPermutation-sym _ _ (rw is at same))) }
+
+pub rows_known : (db : Database) (n : ℤ) (rows : List Row) → HasNumber db n → IsPermutation (map shows_register (tables_in db.trees).register) rows → rows ≡ shows_register (numbered n) ∷ []
+rows_known db n rows has same = one_permutation (shows_register (numbered n)) rows (rw has.number at same)
+
+pub number_some : (db : Database) (rows : List Row) (found : Option ℤ) → IfSome found (λ n. rows ≡ shows_register (numbered n) ∷ []) → (HasTables db → IsPermutation (map shows_register (tables_in db.trees).register) rows)
+    → IfSome found (λ n. HasTables db → HasNumber db n)
+number_some db rows None is same = tt
+number_some db rows (Some n) is same = λ was. number_known db n rows is (same was) was

@@ -1,0 +1,12 @@
+use Rattle.std.proofs.Common.{refl}
+use Rattle.sqlite.specs.Held.{state}
+use Rattle.fr_tables.proofs.NumberLemmas.{number_some, rows_known}
+use Rattle.fr_tables.proofs.asking.number.Goals as goal
+
+pub returns-in-Ok-clause-some : goal.returns-in-Ok-clause-some
+returns-in-Ok-clause-some g c clean =
+    number_some (state g.S.Store c.args.conn.now).now c.in-Ok.rows.items c.number_of.result (rw c.as_slice.ensures.value at c.number_of.ensures.some) (c.in-Ok.ensures.number clean refl)
+
+pub returns-in-Ok-clause-found : goal.returns-in-Ok-clause-found
+returns-in-Ok-clause-found g c clean n has =
+    c.number_of.ensures.none n (rw c.as_slice.ensures.value (rows_known (state g.S.Store c.args.conn.now).now n c.in-Ok.rows.items has (c.in-Ok.ensures.number clean refl has.has)))

@@ -1,0 +1,10 @@
+pub mod SchemaText
+pub mod Schema
+pub mod Rows
+pub mod Tables
+pub mod Changes
+pub mod Statements
+pub mod Making
+pub mod Filling
+pub mod ClusterRows
+pub mod Asking

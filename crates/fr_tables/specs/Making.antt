@@ -1,0 +1,44 @@
+-- How far the tables are made.
+use Rattle.std.specs.Prelude.{◌≡◌, ℕ, [], take, Result, MatchResult, IsTrue}
+use Rattle.std.specs.List.{AllByRecursion}
+use Rattle.sqlite.specs.Effect.{Database}
+use Rattle.sqlite.specs.State.{State, Shows, HasCleanDisk, KeepsCommit}
+use Rattle.fr_tables.specs.Schema.{schema_of, all_tables}
+use Rattle.fr_tables.specs.Tables.{Tables, HasTables}
+use Rattle.fr_tables.specs.Changes.{Stays, tables_of}
+
+-- the database has the first so many tables and keys' indexes, and no row
+pub record IsFresh (count others : ℕ) (db : Database) : Type 0 where
+  pub schema : db.schema ≡ schema_of count others
+  pub empty : AllByRecursion (λ t. db.trees t.tree ≡ []) (take count all_tables)
+
+pub record Enlarges (count others : ℕ) (old new : State) : Type 0 where
+  pub fresh : IsFresh count others new.now
+  pub shown : Shows old new new.now old.committed old.in_transaction
+
+-- A statement inside a transaction takes the tables from here to there, or fails and leaves them here.
+abbrev pub MakesTable : {X E : Type 0} → ℕ → ℕ → ℕ → ℕ → State → State → Result X E → Type 0
+MakesTable count others next others_next old new r =
+    HasCleanDisk new → IsTrue old.in_transaction → IsFresh count others old.now → MatchResult r (λ _. Enlarges next others_next old new) (λ _. Stays old new)
+
+abbrev pub no_rows : Tables
+no_rows = record { register = []; cluster = []; suppliers = []; nodes = []; variants = []; grants = []; frames = []; placements = []; signals = []; imports = []; dropped = [] }
+
+-- all tables are there, with no row
+pub record IsMade (old new : State) : Type 0 where
+  pub has : HasTables new.now
+  pub empty : tables_of new ≡ no_rows
+  pub shown : Shows old new new.now old.committed old.in_transaction
+
+-- The last statement makes the index, or fails and leaves the tables as they are.
+abbrev pub MakesAll : {X E : Type 0} → State → State → Result X E → Type 0
+MakesAll old new r = HasCleanDisk new → IsTrue old.in_transaction → IsFresh 11 10 old.now → MatchResult r (λ _. IsMade old new) (λ _. Stays old new)
+
+-- Several statements inside a transaction take the tables from here to there, or fail and commit nothing.
+abbrev pub Grows : {X E : Type 0} → ℕ → ℕ → ℕ → ℕ → State → State → Result X E → Type 0
+Grows count others next others_next old new r =
+    HasCleanDisk new → IsTrue old.in_transaction → IsFresh count others old.now → MatchResult r (λ _. Enlarges next others_next old new) (λ _. KeepsCommit old new)
+
+-- The statements inside a transaction make all tables, or fail and commit nothing.
+abbrev pub MakesWhole : {X E : Type 0} → State → State → Result X E → Type 0
+MakesWhole old new r = HasCleanDisk new → IsTrue old.in_transaction → IsFresh 0 0 old.now → MatchResult r (λ _. IsMade old new) (λ _. KeepsCommit old new)

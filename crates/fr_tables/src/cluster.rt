@@ -1,0 +1,177 @@
+//! The cluster that the rows of a register tell of.
+
+ghost use Rattle.std.specs.Prelude.{◌≡◌, [], ◌∷◌, pos, map, IfOk, IfSome, IsTrue, Ok};
+ghost use Rattle.std.specs.List.{list_any};
+ghost use Rattle.std.specs.Str.{bytes_eq};
+ghost use Rattle.sqlite.specs.Order.{column};
+ghost use Rattle.sqlite.specs.declared.types.Value.TheVariants.{Int, Text};
+ghost use Rattle.fr_base.specs.Names.{is_name, is_key};
+ghost use Rattle.fr_base.specs.Parameters.{check_params};
+ghost use Rattle.fr_base.specs.Channels.{text_of_channels};
+ghost use Rattle.fr_base.specs.Cluster.{IsWellFormed, names_rise, keys_of, keys_differ, is_cluster};
+ghost use Rattle.fr_tables.specs.Statements.{cluster_row, shows_cluster, shows_supplier};
+ghost use Rattle.fr_tables.specs.Filling.{supplier_row};
+ghost use Rattle.fr_tables.specs.ClusterRows.{AreFormed, shown_supplier};
+
+use fr_base::{
+    Channels, Config, Key, MAX_SUPPLIERS, Name, NoMemory, Params, RawParams, Supplier, Suppliers,
+};
+use sqlite::Row;
+use sqlite_value::value::ValueRef;
+use std::alloc::Global;
+
+/// A copy of a cluster.
+pub fn copied(alloc: Global, config: &Config) -> Result<Config, NoMemory>
+    ensures { IfOk result (λ copy. copy ≡ config.now) }
+{
+    let mut suppliers = Suppliers::new(alloc);
+    let list = config.suppliers();
+    for supplier in list {
+        suppliers.push(*supplier)?;
+    }
+    Ok(Config::new(config.params(), config.integrator(), suppliers))
+}
+
+fn number(row: &Row, at: usize) -> Option<u32>
+    ensures { IfSome result (λ n. column row.now at ≡ Int (pos n)) }
+{
+    match row.get_ref(at) {
+        Ok(ValueRef::Int(n)) => u32::try_from(n).ok(),
+        _ => None,
+    }
+}
+
+fn text(row: &Row, at: usize) -> Option<&str>
+    ensures { IfSome result (λ text. column row.now at ≡ Text text.now) }
+{
+    match row.get_ref(at) {
+        Ok(ValueRef::Text(bytes)) => std::str::from_utf8(bytes).ok(),
+        _ => None,
+    }
+}
+
+fn channels(row: &Row, at: usize) -> Option<Channels>
+    ensures { IfSome result (λ channels. column row.now at ≡ Text (text_of_channels channels)) }
+{
+    Channels::read(text(row, at)?)
+}
+
+fn key(row: &Row, at: usize) -> Option<Key>
+    ensures value { IfSome result (λ key. column row.now at ≡ Text key) }
+    ensures formed { IfSome result (λ key. IsTrue (is_key key)) }
+{
+    Key::read(text(row, at)?)
+}
+
+fn name(row: &Row, at: usize) -> Option<Name>
+    ensures value { IfSome result (λ name. column row.now at ≡ Text name) }
+    ensures formed { IfSome result (λ name. IsTrue (is_name name)) }
+{
+    Name::read(text(row, at)?)
+}
+
+/// The parameters and the integrator's key, if the row has their form.
+fn params_of(row: &Row) -> Option<(Params, Key)>
+    ensures row { IfSome result (λ read. row.now ≡ shows_cluster (cluster_row read.0 read.1)) }
+    ensures formed { IfSome result (λ read. IsTrue (is_key read.1)) }
+    ensures checked { IfSome result (λ read. check_params read.0 ≡ Ok read.0) }
+{
+    if row.column_count() != 9 {
+        return None;
+    }
+    let raw = RawParams {
+        static_slots: number(row, 0)?,
+        slot_macroticks: number(row, 1)?,
+        dynamic_macroticks: number(row, 2)?,
+        symbol_macroticks: number(row, 3)?,
+        idle_macroticks: number(row, 4)?,
+        macroticks_per_cycle: number(row, 5)?,
+        payload_words: number(row, 6)?,
+        channels: channels(row, 7)?,
+    };
+    let params = Params::check(raw).ok()?;
+    Some((params, key(row, 8)?))
+}
+
+/// The supplier, if the row has its form.
+fn supplier_of(row: &Row) -> Option<Supplier>
+    ensures row { IfSome result (λ s. row.now ≡ shown_supplier s) }
+    ensures formed { IfSome result (λ s. IsTrue (is_name s.name) × IsTrue (is_key s.key)) }
+{
+    if row.column_count() != 2 {
+        return None;
+    }
+    Some(Supplier {
+        name: name(row, 0)?,
+        key: key(row, 1)?,
+    })
+}
+
+/// The suppliers, if each row has its form.
+fn suppliers_of(alloc: Global, rows: &[Row]) -> Option<Suppliers>
+    ensures rows { IfSome result (λ list. rows.now ≡ map shown_supplier list) }
+    ensures formed { IfSome result (λ list. AreFormed list) }
+{
+    let mut suppliers = Suppliers::new(alloc);
+    for row in rows {
+        suppliers.push(supplier_of(row)?).ok()?;
+    }
+    Some(suppliers)
+}
+
+fn has_key(suppliers: &[Supplier], key: Key) -> bool
+    ensures { result ≡ list_any (λ supplier. bytes_eq key supplier.key) suppliers.now }
+{
+    suppliers.iter().any(|supplier| key == supplier.key)
+}
+
+fn keys_differ(key: Key, suppliers: &[Supplier]) -> bool
+    ensures { result ≡ keys_differ (keys_of key suppliers.now) }
+{
+    match suppliers {
+        [] => true,
+        [next, rest @ ..] => !has_key(suppliers, key) && keys_differ(next.key, rest),
+    }
+}
+
+fn names_rise(suppliers: &[Supplier]) -> bool
+    ensures { result ≡ names_rise suppliers.now }
+{
+    match suppliers {
+        [first, rest @ ..] => {
+            let is_before = match rest {
+                [next, ..] => first.name < next.name,
+                [] => true,
+            };
+            is_before && names_rise(rest)
+        }
+        [] => true,
+    }
+}
+
+#[tactic(auto, unfolding(crate::proofs::ConfigLemmas::is_cluster_open))]
+fn is_cluster(integrator: Key, suppliers: &[Supplier]) -> bool
+    ensures { result ≡ is_cluster integrator suppliers.now }
+{
+    if suppliers.len() > MAX_SUPPLIERS || !names_rise(suppliers) {
+        return false;
+    }
+    keys_differ(integrator, suppliers)
+}
+
+/// The cluster of these rows. None, if they make none, or for want of memory.
+pub fn read(alloc: Global, cluster: &[Row], suppliers: &[Row]) -> Option<Config>
+    ensures cluster { IfSome result (λ c. cluster.now ≡ shows_cluster (cluster_row c.params c.integrator) ∷ []) }
+    ensures suppliers { IfSome result (λ c. suppliers.now ≡ map shown_supplier c.suppliers) }
+    ensures formed { IfSome result IsWellFormed }
+{
+    let [row] = cluster else {
+        return None;
+    };
+    let (params, integrator) = params_of(row)?;
+    let suppliers = suppliers_of(alloc, suppliers)?;
+    if !is_cluster(integrator, suppliers.as_slice()) {
+        return None;
+    }
+    Some(Config::new(params, integrator, suppliers))
+}

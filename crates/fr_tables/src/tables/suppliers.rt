@@ -1,0 +1,30 @@
+//! The suppliers and their keys.
+
+ghost use Rattle.std.specs.Prelude.{◌≡◌};
+ghost use Rattle.sqlite.specs.State.{Survives};
+ghost use Rattle.sqlite.specs.Held.{state};
+ghost use Rattle.fr_tables.specs.Changes.{Makes, Finds, Spares};
+ghost use Rattle.fr_tables.specs.Statements.{with_supplier, shows_supplier, suppliers_cmp, every};
+
+use fr_base::{Key, Name};
+use sqlite::{Alter, Connection, Error, Row, Transaction, params};
+
+/// Adds a supplier.
+pub fn insert<S: Alter>(tx: &mut Transaction<'_, S>, name: &Name, key: &Key) -> Result<usize, Error>
+    ensures same_reference { tx.new.conn.ghost_name ≡ tx.old.conn.ghost_name }
+    ensures added { Makes (with_supplier (record { name = name.now; key = key.now })) (state S.Store tx.old.conn.now) (state S.Store tx.new.conn.now) result }
+    ensures survives { Survives (state S.Store tx.old.conn.now) (state S.Store tx.new.conn.now) (λ _. ⊥) }
+{
+    tx.execute(
+        "INSERT INTO suppliers (name, key) VALUES (?1, ?2)",
+        params![name.as_str(), key.as_str()],
+    )
+}
+
+/// All suppliers, by name.
+pub fn all<S: Alter>(conn: &mut Connection<S>) -> Result<Vec<Row>, Error>
+    ensures listed { Finds shows_supplier every suppliers_cmp (λ t. t.suppliers) (state S.Store conn.old) (state S.Store conn.new) result }
+    ensures spares { Spares (state S.Store conn.old) (state S.Store conn.new) }
+{
+    conn.query_all("SELECT name, key FROM suppliers ORDER BY name", &[])
+}
