@@ -1,6 +1,6 @@
 mod LineLemmas
-mod StreamLemmas
-pub mod KeyLaws
+mod CommandLaws
 pub mod OutputLaws
 pub mod RunLaws
 pub mod EndingLaws
+pub mod AskingLaws

@@ -1,23 +1,39 @@
--- How a job ends: its status, and what is said of it on standard error.
-use Rattle.std.specs.Prelude.{◌≡◌, ℕ, List, ◌++◌, codes, Option, Result, Ok, Err, ⊤}
+-- How a job ends: its status, and what is said of it on standard output and standard error.
+use Rattle.std.specs.Prelude.{◌≡◌, ◌⊎◌, ℕ, List, ◌++◌, codes, Option, Result, Ok, Err, ⊤}
+use Rattle.std.specs.Global.{Vec}
 use Rattle.std.specs.Io.KnownBytes.{Appends, Keeps}
-use Rattle.fr_cli.specs.ScriptFault.{script_fault_word}
-use Rattle.fr_cli.specs.declared.script_fault.ScriptFault.{ScriptFault}
+use Rattle.fr_cli.specs.Faults.{fault_word}
+use Rattle.fr_cli.specs.declared.failure.Failure.{Failure}
+use Rattle.fr_cli.specs.declared.failure.Failure.TheVariants as failure
+use Rattle.fr_cli.specs.declared.fault.Fault.{Fault}
+use Rattle.fr_cli.specs.declared.fault.Fault.TheVariants.{WriteFailed}
 
 -- 0 where it was done, 1 where a fault ended it
-abbrev pub status_of : Result ⊤ ScriptFault → ℕ
+abbrev pub status_of : Result ⊤ Fault → ℕ
 status_of (Ok _) = 0
 status_of (Err _) = 1
 
 -- the line that names a fault
-abbrev pub fault_line : ScriptFault → List ℕ
-fault_line fault = codes "slotplan: " ++ script_fault_word fault ++ codes "\n"
+abbrev pub word_line : List ℕ → List ℕ
+word_line word = codes "slotplan: " ++ word ++ codes "\n"
 
 -- A front of the text was written, or all of it.
 abbrev pub AppendsFront : Option (List ℕ) → Option (List ℕ) → List ℕ → Type 0
 AppendsFront old new text = (written : List ℕ) × (missing : List ℕ) × (text ≡ written ++ missing) × Appends old new written
 
 -- Nothing is said of what was done; of a fault its line, as far as it can be written.
-abbrev pub Tells : Option (List ℕ) → Option (List ℕ) → Result ⊤ ScriptFault → Type 0
+abbrev pub Tells : Option (List ℕ) → Option (List ℕ) → Result ⊤ Fault → Type 0
 Tells old new (Ok _) = Keeps old new
-Tells old new (Err fault) = AppendsFront old new (fault_line fault)
+Tells old new (Err fault) = AppendsFront old new (word_line (fault_word fault))
+
+-- The text was printed; or standard output failed, and that is said.
+abbrev pub IsPrinted : List ℕ → Option (List ℕ) → Option (List ℕ) → Option (List ℕ) → Option (List ℕ) → ℕ → Type 0
+IsPrinted text out out' err err' status =
+    ((status ≡ 0) × Appends out out' text × Keeps err err')
+    ⊎ ((status ≡ 1) × AppendsFront out out' text × AppendsFront err err' (word_line (fault_word WriteFailed)))
+
+-- What a job gives is printed. Of one that is not done its refusal's line is said, or its fault's, as far as it can be written.
+abbrev pub IsTold : Result (Vec ℕ) Failure → Option (List ℕ) → Option (List ℕ) → Option (List ℕ) → Option (List ℕ) → ℕ → Type 0
+IsTold (Ok text) out out' err err' status = IsPrinted text.items out out' err err' status
+IsTold (Err (failure.Refused line)) out out' err err' status = (status ≡ 1) × Keeps out out' × AppendsFront err err' line.items
+IsTold (Err (failure.Fault fault)) out out' err err' status = (status ≡ 1) × Keeps out out' × AppendsFront err err' (word_line (fault_word fault))

@@ -4,6 +4,10 @@ pub mod Asked
 pub mod Output
 pub mod Answering
 pub mod Laws
+pub mod Commands
 pub mod Words
+pub mod Faults
+pub mod Asking
 pub mod Endings
+pub mod Performing
 pub mod Runs

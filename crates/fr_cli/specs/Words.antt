@@ -1,19 +1,26 @@
--- The words of the command line, after the program's name.
-use Rattle.std.specs.Prelude.{ℕ, List, [], ◌∷◌, Bool, ◌&&◌, ◌||◌, if◌then◌else◌, codes}
-use Rattle.std.specs.Str.{bytes_eq}
-use Rattle.fr_cli.specs.declared.program.Job.{Job}
-use Rattle.fr_cli.specs.declared.program.Job.TheVariants.{Run, Help, Usage}
+-- The words of the command line, after the program's name, and the job that they ask for.
+use Rattle.std.specs.Prelude.{◌≡◌, ◌≤◌, List, Some, codes}
+use Rattle.clap.specs.Walk.{Row, Text, first_of}
+use Rattle.clap.specs.Words.{subcommand_of}
+use Rattle.fr_cli.specs.Commands.{slotplan}
+use Rattle.fr_cli.specs.declared.words.Job.{Job}
+use Rattle.fr_cli.specs.declared.words.Job.TheVariants.{Run, Create, Serve, Schedule, Gaps, Import}
 
--- whether the word asks for the usage
-abbrev pub is_help : List ℕ → Bool
-is_help word = bytes_eq word (codes "--help") || bytes_eq word (codes "-h")
+-- The word at this place is this text.
+abbrev pub Has : Text → List Row → Text → Type 0
+Has name rows text = first_of name rows ≡ Some text
 
--- whether the word is `run`
-abbrev pub is_run : List ℕ → Bool
-is_run word = bytes_eq word (codes "run")
+-- The job is the subcommand's of this name, with the words that stand at its places.
+abbrev pub IsJobOf : Job → Text → List Row → Type 0
+IsJobOf Run name rows = name ≡ codes "run"
+IsJobOf (Create db config) name rows = (name ≡ codes "create") × Has (codes "DB") rows db.now × Has (codes "CONFIG") rows config.now
+IsJobOf (Serve db port count) name rows = (name ≡ codes "serve") × Has (codes "DB") rows db.now
+    × (1 ≤ port) × (port ≤ 65535) × (1 ≤ count) × (count ≤ 1000000)
+IsJobOf (Schedule db variant) name rows = (name ≡ codes "schedule") × Has (codes "DB") rows db.now × Has (codes "VARIANT") rows variant.now
+IsJobOf (Gaps db variant) name rows = (name ≡ codes "gaps") × Has (codes "DB") rows db.now × Has (codes "VARIANT") rows variant.now
+IsJobOf (Import db key variant label file) name rows = (name ≡ codes "import") × Has (codes "DB") rows db.now × Has (codes "KEY") rows key.now
+    × Has (codes "VARIANT") rows variant.now × Has (codes "LABEL") rows label.now × Has (codes "FILE") rows file.now
 
--- the job that the words ask for; all other words are answered by the usage
-abbrev pub job_of : List (List ℕ) → Job
-job_of (word ∷ []) = if is_run word then Run else if is_help word then Help else Usage
-job_of (word ∷ help ∷ []) = if is_run word && is_help help then Help else Usage
-job_of _ = Usage
+-- The words ask for the job: it is that of the subcommand that `clap` finds in them.
+abbrev pub AskFor : List Text → Job → Type 0
+AskFor words job = (name : Text) × (rows : List Row) × (subcommand_of slotplan words ≡ Some (name, rows)) × IsJobOf job name rows

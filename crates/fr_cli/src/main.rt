@@ -1,17 +1,25 @@
 //! The program `slotplan`.
 #![tactic(auto)]
 
+mod asking;
+mod commands;
+mod creating;
+mod failure;
+mod fault;
+mod files;
 mod input;
 mod laws;
 mod lines;
-mod output;
-mod program;
+mod lines_out;
+mod perform;
+mod printing;
 mod script;
 mod script_fault;
+mod serving;
+mod words;
 
-use crate::output::Output;
-use crate::program::{Job, perform, read_words, status_of};
-use crate::script_fault::ScriptFault;
+use crate::perform::{explain, perform};
+use crate::words::{WordFault, read_words};
 use std::env;
 use std::io::{self, ErrorKind};
 use std::process::ExitCode;
@@ -20,31 +28,42 @@ fn main(rt: HostRuntime) -> ExitCode {
     ExitCode::from(run(&rt))
 }
 
-// Does what the words of the command line ask for, and gives the status. Words that are not UTF-8
-// name no job.
+// Does what the words of the command line ask for, and gives the status.
 fn run(rt: &HostRuntime) -> u8 {
+    let mut out = io::writer(rt);
     let mut err = rt.stderr();
-    let job = match words(rt) {
-        Ok(words) => read_words(&words),
-        Err(error) if error.kind() == ErrorKind::OutOfMemory => {
-            return status_of(Err(ScriptFault::NoMemory), &mut Output::new(&mut err));
-        }
-        Err(_) => Job::Usage,
+    let words = match given_words(rt) {
+        Ok(words) => words,
+        Err(error) => return explain(&unread(rt, &error), &mut out, &mut err),
     };
-    perform(
-        rt.alloc(),
-        job,
-        &mut rt.reader(),
-        &mut io::writer(rt),
-        &mut err,
-    )
+    match read_words(rt.alloc(), &words) {
+        Ok(job) => perform(rt, &job, &mut rt.reader(), &mut out, &mut err),
+        Err(fault) => explain(&fault, &mut out, &mut err),
+    }
 }
 
 // The words after the program's name.
-fn words(rt: &HostRuntime) -> io::Result<Vec<String>> {
+fn given_words(rt: &HostRuntime) -> io::Result<Vec<String>> {
     let mut words = Vec::new(rt.alloc());
     for word in env::args(rt)?.skip(1) {
         words.push(word)?;
     }
     Ok(words)
 }
+
+// Why the words cannot be read: there is no memory for them, or one is not UTF-8.
+fn unread(rt: &HostRuntime, error: &io::Error) -> WordFault {
+    if error.kind() == ErrorKind::OutOfMemory {
+        return WordFault::NoMemory;
+    }
+    match String::from_str(rt.alloc(), NOT_UTF8) {
+        Ok(text) => WordFault::Usage { text },
+        Err(_) => WordFault::NoMemory,
+    }
+}
+
+const NOT_UTF8: &str = "\
+error: a word is not UTF-8 text
+
+For more information, try '--help'.
+";

@@ -13,12 +13,13 @@ ghost use Rattle.fr_text.specs.AnswerText.{text_of};
 
 use crate::input::read_all;
 use crate::lines::{RequestLines, key_and_text, split_script};
-use crate::output::Output;
+use crate::lines_out::line_of;
 use crate::script_fault::ScriptFault;
 use fr_base::{Actor, Answer, Ask, NoMemory, Refusal};
+use fr_http::Output;
 use fr_office::{Office, Records};
 use fr_store::Store;
-use fr_text::{read_command, read_config, write_answer};
+use fr_text::{read_command, read_config};
 use std::alloc::Global;
 use std::io::{Read, Write};
 use std::str;
@@ -92,9 +93,7 @@ fn write_answers<R: Records, W: Write>(
 fn text_line(alloc: Global, answer: Answer) -> Result<Vec<u8>, NoMemory>
     ensures { IfOk result (λ text. text.items ≡ text_of answer ++ codes "\n") }
 {
-    let mut text = write_answer(alloc, &answer)?;
-    text.push(b'\n')?;
-    Ok(text)
+    line_of(alloc, &answer)
 }
 
 // The answer to a request's line, which may change the register.

@@ -3,6 +3,7 @@ ghost use Rattle.std.specs.Prelude.{◌≡◌, Some};
 ghost use Rattle.fr_cli.specs.ScriptFault.{script_fault_word};
 
 use fr_base::NoMemory;
+use fr_http::WriteFailed;
 use fr_text::ConfigFault;
 use std::fmt;
 
@@ -62,6 +63,16 @@ impl From<NoMemory> for ScriptFault {
 
     fn from(_refused: NoMemory) -> Self {
         Self::NoMemory
+    }
+}
+
+impl From<WriteFailed> for ScriptFault {
+    ghost use Rattle.fr_cli.specs.declared.script_fault.ScriptFault.TheVariants.{WriteFailed as Failed};
+
+    ghost from_gives = { λ _ fault. fault ≡ Failed };
+
+    fn from(_failed: WriteFailed) -> Self {
+        Self::WriteFailed
     }
 }
 

@@ -1,4 +1,4 @@
-use Rattle.std.proofs.Common.{rules, ◌≡◌, ◌≤◌, length, Some, Ok, IfOk, sym, subst}
+use Rattle.std.proofs.Common.{rules, ◌≡◌, ◌≤◌, length, Some, Ok, IfOk, subst}
 use Rattle.sqlite.proofs.Callers.{memory_is_clean}
 use Rattle.sqlite.specs.Held.{state}
 use Rattle.sqlite.specs.Steps.{over_memory}

@@ -1,0 +1,16 @@
+-- A command grows by an argument or a subcommand as its definition says.
+use Rattle.std.proofs.Common.{◌≡◌, ◌∙◌, ◌||◌, ap, ap₂, false, Bool}
+use Rattle.clap.specs.Words.{AddsArg, AddsSubcommand, App, Rule, rule_of, with_rule, with_subcommand}
+use Rattle.clap.specs.declared.builder.arg.Arg.{Arg}
+use Rattle.clap.specs.declared.builder.command.Command.{Command}
+use Rattle.fr_cli.specs.Commands.{IsReadAs}
+
+pub with_arg : (a : App) (r : Rule) (old new : Command) (arg : Arg) → AddsArg old arg new → IsReadAs a old
+    → (rule_of arg ≡ r) × (arg.global ≡ false) → IsReadAs (with_rule a r) new
+with_arg a r old new arg adds is plain =
+    (adds.shape plain.1 ∙ ap₂ with_rule is.0 plain.0, adds.globals ∙ ap₂ (λ (x y : Bool). x || y) is.1 plain.1)
+
+pub with_job : (a b : App) (old sub new : Command) → AddsSubcommand old sub new → IsReadAs a old → IsReadAs b sub
+    → IsReadAs (with_subcommand a b.top) new
+with_job a b old sub new adds is job =
+    (adds.shape job.1 ∙ ap₂ with_subcommand is.0 (ap (λ (x : App). x.top) job.0), adds.globals ∙ ap₂ (λ (x y : Bool). x || y) is.1 job.1)

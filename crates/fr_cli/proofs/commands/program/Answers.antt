@@ -1,0 +1,20 @@
+use Rattle.std.proofs.Common.{codes, ap, ◌∙◌}
+use Rattle.clap.specs.Simple.{app_of_fields}
+use Rattle.clap.specs.Words.{new_app}
+use Rattle.clap.specs.declared.builder.command.Command.{Command}
+use Rattle.clap.specs.declared.builder.command.Command.TheOpen.{Command-F}
+use Rattle.fr_cli.proofs.CommandLaws.{with_job}
+use Rattle.fr_cli.proofs.commands.program.Goals as goal
+use Rattle.fr_cli.specs.Commands.{IsReadAs, unasked}
+
+pub returns : goal.returns
+returns c =
+    let new : IsReadAs (new_app (codes "slotplan")) c.in_ok-bin_name.field-0 =
+    (ap app_of_fields c.in_ok-bin_name.ensures.0 ∙ c.new.ensures.app, ap (λ (f : Command-F Command). f.has_globals) c.in_ok-bin_name.ensures.0 ∙ c.new.ensures.local) in
+    let start : IsReadAs (unasked (codes "slotplan")) c.settings.result = c.settings.ensures (codes "slotplan") new in
+    with_job _ _ _ _ _ c.in_ok-program.ensures
+    (with_job _ _ _ _ _ c.in_ok-subcommand-5.ensures
+    (with_job _ _ _ _ _ c.in_ok-subcommand-4.ensures
+    (with_job _ _ _ _ _ c.in_ok-subcommand-3.ensures
+    (with_job _ _ _ _ _ c.in_ok-subcommand-2.ensures
+    (with_job _ _ _ _ _ c.in_ok-subcommand.ensures start c.run.ensures) c.in_ok-create.ensures) c.in_ok-serve.ensures) c.in_ok-report.ensures) c.in_ok-report-2.ensures) c.in_ok-import.ensures

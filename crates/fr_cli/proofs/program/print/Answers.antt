@@ -1,6 +1,0 @@
-use Rattle.fr_cli.proofs.EndingLaws.{front-of}
-use Rattle.fr_cli.proofs.program.print.Goals as goal
-
-pub returns-clause-front : goal.returns-clause-front
-returns-clause-front g c =
-    front-of c.write_all.result (g.W.Write.contents c.args.output.now.writer.now) (g.W.Write.contents c.write_all.new.self.writer.now) c.as_bytes.result.now c.args.text.now c.as_bytes.ensures.value c.write_all.ensures.ok c.write_all.ensures.err

@@ -1,0 +1,74 @@
+-- What the command line asks of a register, and what it prints of the answer.
+use Rattle.std.specs.Prelude.{◌≡◌, ◌++◌, ℕ, List, Bool, true, false, Result, Ok, Err, codes}
+use Rattle.std.specs.Global.{Vec}
+use Rattle.fr_base.specs.Actors.{actor_of}
+use Rattle.fr_base.specs.Book.{Book}
+use Rattle.fr_base.specs.Cluster.{Cluster}
+use Rattle.fr_base.specs.declared.actor.Actor.TheVariants.{Integrator}
+use Rattle.fr_base.specs.declared.answer.Answer.{Answer}
+use Rattle.fr_base.specs.declared.answer.Answer.TheVariants.{Refused, RefusedRow}
+use Rattle.fr_base.specs.declared.refusal.Refusal.{Refusal}
+use Rattle.fr_base.specs.declared.request.Ask.{Ask}
+use Rattle.fr_base.specs.declared.request.Request.{Request}
+use Rattle.fr_base.specs.declared.request.Request.TheVariants as request
+use Rattle.fr_text.specs.AnswerText.{text_of}
+use Rattle.fr_text.specs.Report.{gap_lines, schedule_lines}
+use Rattle.fr_text.specs.Styles.{plain_lines}
+use Rattle.fr_http.specs.Asking.{Standing}
+use Rattle.fr_http.specs.Connection.{InSound}
+use Rattle.fr_cli.specs.Asked.{asked_by}
+use Rattle.fr_cli.specs.Output.{Replied}
+use Rattle.fr_cli.specs.declared.asking.ImportWords.{ImportWords}
+use Rattle.fr_cli.specs.declared.asking.Report.{Report}
+use Rattle.fr_cli.specs.declared.asking.Report.TheVariants.{Schedule, Gaps}
+use Rattle.fr_cli.specs.declared.failure.Failure.{Failure}
+use Rattle.fr_cli.specs.declared.failure.Failure.TheVariants as failure
+use Rattle.fr_cli.specs.declared.fault.Fault.TheVariants.{NoMemory}
+
+-- the query for a report
+abbrev pub request_for : Report → List ℕ → Request
+request_for Schedule variant = request.Schedule variant
+request_for Gaps variant = request.Gaps variant
+
+-- the lines of its answer
+abbrev pub report_of : Report → Answer → List ℕ
+report_of Schedule answer = plain_lines (schedule_lines answer)
+report_of Gaps answer = plain_lines (gap_lines answer)
+
+-- the integrator asks for a report
+abbrev pub query_of : Report → List ℕ → Cluster → Book → Result Ask Refusal
+query_of report variant c b = Ok (record { actor = Integrator; request = request_for report variant })
+
+-- the request for the import of a file
+abbrev pub import_request : ImportWords → List ℕ → Request
+import_request words body = request.Import words.variant.now words.label.now body
+
+-- whoever has the key asks for it
+abbrev pub import_of : ImportWords → List ℕ → Cluster → Book → Result Ask Refusal
+import_of words body c b = asked_by (actor_of c b words.key.now) (import_request words body)
+
+-- whether the answer refuses what was asked
+abbrev pub is_refusal : Answer → Bool
+is_refusal (Refused refusal) = true
+is_refusal (RefusedRow line refusal) = true
+is_refusal _ = false
+
+-- the answer on a line of its own
+abbrev pub line_of : Answer → List ℕ
+line_of answer = text_of answer ++ codes "\n"
+
+-- In each sound book for which the register stood this was asked, and may be answered so; and the register stands for the book
+-- after it.
+abbrev pub IsAnswer : Type 0 → Standing → Standing → (Cluster → Book → Result Ask Refusal) → Answer → Type 0
+IsAnswer clean old new asks answer = clean → InSound old (λ c b. (last : Book) × Replied c b (asks c b) answer last × new c last)
+
+-- What is printed is this text of the answer; where it is a refusal, its line; or memory was wanting.
+abbrev pub Prints : (Answer → Type 0) → (Answer → List ℕ) → Result (Vec ℕ) Failure → Type 0
+Prints Is print (Ok text) = (answer : Answer) × Is answer × (is_refusal answer ≡ false) × (text.items ≡ print answer)
+Prints Is print (Err (failure.Refused line)) = (answer : Answer) × Is answer × (is_refusal answer ≡ true) × (line.items ≡ line_of answer)
+Prints Is print (Err (failure.Fault fault)) = fault ≡ NoMemory
+
+-- What failed so was answered by this line; or memory was wanting for it.
+abbrev pub IsRefusedBy : Answer → Failure → Type 0
+IsRefusedBy answer (failure.Refused line) = line.items ≡ line_of answer
+IsRefusedBy answer (failure.Fault fault) = fault ≡ NoMemory

@@ -1,0 +1,59 @@
+-- The command line of the program, as `clap` reads it: a subcommand for each job, with the words that it takes.
+use Rattle.std.specs.Prelude.{◌∷◌, [], ◌≡◌, Some, pos, true, false, codes}
+use Rattle.clap.specs.Simple.{new_shape}
+use Rattle.clap.specs.Words.{App, Rule, Text, app_of, new_app, new_rule, with_rule, with_subcommand}
+use Rattle.clap.specs.declared.builder.action.ArgAction.TheVariants.{Set}
+use Rattle.clap.specs.declared.builder.command.Command.{Command}
+use Rattle.clap.specs.declared.builder.command.Command.TheViews.{out-Command as fields_of}
+use Rattle.clap.specs.declared.builder.value_parser.ValueParser.TheVariants.{Signed}
+
+-- a word that must stand at its place
+abbrev pub word : Text → Rule
+word name = record (new_rule name) { required = true; action = Some Set }
+
+-- a port's number
+abbrev pub port : Rule
+port = record (word (codes "PORT")) { parser = Some (Signed (pos 1) (pos 65535)) }
+
+-- how many connections are served
+abbrev pub count : Rule
+count = record (new_rule (codes "count")) {
+  long = Some (codes "count");
+  action = Some Set;
+  value_names = 1;
+  defaults = codes "1000000" ∷ [];
+  parser = Some (Signed (pos 1) (pos 1000000));
+}
+
+abbrev pub run : App
+run = new_app (codes "run")
+
+abbrev pub create : App
+create = with_rule (with_rule (new_app (codes "create")) (word (codes "DB"))) (word (codes "CONFIG"))
+
+abbrev pub serve : App
+serve = with_rule (with_rule (with_rule (new_app (codes "serve")) (word (codes "DB"))) port) count
+
+-- `schedule` and `gaps`
+abbrev pub report : Text → App
+report name = with_rule (with_rule (new_app name) (word (codes "DB"))) (word (codes "VARIANT"))
+
+abbrev pub import_words : App
+import_words = with_rule (with_rule (with_rule (with_rule (with_rule (new_app (codes "import")) (word (codes "DB"))) (word (codes "KEY")))
+    (word (codes "VARIANT"))) (word (codes "LABEL"))) (word (codes "FILE"))
+
+-- the program's own word is left out; a subcommand is wanted, and without a word the help is shown
+abbrev pub unasked : Text → App
+unasked name = record {
+  top = record (new_shape name) { no_binary_name = true; subcommand_required = true; arg_required_else_help = true };
+  subs = [];
+}
+
+-- the program, with one subcommand for each job
+abbrev pub slotplan : App
+slotplan = with_subcommand (with_subcommand (with_subcommand (with_subcommand (with_subcommand (with_subcommand
+    (unasked (codes "slotplan")) run.top) create.top) serve.top) (report (codes "schedule")).top) (report (codes "gaps")).top) import_words.top
+
+-- The command is read so, and has no argument that its subcommands have too.
+abbrev pub IsReadAs : App → Command → Type 0
+IsReadAs app command = (app_of command ≡ app) × ((fields_of command).has_globals ≡ false)

@@ -1,0 +1,35 @@
+-- The words of the faults that end a job or a connection.
+use Rattle.std.specs.Prelude.{ℕ, List, codes}
+use Rattle.fr_cli.specs.ScriptFault.{script_fault_word}
+use Rattle.fr_cli.specs.declared.fault.Fault.{Fault}
+use Rattle.fr_cli.specs.declared.fault.Fault.TheVariants.{Script, Config, Register, CannotOpen, CannotListen, NoMemory, WriteFailed}
+use Rattle.fr_http.specs.declared.fault.LinkFault.{LinkFault}
+use Rattle.fr_http.specs.declared.fault.LinkFault.TheVariants as link
+use Rattle.fr_store.specs.declared.fault.StoreFault.{StoreFault}
+use Rattle.fr_store.specs.declared.fault.StoreFault.TheVariants as store
+use Rattle.fr_text.specs.ClusterFile.{config_fault_word}
+
+-- a register's
+abbrev pub store_word : StoreFault → List ℕ
+store_word store.NotEmpty = codes "NotEmpty"
+store_word store.NotARegister = codes "NotARegister"
+store_word store.WrongSchema = codes "WrongSchema"
+store_word store.Unavailable = codes "Unavailable"
+
+-- a connection's
+abbrev pub link_word : LinkFault → List ℕ
+link_word link.Truncated = codes "Truncated"
+link_word link.ReadFailed = codes "ReadFailed"
+link_word link.TooManyReads = codes "TooManyReads"
+link_word (link.WriteFailed _) = codes "WriteFailed"
+link_word (link.NoMemory _) = codes "NoMemory"
+
+-- the fault's word, as it is printed
+abbrev pub fault_word : Fault → List ℕ
+fault_word (Script fault) = script_fault_word fault
+fault_word (Config fault) = config_fault_word fault
+fault_word (Register fault) = store_word fault
+fault_word CannotOpen = codes "CannotOpen"
+fault_word CannotListen = codes "CannotListen"
+fault_word NoMemory = codes "NoMemory"
+fault_word WriteFailed = codes "WriteFailed"

@@ -1,0 +1,25 @@
+-- What a job prints, and how it ends.
+use Rattle.std.specs.Prelude.{◌≡◌, ◌++◌, ℕ, List, true, false, codes, decimal, Result, Ok, Err, ⊤}
+use Rattle.std.specs.Global.{Vec}
+use Rattle.fr_base.specs.declared.answer.Answer.{Answer}
+use Rattle.fr_cli.specs.Asking.{is_refusal, line_of}
+use Rattle.fr_cli.specs.declared.failure.Failure.{Failure}
+use Rattle.fr_cli.specs.declared.failure.Failure.TheVariants as failure
+use Rattle.fr_cli.specs.declared.fault.Fault.{Fault}
+use Rattle.fr_cli.specs.declared.fault.Fault.TheVariants.{Script}
+use Rattle.fr_cli.specs.declared.script_fault.ScriptFault.{ScriptFault}
+
+-- how the run of a script ends, as a job
+abbrev pub of_script : Result ⊤ ScriptFault → Result ⊤ Fault
+of_script (Ok done) = Ok done
+of_script (Err fault) = Err (Script fault)
+
+-- The job gives this text of an answer that is no refusal; or the line of one that is.
+abbrev pub Says : (Answer → List ℕ) → Result (Vec ℕ) Failure → Type 0
+Says print (Ok text) = (answer : Answer) × (is_refusal answer ≡ false) × (text.items ≡ print answer)
+Says print (Err (failure.Refused line)) = (answer : Answer) × (is_refusal answer ≡ true) × (line.items ≡ line_of answer)
+Says print (Err (failure.Fault fault)) = ⊤
+
+-- the line of a server that listens
+abbrev pub listening : ℕ → List ℕ
+listening port = codes "listening on 127.0.0.1:" ++ decimal port ++ codes "\n"

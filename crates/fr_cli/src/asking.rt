@@ -1,0 +1,133 @@
+//! Asks a register on the words of the command line.
+ghost use Rattle.std.specs.Prelude.{◌≡◌, IfOk};
+ghost use Rattle.fr_base.specs.Actors.{actor_of};
+ghost use Rattle.fr_cli.specs.Asked.{asked_by};
+ghost use Rattle.fr_cli.specs.Asking.{IsAnswer, IsRefusedBy, Prints, import_of, import_request, is_refusal, line_of, query_of, report_of, request_for};
+
+use crate::failure::Failure;
+use crate::fault::Fault;
+use crate::lines_out::line_of;
+use fr_base::{Actor, Answer, Ask, Body, Desk, NoMemory, Refusal, Request, Text};
+use fr_text::{write_gaps, write_schedule};
+use std::alloc::Global;
+
+/// A report of a variant.
+#[derive(Clone, Copy, Debug, PartialEq, Eq)]
+pub enum Report {
+    /// What is sent in which cycle, slot and channel.
+    Schedule,
+    /// The greatest gap of each frame.
+    Gaps,
+}
+
+impl Report {
+    // The query for it.
+    fn request(self, alloc: Global, variant: &str) -> Result<Request, NoMemory>
+        ensures { IfOk result (λ request. request ≡ request_for self variant.now) }
+    {
+        let variant = Text::copy(alloc, variant)?;
+        Ok(match self {
+            Report::Schedule => Request::Schedule { variant },
+            Report::Gaps => Request::Gaps { variant },
+        })
+    }
+
+    // The lines of its answer.
+    fn lines(self, alloc: Global, answer: &Answer) -> Result<Vec<u8>, NoMemory>
+        ensures { IfOk result (λ text. text.items ≡ report_of self answer.now) }
+    {
+        match self {
+            Report::Schedule => write_schedule(alloc, answer),
+            Report::Gaps => write_gaps(alloc, answer),
+        }
+    }
+}
+
+/// The report of a variant, as the integrator reads it.
+pub fn report_on<D: Desk>(
+    alloc: Global,
+    desk: &mut D,
+    report: Report,
+    variant: &str,
+) -> Result<Vec<u8>, Failure>
+    ensures falls { D.clean desk.new → D.clean desk.old }
+    ensures prints { Prints (IsAnswer (D.clean desk.new) (D.stands desk.old) (D.stands desk.new) (query_of report variant.now)) (report_of report) result }
+{
+    let request = report.request(alloc, variant)?;
+    let actor = Actor::Integrator;
+    let answer = desk.ask(alloc, &Ask { actor, request });
+    if is_refusal(&answer) {
+        return Err(refused(alloc, &answer));
+    }
+    Ok(report.lines(alloc, &answer)?)
+}
+
+/// What the command line says of an import.
+#[derive(Clone, Copy, Debug)]
+pub struct ImportWords<'a> {
+    /// The key of who asks.
+    pub key: &'a str,
+    /// The variant into which the file's rows go.
+    pub variant: &'a str,
+    /// The label under which the import is kept.
+    pub label: &'a str,
+}
+
+impl ImportWords<'_> {
+    // The request for the import of a file.
+    fn request(self, alloc: Global, body: &[u8]) -> Result<Request, NoMemory>
+        ensures { IfOk result (λ request. request ≡ import_request self.entry body.now) }
+    {
+        Ok(Request::Import {
+            variant: Text::copy(alloc, self.variant)?,
+            label: Text::copy(alloc, self.label)?,
+            body: Body::copy(alloc, body)?,
+        })
+    }
+}
+
+/// Carries out the import of a file, and gives the line of the answer.
+pub fn import<D: Desk>(
+    alloc: Global,
+    desk: &mut D,
+    words: ImportWords<'_>,
+    body: &[u8],
+) -> Result<Vec<u8>, Failure>
+    ensures falls { D.clean desk.new → D.clean desk.old }
+    ensures prints { Prints (IsAnswer (D.clean desk.new) (D.stands desk.old) (D.stands desk.new) (import_of words.entry body.now)) line_of result }
+{
+    let request = words.request(alloc, body)?;
+    let answer = ask_by(alloc, desk, words.key, request);
+    if is_refusal(&answer) {
+        return Err(refused(alloc, &answer));
+    }
+    Ok(line_of(alloc, &answer)?)
+}
+
+// Asks as who has the key.
+fn ask_by<D: Desk>(alloc: Global, desk: &mut D, key: &str, request: Request) -> Answer
+    ensures falls { D.clean desk.new → D.clean desk.old }
+    ensures answers { IsAnswer (D.clean desk.new) (D.stands desk.old) (D.stands desk.new) (λ c b. asked_by (actor_of c b key.now) request) result }
+{
+    match desk.actor_of(key) {
+        Some(actor) => desk.ask(alloc, &Ask { actor, request }),
+        None => Answer::Refused(Refusal::UnknownKey),
+    }
+}
+
+// Whether the answer refuses what was asked.
+fn is_refusal(answer: &Answer) -> bool
+    ensures { result ≡ is_refusal answer.now }
+{
+    matches!(answer, Answer::Refused(_) | Answer::RefusedRow { .. })
+}
+
+// The failure of a job that was answered so.
+fn refused(alloc: Global, answer: &Answer) -> Failure
+    ensures { IsRefusedBy answer.now result }
+{
+    match line_of(alloc, answer) {
+        Ok(line) => Failure::Refused { line },
+        Err(NoMemory) => Failure::Fault(Fault::NoMemory),
+    }
+}

@@ -1,0 +1,203 @@
+//! The commands of the program, as the command line names them.
+ghost use Rattle.std.specs.Prelude.{◌≡◌, IfOk, codes, false};
+ghost use Rattle.clap.specs.Words.{Text, new_app, rule_of};
+ghost use Rattle.fr_cli.specs.Commands as app;
+ghost use Rattle.fr_cli.specs.Commands.{IsReadAs};
+
+use clap::{Arg, ArgAction, Command, Error, value_parser};
+use std::alloc::Global;
+
+/// How many connections are served at most, and where no number is given.
+pub const MAX_CONNECTIONS: u32 = 1_000_000;
+
+/// The program's command line: a subcommand for each thing that it does.
+pub fn program<'a>(alloc: Global) -> Result<Command<'a>, Error>
+    ensures { IfOk result (IsReadAs app.slotplan) }
+{
+    let program = settings(Command::new(alloc, "slotplan").bin_name("slotplan")?)
+        .subcommand(run(alloc))?
+        .subcommand(create(alloc)?)?
+        .subcommand(serve(alloc)?)?
+        .subcommand(report(alloc, "schedule", SCHEDULE_ABOUT, SCHEDULE_HELP)?)?
+        .subcommand(report(alloc, "gaps", GAPS_ABOUT, GAPS_HELP)?)?
+        .subcommand(import(alloc)?)?;
+    Ok(program)
+}
+
+// The words begin with a subcommand; without a word the help is shown.
+fn settings<'a>(command: Command<'a>) -> Command<'a>
+    ensures { (name : Text) → IsReadAs (new_app name) command.entry → IsReadAs (app.unasked name) result }
+{
+    command
+        .about(PROGRAM_ABOUT)
+        .after_help(PROGRAM_HELP)
+        .no_binary_name(true)
+        .subcommand_required(true)
+        .arg_required_else_help(true)
+}
+
+fn run<'a>(alloc: Global) -> Command<'a>
+    ensures { IsReadAs app.run result }
+{
+    Command::new(alloc, "run")
+        .about("Answers a script on standard input, over a register in memory")
+        .after_help(RUN_HELP)
+}
+
+fn create<'a>(alloc: Global) -> Result<Command<'a>, Error>
+    ensures { IfOk result (IsReadAs app.create) }
+{
+    let command = Command::new(alloc, "create")
+        .about("Makes a register file of a cluster file")
+        .after_help(CREATE_HELP)
+        .arg(db(alloc))?
+        .arg(word(
+            alloc,
+            "CONFIG",
+            "The cluster file (TOML), at most 1,048,576 bytes",
+        ))?;
+    Ok(command)
+}
+
+fn serve<'a>(alloc: Global) -> Result<Command<'a>, Error>
+    ensures { IfOk result (IsReadAs app.serve) }
+{
+    let command = Command::new(alloc, "serve")
+        .about("Serves a register file over HTTP")
+        .after_help(SERVE_HELP)
+        .arg(db(alloc))?
+        .arg(port(alloc))?
+        .arg(count(alloc))?;
+    Ok(command)
+}
+
+// The port, 1 to 65,535.
+fn port<'a>(alloc: Global) -> Arg<'a>
+    ensures { (rule_of result ≡ app.port) × (result.global ≡ false) }
+{
+    word(alloc, "PORT", "The TCP port on 127.0.0.1").value_parser(value_parser!(u16).range(1..))
+}
+
+// After how many connections the server ends, 1 to [`MAX_CONNECTIONS`].
+fn count<'a>(alloc: Global) -> Arg<'a>
+    ensures { (rule_of result ≡ app.count) × (result.global ≡ false) }
+{
+    Arg::new(alloc, "count")
+        .long("count")
+        .value_name("N")
+        .help("Ends after so many connections")
+        .action(ArgAction::Set)
+        .default_value("1000000")
+        .value_parser(value_parser!(u32).range(1..=1_000_000))
+}
+
+fn report<'a>(
+    alloc: Global,
+    name: &'a str,
+    about: &'a str,
+    help: &'a str,
+) -> Result<Command<'a>, Error>
+    ensures { IfOk result (IsReadAs (app.report name.entry.now)) }
+{
+    let command = Command::new(alloc, name)
+        .about(about)
+        .after_help(help)
+        .arg(db(alloc))?
+        .arg(variant(alloc))?;
+    Ok(command)
+}
+
+fn import<'a>(alloc: Global) -> Result<Command<'a>, Error>
+    ensures { IfOk result (IsReadAs app.import_words) }
+{
+    let command = Command::new(alloc, "import")
+        .about(
+            "Carries out a supplier's import: a CSV file of placements or signals, all rows or none",
+        )
+        .after_help(IMPORT_HELP)
+        .arg(db(alloc))?
+        .arg(word(alloc, "KEY", "The supplier's key"))?
+        .arg(variant(alloc))?
+        .arg(word(
+            alloc,
+            "LABEL",
+            "The import's label: sent again, it has the same answer",
+        ))?
+        .arg(word(alloc, "FILE", "The file (CSV), at most 65,536 bytes"))?;
+    Ok(command)
+}
+
+// The register file.
+fn db<'a>(alloc: Global) -> Arg<'a>
+    ensures { (rule_of result ≡ app.word (codes "DB")) × (result.global ≡ false) }
+{
+    word(alloc, "DB", "The register file (an SQLite database)")
+}
+
+// The variant.
+fn variant<'a>(alloc: Global) -> Arg<'a>
+    ensures { (rule_of result ≡ app.word (codes "VARIANT")) × (result.global ≡ false) }
+{
+    word(alloc, "VARIANT", "The variant's name")
+}
+
+// A word that is to stand at its place.
+fn word<'a>(alloc: Global, name: &'a str, help: &'a str) -> Arg<'a>
+    ensures { (rule_of result ≡ app.word name.entry.now) × (result.global ≡ false) }
+{
+    Arg::new(alloc, name)
+        .help(help)
+        .required(true)
+        .action(ArgAction::Set)
+}
+
+const PROGRAM_ABOUT: &str = "\
+Plans the static segment of a FlexRay bus: a register in which an integrator grants
+slots, and each supplier places frames and packs signals of its own";
+
+const SCHEDULE_ABOUT: &str =
+    "Prints a variant's schedule: what is sent in which cycle, slot and channel";
+
+const GAPS_ABOUT: &str =
+    "Prints the greatest gap between two sendings of each frame of a variant, in macroticks";
+
+const PROGRAM_HELP: &str = "\
+Status 0: done. Status 1: refused, or a fault; standard error says which.
+Status 2: the words name no job.
+
+Example: a register file, its schedule, and a server
+  slotplan create car.db cluster.toml
+  slotplan serve car.db 8080
+  slotplan schedule car.db v1";
+
+const RUN_HELP: &str = "\
+A script is a cluster file, the line ---, and a request on each line after it:
+a key, a space and the request's JSON.
+
+Example:
+  slotplan run < first.script";
+
+const CREATE_HELP: &str = "\
+Example:
+  slotplan create car.db cluster.toml";
+
+const SERVE_HELP: &str = "\
+Example:
+  slotplan serve car.db 8080
+  curl -H 'X-Office-Key: supplier01' http://127.0.0.1:8080/v1/variants/v1/schedule";
+
+const SCHEDULE_HELP: &str = "\
+Each line: cycle, slot, channel, frame, node, supplier.
+
+Example:
+  slotplan schedule car.db v1";
+
+const GAPS_HELP: &str = "\
+Each line: GAP, macroticks or never, frame, supplier.
+
+Example:
+  slotplan gaps car.db v1";
+
+const IMPORT_HELP: &str = "\
+Example:
+  slotplan import car.db supplier01 v1 week47 placements.csv";

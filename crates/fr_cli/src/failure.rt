@@ -1,0 +1,35 @@
+//! How a job ends that is not done.
+ghost use Rattle.std.specs.Prelude.{◌≡◌};
+
+use crate::fault::Fault;
+use fr_base::NoMemory;
+
+/// Why a job is not done: the register refused it, or a fault ended it.
+#[derive(Debug, Drop)]
+pub enum Failure {
+    /// It was refused; this is the line of the refused answer.
+    Refused { line: Vec<u8> },
+    /// A fault ended it.
+    Fault(Fault),
+}
+
+impl From<Fault> for Failure {
+    ghost use Rattle.fr_cli.specs.declared.failure.Failure.TheVariants.{Fault as Ended};
+
+    ghost from_gives = { λ fault failure. failure ≡ Ended fault };
+
+    fn from(fault: Fault) -> Self {
+        Self::Fault(fault)
+    }
+}
+
+impl From<NoMemory> for Failure {
+    ghost use Rattle.fr_cli.specs.declared.fault.Fault.TheVariants.{NoMemory};
+    ghost use Rattle.fr_cli.specs.declared.failure.Failure.TheVariants.{Fault as Ended};
+
+    ghost from_gives = { λ _ failure. failure ≡ Ended NoMemory };
+
+    fn from(_refused: NoMemory) -> Self {
+        Self::Fault(Fault::NoMemory)
+    }
+}

@@ -1,0 +1,162 @@
+//! Does a job, and says how it ended.
+ghost use Rattle.std.specs.Prelude.{◌≡◌, ◌⊎◌, Result, ⊤, List, ℕ};
+ghost use Rattle.std.specs.Borrow.{Bor};
+ghost use Rattle.std.specs.Global.{Vec};
+ghost use Rattle.std.specs.Io.KnownBytes.{Appends, Keeps};
+ghost use Rattle.fr_cli.specs.Asking.{line_of, report_of};
+ghost use Rattle.fr_cli.specs.Endings.{AppendsFront, IsPrinted, IsTold, Tells, status_of};
+ghost use Rattle.fr_cli.specs.Performing.{Says, listening, of_script};
+ghost use Rattle.fr_cli.specs.Runs.{IsRunOf};
+ghost use Rattle.fr_cli.specs.declared.asking.Report.TheVariants as report;
+ghost use Rattle.fr_cli.specs.declared.failure.Failure.{Failure as Ended};
+ghost use Rattle.fr_cli.specs.declared.fault.Fault.{Fault as Word};
+ghost use Rattle.fr_cli.specs.declared.script_fault.ScriptFault.{ScriptFault};
+
+use crate::asking::{ImportWords, Report, import, report_on};
+use crate::creating::create;
+use crate::failure::Failure;
+use crate::fault::Fault;
+use crate::files::{close_register, open_register, read_front};
+use crate::printing::{end, print, print_all, tell};
+use crate::script::run_script;
+use crate::serving::serve;
+use crate::words::{Job, WordFault};
+use fr_http::Output;
+use std::alloc::Global;
+use std::io::{Read, Write};
+
+/// How much of an import's file is read: one byte more than an import may have.
+pub const IMPORT_BYTES: usize = 65_537;
+
+/// Does the job, and gives the status that the process ends with: 0 where it was done, 1 where the
+/// register refused it or a fault ended it. What cannot be written to `err` is lost.
+pub fn perform<R: Read, O: Write, E: Write>(
+    rt: &HostRuntime,
+    job: &Job<'_>,
+    input: &mut R,
+    out: &mut O,
+    err: &mut E,
+) -> u8
+    ensures run { job.now ≡ Job.Run → (done : Result ⊤ ScriptFault) × (result ≡ status_of (of_script done))
+        × Tells (E.contents err.old) (E.contents err.new) (of_script done)
+        × IsRunOf (R.remaining input.old) (R.remaining input.new) (O.contents out.old) (O.contents out.new) done }
+    ensures create { (db config : Bor (List ℕ)) → job.now ≡ Job.Create db config → (done : Result ⊤ Word) × (result ≡ status_of done)
+        × Keeps (O.contents out.old) (O.contents out.new) × Tells (E.contents err.old) (E.contents err.new) done }
+    ensures schedule { (db variant : Bor (List ℕ)) → job.now ≡ Job.Schedule db variant → (done : Result (Vec ℕ) Ended) × Says (report_of report.Schedule) done
+        × IsTold done (O.contents out.old) (O.contents out.new) (E.contents err.old) (E.contents err.new) result }
+    ensures gaps { (db variant : Bor (List ℕ)) → job.now ≡ Job.Gaps db variant → (done : Result (Vec ℕ) Ended) × Says (report_of report.Gaps) done
+        × IsTold done (O.contents out.old) (O.contents out.new) (E.contents err.old) (E.contents err.new) result }
+    ensures import { (db key variant label file : Bor (List ℕ)) → job.now ≡ Job.Import db key variant label file → (done : Result (Vec ℕ) Ended) × Says line_of done
+        × IsTold done (O.contents out.old) (O.contents out.new) (E.contents err.old) (E.contents err.new) result }
+    ensures serve { (db : Bor (List ℕ)) (port count : ℕ) → job.now ≡ Job.Serve db port count → AppendsFront (O.contents out.old) (O.contents out.new) (listening port) }
+{
+    let mut err = Output::new(err);
+    match *job {
+        Job::Run => end_script(rt.alloc(), input, out, &mut err),
+        Job::Create { db, config } => end(create(rt, db, config), &mut err),
+        Job::Serve { db, port, count } => end(serve(rt, db, port, count, out, &mut err), &mut err),
+        Job::Schedule { db, variant } => {
+            tell(
+                report_file(rt, db, Report::Schedule, variant),
+                out,
+                &mut err,
+            )
+        }
+        Job::Gaps { db, variant } => tell(
+            report_file(rt, db, Report::Gaps, variant),
+            out,
+            &mut err,
+        ),
+        Job::Import {
+            db,
+            key,
+            variant,
+            label,
+            file,
+        } => {
+            let words = ImportWords {
+                key,
+                variant,
+                label,
+            };
+            tell(import_file(rt, db, words, file), out, &mut err)
+        }
+    }
+}
+
+/// Says why words name no job, and gives the status: 0 where help was asked for, 1 where there was no
+/// memory, 2 where the program was called otherwise.
+pub fn explain<O: Write, E: Write>(fault: &WordFault, out: &mut O, err: &mut E) -> u8
+    ensures help { (text : _) → fault.now ≡ WordFault.Help text
+        → IsPrinted text.bytes.items (O.contents out.old) (O.contents out.new) (E.contents err.old) (E.contents err.new) result }
+    ensures usage { (text : _) → fault.now ≡ WordFault.Usage text → (result ≡ 2) × Keeps (O.contents out.old) (O.contents out.new)
+        × AppendsFront (E.contents err.old) (E.contents err.new) text.bytes.items }
+{
+    let mut err = Output::new(err);
+    match fault {
+        WordFault::Help { text } => print_all(text.as_bytes(), out, &mut err),
+        WordFault::Usage { text } => {
+            let _ = print(text.as_bytes(), &mut err);
+            2
+        }
+        WordFault::NoMemory => end(Err(Fault::NoMemory), &mut err),
+    }
+}
+
+// Runs the script on standard input.
+fn end_script<R: Read, O: Write, E: Write>(
+    alloc: Global,
+    input: &mut R,
+    out: &mut O,
+    err: &mut Output<'_, E>,
+) -> u8
+    ensures run { (done : Result ⊤ ScriptFault) × (result ≡ status_of (of_script done))
+        × Tells (E.contents err.old.writer.now) (E.contents err.new.writer.now) (of_script done)
+        × IsRunOf (R.remaining input.old) (R.remaining input.new) (O.contents out.old) (O.contents out.new) done }
+    ensures same { err.new.writer.ghost_name ≡ err.old.writer.ghost_name }
+{
+    match run_script(alloc, input, out) {
+        Ok(()) => end(Ok(()), err),
+        Err(fault) => end(Err(Fault::Script(fault)), err),
+    }
+}
+
+// The report of a variant of the register in a file.
+#[tactic(auto, using(crate::proofs::AskingLaws::prints_says))]
+fn report_file(
+    rt: &HostRuntime,
+    db: &str,
+    report: Report,
+    variant: &str,
+) -> Result<Vec<u8>, Failure>
+    ensures { Says (report_of report) result }
+{
+    match open_register(rt, db) {
+        Ok(mut office) => report_on(rt.alloc(), &mut office, report, variant),
+        Err(fault) => Err(Failure::Fault(fault)),
+    }
+}
+
+// Carries out the import of a file into the register in another.
+#[tactic(auto, using(crate::proofs::AskingLaws::prints_says))]
+fn import_file(
+    rt: &HostRuntime,
+    db: &str,
+    words: ImportWords<'_>,
+    file: &str,
+) -> Result<Vec<u8>, Failure>
+    ensures { Says line_of result }
+{
+    let body = match read_front(rt, file, IMPORT_BYTES) {
+        Ok(body) => body,
+        Err(fault) => return Err(Failure::Fault(fault)),
+    };
+    match open_register(rt, db) {
+        Ok(mut office) => {
+            let done = import(rt.alloc(), &mut office, words, &body);
+            close_register(office);
+            done
+        }
+        Err(fault) => Err(Failure::Fault(fault)),
+    }
+}

@@ -1,0 +1,170 @@
+//! The words of the command line, and the job for which they ask.
+ghost use Rattle.std.specs.Prelude.{◌≡◌, ◌≤◌, codes, map, string_bytes, IfOk, IfSome, List, Some};
+ghost use Rattle.clap.specs.Walk.{Row, Text, rows_of};
+ghost use Rattle.clap.specs.Words.{found_of, subcommand_rows_of};
+ghost use Rattle.fr_cli.specs.Words.{AskFor, Has, IsJobOf};
+
+use crate::commands::{MAX_CONNECTIONS, program};
+use clap::error::ErrorKind;
+use clap::{ArgMatches, Error};
+use std::alloc::Global;
+
+/// What the program is to do.
+#[derive(Clone, Copy, Debug, PartialEq, Eq)]
+pub enum Job<'a> {
+    /// Answer the script on standard input.
+    Run,
+    /// Make a register file of a cluster file.
+    Create {
+        db: &'a str,
+        config: &'a str,
+    },
+    /// Serve a register file on this port, 1 to 65,535, for so many connections, 1 to 1,000,000.
+    Serve {
+        db: &'a str,
+        port: u16,
+        count: u32,
+    },
+    /// Print a variant's schedule.
+    Schedule {
+        db: &'a str,
+        variant: &'a str,
+    },
+    /// Print the greatest gaps of a variant's frames.
+    Gaps {
+        db: &'a str,
+        variant: &'a str,
+    },
+    /// Carry out the import of a file by who has the key.
+    Import {
+        db: &'a str,
+        key: &'a str,
+        variant: &'a str,
+        label: &'a str,
+        file: &'a str,
+    },
+}
+
+/// Why words name no job.
+#[derive(Debug, Drop)]
+pub enum WordFault {
+    /// They ask for help, which is this text.
+    Help { text: String },
+    /// They are not as the program is called: this text says how it is.
+    Usage { text: String },
+    /// There was no memory to read them.
+    NoMemory,
+}
+
+/// The job that the words after the program's name ask for.
+pub fn read_words<'a>(alloc: Global, words: &'a [String]) -> Result<Job<'a>, WordFault>
+    ensures { IfOk result (AskFor (map string_bytes words.entry.now)) }
+{
+    match read(alloc, words) {
+        Ok(job) => Ok(job),
+        Err(error) => Err(fault_of(alloc, &error)),
+    }
+}
+
+fn read<'a>(alloc: Global, words: &'a [String]) -> Result<Job<'a>, Error>
+    ensures { IfOk result (AskFor (map string_bytes words.entry.now)) }
+{
+    let mut program = program(alloc)?;
+    let matches = program.try_get_matches_from_mut(words)?;
+    match job_of(&matches) {
+        Some(job) => Ok(job),
+        None => Err(program.error(ErrorKind::ValueValidation, "no job has these words")?),
+    }
+}
+
+// The job of the subcommand that was found.
+fn job_of<'a>(matches: &ArgMatches<'a>) -> Option<Job<'a>>
+    ensures { IfSome result (λ job. (name : Text) × (rows : List Row) × (subcommand_rows_of matches.now ≡ Some (name, rows)) × IsJobOf job name rows) }
+{
+    let (name, found) = matches.subcommand()?;
+    named_job(name, found)
+}
+
+// The job of the subcommand of this name, with the words that it takes.
+fn named_job<'a>(name: &str, found: &ArgMatches<'a>) -> Option<Job<'a>>
+    ensures { IfSome result (λ job. IsJobOf job name.now (rows_of (found_of found.now))) }
+{
+    match name {
+        "run" => Some(Job::Run),
+        "create" => create_job(found),
+        "serve" => serve_job(found),
+        "schedule" => schedule_job(found),
+        "gaps" => gaps_job(found),
+        "import" => import_job(found),
+        _ => None,
+    }
+}
+
+fn create_job<'a>(found: &ArgMatches<'a>) -> Option<Job<'a>>
+    ensures { IfSome result (λ job. IsJobOf job (codes "create") (rows_of (found_of found.now))) }
+{
+    Some(Job::Create {
+        db: word(found, "DB")?,
+        config: word(found, "CONFIG")?,
+    })
+}
+
+fn serve_job<'a>(found: &ArgMatches<'a>) -> Option<Job<'a>>
+    ensures { IfSome result (λ job. IsJobOf job (codes "serve") (rows_of (found_of found.now))) }
+{
+    let db = word(found, "DB")?;
+    let port = found.get_one::<u16>("PORT").filter(|port| *port > 0)?;
+    let count = found
+        .get_one::<u32>("count")
+        .filter(|count| (1..=MAX_CONNECTIONS).contains(count))?;
+    Some(Job::Serve { db, port, count })
+}
+
+fn schedule_job<'a>(found: &ArgMatches<'a>) -> Option<Job<'a>>
+    ensures { IfSome result (λ job. IsJobOf job (codes "schedule") (rows_of (found_of found.now))) }
+{
+    Some(Job::Schedule {
+        db: word(found, "DB")?,
+        variant: word(found, "VARIANT")?,
+    })
+}
+
+fn gaps_job<'a>(found: &ArgMatches<'a>) -> Option<Job<'a>>
+    ensures { IfSome result (λ job. IsJobOf job (codes "gaps") (rows_of (found_of found.now))) }
+{
+    Some(Job::Gaps {
+        db: word(found, "DB")?,
+        variant: word(found, "VARIANT")?,
+    })
+}
+
+fn import_job<'a>(found: &ArgMatches<'a>) -> Option<Job<'a>>
+    ensures { IfSome result (λ job. IsJobOf job (codes "import") (rows_of (found_of found.now))) }
+{
+    Some(Job::Import {
+        db: word(found, "DB")?,
+        key: word(found, "KEY")?,
+        variant: word(found, "VARIANT")?,
+        label: word(found, "LABEL")?,
+        file: word(found, "FILE")?,
+    })
+}
+
+// The word at this place.
+fn word<'a>(found: &ArgMatches<'a>, name: &str) -> Option<&'a str>
+    ensures { IfSome result (λ text. Has name.now (rows_of (found_of found.now)) text.now) }
+{
+    found.get_str(name)
+}
+
+// What an error of the parse is.
+fn fault_of(alloc: Global, error: &Error) -> WordFault {
+    match (error.kind(), error.to_string(alloc)) {
+        (ErrorKind::OutOfMemory, _) | (_, Err(_)) => WordFault::NoMemory,
+        (ErrorKind::DisplayHelp, Ok(text)) => WordFault::Help { text },
+        (_, Ok(text)) => WordFault::Usage { text },
+    }
+}
+
+#[cfg(test)]
+mod tests;
