@@ -1,7 +1,7 @@
 # make run      proves and builds the program where that is still to be done, and runs a script
 # make test     the gate: every proof from nothing, the must-fail edits, the tests, how rows are found, and the
 #               built program tried
-# make try      tries the built program alone, as the gate does: rows, examples, faults, limits
+# make try      tries the built program alone, as the gate does: rows, examples, faults, limits, register files, the server
 # make store    tries a register's files, its pages and edits, with the SQLite of python3; no part of the gate
 # make install  puts the proved program at $(PREFIX)/bin/slotplan
 # make bench    prints the program's speed and memory beside those of a register that python3's sqlite3 keeps, how
@@ -23,6 +23,7 @@ test: toolchain
 
 try: build
 	@python3 tests/program.py $(program)
+	@python3 tests/commands.py $(program)
 
 store: toolchain
 	@python3 tests/store_files.py

@@ -35,7 +35,8 @@ def main():
     proved = counted("rt ci", ["rt", "ci"])
     sought = counted("the statements", [sys.executable, "tests/statements.py"])
     tried = counted("the built program", [sys.executable, "tests/program.py", PROGRAM, f"{PROGRAM}.by-rattle"])
-    passed, failed = (sum(both) for both in zip(proved, sought, tried))
+    kept = counted("its commands", [sys.executable, "tests/commands.py", PROGRAM, f"{PROGRAM}.by-rattle"])
+    passed, failed = (sum(both) for both in zip(proved, sought, tried, kept))
     print(f"{passed} passed, {failed} failed")
     return 1 if failed else 0
 

@@ -24,16 +24,52 @@ OPEN = 'integrator1 {"do":"open_variant","variant":"v1"}'
 FIRST = (TOP / "examples/first.script").read_bytes()
 FIRST_ANSWERS = (TOP / "examples/first.answers").read_bytes()
 
-USAGE = b"""\
+HELP = b"""\
+Plans the static segment of a FlexRay bus: a register in which an integrator grants
+slots, and each supplier places frames and packs signals of its own
+
+Usage: slotplan <COMMAND>
+
+Commands:
+  run       Answers a script on standard input, over a register in memory
+  create    Makes a register file of a cluster file
+  serve     Serves a register file over HTTP
+  schedule  Prints a variant's schedule: what is sent in which cycle, slot and channel
+  gaps      Prints the greatest gap between two sendings of each frame of a variant, in macroticks
+  import    Carries out a supplier's import: a CSV file of placements or signals, all rows or none
+  help      Print this message or the help of the given subcommand(s)
+
+Options:
+  -h, --help  Print help
+
+Status 0: done. Status 1: refused, or a fault; standard error says which.
+Status 2: the words name no job.
+
+Example: a register file, its schedule, and a server
+  slotplan create car.db cluster.toml
+  slotplan serve car.db 8080
+  slotplan schedule car.db v1
+"""
+
+RUN_HELP = b"""\
+Answers a script on standard input, over a register in memory
+
 Usage: slotplan run
-       slotplan --help
 
-run     reads a script from standard input: a cluster file, the line ---, and a
-        request on each line after it; writes the answers to standard output
---help  prints this text
+Options:
+  -h, --help  Print help
 
-Status 0: every request was answered, refused or not. Status 1: a fault ended
-the run; standard error has its word. Status 2: the program was called otherwise.
+A script is a cluster file, the line ---, and a request on each line after it:
+a key, a space and the request's JSON.
+
+Example:
+  slotplan run < first.script
+"""
+
+NOT_UTF8 = b"""\
+error: a word is not UTF-8 text
+
+For more information, try '--help'.
 """
 
 
@@ -81,13 +117,32 @@ def another_registers():
         yield Case(f"the mixture {mix}, made with {seed}", given, output_of(["tests/naive.py"], given))
 
 
+def usage(said, *end):
+    """What is said of words that are no job, before the way to help."""
+    return "\n".join([f"error: {said}", "", *end, "For more information, try '--help'.", ""]).encode()
+
+
 def words():
-    for given in ("--help",), ("-h",), ("run", "--help"), ("run", "-h"):
-        yield Case(f"the words {given}", written=USAGE, words=given)
-    none = [(), ("",), ("walk",), ("Run",), ("run ",), ("run", ""), ("run", "run"), ("--help", "run"), ("run", "-h", "-h"), ("--helpful",)]
-    not_utf8 = [(b"\xff",), (b"run\xff",), (b"\xffrun",), (b"run", b"\xff"), (b"--help", b"\xff"), (b"r\xc0\xb5n",)]
-    for given in none + not_utf8:
-        yield Case(f"the words {given}", FIRST, said=USAGE, status=2, words=given)
+    for given in ("--help",), ("-h",), ("help",):
+        yield Case(f"the words {given}", written=HELP, words=given)
+    for given in ("run", "--help"), ("run", "-h"), ("help", "run"):
+        yield Case(f"the words {given}", written=RUN_HELP, words=given)
+    yield Case("no words", said=HELP, status=2, words=())
+    called = ("Usage: slotplan <COMMAND>", "")
+    for word in "walk", "Run", "run ":
+        tip = () if word == "walk" else ("  tip: a similar subcommand exists: 'run'", "")
+        yield Case(f"the word {word!r}", FIRST, said=usage(f"unrecognized subcommand '{word}'", *tip, *called), status=2, words=(word,))
+    for given in ("run", "run"), ("run", "x"):
+        said = usage(f"unexpected argument '{given[1]}' found", "Usage: slotplan run", "")
+        yield Case(f"the words {given}", FIRST, said=said, status=2, words=given)
+    for port in "0", "65536":
+        said = usage(f"invalid value '{port}' for '<PORT>': {port} is not in 1..=65535")
+        yield Case(f"the port {port}", said=said, status=2, words=("serve", "d", port))
+    for count in "0", "1000001":
+        said = usage(f"invalid value '{count}' for '--count <N>': {count} is not in 1..=1000000")
+        yield Case(f"the count {count}", said=said, status=2, words=("serve", "d", "1", "--count", count))
+    for given in (b"\xff",), (b"run\xff",), (b"\xffrun",), (b"run", b"\xff"), (b"--help", b"\xff"), (b"r\xc0\xb5n",):
+        yield Case(f"the words {given}", FIRST, said=NOT_UTF8, status=2, words=given)
 
 
 def by_fault():
@@ -240,7 +295,7 @@ def streams():
             yield Case(f"{named} {end}", FIRST, said=said, status=1, words=given, start=f'exec "$@" {end}')
     yield Case("usage 2> /dev/full", status=2, words=("walk",), start='exec "$@" 2> /dev/full')
     yield Case("usage 2>&-", status=2, words=("walk",), start='exec "$@" 2>&-')
-    yield Case("usage >&-", said=USAGE, status=2, words=("walk",), start='exec "$@" >&-')
+    yield Case("usage >&-", said=usage("unrecognized subcommand 'walk'", "Usage: slotplan <COMMAND>", ""), status=2, words=("walk",), start='exec "$@" >&-')
     yield Case("no separator 2> /dev/full", b"x\n", status=1, start='exec "$@" 2> /dev/full')
 
 

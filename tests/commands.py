@@ -1,0 +1,315 @@
+#!/usr/bin/env python3
+"""Tries the commands of the built program over register files, and its server: commands.py PROGRAM..
+
+What is wanted was typed by hand from docs/FORMATS.md and docs/HTTP.md; none of it is the program's own output. The files are
+read by the SQLite of python3 too. The last line is 'N passed, M failed'."""
+import os
+import signal
+import socket
+import sqlite3
+import subprocess
+import sys
+import tempfile
+from contextlib import closing, contextmanager
+from pathlib import Path
+
+TOP = Path(__file__).resolve().parent.parent
+CLUSTER, REQUESTS = (TOP / "examples/first.script").read_bytes().split(b"---\n")
+SECONDS = 60
+KILLS = 50
+
+DONE = b'{"ok":"done"}'
+SIGNALS = b"frame,signal,start,length,order\nf1,speed,0,8,little\n"
+PLACEMENTS = b"frame,node,slot,channels,base,repetition\nf2,n1,1,A,1,2\nf3,n1,2,A,0,1\n"
+
+counted = {True: 0, False: 0}
+
+
+def see(what, wanted, got):
+    """Counts whether what was got is what is wanted, and says where not."""
+    counted[wanted == got] += 1
+    if wanted != got:
+        print(f"{what}: wanted {wanted!r:.300}, got {got!r:.300}")
+
+
+def refused(number, name):
+    return f'{{"no":{number},"refused":"{name}"}}'.encode()
+
+
+# ---- commands
+
+
+def tell(program, words, folder, written=b"", said=b"", status=0):
+    """Starts the program with these words in the folder."""
+    got = subprocess.run([program, *words], cwd=folder, stdin=subprocess.DEVNULL, capture_output=True, timeout=SECONDS)
+    see(f"{program} {words}", (status, written, said), (got.returncode, got.stdout, got.stderr))
+
+
+def fault(program, words, folder, word):
+    tell(program, words, folder, said=f"slotplan: {word}\n".encode(), status=1)
+
+
+def turned_down(program, words, folder, answer):
+    tell(program, words, folder, said=answer + b"\n", status=1)
+
+
+def creating(program, folder):
+    tell(program, ["create", "car.db", "cluster.toml"], folder)
+    made = (folder / "car.db").read_bytes()
+    fault(program, ["create", "car.db", "cluster.toml"], folder, "NotEmpty")
+    see("a register that is there stays", made, (folder / "car.db").read_bytes())
+
+    (folder / "no.toml").write_bytes(b"x\n")
+    (folder / "long.toml").write_bytes(CLUSTER + b"#" * (1_048_577 - len(CLUSTER)))
+    (folder / "longest.toml").write_bytes(CLUSTER + b"#" * (1_048_576 - len(CLUSTER)))
+    fault(program, ["create", "new.db", "no.toml"], folder, "BadToml")
+    fault(program, ["create", "new.db", "none.toml"], folder, "CannotOpen")
+    fault(program, ["create", "new.db", "long.toml"], folder, "CannotOpen")
+    fault(program, ["create", "new.db", "."], folder, "CannotOpen")
+    see("no register without a cluster file", False, (folder / "new.db").exists())
+    fault(program, ["create", "none/new.db", "cluster.toml"], folder, "Unavailable")
+    tell(program, ["create", "long.db", "longest.toml"], folder)
+
+
+def opening(program, folder):
+    fault(program, ["schedule", "none.db", "v1"], folder, "NotARegister")
+    see("no file is made where none is", False, (folder / "none.db").exists())
+    (folder / "empty.db").write_bytes(b"")
+    (folder / "text.db").write_bytes(b"x" * 100)
+    with closing(sqlite3.connect(folder / "other.db")) as other:
+        other.execute("CREATE TABLE t (x)")
+    tell(program, ["create", "newer.db", "cluster.toml"], folder)
+    with closing(sqlite3.connect(folder / "newer.db")) as newer, newer:
+        newer.execute("UPDATE register SET schema = 7")
+    for file, word in ("empty.db", "NotARegister"), ("text.db", "NotARegister"), ("other.db", "NotARegister"), ("newer.db", "WrongSchema"):
+        for words in ["schedule", file, "v1"], ["gaps", file, "v1"], ["serve", file, "1024"], ["import", file, "supplier01", "v1", "a", "cluster.toml"]:
+            fault(program, words, folder, word)
+
+
+def reports(program, folder):
+    """The commands on the register that the server left."""
+    tell(program, ["schedule", "car.db", "v1"], folder, b"00 0001 A f1 n1 s1\n")
+    tell(program, ["gaps", "car.db", "v1"], folder, b"GAP    6400 f1 s1\n")
+    turned_down(program, ["schedule", "car.db", "v9"], folder, refused(10, "NoVariant"))
+    turned_down(program, ["gaps", "car.db", "1v"], folder, refused(4, "BadName"))
+
+    (folder / "placements.csv").write_bytes(PLACEMENTS)
+    (folder / "fits.csv").write_bytes(PLACEMENTS.replace(b"f3,n1,2,A,0,1", b"f3,n1,1,A,2,64"))
+    (folder / "long.csv").write_bytes(b"x" * 65_537)
+    words = ["import", "car.db", "supplier01", "v1"]
+    row = b'{"line":3,"no":29,"refused":"BadRow","row":' + refused(21, "NotGranted") + b"}"
+    turned_down(program, [*words, "a", "placements.csv"], folder, row)
+    tell(program, ["gaps", "car.db", "v1"], folder, b"GAP    6400 f1 s1\n")
+    for _ in range(2):
+        tell(program, [*words, "a", "fits.csv"], folder, b'{"ok":"imported","rows":2}\n')
+    turned_down(program, [*words, "a", "placements.csv"], folder, refused(9, "LabelUsed"))
+    turned_down(program, [*words, "b", "long.csv"], folder, refused(23, "Limit"))
+    turned_down(program, ["import", "car.db", "nobody123", "v1", "b", "fits.csv"], folder, refused(2, "UnknownKey"))
+    turned_down(program, ["import", "car.db", "integrator1", "v1", "b", "fits.csv"], folder, refused(3, "NotYours"))
+    fault(program, [*words, "b", "none.csv"], folder, "CannotOpen")
+    fault(program, ["import", "none.db", "supplier01", "v1", "b", "none.csv"], folder, "CannotOpen")
+    tell(program, ["gaps", "car.db", "v1"], folder, b"GAP    6400 f1 s1\nGAP     200 f2 s1\nGAP    6400 f3 s1\n")
+
+
+# ---- the server
+
+
+def free_port():
+    with socket.socket() as one:
+        one.bind(("127.0.0.1", 0))
+        return one.getsockname()[1]
+
+
+@contextmanager
+def served(program, folder, *more):
+    """A server of car.db that listens."""
+    port = free_port()
+    words = [program, "serve", "car.db", str(port), *more]
+    with subprocess.Popen(words, cwd=folder, stdin=subprocess.DEVNULL, stdout=subprocess.PIPE, stderr=subprocess.PIPE) as server:
+        try:
+            see("the server listens", f"listening on 127.0.0.1:{port}\n".encode(), server.stdout.readline())
+            yield server, port
+        finally:
+            server.kill()
+
+
+def sent(port, data, end=False):
+    """What the server replies to these bytes."""
+    with socket.create_connection(("127.0.0.1", port), SECONDS) as stream:
+        stream.sendall(data)
+        if end:
+            stream.shutdown(socket.SHUT_WR)
+        reply = b""
+        while piece := stream.recv(65536):
+            reply += piece
+    return reply
+
+
+def head(method, path, key=None, *fields):
+    keys = [f"X-Office-Key: {key}"] if key else []
+    return "\r\n".join([f"{method} {path} HTTP/1.1", "Host: localhost", *keys, *fields, "", ""]).encode()
+
+
+def post(path, key, body, *fields):
+    return head("POST", path, key, f"Content-Length: {len(body)}", *fields) + body
+
+
+def command(key, text, *fields):
+    return post("/v1/commands", key, text, *fields)
+
+
+def reply(status, kind, body, *fields):
+    fields = [f"content-type: {kind}", f"content-length: {len(body)}", *fields, "connection: close"]
+    return "\r\n".join([f"HTTP/1.1 {status}", *fields, "", ""]).encode() + body
+
+
+def json(body, status="200 OK", *fields):
+    return reply(status, "application/json", body, *fields)
+
+
+def text(body):
+    return reply("200 OK", "text/plain; charset=us-ascii", body)
+
+
+def engine(status, *fields):
+    return "\r\n".join([f"HTTP/1.1 {status}", "content-length: 0", *fields, "connection: close", "", ""]).encode()
+
+
+UNKNOWN = json(refused(2, "UnknownKey"), "401 Unauthorized", "www-authenticate: Office-Key")
+
+
+def first_requests():
+    """The first script's requests, each with its reply."""
+    lines = [line.split(b" ", 1) for line in REQUESTS.splitlines()]
+    for key, line in lines[:-1]:
+        yield command(key.decode(), line), json(DONE)
+    yield command(lines[-1][0].decode(), lines[-1][1]), json(b'{"lines":["00 0001 A f1 n1"],"ok":"schedule"}')
+
+
+def requests():
+    """Requests with their whole replies, one after another."""
+    yield from first_requests()
+    schedule = "/v1/variants/v1/schedule"
+    yield head("GET", schedule, "supplier01"), text(b"00 0001 A f1 n1\n")
+    yield head("GET", schedule, "supplier02"), text(b"")
+    yield head("GET", schedule, "integrator1"), text(b"00 0001 A f1 n1 s1\n")
+    yield head("GET", schedule + "?x=1", "supplier01"), text(b"00 0001 A f1 n1\n")
+    yield head("GET", "/v1/variants/v1/grants", "supplier01"), text(b"0001 A n1\n")
+    yield head("GET", "/v1/variants/v1/frames", "supplier01"), text(b"FRAME f1 n1\nAT 0001 A 00 64\n")
+    yield head("GET", "/v1/variants/v1/gaps", "supplier01"), text(b"GAP    6400 f1\n")
+    yield post("/v1/variants/v1/imports/signals", "supplier01", SIGNALS), json(b'{"ok":"imported","rows":1}')
+    yield post("/v1/variants/v1/imports/signals", "supplier01", SIGNALS), json(b'{"ok":"imported","rows":1}')
+    yield head("GET", "/v1/variants/v1/frames/f1/layout", "supplier01"), text(b"0000 08 little speed\n")
+    yield head("GET", "/v1/variants/v1/frames/f9/layout", "supplier01"), json(refused(16, "NoFrame"), "404 Not Found")
+    yield head("GET", "/v1/variants/v9/schedule", "supplier01"), json(refused(10, "NoVariant"), "404 Not Found")
+
+    yield head("GET", schedule), UNKNOWN
+    yield head("GET", schedule, "nobody123"), UNKNOWN
+    yield head("GET", schedule, "supplier01", "x-office-key: supplier01"), UNKNOWN
+    yield command("supplier01", b'{"do":"release","variant":"v1"}'), json(refused(3, "NotYours"), "403 Forbidden")
+    yield command("supplier01", b'{"do":"schedule","variant":"1v"}'), json(refused(4, "BadName"), "422 Unprocessable Entity")
+    yield command("supplier01", b"\xff"), json(refused(1, "BadText"), "400 Bad Request")
+    yield command("supplier01", b""), json(refused(1, "BadText"), "400 Bad Request")
+    yield command("supplier01", b"[" * 200), json(refused(1, "BadText"), "400 Bad Request")
+
+    yield head("GET", "/v1/nothing", "supplier01"), engine("404 Not Found")
+    yield head("PUT", "/v1/commands", "supplier01"), engine("405 Method Not Allowed", "allow: POST")
+    yield head("POST", schedule, "supplier01"), engine("405 Method Not Allowed", "allow: GET")
+    yield head("POST", "/v1/commands", "supplier01"), engine("411 Length Required")
+    yield head("POST", "/v1/commands", "supplier01", "Content-Length: 65537") + b"x" * 65_537, engine("413 Payload Too Large")
+    yield head("POST", "/v1/commands", "supplier01", "Content-Length: 1a"), engine("400 Bad Request")
+    yield head("POST", "/v1/commands", "supplier01", "Content-Length: 1", "Content-Length: 1"), engine("400 Bad Request")
+    yield head("POST", "/v1/commands", "supplier01", "Transfer-Encoding: chunked"), engine("501 Not Implemented")
+    yield b"GET /" + b"a" * 8_200, engine("431 Request Header Fields Too Large")
+    yield head("GET", schedule, "supplier01", *[f"x{n}: 1" for n in range(63)]), engine("431 Request Header Fields Too Large")
+    yield b"\x00\r\n\r\n", engine("400 Bad Request")
+    expect = command("supplier01", b'{"do":"add_frame","variant":"v1","frame":"f7","node":"n1"}', "Expect: 100-continue")
+    yield expect, b"HTTP/1.1 100 Continue\r\n\r\n" + json(DONE)
+    yield expect, b"HTTP/1.1 100 Continue\r\n\r\n" + json(refused(19, "Exists"), "409 Conflict")
+    yield command("supplier01", b'{"do":"drop_frame","variant":"v1","frame":"f7"}'), json(DONE)
+
+
+def rows_of(folder, query):
+    with closing(sqlite3.connect(folder / "car.db")) as file:
+        return file.execute(query).fetchall()
+
+
+def sound(folder):
+    see("the file is sound to SQLite", [("ok",)], rows_of(folder, "PRAGMA integrity_check"))
+    see("its keys are sound too", [], rows_of(folder, "PRAGMA foreign_key_check"))
+
+
+def serving(program, folder):
+    asked = list(requests())
+    with served(program, folder, "--count", str(len(asked))) as (server, port):
+        taken = socket.create_server(("127.0.0.1", free_port()))
+        with taken:
+            fault(program, ["serve", "long.db", str(taken.getsockname()[1])], folder, "CannotListen")
+        for data, wanted in asked:
+            see(f"{program} to {data[:120]!r}", wanted, sent(port, data))
+        see("the server ends after so many connections", 0, server.wait(SECONDS))
+        see("it said nothing else", (b"", b""), (server.stdout.read(), server.stderr.read()))
+    sound(folder)
+    see("frames in the file", [("v1", "s1", "f1", "n1")], rows_of(folder, "SELECT * FROM frames"))
+    see("placements in the file", [("v1", "s1", "f1", 1, "A", 0, 64)], rows_of(folder, "SELECT * FROM placements"))
+    see("signals in the file", [("v1", "s1", "f1", "speed", 0, 8, 0)], rows_of(folder, "SELECT * FROM signals"))
+    see("grants in the file", [("v1", 1, "A", "s1", "n1")], rows_of(folder, "SELECT * FROM grants"))
+    see("imports in the file", [("s1", "signals", "v1", SIGNALS, 1)], rows_of(folder, "SELECT * FROM imports"))
+
+
+def cutting(program, folder):
+    """Connections that end early ask nothing, and the next one is served."""
+    body = b'{"do":"add_frame","variant":"v1","frame":"f8","node":"n1"}'
+    whole = command("supplier01", body, "Expect: 100-continue")
+    ends = len(whole) - len(body)
+    cuts = [0, 1, 20, ends - 1, ends, len(whole) - 1]
+    with served(program, folder, "--count", str(len(cuts) + 1)) as (server, port):
+        for cut in cuts:
+            begun = b"HTTP/1.1 100 Continue\r\n\r\n" if cut >= ends else b""
+            see(f"a request cut behind {cut} bytes", begun, sent(port, whole[:cut], end=True))
+        frames = text(b"FRAME f1 n1\nAT 0001 A 00 64\n")
+        see("the next one is served", frames, sent(port, head("GET", "/v1/variants/v1/frames", "supplier01")))
+        see("the server ends", 0, server.wait(SECONDS))
+        see("each cut is said", b"slotplan: Truncated\n" * len(cuts), server.stderr.read())
+
+
+def killing(program, folder):
+    """The server is ended by a signal, between requests and within them; each answered request is in the file."""
+    answered, may_be_gone = {"f1"}, set()
+    for turn in range(KILLS):
+        with served(program, folder) as (server, port):
+            for frame in [f"k{turn}a", f"k{turn}b"][: 1 + turn % 2]:
+                add = command("supplier01", b'{"do":"add_frame","variant":"v1","frame":"%s","node":"n1"}' % frame.encode())
+                see("a frame is added", json(DONE), sent(port, add))
+                answered.add(frame)
+            drop = command("supplier01", b'{"do":"drop_frame","variant":"v1","frame":"k%da"}' % turn)
+            with socket.create_connection(("127.0.0.1", port), SECONDS) as stream:
+                stream.sendall(drop[: len(drop) * (turn % 5) // 4])
+                server.send_signal((signal.SIGKILL, signal.SIGTERM)[turn % 2])
+                server.wait(SECONDS)
+            if turn % 5 == 4:
+                may_be_gone.add(f"k{turn}a")
+    names = {name for (name,) in rows_of(folder, "SELECT name FROM frames")}
+    see("answered requests that are not in the file", set(), answered - names - may_be_gone)
+    see("frames in the file that nobody added", set(), names - answered)
+    sound(folder)
+    with closing(sqlite3.connect(folder / "car.db")) as file, file:
+        file.execute("DELETE FROM frames WHERE name LIKE 'k%'")
+
+
+def main(programs):
+    there = [os.path.abspath(program) for program in programs if os.access(program, os.X_OK)]
+    counted[False] += len(programs) - len(there)
+    for program in there:
+        with tempfile.TemporaryDirectory() as folder:
+            (Path(folder) / "cluster.toml").write_bytes(CLUSTER)
+            for part in creating, opening, serving, cutting, killing, reports:
+                part(program, Path(folder))
+    print(f"{counted[True]} passed, {counted[False]} failed")
+    return 1 if counted[False] else 0
+
+
+if __name__ == "__main__":
+    if len(sys.argv) < 2:
+        sys.exit(__doc__)
+    sys.exit(main(sys.argv[1:]))
