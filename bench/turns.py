@@ -2,8 +2,9 @@
 """Prints what a request costs on a page that is kept, on one that is read anew, and beside other suppliers: turns.py [--program FILE] [--requests N]
 
 In each variant two suppliers have as many frames as the row says, each with 8 placements. One placement is taken back and
-made again, in the only variant. A layout is asked for: in one of 64 variants (its page is kept), and in 63 of them by both
-suppliers in turn (126 pages, more than are kept, so each is read anew). Then a placement is taken back and made again by one
+made again, in the only variant. A layout is asked for: in one of 64 variants (its page is kept), in 63 of them by both
+suppliers in turn (126 pages, kept as far as they have room), and so again where each supplier gets a node before each turn,
+which lets go of all its pages, so that each is read anew. Then a placement is taken back and made again by one
 supplier beside 0, 15 and 63 others that have as many rows in the variant, and its schedule is asked for. The processor time
 is that of the whole run less that of a run without these requests, each the least of three, in microseconds a request. Like
 all of bench/, it promises nothing."""
@@ -69,6 +70,17 @@ def in_turn(asked, places, count, frames):
     return [asked(n // len(places), *places[n % len(places)], frames) for n in range(count - count % (2 * len(places)))]
 
 
+def in_turn_anew(asked, places, count, frames):
+    """The same, and before each turn of the places a node for each supplier, which lets go of its pages."""
+    names = sorted({supplier for supplier, _ in places})
+    lines = []
+    for n, asks in enumerate(in_turn(asked, places, count, frames)):
+        if n % len(places) == 0:
+            lines += [line("integrator1", "add_node", supplier=name, node=f"more{n}") for name in names]
+        lines.append(asks)
+    return lines
+
+
 def each(program, names, lines, more):
     cluster = cluster_file(names)
     return (seconds_of(program, cluster, lines + more) - seconds_of(program, cluster, lines)) / len(more) * 1e6
@@ -81,15 +93,18 @@ def main():
     given = words.parse_args()
     names = ["s0", "s1"]
     anew = [(supplier, f"v{n}") for n in range(1, VARIANTS) for supplier in names]
-    print(f"{'frames':>6} {'change':>8} {'layout, kept':>13} {'read anew':>10}")
+    print(f"{'frames':>6} {'change':>8} {'layout, kept':>13} {'of 126 pages':>13} {'read anew':>10}")
     for frames in FRAMES:
         first = list(plan(names, frames))
         lines = [*first, *copies()]
-        costs = [
-            each(given.program, names, lines, in_turn(asked, places, given.requests, frames))
-            for lines, asked, places in ((first, change, [("s0", "v0")]), (lines, layout, [("s0", "v1")]), (lines, layout, anew))
-        ]
-        print(f"{frames:6} {costs[0]:8.0f} {costs[1]:13.1f} {costs[2]:10.0f}", flush=True)
+        asked = (
+            (first, in_turn(change, [("s0", "v0")], given.requests, frames)),
+            (lines, in_turn(layout, [("s0", "v1")], given.requests, frames)),
+            (lines, in_turn(layout, anew, given.requests, frames)),
+            (lines, in_turn_anew(layout, anew, given.requests, frames)),
+        )
+        costs = [each(given.program, names, before, more) for before, more in asked]
+        print(f"{frames:6} {costs[0]:8.0f} {costs[1]:13.1f} {costs[2]:13.1f} {costs[3]:10.0f}", flush=True)
     print(f"\n{'others':>6} {'change':>8} {'ratio':>6} {'schedule':>9} {'ratio':>6}")
     alone = None
     for others in OTHERS:
