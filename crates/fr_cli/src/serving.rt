@@ -17,11 +17,13 @@ use std::time::Duration;
 /// reads does not hold the others.
 pub const WAIT_SECONDS: u64 = 10;
 
-/// How much of what a client sends behind its request is read, and how often: a connection that is
-/// closed before it is read might lose the reply.
+/// How much of what a client sends behind its request is read at once, how often, and how many seconds
+/// each read waits: a socket that is closed before that is read might lose the reply.
 const REST_BYTES: usize = 4096;
 
 const REST_READS: u32 = 256;
+
+const REST_SECONDS: u64 = 1;
 
 /// Serves the register in the file at `db` on this port of 127.0.0.1, one connection after another, and
 /// ends after `count` connections. A connection's fault is printed, and the next one is served.
@@ -80,13 +82,16 @@ fn serve_stream<D: Desk>(alloc: Global, stream: &TcpStream, desk: &mut D) -> Res
     let _ = stream.set_write_timeout(wait);
     let _ = stream.set_nodelay(true);
     let served = serve_one(alloc, &mut &*stream, &mut &*stream, desk);
-    finish(stream);
+    if served.is_ok() {
+        finish(stream);
+    }
     served.map(|_| ())
 }
 
 // Ends the reply, and reads what is still sent.
 fn finish(mut stream: &TcpStream) {
     let mut piece = [0u8; REST_BYTES];
+    let _ = stream.set_read_timeout(Some(Duration::from_secs(REST_SECONDS)));
     if stream.shutdown(Shutdown::Write).is_err() {
         return;
     }
