@@ -165,6 +165,3 @@ fn fault_of(alloc: Global, error: &Error) -> WordFault {
         (_, Ok(text)) => WordFault::Usage { text },
     }
 }
-
-#[cfg(test)]
-mod tests;
