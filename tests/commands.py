@@ -13,6 +13,8 @@ import tempfile
 from contextlib import closing, contextmanager
 from pathlib import Path
 
+import overlays
+
 TOP = Path(__file__).resolve().parent.parent
 CLUSTER, REQUESTS = (TOP / "examples/first.script").read_bytes().split(b"---\n")
 SECONDS = 60
@@ -297,13 +299,44 @@ def killing(program, folder):
         file.execute("DELETE FROM frames WHERE name LIKE 'k%'")
 
 
+def differences(program, folder):
+    """Variants that keep their differences alone: what the query of docs/FORMATS.md finds in the file are the frames that the program lists."""
+    changes = [
+        ("integrator1", b'{"do":"release","variant":"v1"}'),
+        ("integrator1", b'{"do":"open_variant","variant":"v2","from":"v1"}'),
+        ("supplier01", b'{"do":"drop_frame","variant":"v2","frame":"f2"}'),
+        ("supplier01", b'{"do":"add_frame","variant":"v2","frame":"f4","node":"n1"}'),
+        ("supplier01", b'{"do":"place","variant":"v2","frame":"f1","slot":1,"channels":"A","base":4,"repetition":64}'),
+        ("integrator1", b'{"do":"release","variant":"v2"}'),
+        ("integrator1", b'{"do":"open_variant","variant":"v3","from":"v2"}'),
+        ("supplier01", b'{"do":"drop_frame","variant":"v3","frame":"f4"}'),
+        ("supplier01", b'{"do":"add_frame","variant":"v3","frame":"f2","node":"n1"}'),
+    ]
+    shown = {"v1": ["f1", "f2", "f3"], "v2": ["f1", "f3", "f4"], "v3": ["f1", "f2", "f3"]}
+    with served(program, folder, "--count", str(len(changes) + len(shown))) as (server, port):
+        for key, change in changes:
+            see(f"{change}", json(DONE), sent(port, command(key, change)))
+        listed = {}
+        for variant in shown:
+            lines = sent(port, head("GET", f"/v1/variants/{variant}/frames", "integrator1")).partition(b"\r\n\r\n")[2].decode().splitlines()
+            listed[variant] = [tuple(line.split()[1:]) for line in lines if line.startswith("FRAME ")]
+        see("the server ends", 0, server.wait(SECONDS))
+    for variant, names in shown.items():
+        see(f"frames of {variant}", [(name, "n1", "s1") for name in names], listed[variant])
+        with closing(sqlite3.connect(folder / "car.db")) as file:
+            found = file.execute(overlays.query(), {"variant": variant}).fetchall()
+        see(f"what the query finds in {variant}", listed[variant], [(name, node, supplier) for supplier, name, node, _ in found])
+    see("frames in the file", [("v1", "f1"), ("v1", "f2"), ("v1", "f3"), ("v2", "f1"), ("v2", "f4"), ("v3", "f2")], rows_of(folder, "SELECT variant, name FROM frames ORDER BY variant, name"))
+    sound(folder)
+
+
 def main(programs):
     there = [os.path.abspath(program) for program in programs if os.access(program, os.X_OK)]
     counted[False] += len(programs) - len(there)
     for program in there:
         with tempfile.TemporaryDirectory() as folder:
             (Path(folder) / "cluster.toml").write_bytes(CLUSTER)
-            for part in creating, opening, serving, cutting, killing, reports:
+            for part in creating, opening, serving, cutting, killing, reports, differences:
                 part(program, Path(folder))
     print(f"{counted[True]} passed, {counted[False]} failed")
     return 1 if counted[False] else 0
