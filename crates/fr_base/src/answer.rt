@@ -9,7 +9,7 @@ use crate::slot::Slot;
 
 /// What a request is answered. `all` is true where the integrator asked, who sees the rows of all
 /// suppliers.
-#[derive(Debug, Drop)]
+#[derive(Debug)]
 pub enum Answer {
     /// The command was carried out.
     Done,
@@ -30,6 +30,26 @@ pub enum Answer {
     /// Nothing was changed: the import's file has a refused row, the first one at this line. The line
     /// counts the file's records, of which the header is the first.
     RefusedRow { line: u32, refusal: Refusal },
+}
+
+// It is written out, so that a caller does not prove again how each kind of answer is dropped.
+impl Drop for Answer {
+    fn drop(self) {
+        match self {
+            Answer::Done => {}
+            Answer::Imported { rows: _ } => {}
+            Answer::Grants { all: _, rows: _ } => {}
+            Answer::Frames { all: _, rows: _ } => {}
+            Answer::Schedule { all: _, rows: _ } => {}
+            Answer::Gaps { all: _, rows: _ } => {}
+            Answer::Layout { all: _, rows: _ } => {}
+            Answer::Refused(_) => {}
+            Answer::RefusedRow {
+                line: _,
+                refusal: _,
+            } => {}
+        }
+    }
 }
 
 /// A node holds this slot and channel, in all cycles.

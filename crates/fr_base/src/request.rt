@@ -9,7 +9,7 @@ use crate::slot::Slot;
 use crate::text::Text;
 
 /// What is asked, with its texts and numbers as they were sent.
-#[derive(Debug, Drop)]
+#[derive(Debug)]
 pub enum Request {
     /// The integrator opens a variant: empty, or with all rows of a released one.
     OpenVariant {
@@ -113,6 +113,87 @@ pub enum Request {
         variant: Text,
         frame: Text,
     },
+}
+
+// It is written out, so that a caller does not prove again how each kind of request is dropped.
+impl Drop for Request {
+    fn drop(self) {
+        match self {
+            Request::OpenVariant {
+                variant: _,
+                parent: _,
+            } => {}
+            Request::Release { variant: _ }
+            | Request::Grants { variant: _ }
+            | Request::Frames { variant: _ }
+            | Request::Schedule { variant: _ }
+            | Request::Gaps { variant: _ } => {}
+            Request::AddNode {
+                supplier: _,
+                node: _,
+            } => {}
+            Request::Grant {
+                variant: _,
+                slot: _,
+                channel: _,
+                supplier: _,
+                node: _,
+            } => {}
+            Request::Revoke {
+                variant: _,
+                slot: _,
+                channel: _,
+                supplier: _,
+            } => {}
+            Request::AddFrame {
+                variant: _,
+                frame: _,
+                node: _,
+            } => {}
+            Request::DropFrame {
+                variant: _,
+                frame: _,
+            }
+            | Request::Layout {
+                variant: _,
+                frame: _,
+            } => {}
+            Request::Place {
+                variant: _,
+                frame: _,
+                slot: _,
+                channels: _,
+                base: _,
+                repetition: _,
+            }
+            | Request::Unplace {
+                variant: _,
+                frame: _,
+                slot: _,
+                channels: _,
+                base: _,
+                repetition: _,
+            } => {}
+            Request::AddSignal {
+                variant: _,
+                frame: _,
+                signal: _,
+                start: _,
+                length: _,
+                order: _,
+            } => {}
+            Request::DropSignal {
+                variant: _,
+                frame: _,
+                signal: _,
+            } => {}
+            Request::Import {
+                variant: _,
+                label: _,
+                body: _,
+            } => {}
+        }
+    }
 }
 
 /// A request and who asks it.
