@@ -1,5 +1,5 @@
 -- The words of the faults that end a job or a connection.
-use Rattle.std.specs.Prelude.{ℕ, List, codes}
+use Rattle.std.specs.Prelude.{◌≡◌, ◌≢◌, ◌⊎◌, ℕ, List, codes, ⊤}
 use Rattle.fr_cli.specs.ScriptFault.{script_fault_word}
 use Rattle.fr_cli.specs.declared.fault.Fault.{Fault}
 use Rattle.fr_cli.specs.declared.fault.Fault.TheVariants.{Script, Config, Register, CannotOpen, CannotListen, NoMemory, WriteFailed}
@@ -33,3 +33,28 @@ fault_word CannotOpen = codes "CannotOpen"
 fault_word CannotListen = codes "CannotListen"
 fault_word NoMemory = codes "NoMemory"
 fault_word WriteFailed = codes "WriteFailed"
+
+-- For this a register's file is not made: the cluster file is none or cannot be read, the file has a register's tables, or
+-- making it failed.
+abbrev pub IsNotMade : Fault → Type 0
+IsNotMade (Config fault) = ⊤
+IsNotMade (Register fault) = (fault ≡ store.NotEmpty) ⊎ (fault ≡ store.Unavailable)
+IsNotMade CannotOpen = ⊤
+IsNotMade NoMemory = ⊤
+IsNotMade _ = ⊥
+
+-- For this a register's file is not opened.
+abbrev pub IsNotOpened : Fault → Type 0
+IsNotOpened (Register fault) = fault ≢ store.NotEmpty
+IsNotOpened _ = ⊥
+
+-- For this a register is asked for no report.
+abbrev pub IsNotReported : Fault → Type 0
+IsNotReported (Register fault) = fault ≢ store.NotEmpty
+IsNotReported NoMemory = ⊤
+IsNotReported _ = ⊥
+
+-- For this an import is not carried out.
+abbrev pub IsNotImported : Fault → Type 0
+IsNotImported CannotOpen = ⊤
+IsNotImported fault = IsNotReported fault

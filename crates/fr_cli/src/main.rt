@@ -6,6 +6,7 @@ mod commands;
 mod creating;
 mod failure;
 mod fault;
+mod file_office;
 mod files;
 mod input;
 mod laws;

@@ -1,10 +1,11 @@
 //! Does a job, and says how it ended.
-ghost use Rattle.std.specs.Prelude.{◌≡◌, ◌⊎◌, Result, ⊤, List, ℕ};
+ghost use Rattle.std.specs.Prelude.{◌≡◌, ◌⊎◌, Result, IfErr, ⊤, List, ℕ};
 ghost use Rattle.std.specs.Borrow.{Bor};
 ghost use Rattle.std.specs.Global.{Vec};
 ghost use Rattle.std.specs.Io.KnownBytes.{Appends, Keeps};
 ghost use Rattle.fr_cli.specs.Asking.{line_of, report_of};
 ghost use Rattle.fr_cli.specs.Endings.{AppendsFront, IsPrinted, IsTold, Tells, status_of};
+ghost use Rattle.fr_cli.specs.Faults.{IsNotImported, IsNotMade, IsNotReported};
 ghost use Rattle.fr_cli.specs.Performing.{Says, listening, of_script};
 ghost use Rattle.fr_cli.specs.Runs.{IsRunOf};
 ghost use Rattle.fr_cli.specs.declared.asking.Report.TheVariants as report;
@@ -16,7 +17,8 @@ use crate::asking::{ImportWords, Report, import, report_on};
 use crate::creating::create;
 use crate::failure::Failure;
 use crate::fault::Fault;
-use crate::files::{close_register, open_register, read_front};
+use crate::file_office::FileOffice;
+use crate::files::read_front;
 use crate::printing::{end, print, print_all, tell};
 use crate::script::run_script;
 use crate::serving::serve;
@@ -41,12 +43,13 @@ pub fn perform<R: Read, O: Write, E: Write>(
         × Tells (E.contents err.old) (E.contents err.new) (of_script done)
         × IsRunOf (R.remaining input.old) (R.remaining input.new) (O.contents out.old) (O.contents out.new) done }
     ensures create { (db config : Bor (List ℕ)) → job.now ≡ Job.Create db config → (done : Result ⊤ Word) × (result ≡ status_of done)
+        × IfErr done IsNotMade
         × Keeps (O.contents out.old) (O.contents out.new) × Tells (E.contents err.old) (E.contents err.new) done }
-    ensures schedule { (db variant : Bor (List ℕ)) → job.now ≡ Job.Schedule db variant → (done : Result (Vec ℕ) Ended) × Says (report_of report.Schedule) done
+    ensures schedule { (db variant : Bor (List ℕ)) → job.now ≡ Job.Schedule db variant → (done : Result (Vec ℕ) Ended) × Says IsNotReported (report_of report.Schedule) done
         × IsTold done (O.contents out.old) (O.contents out.new) (E.contents err.old) (E.contents err.new) result }
-    ensures gaps { (db variant : Bor (List ℕ)) → job.now ≡ Job.Gaps db variant → (done : Result (Vec ℕ) Ended) × Says (report_of report.Gaps) done
+    ensures gaps { (db variant : Bor (List ℕ)) → job.now ≡ Job.Gaps db variant → (done : Result (Vec ℕ) Ended) × Says IsNotReported (report_of report.Gaps) done
         × IsTold done (O.contents out.old) (O.contents out.new) (E.contents err.old) (E.contents err.new) result }
-    ensures import { (db key variant label file : Bor (List ℕ)) → job.now ≡ Job.Import db key variant label file → (done : Result (Vec ℕ) Ended) × Says line_of done
+    ensures import { (db key variant label file : Bor (List ℕ)) → job.now ≡ Job.Import db key variant label file → (done : Result (Vec ℕ) Ended) × Says IsNotImported line_of done
         × IsTold done (O.contents out.old) (O.contents out.new) (E.contents err.old) (E.contents err.new) result }
     ensures serve { (db : Bor (List ℕ)) (port count : ℕ) → job.now ≡ Job.Serve db port count → AppendsFront (O.contents out.old) (O.contents out.new) (listening port) }
 {
@@ -122,39 +125,39 @@ fn end_script<R: Read, O: Write, E: Write>(
 }
 
 // The report of a variant of the register in a file.
-#[tactic(auto, using(crate::proofs::AskingLaws::prints_says))]
+#[tactic(auto, using(crate::proofs::AskingLaws::prints_says, crate::proofs::AskingLaws::opened_reported))]
 fn report_file(
     rt: &HostRuntime,
     db: &str,
     report: Report,
     variant: &str,
 ) -> Result<Vec<u8>, Failure>
-    ensures { Says (report_of report) result }
+    ensures { Says IsNotReported (report_of report) result }
 {
-    match open_register(rt, db) {
+    match FileOffice::open(rt, db) {
         Ok(mut office) => report_on(rt.alloc(), &mut office, report, variant),
         Err(fault) => Err(Failure::Fault(fault)),
     }
 }
 
 // Carries out the import of a file into the register in another.
-#[tactic(auto, using(crate::proofs::AskingLaws::prints_says))]
+#[tactic(auto, using(crate::proofs::AskingLaws::prints_says, crate::proofs::AskingLaws::opened_imported))]
 fn import_file(
     rt: &HostRuntime,
     db: &str,
     words: ImportWords<'_>,
     file: &str,
 ) -> Result<Vec<u8>, Failure>
-    ensures { Says line_of result }
+    ensures { Says IsNotImported line_of result }
 {
     let body = match read_front(rt, file, IMPORT_BYTES) {
         Ok(body) => body,
         Err(fault) => return Err(Failure::Fault(fault)),
     };
-    match open_register(rt, db) {
+    match FileOffice::open(rt, db) {
         Ok(mut office) => {
             let done = import(rt.alloc(), &mut office, words, &body);
-            close_register(office);
+            office.close();
             done
         }
         Err(fault) => Err(Failure::Fault(fault)),

@@ -4,7 +4,7 @@ ghost use Rattle.fr_cli.specs.Endings.{AppendsFront};
 ghost use Rattle.fr_cli.specs.Performing.{listening};
 
 use crate::fault::{Fault, link_word};
-use crate::files::{FileOffice, close_register, open_register};
+use crate::file_office::FileOffice;
 use crate::printing::{print, print_word};
 use fr_base::Desk;
 use fr_http::{LinkFault, Output, serve_one};
@@ -38,13 +38,13 @@ pub fn serve<O: Write, E: Write>(
     ensures front { AppendsFront (O.contents out.old) (O.contents out.new) (listening port) }
     ensures same { err.new.writer.ghost_name ≡ err.old.writer.ghost_name }
 {
-    let mut office = open_register(rt, db)?;
+    let mut office = FileOffice::open(rt, db)?;
     let listener = TcpListener::bind(rt, (Ipv4Addr::LOCALHOST, port)).map_err(
         |_| Fault::CannotListen,
     )?;
     announce(rt.alloc(), port, out)?;
     let done = answer_all(rt.alloc(), &listener, count, &mut office, err);
-    close_register(office);
+    office.close();
     done
 }
 
