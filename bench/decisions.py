@@ -1,8 +1,10 @@
 #!/usr/bin/env python3
-"""Prints how long the rows of an import take to decide on a page of 256 frames: decisions.py [--times N]
+"""Prints how long a placement takes to decide on a page, and the rows of an import: decisions.py [--times N]
 
-A program builds the page anew and reads the rows, and then decides them; or leaves it at that, which is taken off. Figures are of processor time, the least of seven runs. The last
-column is a row's time as part of that of an import of one row, which is a placement alone. It is no test."""
+A program decides one placement again and again on a page of 4, 64 and 256 frames of 8 placements; the last column is that time
+as part of the first. Then it builds a page of 256 frames of 4 placements anew and reads the rows of an import, and then decides
+them; or leaves it at that, which is taken off. The last column there is a row's time as part of that of an import of one row,
+which is a placement alone. Figures are of processor time, the least of seven runs. It is no test."""
 import argparse
 import sys
 import tempfile
@@ -12,41 +14,89 @@ from programs import built
 from texts import seconds
 
 TOP = Path(__file__).resolve().parent.parent
+FRAMES = (4, 64, 256)
 COUNTS = (1, 64, 128, 256, 512)
+PLACES = 100_000
 RUNS = 7
 
-PROGRAM = r"""//! Decides the rows of an import, again and again, on a page of 256 frames of 4 placements.
+PROGRAM = r"""//! Decides a placement, or the rows of an import, again and again on a page.
 #![tactic(auto)]
 
+ghost use Rattle.std.specs.Bool.{OnTrue};
+ghost use Rattle.fr_base.specs.Sound.{FitsCluster};
+
 use anyhow::{Context, Error, bail};
-use fr_base::{Channel, Channels, CycleSet, Name, Params, Placement, RawParams, Slot};
+use fr_base::{
+    Change, Channel, Channels, CycleSet, FrameChange, Name, Params, Placement, RawParams, Slot,
+};
 use fr_layout::Layout;
 use fr_text::read_import;
-use fr_world::{ChannelSlot, Page, PageFrame, PageRows, decide_rows, rows_are_checked};
+use fr_world::{ChannelSlot, Page, PageFrame, PageRows, decide, decide_rows, rows_are_checked};
 use std::alloc::Global;
 use std::collections::{BTreeMap, BTreeSet};
 use std::env;
 use std::io::Read;
 
-/// Reads standard input. The first word says what is done with it, `read` or `decide`, and the second
-/// how often. Prints how many edits there are.
+/// The first word is `place`, and the third how many frames the page has; or it is `read` or `decide`, which is done with
+/// standard input. The second is how often. Prints how many edits there are.
 fn main(rt: HostRuntime) -> Result<(), Error> {
     let mut words = env::args(&rt)?.skip(1);
     let what = words.next().context("no word")?;
     let times: u32 = words.next().context("no number")?.parse()?;
+    let count = if what.as_str() == "place" {
+        let frames: u32 = words.next().context("no frames")?.parse()?;
+        places(rt.alloc(), frames, times)?
+    } else {
+        imports(&rt, what.as_str(), times)?
+    };
+    println!(rt; "{count}")?;
+    Ok(())
+}
+
+/// Decides the placement that the first frame lacks.
+fn places(alloc: Global, frames: u32, times: u32) -> Result<usize, Error> {
+    let page = page(alloc, frames, 8)?;
+    let placement = placement(0, 7, 8)?;
+    if !fits(&page.params(), &placement) {
+        bail!("no placement of the cluster");
+    }
+    let change = Change::Frame {
+        frame: name("f0")?,
+        change: FrameChange::Place(placement),
+    };
+    let mut count = 0usize;
+    for _ in 0..times {
+        match decide(alloc, &page, &change) {
+            Ok(edits) => count = count.saturating_add(edits.len()),
+            Err(refusal) => bail!("{refusal}"),
+        }
+    }
+    Ok(count)
+}
+
+/// Whether a cluster of both channels has the placement.
+fn fits(params: &Params, placement: &Placement) -> bool
+    ensures { OnTrue result (FitsCluster params.now placement.now) }
+{
+    // Gives the proof that the cycles are a set of cycles.
+    let _repetition = placement.cycles.repetition();
+    params.channels() == Channels::AB && placement.slot.get() <= params.static_slots()
+}
+
+/// Reads or decides the file on standard input, on a page that is built anew each time.
+fn imports(rt: &HostRuntime, what: &str, times: u32) -> Result<usize, Error> {
     let mut body = Vec::new(rt.alloc());
     rt.reader().read_to_end(&mut body)?;
     let mut count = 0;
     for _ in 0..times {
-        let page = page(rt.alloc())?;
-        count = match what.as_str() {
+        let page = page(rt.alloc(), 256, 4)?;
+        count = match what {
             "read" => read(rt.alloc(), page, body.as_slice())?,
             "decide" => decided(rt.alloc(), page, body.as_slice())?,
-            _ => bail!("neither read nor decide"),
+            _ => bail!("no such word"),
         };
     }
-    println!(rt; "{count}")?;
-    Ok(())
+    Ok(count)
 }
 
 /// How many rows the file has.
@@ -111,18 +161,26 @@ fn grants(alloc: Global, node: Name) -> Result<BTreeMap<ChannelSlot, Name>, Erro
     Ok(grants)
 }
 
-/// A frame with four placements of one cycle, in a slot that three others share.
-fn frame(alloc: Global, node: Name, index: u32) -> Result<PageFrame, Error> {
+/// The frame's placement of this index, of `each`: one cycle, in a slot that other frames share.
+fn placement(frame: u32, index: u32, each: u32) -> Result<Placement, Error> {
+    let (slots, turn) = if each == 8 { (32, 8) } else { (16, 4) };
+    Ok(Placement {
+        slot: slot(frame % slots + 1)?,
+        channels: Channels::A,
+        cycles: match CycleSet::new(frame / slots % 16 * turn + index % 8, 64) {
+            Ok(cycles) => cycles,
+            Err(_bad) => bail!("no cycles"),
+        },
+    })
+}
+
+/// A frame with so many placements, of which the first frame lacks the eighth.
+fn frame(alloc: Global, node: Name, index: u32, each: u32) -> Result<PageFrame, Error> {
     let mut placements = BTreeSet::new(alloc);
-    for place in 0..4 {
-        placements.insert(Placement {
-            slot: slot(index % 16 + 1)?,
-            channels: Channels::A,
-            cycles: match CycleSet::new(index / 16 % 16 * 4 + place, 64) {
-                Ok(cycles) => cycles,
-                Err(_bad) => bail!("no cycles"),
-            },
-        })?;
+    for place in 0..each {
+        if index > 0 || place < 7 {
+            placements.insert(placement(index, place, each)?)?;
+        }
     }
     Ok(PageFrame {
         node,
@@ -131,14 +189,14 @@ fn frame(alloc: Global, node: Name, index: u32) -> Result<PageFrame, Error> {
     })
 }
 
-fn page(alloc: Global) -> Result<Page, Error> {
+fn page(alloc: Global, count: u32, each: u32) -> Result<Page, Error> {
     let node = name("n1")?;
     let mut nodes = BTreeSet::new(alloc);
     nodes.insert(node)?;
     let mut frames = BTreeMap::new(alloc);
-    for index in 0..256 {
+    for index in 0..count {
         let text = format!(in alloc; "f{index}")?;
-        frames.insert(name(text.as_str())?, frame(alloc, node, index)?)?;
+        frames.insert(name(text.as_str())?, frame(alloc, node, index, each)?)?;
     }
     let rows = PageRows {
         params: params()?,
@@ -160,6 +218,18 @@ def placements(count):
         yield f"f{row % 256},n1,{row // 64 + 17},A,{row % 64},64"
 
 
+def place(program, frames):
+    """What deciding a placement once takes on a page of so many frames."""
+    runs, rests = [], []
+    for _ in range(RUNS):
+        used, printed = seconds([program, "place", str(PLACES), str(frames)], b"")
+        if int(printed) != PLACES:
+            sys.exit(f"{printed} edits in place of {PLACES}")
+        runs.append(used)
+        rests.append(seconds([program, "place", "0", str(frames)], b"")[0])
+    return (min(runs) - min(rests)) / PLACES * 1e6
+
+
 def microseconds(program, body, times):
     """What deciding the file's rows once takes, and how many edits they come to."""
     runs, rests, count = [], [], 0
@@ -179,6 +249,12 @@ def main():
     with tempfile.TemporaryDirectory(dir=TOP / "out") as room:
         crate = Path(room) / "decide_import"
         program = built(crate, ["fr_base", "fr_layout", "fr_world", "fr_text"], ["anyhow"], PROGRAM, ["read", "0"])
+        print(f"{'frames':>6} {'us':>8} {'of first':>8}")
+        least = None
+        for frames in FRAMES:
+            taken = place(program, frames)
+            least = least or taken
+            print(f"{frames:6} {taken:8.3f} {taken / least:8.3f}", flush=True)
         print(f"{'rows':>5} {'us':>10} {'us/row':>8} {'of one':>7}")
         one = None
         for count in COUNTS:
