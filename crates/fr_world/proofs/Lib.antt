@@ -39,3 +39,6 @@ pub mod RowsDecide
 pub mod ImportRoom
 pub mod DraftSteps
 pub mod DraftRows
+pub mod UsedLaws
+pub mod ClaimLaws
+pub mod PlaceLaws

@@ -1,11 +1,11 @@
 -- What is sent in cells, cell by cell.
-use Rattle.std.proofs.Common.{◌≡◌, ℕ, zero, suc, ◌+◌, ◌≤◌, ◌<◌, true, false, ◌&&◌, ◌||◌, cond, eqb, List, [], length, take, drop, get_or, ◌∷◌, ◌++◌, map, filter, Option, Some, None, option_map, refl, sym, ap, ◌∙◌, arith, add-zero, append_assoc, append-nil}
+use Rattle.std.proofs.Common.{◌≡◌, ℕ, zero, suc, ◌+◌, ◌≤◌, ◌<◌, true, false, ◌&&◌, ◌||◌, cond, eqb, List, [], length, take, get_or, ◌∷◌, ◌++◌, map, filter, Option, Some, None, option_map, refl, sym, ap, ◌∙◌, arith, add-zero, append_assoc, append-nil}
 use Rattle.std.specs.Prelude.{nat_le}
 use Rattle.std.specs.List.{cons_option, flat_map, range_with_len}
-use Rattle.std.proofs.lemmas.Bool.{and_from, and_right}
+use Rattle.std.proofs.lemmas.Bool.{and_from}
 use Rattle.std.proofs.lemmas.Grind.{flat_map-append}
 use Rattle.std.proofs.lemmas.Bool.Decides.{nat_tests}
-use Rattle.std.proofs.lemmas.List.{at_drop_more, drop_all, map-append, take_more}
+use Rattle.std.proofs.lemmas.List.{map-append, take_more}
 use Rattle.std.proofs.lemmas.List.Elements.{filter-append, filter_map-append}
 use Rattle.fr_base.specs.Book as book
 use Rattle.fr_base.specs.Cells.{Cell, cells_in, cluster_cells, has_cell, slots_of}
@@ -21,7 +21,7 @@ use Rattle.fr_base.specs.declared.answer.Sending.{Sending}
 use Rattle.fr_base.specs.declared.channel.Channel.{Channel}
 use Rattle.fr_base.specs.declared.params.Params.{Params}
 use Rattle.fr_base.specs.declared.placement.Placement.{Placement}
-use Rattle.fr_world.specs.Sendings.{cycle_cells, filled, is_due, is_used, page_sendings, sent_in}
+use Rattle.fr_world.specs.Sendings.{cycle_cells, filled, is_used, page_sendings, sent_in}
 use Rattle.fr_world.specs.declared.frame_triggering.FrameTriggering.{FrameTriggering}
 use Rattle.fr_world.proofs.SharedLaws.{has_cell-parts}
 
@@ -82,14 +82,14 @@ pub cells-column : (k slot : ℕ) (chs : List Channel) → cells_in (k ∷ []) (
 cells-column k slot chs = append-nil (column k slot chs ++ []) ∙ append-nil (column k slot chs)
 
 -- one channel more of a slot: what is sent there, if anything is
-pub sent-channel : (fs gs : List (book.Sender × Placement)) (k slot : ℕ) (chs : List Channel) (i : ℕ) (x y : Channel) (old mid new : List Sending) (r : Option Sending) → i < length chs → x ≡ get_or chs i y
+pub sent-channel : (fs : List (book.Sender × Placement)) (k slot : ℕ) (chs : List Channel) (i : ℕ) (x y : Channel) (old mid new : List Sending) (r : Option Sending) → i < length chs → x ≡ get_or chs i y
     → mid ≡ old ++ sent_in fs (column k slot (take i chs))
-    → r ≡ option_map (λ o. sending (cell k slot x, o)) (fill gs (cell k slot x)) → gs ≡ fs
+    → r ≡ option_map (λ o. sending (cell k slot x, o)) (fill fs (cell k slot x))
     → new ≡ mid ++ cons_option r []
     → new ≡ old ++ sent_in fs (column k slot (take (i + 1) chs))
-sent-channel fs gs k slot chs i x y old mid new r l e h found same g =
+sent-channel fs k slot chs i x y old mid new r l e h found g =
     sent-more fs old mid new _ (cell k slot x ∷ []) h
-    (g ∙ ap (λ sent. mid ++ sent) (ap (λ sent. cons_option sent []) found ∙ sym (sent-cell gs (cell k slot x)) ∙ ap (λ hs. sent_in hs (cell k slot x ∷ [])) same))
+    (g ∙ ap (λ sent. mid ++ sent) (ap (λ sent. cons_option sent []) found ∙ sym (sent-cell fs (cell k slot x))))
     ∙ ap (λ cells. old ++ sent_in fs cells)
     (sym (map-append (λ x. cell k slot x) (take i chs) (x ∷ [])) ∙ ap (column k slot) (ap (λ z. take i chs ++ z ∷ []) e ∙ sym (take_more chs i y l)))
 
@@ -113,31 +113,16 @@ sent-cycle fs slots chs mid new k n f h g =
     sent-more fs [] mid new _ _ h g
     ∙ ap (sent_in fs) (sym (flat_map-append (λ k. slot_cells k chs slots) (range_with_len 0 k) (k ∷ [])) ∙ ap (λ x. cells_in (range_with_len 0 k ++ x ∷ []) slots chs) (sym z) ∙ ap (λ ks. cells_in ks slots chs) (sym (range-more 0 k)) ∙ ap (λ l. cells_in (range_with_len 0 l) slots chs) (sym f))
 
--- ---- what is not in a cycle or a slot
+-- ---- what is not in a slot
 
 -- who sends in a placement's cells
 abbrev pub owner_in : FrameTriggering → book.Sender
 owner_in p = record { supplier = p.supplier; frame = p.frame; node = p.node }
 
-undue : (k slot : ℕ) (x : Channel) (p : FrameTriggering) → is_due k p ≡ false → has_cell p.placement (cell k slot x) ≡ false
-undue k slot x p e = has_cell-parts p.placement (cell k slot x) ∙ and_right _ _ e
-
 elsewhere : (k slot : ℕ) (x : Channel) (p : FrameTriggering) → eqb slot p.placement.slot ≡ false → has_cell p.placement (cell k slot x) ≡ false
 elsewhere k slot x p e =
     has_cell-parts p.placement (cell k slot x)
     ∙ ap (λ b. (b && has_channel p.placement.channels x) && has_cycle p.placement.cycles k) e
-
--- the placements of the cycle fill its cells as all do
-fill-due : (k slot : ℕ) (x : Channel) (ps : List FrameTriggering) → fill (filled (filter (is_due k) ps)) (cell k slot x) ≡ fill (filled ps) (cell k slot x)
-unfolding fill
-fill-due k slot x [] = refl
-fill-due k slot x (p ∷ ps) =
-    let due : List FrameTriggering = filter (is_due k) ps in
-    let c : Cell = cell k slot x in
-    elim (is_due k p) as (λ b. (b ≡ false → has_cell p.placement c ≡ false) → fill (filled (cond b (p ∷ due) due)) c ≡ cond (has_cell p.placement c) (Some (owner_in p)) (fill (filled ps) c)) [
-      | true ↦ λ h. ap (λ r. cond (has_cell p.placement c) (Some (owner_in p)) r) (fill-due k slot x ps)
-      | false ↦ λ h. fill-due k slot x ps ∙ ap (λ b. cond b (Some (owner_in p)) (fill (filled ps) c)) (sym (h refl))
-    ] (undue k slot x p)
 
 fill-nothing : (c : Cell) → None ≡ fill {O = book.Sender} [] c
 unfolding fill
@@ -171,13 +156,6 @@ sent-empty : (cells : List Cell) → sent_in [] cells ≡ []
 unfolding sent_in entries fill
 sent-empty [] = refl
 sent-empty (c ∷ cells) = sent-empty cells
-
--- of a cycle's cells the cycle's placements alone are asked
-pub sent-due : (k slot : ℕ) (chs : List Channel) (ps : List FrameTriggering) → sent_in (filled (filter (is_due k) ps)) (cells_in (k ∷ []) (slot ∷ []) chs) ≡ sent_in (filled ps) (cells_in (k ∷ []) (slot ∷ []) chs)
-sent-due k slot chs ps =
-    ap (sent_in (filled (filter (is_due k) ps))) (cells-column k slot chs)
-    ∙ sent-alike (filled (filter (is_due k) ps)) (filled ps) k slot chs (λ x. fill-due k slot x ps)
-    ∙ ap (sent_in (filled ps)) (sym (cells-column k slot chs))
 
 sent-unused : (ps : List FrameTriggering) (k slot : ℕ) (chs : List Channel) → is_used ps slot ≡ false → sent_in (filled ps) (column k slot chs) ≡ []
 sent-unused ps k slot chs e = sent-alike (filled ps) [] k slot chs (λ x. fill-unused ps k slot x e ∙ fill-nothing (cell k slot x)) ∙ sent-empty (column k slot chs)
@@ -237,24 +215,7 @@ used-more ps old new number m n e f h g =
     ∙ sym (filter-append (is_used ps) (range_with_len 1 m) ((1 + m) ∷ []))
     ∙ ap (filter (is_used ps)) (sym (range-more 1 m) ∙ ap (range_with_len 1) (sym f))
 
--- ---- who sends in a cell, placement by placement
-
-fill-at : (c : Cell) (ps : List FrameTriggering) (i : ℕ) (p : FrameTriggering) → i < length ps → p ≡ get_or ps i p → fill (filled (drop i ps)) c ≡ cond (has_cell p.placement c) (Some (owner_in p)) (fill (filled (drop (i + 1) ps)) c)
-unfolding fill
-fill-at c ps i p l e =
-    at_drop_more (λ rest. fill (filled rest) c) ps i p l
-    ∙ ap (λ q. cond (has_cell q.placement c) (Some (owner_in q)) (fill (filled (drop (i + 1) ps)) c)) (sym e)
-
-pub fill-here : (c : Cell) (ps : List FrameTriggering) (i : ℕ) (p : FrameTriggering) → i < length ps → p ≡ get_or ps i p → has_cell p.placement c ≡ true → fill (filled (drop i ps)) c ≡ fill (filled ps) c → Some (sending (c, owner_in p)) ≡ option_map (λ o. sending (c, o)) (fill (filled ps) c)
-fill-here c ps i p l e t h =
-    ap (option_map (λ o. sending (c, o)))
-    (ap (λ b. cond b (Some (owner_in p)) (fill (filled (drop (i + 1) ps)) c)) (sym t) ∙ sym (fill-at c ps i p l e) ∙ h)
-
-pub fill-later : (c : Cell) (ps : List FrameTriggering) (i : ℕ) (p : FrameTriggering) → i < length ps → p ≡ get_or ps i p → has_cell p.placement c ≡ false → fill (filled (drop i ps)) c ≡ fill (filled ps) c → fill (filled (drop (i + 1) ps)) c ≡ fill (filled ps) c
-fill-later c ps i p l e t h = ap (λ b. cond b (Some (owner_in p)) (fill (filled (drop (i + 1) ps)) c)) (sym t) ∙ sym (fill-at c ps i p l e) ∙ h
-
-pub fill-nowhere : (c : Cell) (ps : List FrameTriggering) (i : ℕ) → length ps ≤ i → fill (filled (drop i ps)) c ≡ fill (filled ps) c → None ≡ option_map (λ o. sending (c, o)) (fill (filled ps) c)
-fill-nowhere c ps i l h = ap (option_map (λ o. sending (c, o))) (fill-nothing c ∙ ap (λ rest. fill (filled rest) c) (sym (drop_all i ps l)) ∙ h)
+-- ---- numbers of slots
 
 is_slot-within : (number : ℕ) → 1 ≤ number → number ≤ 1023 → is_slot number ≡ true
 is_slot-within number l h = and_from (nat_le 1 number) (nat_le number 1023) (grind (arith, nat_tests)) (grind (arith, nat_tests))

@@ -9,6 +9,7 @@ pub mod Drafts
 pub mod RowFaults
 pub mod BookEdits
 pub mod Fits
+pub mod FirstPlaces
 pub mod ImportLabels
 pub mod ImportLimits
 pub mod Laws

@@ -3,7 +3,6 @@ use Rattle.std.specs.Prelude.{ℕ, ◌==◌, ◌≡◌, ◌++◌, Bool, List, []
 use Rattle.std.specs.List.{list_any}
 use Rattle.fr_base.specs.Cells.{Cell, cells_in, slots_of}
 use Rattle.fr_base.specs.Channels.{channels_in}
-use Rattle.fr_base.specs.Cycles.{has_cycle}
 use Rattle.fr_base.specs.Schedule.{entries, fill}
 use Rattle.fr_base.specs.Book.{Frame, Sender, schedule_of}
 use Rattle.fr_base.specs.Queries.{sending}
@@ -25,10 +24,6 @@ filled triggerings = map (λ p. (record { supplier = p.supplier; frame = p.frame
 -- the frame's placements, each with its sender
 abbrev pub filled_by : Name × Name → Frame → List (Sender × Placement)
 filled_by k f = map (λ row. (record { supplier = k.0; frame = k.1; node = f.node }, row.0)) f.placements.rows
-
--- whether it is sent in the cycle
-abbrev pub is_due : ℕ → FrameTriggering → Bool
-is_due cycle p = has_cycle p.placement.cycles cycle
 
 -- whether one of them is in the slot
 abbrev pub is_used : List FrameTriggering → ℕ → Bool

@@ -26,6 +26,7 @@ mod page;
 mod page_sendings;
 mod row_occupancy;
 mod sendings;
+mod slot_table;
 mod variants;
 
 pub use decision::{RowFault, decide, decide_rows};

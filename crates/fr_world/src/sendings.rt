@@ -1,13 +1,14 @@
 //! What placements send in which cell.
-ghost use Rattle.std.specs.Prelude.{◌≡◌, [], ◌∷◌, ◌++◌, filter, IfOk, OnOk, option_map};
+ghost use Rattle.std.specs.Prelude.{◌≡◌, [], ◌∷◌, ◌++◌, ◌<◌, ℕ, false, filter, slice_index_or, IfOk, OnOk, option_map};
 ghost use Rattle.fr_base.specs.Cells.{Cell, cells_in, cluster_cells, slots_of};
 ghost use Rattle.fr_base.specs.Channels.{channels_in};
 ghost use Rattle.fr_base.specs.Schedule.{fill};
 ghost use Rattle.fr_base.specs.Queries.{sending};
-ghost use Rattle.fr_world.specs.Sendings.{cycle_cells, filled, is_due, is_used, sent_in};
+ghost use Rattle.fr_world.specs.FirstPlaces.{AreFirst};
+ghost use Rattle.fr_world.specs.Sendings.{cycle_cells, filled, is_used, sent_in};
 
-use crate::cycle_channel::has_cell;
 use crate::frame_triggering::FrameTriggering;
+use crate::slot_table::{SlotTable, slot_tables};
 use fr_base::{CYCLE_COUNT, Channel, Channels, NoMemory, Params, Placement, Rows, Sending, Slot};
 use std::alloc::Global;
 
@@ -21,11 +22,12 @@ pub fn schedule(
     ensures { IfOk result (λ rows. rows ≡ sent_in (filled triggerings.now) (cluster_cells params.now)) }
 {
     let slots = used_slots(alloc, params, triggerings)?;
+    let tables = slot_tables(alloc, triggerings)?;
     let mut rows = Rows::new(alloc);
     for cycle in 0..CYCLE_COUNT as u8 {
         push_cycle(
-            alloc,
             triggerings,
+            &tables,
             &slots,
             params.channels(),
             cycle,
@@ -47,7 +49,8 @@ pub(crate) fn push_sendings(
     ensures { OnOk result (rows.new ≡ rows.old ++ sent_in (filled triggerings.now) (cycle_cells params.now cycle)) }
 {
     let slots = used_slots(alloc, params, triggerings)?;
-    push_cycle(alloc, triggerings, &slots, params.channels(), cycle, rows)
+    let tables = slot_tables(alloc, triggerings)?;
+    push_cycle(triggerings, &tables, &slots, params.channels(), cycle, rows)
 }
 
 // The static slots that a placement is in, in order.
@@ -58,10 +61,11 @@ fn used_slots(
 ) -> Result<Vec<Slot>, NoMemory>
     ensures { IfOk result (λ slots. slots.items ≡ filter (is_used triggerings.now) (slots_of params.now)) }
 {
+    let marks = slot_marks(triggerings);
     let mut slots = Vec::new(alloc);
     for number in 1..=params.static_slots() {
         if let Some(slot) = Slot::new(number) {
-            if is_used(triggerings, slot) {
+            if is_marked(&marks, slot) {
                 slots.push(slot)?;
             }
         }
@@ -69,28 +73,40 @@ fn used_slots(
     Ok(slots)
 }
 
-// Whether a placement is in the slot.
-fn is_used(triggerings: &[FrameTriggering], slot: Slot) -> bool
-    ensures { result ≡ is_used triggerings.now slot }
+// For each slot's number whether a placement is in the slot.
+fn slot_marks(triggerings: &[FrameTriggering]) -> [bool; 1024]
+    ensures { (slot : ℕ) → slot < 1024 → slice_index_or result slot false ≡ is_used triggerings.now slot }
 {
-    triggerings.iter().any(|one| slot == one.placement.slot)
+    let mut marks = [false; 1024];
+    for one in triggerings {
+        marks[one.placement.slot.get() as usize] = true;
+    }
+    marks
+}
+
+// Whether the slot's number is marked.
+fn is_marked(marks: &[bool; 1024], slot: Slot) -> bool
+    ensures value { result ≡ slice_index_or marks.now slot false }
+    ensures within { slot < 1024 }
+{
+    marks[slot.get() as usize]
 }
 
 // Appends what is sent in the cycle, in these slots.
 fn push_cycle(
-    alloc: Global,
     triggerings: &[FrameTriggering],
+    tables: &[SlotTable],
     slots: &[Slot],
     channels: Channels,
     cycle: u8,
     rows: &mut Rows<Sending>,
 ) -> Result<(), NoMemory>
+    requires { AreFirst triggerings.now tables.now }
     ensures { OnOk result (rows.new ≡ rows.old ++ sent_in (filled triggerings.now) (cells_in (cycle ∷ []) slots.now (channels_in channels))) }
 {
-    let due = due_in(alloc, triggerings, cycle)?;
     for slot in slots {
         for channel in channels.as_slice() {
-            if let Some(sending) = sending(&due, cycle, *slot, *channel) {
+            if let Some(sending) = sending(triggerings, tables, cycle, *slot, *channel) {
                 rows.push(sending)?;
             }
         }
@@ -98,43 +114,26 @@ fn push_cycle(
     Ok(())
 }
 
-// The placements that are sent in the cycle.
-fn due_in(
-    alloc: Global,
-    triggerings: &[FrameTriggering],
-    cycle: u8,
-) -> Result<Vec<FrameTriggering>, NoMemory>
-    ensures { IfOk result (λ due. due.items ≡ filter (is_due cycle) triggerings.now) }
-{
-    let mut due = Vec::new(alloc);
-    for one in triggerings {
-        if one.placement.cycles.contains(cycle) {
-            due.push(*one)?;
-        }
-    }
-    Ok(due)
-}
-
 // What is sent in the cell.
 fn sending(
     triggerings: &[FrameTriggering],
+    tables: &[SlotTable],
     cycle: u8,
     slot: Slot,
     channel: Channel,
 ) -> Option<Sending>
+    requires { AreFirst triggerings.now tables.now }
     ensures { let cell : Cell = record { cycle = cycle; slot = slot; channel = channel } in result ≡ option_map (λ sender. sending (cell, sender)) (fill (filled triggerings.now) cell) }
 {
-    for one in triggerings {
-        if has_cell(&one.placement, cycle, slot, channel) {
-            return Some(Sending {
-                cycle,
-                slot,
-                channel,
-                frame: one.frame,
-                node: one.node,
-                supplier: one.supplier,
-            });
-        }
-    }
-    None
+    let table = tables.get(slot.get() as usize)?;
+    let place = table.place(cycle, channel)?;
+    let one = triggerings.get(place)?;
+    Some(Sending {
+        cycle,
+        slot,
+        channel,
+        frame: one.frame,
+        node: one.node,
+        supplier: one.supplier,
+    })
 }

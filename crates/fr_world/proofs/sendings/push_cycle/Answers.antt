@@ -1,8 +1,8 @@
-use Rattle.std.proofs.Common.{◌∙◌, ◌++◌, [], sym, ap, append-nil, filter, refl, take_all, arith}
+use Rattle.std.proofs.Common.{◌∙◌, ◌++◌, [], sym, ap, append-nil, refl, take_all, arith}
 use Rattle.std.specs.List.{cons_option}
 use Rattle.fr_base.specs.Channels.{channels_in}
-use Rattle.fr_world.specs.Sendings.{filled, is_due, sent_in}
-use Rattle.fr_world.proofs.ScheduleLaws.{cells-column, column, sent-channel, sent-due, sent-nothing, sent-slot}
+use Rattle.fr_world.specs.Sendings.{filled, sent_in}
+use Rattle.fr_world.proofs.ScheduleLaws.{cells-column, column, sent-channel, sent-nothing, sent-slot}
 use Rattle.fr_world.proofs.sendings.push_cycle.Goals as goal
 use Rattle.fr_world.proofs.sendings.push_cycle.Goals.{in-Some+in_ok-push, in_default}
 
@@ -10,27 +10,24 @@ pub loop-slot-init : goal.loop-slot-init
 loop-slot-init c = sym (append-nil c.args.rows.now) ∙ ap (λ more. c.args.rows.now ++ more) (sym (sent-nothing (filled c.args.triggerings.now)))
 
 pub loop-channel-init : goal.loop-channel-init
-loop-channel-init c = sym (append-nil c.loop-slot.rows) ∙ ap (λ more. c.loop-slot.rows ++ more) (sym (sent-nothing (filled c.in_ok-due.due.items)))
+loop-channel-init c = sym (append-nil c.loop-slot.rows) ∙ ap (λ more. c.loop-slot.rows ++ more) (sym (sent-nothing (filled c.args.triggerings.now)))
 
 pub loop-channel-preserved : goal.loop-channel-preserved
-loop-channel-preserved c = elim c.match-sending.branch [
-  | in-Some+in_ok-push w ↦
-      sent-channel (filled c.in_ok-due.due.items) (filled c.deref.result.now) c.args.cycle c.slot-item.result c.as_slice-channel-items.result.now c.loop-channel.channel-index _ _ c.loop-slot.rows c.loop-channel.rows _ c.sending.result c.loop-channel-test.true refl c.loop-channel.invariant
-      c.sending.ensures (ap filled c.deref.ensures.value)
-      (w.rows-is ∙ w.in_ok-push.ensures.ok ∙ ap (λ r. c.loop-channel.rows ++ cons_option r []) (sym w.in-Some.is))
-  | in_default w ↦
-      sent-channel (filled c.in_ok-due.due.items) (filled c.deref.result.now) c.args.cycle c.slot-item.result c.as_slice-channel-items.result.now c.loop-channel.channel-index _ _ c.loop-slot.rows c.loop-channel.rows _ c.sending.result c.loop-channel-test.true refl c.loop-channel.invariant
-      c.sending.ensures (ap filled c.deref.ensures.value)
-      (w.rows-is ∙ sym (append-nil c.loop-channel.rows) ∙ ap (λ r. c.loop-channel.rows ++ cons_option r []) (sym w.in_default.is))
-]
+loop-channel-preserved c =
+    sent-channel (filled c.args.triggerings.now) c.args.cycle c.slot-item.result c.as_slice-channel-items.result.now c.loop-channel.channel-index _ _ c.loop-slot.rows c.loop-channel.rows _ c.sending.result c.loop-channel-test.true refl c.loop-channel.invariant c.sending.ensures
+    (elim c.match-sending.branch [
+      | in-Some+in_ok-push w ↦ w.rows-is ∙ w.in_ok-push.ensures.ok ∙ ap (λ r. c.loop-channel.rows ++ cons_option r []) (sym w.in-Some.is)
+      | in_default w ↦ w.rows-is ∙ sym (append-nil c.loop-channel.rows) ∙ ap (λ r. c.loop-channel.rows ++ cons_option r []) (sym w.in_default.is)
+    ])
 
 pub loop-slot-preserved : goal.loop-slot-preserved
 loop-slot-preserved c =
+    let fs = filled c.args.triggerings.now in
     let k = c.args.cycle in
     let slot = c.slot-item.result in
     let chs = channels_in c.args.channels in
-    let all = c.loop-channel.invariant ∙ (λ i. c.loop-slot.rows ++ sent_in (filled (c.in_ok-due.ensures i)) (column k slot (take_all c.loop-channel.channel-index c.as_slice-channel-items.result.now (omega (arith, c.loop-channel-test.false)) i))) in
-    sent-slot (filled c.args.triggerings.now) k chs c.args.slots.now c.loop-slot.slot-index slot c.args.rows.now c.loop-slot.rows _ c.loop-slot-test.true c.slot-item.is c.loop-slot.invariant
-    (all ∙ (λ i. c.loop-slot.rows ++ sent_in (filled (filter (is_due k) c.args.triggerings.now)) (column k slot (c.as_slice-channel-items.ensures i)))
-    ∙ ap (λ cells. c.loop-slot.rows ++ sent_in (filled (filter (is_due k) c.args.triggerings.now)) cells) (sym (cells-column k slot chs))
-    ∙ ap (λ more. c.loop-slot.rows ++ more) (sent-due k slot chs c.args.triggerings.now))
+    sent-slot fs k chs c.args.slots.now c.loop-slot.slot-index slot c.args.rows.now c.loop-slot.rows _ c.loop-slot-test.true c.slot-item.is c.loop-slot.invariant
+    (c.loop-channel.invariant
+    ∙ (λ i. c.loop-slot.rows ++ sent_in fs (column k slot (take_all c.loop-channel.channel-index c.as_slice-channel-items.result.now (omega (arith, c.loop-channel-test.false)) i)))
+    ∙ (λ i. c.loop-slot.rows ++ sent_in fs (column k slot (c.as_slice-channel-items.ensures i)))
+    ∙ ap (λ cells. c.loop-slot.rows ++ sent_in fs cells) (sym (cells-column k slot chs)))

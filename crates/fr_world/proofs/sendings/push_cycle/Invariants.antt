@@ -11,4 +11,4 @@ invariant-loop-slot l = l.rows ≡ l.fn.rows ++ sent_in (filled l.triggerings) (
 
 -- and on the slot's channels so far
 abbrev pub invariant-loop-channel : goal.invariant-loop-channel
-invariant-loop-channel l = l.rows ≡ l.initial.rows ++ sent_in (filled l.due.items) (column l.cycle l.slot (take l.channel-index l.channel-items))
+invariant-loop-channel l = l.rows ≡ l.initial.rows ++ sent_in (filled l.triggerings) (column l.cycle l.slot (take l.channel-index l.channel-items))

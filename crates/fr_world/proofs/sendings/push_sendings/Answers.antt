@@ -11,6 +11,6 @@ returns c =
     let ps = c.args.triggerings.now in
     let k = c.args.cycle in
     on_ok_weaker c.push_cycle.result
-    (λ last. last ∙ (λ i. c.args.rows.now ++ sent_in (filled ps) (cells_in (k ∷ []) (c.deref.ensures.value i) (channels_in (c.channels.ensures i))))
+    (λ last. last ∙ (λ i. c.args.rows.now ++ sent_in (filled ps) (cells_in (k ∷ []) (c.deref-2.ensures.value i) (channels_in (c.channels.ensures i))))
     ∙ ap (λ more. c.args.rows.now ++ more) (sent-one c.args.params.now ps c.in_ok-slots.slots.items k c.in_ok-slots.ensures))
     c.push_cycle.ensures

@@ -13,7 +13,7 @@ loop-cycle-preserved c =
     let k = c.loop-cycle.cycle in
     sent-cycle (filled c.args.triggerings.now) c.in_ok-slots.slots.items (channels_in c.args.params.now.channels) _ _ k (k + 1) (omega arith) c.loop-cycle.invariant
     (c.in_ok-push_cycle.ensures
-    ∙ (λ i. c.loop-cycle.rows ++ sent_in (filled c.args.triggerings.now) (cells_in (k ∷ []) (c.deref.ensures.value i) (channels_in (c.channels.ensures i)))))
+    ∙ (λ i. c.loop-cycle.rows ++ sent_in (filled c.args.triggerings.now) (cells_in (k ∷ []) (c.deref-in-loop-cycle.ensures.value i) (channels_in (c.channels.ensures i)))))
 
 pub returns : goal.returns
 returns c =

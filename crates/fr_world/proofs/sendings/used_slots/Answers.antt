@@ -1,7 +1,7 @@
 use Rattle.std.proofs.Common.{◌∙◌, ◌+◌, ◌-◌, sym, ap, arith}
 use Rattle.fr_world.proofs.ScheduleLaws.{used-more, used-none, used-one, slot-within, some_slot}
 use Rattle.fr_world.proofs.sendings.used_slots.Goals as goal
-use Rattle.fr_world.proofs.sendings.used_slots.Goals.{else-loop-number-test, then-loop-number-test+else-number-number-end, in-Some+then-is_used+in_ok-push, in-Some+else-is_used, in_default}
+use Rattle.fr_world.proofs.sendings.used_slots.Goals.{else-loop-number-test, then-loop-number-test+else-number-number-end, in-Some+then-is_marked+in_ok-push, in-Some+else-is_marked, in_default}
 
 pub loop-number-preserved : goal.loop-number-preserved
 loop-number-preserved c =
@@ -9,8 +9,8 @@ loop-number-preserved c =
     let found = slot-within number c.new.result (omega arith) (omega arith) c.new.ensures in
     used-more c.args.triggerings.now c.loop-number.slots.items _ number (number - 1) (number + 1 - 1) (omega arith) (omega arith) c.loop-number.invariant
     (elim c.match-new.branch [
-      | in-Some+then-is_used+in_ok-push w ↦ used-one c.args.triggerings.now c.loop-number.slots.items _ w.in-Some.slot number (sym w.in-Some.is ∙ found) (sym w.is_used.ensures ∙ w.if-is_used.true) (ap (λ v. v.items) w.slots-is ∙ w.in_ok-push.ensures.items)
-      | in-Some+else-is_used w ↦ used-none c.args.triggerings.now c.loop-number.slots.items _ w.in-Some.slot number (sym w.in-Some.is ∙ found) (sym w.is_used.ensures ∙ w.if-is_used.false) (ap (λ v. v.items) w.slots-is)
+      | in-Some+then-is_marked+in_ok-push w ↦ used-one c.args.triggerings.now c.loop-number.slots.items _ w.in-Some.slot number (sym w.in-Some.is ∙ found) (sym (c.slot_marks-marks.ensures _ w.is_marked.ensures.within) ∙ sym w.is_marked.ensures.value ∙ w.if-is_marked.true) (ap (λ v. v.items) w.slots-is ∙ w.in_ok-push.ensures.items)
+      | in-Some+else-is_marked w ↦ used-none c.args.triggerings.now c.loop-number.slots.items _ w.in-Some.slot number (sym w.in-Some.is ∙ found) (sym (c.slot_marks-marks.ensures _ w.is_marked.ensures.within) ∙ sym w.is_marked.ensures.value ∙ w.if-is_marked.false) (ap (λ v. v.items) w.slots-is)
       | in_default w ↦ absurd (some_slot c.new.result number found w.in_default.is)
     ])
 
@@ -23,8 +23,8 @@ returns c =
           let found = slot-within number w.new.result (omega arith) (omega arith) w.new.ensures in
           used-more c.args.triggerings.now c.loop-number.slots.items _ number (number - 1) c.args.params.now.static_slots (omega arith) (omega arith) c.loop-number.invariant
           (ap (λ v. v.items) w.slots-is ∙ (elim w.match-new.branch [
-            | in-Some+then-is_used+in_ok-push w' ↦ used-one c.args.triggerings.now c.loop-number.slots.items _ w'.in-Some.slot number (sym w'.in-Some.is ∙ found) (sym w'.is_used.ensures ∙ w'.if-is_used.true) (ap (λ v. v.items) w'.slots-is ∙ w'.in_ok-push.ensures.items)
-            | in-Some+else-is_used w' ↦ used-none c.args.triggerings.now c.loop-number.slots.items _ w'.in-Some.slot number (sym w'.in-Some.is ∙ found) (sym w'.is_used.ensures ∙ w'.if-is_used.false) (ap (λ v. v.items) w'.slots-is)
+            | in-Some+then-is_marked+in_ok-push w' ↦ used-one c.args.triggerings.now c.loop-number.slots.items _ w'.in-Some.slot number (sym w'.in-Some.is ∙ found) (sym (c.slot_marks-marks.ensures _ w'.is_marked.ensures.within) ∙ sym w'.is_marked.ensures.value ∙ w'.if-is_marked.true) (ap (λ v. v.items) w'.slots-is ∙ w'.in_ok-push.ensures.items)
+            | in-Some+else-is_marked w' ↦ used-none c.args.triggerings.now c.loop-number.slots.items _ w'.in-Some.slot number (sym w'.in-Some.is ∙ found) (sym (c.slot_marks-marks.ensures _ w'.is_marked.ensures.within) ∙ sym w'.is_marked.ensures.value ∙ w'.if-is_marked.false) (ap (λ v. v.items) w'.slots-is)
             | in_default w' ↦ absurd (some_slot w.new.result number found w'.in_default.is)
           ]))
     ]

@@ -1,0 +1,130 @@
+//! Which placement is the first that has a slot's cells.
+ghost use Rattle.std.specs.Prelude.{◌≡◌, ◌<◌, [], ℕ, IfOk, None, OnOk, Some, if◌then◌else◌, length, slice_index_or};
+ghost use Rattle.std.specs.Option.{option_or};
+ghost use Rattle.fr_base.specs.Channels.{has_channel};
+ghost use Rattle.fr_base.specs.declared.channel.Channel.{Channel as OneChannel};
+ghost use Rattle.fr_world.specs.FirstPlaces.{AreFirst, IsClaimed, place_at, place_on};
+
+use crate::frame_triggering::FrameTriggering;
+use fr_base::{CYCLE_COUNT, Channel, Channels, NoMemory, Placement};
+use std::alloc::Global;
+use std::marker::Model;
+
+/// For each cycle and channel of a slot the place in a list of the first placement that has the cell.
+#[derive(Drop)]
+pub(crate) struct SlotTable {
+    cycles: Vec<FirstPlaces>,
+}
+
+/// These places in a cycle.
+#[derive(Clone, Copy)]
+pub(crate) struct FirstPlaces {
+    a: Option<usize>,
+    b: Option<usize>,
+}
+
+// No placement has a cell.
+const NO_PLACES: FirstPlaces = FirstPlaces { a: None, b: None };
+
+impl Model for SlotTable {
+    ghost use Rattle.std.specs.Prelude.{List, length, ◌≤◌};
+    ghost use Rattle.fr_world.specs.declared.slot_table.FirstPlaces.{FirstPlaces as Places};
+
+    ghost Value = { List Places };
+
+    ghost view = { λ t. t.cycles.items };
+
+    ghost invariant = { λ t. length t.cycles.items ≤ 64 };
+}
+
+impl SlotTable {
+    /// No placement has a cell of the slot. It takes no memory.
+    pub(crate) fn new(alloc: Global) -> SlotTable
+        ensures { result ≡ [] }
+    {
+        SlotTable {
+            cycles: Vec::new(alloc),
+        }
+    }
+
+    /// The place of the first placement that has the cell of this cycle and channel.
+    pub(crate) fn place(&self, cycle: u8, channel: Channel) -> Option<usize>
+        ensures { result ≡ place_at self.now cycle channel }
+    {
+        let places = self.cycles.get(usize::from(cycle))?;
+        places.on(channel)
+    }
+
+    /// The placement at this place takes those of its cells that no placement has.
+    pub(crate) fn claim(&mut self, placement: &Placement, place: usize) -> Result<(), NoMemory>
+        ensures { OnOk result (IsClaimed placement.now place self.old self.new) }
+    {
+        self.cycles.resize(CYCLE_COUNT as usize, NO_PLACES)?;
+        claim_cycles(&mut self.cycles, placement, place);
+        Ok(())
+    }
+}
+
+impl FirstPlaces {
+    // The place of the channel.
+    fn on(self, channel: Channel) -> Option<usize>
+        ensures { result ≡ place_on channel self }
+    {
+        match channel {
+            Channel::A => self.a,
+            Channel::B => self.b,
+        }
+    }
+
+    // The place is noted of those of the channels of which none is.
+    fn claim(&mut self, channels: Channels, place: usize)
+        ensures { (x : OneChannel) → place_on x self.new ≡ option_or (place_on x self.old) (if has_channel channels x then Some place else None) }
+    {
+        if channels.has(Channel::A) {
+            self.a = self.a.or(Some(place));
+        }
+        if channels.has(Channel::B) {
+            self.b = self.b.or(Some(place));
+        }
+    }
+}
+
+/// The tables of these placements, each at its slot's number.
+pub(crate) fn slot_tables(
+    alloc: Global,
+    triggerings: &[FrameTriggering],
+) -> Result<Vec<SlotTable>, NoMemory>
+    ensures { IfOk result (λ tables. AreFirst triggerings.now tables.items) }
+{
+    let mut tables = Vec::new(alloc);
+    for (place, one) in triggerings.iter().enumerate() {
+        let number = one.placement.slot.get() as usize;
+        make_room(alloc, &mut tables, number)?;
+        tables[number].claim(&one.placement, place)?;
+    }
+    Ok(tables)
+}
+
+// Makes room for the table of this number.
+fn make_room(alloc: Global, tables: &mut Vec<SlotTable>, number: usize) -> Result<(), NoMemory>
+    ensures room { OnOk result (number < length tables.new.items) }
+    ensures same { (n : ℕ) → slice_index_or tables.new.items n [] ≡ slice_index_or tables.old.items n [] }
+{
+    while tables.len() <= number {
+        tables.push(SlotTable::new(alloc))?;
+    }
+    Ok(())
+}
+
+// The placement takes those of its cells that no placement has, cycle by cycle.
+fn claim_cycles(cycles: &mut [FirstPlaces], placement: &Placement, place: usize)
+    requires { length cycles.old ≡ 64 }
+    ensures len { length cycles.new ≡ 64 }
+    ensures claimed { IsClaimed placement.now place cycles.old cycles.new }
+{
+    let mut cycle = u32::from(placement.cycles.base());
+    while cycle < CYCLE_COUNT {
+        cycles[cycle as usize].claim(placement.channels, place);
+        cycle += u32::from(placement.cycles.repetition());
+    }
+}
