@@ -9,7 +9,7 @@ ghost use Rattle.fr_world.specs.Sendings.{cycle_cells, filled, is_used, sent_in}
 
 use crate::frame_triggering::FrameTriggering;
 use crate::slot_table::{SlotTable, slot_tables};
-use fr_base::{CYCLE_COUNT, Channel, Channels, NoMemory, Params, Placement, Rows, Sending, Slot};
+use fr_base::{CYCLE_COUNT, Channel, Channels, NoMemory, Params, Rows, Sending, Slot};
 use std::alloc::Global;
 
 /// Which frame is sent in which cycle, slot and channel, of these placements: by cycle, slot and
