@@ -1,4 +1,4 @@
--- The words of the faults that end a job or a connection.
+-- The words of the faults that end a job or a connection, and which of them may end which job.
 use Rattle.std.specs.Prelude.{◌≡◌, ◌≢◌, ◌⊎◌, ℕ, List, codes, ⊤}
 use Rattle.fr_cli.specs.ScriptFault.{script_fault_word}
 use Rattle.fr_cli.specs.declared.fault.Fault.{Fault}
@@ -48,13 +48,10 @@ abbrev pub IsNotOpened : Fault → Type 0
 IsNotOpened (Register fault) = fault ≢ store.NotEmpty
 IsNotOpened _ = ⊥
 
--- For this a register is asked for no report.
+-- For this no report is given: the register is not opened, or memory is wanting.
 abbrev pub IsNotReported : Fault → Type 0
-IsNotReported (Register fault) = fault ≢ store.NotEmpty
-IsNotReported NoMemory = ⊤
-IsNotReported _ = ⊥
+IsNotReported fault = IsNotOpened fault ⊎ (fault ≡ NoMemory)
 
--- For this an import is not carried out.
+-- For this an import is not carried out: no report would be given, or its file cannot be read.
 abbrev pub IsNotImported : Fault → Type 0
-IsNotImported CannotOpen = ⊤
-IsNotImported fault = IsNotReported fault
+IsNotImported fault = IsNotReported fault ⊎ (fault ≡ CannotOpen)

@@ -125,7 +125,7 @@ fn end_script<R: Read, O: Write, E: Write>(
 }
 
 // The report of a variant of the register in a file.
-#[tactic(auto, using(crate::proofs::AskingLaws::prints_says, crate::proofs::AskingLaws::opened_reported))]
+#[tactic(auto, using(crate::proofs::AskingLaws::prints_says))]
 fn report_file(
     rt: &HostRuntime,
     db: &str,
@@ -141,7 +141,7 @@ fn report_file(
 }
 
 // Carries out the import of a file into the register in another.
-#[tactic(auto, using(crate::proofs::AskingLaws::prints_says, crate::proofs::AskingLaws::opened_imported))]
+#[tactic(auto, using(crate::proofs::AskingLaws::prints_says))]
 fn import_file(
     rt: &HostRuntime,
     db: &str,
