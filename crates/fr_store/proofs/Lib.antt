@@ -4,6 +4,7 @@ pub mod OpenLemmas
 pub mod SameCluster
 pub mod AgainLemmas
 pub mod FileLemmas
+pub mod MemoryLemmas
 pub mod OrderLemmas
 pub mod SectionLemmas
 pub mod TurnLemmas

@@ -5,7 +5,6 @@ ghost use Rattle.std.specs.List.{list_any};
 ghost use Rattle.sqlite_schema.specs.Names.{same_name};
 ghost use Rattle.sqlite.specs.State.{HasCleanDisk, Survives};
 ghost use Rattle.sqlite.specs.Held.{state};
-ghost use Rattle.sqlite.specs.Steps.{over_memory};
 ghost use Rattle.fr_base.specs.Book.{opening};
 ghost use Rattle.fr_tables.specs.Filling.{with_config};
 ghost use Rattle.fr_tables.specs.Making.{IsFresh, no_rows};
@@ -20,7 +19,7 @@ use crate::fault::StoreFault;
 use crate::store::Store;
 use fr_base::Config;
 use fr_tables::{cluster, filling, making};
-use sqlite::{Alter, Connection, Error, MemStore, Transaction};
+use sqlite::{Alter, Connection, Error, Transaction};
 use sqlite_schema::names::same_name;
 use sqlite_schema::schema::Schema;
 use std::alloc::Global;
@@ -124,26 +123,6 @@ impl<S: Alter + Drop> Store<S> {
         match create(&mut conn, &config) {
             Ok(()) => Ok(Store { conn, config }),
             Err(_) => Err((StoreFault::Unavailable, conn)),
-        }
-    }
-}
-
-impl Store<MemStore> {
-    /// A register of this cluster in memory.
-    pub fn create_in_memory(alloc: Global, config: &Config) -> Result<Store<MemStore>, StoreFault>
-        ensures made { IfOk result (λ s. IsNewOf config.now (state over_memory s.conn).now) }
-        ensures stands { IfOk result (λ s. Stands (state over_memory s.conn) config.now (opening config.now)) }
-        ensures committed { IfOk result (λ s. (state over_memory s.conn).committed ≡ (state over_memory s.conn).now) }
-        ensures config { IfOk result (λ s. s.config ≡ config.now) }
-        ensures outside { IfOk result (λ s. s.conn.in_transaction ≡ false) }
-        ensures told { IfErr result (λ e. e ≡ fault.Unavailable) }
-    {
-        let Ok(conn) = Connection::open_in_memory(alloc) else {
-            return Err(StoreFault::Unavailable);
-        };
-        match Store::create_on(alloc, conn, config) {
-            Ok(store) => Ok(store),
-            Err(_) => Err(StoreFault::Unavailable),
         }
     }
 }

@@ -6,6 +6,7 @@ pub mod applying;
 pub mod creating;
 mod fault;
 mod files;
+mod memory;
 pub mod opening;
 pub mod page;
 mod paths;
@@ -15,5 +16,6 @@ mod slot_holder;
 mod store;
 
 pub use fault::StoreFault;
+pub use memory::MemoryFile;
 pub use slot_holder::Holder;
 pub use store::Store;

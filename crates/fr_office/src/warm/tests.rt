@@ -4,17 +4,17 @@ use crate::fixture::{FILE, name};
 use crate::records::Records;
 use crate::warm::Warm;
 use fr_base::{Actor, Ask, Channel, Config, Name, Refusal, Slot};
-use fr_store::Store;
+use fr_store::{MemoryFile, Store};
 use fr_text::{read_command, read_config};
 use fr_world::{Edit, KeptImport, Page, VariantRow};
-use sqlite::MemStore;
+use sqlite::FileStore;
 use std::alloc::Global;
 use std::test::Fail;
 
 /// A store that counts how often a page of it is read. Of its rows nothing is said: it is never clean.
 #[derive(Drop)]
 struct Counted {
-    store: Store<MemStore>,
+    store: Store<FileStore<MemoryFile>>,
     reads: u32,
 }
 

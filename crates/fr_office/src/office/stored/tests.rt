@@ -6,9 +6,9 @@ use crate::fixture::{FILE, InFiles, empty, reopened};
 use crate::office::Office;
 use crate::office::tests::{FIRST, Line, answered, is_same, line_count, office, page};
 use fr_base::Config;
-use fr_store::Store;
+use fr_store::{MemoryFile, Store};
 use fr_text::read_config;
-use sqlite::{Connection, MemStore, Options};
+use sqlite::{Connection, FileStore, Options};
 use std::alloc::Global;
 use std::test::Fail;
 
@@ -151,7 +151,7 @@ const LEFT: [(&str, usize); 6] = [
     ("SELECT frame FROM dropped WHERE variant = 'v3'", 1),
 ];
 
-type InMemory = Office<Store<MemStore>>;
+type InMemory = Office<Store<FileStore<MemoryFile>>>;
 
 // The office over the same tables, once these statements were carried out.
 fn altered(alloc: Global, office: InMemory, statements: &str) -> Result<InMemory, Fail> {
@@ -160,7 +160,7 @@ fn altered(alloc: Global, office: InMemory, statements: &str) -> Result<InMemory
     over(alloc, conn)
 }
 
-fn over(alloc: Global, conn: Connection<MemStore>) -> Result<InMemory, Fail> {
+fn over(alloc: Global, conn: Connection<FileStore<MemoryFile>>) -> Result<InMemory, Fail> {
     match Store::open_on(alloc, conn) {
         Ok(store) => Ok(Office::new(alloc, store)),
         Err(_) => Err(Fail::from("open_on")),
@@ -168,7 +168,7 @@ fn over(alloc: Global, conn: Connection<MemStore>) -> Result<InMemory, Fail> {
 }
 
 // Whether `v2` is laid over its parent, and has no frame's row.
-fn keeps_differences(conn: &mut Connection<MemStore>) -> Result<bool, Fail> {
+fn keeps_differences(conn: &mut Connection<FileStore<MemoryFile>>) -> Result<bool, Fail> {
     let laid = conn.query_all(
         "SELECT name FROM variants WHERE name = 'v2' AND overlay = 1",
         &[],
@@ -178,7 +178,7 @@ fn keeps_differences(conn: &mut Connection<MemStore>) -> Result<bool, Fail> {
 }
 
 // Whether there are as many rows as should be left.
-fn are_left(conn: &mut Connection<MemStore>) -> Result<bool, Fail> {
+fn are_left(conn: &mut Connection<FileStore<MemoryFile>>) -> Result<bool, Fail> {
     for (query, count) in &LEFT {
         if conn.query_all(query, &[])?.len() != *count {
             return Ok(false);

@@ -1,0 +1,170 @@
+//! A register in memory: in files of which only the bytes are kept.
+
+ghost use Rattle.std.specs.Prelude.{◌≡◌, true, false, refl, length, is_ok, IfOk, IfErr, OnOk, []};
+ghost use Rattle.sqlite_disk.specs.Disk.{Holds, Torn, Cut, CountsFault};
+ghost use Rattle.sqlite_disk.specs.Refusal.{finds_no_room};
+ghost use Rattle.sqlite.specs.Files.{file_state};
+ghost use Rattle.fr_base.specs.Book.{opening};
+ghost use Rattle.fr_store.specs.Reading.{Stands};
+ghost use Rattle.fr_store.specs.Store.{IsNewOf};
+ghost use Rattle.fr_store.specs.declared.fault.StoreFault.TheVariants as fault;
+
+use crate::fault::StoreFault;
+use crate::store::Store;
+use fr_base::Config;
+use sqlite::{FileStore, Files, Options};
+use sqlite_disk::{Disk, Tally};
+use std::alloc::{AllocError, Global};
+use std::io;
+
+/// A database's file in memory. It fails only where memory is refused, or a read goes past its end. A commit is
+/// there at once, so a sync has nothing to do.
+#[derive(Drop)]
+pub struct MemoryFile {
+    bytes: Vec<u8>,
+    faults: u64,
+}
+
+impl MemoryFile {
+    /// An empty file.
+    pub fn new(alloc: Global) -> MemoryFile
+        ensures { result.bytes.items ≡ [] }
+    {
+        MemoryFile {
+            bytes: Vec::new(alloc),
+            faults: 0,
+        }
+    }
+}
+
+impl Disk for MemoryFile {
+    ghost seen = { λ m. m.bytes.items };
+
+    ghost may_leave = { λ m left. left ≡ m.bytes.items };
+
+    ghost is_usable = { λ _. true };
+
+    ghost faults = { λ m. m.faults };
+
+    ghost is_clean = { λ _. true };
+
+    ghost tally_of = { λ _. record { caught = 0; refused = 0 } };
+
+    ghost key_of = { λ _. 0 };
+
+    ghost is_fair = { λ _ _. true };
+
+    ghost fair_if_clean = { λ _ _ _. refl };
+
+    ghost seen_may_stay = { λ _. refl };
+
+    fn mixes(&self) -> bool {
+        false
+    }
+
+    // Memory gives back what was written, so it needs no secret.
+    fn key(&self) -> u64 {
+        0
+    }
+
+    fn tally(&self) -> Tally {
+        Tally {
+            caught: 0,
+            refused: 0,
+        }
+    }
+
+    fn may_be_used(&self) -> bool {
+        true
+    }
+
+    fn len(&mut self) -> io::Result<usize> {
+        Ok(self.bytes.len())
+    }
+
+    fn read_at(&mut self, at: usize, buf: &mut [u8]) -> io::Result<()> {
+        if at > self.bytes.len() || buf.len() > self.bytes.len() - at {
+            return Err(io::ErrorKind::UnexpectedEof.into());
+        }
+        buf.copy_from_slice(&self.bytes[at..at + buf.len()]);
+        Ok(())
+    }
+
+    // What is there has the digest that it had.
+    fn read_checked(&mut self, _key: u64, _want: u64, at: usize, buf: &mut [u8]) -> io::Result<()> {
+        self.read_at(at, buf)
+    }
+
+    fn write_at(&mut self, at: usize, bytes: &[u8]) -> io::Result<()> {
+        counted(overwrite(&mut self.bytes, at, bytes), &mut self.faults)
+    }
+
+    fn set_len(&mut self, len: usize) -> io::Result<()> {
+        counted(resize(&mut self.bytes, len), &mut self.faults)
+    }
+
+    fn sync(&mut self) -> io::Result<()> {
+        Ok(())
+    }
+}
+
+/// With what the log is salted. Nobody else has it.
+const SALT: u64 = 1;
+
+impl Store<FileStore<MemoryFile>> {
+    /// A register of this cluster in memory.
+    pub fn create_in_memory(
+        alloc: Global,
+        config: &Config,
+    ) -> Result<Store<FileStore<MemoryFile>>, StoreFault>
+        ensures made { IfOk result (λ s. IsNewOf config.now (file_state s.conn).now) }
+        ensures stands { IfOk result (λ s. Stands (file_state s.conn) config.now (opening config.now)) }
+        ensures committed { IfOk result (λ s. (file_state s.conn).committed ≡ (file_state s.conn).now) }
+        ensures config { IfOk result (λ s. s.config ≡ config.now) }
+        ensures outside { IfOk result (λ s. s.conn.in_transaction ≡ false) }
+        ensures told { IfErr result (λ e. e ≡ fault.Unavailable) }
+    {
+        let files = Files {
+            log: MemoryFile::new(alloc),
+            db: MemoryFile::new(alloc),
+        };
+        match Store::create(alloc, files, config, Options::new(SALT)) {
+            Ok(store) => Ok(store),
+            Err(_) => Err(StoreFault::Unavailable),
+        }
+    }
+}
+
+/// The outcome of a call, which is counted where it failed.
+fn counted(outcome: Result<(), AllocError>, faults: &mut u64) -> io::Result<()>
+    ensures variant { is_ok result ≡ is_ok outcome }
+    ensures kind { finds_no_room result ≡ false }
+    ensures faults { CountsFault result faults.old faults.new }
+{
+    if outcome.is_err() {
+        *faults = faults.saturating_add(1);
+        return Err(io::ErrorKind::OutOfMemory.into());
+    }
+    Ok(())
+}
+
+/// Gives the file this length. What is new is zero.
+fn resize(file: &mut Vec<u8>, len: usize) -> Result<(), AllocError>
+    ensures len { OnOk result (length file.new.items ≡ len) }
+    ensures others { Cut len file.old.items file.new.items }
+{
+    file.resize(len, 0)
+}
+
+/// Writes the bytes at this place, past the end too.
+fn overwrite(file: &mut Vec<u8>, at: usize, bytes: &[u8]) -> Result<(), AllocError>
+    ensures written { OnOk result (Holds file.new.items at bytes.now) }
+    ensures others { Torn at (length bytes.now) file.old.items file.new.items }
+{
+    let end = at.checked_add(bytes.len()).ok_or(AllocError)?;
+    if end > file.len() {
+        resize(file, end)?;
+    }
+    file[at..end].copy_from_slice(bytes);
+    Ok(())
+}
