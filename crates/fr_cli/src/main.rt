@@ -8,6 +8,8 @@ mod failure;
 mod fault;
 mod file_office;
 mod files;
+#[cfg(test)]
+mod fixture;
 mod input;
 mod laws;
 mod lines;

@@ -163,3 +163,6 @@ fn import_file(
         Err(fault) => Err(Failure::Fault(fault)),
     }
 }
+
+#[cfg(test)]
+mod tests;

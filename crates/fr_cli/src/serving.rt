@@ -102,3 +102,6 @@ fn finish(mut stream: &TcpStream) {
         }
     }
 }
+
+#[cfg(test)]
+mod tests;
