@@ -6,6 +6,7 @@ pub mod ImportLaws
 pub mod RunLaws
 pub mod PageBack
 pub mod FreshLaws
+pub mod CountLaws
 pub mod ShelfLaws
 pub mod WarmLaws
 pub mod ShownLaws

@@ -12,6 +12,8 @@ use Rattle.fr_base.specs.declared.params.Params.{Params}
 use Rattle.fr_world.specs.BookEdits.{SparesOthers}
 use Rattle.fr_world.specs.Pages.{PageData, page_in}
 use Rattle.fr_office.specs.Held.{Standing}
+use Rattle.fr_office.specs.ImportCounts.{AreCounted}
+use Rattle.fr_office.specs.declared.import_counts.ImportCount.{ImportCount}
 use Rattle.fr_office.specs.declared.shelf.TheConstants.{FRAME_BYTES, GRANT_BYTES, MAX_BYTES, MOST_FRAMES, MOST_GRANTS, PAGE_BYTES}
 use Rattle.fr_world.specs.declared.edit.Edit.{Edit}
 use Rattle.fr_world.specs.declared.edit.Edit.TheVariants.{NewVariant, SetReleased, NewNode, Rows, KeepImport}
@@ -43,14 +45,15 @@ AreFresh p b kept = EachKept (IsFresh p b) kept
 abbrev pub Keeps : Standing → Standing → PageData → Type 0
 Keeps old new page = (c : Cluster) (b : Book) → old c b → IsFresh c.params b page → new c b
 
--- records, and pages that are kept beside them
+-- records, and beside them pages and counts of the imports that suppliers keep
 pub record WarmData (R : Type 0) : Type 0 where
   pub records : R
   pub pages : KeptData
+  pub counts : List ImportCount
 
--- The records stand for the book, and no page beside them is stale.
+-- The records stand for the book, no page beside them is stale, and each count is right.
 abbrev pub StandsWarm : {R : Type 0} → (R → Standing) → WarmData R → Standing
-StandsWarm stands warm c b = stands warm.records c b × AreFresh c.params b warm.pages
+StandsWarm stands warm c b = stands warm.records c b × AreFresh c.params b warm.pages × AreCounted b warm.counts
 
 -- ---- pages by whose they are
 

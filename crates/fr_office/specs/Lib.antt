@@ -4,6 +4,7 @@ pub mod Decided
 pub mod Headline
 pub mod Held
 pub mod Imports
+pub mod ImportCounts
 pub mod KeptPages
 pub mod Shared
 pub mod Shelves

@@ -7,6 +7,7 @@ mod answering;
 mod commands;
 #[cfg(test)]
 mod fixture;
+mod import_counts;
 mod imports;
 mod office;
 mod open_page;

@@ -47,7 +47,7 @@ impl<R: Records> Desk for Office<R> {
 impl<R: Records> Office<R> {
     /// The office of the register that has these records. No page is kept yet.
     pub fn new(alloc: Global, records: R) -> Office<R>
-        ensures value { result.warm ≡ record { records = records; pages = record { recent = []; earlier = [] } } }
+        ensures value { result.warm ≡ record { records = records; pages = record { recent = []; earlier = [] }; counts = [] } }
         ensures stands { (c : Cluster) (b : Book) → R.stands records c b → StandsWarm R.stands result.warm c b }
     {
         Office {

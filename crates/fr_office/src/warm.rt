@@ -1,7 +1,8 @@
-//! Records of which some pages are kept in memory.
+//! Records of which some pages are kept in memory, and how many imports suppliers keep.
 ghost use Rattle.std.specs.Prelude.{◌≡◌, [], IfOk};
 ghost use Rattle.fr_office.specs.KeptPages.{StandsWarm};
 
+use crate::import_counts::ImportCounts;
 use crate::pages::Pages;
 use crate::records::Records;
 use fr_base::{Channel, Config, Name, Refusal, Slot};
@@ -9,11 +10,12 @@ use fr_world::{Edit, KeptImport, Page, VariantRow};
 use std::alloc::Global;
 use std::marker::Model;
 
-/// A register's records, and pages of them in memory. No kept page is stale: they stand for a book only
-/// where each kept page is the book's.
+/// A register's records, and in memory pages of them and how many imports suppliers keep. None of that is
+/// stale: they stand for a book only where each kept page is the book's, and each count.
 pub(crate) struct Warm<R: Records> {
     records: R,
     pages: Pages,
+    counts: ImportCounts,
 }
 
 impl<R: Records> Model for Warm<R> {
@@ -21,7 +23,7 @@ impl<R: Records> Model for Warm<R> {
 
     ghost Value = { WarmData R };
 
-    ghost view = { λ w. record { records = w.records; pages = w.pages } };
+    ghost view = { λ w. record { records = w.records; pages = w.pages; counts = w.counts } };
 
     ghost invariant = { λ w. AreOf (R.params w.records) w.pages };
 }
@@ -32,18 +34,20 @@ impl<R: Records + Drop> Drop for Warm<R> {
         let Warm {
             records: _,
             pages: _,
+            counts: _,
         } = self;
     }
 }
 
 impl<R: Records> Warm<R> {
-    /// These records, without a page.
+    /// These records, without a page or a count.
     pub(crate) fn new(alloc: Global, records: R) -> Warm<R>
-        ensures { result ≡ record { records = records; pages = record { recent = []; earlier = [] } } }
+        ensures { result ≡ record { records = records; pages = record { recent = []; earlier = [] }; counts = [] } }
     {
         Warm {
             records,
             pages: Pages::new(alloc),
+            counts: ImportCounts::new(alloc),
         }
     }
 
@@ -51,7 +55,11 @@ impl<R: Records> Warm<R> {
     pub(crate) fn into_records(self) -> R
         ensures { result ≡ self.records }
     {
-        let Warm { records, pages: _ } = self;
+        let Warm {
+            records,
+            pages: _,
+            counts: _,
+        } = self;
         records
     }
 }
@@ -106,14 +114,21 @@ impl<R: Records> Records for Warm<R> {
         self.records.import(alloc, supplier, label)
     }
 
+    // What is known is not counted again.
     fn imports(&mut self, alloc: Global, supplier: Name) -> Result<usize, Refusal> {
-        self.records.imports(alloc, supplier)
+        if let Some(count) = self.counts.of(supplier) {
+            return Ok(count);
+        }
+        let count = self.records.imports(alloc, supplier)?;
+        self.counts.note(supplier, count);
+        Ok(count)
     }
 
-    // The pages that the edits may change are let go.
+    // The pages that the edits may change are let go. The counts follow the edits.
     fn apply(&mut self, alloc: Global, edits: &[Edit]) -> Result<(), Refusal> {
         self.records.apply(alloc, edits)?;
         self.pages.let_go(edits);
+        self.counts.follow(edits);
         Ok(())
     }
 }

@@ -1,4 +1,5 @@
-//! What the check would let pass: pages that are read again, though there is memory to keep them.
+//! What the check would let pass: pages that are read again, and imports counted again, though there is memory to keep
+//! the pages and the counts.
 use crate::answering::answer;
 use crate::fixture::{FILE, name};
 use crate::records::Records;
@@ -11,11 +12,13 @@ use sqlite::FileStore;
 use std::alloc::Global;
 use std::test::Fail;
 
-/// A store that counts how often a page of it is read. Of its rows nothing is said: it is never clean.
+/// A store that counts how often a page of it is read, and how often it counts imports. Of its rows nothing is said: it
+/// is never clean.
 #[derive(Drop)]
 struct Counted {
     store: Store<FileStore<MemoryFile>>,
     reads: u32,
+    counts: u32,
 }
 
 impl Records for Counted {
@@ -63,6 +66,7 @@ impl Records for Counted {
     }
 
     fn imports(&mut self, alloc: Global, supplier: Name) -> Result<usize, Refusal> {
+        self.counts = self.counts.saturating_add(1);
         Records::imports(&mut self.store, alloc, supplier)
     }
 
@@ -123,7 +127,11 @@ const ASKED: [(&str, &str, u32); 17] = [
 fn in_memory(alloc: Global) -> Result<Counted, Fail> {
     let config = read_config(alloc, FILE.as_bytes())?;
     let store = Store::create_in_memory(alloc, &config)?;
-    Ok(Counted { store, reads: 0 })
+    Ok(Counted {
+        store,
+        reads: 0,
+        counts: 0,
+    })
 }
 
 // Asks this, and counts how often a page was read by then.
@@ -139,7 +147,9 @@ fn reads(alloc: Global, warm: &mut Warm<Counted>, supplier: &str, text: &str) ->
 }
 
 #[test]
-fn a_page_is_read_once_until_it_is_let_go(rt: HostRuntime) -> Result<(), Fail> {
+fn a_page_is_read_once_until_it_is_let_go_and_imports_are_counted_once(
+    rt: HostRuntime,
+) -> Result<(), Fail> {
     let mut warm = Warm::new(rt.alloc(), in_memory(rt.alloc())?);
     for (supplier, text, read) in ASKED {
         assert_eq!(rt;
@@ -148,5 +158,7 @@ fn a_page_is_read_once_until_it_is_let_go(rt: HostRuntime) -> Result<(), Fail> {
             "{text}"
         );
     }
+    // Of two imports of a supplier the second finds the count.
+    assert_eq!(rt; warm.records.counts, 1);
     Ok(())
 }

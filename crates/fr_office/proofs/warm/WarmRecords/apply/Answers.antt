@@ -16,4 +16,4 @@ returns-in_err-apply-clause-applies g c = λ clean.
 
 pub returns-clause-applies : goal.returns-clause-applies
 returns-clause-applies g c = λ clean.
-    warm_applied g.R.Records.stands _ c.args.self.now c.self.view_is (g.R.Records.stands c.apply.new.self) c.args.edits.now c.let_go.new.self c.let_go.ensures c.apply.result (search rules) (c.apply.ensures.applies clean)
+    warm_applied g.R.Records.stands _ c.args.self.now c.self.view_is (g.R.Records.stands c.apply.new.self) c.args.edits.now c.let_go.new.self c.let_go.ensures c.follow.new.self c.follow.ensures c.apply.result (search rules) (c.apply.ensures.applies clean)
