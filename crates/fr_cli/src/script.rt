@@ -39,7 +39,9 @@ pub fn run_script<R: Read, W: Write>(
     let script = read_all(alloc, reader)?;
     let (cluster, requests) = split_script(&script).ok_or(ScriptFault::NoSeparator)?;
     let config = read_config(alloc, cluster)?;
-    let store = Store::create_in_memory(alloc, &config).map_err(|_| ScriptFault::Unavailable)?;
+    let Ok(store) = Store::create_in_memory(alloc, &config) else {
+        return Err(ScriptFault::Unavailable);
+    };
     let mut office = Office::new(alloc, store);
     answer_requests(alloc, &mut office, requests, writer)
 }
