@@ -1,20 +1,18 @@
 //! Values for tests.
 ghost use Rattle.std.specs.Prelude.{◌≡◌, IsTrue, IfOk};
-ghost use Rattle.sqlite_disk.specs.Memory.{memory_is_usable};
 ghost use Rattle.sqlite.specs.Files.{file_state};
 ghost use Rattle.sqlite.specs.State.{HasCleanDisk};
 ghost use Rattle.fr_store.specs.Reading.{Stands};
 ghost use Rattle.fr_store.specs.Store.{IsRegisterFor};
 
 use fr_base::Name;
-use fr_store::Store;
+use fr_store::{MemoryFile, Store};
 use sqlite::{FileStore, Files, Options};
-use sqlite_disk::Memory;
 use std::alloc::Global;
 use std::test::Fail;
 
-/// A register in files that lie in memory.
-pub(crate) type InFiles = Store<FileStore<Memory>>;
+/// A register in memory.
+pub(crate) type InMemory = Store<FileStore<MemoryFile>>;
 
 /// Four slots, channels A and B, suppliers `s1` and `s2`.
 pub(crate) const FILE: &str = r#"channels = "AB"
@@ -37,17 +35,15 @@ pub(crate) fn name(text: &str) -> Result<Name, Fail> {
 }
 
 /// Files with nothing in them.
-pub(crate) fn empty(alloc: Global) -> Files<Memory>
-    ensures { IsTrue (memory_is_usable result.log) × IsTrue (memory_is_usable result.db) }
-{
+pub(crate) fn empty(alloc: Global) -> Files<MemoryFile> {
     Files {
-        log: Memory::new(alloc),
-        db: Memory::new(alloc),
+        log: MemoryFile::new(alloc),
+        db: MemoryFile::new(alloc),
     }
 }
 
 /// The register of a store that is closed, opened again.
-pub(crate) fn reopened(alloc: Global, store: InFiles) -> Result<InFiles, Fail>
+pub(crate) fn reopened(alloc: Global, store: InMemory) -> Result<InMemory, Fail>
     ensures { IfOk result (λ s. HasCleanDisk (file_state s.conn) → IsTrue (file_state s.conn).is_open → (b : _) → IsRegisterFor store.config b (file_state store.conn).committed
         → (s.config ≡ store.config) × Stands (file_state s.conn) store.config b) }
 {

@@ -1,15 +1,15 @@
 //! What the check would let pass: an office that is always `Unavailable`, or runs no list to its end, though memory
 //! is there.
-use crate::fixture::{FILE, name};
+use crate::fixture::{FILE, InMemory, name};
 use crate::office::Office;
 use crate::records::Records;
 use fr_base::{Actor, Answer, Ask, Name, NoMemory};
-use fr_store::{MemoryFile, Store};
+use fr_store::Store;
 use fr_text::{
     read_command, read_config, write_answer, write_gaps, write_layout, write_lines, write_schedule,
 };
 use fr_world::{Page, PageFrame};
-use sqlite::{Alter, FileStore};
+use sqlite::Alter;
 use std::alloc::Global;
 use std::test::Fail;
 
@@ -176,7 +176,7 @@ const GRANTS: [Line; 13] = [
     ),
 ];
 
-pub(super) fn office(alloc: Global) -> Result<Office<Store<FileStore<MemoryFile>>>, Fail> {
+pub(super) fn office(alloc: Global) -> Result<Office<InMemory>, Fail> {
     let config = read_config(alloc, FILE.as_bytes())?;
     Ok(Office::new(alloc, Store::create_in_memory(alloc, &config)?))
 }
@@ -274,7 +274,7 @@ fn run_answers_a_list(rt: HostRuntime) -> Result<(), Fail> {
 fn push_stranger(
     asks: &mut Vec<Ask>,
     alloc: Global,
-    office: &Office<Store<FileStore<MemoryFile>>>,
+    office: &Office<InMemory>,
 ) -> Result<(), Fail> {
     let node = r#"{"do":"add_node","supplier":"s2","node":"m1"}"#;
     let grant =
@@ -291,10 +291,7 @@ fn push_stranger(
 }
 
 // The first script's requests, and between them those of another supplier.
-fn with_a_stranger(
-    alloc: Global,
-    office: &Office<Store<FileStore<MemoryFile>>>,
-) -> Result<Vec<Ask>, Fail> {
+fn with_a_stranger(alloc: Global, office: &Office<InMemory>) -> Result<Vec<Ask>, Fail> {
     let mut asks = Vec::new(alloc);
     let (opening, rest) = FIRST.split_at(3);
     push_lines(&mut asks, alloc, office, opening)?;

@@ -4,18 +4,17 @@ ghost use Rattle.sqlite.specs.Files.{file_state};
 ghost use Rattle.fr_base.specs.Book.{opening};
 ghost use Rattle.fr_office.specs.Stored.{StandsStored};
 
-use crate::fixture::{FILE, name};
+use crate::fixture::{FILE, InMemory, name};
 use crate::records::Records;
 use fr_base::Config;
-use fr_store::{MemoryFile, Store, StoreFault};
+use fr_store::{Store, StoreFault};
 use fr_text::read_config;
 use fr_world::{Edit, Page};
-use sqlite::FileStore;
 use std::alloc::Global;
 use std::test::Fail;
 
 /// The records of a new register stand for the opening book.
-fn made(alloc: Global, config: &Config) -> Result<Store<FileStore<MemoryFile>>, StoreFault>
+fn made(alloc: Global, config: &Config) -> Result<InMemory, StoreFault>
     ensures { IfOk result (λ s. StandsStored s.config (file_state s.conn) config.now (opening config.now)) }
 {
     Store::create_in_memory(alloc, config)

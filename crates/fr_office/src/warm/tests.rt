@@ -1,14 +1,13 @@
 //! What the check would let pass: pages that are read again, and imports counted again, though there is memory to keep
 //! the pages and the counts.
 use crate::answering::answer;
-use crate::fixture::{FILE, name};
+use crate::fixture::{FILE, InMemory, name};
 use crate::records::Records;
 use crate::warm::Warm;
 use fr_base::{Actor, Ask, Channel, Config, Name, Refusal, Slot};
-use fr_store::{MemoryFile, Store};
+use fr_store::Store;
 use fr_text::{read_command, read_config};
 use fr_world::{Edit, KeptImport, Page, VariantRow};
-use sqlite::FileStore;
 use std::alloc::Global;
 use std::test::Fail;
 
@@ -16,7 +15,7 @@ use std::test::Fail;
 /// is never clean.
 #[derive(Drop)]
 struct Counted {
-    store: Store<FileStore<MemoryFile>>,
+    store: InMemory,
     reads: u32,
     counts: u32,
 }

@@ -2,7 +2,7 @@
 //! stored otherwise than it should be, which no answer shows.
 mod faults;
 
-use crate::fixture::{FILE, InFiles, empty, reopened};
+use crate::fixture::{FILE, InMemory, empty, reopened};
 use crate::office::Office;
 use crate::office::tests::{FIRST, Line, answered, is_same, line_count, office, page};
 use fr_base::Config;
@@ -151,16 +151,18 @@ const LEFT: [(&str, usize); 6] = [
     ("SELECT frame FROM dropped WHERE variant = 'v3'", 1),
 ];
 
-type InMemory = Office<Store<FileStore<MemoryFile>>>;
-
 // The office over the same tables, once these statements were carried out.
-fn altered(alloc: Global, office: InMemory, statements: &str) -> Result<InMemory, Fail> {
+fn altered(
+    alloc: Global,
+    office: Office<InMemory>,
+    statements: &str,
+) -> Result<Office<InMemory>, Fail> {
     let mut conn = office.into_store().into_connection();
     conn.execute_batch(statements)?;
     over(alloc, conn)
 }
 
-fn over(alloc: Global, conn: Connection<FileStore<MemoryFile>>) -> Result<InMemory, Fail> {
+fn over(alloc: Global, conn: Connection<FileStore<MemoryFile>>) -> Result<Office<InMemory>, Fail> {
     match Store::open_on(alloc, conn) {
         Ok(store) => Ok(Office::new(alloc, store)),
         Err(_) => Err(Fail::from("open_on")),
@@ -188,7 +190,7 @@ fn are_left(conn: &mut Connection<FileStore<MemoryFile>>) -> Result<bool, Fail> 
 }
 
 // In how many lines the schedules of `v1` and `v2` are answered.
-fn scheduled(alloc: Global, office: &mut InMemory) -> Result<(usize, usize), Fail> {
+fn scheduled(alloc: Global, office: &mut Office<InMemory>) -> Result<(usize, usize), Fail> {
     let first = line_count(alloc, office, r#"{"do":"schedule","variant":"v1"}"#)?;
     let second = line_count(alloc, office, r#"{"do":"schedule","variant":"v2"}"#)?;
     Ok((first, second))
@@ -289,8 +291,8 @@ const KEPT: [Line; 4] = [
     ("supplier01", r#"{"do":"schedule","variant":"v1"}"#, TWICE),
 ];
 
-// A new register of this cluster, in files.
-fn made(alloc: Global, config: &Config) -> Result<InFiles, Fail> {
+// A new register of this cluster.
+fn made(alloc: Global, config: &Config) -> Result<InMemory, Fail> {
     match Store::create(alloc, empty(alloc), config, Options::new(1)) {
         Ok(store) => Ok(store),
         Err((fault, _)) => Err(Fail::from(fault)),
@@ -298,7 +300,7 @@ fn made(alloc: Global, config: &Config) -> Result<InFiles, Fail> {
 }
 
 // The register, once the lines were answered, its files closed, and opened again.
-fn after(alloc: Global, store: InFiles, lines: &[Line]) -> Result<InFiles, Fail> {
+fn after(alloc: Global, store: InMemory, lines: &[Line]) -> Result<InMemory, Fail> {
     let mut office = Office::new(alloc, store);
     answered(alloc, &mut office, lines)?;
     reopened(alloc, office.into_store())
@@ -310,9 +312,9 @@ fn is_cluster(config: &Config, wanted: &Config) -> bool {
         && config.suppliers() == wanted.suppliers()
 }
 
-/// A register in files is answered as one in memory, and is opened again with its cluster and its rows.
+/// A register whose files are closed and opened again is answered as one that stays open, with its cluster and its rows.
 #[test]
-fn what_was_run_over_files_is_opened_again(rt: HostRuntime) -> Result<(), Fail> {
+fn what_was_run_is_opened_again(rt: HostRuntime) -> Result<(), Fail> {
     let alloc = rt.alloc();
     let mut kept = office(alloc)?;
     answered(alloc, &mut kept, &FIRST)?;

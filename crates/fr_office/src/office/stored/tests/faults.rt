@@ -1,18 +1,13 @@
 //! What is told of files that are no register, or have one already.
-ghost use Rattle.std.specs.Prelude.{IsTrue, IfOk};
-ghost use Rattle.sqlite_disk.specs.Memory.{memory_is_usable};
-
 use crate::fixture::{FILE, empty};
-use fr_store::{Store, StoreFault};
+use fr_store::{MemoryFile, Store, StoreFault};
 use fr_text::read_config;
 use sqlite::{Connection, FileStore, Files, Options};
-use sqlite_disk::{Disk, Memory};
+use sqlite_disk::Disk;
 use std::alloc::Global;
 use std::test::Fail;
 
-fn closed(conn: Connection<FileStore<Memory>>) -> Result<Files<Memory>, Fail>
-    ensures { IfOk result (λ files. IsTrue (memory_is_usable files.log) × IsTrue (memory_is_usable files.db)) }
-{
+fn closed(conn: Connection<FileStore<MemoryFile>>) -> Result<Files<MemoryFile>, Fail> {
     match conn.close_files() {
         Ok(files) => Ok(files),
         Err((_, store)) => {
@@ -23,9 +18,7 @@ fn closed(conn: Connection<FileStore<Memory>>) -> Result<Files<Memory>, Fail>
 }
 
 /// Files with what these statements make.
-fn files_of(alloc: Global, sql: &str) -> Result<Files<Memory>, Fail>
-    ensures { IfOk result (λ files. IsTrue (memory_is_usable files.log) × IsTrue (memory_is_usable files.db)) }
-{
+fn files_of(alloc: Global, sql: &str) -> Result<Files<MemoryFile>, Fail> {
     let Ok(mut conn) = Connection::open_files(alloc, empty(alloc), Options::new(1)) else {
         return Err(Fail::new("open"));
     };
@@ -34,9 +27,7 @@ fn files_of(alloc: Global, sql: &str) -> Result<Files<Memory>, Fail>
 }
 
 /// A new register in which these statements were carried out.
-fn altered(alloc: Global, sql: &str) -> Result<Files<Memory>, Fail>
-    ensures { IfOk result (λ files. IsTrue (memory_is_usable files.log) × IsTrue (memory_is_usable files.db)) }
-{
+fn altered(alloc: Global, sql: &str) -> Result<Files<MemoryFile>, Fail> {
     let config = read_config(alloc, FILE.as_bytes())?;
     let Ok(store) = Store::create(alloc, empty(alloc), &config, Options::new(1)) else {
         return Err(Fail::new("create"));
@@ -47,9 +38,7 @@ fn altered(alloc: Global, sql: &str) -> Result<Files<Memory>, Fail>
 }
 
 /// A hundred bytes that are no database.
-fn no_database(alloc: Global) -> Result<Files<Memory>, Fail>
-    ensures { IfOk result (λ files. IsTrue (memory_is_usable files.log) × IsTrue (memory_is_usable files.db)) }
-{
+fn no_database(alloc: Global) -> Result<Files<MemoryFile>, Fail> {
     let mut files = empty(alloc);
     files.db.write_at(0, &[b'x'; 100])?;
     if files.db.may_be_used() {
@@ -59,18 +48,14 @@ fn no_database(alloc: Global) -> Result<Files<Memory>, Fail>
     }
 }
 
-fn opened(alloc: Global, files: Files<Memory>) -> Option<StoreFault>
-    requires { IsTrue (memory_is_usable files.log) × IsTrue (memory_is_usable files.db) }
-{
+fn opened(alloc: Global, files: Files<MemoryFile>) -> Option<StoreFault> {
     match Store::open(alloc, files, Options::new(2)) {
         Ok(_) => None,
         Err((fault, _)) => Some(fault),
     }
 }
 
-fn created(alloc: Global, files: Files<Memory>) -> Result<Option<StoreFault>, Fail>
-    requires { IsTrue (memory_is_usable files.log) × IsTrue (memory_is_usable files.db) }
-{
+fn created(alloc: Global, files: Files<MemoryFile>) -> Result<Option<StoreFault>, Fail> {
     let config = read_config(alloc, FILE.as_bytes())?;
     match Store::create(alloc, files, &config, Options::new(2)) {
         Ok(_) => Ok(None),
