@@ -18,7 +18,7 @@ impl<T> Model for Rows<T> {
 }
 
 impl<T> Rows<T> {
-    ghost use Rattle.std.specs.Prelude.{◌≡◌, [], ◌∷◌, ◌++◌, length, IsTrue, ◌↔◌, OnOk, OnErr};
+    ghost use Rattle.std.specs.Prelude.{◌≡◌, [], ◌∷◌, ◌++◌, length, IsTrue, ◌↔◌, IfOk, OnOk, OnErr};
 
     /// The empty list.
     pub fn new(alloc: Global) -> Rows<T>
@@ -27,6 +27,16 @@ impl<T> Rows<T> {
         Rows {
             rows: Vec::new(alloc),
         }
+    }
+
+    /// The empty list, which takes so many rows before it asks for memory again.
+    pub fn with_capacity(alloc: Global, count: usize) -> Result<Rows<T>, NoMemory>
+    where
+        T: Drop,
+        ensures { IfOk result (λ rows. rows ≡ []) }
+    {
+        let rows = Vec::with_capacity(alloc, count)?;
+        Ok(Rows { rows })
     }
 
     /// Adds a row at the end. An error leaves the list as it was.

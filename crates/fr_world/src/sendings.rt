@@ -23,7 +23,7 @@ pub fn schedule(
 {
     let slots = used_slots(alloc, params, triggerings)?;
     let tables = slot_tables(alloc, triggerings)?;
-    let mut rows = Rows::new(alloc);
+    let mut rows = Rows::with_capacity(alloc, cell_count(triggerings))?;
     for cycle in 0..CYCLE_COUNT as u8 {
         push_cycle(
             triggerings,
@@ -51,6 +51,17 @@ pub(crate) fn push_sendings(
     let slots = used_slots(alloc, params, triggerings)?;
     let tables = slot_tables(alloc, triggerings)?;
     push_cycle(triggerings, &tables, &slots, params.channels(), cycle, rows)
+}
+
+// How many cells these placements have, each as often as one has it.
+fn cell_count(triggerings: &[FrameTriggering]) -> usize {
+    let mut count = 0_usize;
+    for one in triggerings {
+        let cycles = CYCLE_COUNT / u32::from(one.placement.cycles.repetition());
+        let channels = one.placement.channels.as_slice().len();
+        count = count.saturating_add((cycles as usize).saturating_mul(channels));
+    }
+    count
 }
 
 // The static slots that a placement is in, in order.

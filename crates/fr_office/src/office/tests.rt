@@ -3,7 +3,7 @@
 use crate::fixture::{FILE, InMemory, name};
 use crate::office::Office;
 use crate::records::Records;
-use fr_base::{Actor, Answer, Ask, Name, NoMemory};
+use fr_base::{Actor, Answer, Ask, Config, Name, NoMemory};
 use fr_store::Store;
 use fr_text::{
     read_command, read_config, write_answer, write_gaps, write_layout, write_lines, write_schedule,
@@ -182,20 +182,20 @@ pub(super) fn office(alloc: Global) -> Result<Office<InMemory>, Fail> {
 }
 
 // What the text asks, and who with this key.
-fn ask<R: Records>(alloc: Global, office: &Office<R>, key: &str, text: &str) -> Result<Ask, Fail> {
-    let actor = office.actor_of(key).ok_or("nobody's key")?;
+fn ask(alloc: Global, config: &Config, key: &str, text: &str) -> Result<Ask, Fail> {
+    let actor = config.actor_of(key.as_bytes()).ok_or("nobody's key")?;
     let request = read_command(alloc, text.as_bytes())?;
     Ok(Ask { actor, request })
 }
 
-fn push_lines<R: Records>(
+fn push_lines(
     asks: &mut Vec<Ask>,
     alloc: Global,
-    office: &Office<R>,
+    config: &Config,
     lines: &[Line],
 ) -> Result<(), Fail> {
     for (key, text, _) in lines {
-        asks.push(ask(alloc, office, key, text)?)?;
+        asks.push(ask(alloc, config, key, text)?)?;
     }
     Ok(())
 }
@@ -218,7 +218,7 @@ pub(super) fn answered<R: Records>(
     lines: &[Line],
 ) -> Result<Vec<Answer>, Fail> {
     let mut asks = Vec::new(alloc);
-    push_lines(&mut asks, alloc, office, lines)?;
+    push_lines(&mut asks, alloc, office.warm.config(), lines)?;
     let answers = run(alloc, office, &asks)?;
     for (answer, (_, text, wanted)) in answers.iter().zip(lines) {
         if write_answer(alloc, answer)?.as_slice() != wanted.as_bytes() {
@@ -234,7 +234,7 @@ pub(super) fn line_count<R: Records>(
     office: &mut Office<R>,
     text: &str,
 ) -> Result<usize, Fail> {
-    let asked = ask(alloc, office, "supplier01", text)?;
+    let asked = ask(alloc, office.warm.config(), "supplier01", text)?;
     let answer = office.ask(alloc, &asked);
     let report = write_lines(alloc, &answer)?;
     Ok(str::from_utf8(&report)?.lines().count())
@@ -271,32 +271,31 @@ fn run_answers_a_list(rt: HostRuntime) -> Result<(), Fail> {
 }
 
 /// Another supplier's, which the integrator serves and which adds a frame more than it may.
-fn push_stranger(
-    asks: &mut Vec<Ask>,
-    alloc: Global,
-    office: &Office<InMemory>,
-) -> Result<(), Fail> {
+fn push_stranger(asks: &mut Vec<Ask>, alloc: Global, config: &Config) -> Result<(), Fail> {
     let node = r#"{"do":"add_node","supplier":"s2","node":"m1"}"#;
     let grant =
         r#"{"do":"grant","variant":"v1","slot":1,"channel":"B","supplier":"s2","node":"m1"}"#;
-    asks.push(ask(alloc, office, "integrator1", node)?)?;
-    asks.push(ask(alloc, office, "integrator1", grant)?)?;
+    asks.push(ask(alloc, config, "integrator1", node)?)?;
+    asks.push(ask(alloc, config, "integrator1", grant)?)?;
     for number in 0..=MAX_FRAMES {
         let text = format!(in alloc;
             r#"{{"do":"add_frame","variant":"v1","frame":"f{number}","node":"m1"}}"#
         )?;
-        asks.push(ask(alloc, office, "supplier02", &text)?)?;
+        asks.push(ask(alloc, config, "supplier02", &text)?)?;
     }
     Ok(())
 }
 
-// The first script's requests, and between them those of another supplier.
-fn with_a_stranger(alloc: Global, office: &Office<InMemory>) -> Result<Vec<Ask>, Fail> {
+// The first script's requests, and, where there is a stranger, between them those of another supplier.
+fn requests(alloc: Global, is_stranger_there: bool) -> Result<Vec<Ask>, Fail> {
+    let config = read_config(alloc, FILE.as_bytes())?;
     let mut asks = Vec::new(alloc);
     let (opening, rest) = FIRST.split_at(3);
-    push_lines(&mut asks, alloc, office, opening)?;
-    push_stranger(&mut asks, alloc, office)?;
-    push_lines(&mut asks, alloc, office, rest)?;
+    push_lines(&mut asks, alloc, &config, opening)?;
+    if is_stranger_there {
+        push_stranger(&mut asks, alloc, &config)?;
+    }
+    push_lines(&mut asks, alloc, &config, rest)?;
     Ok(asks)
 }
 
@@ -343,25 +342,39 @@ pub(super) fn is_same(page: &Page, other: &Page) -> bool {
             .all(|(frame, other)| is_same_frame(frame, other))
 }
 
+/// What a supplier is told by a register, and its page afterwards.
+#[derive(Drop)]
+struct Told {
+    answers: Vec<u8>,
+    page: Page,
+}
+
+// So for the supplier in a new register that is asked this.
+fn asked(alloc: Global, asks: &[Ask], supplier: &str) -> Result<Told, Fail> {
+    let mut office = office(alloc)?;
+    let answers = run(alloc, &mut office, asks)?;
+    Ok(Told {
+        answers: answers_to(alloc, name(supplier)?, asks, &answers)?,
+        page: page(&mut office.into_records(), alloc, supplier)?,
+    })
+}
+
 /// Two lists that are alike in what is `s1`'s: its answers and its page are the same.
 #[test]
 fn a_supplier_does_not_notice_another(rt: HostRuntime) -> Result<(), Fail> {
-    let alloc = rt.alloc();
-    let (mut alone, mut beside) = (office(alloc)?, office(alloc)?);
-    let mut few = Vec::new(alloc);
-    push_lines(&mut few, alloc, &alone, &FIRST)?;
-    let many = with_a_stranger(alloc, &beside)?;
-    let answers = run(alloc, &mut alone, &few)?;
-    let more = run(alloc, &mut beside, &many)?;
-    let supplier = name("s1")?;
-    assert_eq!(rt;
-        answers_to(alloc, supplier, &few, &answers)?,
-        answers_to(alloc, supplier, &many, &more)?
+    let few = requests(rt.alloc(), false)?;
+    let many = requests(rt.alloc(), true)?;
+    let alone = asked(rt.alloc(), &few, "s1")?;
+    let beside = asked(rt.alloc(), &many, "s1")?;
+    assert_eq!(rt; alone.answers, beside.answers);
+    assert!(rt; is_same(&alone.page, &beside.page));
+    let alone = asked(rt.alloc(), &few, "s2")?;
+    let beside = asked(rt.alloc(), &many, "s2")?;
+    assert!(rt;
+        beside
+            .answers
+            .ends_with(b"{\"ok\":\"done\"}\n{\"no\":23,\"refused\":\"Limit\"}\n")
     );
-    let limit = answers_to(alloc, name("s2")?, &many, &more)?;
-    assert!(rt; limit.ends_with(b"{\"ok\":\"done\"}\n{\"no\":23,\"refused\":\"Limit\"}\n"));
-    let (alone, beside) = (&mut alone.into_records(), &mut beside.into_records());
-    assert!(rt; is_same(&page(alone, alloc, "s1")?, &page(beside, alloc, "s1")?));
-    assert!(rt; !is_same(&page(alone, alloc, "s2")?, &page(beside, alloc, "s2")?));
+    assert!(rt; !is_same(&alone.page, &beside.page));
     Ok(())
 }

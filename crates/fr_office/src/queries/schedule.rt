@@ -29,10 +29,20 @@ fn push_placements(page: &Page, placed: &mut Vec<FrameTriggering>) -> Result<(),
     ensures { OnOk result (filled placed.new.items ≡ filled placed.old.items ++ placements_of (own_rows_of page.now).frames) }
 {
     let supplier = page.supplier();
+    placed.reserve(placement_count(page))?;
     for (name, frame) in page.frames().iter() {
         push_frame(supplier, *name, frame, placed)?;
     }
     Ok(())
+}
+
+// How many placements the page's frames have.
+fn placement_count(page: &Page) -> usize {
+    let mut count = 0_usize;
+    for (_, frame) in page.frames().iter() {
+        count = count.saturating_add(frame.placements.len());
+    }
+    count
 }
 
 /// Which of these suppliers' frames is sent in which cycle, slot and channel of the cluster in the

@@ -6,7 +6,7 @@ use Rattle.fr_world.proofs.ScheduleLaws.{sent-nothing, sent-cycle, sent-all}
 use Rattle.fr_world.proofs.sendings.schedule.Goals as goal
 
 pub loop-cycle-init : goal.loop-cycle-init
-loop-cycle-init c = c.new-rows.ensures ∙ sym (sent-nothing (filled c.args.triggerings.now))
+loop-cycle-init c = c.in_ok-rows.ensures ∙ sym (sent-nothing (filled c.args.triggerings.now))
 
 pub loop-cycle-preserved : goal.loop-cycle-preserved
 loop-cycle-preserved c =

@@ -6,9 +6,9 @@ use Rattle.fr_office.proofs.queries.schedule.push_placements.Goals as goal
 
 pub loop-name-init : goal.loop-name-init
 loop-name-init c =
-    ap (λ more. filled c.args.placed.now.items ++ more)
+    rw c.reserve.ensures.items (ap (λ more. filled c.args.placed.now.items ++ more)
     ((λ i. frames_shown (λ e. filled_by e.0 e.1) (c.supplier-supplier.ensures i) ((c.into_iter-name-iterator.ensures.into_iter_gives ∙ c.iter-name-items.ensures.rest) i))
-    ∙ placements-page c.args.page.now c.frames.result.now.entries c.frames.ensures.value c.iter-name-items.ensures.ordered)
+    ∙ placements-page c.args.page.now c.frames.result.now.entries c.frames.ensures.value c.iter-name-items.ensures.ordered))
 
 pub returns : goal.returns
 returns c =
