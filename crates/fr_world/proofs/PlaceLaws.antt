@@ -1,8 +1,8 @@
 -- The places of the first placements, noted placement by placement.
-use Rattle.std.proofs.Common.{◌≡◌, ℕ, suc, ◌+◌, ◌≤◌, ◌<◌, Bool, true, false, cond, eqb, ltb, List, [], ◌∷◌, ◌++◌, length, take, get_or, set, Option, Some, None, option_map, refl, sym, ap, ◌∙◌, inl, inr, arith, true≢false, add-zero, add-one}
+use Rattle.std.proofs.Common.{◌≡◌, ℕ, suc, ◌+◌, ◌<◌, Bool, true, false, cond, eqb, List, [], ◌∷◌, ◌++◌, length, take, get_or, set, Option, Some, None, option_map, refl, sym, ap, ◌∙◌, inl, inr, arith, true≢false, add-zero, add-one}
 use Rattle.std.specs.List.{position, position_from}
 use Rattle.std.specs.Option.{option_or}
-use Rattle.std.proofs.lemmas.Bool.{cases_Bool, cases_order, eq-eqb, eqb-true, ltb-true}
+use Rattle.std.proofs.lemmas.Bool.{cases_Bool, cases_order, eq-eqb, eqb-true}
 use Rattle.std.proofs.lemmas.Iterator.Adapters.{position_from-zero}
 use Rattle.std.proofs.Math.Seq.{get_or-append_seam}
 use Rattle.std.proofs.lemmas.List.{get_or-set_other, get_or-set_same, get_or_append_left, get_or_default, get_or_past, length-append, length-take-le, take_more}
@@ -118,28 +118,20 @@ module _ (c : Cell) where
   fill-nowhere [] e = refl
   fill-nowhere (p ∷ ps) e = fill-from p (p ∷ ps) ∙ ap (option_map (owner_at (p ∷ ps) p)) e
 
-  -- what the table of its slot's number says
-  pub table-at : (tables : List (List FirstPlaces)) (n : ℕ) (table : List FirstPlaces) → n ≡ c.slot → true ≡ ltb n (length tables) → table ≡ get_or tables n table → place_at (get_or tables c.slot []) c.cycle c.channel ≡ place_at table c.cycle c.channel
-  table-at tables n table e low there = ap (λ t. place_at t c.cycle c.channel) (ap (λ n. get_or tables n []) (sym e) ∙ sym (there ∙ get_or_default tables n table [] (ltb-true n (length tables) (sym low))))
-
-  module _ (ps : List FrameTriggering) (tables : List (List FirstPlaces)) (first : AreFirst ps tables) where
+  module _ (ps : List FrameTriggering) (noted : Option ℕ) (first : noted ≡ first_place ps c) where
     -- the place is in the list
-    pub place-within : (place : ℕ) → place_at (get_or tables c.slot []) c.cycle c.channel ≡ Some place → place < length ps
-    place-within place e = within ps (sym (first c) ∙ e)
+    pub place-within : (place : ℕ) → noted ≡ Some place → place < length ps
+    place-within place e = within ps (sym first ∙ e)
       where
         within : (ps : List FrameTriggering) → position has ps ≡ Some place → place < length ps
         within [] e = cc
         within (p ∷ ps) e = (position-Some has (p ∷ ps) place p e).0
 
     -- the placement there is sent
-    pub sent-there : (place : ℕ) (p : FrameTriggering) → place_at (get_or tables c.slot []) c.cycle c.channel ≡ Some place → p ≡ get_or ps place p → Some (sending (c, owner_in p)) ≡ option_map (λ o. sending (c, o)) (fill (filled ps) c)
+    pub sent-there : (place : ℕ) (p : FrameTriggering) → noted ≡ Some place → p ≡ get_or ps place p → Some (sending (c, owner_in p)) ≡ option_map (λ o. sending (c, o)) (fill (filled ps) c)
     sent-there place p e is =
         ap (option_map (λ o. sending (c, o)))
-        (ap (λ q. Some (owner_in q)) is ∙ ap (option_map (owner_at ps p)) (sym e ∙ first c ∙ position_from-zero has ps) ∙ sym (fill-from p ps))
+        (ap (λ q. Some (owner_in q)) is ∙ ap (option_map (owner_at ps p)) (sym e ∙ first ∙ position_from-zero has ps) ∙ sym (fill-from p ps))
 
-    pub sent-nowhere : place_at (get_or tables c.slot []) c.cycle c.channel ≡ None → None ≡ option_map (λ o. sending (c, o)) (fill (filled ps) c)
-    sent-nowhere e = ap (option_map (λ o. sending (c, o))) (sym (fill-nowhere ps (sym (position_from-zero has ps) ∙ sym (first c) ∙ e)))
-
-    -- a slot past the tables has none
-    pub sent-past : length tables ≤ c.slot → None ≡ option_map (λ o. sending (c, o)) (fill (filled ps) c)
-    sent-past over = sent-nowhere (ap (λ t. place_at t c.cycle c.channel) (get_or_past tables c.slot [] over) ∙ first-nothing c)
+    pub sent-nowhere : noted ≡ None → None ≡ option_map (λ o. sending (c, o)) (fill (filled ps) c)
+    sent-nowhere e = ap (option_map (λ o. sending (c, o))) (sym (fill-nowhere ps (sym (position_from-zero has ps) ∙ sym first ∙ e)))

@@ -16,9 +16,13 @@ abbrev pub place_on : Channel → FirstPlaces → Option ℕ
 place_on channel.A f = f.a
 place_on channel.B f = f.b
 
+-- the places that are noted of a cycle
+abbrev pub places_at : List FirstPlaces → ℕ → FirstPlaces
+places_at cycles k = slice_index_or cycles k (record { a = None; b = None })
+
 -- the place that is noted of a cycle and a channel
 abbrev pub place_at : List FirstPlaces → ℕ → Channel → Option ℕ
-place_at cycles k x = place_on x (slice_index_or cycles k (record { a = None; b = None }))
+place_at cycles k x = place_on x (places_at cycles k)
 
 -- The latter notes are the former with a placement at this place: it takes what cells of its cycles and
 -- channels no placement has.

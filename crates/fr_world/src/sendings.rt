@@ -4,11 +4,11 @@ ghost use Rattle.fr_base.specs.Cells.{Cell, cells_in, cluster_cells, slots_of};
 ghost use Rattle.fr_base.specs.Channels.{channels_in};
 ghost use Rattle.fr_base.specs.Schedule.{fill};
 ghost use Rattle.fr_base.specs.Queries.{sending};
-ghost use Rattle.fr_world.specs.FirstPlaces.{AreFirst};
+ghost use Rattle.fr_world.specs.FirstPlaces.{AreFirst, first_place, place_on};
 ghost use Rattle.fr_world.specs.Sendings.{cycle_cells, filled, is_used, sent_in};
 
 use crate::frame_triggering::FrameTriggering;
-use crate::slot_table::{SlotTable, slot_tables};
+use crate::slot_table::{FirstPlaces, SlotTable, places_in, slot_tables};
 use fr_base::{CYCLE_COUNT, Channel, Channels, NoMemory, Params, Rows, Sending, Slot};
 use std::alloc::Global;
 
@@ -116,8 +116,9 @@ fn push_cycle(
     ensures { OnOk result (rows.new ≡ rows.old ++ sent_in (filled triggerings.now) (cells_in (cycle ∷ []) slots.now (channels_in channels))) }
 {
     for slot in slots {
+        let places = places_in(tables, *slot, cycle);
         for channel in channels.as_slice() {
-            if let Some(sending) = sending(triggerings, tables, cycle, *slot, *channel) {
+            if let Some(sending) = sending(triggerings, places, cycle, *slot, *channel) {
                 rows.push(sending)?;
             }
         }
@@ -125,20 +126,18 @@ fn push_cycle(
     Ok(())
 }
 
-// What is sent in the cell.
+// What is sent in the cell, where these are the places of the first placements in its slot and cycle.
 fn sending(
     triggerings: &[FrameTriggering],
-    tables: &[SlotTable],
+    places: FirstPlaces,
     cycle: u8,
     slot: Slot,
     channel: Channel,
 ) -> Option<Sending>
-    requires { AreFirst triggerings.now tables.now }
+    requires { place_on channel places ≡ first_place triggerings.now (record { cycle = cycle; slot = slot; channel = channel }) }
     ensures { let cell : Cell = record { cycle = cycle; slot = slot; channel = channel } in result ≡ option_map (λ sender. sending (cell, sender)) (fill (filled triggerings.now) cell) }
 {
-    let table = tables.get(slot.get() as usize)?;
-    let place = table.place(cycle, channel)?;
-    let one = triggerings.get(place)?;
+    let one = triggerings.get(places.on(channel)?)?;
     Some(Sending {
         cycle,
         slot,

@@ -3,10 +3,10 @@ ghost use Rattle.std.specs.Prelude.{◌≡◌, ◌<◌, [], ℕ, IfOk, None, OnO
 ghost use Rattle.std.specs.Option.{option_or};
 ghost use Rattle.fr_base.specs.Channels.{has_channel};
 ghost use Rattle.fr_base.specs.declared.channel.Channel.{Channel as OneChannel};
-ghost use Rattle.fr_world.specs.FirstPlaces.{AreFirst, IsClaimed, place_at, place_on};
+ghost use Rattle.fr_world.specs.FirstPlaces.{AreFirst, IsClaimed, place_on, places_at};
 
 use crate::frame_triggering::FrameTriggering;
-use fr_base::{CYCLE_COUNT, Channel, Channels, NoMemory, Placement};
+use fr_base::{CYCLE_COUNT, Channel, Channels, NoMemory, Placement, Slot};
 use std::alloc::Global;
 use std::marker::Model;
 
@@ -47,12 +47,14 @@ impl SlotTable {
         }
     }
 
-    /// The place of the first placement that has the cell of this cycle and channel.
-    pub(crate) fn place(&self, cycle: u8, channel: Channel) -> Option<usize>
-        ensures { result ≡ place_at self.now cycle channel }
+    // The places of the first placements that have the cells of this cycle.
+    fn places(&self, cycle: u8) -> FirstPlaces
+        ensures { result ≡ places_at self.now cycle }
     {
-        let places = self.cycles.get(usize::from(cycle))?;
-        places.on(channel)
+        match self.cycles.get(usize::from(cycle)) {
+            Some(places) => *places,
+            None => NO_PLACES,
+        }
     }
 
     /// The placement at this place takes those of its cells that no placement has.
@@ -66,8 +68,8 @@ impl SlotTable {
 }
 
 impl FirstPlaces {
-    // The place of the channel.
-    fn on(self, channel: Channel) -> Option<usize>
+    /// The place of the channel.
+    pub(crate) fn on(self, channel: Channel) -> Option<usize>
         ensures { result ≡ place_on channel self }
     {
         match channel {
@@ -86,6 +88,16 @@ impl FirstPlaces {
         if channels.has(Channel::B) {
             self.b = self.b.or(Some(place));
         }
+    }
+}
+
+/// The places of the first placements that have the cells of this slot and cycle.
+pub(crate) fn places_in(tables: &[SlotTable], slot: Slot, cycle: u8) -> FirstPlaces
+    ensures { result ≡ places_at (slice_index_or tables.now slot []) cycle }
+{
+    match tables.get(slot.get() as usize) {
+        Some(table) => table.places(cycle),
+        None => NO_PLACES,
     }
 }
 
