@@ -4,9 +4,8 @@ ghost use Rattle.fr_cli.specs.Faults.{IsNotMade};
 
 use crate::fault::Fault;
 use crate::files::read_file;
-use fr_store::Store;
+use fr_desks::FileDesk;
 use fr_text::read_config;
-use sqlite::Unknown;
 
 /// The most bytes that a cluster file may have.
 pub const CONFIG_BYTES: usize = 1_048_576;
@@ -17,11 +16,5 @@ pub fn create(rt: &HostRuntime, db: &str, config: &str) -> Result<(), Fault>
 {
     let text = read_file(rt, config, CONFIG_BYTES)?;
     let config = read_config(rt.alloc(), &text)?;
-    match Store::create_at(rt, db, &config, Unknown) {
-        Ok(store) => {
-            store.close()?;
-            Ok(())
-        }
-        Err((fault, _)) => Err(Fault::Register(fault)),
-    }
+    Ok(FileDesk::create(rt, db, &config)?)
 }

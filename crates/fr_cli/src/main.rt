@@ -6,7 +6,6 @@ mod commands;
 mod creating;
 mod failure;
 mod fault;
-mod file_office;
 mod files;
 #[cfg(test)]
 mod fixture;

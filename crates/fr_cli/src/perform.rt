@@ -17,12 +17,12 @@ use crate::asking::{ImportWords, Report, import, report_on};
 use crate::creating::create;
 use crate::failure::Failure;
 use crate::fault::Fault;
-use crate::file_office::FileOffice;
 use crate::files::read_front;
 use crate::printing::{end, print, print_all, tell};
 use crate::script::run_script;
 use crate::serving::serve;
 use crate::words::{Job, WordFault};
+use fr_desks::FileDesk;
 use fr_http::Output;
 use std::alloc::Global;
 use std::io::{Read, Write};
@@ -134,9 +134,9 @@ fn report_file(
 ) -> Result<Vec<u8>, Failure>
     ensures { Says IsNotReported (report_of report) result }
 {
-    match FileOffice::open(rt, db) {
-        Ok(mut office) => report_on(rt.alloc(), &mut office, report, variant),
-        Err(fault) => Err(Failure::Fault(fault)),
+    match FileDesk::open(rt, db) {
+        Ok(mut desk) => report_on(rt.alloc(), &mut desk, report, variant),
+        Err(fault) => Err(Failure::Fault(Fault::Register(fault))),
     }
 }
 
@@ -154,13 +154,13 @@ fn import_file(
         Ok(body) => body,
         Err(fault) => return Err(Failure::Fault(fault)),
     };
-    match FileOffice::open(rt, db) {
-        Ok(mut office) => {
-            let done = import(rt.alloc(), &mut office, words, &body);
-            office.close();
+    match FileDesk::open(rt, db) {
+        Ok(mut desk) => {
+            let done = import(rt.alloc(), &mut desk, words, &body);
+            desk.close();
             done
         }
-        Err(fault) => Err(Failure::Fault(fault)),
+        Err(fault) => Err(Failure::Fault(Fault::Register(fault))),
     }
 }
 

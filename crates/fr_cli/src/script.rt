@@ -5,7 +5,6 @@ ghost use Rattle.fr_base.specs.Actors.{actor_of};
 ghost use Rattle.fr_base.specs.Book.{Book};
 ghost use Rattle.fr_base.specs.Cluster.{Cluster};
 ghost use Rattle.fr_base.specs.Sound.{IsSound};
-ghost use Rattle.fr_office.specs.KeptPages.{StandsWarm};
 ghost use Rattle.fr_cli.specs.Answering.{AnswersLine, AnswersLines, HasWritten, Reads};
 ghost use Rattle.fr_cli.specs.Runs.{IsRunOf};
 ghost use Rattle.fr_cli.specs.Script.{request_lines};
@@ -15,10 +14,9 @@ use crate::input::read_all;
 use crate::lines::{RequestLines, key_and_text, split_script};
 use crate::lines_out::line_of;
 use crate::script_fault::ScriptFault;
-use fr_base::{Actor, Answer, Ask, NoMemory, Refusal};
+use fr_base::{Actor, Answer, Ask, Desk, NoMemory, Refusal};
+use fr_desks::MemoryDesk;
 use fr_http::Output;
-use fr_office::{Office, Records};
-use fr_store::Store;
 use fr_text::{read_command, read_config};
 use std::alloc::Global;
 use std::io::{Read, Write};
@@ -39,52 +37,51 @@ pub fn run_script<R: Read, W: Write>(
     let script = read_all(alloc, reader)?;
     let (cluster, requests) = split_script(&script).ok_or(ScriptFault::NoSeparator)?;
     let config = read_config(alloc, cluster)?;
-    let Ok(store) = Store::create_in_memory(alloc, &config) else {
+    let Ok(mut desk) = MemoryDesk::new(alloc, &config) else {
         return Err(ScriptFault::Unavailable);
     };
-    let mut office = Office::new(alloc, store);
-    answer_requests(alloc, &mut office, requests, writer)
+    answer_requests(alloc, &mut desk, requests, writer)
 }
 
 // Answers the requests. All that is written shares the retries of one output.
-fn answer_requests<R: Records, W: Write>(
+fn answer_requests<D: Desk, W: Write>(
     alloc: Global,
-    office: &mut Office<R>,
+    desk: &mut D,
     requests: &[u8],
     writer: &mut W,
 ) -> Result<(), ScriptFault>
-    ensures falls { R.clean office.new.warm.records → R.clean office.old.warm.records }
-    ensures written { R.clean office.new.warm.records →
-        HasWritten (StandsWarm R.stands office.old.warm) (request_lines requests.now) (W.contents writer.old) (W.contents writer.new) result }
+    ensures falls { D.clean desk.new → D.clean desk.old }
+    ensures written { D.clean desk.new →
+        HasWritten (D.stands desk.old) (request_lines requests.now) (W.contents writer.old) (W.contents writer.new) result }
 {
     let mut output = Output::new(writer);
-    write_answers(alloc, office, requests, &mut output)
+    write_answers(alloc, desk, requests, &mut output)
 }
 
 // Writes the answer to each request, before the next one is read.
-fn write_answers<R: Records, W: Write>(
+fn write_answers<D: Desk, W: Write>(
     alloc: Global,
-    office: &mut Office<R>,
+    desk: &mut D,
     requests: &[u8],
     output: &mut Output<'_, W>,
 ) -> Result<(), ScriptFault>
-    ensures falls { R.clean office.new.warm.records → R.clean office.old.warm.records }
-    ensures all { R.clean office.new.warm.records → OnOk result ((written : List ℕ)
+    ensures falls { D.clean desk.new → D.clean desk.old }
+    ensures all { D.clean desk.new → OnOk result ((written : List ℕ)
         × Appends (W.contents output.old.writer.now) (W.contents output.new.writer.now) written
-        × AnswersLines (StandsWarm R.stands office.old.warm) (request_lines requests.now) [] written) }
-    ensures no_memory { R.clean office.new.warm.records → IsErrOf result ScriptFault.NoMemory →
+        × AnswersLines (D.stands desk.old) (request_lines requests.now) [] written) }
+    ensures no_memory { D.clean desk.new → IsErrOf result ScriptFault.NoMemory →
         (line : List ℕ) × (left : List (List ℕ)) × (written : List ℕ)
         × Appends (W.contents output.old.writer.now) (W.contents output.new.writer.now) written
-        × AnswersLines (StandsWarm R.stands office.old.warm) (request_lines requests.now) (line ∷ left) written }
-    ensures write_failed { R.clean office.new.warm.records → IsErrOf result ScriptFault.WriteFailed →
+        × AnswersLines (D.stands desk.old) (request_lines requests.now) (line ∷ left) written }
+    ensures write_failed { D.clean desk.new → IsErrOf result ScriptFault.WriteFailed →
         (left : List (List ℕ)) × (missing : List ℕ) × (written : List ℕ)
         × Appends (W.contents output.old.writer.now) (W.contents output.new.writer.now) written
-        × AnswersLines (StandsWarm R.stands office.old.warm) (request_lines requests.now) left (written ++ missing) }
+        × AnswersLines (D.stands desk.old) (request_lines requests.now) left (written ++ missing) }
     ensures faults { IfErr result (λ fault. (fault ≡ ScriptFault.NoMemory) ⊎ (fault ≡ ScriptFault.WriteFailed)) }
     ensures same { output.new.writer.ghost_name ≡ output.old.writer.ghost_name }
 {
     for line in RequestLines::new(requests) {
-        let answer = answer_line(alloc, office, line)?;
+        let answer = answer_line(alloc, desk, line)?;
         let text = text_line(alloc, answer)?;
         output.write_all(&text)?;
     }
@@ -99,17 +96,13 @@ fn text_line(alloc: Global, answer: Answer) -> Result<Vec<u8>, NoMemory>
 }
 
 // The answer to a request's line, which may change the register.
-fn answer_line<R: Records>(
-    alloc: Global,
-    office: &mut Office<R>,
-    line: &[u8],
-) -> Result<Answer, ScriptFault>
-    ensures falls { R.clean office.new.warm.records → R.clean office.old.warm.records }
-    ensures answers { R.clean office.new.warm.records → IfOk result (λ answer. AnswersLine (StandsWarm R.stands office.old.warm) (StandsWarm R.stands office.new.warm) line.now answer) }
+fn answer_line<D: Desk>(alloc: Global, desk: &mut D, line: &[u8]) -> Result<Answer, ScriptFault>
+    ensures falls { D.clean desk.new → D.clean desk.old }
+    ensures answers { D.clean desk.new → IfOk result (λ answer. AnswersLine (D.stands desk.old) (D.stands desk.new) line.now answer) }
     ensures fault { IfErr result (λ fault. fault ≡ ScriptFault.NoMemory) }
 {
-    match read_ask(alloc, office, line) {
-        Ok(ask) => Ok(office.ask(alloc, &ask)),
+    match read_ask(alloc, desk, line) {
+        Ok(ask) => Ok(desk.ask(alloc, &ask)),
         Err(Refusal::Unavailable) => Err(ScriptFault::NoMemory),
         Err(refusal) => Ok(Answer::Refused(refusal)),
     }
@@ -118,20 +111,20 @@ fn answer_line<R: Records>(
 // Who asks what, by a request's line: `BadText` comes before `UnknownKey`. Want of memory is
 // `Unavailable`.
 #[tactic(auto, unfolding(crate::specs::Asked::ask_in))]
-fn read_ask<R: Records>(alloc: Global, office: &Office<R>, line: &[u8]) -> Result<Ask, Refusal>
-    ensures { Reads (StandsWarm R.stands office.now.warm) line.now result }
+fn read_ask<D: Desk>(alloc: Global, desk: &D, line: &[u8]) -> Result<Ask, Refusal>
+    ensures { Reads (D.stands desk.now) line.now result }
 {
     let (key, text) = key_and_text(line).ok_or(Refusal::BadText)?;
     let request = read_command(alloc, text)?;
-    let actor = actor_of(office, key).ok_or(Refusal::UnknownKey)?;
+    let actor = actor_of(desk, key).ok_or(Refusal::UnknownKey)?;
     Ok(Ask { actor, request })
 }
 
 // Who asks with this key. A key that is not UTF-8 is nobody's.
-fn actor_of<R: Records>(office: &Office<R>, key: &[u8]) -> Option<Actor>
-    ensures { (c : Cluster) (b : Book) → StandsWarm R.stands office.now.warm c b → IsSound c b → result ≡ actor_of c b key.now }
+fn actor_of<D: Desk>(desk: &D, key: &[u8]) -> Option<Actor>
+    ensures { (c : Cluster) (b : Book) → D.stands desk.now c b → IsSound c b → result ≡ actor_of c b key.now }
 {
-    office.actor_of(str::from_utf8(key).ok()?)
+    desk.actor_of(str::from_utf8(key).ok()?)
 }
 
 #[cfg(test)]

@@ -4,9 +4,9 @@ ghost use Rattle.fr_cli.specs.Endings.{AppendsFront};
 ghost use Rattle.fr_cli.specs.Performing.{listening};
 
 use crate::fault::{Fault, link_word};
-use crate::file_office::FileOffice;
 use crate::printing::{print, print_word};
 use fr_base::Desk;
+use fr_desks::FileDesk;
 use fr_http::{LinkFault, Output, serve_one};
 use std::alloc::Global;
 use std::io::{Read, Write};
@@ -38,13 +38,13 @@ pub fn serve<O: Write, E: Write>(
     ensures front { AppendsFront (O.contents out.old) (O.contents out.new) (listening port) }
     ensures same { err.new.writer.ghost_name ≡ err.old.writer.ghost_name }
 {
-    let mut office = FileOffice::open(rt, db)?;
+    let mut desk = FileDesk::open(rt, db)?;
     let listener = TcpListener::bind(rt, (Ipv4Addr::LOCALHOST, port)).map_err(
         |_| Fault::CannotListen,
     )?;
     announce(rt.alloc(), port, out)?;
-    let done = answer_all(rt.alloc(), &listener, count, &mut office, err);
-    office.close();
+    let done = answer_all(rt.alloc(), &listener, count, &mut desk, err);
+    desk.close();
     done
 }
 
@@ -61,14 +61,14 @@ fn answer_all<E: Write>(
     alloc: Global,
     listener: &TcpListener,
     count: u32,
-    office: &mut FileOffice,
+    desk: &mut FileDesk,
     err: &mut Output<'_, E>,
 ) -> Result<(), Fault>
     ensures same { err.new.writer.ghost_name ≡ err.old.writer.ghost_name }
 {
     for _ in 0..count {
         let (stream, _) = listener.accept().map_err(|_| Fault::CannotListen)?;
-        if let Err(fault) = serve_stream(alloc, &stream, office) {
+        if let Err(fault) = serve_stream(alloc, &stream, desk) {
             let _ = print_word(link_word(fault), err);
         }
     }

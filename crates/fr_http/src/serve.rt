@@ -192,6 +192,3 @@ fn write_out<W: Write>(bytes: &[u8], output: &mut Output<'_, W>) -> Result<(), W
     output.write_all(bytes)?;
     output.flush()
 }
-
-#[cfg(test)]
-mod tests;

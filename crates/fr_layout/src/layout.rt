@@ -168,6 +168,3 @@ impl Layout {
         }
     }
 }
-
-#[cfg(test)]
-mod tests;

@@ -8,8 +8,6 @@ mod cycle_channel;
 mod decision;
 mod edit;
 mod filled_cycles;
-#[cfg(test)]
-mod fixture;
 mod frame_rows;
 mod frame_triggering;
 mod gap;
@@ -51,6 +49,3 @@ pub use page_sendings::sent;
 pub use row_occupancy::RowOccupancy;
 pub use sendings::schedule;
 pub use variants::{VariantRow, decide_common};
-
-#[cfg(test)]
-mod tests;

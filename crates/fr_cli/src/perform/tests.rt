@@ -1,9 +1,9 @@
 //! What the check would let pass: a job that ends in a fault, or never sees what the jobs before it did, though
 //! nothing fails.
 use super::perform;
-use crate::file_office::FileOffice;
 use crate::fixture::{CLUSTER, PLAN, carried_out};
 use crate::words::Job;
+use fr_desks::FileDesk;
 use std::fs;
 use std::net::{Ipv4Addr, TcpListener};
 use std::test::Fail;
@@ -29,12 +29,9 @@ fn fails(rt: &HostRuntime, job: &Job<'_>, why: &str) -> bool {
 
 // Opens a variant in the register file, adds a node and grants it a slot.
 fn granted(rt: &HostRuntime, db: &str) -> Result<(), Fail> {
-    let mut office = match FileOffice::open(rt, db) {
-        Ok(office) => office,
-        Err(_) => return Err(Fail::from("not opened")),
-    };
-    carried_out(rt.alloc(), &mut office, &PLAN[..3])?;
-    office.close();
+    let mut desk = FileDesk::open(rt, db)?;
+    carried_out(rt.alloc(), &mut desk, &PLAN[..3])?;
+    desk.close();
     Ok(())
 }
 

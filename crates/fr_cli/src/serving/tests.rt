@@ -1,8 +1,7 @@
 //! What the check would let pass: a server from which no client reads a reply.
 use super::serve_stream;
 use crate::fixture::{CLUSTER, PLAN, carried_out};
-use fr_office::Office;
-use fr_store::Store;
+use fr_desks::MemoryDesk;
 use fr_text::read_config;
 use std::io::{Read, Write};
 use std::net::{Ipv4Addr, Shutdown, TcpListener, TcpStream};
@@ -18,14 +17,14 @@ content-length: 16\r\nconnection: close\r\n\r\n00 0001 A f1 n1\n";
 #[test]
 fn a_client_reads_its_schedule(rt: HostRuntime) -> Result<(), Fail> {
     let config = read_config(rt.alloc(), CLUSTER.as_bytes())?;
-    let mut office = Office::new(rt.alloc(), Store::create_in_memory(rt.alloc(), &config)?);
-    carried_out(rt.alloc(), &mut office, &PLAN)?;
+    let mut desk = MemoryDesk::new(rt.alloc(), &config)?;
+    carried_out(rt.alloc(), &mut desk, &PLAN)?;
     let listener = TcpListener::bind(&rt, (Ipv4Addr::LOCALHOST, 0))?;
     let mut client = TcpStream::connect(&rt, listener.local_addr()?)?;
     client.write_all(REQUEST)?;
     client.shutdown(Shutdown::Write)?;
     let (stream, _) = listener.accept()?;
-    assert!(rt; serve_stream(rt.alloc(), &stream, &mut office).is_ok());
+    assert!(rt; serve_stream(rt.alloc(), &stream, &mut desk).is_ok());
     drop(stream);
     let mut reply = Vec::new(rt.alloc());
     let _ = client.read_to_end(&mut reply)?;

@@ -1,10 +1,5 @@
-use Rattle.std.proofs.Common.{rules, refl, ◌≡◌, ◌≤◌, length, Some, Ok}
-use Rattle.sqlite.specs.Files.{file_state}
-use Rattle.fr_base.specs.Book.{opening}
+use Rattle.std.proofs.Common.{rules, ◌≡◌, ◌≤◌, length, Some, Ok}
 use Rattle.fr_base.specs.Cluster.{IsWellFormed}
-use Rattle.fr_office.specs.KeptPages.{StandsWarm}
-use Rattle.fr_office.specs.Stored.{StandsStored}
-use Rattle.fr_store.proofs.MemoryLemmas.{always_clean}
 use Rattle.fr_text.specs.ClusterFile.{config_of}
 use Rattle.fr_cli.specs.Script.{max_script, parts_of}
 use Rattle.fr_cli.proofs.RunLaws.{run_of}
@@ -17,17 +12,13 @@ returns g c =
     let bytes = c.in_ok-script.script.items in
     let requests = c.in_ok-cluster.requests.now in
     let config = c.in_ok-config.config in
-    let store = c.in-Ok.store in
-    let warm = c.new-office.result.warm in
-    let clean = always_clean (λ _. refl) c.answer_requests.new.office.warm.records.conn in
     let size : length bytes ≤ max_script = search rules in
     let split : parts_of bytes ≡ Some (c.in_ok-cluster.cluster.now, requests) = search rules in
     let file : config_of c.in_ok-cluster.cluster.now ≡ Ok config = search rules in
     let formed : IsWellFormed config = search rules in
-    let stands : StandsStored store.config (file_state store.conn) config (opening config) = record { config = c.in-Ok.ensures.config; rows = λ _. (c.in-Ok.ensures.stands, c.in-Ok.ensures.committed) } in
-    run_of (StandsWarm (λ s. StandsStored s.config (file_state s.conn)) warm) (remaining c.args.reader.now) (remaining c.read_all.new.reader)
+    run_of _ (remaining c.args.reader.now) (remaining c.read_all.new.reader)
     (contents c.args.writer.now) (contents c.answer_requests.new.writer) bytes requests config c.answer_requests.result
     c.in_ok-script.ensures.whole c.in_ok-script.ensures.end
     (record { size = size; cluster = c.in_ok-cluster.cluster.now; split = split; file = file; formed = formed })
-    (c.new-office.ensures.stands config (opening config) stands)
-    (c.answer_requests.ensures.written clean)
+    c.in-Ok.ensures.stands
+    (c.answer_requests.ensures.written tt)

@@ -1,7 +1,6 @@
 -- The lines so far are answered by what was written, and the iterator has those that are left.
 use Rattle.std.proofs.Common.{◌≡◌, ◌++◌, ℕ, List}
 use Rattle.std.specs.Io.KnownBytes.{Appends}
-use Rattle.fr_office.specs.KeptPages.{StandsWarm}
 use Rattle.fr_cli.specs.Script.{request_lines}
 use Rattle.fr_cli.proofs.OutputLaws.{AnsweredSoFar}
 use Rattle.fr_cli.proofs.script.write_answers.Given as goal
@@ -11,10 +10,10 @@ invariant-loop-line g l = record {
   can : (goal.iterator-loop-line g).can_next l.line-iterator;
   finite : (goal.iterator-loop-line g).is_finite l.line-iterator;
   same : l.output.writer.ghost_name ≡ l.fn.output.writer.ghost_name;
-  falls : g.R.Records.clean l.office.warm.records → g.R.Records.clean l.fn.office.warm.records;
+  falls : g.D.Desk.clean l.desk → g.D.Desk.clean l.fn.desk;
   front : List (List ℕ);
   lines : request_lines l.fn.requests ≡ front ++ request_lines l.line-iterator.rest.now;
   written : List ℕ;
   appended : Appends (g.W.Write.contents l.fn.output.writer.now) (g.W.Write.contents l.output.writer.now) written;
-  answered : g.R.Records.clean l.office.warm.records → AnsweredSoFar (StandsWarm g.R.Records.stands l.fn.office.warm) (StandsWarm g.R.Records.stands l.office.warm) front written;
+  answered : g.D.Desk.clean l.desk → AnsweredSoFar (g.D.Desk.stands l.fn.desk) (g.D.Desk.stands l.desk) front written;
 }

@@ -3,20 +3,14 @@
 ghost use Rattle.std.specs.Prelude.{◌≡◌, IfOk, Ok};
 ghost use Rattle.fr_world.specs.Decisions.{IsChecked};
 
-use crate::decision::{RowFault, decide, decide_rows};
-use crate::edit::Edit;
-use crate::fixture::{fits, frame, grant, name, no_rows, placement, signal, slot};
-use crate::frame_rows::{frame_row, push_signal_rows};
-use crate::frame_triggering::push_frame;
-use crate::mask_occupancy::MaskOccupancy;
-use crate::occupancy::{Occupancy, TakenCell};
-use crate::page::Page;
-use crate::page_sendings::sent;
-use crate::row_occupancy::RowOccupancy;
-use crate::sendings::schedule;
+use crate::page_rows::{fits, frame, grant, name, no_rows, placement, signal, slot};
 use fr_base::{
     Change, Channel, Channels, FrameChange, MAX_NODES, Name, Placement, Refusal, Row, RowRead,
     Rows, Signal,
+};
+use fr_world::{
+    Edit, MaskOccupancy, Occupancy, Page, RowFault, RowOccupancy, TakenCell, decide, decide_rows,
+    frame_row, push_frame, push_signal_rows, schedule, sent,
 };
 use std::alloc::Global;
 use std::test::Fail;

@@ -3,11 +3,11 @@
 ghost use Rattle.std.specs.Bool.{OnTrue};
 ghost use Rattle.fr_base.specs.Sound.{FitsCluster};
 
-use crate::page::{ChannelSlot, PageFrame, PageRows};
 use fr_base::{
     Channel, Channels, CycleSet, Name, Order, Params, Placement, RawParams, Signal, Slot,
 };
 use fr_layout::Layout;
+use fr_world::{ChannelSlot, PageFrame, PageRows};
 use std::alloc::Global;
 use std::collections::{BTreeMap, BTreeSet};
 use std::test::Fail;

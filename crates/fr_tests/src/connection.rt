@@ -1,10 +1,9 @@
 //! What the check would let pass: a request that is not served though there is memory, and reads and writes that are tried
 //! again too seldom, too often, or after another error. Replies are typed by hand from the formats.
-use super::{Served, serve_one};
-use crate::fault::LinkFault;
 use fr_base::{
     Actor, Answer, Ask, Channel, Desk, Name, NoMemory, Refusal, Request, Rows, Sending, Slot,
 };
+use fr_http::{LinkFault, Served, serve_one};
 use std::alloc::Global;
 use std::io;
 use std::io::{ErrorKind, Read, Write};

@@ -6,7 +6,7 @@ use Rattle.fr_world.specs.Pages.{own_rows_of}
 use Rattle.fr_world.specs.declared.edit.Edit.TheVariants.{NewNode}
 use Rattle.fr_world.proofs.KeyLaws.{name_cmp}
 use Rattle.fr_world.proofs.AmendTakes.{node_takes}
-use Rattle.fr_world.proofs.tests.add_node.Goals as goal
+use Rattle.fr_tests.proofs.world.add_node.Goals as goal
 
 pub amend-requires : goal.amend-requires
 amend-requires c =

@@ -1,6 +1,7 @@
 //! What the contracts leave open: bytes packed by a tool that is not ours, and that calls succeed.
-use super::*;
-use fr_base::Order;
+use fr_base::{Name, Order, Signal};
+use fr_layout::Layout;
+use std::alloc::Global;
 use std::test::Fail;
 
 fn signal(name: &str, start: u32, length: u32, order: Order) -> Result<Signal, Fail> {

@@ -3,7 +3,7 @@ use Rattle.fr_world.specs.Edits.{Takes}
 use Rattle.fr_world.specs.Pages.{own_rows_of}
 use Rattle.fr_world.specs.declared.edit.Edit.TheVariants.{SetReleased}
 use Rattle.fr_world.proofs.AmendTakes.{release_takes}
-use Rattle.fr_world.proofs.tests.release.Goals as goal
+use Rattle.fr_tests.proofs.world.release.Goals as goal
 
 pub amend-requires : goal.amend-requires
 amend-requires c =

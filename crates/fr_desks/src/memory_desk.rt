@@ -1,0 +1,65 @@
+//! The desk of a register in memory.
+ghost use Rattle.std.specs.Prelude.{◌≡◌, ◌<◌, length, take, IfErr, IfOk, MatchResult, ⊤};
+ghost use Rattle.sqlite.specs.Files.{file_state};
+ghost use Rattle.fr_base.specs.Book.{Book, opening};
+ghost use Rattle.fr_base.specs.Cluster.{Cluster};
+ghost use Rattle.fr_base.specs.Sound.{IsSound};
+ghost use Rattle.fr_office.specs.Headline.{WereAnswered};
+ghost use Rattle.fr_office.specs.KeptPages.{StandsWarm};
+ghost use Rattle.fr_office.specs.Stored.{StandsStored};
+ghost use Rattle.fr_store.specs.declared.fault.StoreFault.TheVariants.{Unavailable};
+
+use fr_base::{Actor, Answer, Ask, Config, Desk};
+use fr_office::{Office, Stopped};
+use fr_store::{MemoryFile, Store, StoreFault};
+use sqlite::FileStore;
+use std::alloc::Global;
+
+/// The desk of a register in memory. Nobody else can write there, so it is always clean.
+pub struct MemoryDesk {
+    office: Office<Store<FileStore<MemoryFile>>>,
+}
+
+// It is written out, so that a caller does not prove again how the files are dropped.
+impl Drop for MemoryDesk {
+    fn drop(self) {
+        let MemoryDesk { office: _ } = self;
+    }
+}
+
+impl Desk for MemoryDesk {
+    ghost stands = { λ it. StandsWarm (λ s. StandsStored s.config (file_state s.conn)) it.office.warm };
+
+    ghost clean = { λ _. ⊤ };
+
+    fn actor_of(&self, key: &str) -> Option<Actor> {
+        self.office.actor_of(key)
+    }
+
+    fn ask(&mut self, alloc: Global, ask: &Ask) -> Answer {
+        self.office.ask(alloc, ask)
+    }
+}
+
+impl MemoryDesk {
+    /// The desk of a new register of this cluster. It is `Unavailable` where memory is refused.
+    pub fn new(alloc: Global, config: &Config) -> Result<MemoryDesk, StoreFault>
+        ensures stands { IfOk result (λ it. ⟦<MemoryDesk as Desk>⟧.stands it config.now (opening config.now)) }
+        ensures told { IfErr result (λ e. e ≡ Unavailable) }
+    {
+        let store = Store::create_in_memory(alloc, config)?;
+        let office = Office::new(alloc, store);
+        Ok(MemoryDesk { office })
+    }
+
+    /// Answers requests one after another, as an [`Office`] does.
+    pub fn run(&mut self, alloc: Global, asks: &[Ask]) -> Result<Vec<Answer>, Stopped>
+        ensures each { IfOk result (λ answers. length answers.items ≡ length asks.now) }
+        ensures front { IfErr result (λ stopped. length stopped.answers.items < length asks.now) }
+        ensures headline { (c : Cluster) (b : Book) → ⟦<MemoryDesk as Desk>⟧.stands self.old c b → IsSound c b → MatchResult result
+            (λ answers. WereAnswered (⟦<MemoryDesk as Desk>⟧.stands self.new c) c b asks.now answers.items)
+            (λ stopped. WereAnswered (⟦<MemoryDesk as Desk>⟧.stands self.new c) c b (take (length stopped.answers.items) asks.now) stopped.answers.items) }
+    {
+        self.office.run(alloc, asks)
+    }
+}
