@@ -70,6 +70,11 @@ def creating(program, folder):
     fault(program, ["create", "new.db", "."], folder, "CannotOpen")
     see("no register without a cluster file", False, (folder / "new.db").exists())
     fault(program, ["create", "none/new.db", "cluster.toml"], folder, "Unavailable")
+    for table, word in ("Nodes", "NotEmpty"), ("other", "Unavailable"):
+        with closing(sqlite3.connect(folder / "tables.db")) as file:
+            file.execute(f"CREATE TABLE {table} (x INTEGER) STRICT")
+        fault(program, ["create", "tables.db", "cluster.toml"], folder, word)
+        (folder / "tables.db").unlink()
     tell(program, ["create", "long.db", "longest.toml"], folder)
 
 
@@ -83,7 +88,11 @@ def opening(program, folder):
     tell(program, ["create", "newer.db", "cluster.toml"], folder)
     with closing(sqlite3.connect(folder / "newer.db")) as newer, newer:
         newer.execute("UPDATE register SET schema = 7")
-    for file, word in ("empty.db", "NotARegister"), ("text.db", "NotARegister"), ("other.db", "NotARegister"), ("newer.db", "WrongSchema"):
+    tell(program, ["create", "orphan.db", "cluster.toml"], folder)
+    with closing(sqlite3.connect(folder / "orphan.db")) as orphan, orphan:
+        orphan.execute("INSERT INTO variants VALUES ('v2', 'v1', 2, 0, 0)")
+    faults = {"empty": "NotARegister", "text": "NotARegister", "other": "NotARegister", "newer": "WrongSchema", "orphan": "Unavailable"}
+    for file, word in ((f"{name}.db", word) for name, word in faults.items()):
         for words in ["schedule", file, "v1"], ["gaps", file, "v1"], ["serve", file, "1024"], ["import", file, "supplier01", "v1", "a", "cluster.toml"]:
             fault(program, words, folder, word)
 
@@ -123,10 +132,10 @@ def free_port():
 
 
 @contextmanager
-def served(program, folder, *more):
-    """A server of car.db that listens."""
+def served(program, folder, *more, db="car.db"):
+    """A server of the register that listens."""
     port = free_port()
-    words = [program, "serve", "car.db", str(port), *more]
+    words = [program, "serve", db, str(port), *more]
     with subprocess.Popen(words, cwd=folder, stdin=subprocess.DEVNULL, stdout=subprocess.PIPE, stderr=subprocess.PIPE) as server:
         try:
             see("the server listens", f"listening on 127.0.0.1:{port}\n".encode(), server.stdout.readline())
@@ -231,8 +240,8 @@ def requests():
     yield command("supplier01", b'{"do":"drop_frame","variant":"v1","frame":"f7"}'), json(DONE)
 
 
-def rows_of(folder, query):
-    with closing(sqlite3.connect(folder / "car.db")) as file:
+def rows_of(folder, query, db="car.db"):
+    with closing(sqlite3.connect(folder / db)) as file:
         return file.execute(query).fetchall()
 
 
@@ -330,13 +339,140 @@ def differences(program, folder):
     sound(folder)
 
 
+def in_turn(program, folder, db, lines):
+    """The register is opened, and replies to these requests, one after another, as is wanted."""
+    with served(program, folder, "--count", str(len(lines)), db=db) as (server, port):
+        for data, wanted in lines:
+            see(f"{program} over {db} to {data[:200]!r}", wanted, sent(port, data))
+        see("the server ends", 0, server.wait(SECONDS))
+
+
+def done(key, *commands):
+    return [(command(key, text), json(DONE)) for text in commands]
+
+
+def read(path, body):
+    """What `s1` reads there."""
+    return head("GET", f"/v1/variants/{path}", "supplier01"), text(body)
+
+
+def in_cycles(cycles):
+    return "".join(f"{cycle:02} 0001 A f1 n1\n" for cycle in cycles).encode()
+
+
+NO_FRAME = json(refused(16, "NoFrame"), "404 Not Found")
+
+# A frame in v1 with a placement and two signals, and v2 opened from it.
+OPENED = [
+    *done("integrator1", b'{"do":"open_variant","variant":"v1"}', b'{"do":"add_node","supplier":"s1","node":"n1"}'),
+    *done("integrator1", b'{"do":"grant","variant":"v1","slot":1,"channel":"A","supplier":"s1","node":"n1"}'),
+    *done("supplier01", b'{"do":"add_frame","variant":"v1","frame":"f1","node":"n1"}'),
+    *done("supplier01", b'{"do":"place","variant":"v1","frame":"f1","slot":1,"channels":"A","base":0,"repetition":2}'),
+    *done("supplier01", b'{"do":"add_signal","variant":"v1","frame":"f1","signal":"x","start":0,"length":8,"order":"little"}'),
+    *done("supplier01", b'{"do":"add_signal","variant":"v1","frame":"f1","signal":"y","start":8,"length":4,"order":"little"}'),
+    *done("integrator1", b'{"do":"release","variant":"v1"}', b'{"do":"open_variant","variant":"v2","from":"v1"}'),
+]
+
+# The frame changes in v2 alone, and v3 is opened from it.
+CHANGED = [
+    *done("supplier01", b'{"do":"drop_signal","variant":"v2","frame":"f1","signal":"y"}'),
+    *done("supplier01", b'{"do":"place","variant":"v2","frame":"f1","slot":1,"channels":"A","base":1,"repetition":2}'),
+    read("v2/frames/f1/layout", b"0000 08 little x\n"),
+    read("v1/frames/f1/layout", b"0000 08 little x\n0008 04 little y\n"),
+    read("v1/schedule", in_cycles(range(0, 64, 2))),
+    read("v2/schedule", in_cycles(range(64))),
+    *done("integrator1", b'{"do":"release","variant":"v2"}', b'{"do":"open_variant","variant":"v3","from":"v2"}'),
+]
+
+# It is dropped in v3, added again, and dropped again.
+DROPPED = [
+    *done("supplier01", b'{"do":"drop_frame","variant":"v3","frame":"f1"}'),
+    *done("supplier01", b'{"do":"add_frame","variant":"v3","frame":"f1","node":"n1"}'),
+    read("v3/frames", b"FRAME f1 n1\n"),
+    read("v3/frames/f1/layout", b""),
+    *done("supplier01", b'{"do":"drop_frame","variant":"v3","frame":"f1"}'),
+    read("v3/frames", b""),
+    (head("GET", "/v1/variants/v3/frames/f1/layout", "supplier01"), NO_FRAME),
+    read("v1/schedule", in_cycles(range(0, 64, 2))),
+    read("v2/schedule", in_cycles(range(64))),
+]
+
+# How many rows each shows then: the frame was copied whole before it changed, its parent's stayed, and that it was dropped is
+# noted once.
+LEFT = {
+    "SELECT slot FROM placements WHERE variant = 'v1'": 1,
+    "SELECT name FROM signals WHERE variant = 'v1'": 2,
+    "SELECT slot FROM placements WHERE variant = 'v2'": 2,
+    "SELECT name FROM signals WHERE variant = 'v2'": 1,
+    "SELECT name FROM frames WHERE variant = 'v3'": 0,
+    "SELECT frame FROM dropped WHERE variant = 'v3'": 1,
+}
+
+# A variant is given all rows that it shows, those of the one that it was opened from.
+WHOLE = """\
+UPDATE variants SET overlay = 0 WHERE name = '{child}';
+INSERT INTO frames SELECT '{child}', supplier, name, node FROM frames WHERE variant = '{parent}';
+INSERT INTO placements SELECT '{child}', supplier, frame, slot, channels, base, repetition FROM placements WHERE variant = '{parent}';
+INSERT INTO signals SELECT '{child}', supplier, frame, name, start, length, big FROM signals WHERE variant = '{parent}';
+"""
+
+
+def overlaid(program, folder):
+    """A variant that was opened from another keeps its differences alone, and a released one stays as it was."""
+    tell(program, ["create", "laid.db", "cluster.toml"], folder)
+    in_turn(program, folder, "laid.db", OPENED)
+    see("v2 is laid over v1", [("v1", 1)], rows_of(folder, "SELECT parent, overlay FROM variants WHERE name = 'v2'", "laid.db"))
+    see("frames of v2", [], rows_of(folder, "SELECT name FROM frames WHERE variant = 'v2'", "laid.db"))
+    in_turn(program, folder, "laid.db", CHANGED)
+    in_turn(program, folder, "laid.db", DROPPED)
+    for query, count in LEFT.items():
+        see(query, count, len(rows_of(folder, query, "laid.db")))
+
+
+def made_whole(program, folder):
+    """One that is stored with all rows that it shows is answered the same."""
+    tell(program, ["create", "whole.db", "cluster.toml"], folder)
+    in_turn(program, folder, "whole.db", OPENED)
+    for parent, child, lines in ("v1", "v2", CHANGED), ("v2", "v3", DROPPED):
+        with closing(sqlite3.connect(folder / "whole.db")) as file:
+            file.executescript(WHOLE.format(parent=parent, child=child))
+        in_turn(program, folder, "whole.db", lines)
+
+
+def opened_again(program, folder):
+    """A register whose file is closed and opened again is answered as one that stays open, with its cluster, rows and imports."""
+    tell(program, ["create", "again.db", "cluster.toml"], folder)
+    in_turn(program, folder, "again.db", list(first_requests()))
+    exists, label_used = (json(refused(*no), "409 Conflict") for no in ((19, "Exists"), (9, "LabelUsed")))
+    grant = b'{"do":"grant","variant":"v1","slot":%d,"channel":"A","supplier":"s2","node":"m1"}'
+    file = b"frame,node,slot,channels,base,repetition\nf1,n1,1,A,%d,64\n"
+    imported = post("/v1/variants/v1/imports/a", "supplier01", file % 1), json(b'{"ok":"imported","rows":1}')
+    twice = read("v1/schedule", in_cycles([0, 1]))
+    in_turn(program, folder, "again.db", [
+        (command("integrator1", b'{"do":"open_variant","variant":"v1"}'), exists),
+        (command("integrator1", b'{"do":"add_node","supplier":"s1","node":"n1"}'), exists),
+        *done("integrator1", b'{"do":"add_node","supplier":"s2","node":"m1"}'),
+        (command("integrator1", grant % 1), json(refused(24, "Taken"), "409 Conflict")),
+        (command("integrator1", grant % 5), json(refused(6, "BadSlot"), "422 Unprocessable Entity")),
+        (head("GET", "/v1/variants/v2/frames", "supplier02"), json(refused(10, "NoVariant"), "404 Not Found")),
+        imported,
+        twice,
+    ])
+    in_turn(program, folder, "again.db", [
+        imported,
+        (post("/v1/variants/v1/imports/a", "supplier01", file % 2), label_used),
+        (post("/v1/variants/v2/imports/a", "supplier01", file % 1), label_used),
+        twice,
+    ])
+
+
 def main(programs):
     there = [os.path.abspath(program) for program in programs if os.access(program, os.X_OK)]
     counted[False] += len(programs) - len(there)
     for program in there:
         with tempfile.TemporaryDirectory() as folder:
             (Path(folder) / "cluster.toml").write_bytes(CLUSTER)
-            for part in creating, opening, serving, cutting, killing, reports, differences:
+            for part in creating, opening, serving, cutting, killing, reports, differences, overlaid, made_whole, opened_again:
                 part(program, Path(folder))
     print(f"{counted[True]} passed, {counted[False]} failed")
     return 1 if counted[False] else 0

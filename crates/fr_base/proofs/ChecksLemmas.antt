@@ -6,3 +6,8 @@ use Rattle.fr_base.specs.Checks.{asking, name, cycles, slot, channel, channels, 
 unfoldable pub checks_open : ⊤
 unfolding ◌>>=◌ ◌>>◌ ◌or◌ refuse◌when◌ asking name cycles slot channel channels placement signal parent_name check
 checks_open = tt
+
+-- the same but what a placement is
+unfoldable pub frames_open : ⊤
+unfolding ◌>>=◌ ◌>>◌ asking name check
+frames_open = tt

@@ -1,12 +1,13 @@
 //! What a request says by itself: checked values, or the first refusal that needs no register.
-ghost use Rattle.std.specs.Prelude.{◌≡◌, not};
+ghost use Rattle.std.specs.Prelude.{◌≡◌, ℕ, List, not};
 ghost use Rattle.std.specs.List.{list_all};
 ghost use Rattle.fr_base.specs.Channels.{channels_in, has_channel};
 ghost use Rattle.fr_base.specs.Refusing.{refuse◌when◌};
+ghost use Rattle.fr_base.specs.declared.request.Request.TheVariants as request;
 ghost use Rattle.fr_base.specs.Checks.{asking, is_integrator, check, name, cycles, slot, channel, channels, placement, signal, parent_name};
 
 use crate::actor::Actor;
-use crate::body::BodyRef;
+use crate::body::{Body, BodyRef};
 use crate::channel::{Channel, Channels};
 use crate::cycles::CycleSet;
 use crate::name::Name;
@@ -22,7 +23,6 @@ use crate::text::Text;
 
 /// The request with checked values, or the first refusal that it meets by itself, whatever the
 /// register holds: `NotYours`, `BadName`, `BadCycles`, `BadSlot`, `BadChannel`, `BadSignal`, in this order.
-#[tactic(auto, unfolding(crate::proofs::ChecksLemmas::checks_open))]
 pub fn check<'a>(
     params: &Params,
     actor: &Actor,
@@ -31,62 +31,28 @@ pub fn check<'a>(
     ensures { result ≡ check params.now actor.now request.now }
 {
     match request {
-        Request::OpenVariant { variant, parent } => {
-            integrator(actor)?;
-            let (variant, parent) = (name(variant)?, parent_name(parent)?);
-            Ok(common(CommonCommand::OpenVariant { variant, parent }))
-        }
-        Request::Release { variant } => {
-            integrator(actor)?;
-            let variant = name(variant)?;
-            Ok(common(CommonCommand::Release { variant }))
-        }
-        Request::AddNode { supplier, node } => {
-            integrator(actor)?;
-            let (supplier, node) = (name(supplier)?, name(node)?);
-            Ok(Checked::Command(Command::AddNode { supplier, node }))
-        }
+        Request::OpenVariant { variant, parent } => open_variant(actor, variant, parent),
+        Request::Release { variant } => release(actor, variant),
+        Request::AddNode { supplier, node } => add_node(actor, supplier, node),
         Request::Grant {
             variant,
-            slot: number,
-            channel: text,
+            slot,
+            channel,
             supplier,
             node,
-        } => {
-            integrator(actor)?;
-            let (variant, supplier, node) = (name(variant)?, name(supplier)?, name(node)?);
-            let (slot, channel) = (slot(params, *number)?, channel(params, text)?);
-            let change = Change::Grant {
-                slot,
-                channel,
-                node,
-            };
-            Ok(rows(supplier, variant, change))
-        }
+        } => grant(params, actor, variant, *slot, channel, supplier, node),
         Request::Revoke {
             variant,
-            slot: number,
-            channel: text,
+            slot,
+            channel,
             supplier,
-        } => {
-            integrator(actor)?;
-            let (variant, supplier) = (name(variant)?, name(supplier)?);
-            let (slot, channel) = (slot(params, *number)?, channel(params, text)?);
-            Ok(rows(supplier, variant, Change::Revoke { slot, channel }))
-        }
+        } => revoke(params, actor, variant, *slot, channel, supplier),
         Request::AddFrame {
             variant,
             frame,
             node,
-        } => {
-            let (supplier, variant, frame) = (asking(actor)?, name(variant)?, name(frame)?);
-            let node = name(node)?;
-            Ok(of_frame(supplier, variant, frame, FrameChange::Add { node }))
-        }
-        Request::DropFrame { variant, frame } => {
-            let (supplier, variant, frame) = (asking(actor)?, name(variant)?, name(frame)?);
-            Ok(of_frame(supplier, variant, frame, FrameChange::Drop))
-        }
+        } => add_frame(actor, variant, frame, node),
+        Request::DropFrame { variant, frame } => drop_frame(actor, variant, frame),
         Request::Place {
             variant,
             frame,
@@ -95,10 +61,9 @@ pub fn check<'a>(
             base,
             repetition,
         } => {
-            let (supplier, variant, frame) = (asking(actor)?, name(variant)?, name(frame)?);
             let channels = channels.as_str().as_bytes();
-            let placement = placement(params, *slot, channels, *base, *repetition)?;
-            Ok(of_frame(supplier, variant, frame, FrameChange::Place(placement)))
+            let placed = placement(params, *slot, channels, *base, *repetition);
+            place(actor, variant, frame, placed)
         }
         Request::Unplace {
             variant,
@@ -108,68 +73,247 @@ pub fn check<'a>(
             base,
             repetition,
         } => {
-            let (supplier, variant, frame) = (asking(actor)?, name(variant)?, name(frame)?);
             let channels = channels.as_str().as_bytes();
-            let placement = placement(params, *slot, channels, *base, *repetition)?;
-            Ok(of_frame(supplier, variant, frame, FrameChange::Unplace(placement)))
+            let placed = placement(params, *slot, channels, *base, *repetition);
+            unplace(actor, variant, frame, placed)
         }
         Request::AddSignal {
             variant,
             frame,
-            signal: text,
+            signal,
             start,
             length,
             order,
-        } => {
-            let (supplier, variant, frame) = (asking(actor)?, name(variant)?, name(frame)?);
-            let order = order.as_str().as_bytes();
-            let signal = signal(name(text)?, *start, *length, order)?;
-            Ok(of_frame(supplier, variant, frame, FrameChange::AddSignal(signal)))
-        }
+        } => add_signal(actor, variant, frame, signal, *start, *length, order),
         Request::DropSignal {
             variant,
             frame,
             signal,
-        } => {
-            let (supplier, variant, frame) = (asking(actor)?, name(variant)?, name(frame)?);
-            let signal = name(signal)?;
-            Ok(of_frame(supplier, variant, frame, FrameChange::DropSignal(signal)))
-        }
+        } => drop_signal(actor, variant, frame, signal),
         Request::Import {
             variant,
             label,
             body,
-        } => {
-            let (supplier, variant, label) = (asking(actor)?, name(variant)?, name(label)?);
-            let body = BodyRef::of(body);
-            Ok(Checked::Import(Import {
-                supplier,
-                variant,
-                label,
-                body,
-            }))
-        }
-        Request::Grants { variant } => {
-            let variant = name(variant)?;
-            Ok(Checked::Query(Query::Grants { variant }))
-        }
-        Request::Frames { variant } => {
-            let variant = name(variant)?;
-            Ok(Checked::Query(Query::Frames { variant }))
-        }
-        Request::Schedule { variant } => {
-            let variant = name(variant)?;
-            Ok(Checked::Query(Query::Schedule { variant }))
-        }
-        Request::Gaps { variant } => {
-            let variant = name(variant)?;
-            Ok(Checked::Query(Query::Gaps { variant }))
-        }
-        Request::Layout { variant, frame } => {
-            let (variant, frame) = (name(variant)?, name(frame)?);
-            Ok(Checked::Query(Query::Layout { variant, frame }))
-        }
+        } => import(actor, variant, label, body),
+        Request::Grants { variant } => grants(variant),
+        Request::Frames { variant } => frames(variant),
+        Request::Schedule { variant } => schedule(variant),
+        Request::Gaps { variant } => gaps(variant),
+        Request::Layout { variant, frame } => layout(variant, frame),
     }
+}
+
+#[tactic(auto, unfolding(crate::proofs::ChecksLemmas::checks_open))]
+fn open_variant(
+    actor: &Actor,
+    variant: &Text,
+    parent: &Option<Text>,
+) -> Result<Checked<'static>, Refusal>
+    ensures { (p : Params) → result ≡ check p actor.now (request.OpenVariant variant.now parent.now) }
+{
+    integrator(actor)?;
+    let (variant, parent) = (name(variant)?, parent_name(parent)?);
+    Ok(common(CommonCommand::OpenVariant { variant, parent }))
+}
+
+#[tactic(auto, unfolding(crate::proofs::ChecksLemmas::checks_open))]
+fn release(actor: &Actor, variant: &Text) -> Result<Checked<'static>, Refusal>
+    ensures { (p : Params) → result ≡ check p actor.now (request.Release variant.now) }
+{
+    integrator(actor)?;
+    let variant = name(variant)?;
+    Ok(common(CommonCommand::Release { variant }))
+}
+
+#[tactic(auto, unfolding(crate::proofs::ChecksLemmas::checks_open))]
+fn add_node(actor: &Actor, supplier: &Text, node: &Text) -> Result<Checked<'static>, Refusal>
+    ensures { (p : Params) → result ≡ check p actor.now (request.AddNode supplier.now node.now) }
+{
+    integrator(actor)?;
+    let (supplier, node) = (name(supplier)?, name(node)?);
+    Ok(Checked::Command(Command::AddNode { supplier, node }))
+}
+
+#[tactic(auto, unfolding(crate::proofs::ChecksLemmas::checks_open))]
+fn grant(
+    params: &Params,
+    actor: &Actor,
+    variant: &Text,
+    number: u32,
+    text: &Text,
+    supplier: &Text,
+    node: &Text,
+) -> Result<Checked<'static>, Refusal>
+    ensures { result ≡ check params.now actor.now (request.Grant variant.now number text.now supplier.now node.now) }
+{
+    integrator(actor)?;
+    let (variant, supplier, node) = (name(variant)?, name(supplier)?, name(node)?);
+    let (slot, channel) = (slot(params, number)?, channel(params, text)?);
+    let change = Change::Grant {
+        slot,
+        channel,
+        node,
+    };
+    Ok(rows(supplier, variant, change))
+}
+
+#[tactic(auto, unfolding(crate::proofs::ChecksLemmas::checks_open))]
+fn revoke(
+    params: &Params,
+    actor: &Actor,
+    variant: &Text,
+    number: u32,
+    text: &Text,
+    supplier: &Text,
+) -> Result<Checked<'static>, Refusal>
+    ensures { result ≡ check params.now actor.now (request.Revoke variant.now number text.now supplier.now) }
+{
+    integrator(actor)?;
+    let (variant, supplier) = (name(variant)?, name(supplier)?);
+    let (slot, channel) = (slot(params, number)?, channel(params, text)?);
+    Ok(rows(supplier, variant, Change::Revoke { slot, channel }))
+}
+
+#[tactic(auto, unfolding(crate::proofs::ChecksLemmas::checks_open))]
+fn add_frame(
+    actor: &Actor,
+    variant: &Text,
+    frame: &Text,
+    node: &Text,
+) -> Result<Checked<'static>, Refusal>
+    ensures { (p : Params) → result ≡ check p actor.now (request.AddFrame variant.now frame.now node.now) }
+{
+    let (supplier, variant, frame) = (asking(actor)?, name(variant)?, name(frame)?);
+    let node = name(node)?;
+    Ok(of_frame(supplier, variant, frame, FrameChange::Add { node }))
+}
+
+#[tactic(auto, unfolding(crate::proofs::ChecksLemmas::checks_open))]
+fn drop_frame(actor: &Actor, variant: &Text, frame: &Text) -> Result<Checked<'static>, Refusal>
+    ensures { (p : Params) → result ≡ check p actor.now (request.DropFrame variant.now frame.now) }
+{
+    let (supplier, variant, frame) = (asking(actor)?, name(variant)?, name(frame)?);
+    Ok(of_frame(supplier, variant, frame, FrameChange::Drop))
+}
+
+// What `placed` refuses comes behind what is said of the supplier, the variant and the frame.
+#[tactic(auto, unfolding(crate::proofs::ChecksLemmas::frames_open))]
+fn place(
+    actor: &Actor,
+    variant: &Text,
+    frame: &Text,
+    placed: Result<Placement, Refusal>,
+) -> Result<Checked<'static>, Refusal>
+    ensures { (p : Params) (n : ℕ) (text : List ℕ) (base : ℕ) (repetition : ℕ) → placed ≡ placement p n text base repetition
+        → result ≡ check p actor.now (request.Place variant.now frame.now n text base repetition) }
+{
+    let (supplier, variant, frame) = (asking(actor)?, name(variant)?, name(frame)?);
+    Ok(of_frame(supplier, variant, frame, FrameChange::Place(placed?)))
+}
+
+// What `placed` refuses comes behind what is said of the supplier, the variant and the frame.
+#[tactic(auto, unfolding(crate::proofs::ChecksLemmas::frames_open))]
+fn unplace(
+    actor: &Actor,
+    variant: &Text,
+    frame: &Text,
+    placed: Result<Placement, Refusal>,
+) -> Result<Checked<'static>, Refusal>
+    ensures { (p : Params) (n : ℕ) (text : List ℕ) (base : ℕ) (repetition : ℕ) → placed ≡ placement p n text base repetition
+        → result ≡ check p actor.now (request.Unplace variant.now frame.now n text base repetition) }
+{
+    let (supplier, variant, frame) = (asking(actor)?, name(variant)?, name(frame)?);
+    Ok(of_frame(supplier, variant, frame, FrameChange::Unplace(placed?)))
+}
+
+#[tactic(auto, unfolding(crate::proofs::ChecksLemmas::checks_open))]
+fn add_signal(
+    actor: &Actor,
+    variant: &Text,
+    frame: &Text,
+    text: &Text,
+    start: u32,
+    length: u32,
+    order: &Text,
+) -> Result<Checked<'static>, Refusal>
+    ensures { (p : Params) → result ≡ check p actor.now (request.AddSignal variant.now frame.now text.now start length order.now) }
+{
+    let (supplier, variant, frame) = (asking(actor)?, name(variant)?, name(frame)?);
+    let signal = signal(name(text)?, start, length, order.as_str().as_bytes())?;
+    Ok(of_frame(supplier, variant, frame, FrameChange::AddSignal(signal)))
+}
+
+#[tactic(auto, unfolding(crate::proofs::ChecksLemmas::checks_open))]
+fn drop_signal(
+    actor: &Actor,
+    variant: &Text,
+    frame: &Text,
+    signal: &Text,
+) -> Result<Checked<'static>, Refusal>
+    ensures { (p : Params) → result ≡ check p actor.now (request.DropSignal variant.now frame.now signal.now) }
+{
+    let (supplier, variant, frame) = (asking(actor)?, name(variant)?, name(frame)?);
+    let signal = name(signal)?;
+    Ok(of_frame(supplier, variant, frame, FrameChange::DropSignal(signal)))
+}
+
+#[tactic(auto, unfolding(crate::proofs::ChecksLemmas::checks_open))]
+fn import<'a>(
+    actor: &Actor,
+    variant: &Text,
+    label: &Text,
+    body: &'a Body,
+) -> Result<Checked<'a>, Refusal>
+    ensures { (p : Params) → result ≡ check p actor.now (request.Import variant.now label.now body.now) }
+{
+    let (supplier, variant, label) = (asking(actor)?, name(variant)?, name(label)?);
+    let body = BodyRef::of(body);
+    Ok(Checked::Import(Import {
+        supplier,
+        variant,
+        label,
+        body,
+    }))
+}
+
+#[tactic(auto, unfolding(crate::proofs::ChecksLemmas::checks_open))]
+fn grants(variant: &Text) -> Result<Checked<'static>, Refusal>
+    ensures { (p : Params) (actor : Actor) → result ≡ check p actor (request.Grants variant.now) }
+{
+    let variant = name(variant)?;
+    Ok(Checked::Query(Query::Grants { variant }))
+}
+
+#[tactic(auto, unfolding(crate::proofs::ChecksLemmas::checks_open))]
+fn frames(variant: &Text) -> Result<Checked<'static>, Refusal>
+    ensures { (p : Params) (actor : Actor) → result ≡ check p actor (request.Frames variant.now) }
+{
+    let variant = name(variant)?;
+    Ok(Checked::Query(Query::Frames { variant }))
+}
+
+#[tactic(auto, unfolding(crate::proofs::ChecksLemmas::checks_open))]
+fn schedule(variant: &Text) -> Result<Checked<'static>, Refusal>
+    ensures { (p : Params) (actor : Actor) → result ≡ check p actor (request.Schedule variant.now) }
+{
+    let variant = name(variant)?;
+    Ok(Checked::Query(Query::Schedule { variant }))
+}
+
+#[tactic(auto, unfolding(crate::proofs::ChecksLemmas::checks_open))]
+fn gaps(variant: &Text) -> Result<Checked<'static>, Refusal>
+    ensures { (p : Params) (actor : Actor) → result ≡ check p actor (request.Gaps variant.now) }
+{
+    let variant = name(variant)?;
+    Ok(Checked::Query(Query::Gaps { variant }))
+}
+
+#[tactic(auto, unfolding(crate::proofs::ChecksLemmas::checks_open))]
+fn layout(variant: &Text, frame: &Text) -> Result<Checked<'static>, Refusal>
+    ensures { (p : Params) (actor : Actor) → result ≡ check p actor (request.Layout variant.now frame.now) }
+{
+    let (variant, frame) = (name(variant)?, name(frame)?);
+    Ok(Checked::Query(Query::Layout { variant, frame }))
 }
 
 // Whether the integrator asks.

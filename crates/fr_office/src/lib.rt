@@ -5,8 +5,6 @@
 mod amending;
 mod answering;
 mod commands;
-#[cfg(test)]
-mod fixture;
 mod import_counts;
 mod imports;
 mod office;
@@ -24,6 +22,3 @@ pub use office::Office;
 pub use records::Records;
 pub use running::{Stopped, run};
 pub use shelf::MAX_BYTES;
-
-#[cfg(test)]
-mod tests;

@@ -97,6 +97,3 @@ impl<R: Records> Office<R> {
         run(alloc, self, asks)
     }
 }
-
-#[cfg(test)]
-mod tests;

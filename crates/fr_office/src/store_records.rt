@@ -93,6 +93,3 @@ fn answer<T>(told: Result<T, StoreFault>) -> Result<T, Refusal>
 {
     told.map_err(|_| Refusal::Unavailable)
 }
-
-#[cfg(test)]
-mod tests;

@@ -132,6 +132,3 @@ impl<R: Records> Records for Warm<R> {
         Ok(())
     }
 }
-
-#[cfg(test)]
-mod tests;

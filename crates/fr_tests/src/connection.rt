@@ -344,6 +344,20 @@ fn a_request_is_asked_once_it_is_whole(rt: HostRuntime) -> Result<(), Fail> {
     Ok(())
 }
 
+// How a connection ends whose writer fails behind so many bytes, how often the desk was asked, and how many bytes were
+// written.
+fn cut_off(
+    alloc: Global,
+    room: usize,
+    error: ErrorKind,
+) -> Result<(Result<Served, LinkFault>, u32, usize), Fail> {
+    let mut desk = Counter::new()?;
+    let mut writer = Sink::new(alloc, room, error);
+    let mut reader = whole(ADD_FRAME.as_bytes());
+    let ended = serve_one(alloc, &mut reader, &mut writer, &mut desk);
+    Ok((ended, desk.asked, writer.taken.len()))
+}
+
 /// Where a write fails it is told whether the register was asked before.
 #[test]
 fn a_failed_write_is_told(rt: HostRuntime) -> Result<(), Fail> {
@@ -353,18 +367,12 @@ fn a_failed_write_is_told(rt: HostRuntime) -> Result<(), Fail> {
         ErrorKind::WriteZero,
     ] {
         for room in 0..CONTINUE.len() + DONE.len() {
-            let mut desk = Counter::new()?;
-            let mut writer = Sink::new(rt.alloc(), room, error);
-            let done = serve_one(
-                rt.alloc(),
-                &mut whole(ADD_FRAME.as_bytes()),
-                &mut writer,
-                &mut desk,
-            );
             let asked = room >= CONTINUE.len();
-            assert_eq!(rt; done, Err(LinkFault::WriteFailed { asked }));
-            assert_eq!(rt; desk.asked, u32::from(asked));
-            assert_eq!(rt; writer.taken.len(), room);
+            let ended = Err(LinkFault::WriteFailed { asked });
+            assert_eq!(rt;
+                cut_off(rt.alloc(), room, error)?,
+                (ended, u32::from(asked), room)
+            );
         }
     }
     Ok(())

@@ -69,16 +69,24 @@ fn packs_as_bitstruct_does(rt: HostRuntime) -> Result<(), Fail> {
     Ok(())
 }
 
+// 64 signals of 31 bits, one behind the other, in 127 words.
+fn full_layout(alloc: Global) -> Result<Layout, Fail> {
+    let mut layout = Layout::new(alloc, 127);
+    for index in 0..64 {
+        let name = format!(in alloc; "s{index}")?;
+        let added = signal(&name, 31 * index, 31, Order::Little)?;
+        if layout.admits(&added) != Ok(()) {
+            return Err(Fail::from("not admitted"));
+        }
+        layout.add(added)?;
+    }
+    Ok(layout)
+}
+
 /// With ample memory each call succeeds, up to 64 signals in 127 words.
 #[test]
 fn layout_and_text_calls_succeed(rt: HostRuntime) -> Result<(), Fail> {
-    let mut layout = Layout::new(rt.alloc(), 127);
-    for index in 0..64 {
-        let name = format!(in rt.alloc(); "s{index}")?;
-        let added = signal(&name, 31 * index, 31, Order::Little)?;
-        assert_eq!(rt; layout.admits(&added), Ok(()));
-        layout.add(added)?;
-    }
+    let mut layout = full_layout(rt.alloc())?;
     let mut values = [0x2aaa_aaaa; 64];
     values[63] = 0x7fff_ffff;
     let bytes = layout.pack(rt.alloc(), &values)?;

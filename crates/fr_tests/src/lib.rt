@@ -3,10 +3,18 @@
 #![tactic(auto)]
 
 #[cfg(test)]
+mod asks;
+#[cfg(test)]
 mod connection;
 #[cfg(test)]
 mod layouts;
 #[cfg(test)]
 mod page_rows;
+#[cfg(test)]
+mod registers;
+#[cfg(test)]
+mod running;
+#[cfg(test)]
+mod warm;
 #[cfg(test)]
 mod world;

@@ -9,8 +9,8 @@ use fr_base::{
     Rows, Signal,
 };
 use fr_world::{
-    Edit, MaskOccupancy, Occupancy, Page, RowFault, RowOccupancy, TakenCell, decide, decide_rows,
-    frame_row, push_frame, push_signal_rows, schedule, sent,
+    Edit, MaskOccupancy, Occupancy, Page, PageFrame, PageRows, RowFault, RowOccupancy, TakenCell,
+    decide, decide_rows, frame_row, push_frame, push_signal_rows, schedule, sent,
 };
 use std::alloc::Global;
 use std::test::Fail;
@@ -101,56 +101,87 @@ fn world_calls_succeed(rt: HostRuntime) -> Result<(), Fail> {
     Ok(())
 }
 
-// 256 frames, each in a slot of its own, of which all but the last have 8 placements; the first one has
-// 64 signals.
-fn full_page(alloc: Global) -> Result<Page, Fail> {
-    let mut rows = no_rows(alloc)?;
+// As many nodes and grants as there may be.
+fn push_nodes(rows: &mut PageRows, alloc: Global) -> Result<(), Fail> {
     for index in 1..=64 {
         let node = format!(in alloc; "n{index}")?;
         rows.nodes.insert(name(&node)?)?;
     }
     for number in 1..=1023 {
-        grant(&mut rows, number, Channel::A)?;
-        grant(&mut rows, number, Channel::B)?;
+        grant(rows, number, Channel::A)?;
+        grant(rows, number, Channel::B)?;
     }
+    Ok(())
+}
+
+// A frame with so many placements in the slot.
+fn placed(alloc: Global, number: u32, count: u32) -> Result<PageFrame, Fail> {
+    let mut row = frame(alloc)?;
+    for base in 0..count {
+        row.placements
+            .insert(placement(number, Channels::AB, base, 64)?)?;
+    }
+    Ok(row)
+}
+
+// 256 frames, each in a slot of its own, of which all but the last have 8 placements.
+fn push_frames(rows: &mut PageRows, alloc: Global) -> Result<(), Fail> {
     for number in 1..=256 {
-        let mut row = frame(alloc)?;
-        for base in 0..8 {
-            if base < 7 || number < 256 {
-                row.placements
-                    .insert(placement(number, Channels::AB, base, 64)?)?;
-            }
-        }
         let text = format!(in alloc; "f{number}")?;
-        rows.frames.insert(name(&text)?, row)?;
+        let count = if number < 256 { 8 } else { 7 };
+        rows.frames
+            .insert(name(&text)?, placed(alloc, number, count)?)?;
     }
-    let first = rows.frames.get_mut(&name("f1")?).ok_or("f1")?;
+    Ok(())
+}
+
+// As many signals as there may be.
+fn push_signals(frame: &mut PageFrame, alloc: Global) -> Result<(), Fail> {
     for index in 0..64 {
         let text = format!(in alloc; "x{index}")?;
-        first.layout.add(signal(&text, index * 4)?)?;
+        frame.layout.add(signal(&text, index * 4)?)?;
     }
+    Ok(())
+}
+
+// All that a page may have, but for one placement.
+fn full_page(alloc: Global) -> Result<Page, Fail> {
+    let mut rows = no_rows(alloc)?;
+    push_nodes(&mut rows, alloc)?;
+    push_frames(&mut rows, alloc)?;
+    let first = rows.frames.get_mut(&name("f1")?).ok_or("f1")?;
+    push_signals(first, alloc)?;
     Ok(Page::build(alloc, rows)?.ok_or("page")?)
+}
+
+// How many signals the first frame has, and how many placements, in the rows that are made of it.
+fn first_frame(alloc: Global, page: &Page) -> Result<(usize, usize), Fail> {
+    let (supplier, f1) = (page.supplier(), name("f1")?);
+    let row = page.frames().get(&f1).ok_or("f1")?.clone()?;
+    let mut signals = Rows::new(alloc);
+    push_signal_rows(supplier, &row, &mut signals)?;
+    let placements = frame_row(alloc, supplier, f1, &row)?.placements.len();
+    Ok((signals.len(), placements))
+}
+
+// How many lines the schedule of the page's frames has.
+fn line_count(alloc: Global, page: &Page) -> Result<usize, Fail> {
+    let mut triggerings = Vec::new(alloc);
+    for (name, row) in page.frames().iter() {
+        push_frame(page.supplier(), *name, row, &mut triggerings)?;
+    }
+    Ok(schedule(alloc, &page.params(), &triggerings)?.len())
 }
 
 // So it does at the limits.
 #[test]
 fn a_full_page(rt: HostRuntime) -> Result<(), Fail> {
-    let alloc = rt.alloc();
-    let mut page = full_page(alloc)?;
+    let mut page = full_page(rt.alloc())?;
     let last = placement(256, Channels::AB, 7, 64)?;
-    place(&mut page, alloc, name("f256")?, last)?;
-    assert_eq!(rt; sent(alloc, &page, 7)?.len(), 512);
-    let (supplier, f1) = (page.supplier(), name("f1")?);
-    let row = page.frames().get(&f1).ok_or("f1")?.clone()?;
-    let mut signals = Rows::new(alloc);
-    push_signal_rows(supplier, &row, &mut signals)?;
-    assert_eq!(rt; signals.len(), 64);
-    assert_eq!(rt; frame_row(alloc, supplier, f1, &row)?.placements.len(), 8);
-    let mut triggerings = Vec::new(alloc);
-    for (name, row) in page.frames().iter() {
-        push_frame(supplier, *name, row, &mut triggerings)?;
-    }
-    assert_eq!(rt; schedule(alloc, &page.params(), &triggerings)?.len(), 4096);
+    place(&mut page, rt.alloc(), name("f256")?, last)?;
+    assert_eq!(rt; sent(rt.alloc(), &page, 7)?.len(), 512);
+    assert_eq!(rt; first_frame(rt.alloc(), &page)?, (64, 8));
+    assert_eq!(rt; line_count(rt.alloc(), &page)?, 4096);
     Ok(())
 }
 

@@ -31,7 +31,7 @@ use Rattle.fr_base.specs.Channels.{channels_of_text}
 use Rattle.fr_base.specs.Signals.{order_of_text}
 use Rattle.fr_base.specs.Checks.{name, placement as placement_of, cycles as cycles_of, slot as slot_of, channels as channels_of, signal as signal_of}
 use Rattle.fr_base.proofs.NameLemmas.{name_is_text}
-use Rattle.fr_base.specs.ImportRows.{records_of, header_of, text_at, number, number_at, placement_row, signal_row, placement_in, signal_in, row_of, row_at, rows_from, rows_below, rows_of_records, up_to_refused, rows_of_body}
+use Rattle.fr_base.specs.ImportRows.{records_of, text_at, number, number_at, placement_row, signal_row, placement_in, signal_in, row_of, row_at, rows_from, rows_below, rows_of_records, up_to_refused, rows_of_body}
 use Rattle.fr_base.specs.declared.import.Header.{Header}
 use Rattle.fr_base.specs.declared.import.Header.TheVariants.{Placements, Signals}
 use Rattle.fr_base.specs.declared.import.Row.{Row}
@@ -93,22 +93,17 @@ module _ (p : Params) (h : Header) (line : ℕ) (rows : List RowRead) (records :
   unfolding up_to_refused rows_from row_at refuse◌when◌ ◌>>◌
   rows-over fields rest e some over = rw (some, over) at e
 
--- a file without records
-pub body-empty : (p : Params) (body : List ℕ) → records_of body ≡ [] → rows_of_body p body ≡ record { line = 1; row = Err BadText } ∷ []
-unfolding rows_of_body rows_of_records rows_below up_to_refused
-body-empty p body e = rw e refl
-
--- a file whose first record is no header
-pub body-other : (p : Params) (body : List ℕ) (fields : List (List ℕ)) (rest : Records) → records_of body ≡ fields ∷ rest → header_of fields ≡ None
+-- a file whose first record, if there is one, is no header
+pub body-other : (p : Params) (body : List ℕ) (rest : Records) → rows_of_records p (records_of body) ≡ rows_below p None rest
     → rows_of_body p body ≡ record { line = 1; row = Err BadText } ∷ []
-unfolding rows_of_body rows_of_records rows_below up_to_refused
-body-other p body fields rest e other = rw (e, other) refl
+unfolding rows_of_body rows_below up_to_refused
+body-other p body rest e = ap up_to_refused e
 
 -- a file whose first record is a header
-pub body-rows : (p : Params) (body : List ℕ) (fields : List (List ℕ)) (rest : Records) (h : Header) → records_of body ≡ fields ∷ rest → header_of fields ≡ Some h
+pub body-rows : (p : Params) (body : List ℕ) (rest : Records) (h : Header) → rows_of_records p (records_of body) ≡ rows_below p (Some h) rest
     → rows_of_body p body ≡ up_to_refused (rows_from p h 2 rest)
-unfolding rows_of_body rows_of_records rows_below
-body-rows p body fields rest h e header = rw (e, header) refl
+unfolding rows_of_body rows_below
+body-rows p body rest h e = ap up_to_refused e
 
 -- ---- records
 

@@ -9,6 +9,10 @@ use Rattle.fr_base.specs.declared.refusal.Refusal.TheVariants.{CellTaken, BitTak
 use Rattle.fr_text.specs.Report.{lines_of}
 use Rattle.fr_text.specs.Styles.{quoted, json_lines, plain_lines}
 
+-- a refusal that has no fields: its number and its name
+abbrev pub text_of_plain : ℕ → List ℕ → List ℕ
+text_of_plain number name = codes "{\"no\":" ++ decimal number ++ codes ",\"refused\":" ++ quoted name ++ codes "}"
+
 -- a refusal: its number and its name, and of a taken cell or bit what has taken it
 unfoldable pub text_of_refusal : Refusal → List ℕ
 text_of_refusal (CellTaken cycle channel frame) =
@@ -16,8 +20,7 @@ text_of_refusal (CellTaken cycle channel frame) =
     ++ codes ",\"frame\":" ++ quoted frame ++ codes ",\"no\":25,\"refused\":\"CellTaken\"}"
 text_of_refusal (BitTaken bit signal) =
     codes "{\"bit\":" ++ decimal bit ++ codes ",\"no\":27,\"refused\":\"BitTaken\",\"signal\":" ++ quoted signal ++ codes "}"
-text_of_refusal refusal =
-    codes "{\"no\":" ++ decimal (number_of refusal) ++ codes ",\"refused\":" ++ quoted (name_of refusal) ++ codes "}"
+text_of_refusal refusal = text_of_plain (number_of refusal) (name_of refusal)
 
 -- a query's answer: its lines, and which query it answers
 abbrev pub text_of_report : List (List ℕ) → List ℕ → List ℕ

@@ -1,13 +1,14 @@
 //! Writes answers as compact JSON.
 ghost use Rattle.std.specs.Prelude.{◌≡◌, ◌++◌, codes, IfOk, OnOk, OnErr};
-ghost use Rattle.fr_text.specs.AnswerText.{text_of, text_of_report, text_of_imported, text_of_refusal, text_of_row};
+ghost use Rattle.fr_text.specs.AnswerText.{text_of, text_of_report, text_of_imported, text_of_plain, text_of_refusal, text_of_row};
+ghost use Rattle.fr_base.specs.declared.refusal.Refusal.TheVariants as refused;
 ghost use Rattle.fr_text.specs.Styles.{quoted, lines_in};
 ghost use Rattle.fr_text.specs.Words.{Extends};
 
 use crate::report::{Row, push_rows};
 use crate::style::Style;
 use crate::words::{push, push_decimal};
-use fr_base::{Answer, NoMemory, Refusal};
+use fr_base::{Answer, Channel, Name, NoMemory, Refusal};
 use std::alloc::Global;
 
 /// The answer's text: compact JSON, its keys in byte order, with no line feed.
@@ -79,7 +80,6 @@ fn push_refused_row(line: u32, refusal: &Refusal, out: &mut Vec<u8>) -> Result<(
     push("}", out)
 }
 
-#[tactic(auto, using(crate::proofs::WordsLemmas::extending), unfolding(crate::specs::AnswerText::text_of_refusal))]
 fn push_refusal(refusal: &Refusal, out: &mut Vec<u8>) -> Result<(), NoMemory>
     ensures ok { OnOk result (out.new.items ≡ out.old.items ++ text_of_refusal refusal.now) }
     ensures err { OnErr result (Extends out.old.items out.new.items) }
@@ -89,30 +89,54 @@ fn push_refusal(refusal: &Refusal, out: &mut Vec<u8>) -> Result<(), NoMemory>
             cycle,
             channel,
             frame,
-        } => {
-            push("{\"channel\":", out)?;
-            push_quoted(channel.as_str(), out)?;
-            push(",\"cycle\":", out)?;
-            push_decimal(u32::from(*cycle), out)?;
-            push(",\"frame\":", out)?;
-            push_quoted(frame.as_str(), out)?;
-            push(",\"no\":25,\"refused\":\"CellTaken\"}", out)
-        }
-        Refusal::BitTaken { bit, signal } => {
-            push("{\"bit\":", out)?;
-            push_decimal(*bit, out)?;
-            push(",\"no\":27,\"refused\":\"BitTaken\",\"signal\":", out)?;
-            push_quoted(signal.as_str(), out)?;
-            push("}", out)
-        }
-        plain => {
-            push("{\"no\":", out)?;
-            push_decimal(u32::from(plain.number()), out)?;
-            push(",\"refused\":", out)?;
-            push_quoted(plain.name(), out)?;
-            push("}", out)
-        }
+        } => push_cell_taken(*cycle, *channel, *frame, out),
+        Refusal::BitTaken { bit, signal } => push_bit_taken(*bit, *signal, out),
+        plain => push_plain(u32::from(plain.number()), plain.name(), out),
     }
+}
+
+#[tactic(auto, using(crate::proofs::WordsLemmas::extending))]
+fn push_cell_taken(
+    cycle: u8,
+    channel: Channel,
+    frame: Name,
+    out: &mut Vec<u8>,
+) -> Result<(), NoMemory>
+    ensures ok { OnOk result (out.new.items ≡ out.old.items ++ text_of_refusal (refused.CellTaken cycle channel frame)) }
+    ensures err { OnErr result (Extends out.old.items out.new.items) }
+{
+    push("{\"channel\":", out)?;
+    push_quoted(channel.as_str(), out)?;
+    push(",\"cycle\":", out)?;
+    push_decimal(u32::from(cycle), out)?;
+    push(",\"frame\":", out)?;
+    push_quoted(frame.as_str(), out)?;
+    push(",\"no\":25,\"refused\":\"CellTaken\"}", out)
+}
+
+#[tactic(auto, using(crate::proofs::WordsLemmas::extending))]
+fn push_bit_taken(bit: u32, signal: Name, out: &mut Vec<u8>) -> Result<(), NoMemory>
+    ensures ok { OnOk result (out.new.items ≡ out.old.items ++ text_of_refusal (refused.BitTaken bit signal)) }
+    ensures err { OnErr result (Extends out.old.items out.new.items) }
+{
+    push("{\"bit\":", out)?;
+    push_decimal(bit, out)?;
+    push(",\"no\":27,\"refused\":\"BitTaken\",\"signal\":", out)?;
+    push_quoted(signal.as_str(), out)?;
+    push("}", out)
+}
+
+// Appends a refusal that has no fields: its number, and its name.
+#[tactic(auto, using(crate::proofs::WordsLemmas::extending))]
+fn push_plain(number: u32, name: &str, out: &mut Vec<u8>) -> Result<(), NoMemory>
+    ensures ok { OnOk result (out.new.items ≡ out.old.items ++ text_of_plain number name.now) }
+    ensures err { OnErr result (Extends out.old.items out.new.items) }
+{
+    push("{\"no\":", out)?;
+    push_decimal(number, out)?;
+    push(",\"refused\":", out)?;
+    push_quoted(name, out)?;
+    push("}", out)
 }
 
 // Appends the text in double quotes. It has no character that needs an escape.

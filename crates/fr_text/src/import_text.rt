@@ -7,7 +7,8 @@ ghost use Rattle.std.specs.Cmp.Lexicographic.{pointwise};
 ghost use Rattle.csv.specs.Records.{field_at, fields_of};
 ghost use Rattle.fr_base.specs.Names.{same_text};
 ghost use Rattle.fr_base.specs.declared.params.RawParams.{RawParams};
-ghost use Rattle.fr_base.specs.ImportRows.{records_of, spelled, header_of, text_at, number, number_at, placement_in, signal_in, row_of, rows_of_body};
+ghost use Rattle.fr_base.specs.declared.params.Params.{Params};
+ghost use Rattle.fr_base.specs.ImportRows.{records_of, spelled, header_of, text_at, number, number_at, placement_in, signal_in, row_of, rows_from, rows_below, rows_of_records, rows_of_body, up_to_refused};
 
 use csv::{ByteRecord, Reader, ReaderBuilder};
 use fr_base::{Header, MAX_ROWS, Name, NoMemory, Params, Refusal, Row, RowRead, Rows};
@@ -22,34 +23,61 @@ pub fn read_import(alloc: Global, params: &Params, body: &[u8]) -> Result<Rows<R
     let mut records = Records::new(alloc, body);
     let mut fields = ByteRecord::new(alloc);
     let mut rows = Rows::new(alloc);
-    let header = if records.read(&mut fields)? {
-        header_of(&fields)
-    } else {
-        None
-    };
-    let Some(header) = header else {
-        rows.push(RowRead {
+    match read_header(&mut records, &mut fields)? {
+        Some(header) => push_rows(&mut rows, params, header, &mut records, &mut fields)?,
+        None => rows.push(RowRead {
             line: 1,
             row: Err(Refusal::BadText),
-        })?;
-        return Ok(rows);
-    };
+        })?,
+    }
+    Ok(rows)
+}
+
+// Reads the first record, and says which header it is, if it is one.
+#[tactic(auto, unfolding(fr_base::specs::ImportRows::rows_of_records, fr_base::specs::ImportRows::rows_below))]
+fn read_header(
+    records: &mut Records<'_>,
+    fields: &mut ByteRecord,
+) -> Result<Option<Header>, Refusal>
+    ensures { MatchResult result
+        (λ header. (p : Params) → rows_of_records p records.old ≡ rows_below p header records.new)
+        (λ refusal. refusal ≡ Refusal.Unavailable) }
+{
+    if records.read(fields)? {
+        Ok(header_of(fields))
+    } else {
+        Ok(None)
+    }
+}
+
+// Appends the rows that the records behind the header are, up to the first that is refused by its own text.
+fn push_rows(
+    rows: &mut Rows<RowRead>,
+    params: &Params,
+    header: Header,
+    records: &mut Records<'_>,
+    fields: &mut ByteRecord,
+) -> Result<(), Refusal>
+    ensures { MatchResult result
+        (λ _. rows.new ≡ rows.old ++ up_to_refused (rows_from params.now header 2 records.old))
+        (λ refusal. refusal ≡ Refusal.Unavailable) }
+{
     // The header is line 1.
     for line in 2..MAX_ROWS + 2 {
-        if !records.read(&mut fields)? {
-            return Ok(rows);
+        if !records.read(fields)? {
+            return Ok(());
         }
-        if !push_row(&mut rows, line, params, header, &fields)? {
-            return Ok(rows);
+        if !push_row(rows, line, params, header, fields)? {
+            return Ok(());
         }
     }
-    if records.read(&mut fields)? {
+    if records.read(fields)? {
         rows.push(RowRead {
             line: MAX_ROWS + 2,
             row: Err(Refusal::Limit),
         })?;
     }
-    Ok(rows)
+    Ok(())
 }
 
 /// The records of a file that are still to be read.

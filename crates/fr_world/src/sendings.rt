@@ -1,5 +1,6 @@
 //! What placements send in which cell.
 ghost use Rattle.std.specs.Prelude.{◌≡◌, [], ◌∷◌, ◌++◌, ◌<◌, ℕ, false, filter, slice_index_or, IfOk, OnOk, option_map};
+ghost use Rattle.std.specs.List.{cons_option};
 ghost use Rattle.fr_base.specs.Cells.{Cell, cells_in, cluster_cells, slots_of};
 ghost use Rattle.fr_base.specs.Channels.{channels_in};
 ghost use Rattle.fr_base.specs.Schedule.{fill};
@@ -118,27 +119,33 @@ fn push_cycle(
     for slot in slots {
         let places = places_in(tables, *slot, cycle);
         for channel in channels.as_slice() {
-            if let Some(sending) = sending(triggerings, places, cycle, *slot, *channel) {
-                rows.push(sending)?;
-            }
+            push_sending(triggerings, places, cycle, *slot, *channel, rows)?;
         }
     }
     Ok(())
 }
 
-// What is sent in the cell, where these are the places of the first placements in its slot and cycle.
-fn sending(
+// Appends what is sent in the cell, where these are the places of the first placements in its slot and cycle.
+#[inline(always)]
+fn push_sending(
     triggerings: &[FrameTriggering],
     places: FirstPlaces,
     cycle: u8,
     slot: Slot,
     channel: Channel,
-) -> Option<Sending>
+    rows: &mut Rows<Sending>,
+) -> Result<(), NoMemory>
     requires { place_on channel places ≡ first_place triggerings.now (record { cycle = cycle; slot = slot; channel = channel }) }
-    ensures { let cell : Cell = record { cycle = cycle; slot = slot; channel = channel } in result ≡ option_map (λ sender. sending (cell, sender)) (fill (filled triggerings.now) cell) }
+    ensures { let cell : Cell = record { cycle = cycle; slot = slot; channel = channel } in
+        OnOk result (rows.new ≡ rows.old ++ cons_option (option_map (λ sender. sending (cell, sender)) (fill (filled triggerings.now) cell)) []) }
 {
-    let one = triggerings.get(places.on(channel)?)?;
-    Some(Sending {
+    let Some(place) = places.on(channel) else {
+        return Ok(());
+    };
+    let Some(one) = triggerings.get(place) else {
+        return Ok(());
+    };
+    rows.push(Sending {
         cycle,
         slot,
         channel,

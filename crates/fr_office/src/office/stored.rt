@@ -40,6 +40,3 @@ impl<D: Disk + Drop> Office<Store<FileStore<D>>> {
         self.into_store().close()
     }
 }
-
-#[cfg(test)]
-mod tests;

@@ -1,10 +1,8 @@
-use Rattle.std.proofs.Common.{◌∙◌, ◌++◌, [], sym, ap, append-nil, refl, take_all, arith}
-use Rattle.std.specs.List.{cons_option}
+use Rattle.std.proofs.Common.{◌∙◌, ◌++◌, sym, ap, append-nil, refl, take_all, arith}
 use Rattle.fr_base.specs.Channels.{channels_in}
 use Rattle.fr_world.specs.Sendings.{filled, sent_in}
 use Rattle.fr_world.proofs.ScheduleLaws.{cells-column, column, sent-channel, sent-nothing, sent-slot}
 use Rattle.fr_world.proofs.sendings.push_cycle.Goals as goal
-use Rattle.fr_world.proofs.sendings.push_cycle.Goals.{in-Some+in_ok-push, in_default}
 
 pub loop-slot-init : goal.loop-slot-init
 loop-slot-init c = sym (append-nil c.args.rows.now) ∙ ap (λ more. c.args.rows.now ++ more) (sym (sent-nothing (filled c.args.triggerings.now)))
@@ -14,11 +12,8 @@ loop-channel-init c = sym (append-nil c.loop-slot.rows) ∙ ap (λ more. c.loop-
 
 pub loop-channel-preserved : goal.loop-channel-preserved
 loop-channel-preserved c =
-    sent-channel (filled c.args.triggerings.now) c.args.cycle c.slot-item.result c.as_slice-channel-items.result.now c.loop-channel.channel-index _ _ c.loop-slot.rows c.loop-channel.rows _ c.sending.result c.loop-channel-test.true refl c.loop-channel.invariant c.sending.ensures
-    (elim c.match-sending.branch [
-      | in-Some+in_ok-push w ↦ w.rows-is ∙ w.in_ok-push.ensures.ok ∙ ap (λ r. c.loop-channel.rows ++ cons_option r []) (sym w.in-Some.is)
-      | in_default w ↦ w.rows-is ∙ sym (append-nil c.loop-channel.rows) ∙ ap (λ r. c.loop-channel.rows ++ cons_option r []) (sym w.in_default.is)
-    ])
+    sent-channel (filled c.args.triggerings.now) c.args.cycle c.slot-item.result c.as_slice-channel-items.result.now c.loop-channel.channel-index _ _ c.loop-slot.rows c.loop-channel.rows _ _ c.loop-channel-test.true refl c.loop-channel.invariant refl
+    c.in_ok-push_sending.ensures
 
 pub loop-slot-preserved : goal.loop-slot-preserved
 loop-slot-preserved c =

@@ -1,0 +1,253 @@
+//! What the check would let pass: a register in memory that is always `Unavailable`, or runs no list to its end, though
+//! memory is there.
+use crate::asks::{CLUSTER, ask};
+use fr_base::{Actor, Answer, Ask, Name};
+use fr_desks::MemoryDesk;
+use fr_text::{read_config, write_answer};
+use std::alloc::Global;
+use std::test::Fail;
+
+/// With which key, what is asked, and the answer.
+type Line = (&'static str, &'static str, &'static str);
+
+const DONE: &str = r#"{"ok":"done"}"#;
+
+/// A frame of `s1` in a slot.
+const FIRST: [Line; 6] = [
+    (
+        "integrator1",
+        r#"{"do":"open_variant","variant":"v1"}"#,
+        DONE,
+    ),
+    (
+        "integrator1",
+        r#"{"do":"add_node","supplier":"s1","node":"n1"}"#,
+        DONE,
+    ),
+    (
+        "integrator1",
+        r#"{"do":"grant","variant":"v1","slot":1,"channel":"A","supplier":"s1","node":"n1"}"#,
+        DONE,
+    ),
+    (
+        "supplier01",
+        r#"{"do":"add_frame","variant":"v1","frame":"f1","node":"n1"}"#,
+        DONE,
+    ),
+    (
+        "supplier01",
+        r#"{"do":"place","variant":"v1","frame":"f1","slot":1,"channels":"A","base":0,"repetition":64}"#,
+        DONE,
+    ),
+    (
+        "supplier01",
+        r#"{"do":"schedule","variant":"v1"}"#,
+        r#"{"lines":["00 0001 A f1 n1"],"ok":"schedule"}"#,
+    ),
+];
+
+/// After it: one slot for two suppliers and two nodes, and a grant that ends.
+const GRANTS: [Line; 13] = [
+    (
+        "integrator1",
+        r#"{"do":"add_node","supplier":"s2","node":"m1"}"#,
+        DONE,
+    ),
+    (
+        "integrator1",
+        r#"{"do":"grant","variant":"v1","slot":1,"channel":"A","supplier":"s2","node":"m1"}"#,
+        r#"{"no":24,"refused":"Taken"}"#,
+    ),
+    (
+        "supplier01",
+        r#"{"do":"grants","variant":"v1"}"#,
+        r#"{"lines":["0001 A n1"],"ok":"grants"}"#,
+    ),
+    (
+        "supplier02",
+        r#"{"do":"grants","variant":"v1"}"#,
+        r#"{"lines":[],"ok":"grants"}"#,
+    ),
+    (
+        "integrator1",
+        r#"{"do":"grant","variant":"v1","slot":1,"channel":"A","supplier":"s1","node":"n1"}"#,
+        r#"{"no":19,"refused":"Exists"}"#,
+    ),
+    (
+        "integrator1",
+        r#"{"do":"add_node","supplier":"s1","node":"n2"}"#,
+        DONE,
+    ),
+    (
+        "integrator1",
+        r#"{"do":"grant","variant":"v1","slot":1,"channel":"A","supplier":"s1","node":"n2"}"#,
+        r#"{"no":20,"refused":"NodeDiffers"}"#,
+    ),
+    (
+        "integrator1",
+        r#"{"do":"revoke","variant":"v1","slot":1,"channel":"A","supplier":"s1"}"#,
+        r#"{"no":22,"refused":"InUse"}"#,
+    ),
+    (
+        "supplier01",
+        r#"{"do":"unplace","variant":"v1","frame":"f1","slot":1,"channels":"A","base":0,"repetition":64}"#,
+        DONE,
+    ),
+    (
+        "integrator1",
+        r#"{"do":"revoke","variant":"v1","slot":1,"channel":"A","supplier":"s1"}"#,
+        DONE,
+    ),
+    (
+        "integrator1",
+        r#"{"do":"revoke","variant":"v1","slot":1,"channel":"A","supplier":"s1"}"#,
+        r#"{"no":21,"refused":"NotGranted"}"#,
+    ),
+    (
+        "integrator1",
+        r#"{"do":"grant","variant":"v1","slot":2,"channel":"A","supplier":"s2","node":"m1"}"#,
+        DONE,
+    ),
+    (
+        "integrator1",
+        r#"{"do":"revoke","variant":"v1","slot":2,"channel":"A","supplier":"s1"}"#,
+        r#"{"no":21,"refused":"NotGranted"}"#,
+    ),
+];
+
+fn desk(alloc: Global) -> Result<MemoryDesk, Fail> {
+    let config = read_config(alloc, CLUSTER.as_bytes())?;
+    Ok(MemoryDesk::new(alloc, &config)?)
+}
+
+fn push(
+    asks: &mut Vec<Ask>,
+    alloc: Global,
+    desk: &MemoryDesk,
+    key: &str,
+    text: &str,
+) -> Result<(), Fail> {
+    let ask = ask(alloc, desk, key, text)?;
+    Ok(asks.push(ask)?)
+}
+
+fn push_lines(
+    asks: &mut Vec<Ask>,
+    alloc: Global,
+    desk: &MemoryDesk,
+    lines: &[Line],
+) -> Result<(), Fail> {
+    for (key, text, _) in lines {
+        push(asks, alloc, desk, key, text)?;
+    }
+    Ok(())
+}
+
+fn run(alloc: Global, desk: &mut MemoryDesk, asks: &[Ask]) -> Result<Vec<Answer>, Fail> {
+    match desk.run(alloc, asks) {
+        Ok(answers) => Ok(answers),
+        Err(_) => Err(Fail::from("no memory")),
+    }
+}
+
+// Whether the lines, asked as one list, are answered as they say.
+fn are_answered(alloc: Global, desk: &mut MemoryDesk, lines: &[Line]) -> Result<bool, Fail> {
+    let mut asks = Vec::new(alloc);
+    push_lines(&mut asks, alloc, desk, lines)?;
+    let answers = run(alloc, desk, &asks)?;
+    for (answer, (_, text, wanted)) in answers.iter().zip(lines) {
+        if write_answer(alloc, answer)?.as_slice() != wanted.as_bytes() {
+            return Err(Fail::from(*text));
+        }
+    }
+    Ok(answers.len() == lines.len())
+}
+
+#[test]
+fn a_list_of_requests_is_answered(rt: HostRuntime) -> Result<(), Fail> {
+    let mut desk = desk(rt.alloc())?;
+    assert!(rt; are_answered(rt.alloc(), &mut desk, &FIRST)?);
+    assert!(rt; are_answered(rt.alloc(), &mut desk, &GRANTS)?);
+    Ok(())
+}
+
+/// The most frames of a supplier in a variant.
+const MAX_FRAMES: usize = 256;
+
+// Another supplier's, which the integrator serves and which adds a frame more than it may.
+fn push_stranger(asks: &mut Vec<Ask>, alloc: Global, desk: &MemoryDesk) -> Result<(), Fail> {
+    let node = r#"{"do":"add_node","supplier":"s2","node":"m1"}"#;
+    let grant =
+        r#"{"do":"grant","variant":"v1","slot":1,"channel":"B","supplier":"s2","node":"m1"}"#;
+    push(asks, alloc, desk, "integrator1", node)?;
+    push(asks, alloc, desk, "integrator1", grant)?;
+    for number in 0..=MAX_FRAMES {
+        let text = format!(in alloc;
+            r#"{{"do":"add_frame","variant":"v1","frame":"f{number}","node":"m1"}}"#
+        )?;
+        push(asks, alloc, desk, "supplier02", &text)?;
+    }
+    Ok(())
+}
+
+/// What there is of a supplier.
+const SEEN: [&str; 4] = [
+    r#"{"do":"grants","variant":"v1"}"#,
+    r#"{"do":"frames","variant":"v1"}"#,
+    r#"{"do":"schedule","variant":"v1"}"#,
+    r#"{"do":"layout","variant":"v1","frame":"f1"}"#,
+];
+
+// The first requests, and, where there is a stranger, between them those of another supplier; then each supplier looks at all
+// that it has.
+fn requests(alloc: Global, desk: &MemoryDesk, is_stranger_there: bool) -> Result<Vec<Ask>, Fail> {
+    let mut asks = Vec::new(alloc);
+    let (opening, rest) = FIRST.split_at(3);
+    push_lines(&mut asks, alloc, desk, opening)?;
+    if is_stranger_there {
+        push_stranger(&mut asks, alloc, desk)?;
+    }
+    push_lines(&mut asks, alloc, desk, rest)?;
+    for key in ["supplier01", "supplier02"] {
+        for text in SEEN {
+            push(&mut asks, alloc, desk, key, text)?;
+        }
+    }
+    Ok(asks)
+}
+
+// The answers to a supplier in a new register, each on a line of its own.
+fn told(alloc: Global, supplier: &str, is_stranger_there: bool) -> Result<Vec<u8>, Fail> {
+    let supplier = Name::read(supplier).ok_or("no name")?;
+    let mut desk = desk(alloc)?;
+    let asks = requests(alloc, &desk, is_stranger_there)?;
+    let answers = run(alloc, &mut desk, &asks)?;
+    let mut lines = Vec::new(alloc);
+    for (ask, answer) in asks.iter().zip(&answers) {
+        if ask.actor == Actor::Supplier(supplier) {
+            lines.extend_from_slice(write_answer(alloc, answer)?.as_slice())?;
+            lines.push(b'\n')?;
+        }
+    }
+    Ok(lines)
+}
+
+/// Two lists that are alike in what is `s1`'s: its answers are the same, and so is all that it has.
+#[test]
+fn a_supplier_does_not_notice_another(rt: HostRuntime) -> Result<(), Fail> {
+    let alone = told(rt.alloc(), "s1", false)?;
+    assert_eq!(rt; told(rt.alloc(), "s1", true)?, alone);
+    let alone = told(rt.alloc(), "s2", false)?;
+    assert!(rt;
+        alone.starts_with(b"{\"lines\":[],\"ok\":\"grants\"}\n{\"lines\":[],\"ok\":\"frames\"}\n")
+    );
+    let served = told(rt.alloc(), "s2", true)?;
+    let (frames, seen) = served.split_at(14 * MAX_FRAMES);
+    assert!(rt; frames.ends_with(b"{\"ok\":\"done\"}\n"));
+    assert!(rt;
+        seen.starts_with(
+            b"{\"no\":23,\"refused\":\"Limit\"}\n{\"lines\":[\"0001 B m1\"],\"ok\":\"grants\"}\n"
+        )
+    );
+    Ok(())
+}
