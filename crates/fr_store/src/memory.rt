@@ -111,6 +111,26 @@ impl Disk for MemoryFile {
 /// With what the log is salted. Nobody else has it.
 const SALT: u64 = 1;
 
+/// How many bytes a page of a register in memory has. A change copies each page that it touches; over smaller ones there
+/// are more levels of pages.
+const PAGE_BYTES: usize = 1_024;
+
+/// With what a database begins that has no table and one page of so many bytes: its header, and the head of an empty
+/// leaf. What comes behind it is zero.
+const FRONT: &[u8; 108] = b"SQLite format 3\0\x04\0\x02\x02\0@  \0\0\0\x01\0\0\0\x01\
+\0\0\0\0\0\0\0\0\0\0\0\0\0\0\0\x04\0\0\0\0\0\0\0\0\0\0\0\x01\0\0\0\0\0\0\0\0\0\0\0\0\
+\0\0\0\0\0\0\0\0\0\0\0\0\0\0\0\0\0\0\0\0\0\0\0\x01\0\x2e\x63\x01\x0d\0\0\0\0\x04\0\0";
+
+/// The file of a database that has no table.
+fn empty_database(alloc: Global) -> Result<MemoryFile, AllocError>
+    ensures { IfOk result (λ file. length file.bytes.items ≡ 1024) }
+{
+    let mut file = MemoryFile::new(alloc);
+    overwrite(&mut file.bytes, 0, FRONT)?;
+    resize(&mut file.bytes, PAGE_BYTES)?;
+    Ok(file)
+}
+
 impl Store<FileStore<MemoryFile>> {
     /// A register of this cluster in memory.
     pub fn create_in_memory(
@@ -124,9 +144,12 @@ impl Store<FileStore<MemoryFile>> {
         ensures outside { IfOk result (λ s. s.conn.in_transaction ≡ false) }
         ensures told { IfErr result (λ e. e ≡ fault.Unavailable) }
     {
+        let Ok(db) = empty_database(alloc) else {
+            return Err(StoreFault::Unavailable);
+        };
         let files = Files {
             log: MemoryFile::new(alloc),
-            db: MemoryFile::new(alloc),
+            db,
         };
         match Store::create(alloc, files, config, Options::new(SALT)) {
             Ok(store) => Ok(store),

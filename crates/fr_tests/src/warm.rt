@@ -211,7 +211,12 @@ fn a_page_is_read_once_until_it_is_let_go_and_imports_are_counted_once(
 /// As many pages without rows as one shelf has room for.
 const FULL: usize = MAX_BYTES / 8_192;
 
-// A supplier of which each page is without rows reads that of each of these variants.
+// A supplier of which each page is without rows looks at its frames in the variant.
+fn use_page(alloc: Global, office: &mut Office<Counted>, number: usize) -> Result<(), Fail> {
+    let text = format!(in alloc; r#"{{"do":"frames","variant":"v{number}"}}"#)?;
+    asked(alloc, office, "supplier02", &text)
+}
+
 fn use_pages(
     alloc: Global,
     office: &mut Office<Counted>,
@@ -219,8 +224,7 @@ fn use_pages(
     past: usize,
 ) -> Result<(), Fail> {
     for number in first..past {
-        let text = format!(in alloc; r#"{{"do":"frames","variant":"v{number}"}}"#)?;
-        asked(alloc, office, "supplier02", &text)?;
+        use_page(alloc, office, number)?;
     }
     Ok(())
 }
@@ -229,7 +233,7 @@ fn use_pages(
 fn filled(alloc: Global) -> Result<Office<Counted>, Fail> {
     let mut office = office(alloc)?;
     use_pages(alloc, &mut office, 1, FULL + 2)?;
-    use_pages(alloc, &mut office, 1, 2)?;
+    use_page(alloc, &mut office, 1)?;
     use_pages(alloc, &mut office, FULL + 2, 2 * FULL + 1)?;
     Ok(office)
 }
@@ -237,7 +241,7 @@ fn filled(alloc: Global) -> Result<Office<Counted>, Fail> {
 // How often a page is read until this one is used again.
 fn reads_of(alloc: Global, number: usize) -> Result<usize, Fail> {
     let mut office = filled(alloc)?;
-    use_pages(alloc, &mut office, number, number + 1)?;
+    use_page(alloc, &mut office, number)?;
     Ok(office.into_records().reads as usize)
 }
 
@@ -256,8 +260,8 @@ fn a_release_lets_go_of_its_variants_pages(rt: HostRuntime) -> Result<(), Fail> 
     let mut office = filled(rt.alloc())?;
     let release = r#"{"do":"release","variant":"v1"}"#;
     asked(rt.alloc(), &mut office, "integrator1", release)?;
-    use_pages(rt.alloc(), &mut office, FULL + 1, FULL + 2)?;
-    use_pages(rt.alloc(), &mut office, 1, 2)?;
+    use_page(rt.alloc(), &mut office, FULL + 1)?;
+    use_page(rt.alloc(), &mut office, 1)?;
     assert_eq!(rt; office.into_records().reads as usize, 2 * FULL + 1);
     Ok(())
 }
