@@ -246,7 +246,7 @@ struct Told {
     rows: Vec<u8>,
 }
 
-fn told(alloc: Global, supplier: &str, is_stranger_there: bool) -> Result<Told, Fail> {
+fn served(alloc: Global, supplier: &str, is_stranger_there: bool) -> Result<Told, Fail> {
     let supplier = Name::read(supplier).ok_or("no name")?;
     let mut desk = desk(alloc)?;
     let asks = requests(alloc, &desk, is_stranger_there)?;
@@ -259,12 +259,12 @@ fn told(alloc: Global, supplier: &str, is_stranger_there: bool) -> Result<Told, 
 /// Two lists that are alike in what is `s1`'s: its answers are the same, and so is all that it has.
 #[test]
 fn a_supplier_does_not_notice_another(rt: HostRuntime) -> Result<(), Fail> {
-    let alone = told(rt.alloc(), "s1", false)?;
-    let beside = told(rt.alloc(), "s1", true)?;
+    let alone = served(rt.alloc(), "s1", false)?;
+    let beside = served(rt.alloc(), "s1", true)?;
     assert_eq!(rt; alone.answers, beside.answers);
     assert_eq!(rt; alone.rows, beside.rows);
-    let alone = told(rt.alloc(), "s2", false)?;
-    let beside = told(rt.alloc(), "s2", true)?;
+    let alone = served(rt.alloc(), "s2", false)?;
+    let beside = served(rt.alloc(), "s2", true)?;
     let end = b"{\"ok\":\"done\"}\n{\"no\":23,\"refused\":\"Limit\"}\n";
     assert!(rt; beside.answers.ends_with(end));
     assert!(rt; alone.rows != beside.rows);
