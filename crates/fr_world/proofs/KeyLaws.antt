@@ -1,6 +1,9 @@
 -- The keys of maps and sets compare as the register's.
 use Rattle.std.proofs.Common.{◌≡◌, ℕ, List, [], ◌∷◌, Ordering, refl, sym, ap, subst, ◌∙◌}
-use Rattle.std.specs.Ordering.{ordering_then}
+use Rattle.std.specs.Prelude.{◌&&◌, false, nat_eq, true}
+use Rattle.std.specs.Ordering.{is_eq, ordering_then}
+use Rattle.std.specs.declared.cmp.Ordering.TheVariants.{Less, Equal, Greater}
+use Rattle.std.proofs.lemmas.Bool.{eqb-false}
 use Rattle.std.specs.Cmp.{tied_itself}
 use Rattle.std.specs.List.Sorted.{IsStrictlySortedBy}
 use Rattle.std.specs.Map.{keys_of}
@@ -14,6 +17,8 @@ use Rattle.fr_base.specs.declared.placement.Placement.{Placement}
 use Rattle.fr_base.specs.Cycles.{Cycles}
 use Rattle.fr_base.specs.contracts.name.NameOrd.TheImpl as by_text
 use Rattle.fr_base.specs.contracts.placement.PlacementOrd.TheImpl as by_cells
+use Rattle.fr_base.specs.Names.{same_text}
+use Rattle.fr_world.specs.Occupancies.{is_pair}
 use Rattle.fr_world.specs.Pages.{FrameData, compare_slots, frames_data}
 use Rattle.fr_world.specs.declared.page.ChannelSlot.{ChannelSlot}
 use Rattle.fr_world.specs.declared.page.PageFrame.{PageFrame}
@@ -57,6 +62,23 @@ placements_alike_parts k l channels.B channels.B r s = refl
 
 pub placements_alike : (x y : Placement) → placement_cmp x y ≡ placement_order.compare x y
 placements_alike x y = placements_alike_parts x.slot y.slot x.channels y.channels x.cycles y.cycles
+
+-- of placements in two slots neither is the other
+pub slots_apart : (x y : Placement) → nat_eq x.slot y.slot ≡ false → is_eq (placement_order.compare x y) ≡ false
+slots_apart x y apart =
+    elim (placement_order.compare x y) as (λ r. placement_order.compare x y ≡ r → is_eq r ≡ false) [
+      | Less ↦ λ tie. refl
+      | Equal ↦ λ tie. absurd (eqb-false x.slot y.slot apart (ap (λ (q : Placement). q.slot) (placement_order.exact x y tie)))
+      | Greater ↦ λ tie. refl
+    ] refl
+
+-- so no pair with the one is a pair with the other
+pub pairs_apart : (f g : Name) (x y : Placement) → nat_eq x.slot y.slot ≡ false → is_pair g y (f, x) ≡ false
+pairs_apart f g x y apart =
+    elim (same_text f g) as (λ b. (b && is_eq (placement_order.compare x y)) ≡ false) [
+      | true ↦ slots_apart x y apart
+      | false ↦ refl
+    ]
 
 -- ---- keys that rise
 

@@ -135,11 +135,14 @@ impl Occupancy for RowOccupancy {
     }
 }
 
-// Whether the row is that of this frame and placement.
+// Whether the row is that of this frame and placement. Most rows are in another slot.
 #[tactic(auto, using(crate::proofs::KeyLaws::placements_alike))]
 fn is_row(row: &Row, frame: Name, placement: &Placement) -> bool
     ensures { result ≡ is_pair frame placement.now (row.now.frame, row.now.placement) }
 {
+    if row.placement.slot != placement.slot {
+        return false;
+    }
     row.frame == frame && row.placement.cmp(placement).is_eq()
 }
 
