@@ -13,6 +13,8 @@ mod page_rows;
 #[cfg(test)]
 mod registers;
 #[cfg(test)]
+mod reopened;
+#[cfg(test)]
 mod running;
 #[cfg(test)]
 mod warm;

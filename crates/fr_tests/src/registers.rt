@@ -1,52 +1,13 @@
 //! What the check would let pass: a register in memory that is always `Unavailable`, or runs no list to its end, though
 //! memory is there.
-use crate::asks::{CLUSTER, ask};
-use fr_base::{Actor, Answer, Ask, Name};
+use crate::asks::{CLUSTER, DONE, FIRST, Line, are_answers, ask, push, push_lines};
+use fr_base::{Actor, Answer, Ask, Desk, Name};
 use fr_desks::MemoryDesk;
-use fr_text::{read_config, write_answer};
+use fr_text::{read_config, write_answer, write_layout};
 use std::alloc::Global;
 use std::test::Fail;
 
-/// With which key, what is asked, and the answer.
-type Line = (&'static str, &'static str, &'static str);
-
-const DONE: &str = r#"{"ok":"done"}"#;
-
-/// A frame of `s1` in a slot.
-const FIRST: [Line; 6] = [
-    (
-        "integrator1",
-        r#"{"do":"open_variant","variant":"v1"}"#,
-        DONE,
-    ),
-    (
-        "integrator1",
-        r#"{"do":"add_node","supplier":"s1","node":"n1"}"#,
-        DONE,
-    ),
-    (
-        "integrator1",
-        r#"{"do":"grant","variant":"v1","slot":1,"channel":"A","supplier":"s1","node":"n1"}"#,
-        DONE,
-    ),
-    (
-        "supplier01",
-        r#"{"do":"add_frame","variant":"v1","frame":"f1","node":"n1"}"#,
-        DONE,
-    ),
-    (
-        "supplier01",
-        r#"{"do":"place","variant":"v1","frame":"f1","slot":1,"channels":"A","base":0,"repetition":64}"#,
-        DONE,
-    ),
-    (
-        "supplier01",
-        r#"{"do":"schedule","variant":"v1"}"#,
-        r#"{"lines":["00 0001 A f1 n1"],"ok":"schedule"}"#,
-    ),
-];
-
-/// After it: one slot for two suppliers and two nodes, and a grant that ends.
+/// After the first requests: one slot for two suppliers and two nodes, and a grant that ends.
 const GRANTS: [Line; 13] = [
     (
         "integrator1",
@@ -115,32 +76,25 @@ const GRANTS: [Line; 13] = [
     ),
 ];
 
+const LAYOUT: &str = r#"{"do":"layout","variant":"v1","frame":"f1"}"#;
+
+/// After the first requests: a signal, and how the frame is laid out then.
+const SIGNAL: [Line; 2] = [
+    (
+        "supplier01",
+        r#"{"do":"add_signal","variant":"v1","frame":"f1","signal":"x","start":4,"length":8,"order":"little"}"#,
+        DONE,
+    ),
+    (
+        "supplier01",
+        LAYOUT,
+        r#"{"lines":["0004 08 little x"],"ok":"layout"}"#,
+    ),
+];
+
 fn desk(alloc: Global) -> Result<MemoryDesk, Fail> {
     let config = read_config(alloc, CLUSTER.as_bytes())?;
     Ok(MemoryDesk::new(alloc, &config)?)
-}
-
-fn push(
-    asks: &mut Vec<Ask>,
-    alloc: Global,
-    desk: &MemoryDesk,
-    key: &str,
-    text: &str,
-) -> Result<(), Fail> {
-    let ask = ask(alloc, desk, key, text)?;
-    Ok(asks.push(ask)?)
-}
-
-fn push_lines(
-    asks: &mut Vec<Ask>,
-    alloc: Global,
-    desk: &MemoryDesk,
-    lines: &[Line],
-) -> Result<(), Fail> {
-    for (key, text, _) in lines {
-        push(asks, alloc, desk, key, text)?;
-    }
-    Ok(())
 }
 
 fn run(alloc: Global, desk: &mut MemoryDesk, asks: &[Ask]) -> Result<Vec<Answer>, Fail> {
@@ -155,12 +109,7 @@ fn are_answered(alloc: Global, desk: &mut MemoryDesk, lines: &[Line]) -> Result<
     let mut asks = Vec::new(alloc);
     push_lines(&mut asks, alloc, desk, lines)?;
     let answers = run(alloc, desk, &asks)?;
-    for (answer, (_, text, wanted)) in answers.iter().zip(lines) {
-        if write_answer(alloc, answer)?.as_slice() != wanted.as_bytes() {
-            return Err(Fail::from(*text));
-        }
-    }
-    Ok(answers.len() == lines.len())
+    are_answers(alloc, &answers, lines)
 }
 
 #[test]
@@ -168,6 +117,23 @@ fn a_list_of_requests_is_answered(rt: HostRuntime) -> Result<(), Fail> {
     let mut desk = desk(rt.alloc())?;
     assert!(rt; are_answered(rt.alloc(), &mut desk, &FIRST)?);
     assert!(rt; are_answered(rt.alloc(), &mut desk, &GRANTS)?);
+    Ok(())
+}
+
+// The lines of the frame's layout.
+fn layout(alloc: Global, desk: &mut MemoryDesk) -> Result<Vec<u8>, Fail> {
+    let ask = ask(alloc, desk, "supplier01", LAYOUT)?;
+    let answer = desk.ask(alloc, &ask);
+    Ok(write_layout(alloc, &answer)?)
+}
+
+#[test]
+fn a_layout_is_written(rt: HostRuntime) -> Result<(), Fail> {
+    let mut desk = desk(rt.alloc())?;
+    assert!(rt; are_answered(rt.alloc(), &mut desk, &FIRST)?);
+    assert!(rt; are_answered(rt.alloc(), &mut desk, &SIGNAL)?);
+    let lines = layout(rt.alloc(), &mut desk)?;
+    assert!(rt; lines.as_slice() == b"0004 08 little x\n".as_slice());
     Ok(())
 }
 
