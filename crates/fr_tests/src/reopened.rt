@@ -27,14 +27,13 @@ fn config(alloc: Global) -> Result<Config, Fail> {
     Ok(read_config(alloc, CLUSTER.as_bytes())?)
 }
 
-// The office of the records, once it has answered the first requests.
-fn asked<R: Records + Drop>(alloc: Global, records: R) -> Result<Office<R>, Fail> {
-    let mut office = Office::new(alloc, records);
+// Whether the first requests, asked as one list, are answered as they say.
+fn are_answered<R: Records>(alloc: Global, office: &mut Office<R>) -> Result<bool, Fail> {
     let mut asks = Vec::new(alloc);
-    push_lines(&mut asks, alloc, &office, &FIRST)?;
+    push_lines(&mut asks, alloc, office, &FIRST)?;
     match office.run(alloc, &asks) {
-        Ok(answers) if are_answers(alloc, &answers, &FIRST)? => Ok(office),
-        _ => Err(Fail::from("the list stopped")),
+        Ok(answers) => are_answers(alloc, &answers, &FIRST),
+        Err(_) => Err(Fail::from("no memory")),
     }
 }
 
@@ -100,7 +99,10 @@ fn filled<D: Disk + Drop>(alloc: Global, files: Files<D>) -> Result<Files<D>, Fa
     requires db { IsTrue (D.Disk.is_usable files.db) }
     ensures { IfOk result (λ files. IsTrue (D.Disk.is_usable files.log) × IsTrue (D.Disk.is_usable files.db)) }
 {
-    let office = asked(alloc, created(alloc, files)??)?;
+    let mut office = Office::new(alloc, created(alloc, files)??);
+    if !are_answered(alloc, &mut office)? {
+        return Err(Fail::from("other answers"));
+    }
     Ok(office.close()?)
 }
 
