@@ -1,8 +1,8 @@
 -- What is sent in cells, cell by cell.
-use Rattle.std.proofs.Common.{◌≡◌, ℕ, zero, suc, ◌+◌, ◌≤◌, ◌<◌, true, false, ◌&&◌, ◌||◌, cond, eqb, List, [], length, take, get_or, ◌∷◌, ◌++◌, map, filter, Option, Some, None, option_map, refl, sym, ap, ◌∙◌, arith, add-zero, append_assoc, append-nil}
+use Rattle.std.proofs.Common.{◌≡◌, ℕ, zero, suc, ◌+◌, ◌-◌, ◌≤◌, ◌<◌, true, false, ◌&&◌, ◌||◌, cond, eqb, List, [], length, take, get_or, ◌∷◌, ◌++◌, map, filter, Option, Some, None, option_map, min, refl, sym, ap, ◌∙◌, inl, inr, arith, add-zero, append_assoc, append-nil}
 use Rattle.std.specs.Prelude.{nat_le}
 use Rattle.std.specs.List.{cons_option, flat_map, range_with_len}
-use Rattle.std.proofs.lemmas.Bool.{and_from}
+use Rattle.std.proofs.lemmas.Bool.{and_from, cases_lt}
 use Rattle.std.proofs.lemmas.Grind.{flat_map-append}
 use Rattle.std.proofs.lemmas.Bool.Decides.{nat_tests}
 use Rattle.std.proofs.lemmas.List.{map-append, take_more}
@@ -214,6 +214,32 @@ used-more ps old new number m n e f h g =
     ∙ (λ i. h i ++ filter (is_used ps) (e i ∷ []))
     ∙ sym (filter-append (is_used ps) (range_with_len 1 m) ((1 + m) ∷ []))
     ∙ ap (filter (is_used ps)) (sym (range-more 1 m) ∙ ap (range_with_len 1) (sym f))
+
+-- slots past the last one that is used can be left out
+unused-past : (ps : List FrameTriggering) (n k : ℕ) → ((slot : ℕ) → n < slot → is_used ps slot ≡ false) → filter (is_used ps) (range_with_len 1 (n + k)) ≡ filter (is_used ps) (range_with_len 1 n)
+unused-past ps n zero h = ap (λ m. filter (is_used ps) (range_with_len 1 m)) (add-zero n)
+unused-past ps n (suc k) h =
+    let more : n + suc k ≡ suc (n + k) = omega arith in
+    let used : List ℕ = filter (is_used ps) (range_with_len 1 (n + k)) in
+    ap (λ m. filter (is_used ps) (range_with_len 1 m)) more
+    ∙ ap (filter (is_used ps)) (range-more 1 (n + k))
+    ∙ filter-append (is_used ps) (range_with_len 1 (n + k)) ((1 + (n + k)) ∷ [])
+    ∙ ap (λ b. used ++ cond b ((1 + (n + k)) ∷ []) []) (h (1 + (n + k)) (omega arith))
+    ∙ append-nil used
+    ∙ unused-past ps n k h
+
+pub used-to : (ps : List FrameTriggering) (n last all : ℕ) → n ≡ min all last → ((slot : ℕ) → last < slot → is_used ps slot ≡ false) → filter (is_used ps) (range_with_len 1 n) ≡ filter (is_used ps) (range_with_len 1 all)
+used-to ps n last all e h = elim (cases_lt all last) [
+  | inl l ↦
+      let same : n ≡ all = omega (arith, e, l) in
+      ap (λ m. filter (is_used ps) (range_with_len 1 m)) same
+  | inr l ↦
+      let same : n ≡ last = omega (arith, e, l) in
+      let rest : last + (all - last) ≡ all = omega (arith, l) in
+      ap (λ m. filter (is_used ps) (range_with_len 1 m)) same
+      ∙ sym (unused-past ps last (all - last) h)
+      ∙ ap (λ m. filter (is_used ps) (range_with_len 1 m)) rest
+]
 
 -- ---- numbers of slots
 

@@ -1,6 +1,6 @@
 -- The slots that placements are in, marked one by one.
 use Rattle.std.proofs.Common.{◌≡◌, ℕ, ◌+◌, ◌<◌, Bool, true, false, ◌||◌, eqb, List, length, take, get_or, set, sym, ap, ◌∙◌, inl, inr, true≢false}
-use Rattle.std.proofs.lemmas.Bool.{cases_Bool, eqb-true, eq-eqb, or_right}
+use Rattle.std.proofs.lemmas.Bool.{cases_Bool, eqb-true, eq-eqb, ne_eqb, or_right}
 use Rattle.std.proofs.lemmas.List.{get_or-set_other, get_or-set_same}
 use Rattle.std.proofs.lemmas.List.Folds.{list_any_more}
 use Rattle.fr_world.specs.Sendings.{is_used}
@@ -10,6 +10,10 @@ use Rattle.fr_world.proofs.MaskLaws.{or_none}
 -- with one placement more
 used-next : (ps : List FrameTriggering) (i slot : ℕ) (p : FrameTriggering) → i < length ps → p ≡ get_or ps i p → is_used (take (i + 1) ps) slot ≡ (is_used (take i ps) slot || eqb slot p.placement.slot)
 used-next ps i slot p l e = list_any_more (λ p. eqb slot p.placement.slot) ps i p l ∙ ap (λ q. is_used (take i ps) slot || eqb slot q.placement.slot) (sym e)
+
+-- in a slot of no placement before, with one in another slot
+pub unused-next : (ps : List FrameTriggering) (i slot : ℕ) (p : FrameTriggering) → i < length ps → p ≡ get_or ps i p → is_used (take i ps) slot ≡ false → (slot ≡ p.placement.slot → ⊥) → is_used (take (i + 1) ps) slot ≡ false
+unused-next ps i slot p l e before other = used-next ps i slot p l e ∙ ap (λ b. b || eqb slot p.placement.slot) before ∙ ne_eqb _ _ other
 
 -- its slot is marked
 pub marked-next : (ps : List FrameTriggering) (i slot number : ℕ) (p : FrameTriggering) (marks : List Bool) → i < length ps → p ≡ get_or ps i p → number ≡ p.placement.slot → number < length marks

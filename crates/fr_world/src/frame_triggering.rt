@@ -47,13 +47,14 @@ pub fn push_frame(
     ensures ok { OnOk result (filled triggerings.new.items ≡ filled triggerings.old.items ++ filled_by (supplier, name) (frame_of (frame_data frame.now))) }
     ensures err { OnErr result (Extends triggerings.old.items triggerings.new.items) }
 {
+    triggerings.reserve(frame.placements.len())?;
     for placement in frame.placements.iter() {
-        triggerings.push(FrameTriggering {
+        triggerings.push_reserved(FrameTriggering {
             placement: *placement,
             supplier,
             frame: name,
             node: frame.node,
-        })?;
+        });
     }
     Ok(())
 }

@@ -1,6 +1,6 @@
 //! What placements send in which cell.
-ghost use Rattle.std.specs.Prelude.{◌≡◌, [], ◌∷◌, ◌++◌, ◌<◌, ℕ, false, filter, slice_index_or, IfOk, OnOk, option_map};
-ghost use Rattle.std.specs.List.{cons_option};
+ghost use Rattle.std.specs.Prelude.{◌≡◌, [], ◌∷◌, ◌++◌, ◌<◌, ◌≤◌, ℕ, false, filter, slice_index_or, IfOk, OnOk, option_map};
+ghost use Rattle.std.specs.List.{cons_option, range_with_len};
 ghost use Rattle.fr_base.specs.Cells.{Cell, cells_in, cluster_cells, slots_of};
 ghost use Rattle.fr_base.specs.Channels.{channels_in};
 ghost use Rattle.fr_base.specs.Schedule.{fill};
@@ -24,7 +24,7 @@ pub fn schedule(
 {
     let slots = used_slots(alloc, params, triggerings)?;
     let tables = slot_tables(alloc, triggerings)?;
-    let mut rows = Rows::with_capacity(alloc, cell_count(triggerings))?;
+    let mut rows = Rows::with_capacity(alloc, triggerings.len())?;
     for cycle in 0..CYCLE_COUNT as u8 {
         push_cycle(
             triggerings,
@@ -54,17 +54,6 @@ pub(crate) fn push_sendings(
     push_cycle(triggerings, &tables, &slots, params.channels(), cycle, rows)
 }
 
-// How many cells these placements have, each as often as one has it.
-fn cell_count(triggerings: &[FrameTriggering]) -> usize {
-    let mut count = 0_usize;
-    for one in triggerings {
-        let cycles = CYCLE_COUNT / u32::from(one.placement.cycles.repetition());
-        let channels = one.placement.channels.as_slice().len();
-        count = count.saturating_add((cycles as usize).saturating_mul(channels));
-    }
-    count
-}
-
 // The static slots that a placement is in, in order.
 fn used_slots(
     alloc: Global,
@@ -73,9 +62,35 @@ fn used_slots(
 ) -> Result<Vec<Slot>, NoMemory>
     ensures { IfOk result (λ slots. slots.items ≡ filter (is_used triggerings.now) (slots_of params.now)) }
 {
+    let last = params.static_slots().min(last_slot(triggerings));
+    used_slots_to(alloc, triggerings, last)
+}
+
+// The number of the last slot that a placement is in, or 1 where there is none.
+fn last_slot(triggerings: &[FrameTriggering]) -> u32
+    ensures some { 1 ≤ result }
+    ensures none_past { (slot : ℕ) → result < slot → is_used triggerings.now slot ≡ false }
+{
+    let mut last = 1_u32;
+    for one in triggerings {
+        last = last.max(one.placement.slot.get());
+    }
+    last
+}
+
+// The slots up to this one that a placement is in, in order.
+fn used_slots_to(
+    alloc: Global,
+    triggerings: &[FrameTriggering],
+    last: u32,
+) -> Result<Vec<Slot>, NoMemory>
+    requires some { 1 ≤ last }
+    requires within { last ≤ 1023 }
+    ensures { IfOk result (λ slots. slots.items ≡ filter (is_used triggerings.now) (range_with_len 1 last)) }
+{
     let marks = slot_marks(triggerings);
     let mut slots = Vec::new(alloc);
-    for number in 1..=params.static_slots() {
+    for number in 1..=last {
         if let Some(slot) = Slot::new(number) {
             if is_marked(&marks, slot) {
                 slots.push(slot)?;

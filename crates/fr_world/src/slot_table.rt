@@ -61,7 +61,9 @@ impl SlotTable {
     pub(crate) fn claim(&mut self, placement: &Placement, place: usize) -> Result<(), NoMemory>
         ensures { OnOk result (IsClaimed placement.now place self.old self.new) }
     {
-        self.cycles.resize(CYCLE_COUNT as usize, NO_PLACES)?;
+        if self.cycles.len() < CYCLE_COUNT as usize {
+            self.cycles.resize(CYCLE_COUNT as usize, NO_PLACES)?;
+        }
         claim_cycles(&mut self.cycles, placement, place);
         Ok(())
     }
@@ -82,11 +84,11 @@ impl FirstPlaces {
     fn claim(&mut self, channels: Channels, place: usize)
         ensures { (x : OneChannel) → place_on x self.new ≡ option_or (place_on x self.old) (if has_channel channels x then Some place else None) }
     {
-        if channels.has(Channel::A) {
-            self.a = self.a.or(Some(place));
+        if channels.has(Channel::A) && self.a.is_none() {
+            self.a = Some(place);
         }
-        if channels.has(Channel::B) {
-            self.b = self.b.or(Some(place));
+        if channels.has(Channel::B) && self.b.is_none() {
+            self.b = Some(place);
         }
     }
 }
@@ -129,6 +131,7 @@ fn make_room(alloc: Global, tables: &mut Vec<SlotTable>, number: usize) -> Resul
 }
 
 // The placement takes those of its cells that no placement has, cycle by cycle.
+#[inline(always)]
 fn claim_cycles(cycles: &mut [FirstPlaces], placement: &Placement, place: usize)
     requires { length cycles.old ≡ 64 }
     ensures len { length cycles.new ≡ 64 }

@@ -1,7 +1,7 @@
 use Rattle.std.proofs.Common.{◌≡◌, ◌-◌, filter}
 use Rattle.std.specs.List.{range_with_len}
 use Rattle.fr_world.specs.Sendings.{is_used}
-use Rattle.fr_world.proofs.sendings.used_slots.Given as goal
+use Rattle.fr_world.proofs.sendings.used_slots_to.Given as goal
 
 -- the slots before that a placement is in
 abbrev pub invariant-loop-number : goal.invariant-loop-number
