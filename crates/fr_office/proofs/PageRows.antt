@@ -15,7 +15,7 @@ use Rattle.fr_base.specs.declared.name.Name.{Name}
 use Rattle.fr_base.specs.declared.params.Params.{Params}
 use Rattle.fr_base.specs.declared.placement.Placement.{Placement}
 use Rattle.fr_world.specs.Pages.{IsKept, IsPageFrame, PageData, frame_data, frame_of, frames_data, holder_of, own_rows_of}
-use Rattle.fr_world.specs.Sendings.{filled_by, sent_in}
+use Rattle.fr_world.specs.Sendings.{sent_in}
 use Rattle.fr_world.specs.declared.page.ChannelSlot.{ChannelSlot}
 use Rattle.fr_world.specs.declared.page.PageFrame.{PageFrame}
 use Rattle.fr_world.proofs.AmongLaws.{In, In-map}
@@ -58,10 +58,6 @@ module _ (page : PageData) (es : List (Name × PageFrame)) (e : frames_data es �
   pub gaps-page : (p : Params) → frames_shown (λ e. gap_row p e ∷ []) page.supplier es ≡ gaps_of p (own_rows_of page).frames
   unfolding gaps_of
   gaps-page p = shown-page (λ e. gap_row p e ∷ []) ∙ (flat_map_single (gap_row p) (own_rows_of page).frames.rows)
-
-  pub placements-page : frames_shown (λ e. filled_by e.0 e.1) page.supplier es ≡ book.placements_of (own_rows_of page).frames
-  unfolding book.placements_of
-  placements-page = shown-page (λ e. filled_by e.0 e.1)
 
   -- each of them is a page's frame
   pub kept-frames : IsKept page → All (λ e. IsPageFrame (own_rows_of page) (entry page.supplier e).1) es

@@ -10,7 +10,7 @@ use fr_base::{
 };
 use fr_world::{
     Edit, MaskOccupancy, Occupancy, Page, PageFrame, PageRows, RowFault, RowOccupancy, TakenCell,
-    decide, decide_rows, frame_row, push_frame, push_signal_rows, schedule, sent,
+    Triggerings, decide, decide_rows, frame_row, push_signal_rows, sent,
 };
 use std::alloc::Global;
 use std::test::Fail;
@@ -166,11 +166,9 @@ fn first_frame(alloc: Global, page: &Page) -> Result<(usize, usize), Fail> {
 
 // How many lines the schedule of the page's frames has.
 fn line_count(alloc: Global, page: &Page) -> Result<usize, Fail> {
-    let mut triggerings = Vec::new(alloc);
-    for (name, row) in page.frames().iter() {
-        push_frame(page.supplier(), *name, row, &mut triggerings)?;
-    }
-    Ok(schedule(alloc, &page.params(), &triggerings)?.len())
+    let mut triggerings = Triggerings::new(alloc);
+    triggerings.push_page(page)?;
+    Ok(triggerings.schedule(alloc, &page.params())?.len())
 }
 
 // So it does at the limits.

@@ -1,25 +1,25 @@
 -- The places of the first placements, noted placement by placement.
-use Rattle.std.proofs.Common.{◌≡◌, ℕ, suc, ◌+◌, ◌<◌, Bool, true, false, cond, eqb, List, [], ◌∷◌, ◌++◌, length, take, get_or, set, Option, Some, None, option_map, refl, sym, ap, ◌∙◌, inl, inr, arith, true≢false, add-zero, add-one}
+use Rattle.std.proofs.Common.{◌≡◌, ℕ, suc, ◌+◌, ◌<◌, Bool, true, false, cond, eqb, List, [], ◌∷◌, ◌++◌, length, take, get_or, set, Option, Some, None, option_map, refl, sym, ap, subst, ◌∙◌, inl, inr, arith, true≢false, add-zero, add-one}
 use Rattle.std.specs.List.{position, position_from}
 use Rattle.std.specs.Option.{option_or}
 use Rattle.std.proofs.lemmas.Bool.{cases_Bool, cases_order, eq-eqb, eqb-true}
 use Rattle.std.proofs.lemmas.Iterator.Adapters.{position_from-zero}
 use Rattle.std.proofs.Math.Seq.{get_or-append_seam}
 use Rattle.std.proofs.lemmas.List.{get_or-set_other, get_or-set_same, get_or_append_left, get_or_default, get_or_past, length-append, length-take-le, take_more}
+use Rattle.std.proofs.lemmas.List.Elements.{All-get_or}
 use Rattle.std.proofs.lemmas.List.Quantifiers.{position-Some}
 use Rattle.fr_base.specs.Book as book
 use Rattle.fr_base.specs.Cells.{Cell, has_cell}
-use Rattle.fr_base.specs.Queries.{sending}
 use Rattle.fr_base.specs.Schedule.{fill}
 use Rattle.fr_base.specs.declared.channel.Channel.{Channel}
 use Rattle.fr_base.specs.declared.channel.Channel.TheVariants as channel
 use Rattle.fr_world.specs.FirstPlaces.{AreFirst, IsClaimed, first_place, place_at, place_on}
-use Rattle.fr_world.specs.Sendings.{filled}
-use Rattle.fr_world.specs.declared.frame_triggering.FrameTriggering.{FrameTriggering}
+use Rattle.fr_world.specs.Sendings.{HaveSenders, filled, sender_in}
+use Rattle.fr_world.specs.declared.triggerings.FrameSender.{FrameSender}
+use Rattle.fr_world.specs.declared.triggerings.FrameTriggering.{FrameTriggering}
 use Rattle.fr_world.specs.declared.slot_table.FirstPlaces.{FirstPlaces}
 use Rattle.fr_world.proofs.ClaimLaws.{claim_of, option_or_none}
 use Rattle.fr_world.proofs.MaskLaws.{cell_in, has_cell-other, has_cell-own}
-use Rattle.fr_world.proofs.ScheduleLaws.{owner_in}
 
 -- ---- places in a list
 
@@ -92,31 +92,31 @@ first-next ps i n p olds rooms old new l e first same is low there claims c = el
       ∙ sym (first_place-next ps i p c l e)
 ]
 
--- ---- what is sent in a cell
+-- ---- who sends in a cell
 
-module _ (c : Cell) where
+module _ (ss : List FrameSender) (c : Cell) where
   abbrev has : FrameTriggering → Bool
   has p = has_cell p.placement c
 
-  abbrev owner_at : List FrameTriggering → FrameTriggering → ℕ → book.Sender
-  owner_at ps d j = owner_in (get_or ps j d)
+  abbrev sender_at : List FrameTriggering → FrameTriggering → ℕ → book.Sender
+  sender_at ps d j = sender_in ss (get_or ps j d)
 
-  later : (p : FrameTriggering) (ps : List FrameTriggering) (d : FrameTriggering) (r : Option ℕ) → option_map (owner_at ps d) r ≡ option_map (owner_at (p ∷ ps) d) (option_map suc r)
+  later : (p : FrameTriggering) (ps : List FrameTriggering) (d : FrameTriggering) (r : Option ℕ) → option_map (sender_at ps d) r ≡ option_map (sender_at (p ∷ ps) d) (option_map suc r)
   later p ps d None = refl
   later p ps d (Some j) = refl
 
-  fill-from : (d : FrameTriggering) (ps : List FrameTriggering) → fill (filled ps) c ≡ option_map (owner_at ps d) (position_from has 0 ps)
+  fill-from : (d : FrameTriggering) (ps : List FrameTriggering) → fill (filled ss ps) c ≡ option_map (sender_at ps d) (position_from has 0 ps)
   unfolding fill
   fill-from d [] = refl
-  fill-from d (p ∷ ps) = elim (has_cell p.placement c) as (λ b. cond b (Some (owner_in p)) (fill (filled ps) c) ≡ option_map (owner_at (p ∷ ps) d) (cond b (Some 0) (position_from has 1 ps))) [
+  fill-from d (p ∷ ps) = elim (has_cell p.placement c) as (λ b. cond b (Some (sender_in ss p)) (fill (filled ss ps) c) ≡ option_map (sender_at (p ∷ ps) d) (cond b (Some 0) (position_from has 1 ps))) [
     | true ↦ refl
-    | false ↦ fill-from d ps ∙ later p ps d (position_from has 0 ps) ∙ ap (option_map (owner_at (p ∷ ps) d)) (sym (after-one has 0 ps))
+    | false ↦ fill-from d ps ∙ later p ps d (position_from has 0 ps) ∙ ap (option_map (sender_at (p ∷ ps) d)) (sym (after-one has 0 ps))
   ]
 
-  fill-nowhere : (ps : List FrameTriggering) → position_from has 0 ps ≡ None → fill (filled ps) c ≡ None
+  fill-nowhere : (ps : List FrameTriggering) → position_from has 0 ps ≡ None → fill (filled ss ps) c ≡ None
   unfolding fill
   fill-nowhere [] e = refl
-  fill-nowhere (p ∷ ps) e = fill-from p (p ∷ ps) ∙ ap (option_map (owner_at (p ∷ ps) p)) e
+  fill-nowhere (p ∷ ps) e = fill-from p (p ∷ ps) ∙ ap (option_map (sender_at (p ∷ ps) p)) e
 
   module _ (ps : List FrameTriggering) (noted : Option ℕ) (first : noted ≡ first_place ps c) where
     -- the place is in the list
@@ -127,11 +127,13 @@ module _ (c : Cell) where
         within [] e = cc
         within (p ∷ ps) e = (position-Some has (p ∷ ps) place p e).0
 
-    -- the placement there is sent
-    pub sent-there : (place : ℕ) (p : FrameTriggering) → noted ≡ Some place → p ≡ get_or ps place p → Some (sending (c, owner_in p)) ≡ option_map (λ o. sending (c, o)) (fill (filled ps) c)
-    sent-there place p e is =
-        ap (option_map (λ o. sending (c, o)))
-        (ap (λ q. Some (owner_in q)) is ∙ ap (option_map (owner_at ps p)) (sym e ∙ first ∙ position_from-zero has ps) ∙ sym (fill-from p ps))
+    -- the sender of the placement there sends
+    pub sender-there : (place : ℕ) (p : FrameTriggering) → noted ≡ Some place → p ≡ get_or ps place p → Some (sender_in ss p) ≡ fill (filled ss ps) c
+    sender-there place p e is = ap (λ q. Some (sender_in ss q)) is ∙ ap (option_map (sender_at ps p)) (sym e ∙ first ∙ position_from-zero has ps) ∙ sym (fill-from p ps)
 
-    pub sent-nowhere : noted ≡ None → None ≡ option_map (λ o. sending (c, o)) (fill (filled ps) c)
-    sent-nowhere e = ap (option_map (λ o. sending (c, o))) (sym (fill-nowhere ps (sym (position_from-zero has ps) ∙ sym first ∙ e)))
+    pub sender-nowhere : noted ≡ None → None ≡ fill (filled ss ps) c
+    sender-nowhere e = sym (fill-nowhere ps (sym (position_from-zero has ps) ∙ sym first ∙ e))
+
+-- a placement's sender is in the list
+pub sender-within : (ss : List FrameSender) (ps : List FrameTriggering) (place : ℕ) (p : FrameTriggering) → HaveSenders ss ps → place < length ps → p ≡ get_or ps place p → p.sender < length ss
+sender-within ss ps place p have l is = subst (λ (q : FrameTriggering). q.sender < length ss) (sym is) (All-get_or (λ q. q.sender < length ss) ps place p l have)

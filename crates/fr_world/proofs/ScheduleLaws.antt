@@ -21,8 +21,9 @@ use Rattle.fr_base.specs.declared.answer.Sending.{Sending}
 use Rattle.fr_base.specs.declared.channel.Channel.{Channel}
 use Rattle.fr_base.specs.declared.params.Params.{Params}
 use Rattle.fr_base.specs.declared.placement.Placement.{Placement}
-use Rattle.fr_world.specs.Sendings.{cycle_cells, filled, is_used, page_sendings, sent_in}
-use Rattle.fr_world.specs.declared.frame_triggering.FrameTriggering.{FrameTriggering}
+use Rattle.fr_world.specs.Sendings.{cycle_cells, filled, is_used, page_sendings, sender_in, sent_in}
+use Rattle.fr_world.specs.declared.triggerings.FrameSender.{FrameSender}
+use Rattle.fr_world.specs.declared.triggerings.FrameTriggering.{FrameTriggering}
 use Rattle.fr_world.proofs.SharedLaws.{has_cell-parts}
 
 abbrev pub cell : ℕ → ℕ → Channel → Cell
@@ -82,7 +83,7 @@ pub cells-column : (k slot : ℕ) (chs : List Channel) → cells_in (k ∷ []) (
 cells-column k slot chs = append-nil (column k slot chs ++ []) ∙ append-nil (column k slot chs)
 
 -- one channel more of a slot: what is sent there, if anything is
-pub sent-channel : (fs : List (book.Sender × Placement)) (k slot : ℕ) (chs : List Channel) (i : ℕ) (x y : Channel) (old mid new : List Sending) (r : Option Sending) → i < length chs → x ≡ get_or chs i y
+sent-channel : (fs : List (book.Sender × Placement)) (k slot : ℕ) (chs : List Channel) (i : ℕ) (x y : Channel) (old mid new : List Sending) (r : Option Sending) → i < length chs → x ≡ get_or chs i y
     → mid ≡ old ++ sent_in fs (column k slot (take i chs))
     → r ≡ option_map (λ o. sending (cell k slot x, o)) (fill fs (cell k slot x))
     → new ≡ mid ++ cons_option r []
@@ -92,6 +93,19 @@ sent-channel fs k slot chs i x y old mid new r l e h found g =
     (g ∙ ap (λ sent. mid ++ sent) (ap (λ sent. cons_option sent []) found ∙ sym (sent-cell fs (cell k slot x))))
     ∙ ap (λ cells. old ++ sent_in fs cells)
     (sym (map-append (λ x. cell k slot x) (take i chs) (x ∷ [])) ∙ ap (column k slot) (ap (λ z. take i chs ++ z ∷ []) e ∙ sym (take_more chs i y l)))
+
+sending-by : {S : Type 0} (c : Cell) (who : S → book.Sender) (s : Option S) → option_map (λ s. sending (c, who s)) s ≡ option_map (λ o. sending (c, o)) (option_map who s)
+sending-by c who None = refl
+sending-by c who (Some s) = refl
+
+-- the same, where its sender was looked up
+pub sent-channel-by : {S : Type 0} (who : S → book.Sender) (s : Option S) (fs : List (book.Sender × Placement)) (k slot : ℕ) (chs : List Channel) (i : ℕ) (x y : Channel) (old mid new : List Sending) → i < length chs → x ≡ get_or chs i y
+    → mid ≡ old ++ sent_in fs (column k slot (take i chs))
+    → option_map who s ≡ fill fs (cell k slot x)
+    → new ≡ mid ++ cons_option (option_map (λ s. sending (cell k slot x, who s)) s) []
+    → new ≡ old ++ sent_in fs (column k slot (take (i + 1) chs))
+sent-channel-by who s fs k slot chs i x y old mid new l e h found g =
+    sent-channel fs k slot chs i x y old mid new _ l e h (sending-by (cell k slot x) who s ∙ ap (option_map (λ o. sending (cell k slot x, o))) found) g
 
 -- one slot more of a cycle
 pub sent-slot : (fs : List (book.Sender × Placement)) (k : ℕ) (chs : List Channel) (slots : List ℕ) (i slot : ℕ) (old mid new : List Sending) → i < length slots → slot ≡ get_or slots i slot
@@ -115,10 +129,6 @@ sent-cycle fs slots chs mid new k n f h g =
 
 -- ---- what is not in a slot
 
--- who sends in a placement's cells
-abbrev pub owner_in : FrameTriggering → book.Sender
-owner_in p = record { supplier = p.supplier; frame = p.frame; node = p.node }
-
 elsewhere : (k slot : ℕ) (x : Channel) (p : FrameTriggering) → eqb slot p.placement.slot ≡ false → has_cell p.placement (cell k slot x) ≡ false
 elsewhere k slot x p e =
     has_cell-parts p.placement (cell k slot x)
@@ -132,14 +142,14 @@ true_is_not : true ≡ false → ⊥
 true_is_not e = cc
 
 -- a slot without a placement has no filled cell
-fill-unused : (ps : List FrameTriggering) (k slot : ℕ) (x : Channel) → is_used ps slot ≡ false → fill (filled ps) (cell k slot x) ≡ None
+fill-unused : (ss : List FrameSender) (ps : List FrameTriggering) (k slot : ℕ) (x : Channel) → is_used ps slot ≡ false → fill (filled ss ps) (cell k slot x) ≡ None
 unfolding fill
-fill-unused [] k slot x e = refl
-fill-unused (p ∷ ps) k slot x e =
+fill-unused ss [] k slot x e = refl
+fill-unused ss (p ∷ ps) k slot x e =
     let c : Cell = cell k slot x in
-    elim (eqb slot p.placement.slot) as (λ b. (b || is_used ps slot) ≡ false → (b ≡ false → has_cell p.placement c ≡ false) → cond (has_cell p.placement c) (Some (owner_in p)) (fill (filled ps) c) ≡ None) [
+    elim (eqb slot p.placement.slot) as (λ b. (b || is_used ps slot) ≡ false → (b ≡ false → has_cell p.placement c ≡ false) → cond (has_cell p.placement c) (Some (sender_in ss p)) (fill (filled ss ps) c) ≡ None) [
       | true ↦ λ f h. absurd (true_is_not f)
-      | false ↦ λ f h. ap (λ b. cond b (Some (owner_in p)) (fill (filled ps) c)) (h refl) ∙ fill-unused ps k slot x f
+      | false ↦ λ f h. ap (λ b. cond b (Some (sender_in ss p)) (fill (filled ss ps) c)) (h refl) ∙ fill-unused ss ps k slot x f
     ] e (elsewhere k slot x p)
 
 -- where owners fill a slot's cells alike, the same is sent there
@@ -157,41 +167,41 @@ unfolding sent_in entries fill
 sent-empty [] = refl
 sent-empty (c ∷ cells) = sent-empty cells
 
-sent-unused : (ps : List FrameTriggering) (k slot : ℕ) (chs : List Channel) → is_used ps slot ≡ false → sent_in (filled ps) (column k slot chs) ≡ []
-sent-unused ps k slot chs e = sent-alike (filled ps) [] k slot chs (λ x. fill-unused ps k slot x e ∙ fill-nothing (cell k slot x)) ∙ sent-empty (column k slot chs)
+sent-unused : (ss : List FrameSender) (ps : List FrameTriggering) (k slot : ℕ) (chs : List Channel) → is_used ps slot ≡ false → sent_in (filled ss ps) (column k slot chs) ≡ []
+sent-unused ss ps k slot chs e = sent-alike (filled ss ps) [] k slot chs (λ x. fill-unused ss ps k slot x e ∙ fill-nothing (cell k slot x)) ∙ sent-empty (column k slot chs)
 
 -- a cycle's slots without a placement can be left out
-sent-used : (ps : List FrameTriggering) (k : ℕ) (chs : List Channel) (slots : List ℕ) → sent_in (filled ps) (slot_cells k chs (filter (is_used ps) slots)) ≡ sent_in (filled ps) (slot_cells k chs slots)
-sent-used ps k chs [] = refl
-sent-used ps k chs (slot ∷ slots) =
+sent-used : (ss : List FrameSender) (ps : List FrameTriggering) (k : ℕ) (chs : List Channel) (slots : List ℕ) → sent_in (filled ss ps) (slot_cells k chs (filter (is_used ps) slots)) ≡ sent_in (filled ss ps) (slot_cells k chs slots)
+sent-used ss ps k chs [] = refl
+sent-used ss ps k chs (slot ∷ slots) =
     let used : List ℕ = filter (is_used ps) slots in
-    elim (is_used ps slot) as (λ b. (b ≡ false → sent_in (filled ps) (column k slot chs) ≡ []) → sent_in (filled ps) (slot_cells k chs (cond b (slot ∷ used) used)) ≡ sent_in (filled ps) (column k slot chs ++ slot_cells k chs slots)) [
-      | true ↦ λ h. sent-append (filled ps) (column k slot chs) (slot_cells k chs used) ∙ ap (λ rest. sent_in (filled ps) (column k slot chs) ++ rest) (sent-used ps k chs slots) ∙ sym (sent-append (filled ps) (column k slot chs) (slot_cells k chs slots))
-      | false ↦ λ h. sent-used ps k chs slots ∙ ap (λ front. front ++ sent_in (filled ps) (slot_cells k chs slots)) (sym (h refl)) ∙ sym (sent-append (filled ps) (column k slot chs) (slot_cells k chs slots))
-    ] (sent-unused ps k slot chs)
+    elim (is_used ps slot) as (λ b. (b ≡ false → sent_in (filled ss ps) (column k slot chs) ≡ []) → sent_in (filled ss ps) (slot_cells k chs (cond b (slot ∷ used) used)) ≡ sent_in (filled ss ps) (column k slot chs ++ slot_cells k chs slots)) [
+      | true ↦ λ h. sent-append (filled ss ps) (column k slot chs) (slot_cells k chs used) ∙ ap (λ rest. sent_in (filled ss ps) (column k slot chs) ++ rest) (sent-used ss ps k chs slots) ∙ sym (sent-append (filled ss ps) (column k slot chs) (slot_cells k chs slots))
+      | false ↦ λ h. sent-used ss ps k chs slots ∙ ap (λ front. front ++ sent_in (filled ss ps) (slot_cells k chs slots)) (sym (h refl)) ∙ sym (sent-append (filled ss ps) (column k slot chs) (slot_cells k chs slots))
+    ] (sent-unused ss ps k slot chs)
 
-sent-used-slots : (ps : List FrameTriggering) (ks : List ℕ) (chs : List Channel) (slots : List ℕ) → sent_in (filled ps) (cells_in ks (filter (is_used ps) slots) chs) ≡ sent_in (filled ps) (cells_in ks slots chs)
-sent-used-slots ps [] chs slots = refl
-sent-used-slots ps (k ∷ ks) chs slots =
-    sent-append (filled ps) (slot_cells k chs (filter (is_used ps) slots)) (cells_in ks (filter (is_used ps) slots) chs)
-    ∙ (λ i. sent-used ps k chs slots i ++ sent-used-slots ps ks chs slots i)
-    ∙ sym (sent-append (filled ps) (slot_cells k chs slots) (cells_in ks slots chs))
+sent-used-slots : (ss : List FrameSender) (ps : List FrameTriggering) (ks : List ℕ) (chs : List Channel) (slots : List ℕ) → sent_in (filled ss ps) (cells_in ks (filter (is_used ps) slots) chs) ≡ sent_in (filled ss ps) (cells_in ks slots chs)
+sent-used-slots ss ps [] chs slots = refl
+sent-used-slots ss ps (k ∷ ks) chs slots =
+    sent-append (filled ss ps) (slot_cells k chs (filter (is_used ps) slots)) (cells_in ks (filter (is_used ps) slots) chs)
+    ∙ (λ i. sent-used ss ps k chs slots i ++ sent-used-slots ss ps ks chs slots i)
+    ∙ sym (sent-append (filled ss ps) (slot_cells k chs slots) (cells_in ks slots chs))
 
 -- after the last cycle that is the whole schedule
-pub sent-all : (p : Params) (ps : List FrameTriggering) (used : List ℕ) (rows : List Sending) (n : ℕ) → n ≡ 64 → used ≡ filter (is_used ps) (slots_of p)
-    → rows ≡ sent_in (filled ps) (cells_in (range_with_len 0 n) used (channels_in p.channels)) → rows ≡ sent_in (filled ps) (cluster_cells p)
+pub sent-all : (p : Params) (ss : List FrameSender) (ps : List FrameTriggering) (used : List ℕ) (rows : List Sending) (n : ℕ) → n ≡ 64 → used ≡ filter (is_used ps) (slots_of p)
+    → rows ≡ sent_in (filled ss ps) (cells_in (range_with_len 0 n) used (channels_in p.channels)) → rows ≡ sent_in (filled ss ps) (cluster_cells p)
 unfolding cluster_cells all_cycles cycle_count
-sent-all p ps used rows n e u h =
-    h ∙ ap (λ slots. sent_in (filled ps) (cells_in (range_with_len 0 n) slots (channels_in p.channels))) u
-    ∙ sent-used-slots ps (range_with_len 0 n) (channels_in p.channels) (slots_of p)
-    ∙ ap (λ n. sent_in (filled ps) (cells_in (range_with_len 0 n) (slots_of p) (channels_in p.channels))) e
+sent-all p ss ps used rows n e u h =
+    h ∙ ap (λ slots. sent_in (filled ss ps) (cells_in (range_with_len 0 n) slots (channels_in p.channels))) u
+    ∙ sent-used-slots ss ps (range_with_len 0 n) (channels_in p.channels) (slots_of p)
+    ∙ ap (λ n. sent_in (filled ss ps) (cells_in (range_with_len 0 n) (slots_of p) (channels_in p.channels))) e
 
 -- and of one cycle
-pub sent-one : (p : Params) (ps : List FrameTriggering) (used : List ℕ) (k : ℕ) → used ≡ filter (is_used ps) (slots_of p)
-    → sent_in (filled ps) (cells_in (k ∷ []) used (channels_in p.channels)) ≡ sent_in (filled ps) (cycle_cells p k)
-sent-one p ps used k u =
-    ap (λ slots. sent_in (filled ps) (cells_in (k ∷ []) slots (channels_in p.channels))) u
-    ∙ sent-used-slots ps (k ∷ []) (channels_in p.channels) (slots_of p)
+pub sent-one : (p : Params) (ss : List FrameSender) (ps : List FrameTriggering) (used : List ℕ) (k : ℕ) → used ≡ filter (is_used ps) (slots_of p)
+    → sent_in (filled ss ps) (cells_in (k ∷ []) used (channels_in p.channels)) ≡ sent_in (filled ss ps) (cycle_cells p k)
+sent-one p ss ps used k u =
+    ap (λ slots. sent_in (filled ss ps) (cells_in (k ∷ []) slots (channels_in p.channels))) u
+    ∙ sent-used-slots ss ps (k ∷ []) (channels_in p.channels) (slots_of p)
 
 -- the slot of a number, if a placement is in it
 pub used-one : (ps : List FrameTriggering) (old new : List ℕ) (slot number : ℕ) → Some slot ≡ Some number → is_used ps slot ≡ true → new ≡ old ++ slot ∷ [] → new ≡ old ++ filter (is_used ps) (number ∷ [])

@@ -4,7 +4,7 @@ use Rattle.std.proofs.lemmas.Bool.{cases_Bool, eqb-true, eq-eqb, ne_eqb, or_righ
 use Rattle.std.proofs.lemmas.List.{get_or-set_other, get_or-set_same}
 use Rattle.std.proofs.lemmas.List.Folds.{list_any_more}
 use Rattle.fr_world.specs.Sendings.{is_used}
-use Rattle.fr_world.specs.declared.frame_triggering.FrameTriggering.{FrameTriggering}
+use Rattle.fr_world.specs.declared.triggerings.FrameTriggering.{FrameTriggering}
 use Rattle.fr_world.proofs.MaskLaws.{or_none}
 
 -- with one placement more

@@ -8,7 +8,7 @@ use Rattle.fr_base.specs.Cycles.{has_cycle}
 use Rattle.fr_base.specs.declared.channel.Channel.{Channel}
 use Rattle.fr_base.specs.declared.channel.Channel.TheVariants as channel
 use Rattle.fr_base.specs.declared.placement.Placement.{Placement}
-use Rattle.fr_world.specs.declared.frame_triggering.FrameTriggering.{FrameTriggering}
+use Rattle.fr_world.specs.declared.triggerings.FrameTriggering.{FrameTriggering}
 use Rattle.fr_world.specs.declared.slot_table.FirstPlaces.{FirstPlaces}
 
 -- the place that is noted of a channel

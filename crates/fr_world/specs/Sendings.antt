@@ -1,5 +1,5 @@
 -- What is sent in which cell, where placements are given with their senders, and by a page's frames.
-use Rattle.std.specs.Prelude.{ℕ, ◌==◌, ◌≡◌, ◌++◌, Bool, List, [], ◌∷◌, map}
+use Rattle.std.specs.Prelude.{ℕ, ◌==◌, ◌≡◌, ◌++◌, ◌<◌, All, Bool, List, [], ◌∷◌, length, map, slice_index_or}
 use Rattle.std.specs.List.{list_any}
 use Rattle.fr_base.specs.Cells.{Cell, cells_in, slots_of}
 use Rattle.fr_base.specs.Channels.{channels_in}
@@ -11,15 +11,36 @@ use Rattle.fr_base.specs.declared.answer.Sending.{Sending}
 use Rattle.fr_base.specs.declared.name.Name.{Name}
 use Rattle.fr_base.specs.declared.params.Params.{Params}
 use Rattle.fr_base.specs.declared.placement.Placement.{Placement}
-use Rattle.fr_world.specs.declared.frame_triggering.FrameTriggering.{FrameTriggering}
+use Rattle.fr_world.specs.declared.triggerings.FrameSender.{FrameSender}
+use Rattle.fr_world.specs.declared.triggerings.FrameTriggering.{FrameTriggering}
 
 -- the latter list begins with the former
 abbrev pub Extends : {A : Type 0} → List A → List A → Type 0
 Extends {A} old new = (more : List A) × (new ≡ old ++ more)
 
+-- who sends a frame
+abbrev pub sender_of : FrameSender → Sender
+sender_of s = record { supplier = s.supplier; frame = s.frame; node = s.node }
+
+-- what stands past the end of a list of senders: nobody
+abbrev pub nobody : FrameSender
+nobody = record { supplier = []; frame = []; node = [] }
+
+-- who of these senders sends in a placement's cells
+abbrev pub sender_in : List FrameSender → FrameTriggering → Sender
+sender_in senders p = sender_of (slice_index_or senders p.sender nobody)
+
 -- the placements, each with its sender
-abbrev pub filled : List FrameTriggering → List (Sender × Placement)
-filled triggerings = map (λ p. (record { supplier = p.supplier; frame = p.frame; node = p.node }, p.placement)) triggerings
+abbrev pub filled : List FrameSender → List FrameTriggering → List (Sender × Placement)
+filled senders triggerings = map (λ p. (sender_in senders p, p.placement)) triggerings
+
+-- each placement's sender is one of these
+abbrev pub HaveSenders : List FrameSender → List FrameTriggering → Type 0
+HaveSenders senders triggerings = All (λ p. p.sender < length senders) triggerings
+
+-- the placement, which the sender at this place sends
+abbrev pub sent_by : ℕ → Placement → FrameTriggering
+sent_by sender q = record { placement = q; sender = sender }
 
 -- the frame's placements, each with its sender
 abbrev pub filled_by : Name × Name → Frame → List (Sender × Placement)

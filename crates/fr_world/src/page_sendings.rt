@@ -4,9 +4,8 @@ ghost use Rattle.fr_base.specs.declared.refusal.Refusal.TheVariants.{Unavailable
 ghost use Rattle.fr_world.specs.Pages.{own_rows_of};
 ghost use Rattle.fr_world.specs.Sendings.{page_sendings};
 
-use crate::frame_triggering::push_triggerings;
 use crate::page::Page;
-use crate::sendings::push_sendings;
+use crate::triggerings::Triggerings;
 use fr_base::{Refusal, Rows, Sending};
 use std::alloc::Global;
 
@@ -16,9 +15,9 @@ pub fn sent(alloc: Global, page: &Page, cycle: u8) -> Result<Rows<Sending>, Refu
     ensures rows { IfOk result (λ rows. rows ≡ page_sendings (own_rows_of page.now) cycle) }
     ensures unavailable { IfErr result (λ e. e ≡ Unavailable) }
 {
-    let mut triggerings = Vec::new(alloc);
-    push_triggerings(page, &mut triggerings)?;
+    let mut triggerings = Triggerings::new(alloc);
+    triggerings.push_page(page)?;
     let mut rows = Rows::new(alloc);
-    push_sendings(alloc, &page.params(), &triggerings, cycle, &mut rows)?;
+    triggerings.push_sendings(alloc, &page.params(), cycle, &mut rows)?;
     Ok(rows)
 }

@@ -6,27 +6,30 @@ ghost use Rattle.fr_base.specs.Channels.{channels_in};
 ghost use Rattle.fr_base.specs.Schedule.{fill};
 ghost use Rattle.fr_base.specs.Queries.{sending};
 ghost use Rattle.fr_world.specs.FirstPlaces.{AreFirst, first_place, place_on};
-ghost use Rattle.fr_world.specs.Sendings.{cycle_cells, filled, is_used, sent_in};
+ghost use Rattle.fr_world.specs.Sendings.{HaveSenders, cycle_cells, filled, is_used, sender_of, sent_in};
 
-use crate::frame_triggering::FrameTriggering;
 use crate::slot_table::{FirstPlaces, SlotTable, places_in, slot_tables};
+use crate::triggerings::{FrameSender, FrameTriggering};
 use fr_base::{CYCLE_COUNT, Channel, Channels, NoMemory, Params, Rows, Sending, Slot};
 use std::alloc::Global;
 
-/// Which frame is sent in which cycle, slot and channel, of these placements: by cycle, slot and
-/// channel. Where several have a cell, the first one is sent.
-pub fn schedule(
+/// Which of the senders sends in which cycle, slot and channel: by cycle, slot and channel. Where several
+/// placements have a cell, the first one is sent.
+pub(crate) fn schedule(
     alloc: Global,
     params: &Params,
+    senders: &[FrameSender],
     triggerings: &[FrameTriggering],
 ) -> Result<Rows<Sending>, NoMemory>
-    ensures { IfOk result (λ rows. rows ≡ sent_in (filled triggerings.now) (cluster_cells params.now)) }
+    requires { HaveSenders senders.now triggerings.now }
+    ensures { IfOk result (λ rows. rows ≡ sent_in (filled senders.now triggerings.now) (cluster_cells params.now)) }
 {
     let slots = used_slots(alloc, params, triggerings)?;
     let tables = slot_tables(alloc, triggerings)?;
     let mut rows = Rows::with_capacity(alloc, triggerings.len())?;
     for cycle in 0..CYCLE_COUNT as u8 {
         push_cycle(
+            senders,
             triggerings,
             &tables,
             &slots,
@@ -38,20 +41,30 @@ pub fn schedule(
     Ok(rows)
 }
 
-/// Appends what is sent in the cycle, 0 to 63, of these placements: by slot and channel. Where several
-/// have a cell, the first one is sent. Where memory is refused, some of it may have been appended.
+/// Appends what the senders send in the cycle, 0 to 63: by slot and channel. Where several placements have
+/// a cell, the first one is sent. Where memory is refused, some of it may have been appended.
 pub(crate) fn push_sendings(
     alloc: Global,
     params: &Params,
+    senders: &[FrameSender],
     triggerings: &[FrameTriggering],
     cycle: u8,
     rows: &mut Rows<Sending>,
 ) -> Result<(), NoMemory>
-    ensures { OnOk result (rows.new ≡ rows.old ++ sent_in (filled triggerings.now) (cycle_cells params.now cycle)) }
+    requires { HaveSenders senders.now triggerings.now }
+    ensures { OnOk result (rows.new ≡ rows.old ++ sent_in (filled senders.now triggerings.now) (cycle_cells params.now cycle)) }
 {
     let slots = used_slots(alloc, params, triggerings)?;
     let tables = slot_tables(alloc, triggerings)?;
-    push_cycle(triggerings, &tables, &slots, params.channels(), cycle, rows)
+    push_cycle(
+        senders,
+        triggerings,
+        &tables,
+        &slots,
+        params.channels(),
+        cycle,
+        rows,
+    )
 }
 
 // The static slots that a placement is in, in order.
@@ -121,6 +134,7 @@ fn is_marked(marks: &[bool; 1024], slot: Slot) -> bool
 
 // Appends what is sent in the cycle, in these slots.
 fn push_cycle(
+    senders: &[FrameSender],
     triggerings: &[FrameTriggering],
     tables: &[SlotTable],
     slots: &[Slot],
@@ -128,44 +142,63 @@ fn push_cycle(
     cycle: u8,
     rows: &mut Rows<Sending>,
 ) -> Result<(), NoMemory>
-    requires { AreFirst triggerings.now tables.now }
-    ensures { OnOk result (rows.new ≡ rows.old ++ sent_in (filled triggerings.now) (cells_in (cycle ∷ []) slots.now (channels_in channels))) }
+    requires have { HaveSenders senders.now triggerings.now }
+    requires first { AreFirst triggerings.now tables.now }
+    ensures { OnOk result (rows.new ≡ rows.old ++ sent_in (filled senders.now triggerings.now) (cells_in (cycle ∷ []) slots.now (channels_in channels))) }
 {
     for slot in slots {
         let places = places_in(tables, *slot, cycle);
         for channel in channels.as_slice() {
-            push_sending(triggerings, places, cycle, *slot, *channel, rows)?;
+            let sender = sender_on(senders, triggerings, places, *channel);
+            push_sending(sender, cycle, *slot, *channel, rows)?;
         }
     }
     Ok(())
 }
 
-// Appends what is sent in the cell, where these are the places of the first placements in its slot and cycle.
+// Who sends in the cell of this channel, where these are the places of the first placements in its slot
+// and cycle.
 #[inline(always)]
-fn push_sending(
+fn sender_on<'s>(
+    senders: &'s [FrameSender],
     triggerings: &[FrameTriggering],
     places: FirstPlaces,
+    channel: Channel,
+) -> Option<&'s FrameSender>
+    requires { HaveSenders senders.now triggerings.now }
+    ensures { (c : Cell) → place_on channel places ≡ first_place triggerings.now c
+        → option_map (λ s. sender_of s.now) result ≡ fill (filled senders.now triggerings.now) c }
+{
+    let Some(place) = places.on(channel) else {
+        return None;
+    };
+    let Some(one) = triggerings.get(place) else {
+        return None;
+    };
+    Some(&senders[one.sender])
+}
+
+// Appends that it is sent in the cell, if there is one who sends.
+#[inline(always)]
+fn push_sending(
+    sender: Option<&FrameSender>,
     cycle: u8,
     slot: Slot,
     channel: Channel,
     rows: &mut Rows<Sending>,
 ) -> Result<(), NoMemory>
-    requires { place_on channel places ≡ first_place triggerings.now (record { cycle = cycle; slot = slot; channel = channel }) }
     ensures { let cell : Cell = record { cycle = cycle; slot = slot; channel = channel } in
-        OnOk result (rows.new ≡ rows.old ++ cons_option (option_map (λ sender. sending (cell, sender)) (fill (filled triggerings.now) cell)) []) }
+        OnOk result (rows.new ≡ rows.old ++ cons_option (option_map (λ s. sending (cell, sender_of s.now)) sender.entry) []) }
 {
-    let Some(place) = places.on(channel) else {
-        return Ok(());
-    };
-    let Some(one) = triggerings.get(place) else {
+    let Some(sender) = sender else {
         return Ok(());
     };
     rows.push(Sending {
         cycle,
         slot,
         channel,
-        frame: one.frame,
-        node: one.node,
-        supplier: one.supplier,
+        frame: sender.frame,
+        node: sender.node,
+        supplier: sender.supplier,
     })
 }

@@ -5,7 +5,7 @@ ghost use Rattle.fr_base.specs.Channels.{has_channel};
 ghost use Rattle.fr_base.specs.declared.channel.Channel.{Channel as OneChannel};
 ghost use Rattle.fr_world.specs.FirstPlaces.{AreFirst, IsClaimed, place_on, places_at};
 
-use crate::frame_triggering::FrameTriggering;
+use crate::triggerings::FrameTriggering;
 use fr_base::{CYCLE_COUNT, Channel, Channels, NoMemory, Placement, Slot};
 use std::alloc::Global;
 use std::marker::Model;

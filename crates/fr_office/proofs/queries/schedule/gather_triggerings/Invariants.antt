@@ -1,8 +1,7 @@
 use Rattle.std.proofs.Common.{◌≡◌, take}
 use Rattle.fr_base.specs.Book.{placements_of}
-use Rattle.fr_world.specs.Sendings.{filled}
 use Rattle.fr_office.proofs.GatherLaws.{IsSoFar, each_own}
-use Rattle.fr_office.proofs.queries.schedule.gather_placements.Given as goal
+use Rattle.fr_office.proofs.queries.schedule.gather_triggerings.Given as goal
 
 -- the placements of the suppliers so far
 abbrev pub invariant-loop-supplier : goal.invariant-loop-supplier
@@ -11,5 +10,5 @@ invariant-loop-supplier g l =
     record {
       falls : records.clean l.records → records.clean l.fn.records;
       gathered : records.clean l.records →
-          IsSoFar (records.stands l.fn.records) (records.stands l.records) l.variant (λ p x. filled l.placed.items ≡ each_own (λ p t. placements_of t) p x (take l.supplier-index l.suppliers));
+          IsSoFar (records.stands l.fn.records) (records.stands l.records) l.variant (λ p x. l.triggerings ≡ each_own (λ p t. placements_of t) p x (take l.supplier-index l.suppliers));
     }

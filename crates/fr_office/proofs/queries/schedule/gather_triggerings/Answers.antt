@@ -1,10 +1,9 @@
 use Rattle.std.proofs.Common.{◌+◌, ◌∙◌, ◌++◌, [], ◌∷◌, take, sym, ap}
 use Rattle.std.proofs.lemmas.List.{take_more}
 use Rattle.fr_base.specs.Book.{placements_of}
-use Rattle.fr_world.specs.Sendings.{filled}
 use Rattle.fr_office.proofs.GatherLaws.{gathered-more, gathered-all}
 use Rattle.fr_office.proofs.OwnReplies.{finds-kept}
-use Rattle.fr_office.proofs.queries.schedule.gather_placements.Goals as goal
+use Rattle.fr_office.proofs.queries.schedule.gather_triggerings.Goals as goal
 
 pub loop-supplier-preserved : goal.loop-supplier-preserved
 loop-supplier-preserved g c =
@@ -15,8 +14,8 @@ loop-supplier-preserved g c =
       falls = λ now. c.loop-supplier.invariant.falls (c.find_page.ensures.falls (c.keep.ensures.falls now));
       gathered = λ now.
           gathered-more (λ p t. placements_of t) (records.stands c.args.records.now) c.args.variant (records.stands c.loop-supplier.records) (records.stands c.keep.new.self)
-          c.supplier-item.result (take i suppliers) (take (i + 1) suppliers) c.in_ok-page.page (filled c.loop-supplier.placed.items) (filled c.push_placements.new.placed.items)
-          (c.loop-supplier.invariant.gathered (c.find_page.ensures.falls (c.keep.ensures.falls now))) (finds-kept _ _ _ _ _ _ (c.in_ok-page.ensures.page (c.keep.ensures.falls now)) (c.keep.ensures.keeps now)) c.in_ok-push_placements.ensures
+          c.supplier-item.result (take i suppliers) (take (i + 1) suppliers) c.in_ok-page.page c.loop-supplier.triggerings c.push_page.new.self
+          (c.loop-supplier.invariant.gathered (c.find_page.ensures.falls (c.keep.ensures.falls now))) (finds-kept _ _ _ _ _ _ (c.in_ok-page.ensures.page (c.keep.ensures.falls now)) (c.keep.ensures.keeps now)) c.in_ok-push_page.ensures
           (take_more suppliers i c.supplier-item.result c.loop-supplier-test.true ∙ ap (λ s. take i suppliers ++ s ∷ []) (sym c.supplier-item.is));
     }
 
@@ -24,4 +23,4 @@ pub returns-clause-gathers : goal.returns-clause-gathers
 returns-clause-gathers g c = λ now.
     let records = g.R.Records in
     gathered-all (λ p t. placements_of t) (records.stands c.args.records.now) c.args.variant (records.stands c.loop-supplier.records)
-    c.loop-supplier.supplier-index c.args.suppliers.now (filled c.loop-supplier.placed.items) c.loop-supplier-test.false (c.loop-supplier.invariant.gathered now)
+    c.loop-supplier.supplier-index c.args.suppliers.now c.loop-supplier.triggerings c.loop-supplier-test.false (c.loop-supplier.invariant.gathered now)

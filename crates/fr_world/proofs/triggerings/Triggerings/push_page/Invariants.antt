@@ -1,10 +1,9 @@
 use Rattle.std.proofs.Common.{◌≡◌, ◌++◌}
 use Rattle.fr_base.specs.Book.{placements_of}
 use Rattle.fr_world.specs.Pages.{own_rows_of}
-use Rattle.fr_world.specs.Sendings.{filled}
 use Rattle.fr_world.proofs.TriggeringLaws.{fillings}
-use Rattle.fr_world.proofs.frame_triggering.push_triggerings.Given as goal
+use Rattle.fr_world.proofs.triggerings.Triggerings.push_page.Given as goal
 
 -- the placements so far, and those of the frames that are left
 abbrev pub invariant-loop-name : goal.invariant-loop-name
-invariant-loop-name l = filled l.triggerings.items ++ fillings l.supplier l.name-iterator ≡ filled l.fn.triggerings.items ++ placements_of (own_rows_of l.page).frames
+invariant-loop-name l = l.self ++ fillings l.supplier l.name-iterator ≡ l.fn.self ++ placements_of (own_rows_of l.page).frames
