@@ -13,10 +13,8 @@ use Rattle.fr_base.specs.Channels.{channels_in, has_channel}
 use Rattle.fr_base.specs.Cycles.{all_cycles, cycle_count, has_cycle}
 use Rattle.fr_base.specs.Numbers.{is_slot}
 use Rattle.fr_base.specs.Schedule.{entries, fill}
-use Rattle.fr_base.specs.Queries.{sending, sendings_of}
-use Rattle.fr_base.specs.Keys.{owned}
+use Rattle.fr_base.specs.Queries.{sending}
 use Rattle.fr_base.specs.Step.{OwnRows}
-use Rattle.fr_base.specs.Tables.{Table}
 use Rattle.fr_base.specs.declared.answer.Sending.{Sending}
 use Rattle.fr_base.specs.declared.channel.Channel.{Channel}
 use Rattle.fr_base.specs.declared.params.Params.{Params}
@@ -265,12 +263,7 @@ some_slot r number e f = cc
 
 -- ---- the placements of frames
 
--- in all cells they are sent as a query shows
-pub sendings_of-sent : (p : Params) (frames : Table owned book.Frame) (fs : List (book.Sender × Placement)) → fs ≡ book.placements_of frames → sent_in fs (cluster_cells p) ≡ sendings_of p frames
-unfolding sendings_of sent_in book.schedule_of
-sendings_of-sent p frames fs e = ap (λ gs. map sending (entries (fill gs) (cluster_cells p))) e
-
--- and those of a page in the cells of a cycle
+-- a page's are sent in the cells of a cycle as it says
 pub page_sendings-sent : (page : OwnRows) (fs : List (book.Sender × Placement)) (k : ℕ) → fs ≡ book.placements_of page.frames → sent_in fs (cycle_cells page.params k) ≡ page_sendings page k
 unfolding page_sendings sent_in book.schedule_of
 page_sendings-sent page fs k e = ap (λ gs. map sending (entries (fill gs) (cycle_cells page.params k))) e
