@@ -7,6 +7,7 @@ what it calls. For a change: all of it; the request's text read; the page taken 
 amended; the statements; their commit; the answer's text; and all of it as a multiple of statements and commit. For a schedule:
 all of it, the request's text, the rows, the answer's text, and all of it as a multiple of the answer's text. It is no test."""
 import argparse
+import os
 import re
 import subprocess
 import tempfile
@@ -16,6 +17,9 @@ from scripts import cluster_file
 from turns import FRAMES, change, in_turn, plan, schedule
 
 HERE = Path(__file__).resolve().parent
+# By these the C library copies and clears memory in steps of many bytes. By its string instructions, which it takes for
+# more than 2,048 bytes, valgrind would count each byte as an instruction.
+STEPS = "glibc.cpu.x86_rep_stosb_threshold=1073741824:glibc.cpu.x86_rep_movsb_threshold=1073741824"
 COST = re.compile(r"\s*([\d,]+) \(\s*[\d.]+%\)\s+[^:]*:(.*?)(?:::<#\w+>)?(?:'\d+)?(?: \[.*)?$")
 SUPPLIER = [("s0", "v0")]
 CHANGES, SCHEDULES = 400, 40
@@ -25,7 +29,8 @@ def counts(program, lines, room):
     """The instructions of each function, with those of what it calls."""
     out = Path(room) / "callgrind"
     words = ["valgrind", "--tool=callgrind", f"--callgrind-out-file={out}", program, "run"]
-    subprocess.run(words, input="\n".join([*cluster_file(["s0"]), *lines, ""]).encode(), capture_output=True, check=True)
+    script = "\n".join([*cluster_file(["s0"]), *lines, ""]).encode()
+    subprocess.run(words, input=script, env={**os.environ, "GLIBC_TUNABLES": STEPS}, capture_output=True, check=True)
     listed = subprocess.run(["callgrind_annotate", "--inclusive=yes", "--threshold=100", out], capture_output=True, text=True, check=True)
     found = {}
     for cost in filter(None, map(COST.match, listed.stdout.splitlines())):
