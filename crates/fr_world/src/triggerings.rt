@@ -5,7 +5,7 @@ ghost use Rattle.fr_base.specs.Book.{placements_of};
 ghost use Rattle.fr_base.specs.Cells.{cluster_cells};
 ghost use Rattle.fr_base.specs.Queries.{placements_in};
 ghost use Rattle.fr_world.specs.Pages.{frame_data, frame_of, own_rows_of};
-ghost use Rattle.fr_world.specs.Sendings.{cycle_cells, filled_by, sent_by, sent_in};
+ghost use Rattle.fr_world.specs.Sendings.{Extends, cycle_cells, filled_by, sent_by, sent_in};
 
 use crate::page::{Page, PageFrame};
 use crate::sendings::{push_sendings, schedule};
@@ -68,7 +68,8 @@ impl Triggerings {
     /// frame's by slot, channels, base and repetition. Where memory is refused, some of them may have been
     /// appended.
     pub fn push_page(&mut self, page: &Page) -> Result<(), NoMemory>
-        ensures { OnOk result (self.new ≡ self.old ++ placements_of (own_rows_of page.now).frames) }
+        ensures ok { OnOk result (self.new ≡ self.old ++ placements_of (own_rows_of page.now).frames) }
+        ensures err { OnErr result (Extends self.old self.new) }
     {
         let supplier = page.supplier();
         for (name, frame) in page.frames().iter() {

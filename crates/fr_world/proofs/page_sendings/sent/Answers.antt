@@ -10,4 +10,4 @@ returns-clause-rows c =
     let k = c.args.cycle in
     c.in_ok-push_sendings.ensures
     ∙ (λ i. c.new-rows.ensures i ++ sent_in c.push_page.new.self (cycle_cells (c.params.ensures i) k))
-    ∙ page_sendings-sent (own_rows_of c.args.page.now) _ k (c.in_ok-push_page.ensures ∙ ap (λ ps. ps ++ placements_of (own_rows_of c.args.page.now).frames) c.new-triggerings.ensures)
+    ∙ page_sendings-sent (own_rows_of c.args.page.now) _ k (c.in_ok-push_page.ensures.ok ∙ ap (λ ps. ps ++ placements_of (own_rows_of c.args.page.now).frames) c.new-triggerings.ensures)

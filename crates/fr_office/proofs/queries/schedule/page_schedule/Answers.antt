@@ -13,5 +13,5 @@ returns c =
     let placed = c.push_page.new.self in
     subst (λ sent. IfOk c.schedule.result (λ rows. rows ≡ sent))
     (ap (λ p. sent_in placed (cluster_cells p)) c.params.ensures
-    ∙ sendings-sent c.args.page.now.params frames placed (c.in_ok-push_page.ensures ∙ ap (λ ps. ps ++ placements_of frames) c.new-triggerings.ensures))
+    ∙ sendings-sent c.args.page.now.params frames placed (c.in_ok-push_page.ensures.ok ∙ ap (λ ps. ps ++ placements_of frames) c.new-triggerings.ensures))
     c.schedule.ensures
