@@ -1,6 +1,8 @@
 # make run      proves and builds the program where that is still to be done, and runs a script
 # make test     the gate: every proof from nothing, the must-fail edits, the tests, how rows are found, and the
 #               built program tried
+# make edits    asks the prover of every wrong body, also of those that the gate leaves out; CRATES='fr_base ..' names some.
+#               Run it when a contract has changed; no part of the gate
 # make try      tries the built program alone, as the gate does: rows, examples, faults, limits, register files, the server
 # make store    tries a register's files, its pages and edits, with the SQLite of python3; no part of the gate
 # make install  puts the proved program at $(PREFIX)/bin/slotplan
@@ -8,18 +10,22 @@
 #               a change's time grows with its supplier's rows and beside others', and the speed of texts alone; no test
 
 SCRIPT ?= examples/first.script
+CRATES ?=
 PREFIX ?= /usr/local
 
 program := crates/fr_cli/out/fr_cli
 build_log := out/build.log
 
-.PHONY: run test try store install bench build toolchain
+.PHONY: run test edits try store install bench build toolchain
 
 run: build
 	@$(program) run < $(SCRIPT)
 
 test: toolchain
 	@python3 tests/gate.py
+
+edits: toolchain
+	@python3 tests/edits.py $(CRATES)
 
 try: build
 	@python3 tests/program.py $(program)
