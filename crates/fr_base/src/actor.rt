@@ -11,7 +11,7 @@ use crate::key::Key;
 use crate::name::Name;
 
 /// Who asks: the vehicle's integrator, or one of its suppliers.
-#[derive(Clone, Copy, Debug, PartialEq, Eq)]
+#[derive(Clone, Copy, PartialEq, Eq)]
 pub enum Actor {
     /// The integrator, who opens variants, adds nodes and grants slots.
     Integrator,

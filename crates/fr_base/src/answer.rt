@@ -9,7 +9,6 @@ use crate::slot::Slot;
 
 /// What a request is answered. `all` is true where the integrator asked, who sees the rows of all
 /// suppliers.
-#[derive(Debug)]
 pub enum Answer {
     /// The command was carried out.
     Done,
@@ -53,7 +52,7 @@ impl Drop for Answer {
 }
 
 /// A node holds this slot and channel, in all cycles.
-#[derive(Clone, Copy, Debug, PartialEq, Eq)]
+#[derive(Clone, Copy, PartialEq, Eq)]
 pub struct GrantRow {
     pub slot: Slot,
     pub channel: Channel,
@@ -62,7 +61,7 @@ pub struct GrantRow {
 }
 
 /// A frame, the node that sends it, and its placements by slot, channels, base and repetition.
-#[derive(Debug, Drop)]
+#[derive(Drop)]
 pub struct FrameRow {
     pub frame: Name,
     pub node: Name,
@@ -71,7 +70,7 @@ pub struct FrameRow {
 }
 
 /// One cell of the schedule: a frame is sent in this cycle, slot and channel.
-#[derive(Clone, Copy, Debug, PartialEq, Eq)]
+#[derive(Clone, Copy, PartialEq, Eq)]
 pub struct Sending {
     /// The communication cycle, 0 to 63.
     pub cycle: u8,
@@ -85,7 +84,7 @@ pub struct Sending {
 
 /// A frame's greatest gap: the most macroticks from the start of one of its slots to the next, round
 /// the ring of all cycles. A frame without a placement has none.
-#[derive(Clone, Copy, Debug, PartialEq, Eq)]
+#[derive(Clone, Copy, PartialEq, Eq)]
 pub struct GapRow {
     pub frame: Name,
     pub supplier: Name,
@@ -93,7 +92,7 @@ pub struct GapRow {
 }
 
 /// A signal of a supplier's frame.
-#[derive(Clone, Copy, Debug, PartialEq, Eq)]
+#[derive(Clone, Copy, PartialEq, Eq)]
 pub struct SignalRow {
     pub supplier: Name,
     pub signal: Signal,

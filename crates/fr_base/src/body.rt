@@ -8,9 +8,15 @@ use std::alloc::Global;
 use std::marker::Model;
 
 /// The bytes of an import, as they were sent.
-#[derive(Debug, Drop)]
 pub struct Body {
     bytes: Vec<u8>,
+}
+
+// It is written out, so that a caller does not prove again how the bytes are dropped.
+impl Drop for Body {
+    fn drop(self) {
+        let Body { bytes: _ } = self;
+    }
 }
 
 impl Model for Body {
@@ -42,7 +48,7 @@ impl Body {
 }
 
 /// The bytes of an import, in the request that sent them.
-#[derive(Debug, Drop)]
+#[derive(Drop)]
 pub struct BodyRef<'a> {
     bytes: &'a [u8],
 }

@@ -4,7 +4,7 @@ ghost use Rattle.fr_base.specs.Channels.{channel_of_text, channels_in, channels_
 
 /// One of the two channels of a FlexRay cluster. In one slot a node may send the same or different data
 /// on A and B (FlexRay Protocol Specification 2.1 Rev. A, chapter 5, media access control).
-#[derive(Clone, Copy, Debug, PartialEq, Eq, PartialOrd, Ord, Hash)]
+#[derive(Clone, Copy, Debug, PartialEq, Eq, PartialOrd, Ord)]
 pub enum Channel {
     /// Channel A.
     A,
@@ -14,7 +14,7 @@ pub enum Channel {
 
 /// The channels that a cluster has, or on which a frame is sent: one of them, or both. Their order is
 /// A, AB, B.
-#[derive(Clone, Copy, Debug, PartialEq, Eq, PartialOrd, Ord, Hash)]
+#[derive(Clone, Copy, PartialEq, Eq, PartialOrd, Ord)]
 pub enum Channels {
     /// Channel A alone.
     A,

@@ -10,7 +10,7 @@ use std::alloc::Global;
 use std::marker::Model;
 
 /// A supplier and its key.
-#[derive(Clone, Copy, Debug, PartialEq, Eq)]
+#[derive(Clone, Copy, PartialEq, Eq)]
 pub struct Supplier {
     /// The supplier's name.
     pub name: Name,
@@ -19,7 +19,7 @@ pub struct Supplier {
 }
 
 /// A list of suppliers, in any order.
-#[derive(Debug, Drop)]
+#[derive(Drop)]
 pub struct Suppliers {
     list: Vec<Supplier>,
 }
@@ -77,7 +77,7 @@ impl Suppliers {
 /// What a cluster file says: the cluster's parameters, the integrator's key, and the suppliers with
 /// their keys, in byte order of their names. There are at most 64, no name stands twice, and all keys
 /// differ, the integrator's too.
-#[derive(Debug, Drop)]
+#[derive(Drop)]
 pub struct Config {
     params: Params,
     integrator: Key,

@@ -9,14 +9,14 @@ pub const CYCLE_COUNT: u32 = 64;
 
 /// Base and repetition select no set of cycles: the repetition is none of 1, 2, 4, 8, 16, 32 and 64,
 /// or the base is not below it.
-#[derive(Clone, Copy, Debug, PartialEq, Eq, Hash)]
+#[derive(Clone, Copy, Debug, PartialEq, Eq)]
 pub struct BadCycles;
 
 /// The communication cycles `c` of 0 to 63 with `c mod repetition = base`. The repetition is 1, 2, 4, 8,
 /// 16, 32 or 64, a divisor of [`CYCLE_COUNT`], and the base is below it. This is the register's form of
 /// cycle filtering, by which several frames share a slot and channel. Sets are ordered by base, and
 /// then by repetition.
-#[derive(Clone, Copy, Debug, PartialEq, Eq, PartialOrd, Ord, Hash)]
+#[derive(Clone, Copy, PartialEq, Eq, PartialOrd, Ord)]
 pub struct CycleSet {
     base: u8,
     repetition: u8,

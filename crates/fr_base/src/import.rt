@@ -12,7 +12,7 @@ use crate::refusal::Refusal;
 use crate::signal::Signal;
 
 /// What the rows of an import's file are, as its first record says.
-#[derive(Clone, Copy, Debug, PartialEq, Eq)]
+#[derive(Clone, Copy, PartialEq, Eq)]
 pub enum Header {
     /// Frames with placements: `frame,node,slot,channels,base,repetition`.
     Placements,
@@ -21,7 +21,7 @@ pub enum Header {
 }
 
 /// A row of an import's file, with checked values.
-#[derive(Clone, Copy, Debug, PartialEq, Eq)]
+#[derive(Clone, Copy, PartialEq, Eq)]
 pub enum Row {
     /// The node's frame, added where it is not there yet, is sent in the placement's cells too.
     Place {
@@ -37,7 +37,7 @@ pub enum Row {
 }
 
 /// A row as it was read, or why it is refused by its own text.
-#[derive(Clone, Copy, Debug, PartialEq, Eq)]
+#[derive(Clone, Copy, PartialEq, Eq)]
 pub struct RowRead {
     /// The row's place among the file's records, of which the header is the first.
     pub line: u32,

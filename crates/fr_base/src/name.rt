@@ -30,7 +30,7 @@ const NAME_BYTES: &[bool; 256] = &[
 
 /// The name of a supplier, node, variant, frame or signal: 1 to 32 ASCII letters, digits and
 /// underscores, of which the first is a letter. Case matters.
-#[derive(Clone, Copy, PartialEq, Eq, PartialOrd, Ord, Hash)]
+#[derive(Clone, Copy, PartialEq, Eq, PartialOrd, Ord)]
 pub struct Name {
     text: FixedText<32>,
 }

@@ -12,7 +12,7 @@ use std::marker::Model;
 /// the network idle time, in this order (FlexRay Protocol Specification 2.1 Rev. A, 5.1; the names in
 /// brackets are those of its appendix B). The ranges below are those that [`Params::check`] asks for;
 /// of macroticks and payload the standard allows less.
-#[derive(Clone, Copy, Debug, PartialEq, Eq)]
+#[derive(Clone, Copy, PartialEq, Eq)]
 pub struct RawParams {
     /// The channels that the cluster has (`gChannels`).
     pub channels: Channels,
@@ -35,7 +35,7 @@ pub struct RawParams {
 }
 
 /// Why parameters make no cluster. Where several apply, the first of this list is answered.
-#[derive(Clone, Copy, Debug, PartialEq, Eq, Hash)]
+#[derive(Clone, Copy, Debug, PartialEq, Eq)]
 pub enum ParamFault {
     /// There are not 2 to 1023 static slots.
     BadSlots,
@@ -49,7 +49,7 @@ pub enum ParamFault {
 
 /// The parameters of a cluster's static segment, within their ranges and with segments that are
 /// together as long as the cycle. [`RawParams`] says what each field means.
-#[derive(Clone, Copy, Debug, PartialEq, Eq)]
+#[derive(Clone, Copy, PartialEq, Eq)]
 pub struct Params {
     raw: RawParams,
 }

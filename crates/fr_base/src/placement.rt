@@ -7,7 +7,7 @@ use crate::slot::Slot;
 /// base and a repetition. A frame ID is used at most once on a channel in one cycle (FlexRay Protocol
 /// Specification 2.1 Rev. A, chapter 5, media access control). Placements are ordered by slot,
 /// channels, base and repetition.
-#[derive(Clone, Copy, Debug, PartialEq, Eq, PartialOrd, Ord, Hash)]
+#[derive(Clone, Copy, PartialEq, Eq, PartialOrd, Ord)]
 pub struct Placement {
     /// The slot, which is the frame ID.
     pub slot: Slot,

@@ -9,7 +9,6 @@ use crate::slot::Slot;
 use crate::text::Text;
 
 /// What is asked, with its texts and numbers as they were sent.
-#[derive(Debug)]
 pub enum Request {
     /// The integrator opens a variant: empty, or with all rows of a released one.
     OpenVariant {
@@ -197,7 +196,7 @@ impl Drop for Request {
 }
 
 /// A request and who asks it.
-#[derive(Debug, Drop)]
+#[derive(Drop)]
 pub struct Ask {
     pub actor: Actor,
     pub request: Request,
@@ -205,7 +204,7 @@ pub struct Ask {
 
 /// A request that changes the register, with checked values, by what it changes: a variant for all, a
 /// supplier's nodes, or one supplier's rows in a variant.
-#[derive(Clone, Copy, Debug, PartialEq, Eq)]
+#[derive(Clone, Copy, PartialEq, Eq)]
 pub enum Command {
     /// The integrator's, common to all suppliers.
     Common(CommonCommand),
@@ -223,7 +222,7 @@ pub enum Command {
 }
 
 /// What the integrator does with a variant, for all suppliers.
-#[derive(Clone, Copy, Debug, PartialEq, Eq)]
+#[derive(Clone, Copy, PartialEq, Eq)]
 pub enum CommonCommand {
     /// The variant is opened: empty, or with all rows of a released one.
     OpenVariant { variant: Name, parent: Option<Name> },
@@ -232,7 +231,7 @@ pub enum CommonCommand {
 }
 
 /// What changes of one supplier's rows in a variant.
-#[derive(Clone, Copy, Debug, PartialEq, Eq)]
+#[derive(Clone, Copy, PartialEq, Eq)]
 pub enum Change {
     /// The integrator grants a static slot on a channel, in all cycles, to the supplier's node.
     Grant {
@@ -253,7 +252,7 @@ pub enum Change {
 }
 
 /// What a supplier changes of one of its frames.
-#[derive(Clone, Copy, Debug, PartialEq, Eq)]
+#[derive(Clone, Copy, PartialEq, Eq)]
 pub enum FrameChange {
     /// The frame is added; the node sends it.
     Add { node: Name },
@@ -270,7 +269,7 @@ pub enum FrameChange {
 }
 
 /// A supplier's import, with checked names; what its file says is not yet read.
-#[derive(Debug, Drop)]
+#[derive(Drop)]
 pub struct Import<'a> {
     pub supplier: Name,
     pub variant: Name,
@@ -279,7 +278,7 @@ pub struct Import<'a> {
 }
 
 /// A request that only reads, with checked values.
-#[derive(Clone, Copy, Debug, PartialEq, Eq)]
+#[derive(Clone, Copy, PartialEq, Eq)]
 pub enum Query {
     Grants { variant: Name },
     Frames { variant: Name },
@@ -289,7 +288,7 @@ pub enum Query {
 }
 
 /// A request whose own texts and numbers are in order.
-#[derive(Debug, Drop)]
+#[derive(Drop)]
 pub enum Checked<'a> {
     Command(Command),
     Import(Import<'a>),

@@ -4,7 +4,7 @@ use std::alloc::Global;
 use std::marker::Model;
 
 /// The rows of an answer, in order.
-#[derive(Debug, Drop)]
+#[derive(Drop)]
 pub struct Rows<T> {
     rows: Vec<T>,
 }

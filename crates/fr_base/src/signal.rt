@@ -7,7 +7,7 @@ use std::marker::Model;
 
 /// In which order a signal's bits lie in the payload, of which bit `p` is bit `p mod 8` of byte
 /// `p div 8`, bit 0 being a byte's least significant one.
-#[derive(Clone, Copy, Debug, PartialEq, Eq, Hash)]
+#[derive(Clone, Copy, PartialEq, Eq)]
 pub enum Order {
     /// Intel: from the least significant bit, at the start, upwards.
     Little,
@@ -51,11 +51,11 @@ impl Order {
 }
 
 /// The length is no signal's: 0, or above 64 bits.
-#[derive(Clone, Copy, Debug, PartialEq, Eq, Hash)]
+#[derive(Clone, Copy, Debug, PartialEq, Eq)]
 pub struct BadSignal;
 
 /// A named run of 1 to 64 payload bits that holds one unsigned number.
-#[derive(Clone, Copy, Debug, PartialEq, Eq, Hash)]
+#[derive(Clone, Copy, PartialEq, Eq)]
 pub struct Signal {
     name: Name,
     start: u32,

@@ -7,7 +7,7 @@ use std::marker::Model;
 /// The number of a static slot, 1 to 1023, which is the frame ID of the frames sent in it. On each
 /// channel the slots are numbered from 1 (FlexRay Protocol Specification 2.1 Rev. A, chapter 5, media
 /// access control; the range in appendix B).
-#[derive(Clone, Copy, Debug, PartialEq, Eq, PartialOrd, Ord, Hash)]
+#[derive(Clone, Copy, PartialEq, Eq, PartialOrd, Ord)]
 pub struct Slot {
     number: u32,
 }

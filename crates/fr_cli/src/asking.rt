@@ -12,7 +12,7 @@ use fr_text::{write_gaps, write_schedule};
 use std::alloc::Global;
 
 /// A report of a variant.
-#[derive(Clone, Copy, Debug, PartialEq, Eq)]
+#[derive(Clone, Copy, PartialEq, Eq)]
 pub enum Report {
     /// What is sent in which cycle, slot and channel.
     Schedule,
@@ -63,7 +63,7 @@ pub fn report_on<D: Desk>(
 }
 
 /// What the command line says of an import.
-#[derive(Clone, Copy, Debug)]
+#[derive(Clone, Copy)]
 pub struct ImportWords<'a> {
     /// The key of who asks.
     pub key: &'a str,

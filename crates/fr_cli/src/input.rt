@@ -20,7 +20,7 @@ pub const SCRIPT_READS: u32 = 20_000_000;
 const PIECE_BYTES: usize = 8192;
 
 /// How much of an input is read.
-#[derive(Clone, Copy, Debug, PartialEq, Eq)]
+#[derive(Clone, Copy, PartialEq, Eq)]
 pub struct ReadBounds {
     /// The most bytes that the input may have.
     pub bytes: usize,

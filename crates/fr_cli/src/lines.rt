@@ -57,7 +57,7 @@ fn without_return(line: &[u8]) -> &[u8]
 }
 
 /// The requests of a script, in order: each line after the separator's that is not empty.
-#[derive(Clone, Copy, Debug)]
+#[derive(Clone, Copy)]
 pub struct RequestLines<'a> {
     rest: &'a [u8],
 }

@@ -10,7 +10,7 @@ use clap::{ArgMatches, Error};
 use std::alloc::Global;
 
 /// What the program is to do.
-#[derive(Clone, Copy, Debug, PartialEq, Eq)]
+#[derive(Clone, Copy, PartialEq, Eq)]
 pub enum Job<'a> {
     /// Answer the script on standard input.
     Run,

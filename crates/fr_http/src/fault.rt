@@ -3,7 +3,7 @@ use crate::method::Method;
 use fr_base::{NoMemory, Refusal};
 
 /// What the engine answers itself.
-#[derive(Clone, Copy, Debug, PartialEq, Eq)]
+#[derive(Clone, Copy, PartialEq, Eq)]
 pub enum Rejection {
     /// The bytes are no head and can't become one, or the body's length is no number.
     BadRequest,
@@ -37,7 +37,7 @@ pub enum LinkFault {
 }
 
 /// Why a connection asks nothing of the register.
-#[derive(Clone, Copy, Debug, PartialEq, Eq)]
+#[derive(Clone, Copy, PartialEq, Eq)]
 pub enum Unasked {
     /// The engine answers itself.
     Engine(Rejection),

@@ -12,7 +12,7 @@ use std::alloc::{AllocError, Global};
 use std::str;
 
 /// What a path asks for.
-#[derive(Clone, Copy, Debug, PartialEq, Eq)]
+#[derive(Clone, Copy, PartialEq, Eq)]
 pub enum Route {
     /// The body is a request.
     Commands,

@@ -19,10 +19,19 @@ const MAX_SIGNALS: usize = 64;
 
 /// The signals of a frame in a payload of up to 127 words of two bytes: at most 64, each inside the
 /// payload, no two of one name, and no bit in two of them. They are listed in the order of their starts.
-#[derive(Drop)]
 pub struct Layout {
     words: u32,
     signals: Vec<Signal>,
+}
+
+// It is written out, so that a caller does not prove again how the signals are dropped.
+impl Drop for Layout {
+    fn drop(self) {
+        let Layout {
+            words: _,
+            signals: _,
+        } = self;
+    }
 }
 
 impl Model for Layout {

@@ -10,7 +10,7 @@ use std::alloc::Global;
 
 /// There was no memory for one more answer. The requests that were answered were carried out, and of
 /// the others none was asked.
-#[derive(Debug, Drop)]
+#[derive(Drop)]
 pub struct Stopped {
     /// The answers to the requests before that.
     pub answers: Vec<Answer>,

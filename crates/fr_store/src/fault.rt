@@ -1,7 +1,7 @@
 //! Why a register cannot be made or opened.
 
 /// Why a register cannot be made or opened, or what was asked of it cannot be carried out.
-#[derive(Clone, Copy, Debug, PartialEq, Eq, Hash, Drop)]
+#[derive(Clone, Copy, Debug, PartialEq, Eq, Drop)]
 pub enum StoreFault {
     /// A register was to be made where one of its tables is.
     NotEmpty,

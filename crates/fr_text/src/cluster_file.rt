@@ -22,7 +22,7 @@ use toml::{Table, Value};
 
 /// Why bytes are no cluster file. Where several apply, the first of this list is answered, but
 /// `NoMemory` may come at any point.
-#[derive(Clone, Copy, Debug, PartialEq, Eq, Hash)]
+#[derive(Clone, Copy, Debug, PartialEq, Eq)]
 pub enum ConfigFault {
     /// The bytes are no TOML document.
     BadToml,

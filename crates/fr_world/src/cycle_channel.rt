@@ -9,7 +9,7 @@ use fr_base::{Channel, Channels, Placement, Slot};
 
 /// A cell's cycle and channel: all that differs in a placement's cells. The cycle comes first in the
 /// order, then A before B.
-#[derive(Clone, Copy, Debug, PartialEq, Eq, PartialOrd, Ord)]
+#[derive(Clone, Copy, PartialEq, Eq, PartialOrd, Ord)]
 pub(crate) struct CycleChannel {
     pub(crate) cycle: u8,
     pub(crate) channel: Channel,

@@ -2,7 +2,7 @@
 use fr_base::{Body, Change, Name};
 
 /// A change of the register's rows, with their keys and, where it adds a row, all of it.
-#[derive(Debug, Drop, PartialEq, Eq)]
+#[derive(Drop, PartialEq, Eq)]
 pub enum Edit {
     /// A variant, empty or with all rows of its parent. One without a parent has depth 1, another one
     /// more than its parent.

@@ -35,7 +35,7 @@ pub fn greatest_gap(params: &Params, placements: &[Placement]) -> Option<u32>
 
 /// The moments so far, in rising order: the first one, the last one, and the greatest step from one to
 /// the next.
-#[derive(Clone, Copy, Debug)]
+#[derive(Clone, Copy)]
 struct Moments {
     first: u32,
     last: u32,

@@ -2,7 +2,7 @@
 use fr_base::{Channel, Name, Placement, Refusal};
 
 /// A filled cell of a slot, and the frame that is sent there.
-#[derive(Clone, Copy, Debug, PartialEq, Eq)]
+#[derive(Clone, Copy, PartialEq, Eq)]
 pub struct TakenCell {
     /// The communication cycle, 0 to 63.
     pub cycle: u8,

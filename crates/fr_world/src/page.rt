@@ -6,7 +6,7 @@ use std::collections::{BTreeMap, BTreeSet};
 use std::marker::Model;
 
 /// A static slot on a channel. Slots come first in the order, then A before B.
-#[derive(Clone, Copy, Debug, PartialEq, Eq, PartialOrd, Ord)]
+#[derive(Clone, Copy, PartialEq, Eq, PartialOrd, Ord)]
 pub struct ChannelSlot {
     /// The slot, 1 to 1023.
     pub slot: Slot,

@@ -6,7 +6,7 @@ use crate::edit::Edit;
 use fr_base::{CommonCommand, MAX_DEPTH, MAX_VARIANTS, Name, Refusal};
 
 /// A variant of the register, without the rows in it.
-#[derive(Clone, Copy, Debug, PartialEq, Eq)]
+#[derive(Clone, Copy, PartialEq, Eq)]
 pub struct VariantRow {
     /// Its name.
     pub variant: Name,
