@@ -13,7 +13,7 @@ SCRIPT ?= examples/first.script
 CRATES ?=
 PREFIX ?= /usr/local
 
-program := crates/fr_cli/out/fr_cli
+program := crates/slotplan/out/slotplan
 build_log := out/build.log
 
 .PHONY: run test edits try store install bench build toolchain
@@ -49,7 +49,7 @@ bench: build
 build: toolchain
 	@mkdir -p out
 	@test -x $(program) || echo "proving and building $(program): minutes, the first time" >&2
-	@(cd crates/fr_cli && rt run -- run < stdin) > $(build_log) 2>&1 \
+	@(cd crates/slotplan && rt run -- run < stdin) > $(build_log) 2>&1 \
 	  || { tail -n 40 $(build_log) >&2; echo "make: the program was not built; $(build_log) says why" >&2; exit 1; }
 
 toolchain:

@@ -69,7 +69,7 @@ def seconds_of(program, cluster, lines):
 
 def main():
     words = argparse.ArgumentParser(description=__doc__, formatter_class=argparse.RawDescriptionHelpFormatter)
-    words.add_argument("--program", default=HERE.parent / "crates/fr_cli/out/fr_cli", type=Path)
+    words.add_argument("--program", default=HERE.parent / "crates/slotplan/out/slotplan", type=Path)
     words.add_argument("--changes", type=int, default=1_000)
     given = words.parse_args()
     print(f"{'frames':>6} {'placements':>10} {'plan s':>7} {'us/request':>10} {'growth':>6}")

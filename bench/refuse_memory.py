@@ -94,7 +94,7 @@ def fault_of(program, script, out, err, status):
 
 def main():
     words = argparse.ArgumentParser(description=__doc__, formatter_class=argparse.RawDescriptionHelpFormatter)
-    words.add_argument("--program", default=HERE.parent / "crates/fr_cli/out/fr_cli", type=Path)
+    words.add_argument("--program", default=HERE.parent / "crates/slotplan/out/slotplan", type=Path)
     words.add_argument("script", nargs="?", default=HERE.parent / "examples/first.script", type=Path)
     given = words.parse_args()
     script = given.script.read_bytes()

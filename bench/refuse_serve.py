@@ -213,7 +213,7 @@ COMMANDS = [
 
 def main():
     words = argparse.ArgumentParser(description=__doc__, formatter_class=argparse.RawDescriptionHelpFormatter)
-    words.add_argument("--program", default=HERE.parent / "crates/fr_cli/out/fr_cli", type=Path)
+    words.add_argument("--program", default=HERE.parent / "crates/slotplan/out/slotplan", type=Path)
     words.add_argument("--only", default="")
     given = words.parse_args()
     with tempfile.TemporaryDirectory() as room:

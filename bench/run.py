@@ -69,7 +69,7 @@ def tally(answers):
 
 def main():
     words = argparse.ArgumentParser(description=__doc__, formatter_class=argparse.RawDescriptionHelpFormatter)
-    words.add_argument("--program", default=HERE.parent / "crates/fr_cli/out/fr_cli", type=Path)
+    words.add_argument("--program", default=HERE.parent / "crates/slotplan/out/slotplan", type=Path)
     words.add_argument("--lines", type=int, default=20_000)
     words.add_argument("--suppliers", type=int, default=8)
     words.add_argument("--seed", type=int, default=1)

@@ -136,7 +136,7 @@ def changes(port, variant, count):
 
 def main():
     parser = argparse.ArgumentParser(description=__doc__.splitlines()[0])
-    parser.add_argument("--program", default=str(TOP / "crates/fr_cli/out/fr_cli"))
+    parser.add_argument("--program", default=str(TOP / "crates/slotplan/out/slotplan"))
     parser.add_argument("--requests", type=int, default=400)
     words = parser.parse_args()
     with tempfile.TemporaryDirectory() as folder:

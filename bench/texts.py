@@ -125,7 +125,7 @@ def show(name, count, size, ours, theirs):
 
 def main():
     words = argparse.ArgumentParser(description=__doc__, formatter_class=argparse.RawDescriptionHelpFormatter)
-    words.add_argument("--program", default=HERE.parent / "crates/fr_cli/out/fr_cli", type=Path)
+    words.add_argument("--program", default=HERE.parent / "crates/slotplan/out/slotplan", type=Path)
     words.add_argument("--lines", type=int, default=50_000)
     words.add_argument("--queries", type=int, default=25)
     given = words.parse_args()

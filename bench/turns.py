@@ -88,7 +88,7 @@ def each(program, names, lines, more):
 
 def main():
     words = argparse.ArgumentParser(description=__doc__, formatter_class=argparse.RawDescriptionHelpFormatter)
-    words.add_argument("--program", default=HERE.parent / "crates/fr_cli/out/fr_cli", type=Path)
+    words.add_argument("--program", default=HERE.parent / "crates/slotplan/out/slotplan", type=Path)
     words.add_argument("--requests", type=int, default=1_008)
     given = words.parse_args()
     names = ["s0", "s1"]

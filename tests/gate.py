@@ -10,7 +10,7 @@ import time
 from pathlib import Path
 
 TOP = Path(__file__).resolve().parent.parent
-PROGRAM = "crates/fr_cli/out/fr_cli"
+PROGRAM = "crates/slotplan/out/slotplan"
 # A check on each of up to four processors, 10 GB in all: `rt ci` would reckon with twice the memory, and wait for it.
 os.environ.setdefault("RT_JOBS", str(min(4, len(os.sched_getaffinity(0)))))
 COUNT = re.compile(r"(\d+) passed, (\d+) failed")

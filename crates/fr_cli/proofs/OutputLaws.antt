@@ -12,8 +12,8 @@ use Rattle.fr_base.specs.declared.answer.Answer.TheVariants.{Refused}
 use Rattle.fr_base.specs.declared.refusal.Refusal.{Refusal}
 use Rattle.fr_base.specs.declared.refusal.Refusal.TheVariants.{Unavailable}
 use Rattle.fr_base.specs.declared.request.Ask.{Ask}
-use Rattle.fr_office.specs.Answering.{Answers}
-use Rattle.fr_office.specs.Held.{Standing}
+use Rattle.fr_answers.specs.Answering.{Answers}
+use Rattle.fr_records.specs.Held.{Standing}
 use Rattle.fr_text.specs.AnswerText.{text_of}
 use Rattle.fr_cli.specs.Asked.{ask_in}
 use Rattle.fr_cli.specs.Answering.{AnswersLine, AnswersLines, Reads}

@@ -163,6 +163,3 @@ fn import_file(
         Err(fault) => Err(Failure::Fault(Fault::Register(fault))),
     }
 }
-
-#[cfg(test)]
-mod tests;

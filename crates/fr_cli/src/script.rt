@@ -126,6 +126,3 @@ fn actor_of<D: Desk>(desk: &D, key: &[u8]) -> Option<Actor>
 {
     desk.actor_of(str::from_utf8(key).ok()?)
 }
-
-#[cfg(test)]
-mod tests;

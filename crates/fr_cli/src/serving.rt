@@ -57,11 +57,11 @@ fn announce<O: Write>(alloc: Global, port: u16, out: &mut O) -> Result<(), Fault
 }
 
 // Serves so many connections.
-fn answer_all<E: Write>(
+fn answer_all<D: Desk, E: Write>(
     alloc: Global,
     listener: &TcpListener,
     count: u32,
-    desk: &mut FileDesk,
+    desk: &mut D,
     err: &mut Output<'_, E>,
 ) -> Result<(), Fault>
     ensures same { err.new.writer.ghost_name ≡ err.old.writer.ghost_name }
@@ -75,8 +75,14 @@ fn answer_all<E: Write>(
     Ok(())
 }
 
-// Serves one connection, and closes it once the client has read the reply.
-fn serve_stream<D: Desk>(alloc: Global, stream: &TcpStream, desk: &mut D) -> Result<(), LinkFault> {
+/// Serves one connection, and closes it once the client has read the reply.
+pub fn serve_stream<D: Desk>(
+    alloc: Global,
+    stream: &TcpStream,
+    desk: &mut D,
+) -> Result<(), LinkFault>
+    ensures falls { D.clean desk.new → D.clean desk.old }
+{
     let wait = Some(Duration::from_secs(WAIT_SECONDS));
     let _ = stream.set_read_timeout(wait);
     let _ = stream.set_write_timeout(wait);
@@ -102,6 +108,3 @@ fn finish(mut stream: &TcpStream) {
         }
     }
 }
-
-#[cfg(test)]
-mod tests;

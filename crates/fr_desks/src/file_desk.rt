@@ -1,9 +1,5 @@
 //! The desk of a register in a file.
 ghost use Rattle.std.specs.Prelude.{◌≡◌, ◌≢◌, ◌⊎◌, IfErr};
-ghost use Rattle.sqlite.specs.Files.{file_state};
-ghost use Rattle.sqlite.specs.State.{HasCleanDisk};
-ghost use Rattle.fr_office.specs.KeptPages.{StandsWarm};
-ghost use Rattle.fr_office.specs.Stored.{StandsStored};
 ghost use Rattle.fr_store.specs.declared.fault.StoreFault.TheVariants.{NotEmpty, Unavailable};
 
 use fr_base::{Actor, Answer, Ask, Config, Desk};
@@ -26,9 +22,9 @@ impl Drop for FileDesk {
 }
 
 impl Desk for FileDesk {
-    ghost stands = { λ it. StandsWarm (λ s. StandsStored s.config (file_state s.conn)) it.office.warm };
+    ghost stands = { λ it. ⟦<Office<Store<FileStore<FileFrom<Unknown>>>> as Desk>⟧.stands it.office };
 
-    ghost clean = { λ it. HasCleanDisk (file_state it.office.warm.records.conn) };
+    ghost clean = { λ it. ⟦<Office<Store<FileStore<FileFrom<Unknown>>>> as Desk>⟧.clean it.office };
 
     fn actor_of(&self, key: &str) -> Option<Actor> {
         self.office.actor_of(key)

@@ -1,16 +1,14 @@
 //! The desk of a register in memory.
 ghost use Rattle.std.specs.Prelude.{◌≡◌, ◌<◌, length, take, IfErr, IfOk, MatchResult, ⊤};
-ghost use Rattle.sqlite.specs.Files.{file_state};
 ghost use Rattle.fr_base.specs.Book.{Book, opening};
 ghost use Rattle.fr_base.specs.Cluster.{Cluster};
 ghost use Rattle.fr_base.specs.Sound.{IsSound};
-ghost use Rattle.fr_office.specs.Headline.{WereAnswered};
-ghost use Rattle.fr_office.specs.KeptPages.{StandsWarm};
-ghost use Rattle.fr_office.specs.Stored.{StandsStored};
+ghost use Rattle.fr_answers.specs.Headline.{WereAnswered};
 ghost use Rattle.fr_store.specs.declared.fault.StoreFault.TheVariants.{Unavailable};
 
 use fr_base::{Actor, Answer, Ask, Config, Desk};
-use fr_office::{Office, Stopped};
+use fr_answers::Stopped;
+use fr_office::Office;
 use fr_store::{MemoryFile, Store, StoreFault};
 use sqlite::FileStore;
 use std::alloc::Global;
@@ -28,7 +26,7 @@ impl Drop for MemoryDesk {
 }
 
 impl Desk for MemoryDesk {
-    ghost stands = { λ it. StandsWarm (λ s. StandsStored s.config (file_state s.conn)) it.office.warm };
+    ghost stands = { λ it. ⟦<Office<Store<FileStore<MemoryFile>>> as Desk>⟧.stands it.office };
 
     ghost clean = { λ _. ⊤ };
 

@@ -4,21 +4,19 @@ ghost use Rattle.fr_base.specs.Actors.{actor_of};
 ghost use Rattle.fr_base.specs.Book.{Book};
 ghost use Rattle.fr_base.specs.Cluster.{Cluster};
 ghost use Rattle.fr_base.specs.Sound.{IsSound};
-ghost use Rattle.fr_office.specs.Answering.{Answers};
-ghost use Rattle.fr_office.specs.Headline.{WereAnswered};
-ghost use Rattle.fr_office.specs.KeptPages.{StandsWarm};
+ghost use Rattle.fr_answers.specs.Answering.{Answers};
+ghost use Rattle.fr_answers.specs.Headline.{WereAnswered};
+ghost use Rattle.fr_answers.specs.KeptPages.{StandsWarm};
 
 mod stored;
 
-use crate::answering::answer;
-use crate::records::Records;
-use crate::running::{Stopped, run};
-use crate::warm::Warm;
+use fr_answers::{Stopped, Warm, answer, run};
 use fr_base::{Actor, Answer, Ask, Desk};
+use fr_records::Records;
 use std::alloc::Global;
 
 /// The office of a register, which answers requests from its records. It keeps pages of them in memory, of
-/// at most twice [`MAX_BYTES`](crate::MAX_BYTES), and none that is stale.
+/// at most twice [`MAX_BYTES`](fr_answers::MAX_BYTES), and none that is stale.
 pub struct Office<R: Records> {
     warm: Warm<R>,
 }

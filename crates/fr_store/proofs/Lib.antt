@@ -42,3 +42,4 @@ pub mod CommitLemmas
 pub mod ChainLemmas
 pub mod ReadyLemmas
 pub mod StandsForWorked
+pub mod StoredLaws

@@ -7,3 +7,4 @@ pub mod Applying
 pub mod Reading
 pub mod FrameEdits
 pub mod Paging
+pub mod Stored

@@ -14,6 +14,7 @@ mod queries;
 pub mod reading;
 mod slot_holder;
 mod store;
+mod store_records;
 
 pub use fault::StoreFault;
 pub use memory::MemoryFile;

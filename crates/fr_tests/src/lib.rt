@@ -1,22 +1,13 @@
-//! Calls of the libraries, tried from outside as their users call them. A test stands here for what no contract says:
-//! that calls succeed where there is memory, and that the definitions mean what tables and tools from outside say.
+//! Calls of the libraries below the store, tried from outside as their users call them. A test stands here for what no
+//! contract says: that calls succeed where there is memory, and that the definitions mean what tables and tools from outside
+//! say.
 #![tactic(auto)]
 
-#[cfg(test)]
-mod asks;
 #[cfg(test)]
 mod connection;
 #[cfg(test)]
 mod layouts;
 #[cfg(test)]
 mod page_rows;
-#[cfg(test)]
-mod registers;
-#[cfg(test)]
-mod reopened;
-#[cfg(test)]
-mod running;
-#[cfg(test)]
-mod warm;
 #[cfg(test)]
 mod world;

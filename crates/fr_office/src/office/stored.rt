@@ -6,7 +6,7 @@ ghost use Rattle.sqlite_wal.specs.Files.{outcomes};
 ghost use Rattle.sqlite_wal.specs.Reads.{AreClean};
 ghost use Rattle.fr_base.specs.Book.{Book};
 ghost use Rattle.fr_base.specs.Cluster.{Cluster};
-ghost use Rattle.fr_office.specs.Stored.{StandsStored};
+ghost use Rattle.fr_store.specs.Stored.{StandsStored};
 ghost use Rattle.fr_store.specs.StoreFiles.{HoldsBook};
 ghost use Rattle.fr_store.specs.declared.fault.StoreFault.TheVariants.{Unavailable};
 

@@ -1,6 +1,6 @@
 use Rattle.sqlite.specs.Files.{file_state}
 use Rattle.fr_base.specs.Book.{opening}
-use Rattle.fr_office.specs.Stored.{StandsStored}
+use Rattle.fr_store.specs.Stored.{StandsStored}
 use Rattle.fr_desks.proofs.memory_desk.MemoryDesk.new.Goals as goal
 
 pub returns-clause-stands : goal.returns-clause-stands

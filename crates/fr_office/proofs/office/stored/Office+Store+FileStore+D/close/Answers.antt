@@ -1,8 +1,8 @@
 use Rattle.std.proofs.Common.{subst, sym}
 use Rattle.sqlite.specs.Files.{file_state, image_of}
 use Rattle.sqlite.specs.State.{HasCleanDisk}
-use Rattle.fr_office.specs.Stored.{StandsStored}
-use Rattle.fr_office.proofs.StoredLaws.{holds_book, if_both}
+use Rattle.fr_store.specs.Stored.{StandsStored}
+use Rattle.fr_store.proofs.StoredLaws.{holds_book, if_both}
 use Rattle.fr_office.proofs.office.stored.Office+Store+FileStore+D.close.Goals as goal
 
 pub returns-clause-clean : goal.returns-clause-clean

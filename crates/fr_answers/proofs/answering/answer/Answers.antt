@@ -1,0 +1,29 @@
+use Rattle.std.proofs.Common.{rules, ◌≡◌, Ok, Err, subst}
+use Rattle.fr_base.specs.declared.params.Params.{Params}
+use Rattle.fr_answers.specs.Answering.{HasPassed}
+use Rattle.fr_answers.proofs.StepLaws.{acted, passed, unchecked, unknown}
+use Rattle.fr_answers.proofs.answering.answer.Goals as goal
+
+pub returns-then-not-is_known-clause-answers : goal.returns-then-not-is_known-clause-answers
+returns-then-not-is_known-clause-answers g c = λ clean.
+    unknown (g.R.Records.stands c.args.records.now) c.config-config.result.now c.config-config.ensures.config c.args.ask.now (search rules)
+
+pub act-requires : goal.act-requires
+act-requires g c =
+    let cluster : c.params-params.result ≡ g.R.Records.params c.args.records.now = search rules in
+    let fits = passed c.params-params.result c.args.ask.now.actor c.args.ask.now.request c.in-Ok.valid (search rules) in
+    record { passed = subst (λ (p : Params). HasPassed p c.args.ask.now.actor c.in-Ok.valid) cluster fits }
+
+pub returns-in-Ok-act-clause-answers : goal.returns-in-Ok-act-clause-answers
+returns-in-Ok-act-clause-answers g c = λ clean.
+    acted (g.R.Records.stands c.args.records.now) c.config-config.result.now c.config-config.ensures.config c.args.ask.now (search rules) c.in-Ok.valid (search rules) (g.R.Records.stands c.act.new.records) (Ok c.in-Ok-act.answer)
+    (c.in-Ok-act.ensures.acts clean)
+
+pub returns-in-Err-act-clause-answers : goal.returns-in-Err-act-clause-answers
+returns-in-Err-act-clause-answers g c = λ clean.
+    acted (g.R.Records.stands c.args.records.now) c.config-config.result.now c.config-config.ensures.config c.args.ask.now (search rules) c.in-Ok.valid (search rules) (g.R.Records.stands c.act.new.records) (Err c.in-Err-act.refusal)
+    (c.in-Err-act.ensures.acts clean)
+
+pub returns-in-Err-clause-answers : goal.returns-in-Err-clause-answers
+returns-in-Err-clause-answers g c = λ clean.
+    unchecked (g.R.Records.stands c.args.records.now) c.config-config.result.now c.config-config.ensures.config c.args.ask.now (search rules) c.in-Err.refusal (search rules)

@@ -1,0 +1,24 @@
+use Rattle.std.proofs.Common.{rules}
+use Rattle.fr_answers.proofs.CommandLaws.{named-there, node_carried, node_refused, node_unnamed}
+use Rattle.fr_answers.proofs.commands.nodes.add_node.Goals as goal
+
+pub returns-then-not-has_supplier-clause-does : goal.returns-then-not-has_supplier-clause-does
+returns-then-not-has_supplier-clause-does g c = λ clean.
+    let now = g.R.Records.stands c.args.records.now in
+    node_unnamed now now now c.args.supplier c.args.node
+    (named-there now c.config.result.now c.args.supplier c.has_supplier.result _ c.config.ensures.config c.has_supplier.ensures c.if-not-has_supplier.true)
+
+pub returns-in_err-edit-clause-does : goal.returns-in_err-edit-clause-does
+returns-in_err-edit-clause-does g c = λ clean.
+    let old = g.R.Records.stands c.args.records.now in
+    let mid = g.R.Records.stands c.nodes.new.self in
+    node_refused old mid mid c.args.supplier c.args.node c.in_ok-nodes.nodes.items
+    (named-there old c.config.result.now c.args.supplier c.has_supplier.result _ c.config.ensures.config c.has_supplier.ensures c.if-not-has_supplier.false)
+    (c.in_ok-nodes.ensures.nodes clean) c.from_residual-in_err-edit.result c.in_err-edit.field-0.0 (search rules) (search rules)
+
+pub returns-clause-does : goal.returns-clause-does
+returns-clause-does g c = λ clean.
+    let old = g.R.Records.stands c.args.records.now in
+    node_carried old (g.R.Records.stands c.nodes.new.self) (g.R.Records.stands c.apply.new.self) c.args.supplier c.args.node c.in_ok-nodes.nodes.items
+    (named-there old c.config.result.now c.args.supplier c.has_supplier.result _ c.config.ensures.config c.has_supplier.ensures c.if-not-has_supplier.false)
+    (c.in_ok-nodes.ensures.nodes (c.apply.ensures.falls clean)) c.in_ok-edit.edit c.apply.result (search rules) (c.apply.ensures.applies clean)

@@ -1,0 +1,60 @@
+use Rattle.std.proofs.Common.{rules}
+use Rattle.fr_answers.proofs.ImportLaws.{IsNew, count_lacked, label_again, label_free, label_stopped, no_room, page_stopped, refused_so, rows_given}
+use Rattle.fr_answers.proofs.imports.import.Goals as goal
+
+pub returns-in_err-rows-clause-gives : goal.returns-in_err-rows-clause-gives
+returns-in_err-rows-clause-gives g c = λ clean.
+    let old = g.R.Records.stands c.args.records.now in
+    let mid = g.R.Records.stands c.rows_kept.new.records in
+    let i = c.args.import.now in
+    refused_so old mid i c.from_residual.result c.in_err-rows.field-0.0 (search rules) (label_stopped i old mid c.in_err-rows.field-0.0 (c.in_err-rows.ensures.label clean))
+
+pub returns-in-Some-clause-gives : goal.returns-in-Some-clause-gives
+returns-in-Some-clause-gives g c = λ clean.
+    label_again c.args.import.now (g.R.Records.stands c.args.records.now) (g.R.Records.stands c.rows_kept.new.records) c.in_ok-rows.field-0 c.in-Some.rows (search rules) (c.in_ok-rows.ensures.label clean)
+
+pub returns-in_err-page-clause-gives : goal.returns-in_err-page-clause-gives
+returns-in_err-page-clause-gives g c = λ clean.
+    let old = g.R.Records.stands c.args.records.now in
+    let mid = g.R.Records.stands c.rows_kept.new.records in
+    let next = g.R.Records.stands c.open_page.new.records in
+    let i = c.args.import.now in
+    let new : IsNew old mid i = label_free i old mid c.in_ok-rows.field-0 (search rules) (c.in_ok-rows.ensures.label (c.open_page.ensures.falls clean)) in
+    refused_so old next i c.from_residual-in_err-page.result c.in_err-page.field-0.0 (search rules) (page_stopped i old mid new next c.in_err-page.field-0.0 (c.in_err-page.ensures.page clean))
+
+pub returns-in_err-count-clause-gives : goal.returns-in_err-count-clause-gives
+returns-in_err-count-clause-gives g c = λ clean.
+    let old = g.R.Records.stands c.args.records.now in
+    let mid = g.R.Records.stands c.rows_kept.new.records in
+    let next = g.R.Records.stands c.open_page.new.records in
+    let last = g.R.Records.stands c.imports.new.self in
+    let i = c.args.import.now in
+    let clean_next = c.imports.ensures.falls clean in
+    let new : IsNew old mid i = label_free i old mid c.in_ok-rows.field-0 (search rules) (c.in_ok-rows.ensures.label (c.open_page.ensures.falls clean_next)) in
+    refused_so old last i c.from_residual-in_err-count.result c.in_err-count.field-0.0 (search rules)
+    (count_lacked i old mid new next c.in_ok-page.page (c.in_ok-page.ensures.page clean_next) last c.imports.result c.in_err-count.field-0.0 (search rules) (c.imports.ensures.imports clean))
+
+pub returns-in_err-admit_import-clause-gives : goal.returns-in_err-admit_import-clause-gives
+returns-in_err-admit_import-clause-gives g c = λ clean.
+    let old = g.R.Records.stands c.args.records.now in
+    let mid = g.R.Records.stands c.rows_kept.new.records in
+    let next = g.R.Records.stands c.open_page.new.records in
+    let last = g.R.Records.stands c.imports.new.self in
+    let i = c.args.import.now in
+    let clean_next = c.imports.ensures.falls clean in
+    let new : IsNew old mid i = label_free i old mid c.in_ok-rows.field-0 (search rules) (c.in_ok-rows.ensures.label (c.open_page.ensures.falls clean_next)) in
+    refused_so old last i c.from_residual-in_err-admit_import.result c.in_err-admit_import.field-0.0 (search rules)
+    (no_room i old mid new next c.in_ok-page.page (c.in_ok-page.ensures.page clean_next) last c.in_ok-count.count (c.in_ok-count.ensures.imports clean) c.in_err-admit_import.field-0.0 (search rules))
+
+pub returns-clause-gives : goal.returns-clause-gives
+returns-clause-gives g c = λ clean.
+    let old = g.R.Records.stands c.args.records.now in
+    let mid = g.R.Records.stands c.rows_kept.new.records in
+    let next = g.R.Records.stands c.open_page.new.records in
+    let last = g.R.Records.stands c.imports.new.self in
+    let i = c.args.import.now in
+    let clean_last = c.import_rows.ensures.falls clean in
+    let clean_next = c.imports.ensures.falls clean_last in
+    let new : IsNew old mid i = label_free i old mid c.in_ok-rows.field-0 (search rules) (c.in_ok-rows.ensures.label (c.open_page.ensures.falls clean_next)) in
+    rows_given i old mid new next c.in_ok-page.page (c.in_ok-page.ensures.page clean_next) last c.in_ok-count.count (c.in_ok-count.ensures.imports clean_last) (search rules)
+    (g.R.Records.stands c.import_rows.new.records) c.import_rows.result (c.import_rows.ensures.gives clean)

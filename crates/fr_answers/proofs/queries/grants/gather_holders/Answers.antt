@@ -1,0 +1,32 @@
+use Rattle.std.proofs.Common.{◌+◌, ◌∙◌, ◌++◌, [], ◌∷◌, take, sym, ap}
+use Rattle.std.proofs.lemmas.List.{take_more}
+use Rattle.fr_answers.proofs.GrantLaws.{held-none, held-more, held-all}
+use Rattle.fr_answers.proofs.OwnReplies.{finds-kept}
+use Rattle.fr_answers.proofs.queries.grants.gather_holders.Goals as goal
+
+pub loop-supplier-init : goal.loop-supplier-init
+loop-supplier-init g c =
+    record {
+      falls = λ now. now;
+      gathered = λ now. held-none (g.R.Records.stands c.args.records.now) c.args.variant c.new-held.result.entries c.new-held.ensures.empty;
+    }
+
+pub loop-supplier-preserved : goal.loop-supplier-preserved
+loop-supplier-preserved g c =
+    let records = g.R.Records in
+    let i = c.loop-supplier.supplier-index in
+    let suppliers = c.args.suppliers.now in
+    record {
+      falls = λ now. c.loop-supplier.invariant.falls (c.find_page.ensures.falls (c.keep.ensures.falls now));
+      gathered = λ now.
+          held-more (records.stands c.args.records.now) c.args.variant (records.stands c.loop-supplier.records) (records.stands c.keep.new.self)
+          c.supplier-item.result (take i suppliers) (take (i + 1) suppliers) c.in_ok-page.page c.loop-supplier.held.entries c.add_grants.new.held.entries
+          (c.loop-supplier.invariant.gathered (c.find_page.ensures.falls (c.keep.ensures.falls now))) (finds-kept _ _ _ _ _ _ (c.in_ok-page.ensures.page (c.keep.ensures.falls now)) (c.keep.ensures.keeps now)) c.in_ok-add_grants.ensures
+          (take_more suppliers i c.supplier-item.result c.loop-supplier-test.true ∙ ap (λ s. take i suppliers ++ s ∷ []) (sym c.supplier-item.is));
+    }
+
+pub returns-clause-gathers : goal.returns-clause-gathers
+returns-clause-gathers g c = λ now.
+    let records = g.R.Records in
+    held-all (records.stands c.args.records.now) c.args.variant (records.stands c.loop-supplier.records)
+    c.loop-supplier.supplier-index c.args.suppliers.now c.loop-supplier.held.entries c.loop-supplier-test.false (c.loop-supplier.invariant.gathered now)

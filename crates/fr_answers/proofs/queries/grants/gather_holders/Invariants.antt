@@ -1,0 +1,12 @@
+use Rattle.std.proofs.Common.{take}
+use Rattle.fr_answers.proofs.GrantLaws.{HoldsSoFar}
+use Rattle.fr_answers.proofs.queries.grants.gather_holders.Given as goal
+
+-- the grants of the suppliers so far
+abbrev pub invariant-loop-supplier : goal.invariant-loop-supplier
+invariant-loop-supplier g l =
+    let records = g.R.Records in
+    record {
+      falls : records.clean l.records → records.clean l.fn.records;
+      gathered : records.clean l.records → HoldsSoFar (records.stands l.fn.records) (records.stands l.records) l.variant (take l.supplier-index l.suppliers) l.held.entries;
+    }

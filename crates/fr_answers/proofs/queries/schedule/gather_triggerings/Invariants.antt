@@ -1,0 +1,14 @@
+use Rattle.std.proofs.Common.{◌≡◌, take}
+use Rattle.fr_base.specs.Book.{placements_of}
+use Rattle.fr_answers.proofs.GatherLaws.{IsSoFar, each_own}
+use Rattle.fr_answers.proofs.queries.schedule.gather_triggerings.Given as goal
+
+-- the placements of the suppliers so far
+abbrev pub invariant-loop-supplier : goal.invariant-loop-supplier
+invariant-loop-supplier g l =
+    let records = g.R.Records in
+    record {
+      falls : records.clean l.records → records.clean l.fn.records;
+      gathered : records.clean l.records →
+          IsSoFar (records.stands l.fn.records) (records.stands l.records) l.variant (λ p x. l.triggerings ≡ each_own (λ p t. placements_of t) p x (take l.supplier-index l.suppliers));
+    }

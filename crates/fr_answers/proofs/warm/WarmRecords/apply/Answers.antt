@@ -1,0 +1,19 @@
+use Rattle.std.proofs.Common.{◌≡◌, rules, subst, sym}
+use Rattle.fr_base.specs.declared.params.Params.{Params}
+use Rattle.fr_answers.specs.KeptPages.{AreOf}
+use Rattle.fr_answers.proofs.WarmLaws.{untouched_all, warm_applied, warm_lacked}
+use Rattle.fr_answers.proofs.warm.WarmRecords.apply.Goals as goal
+
+pub invariant_of-self-2 : goal.invariant_of-self-2
+invariant_of-self-2 g c =
+    subst (λ (p : Params). AreOf p c.let_go.new.self) (sym c.apply.ensures.same)
+    (subst (AreOf (g.R.Records.params c.self.inside.records)) (sym c.let_go.ensures) (untouched_all (λ page. page.params ≡ g.R.Records.params c.self.inside.records) c.args.edits.now c.self.inside.pages c.self.invariant))
+
+pub returns-in_err-apply-clause-applies : goal.returns-in_err-apply-clause-applies
+returns-in_err-apply-clause-applies g c = λ clean.
+    warm_lacked g.R.Records.stands _ c.args.self.now c.self.view_is (g.R.Records.stands c.apply.new.self) c.args.edits.now c.from_residual.result c.apply.result c.in_err-apply.field-0.0 (search rules) (search rules)
+    (c.apply.ensures.applies clean)
+
+pub returns-clause-applies : goal.returns-clause-applies
+returns-clause-applies g c = λ clean.
+    warm_applied g.R.Records.stands _ c.args.self.now c.self.view_is (g.R.Records.stands c.apply.new.self) c.args.edits.now c.let_go.new.self c.let_go.ensures c.follow.new.self c.follow.ensures c.apply.result (search rules) (c.apply.ensures.applies clean)

@@ -1,0 +1,7 @@
+use Rattle.fr_answers.proofs.WarmLaws.{warm_tells}
+use Rattle.fr_answers.proofs.warm.WarmRecords.import.Goals as goal
+
+pub returns-clause-import : goal.returns-clause-import
+returns-clause-import g c = λ clean.
+    let records = g.R.Records in
+    warm_tells records.stands _ c.args.self.now c.self.view_is (records.stands c.import.new.self) c.import.result _ (c.import.ensures.import clean)

@@ -1,0 +1,7 @@
+use Rattle.fr_answers.proofs.WarmLaws.{warm_tells}
+use Rattle.fr_answers.proofs.warm.WarmRecords.is_held.Goals as goal
+
+pub returns-clause-held : goal.returns-clause-held
+returns-clause-held g c = λ clean.
+    let records = g.R.Records in
+    warm_tells records.stands _ c.args.self.now c.self.view_is (records.stands c.is_held.new.self) c.is_held.result _ (c.is_held.ensures.held clean)

@@ -1,0 +1,47 @@
+-- What the office makes of a request.
+use Rattle.std.specs.Prelude.{◌≡◌, Bool, true, [], ◌∷◌, Result, Ok, Err, IsTrue, MatchResult, ⊤}
+use Rattle.fr_base.specs.Book.{Book, suppliers_of}
+use Rattle.fr_base.specs.Cluster.{Cluster}
+use Rattle.fr_base.specs.Run.{IsRun}
+use Rattle.fr_base.specs.Sound.{IsSound}
+use Rattle.fr_base.specs.Step.{act, knows}
+use Rattle.fr_base.specs.Tables.{contains}
+use Rattle.fr_base.specs.declared.actor.Actor.{Actor}
+use Rattle.fr_base.specs.declared.actor.Actor.TheVariants.{Integrator, Supplier}
+use Rattle.fr_base.specs.declared.answer.Answer.{Answer}
+use Rattle.fr_base.specs.declared.answer.Answer.TheVariants.{Refused}
+use Rattle.fr_base.specs.declared.params.Params.{Params}
+use Rattle.fr_base.specs.declared.refusal.Refusal.{Refusal}
+use Rattle.fr_base.specs.declared.request.Ask.{Ask}
+use Rattle.fr_base.specs.declared.request.Checked.{Checked}
+use Rattle.fr_base.specs.declared.request.Checked.TheVariants as checked
+use Rattle.fr_answers.specs.Carried.{IsRefused}
+use Rattle.fr_answers.specs.Decided.{IsCheckedCommand}
+use Rattle.fr_records.specs.Held.{Standing}
+
+-- whether the cluster file has who asks
+abbrev pub is_known : Cluster → Actor → Bool
+is_known c Integrator = true
+is_known c (Supplier s) = contains (suppliers_of c) s
+
+-- So much of what the check of a request leaves is needed: a command's values fit the cluster, and an import is of who asks.
+abbrev pub HasPassed : Params → Actor → Checked → Type 0
+HasPassed p actor (checked.Command command) = IsCheckedCommand p command
+HasPassed p actor (checked.Import i) = actor ≡ Supplier i.supplier
+HasPassed p actor (checked.Query query) = ⊤
+
+-- In a sound book that knows who asks, a request with checked values was carried out as the definition has it, and the records stand
+-- for the book after it; or nothing was done.
+abbrev pub Acts : Standing → Standing → Result Answer Refusal → Actor → Checked → Type 0
+Acts old new r actor valid = (c : Cluster) (b : Book) → old c b → IsSound c b → IsTrue (knows b actor) → MatchResult r
+    (λ answer. (after : Book) × (act c b actor valid ≡ Ok (record { book = after; answer = answer })) × new c after)
+    (λ e. IsRefused new c b e (act c b actor valid))
+
+-- the answer to a request, whose refusal is one too
+abbrev pub answer_of : Result Answer Refusal → Answer
+answer_of (Ok answer) = answer
+answer_of (Err refusal) = Refused refusal
+
+-- In a sound book the request was answered by one step, or it is Unavailable where it may be; and the records stand for the book after it.
+abbrev pub Answers : Standing → Standing → Ask → Answer → Type 0
+Answers old new ask answer = (c : Cluster) (b : Book) → old c b → IsSound c b → (last : Book) × new c last × IsRun c b (ask ∷ []) (answer ∷ []) last

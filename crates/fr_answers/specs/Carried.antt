@@ -1,0 +1,59 @@
+-- What the office makes of a request with checked values, and how it answers.
+use Rattle.std.specs.Prelude.{◌≡◌, ◌⊎◌, List, Vec, Result, Ok, Err, MatchResult, ⊤}
+use Rattle.std.specs.declared.alloc.Global.{Global}
+use Rattle.fr_base.specs.Book.{Book}
+use Rattle.fr_base.specs.Cluster.{Cluster}
+use Rattle.fr_base.specs.Sound.{IsSound}
+use Rattle.fr_base.specs.Step.{Outcome}
+use Rattle.fr_base.specs.declared.answer.Answer.{Answer}
+use Rattle.fr_base.specs.declared.answer.Answer.TheVariants.{Done}
+use Rattle.fr_base.specs.declared.refusal.Refusal.{Refusal}
+use Rattle.fr_base.specs.declared.refusal.Refusal.TheVariants.{Unavailable}
+use Rattle.fr_base.specs.declared.request.Change.{Change}
+use Rattle.fr_world.specs.BookEdits.{all_applied}
+use Rattle.fr_world.specs.Fits.{AllFit}
+use Rattle.fr_world.specs.Pages.{PageData}
+use Rattle.fr_world.specs.declared.edit.Edit.{Edit}
+use Rattle.fr_answers.specs.Decided.{allowed}
+use Rattle.fr_records.specs.Held.{IsFresh, Standing}
+
+-- Nothing was done: for the reason that the definition has, or the answer is Unavailable; and the records stand for the same book as before.
+abbrev pub IsRefused : {A : Type 0} → Standing → Cluster → Book → Refusal → Result A Refusal → Type 0
+IsRefused new c b e said = new c b × ((e ≡ Unavailable) ⊎ (said ≡ Err e))
+
+-- In a sound book a change was carried out as the definition has it, and the records stand for the book after it; or nothing was done.
+abbrev pub Does : Standing → Standing → Result ⊤ Refusal → (Cluster → Book → Result Book Refusal) → Type 0
+Does old new r does = (c : Cluster) (b : Book) → old c b → IsSound c b → MatchResult r
+    (λ _. (after : Book) × (does c b ≡ Ok after) × new c after)
+    (λ e. IsRefused new c b e (does c b))
+
+-- The edits of a change of the page's rows were decided, or its refusal; or it is Unavailable. The records stand for the same book as before.
+abbrev pub Allows : Standing → Standing → Result (Vec Edit Global) Refusal → PageData → Change → Type 0
+Allows old new r page change = (c : Cluster) (b : Book) → old c b → new c b × MatchResult r
+    (λ edits. allowed b page change ≡ Ok edits.items)
+    (λ e. (e ≡ Unavailable) ⊎ (allowed b page change ≡ Err e))
+
+-- The edits were carried out, where they fit and the page on which they were decided is the book's; or the answer is Unavailable, and the
+-- records stand for the same book as before.
+abbrev pub Makes : {X : Type 0} → Standing → Standing → Result X Refusal → PageData → List Edit → Type 0
+Makes old new r page edits = (c : Cluster) (b : Book) → old c b → IsFresh c.params b page → AllFit b edits →
+    MatchResult r (λ _. new c (all_applied b edits)) (λ e. (e ≡ Unavailable) × new c b)
+
+-- So with a command, which is answered Done where it was carried out.
+abbrev pub Performs : Standing → Standing → Result ⊤ Refusal → (Cluster → Book → Result Outcome Refusal) → Type 0
+Performs old new r does = (c : Cluster) (b : Book) → old c b → IsSound c b → MatchResult r
+    (λ _. (after : Book) × (does c b ≡ Ok (record { book = after; answer = Done })) × new c after)
+    (λ e. IsRefused new c b e (does c b))
+
+-- So with what has an answer of its own.
+abbrev pub Gives : Standing → Standing → Result Answer Refusal → (Cluster → Book → Result Outcome Refusal) → Type 0
+Gives old new r does = (c : Cluster) (b : Book) → old c b → IsSound c b → MatchResult r
+    (λ answer. (after : Book) × (does c b ≡ Ok (record { book = after; answer = answer })) × new c after)
+    (λ e. IsRefused new c b e (does c b))
+
+-- What is asked of the book, as a query, is answered as the definition has it, or Unavailable; and the records stand for the same book
+-- as before.
+abbrev pub Replies : {A : Type 0} → Standing → Standing → Result A Refusal → (Cluster → Book → Result A Refusal) → Type 0
+Replies old new r reply = (c : Cluster) (b : Book) → old c b → IsSound c b → new c b × MatchResult r
+    (λ answer. reply c b ≡ Ok answer)
+    (λ e. (e ≡ Unavailable) ⊎ (reply c b ≡ Err e))

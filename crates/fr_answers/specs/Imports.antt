@@ -1,0 +1,40 @@
+-- What the office makes of an import.
+use Rattle.std.specs.Prelude.{◌≡◌, length, Result, Ok, None, IsTrue, MatchResult}
+use Rattle.fr_base.specs.Book.{Book}
+use Rattle.fr_base.specs.Cluster.{Cluster}
+use Rattle.fr_base.specs.ImportRows.{rows_of_body}
+use Rattle.fr_base.specs.Refusing.{◌>>=◌}
+use Rattle.fr_base.specs.Sound.{IsSound}
+use Rattle.fr_base.specs.Step.{Outcome, import, imported}
+use Rattle.fr_base.specs.Tables.{get, contains}
+use Rattle.fr_base.specs.declared.answer.Answer.{Answer}
+use Rattle.fr_base.specs.declared.params.Params.{Params}
+use Rattle.fr_base.specs.declared.refusal.Refusal.{Refusal}
+use Rattle.fr_base.specs.declared.refusal.Refusal.TheVariants.{Unavailable}
+use Rattle.fr_base.specs.declared.request.Import.{Import}
+use Rattle.fr_world.specs.BookEdits.{all_applied}
+use Rattle.fr_world.specs.Pages.{PageData}
+use Rattle.fr_world.specs.RowDecisions.{rows_decision}
+use Rattle.fr_answers.specs.Carried.{IsRefused}
+use Rattle.fr_answers.specs.Decided.{open_page}
+use Rattle.fr_records.specs.Held.{Standing}
+
+-- In a sound book the import of a supplier that is there is carried out as the definition has it, and the records stand for the book
+-- after it; or nothing was done.
+abbrev pub GivesImport : Standing → Standing → Result Answer Refusal → Import → Type 0
+GivesImport old new r i = (c : Cluster) (b : Book) → old c b → IsSound c b → IsTrue (contains b.suppliers i.supplier) → MatchResult r
+    (λ answer. (after : Book) × (import c.params b i (get b.imports (i.supplier, i.label)) ≡ Ok (record { book = after; answer = answer })) × new c after)
+    (λ e. IsRefused new c b e (import c.params b i (get b.imports (i.supplier, i.label))))
+
+-- what comes of the import's rows, as they are decided on this page
+abbrev pub rows_outcome : Params → Book → Import → PageData → Outcome
+rows_outcome p b i page =
+    imported b i (length (rows_of_body p i.body)) (rows_decision page (rows_of_body p i.body) >>= λ edits. Ok (all_applied b edits))
+
+-- In a sound book the rows of a new import were carried out, as they are decided on its supplier's page, or the first refused one is told;
+-- and the records stand for the book after it. Or it is Unavailable, and they stand for the same book as before.
+abbrev pub GivesRows : Standing → Standing → Result Answer Refusal → Import → PageData → Type 0
+GivesRows old new r i page = (c : Cluster) (b : Book) → old c b → IsSound c b → IsTrue (contains b.suppliers i.supplier) →
+    get b.imports (i.supplier, i.label) ≡ None → open_page c.params b i.supplier i.variant ≡ Ok page → MatchResult r
+    (λ answer. (answer ≡ (rows_outcome c.params b i page).answer) × new c (rows_outcome c.params b i page).book)
+    (λ e. (e ≡ Unavailable) × new c b)

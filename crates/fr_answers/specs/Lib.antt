@@ -1,0 +1,10 @@
+pub mod Answering
+pub mod Carried
+pub mod Decided
+pub mod Headline
+pub mod Imports
+pub mod ImportCounts
+pub mod KeptPages
+pub mod Shared
+pub mod Shelves
+pub mod Shown

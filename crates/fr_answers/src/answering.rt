@@ -1,0 +1,62 @@
+//! How the office answers one request.
+ghost use Rattle.std.specs.Prelude.{◌≡◌};
+ghost use Rattle.fr_answers.specs.Answering.{Acts, Answers, HasPassed, is_known};
+
+use crate::commands::carry_out;
+use crate::imports::import;
+use crate::queries::reply;
+use crate::suppliers::has_supplier;
+use fr_base::{Actor, Answer, Ask, Checked, Config, Refusal, check};
+use fr_records::Records;
+use std::alloc::Global;
+
+/// Answers a request: `UnknownKey` where who asks is not there; then what the request's own text refuses;
+/// then it is carried out, or `Unavailable`.
+pub fn answer<R: Records>(alloc: Global, records: &mut R, ask: &Ask) -> Answer
+    ensures falls { R.clean records.new → R.clean records.old }
+    ensures answers { R.clean records.new → Answers (R.stands records.old) (R.stands records.new) ask.now result }
+{
+    let config = records.config();
+    if !is_known(config, &ask.actor) {
+        return Answer::Refused(Refusal::UnknownKey);
+    }
+    let params = config.params();
+    match check(&params, &ask.actor, &ask.request) {
+        Ok(valid) => match act(alloc, records, &ask.actor, &valid) {
+            Ok(answer) => answer,
+            Err(refusal) => Answer::Refused(refusal),
+        },
+        Err(refusal) => Answer::Refused(refusal),
+    }
+}
+
+// Whether the cluster file has who asks.
+fn is_known(config: &Config, actor: &Actor) -> bool
+    ensures { result ≡ is_known config.now actor.now }
+{
+    match actor {
+        Actor::Integrator => true,
+        Actor::Supplier(supplier) => has_supplier(config, *supplier),
+    }
+}
+
+// Carries out a request that was checked under the cluster's parameters.
+fn act<R: Records>(
+    alloc: Global,
+    records: &mut R,
+    actor: &Actor,
+    valid: &Checked<'_>,
+) -> Result<Answer, Refusal>
+    requires passed { HasPassed (R.params records.old) actor.now valid.now }
+    ensures falls { R.clean records.new → R.clean records.old }
+    ensures acts { R.clean records.new → Acts (R.stands records.old) (R.stands records.new) result actor.now valid.now }
+{
+    match valid {
+        Checked::Command(command) => {
+            carry_out(alloc, records, command)?;
+            Ok(Answer::Done)
+        }
+        Checked::Import(new) => import(alloc, records, new),
+        Checked::Query(query) => reply(alloc, records, actor, query),
+    }
+}

@@ -1,0 +1,37 @@
+//! What commands make of the records.
+ghost use Rattle.fr_base.specs.Step.{perform};
+ghost use Rattle.fr_answers.specs.Carried.{Performs};
+ghost use Rattle.fr_answers.specs.Decided.{IsCheckedCommand};
+
+mod common;
+mod nodes;
+mod rows;
+
+use crate::commands::common::change_common;
+use crate::commands::nodes::add_node;
+use crate::commands::rows::change_rows;
+use fr_base::{Command, Refusal};
+use fr_records::Records;
+use std::alloc::Global;
+
+/// Carries out a command whose values were checked under the cluster's parameters. It is refused
+/// as the register refuses it, or with `Unavailable`, and then nothing was done.
+pub(crate) fn carry_out<R: Records>(
+    alloc: Global,
+    records: &mut R,
+    command: &Command,
+) -> Result<(), Refusal>
+    requires checked { IsCheckedCommand (R.params records.old) command.now }
+    ensures falls { R.clean records.new → R.clean records.old }
+    ensures does { R.clean records.new → Performs (R.stands records.old) (R.stands records.new) result (λ c b. perform c.params b command.now) }
+{
+    match command {
+        Command::Common(command) => change_common(alloc, records, command),
+        Command::AddNode { supplier, node } => add_node(alloc, records, *supplier, *node),
+        Command::Rows {
+            supplier,
+            variant,
+            change,
+        } => change_rows(alloc, records, *supplier, *variant, change),
+    }
+}

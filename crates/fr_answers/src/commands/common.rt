@@ -1,0 +1,22 @@
+//! The integrator's commands on all suppliers.
+ghost use Rattle.fr_base.specs.Step.{common};
+ghost use Rattle.fr_answers.specs.Carried.{Does};
+
+use fr_base::{CommonCommand, Refusal};
+use fr_records::Records;
+use fr_world::decide_common;
+use std::alloc::Global;
+
+/// A variant is opened or released.
+pub(crate) fn change_common<R: Records>(
+    alloc: Global,
+    records: &mut R,
+    command: &CommonCommand,
+) -> Result<(), Refusal>
+    ensures falls { R.clean records.new → R.clean records.old }
+    ensures does { R.clean records.new → Does (R.stands records.old) (R.stands records.new) result (λ c b. common b command.now) }
+{
+    let variants = records.variants(alloc)?;
+    let edit = decide_common(&variants, command)?;
+    records.apply(alloc, &[edit])
+}

@@ -1,0 +1,21 @@
+//! What requests are answered, each of the integrator or of a supplier, from the records of a register: each supplier is
+//! answered as if it were alone.
+#![tactic(auto)]
+
+mod amending;
+mod answering;
+mod commands;
+mod import_counts;
+mod imports;
+mod open_page;
+mod pages;
+mod queries;
+mod running;
+mod shelf;
+mod suppliers;
+mod warm;
+
+pub use answering::answer;
+pub use running::{Stopped, run};
+pub use shelf::MAX_BYTES;
+pub use warm::Warm;

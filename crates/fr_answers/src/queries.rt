@@ -1,0 +1,173 @@
+//! What queries are answered from the records.
+ghost use Rattle.std.specs.Prelude.{◌≡◌, IfOk};
+ghost use Rattle.fr_base.specs.Queries.{reply, variant_asked};
+ghost use Rattle.fr_base.specs.declared.actor.Actor.TheVariants.{Integrator, Supplier};
+ghost use Rattle.fr_answers.specs.Carried.{Replies};
+ghost use Rattle.fr_answers.specs.Shown.{FindsPage, ShowsAll, ShowsOwn};
+
+mod frames;
+mod gaps;
+mod grants;
+mod layout;
+mod schedule;
+mod suppliers;
+mod variants;
+
+use crate::queries::frames::{gather_frames, push_frames};
+use crate::queries::gaps::{gather_gaps, push_gaps};
+use crate::queries::grants::{gather_grants, page_grants};
+use crate::queries::layout::{gather_signals, push_signals};
+use crate::queries::schedule::{gather_schedule, page_schedule};
+use crate::queries::suppliers::supplier_names;
+use crate::queries::variants::has_variant;
+use fr_base::{Actor, Answer, Name, Query, Refusal, Rows};
+use fr_records::Records;
+use fr_world::Page;
+use std::alloc::Global;
+
+/// The answer to a query with checked values: to a supplier of its own rows, to the integrator of those
+/// of all. `NoVariant`, for a layout then `NoFrame`, and `Unavailable` where memory is refused or the
+/// records are.
+pub(crate) fn reply<R: Records>(
+    alloc: Global,
+    records: &mut R,
+    actor: &Actor,
+    query: &Query,
+) -> Result<Answer, Refusal>
+    ensures falls { R.clean records.new → R.clean records.old }
+    ensures replies { R.clean records.new → Replies (R.stands records.old) (R.stands records.new) result (λ c b. reply c.params b actor.now query.now) }
+{
+    match actor {
+        Actor::Supplier(supplier) => reply_to_supplier(alloc, records, *supplier, query),
+        Actor::Integrator => reply_to_integrator(alloc, records, query),
+    }
+}
+
+// The answer to the integrator's query.
+fn reply_to_integrator<R: Records>(
+    alloc: Global,
+    records: &mut R,
+    query: &Query,
+) -> Result<Answer, Refusal>
+    ensures falls { R.clean records.new → R.clean records.old }
+    ensures replies { R.clean records.new → Replies (R.stands records.old) (R.stands records.new) result (λ c b. reply c.params b Integrator query.now) }
+{
+    if has_variant(alloc, records, variant_asked(query))? {
+        show_all(alloc, records, query)
+    } else {
+        Err(Refusal::NoVariant)
+    }
+}
+
+// What the query shows the integrator of the variant, which is there.
+fn show_all<R: Records>(alloc: Global, records: &mut R, query: &Query) -> Result<Answer, Refusal>
+    ensures falls { R.clean records.new → R.clean records.old }
+    ensures shows { R.clean records.new → ShowsAll (R.stands records.old) (R.stands records.new) query.now result }
+{
+    let params = records.config().params();
+    let suppliers = supplier_names(alloc, records.config())?;
+    let variant = variant_asked(query);
+    match query {
+        Query::Grants { .. } => {
+            let rows = gather_grants(alloc, records, &suppliers, variant)?;
+            Ok(Answer::Grants { all: true, rows })
+        }
+        Query::Frames { .. } => {
+            let rows = gather_frames(alloc, records, &suppliers, variant)?;
+            Ok(Answer::Frames { all: true, rows })
+        }
+        Query::Schedule { .. } => {
+            let rows = gather_schedule(alloc, records, &params, &suppliers, variant)?;
+            Ok(Answer::Schedule { all: true, rows })
+        }
+        Query::Gaps { .. } => {
+            let rows = gather_gaps(alloc, records, &suppliers, variant)?;
+            Ok(Answer::Gaps { all: true, rows })
+        }
+        Query::Layout { frame, .. } => {
+            match gather_signals(alloc, records, &suppliers, variant, *frame)? {
+                Some(rows) => Ok(Answer::Layout { all: true, rows }),
+                None => Err(Refusal::NoFrame),
+            }
+        }
+    }
+}
+
+// The answer to a supplier's query.
+fn reply_to_supplier<R: Records>(
+    alloc: Global,
+    records: &mut R,
+    supplier: Name,
+    query: &Query,
+) -> Result<Answer, Refusal>
+    ensures falls { R.clean records.new → R.clean records.old }
+    ensures replies { R.clean records.new → Replies (R.stands records.old) (R.stands records.new) result (λ c b. reply c.params b (Supplier supplier) query.now) }
+{
+    let page = find_page(alloc, records, supplier, variant_asked(query))?;
+    let answer = show(alloc, &page, query);
+    records.keep(page);
+    answer
+}
+
+/// The supplier's page of the variant; `NoVariant` where it is not there.
+pub(crate) fn find_page<R: Records>(
+    alloc: Global,
+    records: &mut R,
+    supplier: Name,
+    variant: Name,
+) -> Result<Page, Refusal>
+    ensures falls { R.clean records.new → R.clean records.old }
+    ensures params { IfOk result (λ page. page.params ≡ R.params records.new) }
+    ensures page { R.clean records.new → FindsPage (R.stands records.old) (R.stands records.new) result supplier variant }
+{
+    match records.page(alloc, supplier, variant)? {
+        Some(page) => Ok(page),
+        None => Err(Refusal::NoVariant),
+    }
+}
+
+// What the query shows the page's supplier.
+fn show(alloc: Global, page: &Page, query: &Query) -> Result<Answer, Refusal>
+    ensures { ShowsOwn page.now query.now result }
+{
+    match query {
+        Query::Grants { .. } => Ok(Answer::Grants {
+            all: false,
+            rows: page_grants(alloc, page)?,
+        }),
+        Query::Frames { .. } => {
+            let mut rows = Rows::new(alloc);
+            push_frames(alloc, page, &mut rows)?;
+            Ok(Answer::Frames { all: false, rows })
+        }
+        Query::Schedule { .. } => Ok(Answer::Schedule {
+            all: false,
+            rows: page_schedule(alloc, page)?,
+        }),
+        Query::Gaps { .. } => {
+            let mut rows = Rows::new(alloc);
+            push_gaps(page, &mut rows)?;
+            Ok(Answer::Gaps { all: false, rows })
+        }
+        Query::Layout { frame, .. } => {
+            let mut rows = Rows::new(alloc);
+            if !push_signals(page, *frame, &mut rows)? {
+                return Err(Refusal::NoFrame);
+            }
+            Ok(Answer::Layout { all: false, rows })
+        }
+    }
+}
+
+// The variant that the query asks about.
+fn variant_asked(query: &Query) -> Name
+    ensures { result ≡ variant_asked query.now }
+{
+    match query {
+        Query::Grants { variant } => *variant,
+        Query::Frames { variant } => *variant,
+        Query::Schedule { variant } => *variant,
+        Query::Gaps { variant } => *variant,
+        Query::Layout { variant, .. } => *variant,
+    }
+}

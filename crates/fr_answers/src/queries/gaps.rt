@@ -1,0 +1,45 @@
+//! The greatest gaps that a query shows.
+ghost use Rattle.std.specs.Prelude.{◌≡◌, ◌++◌, OnOk};
+ghost use Rattle.std.specs.List.{flat_map};
+ghost use Rattle.fr_base.specs.Book.{own};
+ghost use Rattle.fr_base.specs.Queries.{gaps_of};
+ghost use Rattle.fr_answers.specs.Shown.{Gathers};
+ghost use Rattle.fr_world.specs.Pages.{own_rows_of};
+
+use crate::queries::find_page;
+use fr_base::{GapRow, Name, NoMemory, Refusal, Rows};
+use fr_records::Records;
+use fr_world::{Page, gap_row};
+use std::alloc::Global;
+
+/// Appends the greatest gaps of the page's frames, by name. Where memory is refused, some of them may
+/// have been appended.
+pub(crate) fn push_gaps(page: &Page, rows: &mut Rows<GapRow>) -> Result<(), NoMemory>
+    ensures { OnOk result (rows.new ≡ rows.old ++ gaps_of page.now.params (own_rows_of page.now).frames) }
+{
+    let params = page.params();
+    let supplier = page.supplier();
+    for (name, frame) in page.frames().iter() {
+        rows.push(gap_row(&params, supplier, *name, frame))?;
+    }
+    Ok(())
+}
+
+/// The greatest gaps of these suppliers' frames in the variant, one supplier's after another's.
+pub(crate) fn gather_gaps<R: Records>(
+    alloc: Global,
+    records: &mut R,
+    suppliers: &[Name],
+    variant: Name,
+) -> Result<Rows<GapRow>, Refusal>
+    ensures falls { R.clean records.new → R.clean records.old }
+    ensures gathers { R.clean records.new → Gathers (R.stands records.old) (R.stands records.new) result variant (λ p x rows. rows ≡ flat_map (λ s. gaps_of p (own s x.frames)) suppliers.now) }
+{
+    let mut rows = Rows::new(alloc);
+    for supplier in suppliers {
+        let page = find_page(alloc, records, *supplier, variant)?;
+        push_gaps(&page, &mut rows)?;
+        records.keep(page);
+    }
+    Ok(rows)
+}

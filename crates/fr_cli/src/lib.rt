@@ -1,0 +1,24 @@
+//! What the program `slotplan` does: the jobs that the words of a command line ask for, and what is printed of each.
+#![tactic(auto)]
+
+mod asking;
+mod commands;
+mod creating;
+mod failure;
+mod fault;
+mod files;
+mod input;
+mod laws;
+mod lines;
+mod lines_out;
+pub mod perform;
+mod printing;
+mod script;
+mod script_fault;
+mod serving;
+mod words;
+
+pub use script::run_script;
+pub use script_fault::ScriptFault;
+pub use serving::serve_stream;
+pub use words::{Job, WordFault, read_words};

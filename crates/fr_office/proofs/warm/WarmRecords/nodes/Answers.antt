@@ -1,7 +1,0 @@
-use Rattle.fr_office.proofs.WarmLaws.{warm_tells}
-use Rattle.fr_office.proofs.warm.WarmRecords.nodes.Goals as goal
-
-pub returns-clause-nodes : goal.returns-clause-nodes
-returns-clause-nodes g c = λ clean.
-    let records = g.R.Records in
-    warm_tells records.stands _ c.args.self.now c.self.view_is (records.stands c.nodes.new.self) c.nodes.result _ (c.nodes.ensures.nodes clean)

@@ -1,0 +1,95 @@
+//! The register's records, as the office reads and changes them.
+ghost use Rattle.std.specs.Prelude.{◌≡◌, IfOk, IfSome, option_map};
+
+use fr_base::{Channel, Config, Name, Refusal, Slot};
+use fr_world::{Edit, KeptImport, Page, VariantRow};
+use std::alloc::Global;
+
+/// The records of a register, wherever they are kept. What is said of them holds as long as they are
+/// clean: once somebody else may have written to them nothing is known, and they are never clean again.
+/// The only refusal is `Unavailable`.
+pub trait Records {
+    ghost use Rattle.fr_base.specs.Book.{Book, own};
+    ghost use Rattle.fr_base.specs.Cluster.{Cluster};
+    ghost use Rattle.fr_base.specs.Tables.{contains, get, len};
+    ghost use Rattle.fr_base.specs.declared.params.Params.{Params};
+    ghost use Rattle.fr_records.specs.Held.{Applies, Keeps, Tells, held_in, page_of};
+    ghost use Rattle.fr_world.specs.BookEdits.{variants_in};
+    ghost use Rattle.fr_world.specs.ImportLabels.{kept_of};
+    ghost use Rattle.fr_world.specs.Pages.{nodes_in};
+
+    /// The book for which they stand, under a cluster file.
+    ghost stands: { Self → Cluster → Book → Type 0 };
+
+    /// Nobody else has written to them so far.
+    ghost clean: { Self → Type 0 };
+
+    /// The cluster's parameters, which stay.
+    ghost params: { Self → Params };
+
+    /// The cluster file, which stays.
+    fn config(&self) -> &Config
+        ensures params { result.now.params ≡ params self.now }
+        ensures config { (c : Cluster) (b : Book) → stands self.now c b → result.now ≡ c };
+
+    /// The supplier's page of the variant, if the variant is there. A page has the cluster's parameters.
+    fn page(
+        &mut self,
+        alloc: Global,
+        supplier: Name,
+        variant: Name,
+    ) -> Result<Option<Page>, Refusal>
+        ensures falls { clean self.new → clean self.old }
+        ensures same { params self.new ≡ params self.old }
+        ensures params { IfOk result (λ found. IfSome found (λ page. page.params ≡ params self.old)) }
+        ensures page { clean self.new → Tells (stands self.old) (stands self.new) result (λ c b found. found ≡ page_of c.params b supplier variant) };
+
+    /// Takes back a page that was read and is still as they have it. They may keep it, and need not read
+    /// it again.
+    fn keep(&mut self, page: Page)
+        requires params { page.params ≡ params self.old }
+        ensures falls { clean self.new → clean self.old }
+        ensures same { params self.new ≡ params self.old }
+        ensures keeps { clean self.new → Keeps (stands self.old) (stands self.new) page };
+
+    /// Whether anybody holds the slot on the channel in the variant.
+    fn is_held(&mut self, variant: Name, slot: Slot, channel: Channel) -> Result<bool, Refusal>
+        ensures falls { clean self.new → clean self.old }
+        ensures same { params self.new ≡ params self.old }
+        ensures held { clean self.new → Tells (stands self.old) (stands self.new) result (λ c b is. is ≡ held_in b variant (slot, channel)) };
+
+    /// The variants, by name.
+    fn variants(&mut self, alloc: Global) -> Result<Vec<VariantRow>, Refusal>
+        ensures falls { clean self.new → clean self.old }
+        ensures same { params self.new ≡ params self.old }
+        ensures variants { clean self.new → Tells (stands self.old) (stands self.new) result (λ c b rows. rows.items ≡ variants_in b) };
+
+    /// The supplier's nodes, in byte order.
+    fn nodes(&mut self, alloc: Global, supplier: Name) -> Result<Vec<Name>, Refusal>
+        ensures falls { clean self.new → clean self.old }
+        ensures same { params self.new ≡ params self.old }
+        ensures nodes { clean self.new → Tells (stands self.old) (stands self.new) result (λ c b names. names.items ≡ nodes_in b supplier) };
+
+    /// The import that the supplier keeps under the label, if one is kept.
+    fn import(
+        &mut self,
+        alloc: Global,
+        supplier: Name,
+        label: Name,
+    ) -> Result<Option<KeptImport>, Refusal>
+        ensures falls { clean self.new → clean self.old }
+        ensures same { params self.new ≡ params self.old }
+        ensures import { clean self.new → Tells (stands self.old) (stands self.new) result (λ c b found. option_map kept_of found ≡ get b.imports (supplier, label)) };
+
+    /// How many imports of the supplier are kept.
+    fn imports(&mut self, alloc: Global, supplier: Name) -> Result<usize, Refusal>
+        ensures falls { clean self.new → clean self.old }
+        ensures same { params self.new ≡ params self.old }
+        ensures imports { clean self.new → Tells (stands self.old) (stands self.new) result (λ c b count. count ≡ len (own supplier b.imports)) };
+
+    /// Carries out the edits, all or none. They fit the records, one after another.
+    fn apply(&mut self, alloc: Global, edits: &[Edit]) -> Result<(), Refusal>
+        ensures falls { clean self.new → clean self.old }
+        ensures same { params self.new ≡ params self.old }
+        ensures applies { clean self.new → Applies (stands self.old) (stands self.new) result edits.now };
+}

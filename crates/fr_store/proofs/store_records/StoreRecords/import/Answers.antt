@@ -1,0 +1,17 @@
+use Rattle.std.proofs.Common.{◌≡◌, arith, option_map}
+use Rattle.sqlite.specs.Held.{state}
+use Rattle.sqlite.specs.State.{HasCleanDisk}
+use Rattle.fr_base.specs.Tables.{get}
+use Rattle.fr_world.specs.ImportLabels.{kept_of}
+use Rattle.fr_store.proofs.StoredLaws.{told}
+use Rattle.fr_store.proofs.store_records.StoreRecords.import.Goals as goal
+
+pub returns-clause-import : goal.returns-clause-import
+returns-clause-import g c clean cluster b stored =
+    let mid = state g.S.Store c.see_open.new.store.conn in
+    let clean_mid : HasCleanDisk mid = omega (arith, c.import.ensures.spares.clean, clean) in
+    let there = c.in_ok-see_open.ensures.stands clean_mid cluster b stored in
+    let ready = c.in_ok-see_open.ensures.open clean_mid in
+    told mid (state g.S.Store c.import.new.self.conn) c.see_open.new.store.config c.import.new.self.config c.import.ensures.config clean cluster b there
+    (λ found. option_map kept_of found ≡ get b.imports (c.args.supplier, c.args.label)) c.import.result c.answer.result c.answer.ensures ready c.import.ensures.stays
+    (c.import.ensures.import clean cluster b (there.rows ready).0)

@@ -1,0 +1,16 @@
+use Rattle.std.proofs.Common.{◌≡◌, arith}
+use Rattle.sqlite.specs.Held.{state}
+use Rattle.sqlite.specs.State.{HasCleanDisk}
+use Rattle.fr_world.specs.Pages.{nodes_in}
+use Rattle.fr_store.proofs.StoredLaws.{told}
+use Rattle.fr_store.proofs.store_records.StoreRecords.nodes.Goals as goal
+
+pub returns-clause-nodes : goal.returns-clause-nodes
+returns-clause-nodes g c clean cluster b stored =
+    let mid = state g.S.Store c.see_open.new.store.conn in
+    let clean_mid : HasCleanDisk mid = omega (arith, c.nodes.ensures.spares.clean, clean) in
+    let there = c.in_ok-see_open.ensures.stands clean_mid cluster b stored in
+    let ready = c.in_ok-see_open.ensures.open clean_mid in
+    told mid (state g.S.Store c.nodes.new.self.conn) c.see_open.new.store.config c.nodes.new.self.config c.nodes.ensures.config clean cluster b there
+    (λ names. names.items ≡ nodes_in b c.args.supplier) c.nodes.result c.answer.result c.answer.ensures ready c.nodes.ensures.stays
+    (c.nodes.ensures.nodes clean cluster b (there.rows ready).0)

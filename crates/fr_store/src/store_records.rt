@@ -1,0 +1,96 @@
+//! A register whose rows are kept by SQL has the office's records.
+ghost use Rattle.std.specs.Prelude.{◌≡◌, Ok, Err, IfErr, IsTrue, MatchResult, OnOk};
+ghost use Rattle.sqlite.specs.Held.{state};
+ghost use Rattle.sqlite.specs.State.{HasCleanDisk};
+ghost use Rattle.fr_base.specs.declared.refusal.Refusal.TheVariants.{Unavailable};
+ghost use Rattle.fr_store.specs.Stored.{StandsStored};
+
+use crate::fault::StoreFault;
+use crate::store::Store;
+use fr_base::{Channel, Config, Name, Refusal, Slot};
+use fr_records::Records;
+use fr_world::{Edit, KeptImport, Page, VariantRow};
+use sqlite::Alter;
+use std::alloc::Global;
+
+impl<S: Alter> Records for Store<S> {
+    ghost stands = { λ s c b. StandsStored s.config (state S.Store s.conn) c b };
+
+    ghost clean = { λ s. HasCleanDisk (state S.Store s.conn) };
+
+    ghost params = { λ s. s.config.params };
+
+    fn config(&self) -> &Config {
+        self.config()
+    }
+
+    fn page(
+        &mut self,
+        alloc: Global,
+        supplier: Name,
+        variant: Name,
+    ) -> Result<Option<Page>, Refusal> {
+        see_open(self)?;
+        answer(self.page(alloc, &supplier, &variant))
+    }
+
+    fn keep(&mut self, _page: Page) {}
+
+    fn is_held(&mut self, variant: Name, slot: Slot, channel: Channel) -> Result<bool, Refusal> {
+        see_open(self)?;
+        let holder = answer(self.holder(&variant, slot, channel))?;
+        Ok(holder.is_some())
+    }
+
+    fn variants(&mut self, alloc: Global) -> Result<Vec<VariantRow>, Refusal> {
+        see_open(self)?;
+        answer(self.variants(alloc))
+    }
+
+    fn nodes(&mut self, alloc: Global, supplier: Name) -> Result<Vec<Name>, Refusal> {
+        see_open(self)?;
+        answer(self.nodes(alloc, &supplier))
+    }
+
+    fn import(
+        &mut self,
+        alloc: Global,
+        supplier: Name,
+        label: Name,
+    ) -> Result<Option<KeptImport>, Refusal> {
+        see_open(self)?;
+        answer(self.import(alloc, &supplier, &label))
+    }
+
+    fn imports(&mut self, _alloc: Global, supplier: Name) -> Result<usize, Refusal> {
+        see_open(self)?;
+        answer(self.imports(&supplier))
+    }
+
+    fn apply(&mut self, _alloc: Global, edits: &[Edit]) -> Result<(), Refusal> {
+        see_open(self)?;
+        answer(self.apply(edits))
+    }
+}
+
+// That the register can be asked. Of one that a fault has shut nothing is told and nothing is changed.
+fn see_open<S: Alter>(store: &mut Store<S>) -> Result<(), Refusal>
+    ensures falls { HasCleanDisk (state S.Store store.new.conn) → HasCleanDisk (state S.Store store.old.conn) }
+    ensures config { store.new.config ≡ store.old.config }
+    ensures open { HasCleanDisk (state S.Store store.new.conn) → OnOk result (IsTrue (state S.Store store.new.conn).is_open) }
+    ensures stands { HasCleanDisk (state S.Store store.new.conn) → (c : _) (b : _) → StandsStored store.old.config (state S.Store store.old.conn) c b → StandsStored store.new.config (state S.Store store.new.conn) c b }
+    ensures refused { IfErr result (λ e. e ≡ Unavailable) }
+{
+    if store.is_ready() {
+        Ok(())
+    } else {
+        Err(Refusal::Unavailable)
+    }
+}
+
+// What the store answers. Its faults are the register's `Unavailable`.
+fn answer<T>(told: Result<T, StoreFault>) -> Result<T, Refusal>
+    ensures { MatchResult told (λ x. result ≡ Ok x) (λ _. result ≡ Err Unavailable) }
+{
+    told.map_err(|_| Refusal::Unavailable)
+}

@@ -1,0 +1,89 @@
+//! What the check would let pass: a job that ends in a fault, or never sees what the jobs before it did, though
+//! nothing fails.
+use crate::fixture::{CLUSTER, PLAN, carried_out};
+use fr_cli::Job;
+use fr_cli::perform::perform;
+use fr_desks::FileDesk;
+use std::fs;
+use std::net::{Ipv4Addr, TcpListener};
+use std::test::Fail;
+
+/// The placement of the plan as an import.
+const PLACEMENTS: &str = "frame,node,slot,channels,base,repetition\nf1,n1,1,A,0,64\n";
+
+// Whether the job ends so: what it prints, what it says at standard error, its status.
+fn ends(rt: &HostRuntime, job: &Job<'_>, out: &str, err: &str, status: u8) -> bool {
+    let mut printed = Vec::new(rt.alloc());
+    let mut told = Vec::new(rt.alloc());
+    let done = perform(rt, job, &mut b"".as_slice(), &mut printed, &mut told);
+    done == status && printed.as_slice() == out.as_bytes() && told.as_slice() == err.as_bytes()
+}
+
+fn prints(rt: &HostRuntime, job: &Job<'_>, text: &str) -> bool {
+    ends(rt, job, text, "", 0)
+}
+
+fn fails(rt: &HostRuntime, job: &Job<'_>, why: &str) -> bool {
+    ends(rt, job, "", why, 1)
+}
+
+// Opens a variant in the register file, adds a node and grants it a slot.
+fn granted(rt: &HostRuntime, db: &str) -> Result<(), Fail> {
+    let mut desk = FileDesk::open(rt, db)?;
+    carried_out(rt.alloc(), &mut desk, &PLAN[..3])?;
+    desk.close();
+    Ok(())
+}
+
+/// A register is made, planned in, and read, each by a job of its own.
+#[test]
+fn each_command_finds_what_the_others_did(rt: HostRuntime) -> Result<(), Fail> {
+    let (db, config, file) = ("performed.db", "performed.toml", "performed.csv");
+    let variant = "v1";
+    fs::write(&rt, config, CLUSTER)?;
+    fs::write(&rt, file, PLACEMENTS)?;
+    let create = Job::Create { db, config };
+    assert!(rt; prints(&rt, &create, ""));
+    assert!(rt; fails(&rt, &create, "slotplan: NotEmpty\n"));
+    let gaps = Job::Gaps { db, variant };
+    assert!(rt; fails(&rt, &gaps, "{\"no\":10,\"refused\":\"NoVariant\"}\n"));
+    granted(&rt, db)?;
+    let import = Job::Import {
+        db,
+        key: "supplier01",
+        variant,
+        label: "l1",
+        file,
+    };
+    assert!(rt; prints(&rt, &import, "{\"ok\":\"imported\",\"rows\":1}\n"));
+    assert!(rt; prints(&rt, &Job::Schedule { db, variant }, "00 0001 A f1 n1 s1\n"));
+    assert!(rt; prints(&rt, &gaps, "GAP    6400 f1 s1\n"));
+    for path in [db, config, file] {
+        fs::remove_file(&rt, path)?;
+    }
+    Ok(())
+}
+
+/// A file that is no register, one that is not there, and a port that is taken.
+#[test]
+fn a_fault_is_told_by_its_word(rt: HostRuntime) -> Result<(), Fail> {
+    let (db, config, text) = ("told.db", "told.toml", "told.txt");
+    fs::write(&rt, text, [b'x'; 100])?;
+    let schedule = Job::Schedule {
+        db: text,
+        variant: "v1",
+    };
+    assert!(rt; fails(&rt, &schedule, "slotplan: NotARegister\n"));
+    let create = Job::Create { db, config };
+    assert!(rt; fails(&rt, &create, "slotplan: CannotOpen\n"));
+    fs::write(&rt, config, CLUSTER)?;
+    assert!(rt; prints(&rt, &create, ""));
+    let listener = TcpListener::bind(&rt, (Ipv4Addr::LOCALHOST, 0))?;
+    let port = listener.local_addr()?.port();
+    let serve = Job::Serve { db, port, count: 1 };
+    assert!(rt; fails(&rt, &serve, "slotplan: CannotListen\n"));
+    for path in [db, config, text] {
+        fs::remove_file(&rt, path)?;
+    }
+    Ok(())
+}

@@ -1,0 +1,52 @@
+//! The program `slotplan`.
+#![tactic(auto)]
+
+use fr_cli::perform::{explain, perform};
+use fr_cli::{WordFault, read_words};
+use std::env;
+use std::io::{self, ErrorKind};
+use std::process::ExitCode;
+
+fn main(rt: HostRuntime) -> ExitCode {
+    ExitCode::from(run(&rt))
+}
+
+// Does what the words of the command line ask for, and gives the status.
+fn run(rt: &HostRuntime) -> u8 {
+    let mut out = io::writer(rt);
+    let mut err = rt.stderr();
+    let words = match given_words(rt) {
+        Ok(words) => words,
+        Err(error) => return explain(&unread(rt, &error), &mut out, &mut err),
+    };
+    match read_words(rt.alloc(), &words) {
+        Ok(job) => perform(rt, &job, &mut rt.reader(), &mut out, &mut err),
+        Err(fault) => explain(&fault, &mut out, &mut err),
+    }
+}
+
+// The words after the program's name.
+fn given_words(rt: &HostRuntime) -> io::Result<Vec<String>> {
+    let mut words = Vec::new(rt.alloc());
+    for word in env::args(rt)?.skip(1) {
+        words.push(word)?;
+    }
+    Ok(words)
+}
+
+// Why the words cannot be read: there is no memory for them, or one is not UTF-8.
+fn unread(rt: &HostRuntime, error: &io::Error) -> WordFault {
+    if error.kind() == ErrorKind::OutOfMemory {
+        return WordFault::NoMemory;
+    }
+    match String::from_str(rt.alloc(), NOT_UTF8) {
+        Ok(text) => WordFault::Usage { text },
+        Err(_) => WordFault::NoMemory,
+    }
+}
+
+const NOT_UTF8: &str = "\
+error: a word is not UTF-8 text
+
+For more information, try '--help'.
+";
