@@ -6,8 +6,8 @@ ghost use Rattle.fr_base.specs.Sound.{IsSound};
 ghost use Rattle.fr_answers.specs.Headline.{WereAnswered};
 ghost use Rattle.fr_store.specs.declared.fault.StoreFault.TheVariants.{Unavailable};
 
-use fr_base::{Actor, Answer, Ask, Config, Desk};
 use fr_answers::Stopped;
+use fr_base::{Actor, Answer, Ask, Config, Desk};
 use fr_office::Office;
 use fr_store::{MemoryFile, Store, StoreFault};
 use sqlite::FileStore;

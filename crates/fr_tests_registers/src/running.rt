@@ -1,6 +1,6 @@
 //! What the check would let pass: a run that stops though there is memory.
-use fr_base::{Actor, Answer, Ask, Desk, Request, Text};
 use fr_answers::run;
+use fr_base::{Actor, Answer, Ask, Desk, Request, Text};
 use std::alloc::Global;
 use std::test::Fail;
 

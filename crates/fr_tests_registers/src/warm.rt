@@ -3,8 +3,8 @@
 ghost use Rattle.std.specs.Prelude.{◌≡◌, IfOk, IfSome};
 
 use crate::asks::{CLUSTER, ask};
-use fr_base::{Channel, Config, Name, Params, Refusal, Slot};
 use fr_answers::MAX_BYTES;
+use fr_base::{Channel, Config, Name, Params, Refusal, Slot};
 use fr_office::Office;
 use fr_records::Records;
 use fr_text::read_config;
