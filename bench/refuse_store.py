@@ -16,9 +16,11 @@ import tempfile
 from pathlib import Path
 
 from programs import built
-from refuse_memory import Refuser
 
 TOP = Path(__file__).resolve().parent.parent
+sys.path.insert(0, str(TOP / "tests"))
+from preload import Refuser
+
 SECONDS = 60
 
 PROGRAM = r"""//! Makes a register in a file, plans in it, and looks at it after each call.
@@ -143,7 +145,7 @@ fn applied(alloc: Global, store: &mut Register, step: u32) -> Result<(), Error> 
         2 => change(alloc, store, &Change::Grant { slot: slot(1)?, channel: Channel::A, node: name("n1")? }),
         3 => change(alloc, store, &Change::Frame { frame: name("f1")?, change: FrameChange::Add { node: name("n1")? } }),
         4 => place(alloc, store, 0),
-        5 => apply(store, several(alloc)?.as_slice()),
+        5 => apply(alloc, store, several(alloc)?.as_slice()),
         6 => common(alloc, store, &CommonCommand::Release { variant: v1 }),
         _ => common(alloc, store, &CommonCommand::OpenVariant { variant: name("v2")?, parent: Some(v1) }),
     }
@@ -157,8 +159,8 @@ fn slot(number: u32) -> Result<Slot, Error> {
     Slot::new(number).context("no slot")
 }
 
-fn apply(store: &mut Register, edits: &[Edit]) -> Result<(), Error> {
-    match store.apply(edits) {
+fn apply(alloc: Global, store: &mut Register, edits: &[Edit]) -> Result<(), Error> {
+    match store.apply(alloc, edits) {
         Ok(()) => Ok(()),
         Err(_) => bail!("refused"),
     }
@@ -169,7 +171,7 @@ fn common(alloc: Global, store: &mut Register, command: &CommonCommand) -> Resul
         bail!("refused");
     };
     match decide_common(variants.as_slice(), command) {
-        Ok(edit) => apply(store, &[edit]),
+        Ok(edit) => apply(alloc, store, &[edit]),
         Err(_) => bail!("refused"),
     }
 }
@@ -179,7 +181,7 @@ fn add_node(alloc: Global, store: &mut Register, supplier: Name, node: Name) -> 
         bail!("refused");
     };
     match decide_node(supplier, nodes.as_slice(), node) {
-        Ok(edit) => apply(store, &[edit]),
+        Ok(edit) => apply(alloc, store, &[edit]),
         Err(_) => bail!("refused"),
     }
 }
@@ -212,7 +214,7 @@ fn change(alloc: Global, store: &mut Register, change: &Change) -> Result<(), Er
         }
         _ => bail!("another change"),
     };
-    apply(store, edits.as_slice())
+    apply(alloc, store, edits.as_slice())
 }
 
 /// Whether a cluster of both channels has the placement.
@@ -238,7 +240,7 @@ fn place(alloc: Global, store: &mut Register, base: u32) -> Result<(), Error> {
     }
     let change = FrameChange::Place(placement);
     let edits = decided(alloc, &page, &Change::Frame { frame: name("f1")?, change })?;
-    apply(store, edits.as_slice())
+    apply(alloc, store, edits.as_slice())
 }
 
 fn of_frame(frame: &str, change: FrameChange) -> Result<Edit, Error> {
@@ -471,7 +473,7 @@ def refuse_each(program, room):
     while True:
         with tempfile.TemporaryDirectory(dir=room) as folder:
             wrong, names, status = tried(program, Path(folder), refuser.refusing(calls + 1))
-        was_refused = refuser.has_refused()
+        was_refused = refuser.has_acted()
         if wrong:
             sys.exit(f"allocation {calls + 1} refused: {wrong}")
         if not was_refused:

@@ -11,9 +11,11 @@ import sys
 import tempfile
 from pathlib import Path
 
-from refuse_memory import Refuser
+TOP = Path(__file__).resolve().parent.parent
+sys.path.insert(0, str(TOP / "tests"))
+from preload import Refuser
 
-CRATES = Path(__file__).resolve().parent.parent / "crates"
+CRATES = TOP / "crates"
 WORDS = (b"AllocError", b"NoMemory", b"Unavailable", b'error: "memory"', b'error: "no memory"', b"AllocFailed")
 
 
@@ -27,7 +29,7 @@ def refuse_each(tests, name, refuser):
     calls = failed = 0
     while True:
         ended = subprocess.run([tests, name], env={**os.environ, **refuser.refusing(calls + 1)}, capture_output=True)
-        if not refuser.has_refused():
+        if not refuser.has_acted():
             return calls, failed
         calls += 1
         if ended.returncode:

@@ -2,11 +2,12 @@
 """Prints a script of many requests, the same one for the same arguments: scripts.py MIX [--lines N] [--suppliers S] [--seed X]
 
 MIX is one of
-  plan      each command that there is, as integrator and suppliers plan; few are refused
+  plan      each command but add_supplier, as integrator and suppliers plan; few are refused
   refused   requests that are refused, for nearly each reason that there is, over a small plan
   queries   each query, on a small plan, of the integrator and of the suppliers
   place     each request is a placement, on a variant that fills up
   imports   files of up to 20 rows, of placements or signals; some come again, some have a row that is refused
+  joining   plan, refused and queries, while suppliers join until no more may
   all       plan, refused, queries and imports, mixed line by line
 """
 import argparse
@@ -18,6 +19,7 @@ SLOTS = 1023
 VARIANTS = 64
 NODES = 4
 FRAMES = 256
+SUPPLIERS = 64
 DEPTH = 16
 PAYLOAD_BITS = 16 * 16
 QUERIES = ("grants", "frames", "schedule", "gaps", "layout")
@@ -60,6 +62,7 @@ class Plan:
         self.placed = {}  # of a variant and a supplier, the placements that were asked for
         self.signals = {}  # of a variant and a supplier, the frames and signals that were asked for
         self.imports = {}  # of a supplier, the files that were sent
+        self.nodes = []  # the lines by which a supplier that joined is given its nodes
 
     def line(self, actor, do, **fields):
         key = "integrator1" if actor is None else key_of(actor)
@@ -196,6 +199,28 @@ class Plan:
         ready = self.frames.get((variant, supplier)) and all(self.held.get((variant, supplier, node)) for node in range(NODES))
         return self.an_import(variant, supplier) if ready else self.plan()
 
+    def joining(self):
+        """A supplier joins, and has its nodes next; or one is refused, or asks before it joined; else a step of the plan."""
+        if self.nodes:
+            return self.nodes.pop()
+        kind, there, new = self.dice.random(), self.dice.choice(self.suppliers), f"s{len(self.suppliers)}"
+        if kind < 0.25:
+            return self.join(new)
+        if kind < 0.35:
+            return self.line(new, "grants", variant=self.variants[0])
+        if kind < 0.55:
+            joins = dict(supplier=new, key=key_of(new))
+            changes = ({"key": key_of(there)}, {"key": "integrator1"}, {"key": "short"}, {"supplier": "1s"}, {"supplier": there})
+            return self.line(None, "add_supplier", **{**joins, **self.dice.choice(changes)})
+        return self.plan()
+
+    def join(self, supplier):
+        """Where no more may join the request is refused, and the supplier is none of those that plan."""
+        if len(self.suppliers) < SUPPLIERS:
+            self.suppliers.append(supplier)
+            self.nodes = [self.line(None, "add_node", supplier=supplier, node=f"node{n}") for n in range(NODES)]
+        return self.line(None, "add_supplier", supplier=supplier, key=key_of(supplier))
+
     def refused(self):
         supplier, variant = self.dice.choice(self.suppliers), self.variants[0]
         place = dict(variant=variant, frame="frame0", slot=1, channels="A", base=0, repetition=64)
@@ -242,8 +267,8 @@ class Plan:
 
 def script(mix, lines, suppliers, seed):
     names = [f"s{n}" for n in range(suppliers)]
-    plan = Plan(names, seed)
-    variants, frames = {"plan": (4, 4), "place": (1, 60), "all": (4, 4)}.get(mix, (1, 4))
+    plan = Plan(list(names), seed)
+    variants, frames = {"plan": (4, 4), "place": (1, 60), "joining": (4, 4), "all": (4, 4)}.get(mix, (1, 4))
     opening = list(plan.opening(variants, frames))
     if mix == "queries":
         opening += [asked("v0", name) for name in names for asked in (plan.place, plan.add_signal)]
@@ -253,6 +278,7 @@ def script(mix, lines, suppliers, seed):
         "queries": [plan.query],
         "place": [lambda: plan.place("v0", plan.dice.choice(names))],
         "imports": [lambda: plan.an_import("v0", plan.dice.choice(names))],
+        "joining": [plan.joining, plan.joining, plan.plan, plan.refused, plan.query],
         "all": [plan.plan, plan.plan, plan.plan, plan.refused, plan.query, plan.some_import],
     }[mix]
     more = (plan.dice.choice(kinds)() for _ in range(max(0, lines - len(opening))))
@@ -261,7 +287,7 @@ def script(mix, lines, suppliers, seed):
 
 def main():
     words = argparse.ArgumentParser(description=__doc__, formatter_class=argparse.RawDescriptionHelpFormatter)
-    words.add_argument("mix", choices=("plan", "refused", "queries", "place", "imports", "all"))
+    words.add_argument("mix", choices=("plan", "refused", "queries", "place", "imports", "joining", "all"))
     words.add_argument("--lines", type=int, default=10_000)
     words.add_argument("--suppliers", type=int, default=8, choices=range(1, 65), metavar="1..64")
     words.add_argument("--seed", type=int, default=1)

@@ -122,15 +122,15 @@ fn change(rt: &HostRuntime, path: &str, times: u32, count: u32) -> Result<usize,
     let ended = edits(rt.alloc(), count, false)?;
     let mut store = opened(rt, path)?;
     for _ in 0..times {
-        apply(&mut store, placed.as_slice())?;
-        apply(&mut store, ended.as_slice())?;
+        apply(rt.alloc(), &mut store, placed.as_slice())?;
+        apply(rt.alloc(), &mut store, ended.as_slice())?;
     }
     closed(store)?;
     Ok(0)
 }
 
-fn apply(store: &mut Register, edits: &[Edit]) -> Result<(), Error> {
-    match store.apply(edits) {
+fn apply(alloc: Global, store: &mut Register, edits: &[Edit]) -> Result<(), Error> {
+    match store.apply(alloc, edits) {
         Ok(()) => Ok(()),
         Err(fault) => bail!("{fault:?}"),
     }

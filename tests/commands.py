@@ -12,6 +12,7 @@ import sys
 import tempfile
 from contextlib import closing, contextmanager
 from pathlib import Path
+from threading import Lock
 
 import overlays
 
@@ -25,11 +26,14 @@ SIGNALS = b"frame,signal,start,length,order\nf1,speed,0,8,little\n"
 PLACEMENTS = b"frame,node,slot,channels,base,repetition\nf2,n1,1,A,1,2\nf3,n1,2,A,0,1\n"
 
 counted = {True: 0, False: 0}
+given_ports = set()
+one_at_a_time = Lock()
 
 
 def see(what, wanted, got):
     """Counts whether what was got is what is wanted, and says where not."""
-    counted[wanted == got] += 1
+    with one_at_a_time:
+        counted[wanted == got] += 1
     if wanted != got:
         print(f"{what}: wanted {wanted!r:.300}, got {got!r:.300}")
 
@@ -126,9 +130,15 @@ def reports(program, folder):
 
 
 def free_port():
-    with socket.socket() as one:
-        one.bind(("127.0.0.1", 0))
-        return one.getsockname()[1]
+    """A port on which nobody listens, another one each time."""
+    with one_at_a_time:
+        while True:
+            with socket.socket() as one:
+                one.bind(("127.0.0.1", 0))
+                port = one.getsockname()[1]
+            if port not in given_ports:
+                given_ports.add(port)
+                return port
 
 
 @contextmanager
@@ -245,9 +255,9 @@ def rows_of(folder, query, db="car.db"):
         return file.execute(query).fetchall()
 
 
-def sound(folder):
-    see("the file is sound to SQLite", [("ok",)], rows_of(folder, "PRAGMA integrity_check"))
-    see("its keys are sound too", [], rows_of(folder, "PRAGMA foreign_key_check"))
+def sound(folder, db="car.db"):
+    see("the file is sound to SQLite", [("ok",)], rows_of(folder, "PRAGMA integrity_check", db))
+    see("its keys are sound too", [], rows_of(folder, "PRAGMA foreign_key_check", db))
 
 
 def serving(program, folder):
@@ -466,13 +476,46 @@ def opened_again(program, folder):
     ])
 
 
+def joined(program, folder):
+    """A supplier joins: its key is known from the next connection on, and still is when the file was closed and opened again."""
+    tell(program, ["create", "joined.db", "cluster.toml"], folder)
+    join = b'{"do":"add_supplier","supplier":"%s","key":"%s"}'
+    conflict, unprocessable = "409 Conflict", "422 Unprocessable Entity"
+    in_turn(program, folder, "joined.db", [
+        *first_requests(),
+        (head("GET", "/v1/variants/v1/schedule", "supplier03"), UNKNOWN),
+        (command("supplier01", join % (b"s3", b"supplier03")), json(refused(3, "NotYours"), "403 Forbidden")),
+        (command("integrator1", join % (b"s3", b"short")), json(refused(30, "BadKey"), unprocessable)),
+        (command("integrator1", join % (b"s2", b"supplier03")), json(refused(19, "Exists"), conflict)),
+        (command("integrator1", join % (b"s3", b"integrator1")), json(refused(31, "KeyTaken"), conflict)),
+        *done("integrator1", join % (b"s3", b"supplier03")),
+        (head("GET", "/v1/variants/v1/schedule", "supplier03"), text(b"")),
+        (command("integrator1", join % (b"s4", b"supplier03")), json(refused(31, "KeyTaken"), conflict)),
+    ])
+    see("suppliers in the file", [("s1", "supplier01"), ("s2", "supplier02"), ("s3", "supplier03")], rows_of(folder, "SELECT * FROM suppliers ORDER BY name", "joined.db"))
+
+    in_turn(program, folder, "joined.db", [
+        (command("integrator1", join % (b"s3", b"supplier04")), json(refused(19, "Exists"), conflict)),
+        (command("integrator1", join % (b"s4", b"supplier03")), json(refused(31, "KeyTaken"), conflict)),
+        (head("GET", "/v1/variants/v1/schedule", "supplier04"), UNKNOWN),
+        *done("integrator1", b'{"do":"add_node","supplier":"s3","node":"n1"}'),
+        *done("integrator1", b'{"do":"grant","variant":"v1","slot":2,"channel":"A","supplier":"s3","node":"n1"}'),
+        *done("supplier03", b'{"do":"add_frame","variant":"v1","frame":"f1","node":"n1"}'),
+    ])
+    (folder / "joined.csv").write_bytes(b"frame,node,slot,channels,base,repetition\nf1,n1,2,A,3,64\n")
+    tell(program, ["import", "joined.db", "supplier03", "v1", "a", "joined.csv"], folder, b'{"ok":"imported","rows":1}\n')
+    turned_down(program, ["import", "joined.db", "supplier04", "v1", "a", "joined.csv"], folder, refused(2, "UnknownKey"))
+    tell(program, ["schedule", "joined.db", "v1"], folder, b"00 0001 A f1 n1 s1\n03 0002 A f1 n1 s3\n")
+    sound(folder, "joined.db")
+
+
 def main(programs):
     there = [os.path.abspath(program) for program in programs if os.access(program, os.X_OK)]
     counted[False] += len(programs) - len(there)
     for program in there:
         with tempfile.TemporaryDirectory() as folder:
             (Path(folder) / "cluster.toml").write_bytes(CLUSTER)
-            for part in creating, opening, serving, cutting, killing, reports, differences, overlaid, made_whole, opened_again:
+            for part in creating, opening, serving, cutting, killing, reports, differences, overlaid, made_whole, opened_again, joined:
                 part(program, Path(folder))
     print(f"{counted[True]} passed, {counted[False]} failed")
     return 1 if counted[False] else 0

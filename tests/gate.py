@@ -1,6 +1,6 @@
 #!/usr/bin/env python3
 """The gate: `rt ci`, how another SQLite finds the rows of each statement, and then the program that was built, tried as each
-compiler made it. The last line counts all."""
+compiler made it, also where its files, connections and memory fail. The last line counts all."""
 import os
 import re
 import resource
@@ -13,6 +13,19 @@ TOP = Path(__file__).resolve().parent.parent
 PROGRAM = "crates/slotplan/out/slotplan"
 # A check on each of up to four processors, 10 GB in all: `rt ci` would reckon with twice the memory, and wait for it.
 os.environ.setdefault("RT_JOBS", str(min(4, len(os.sched_getaffinity(0)))))
+# How the built program is tried, as each of two compilers made it. What disks and memory may do to it is tried in every so many of
+# the cases that `make hostile` and `make refuse` try.
+TRIALS = {
+    "the built program": ["tests/program.py"],
+    "its commands": ["tests/commands.py"],
+    "its connections": ["tests/connections.py"],
+    "its connections cut": ["tests/links.py"],
+    "its tutorial": ["tests/tutorial.py"],
+    "its HTTP interface": ["tests/openapi.py"],
+    "its files stopped": ["tests/stops.py", "--step", "4"],
+    "its files changed": ["tests/foreign.py", "--step", "20"],
+    "its memory refused": ["tests/refused.py", "--step", "120"],
+}
 COUNT = re.compile(r"(\d+) passed, (\d+) failed")
 
 
@@ -42,11 +55,10 @@ def counted(name, words):
 
 
 def main():
-    proved = counted("rt ci", ["rt", "ci"])
-    sought = counted("the statements", [sys.executable, "tests/statements.py"])
-    tried = counted("the built program", [sys.executable, "tests/program.py", PROGRAM, f"{PROGRAM}.by-rattle"])
-    kept = counted("its commands", [sys.executable, "tests/commands.py", PROGRAM, f"{PROGRAM}.by-rattle"])
-    passed, failed = (sum(both) for both in zip(proved, sought, tried, kept))
+    counts = [counted("rt ci", ["rt", "ci"]), counted("the statements", [sys.executable, "tests/statements.py"])]
+    for name, words in TRIALS.items():
+        counts.append(counted(name, [sys.executable, *words, PROGRAM, f"{PROGRAM}.by-rattle"]))
+    passed, failed = (sum(each) for each in zip(*counts))
     print(f"{passed} passed, {failed} failed")
     return 1 if failed else 0
 

@@ -7,6 +7,7 @@ CYCLES = 64
 SLOTS = 1023
 NODES = 64
 FRAMES = 256
+SUPPLIERS = 64
 PLACEMENTS = 8
 SIGNALS = 64
 VARIANTS = 64
@@ -59,8 +60,8 @@ def answers(pairs):
     return "".join(f"{answer}\n" for _, answer in pairs).encode()
 
 
-def request(key, do, **fields):
-    return f"{key} {json.dumps({'do': do, **fields}, separators=(',', ':'))}"
+def request(who, do, **fields):
+    return f"{who} {json.dumps({'do': do, **fields}, separators=(',', ':'))}"
 
 
 def refused(number, name):
@@ -75,12 +76,12 @@ def imported(rows):
     return f'{{"ok":"imported","rows":{rows}}}'
 
 
-def done(key, do, **fields):
-    return request(key, do, **fields), DONE
+def done(who, do, **fields):
+    return request(who, do, **fields), DONE
 
 
-def limit(key, do, **fields):
-    return request(key, do, **fields), refused(23, "Limit")
+def limit(who, do, **fields):
+    return request(who, do, **fields), refused(23, "Limit")
 
 
 # What the supplier s1 has at the limits: each slot on both channels, by turns of its nodes; frames that fill the first half of
@@ -156,6 +157,7 @@ def at_the_limits():
         yield done(integrator, "add_node", supplier="s1", node=node)
     yield limit(integrator, "add_node", supplier="s1", node="more")
     yield done(integrator, "add_node", supplier="s2", node="more")
+    yield limit(integrator, "add_supplier", supplier="more", key="suppliermore")
     for slot, channel, node in GRANT:
         yield done(integrator, "grant", **in_v1, slot=slot, channel=channel, supplier="s1", node=node)
     more = dict(**in_v1, supplier="s2", node="more")
@@ -209,6 +211,27 @@ def with_a_stranger(first):
         limit("supplier02", "add_frame", **of_s2, frame="f257"),
     ]
     return [*first[:1], *stranger[:1], *first[1:3], *stranger[1:100], *first[3:5], *stranger[100:], *first[5:]]
+
+
+def suppliers_that_join():
+    """As many suppliers join as there may be, and one more, which is refused; the first and the last of them plan."""
+    integrator, in_v1 = "integrator1", dict(variant="v1")
+    more = dict(supplier="more", key="suppliermore")
+
+    yield done(integrator, "open_variant", **in_v1)
+    for n in range(SUPPLIERS, 0, -1):
+        yield done(integrator, "add_supplier", supplier=f"s{n}", key=f"supplier{n:02}")
+    yield limit(integrator, "add_supplier", **more)
+    yield request(integrator, "add_supplier", **{**more, "key": "supplier07"}), refused(31, "KeyTaken")
+    yield request(integrator, "add_supplier", **{**more, "supplier": "s7"}), refused(19, "Exists")
+    yield request(integrator, "add_supplier", **{**more, "key": "short"}), refused(30, "BadKey")
+    yield request("suppliermore", "frames", **in_v1), refused(2, "UnknownKey")
+    for n in 1, SUPPLIERS:
+        yield done(integrator, "add_node", supplier=f"s{n}", node="n1")
+        yield done(f"supplier{n:02}", "add_frame", **in_v1, frame="f1", node="n1")
+    yield request("supplier64", "frames", **in_v1), '{"lines":["FRAME f1 n1"],"ok":"frames"}'
+    yield request("supplier07", "frames", **in_v1), '{"lines":[],"ok":"frames"}'
+    yield request(integrator, "frames", **in_v1), '{"lines":["FRAME f1 n1 s1","FRAME f1 n1 s64"],"ok":"frames"}'
 
 
 PLACEMENTS_FILE = "frame,node,slot,channels,base,repetition\n"

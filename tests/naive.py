@@ -11,14 +11,16 @@ import re
 import sqlite3
 import sys
 import tomllib
+from bisect import insort
 
 CYCLES = 64
 NAME = re.compile(r"[A-Za-z][A-Za-z0-9_]{0,31}", re.ASCII)
+KEY = re.compile(r"[A-Za-z0-9]{8,64}", re.ASCII)
 WHOLE = re.compile(rb"[0-9]{1,10}")
 NUMBERS = {"slot", "base", "repetition", "start", "length"}
 PLACE = ("variant", "frame", "slot", "channels", "base", "repetition")
 FIELDS = {
-    "open_variant": ("variant", "from"), "release": ("variant",), "add_node": ("supplier", "node"),
+    "open_variant": ("variant", "from"), "release": ("variant",), "add_supplier": ("supplier", "key"), "add_node": ("supplier", "node"),
     "grant": ("variant", "slot", "channel", "supplier", "node"), "revoke": ("variant", "slot", "channel", "supplier"),
     "add_frame": ("variant", "frame", "node"), "drop_frame": ("variant", "frame"), "place": PLACE, "unplace": PLACE,
     "add_signal": ("variant", "frame", "signal", "start", "length", "order"), "drop_signal": ("variant", "frame", "signal"),
@@ -26,12 +28,12 @@ FIELDS = {
     "gaps": ("variant",), "layout": ("variant", "frame"),
 }
 QUERIES = {"grants", "frames", "schedule", "gaps", "layout"}
-INTEGRATORS = {"open_variant", "release", "add_node", "grant", "revoke"}
+INTEGRATORS = {"open_variant", "release", "add_supplier", "add_node", "grant", "revoke"}
 NUMBER_OF = {
     "BadText": 1, "UnknownKey": 2, "NotYours": 3, "BadName": 4, "BadCycles": 5, "BadSlot": 6, "BadChannel": 7, "BadSignal": 8,
     "LabelUsed": 9, "NoVariant": 10, "Released": 11, "NotReleased": 12, "TooDeep": 13, "NoSupplier": 14, "NoNode": 15,
     "NoFrame": 16, "NoSignal": 17, "NoPlacement": 18, "Exists": 19, "NodeDiffers": 20, "NotGranted": 21, "InUse": 22,
-    "Limit": 23, "Taken": 24, "CellTaken": 25, "OutOfPayload": 26, "BitTaken": 27, "BadRow": 29,
+    "Limit": 23, "Taken": 24, "CellTaken": 25, "OutOfPayload": 26, "BitTaken": 27, "BadRow": 29, "BadKey": 30, "KeyTaken": 31,
 }
 TABLES = """
 CREATE TABLE nodes (supplier TEXT, name TEXT, PRIMARY KEY (supplier, name));
@@ -110,6 +112,7 @@ class Register:
             see((actor is None) == (do in INTEGRATORS), "NotYours")
         texts = ("variant", "from", "supplier", "node", "frame", "signal", "label")
         see(all(NAME.fullmatch(asked[field]) for field in texts if asked.get(field) is not None), "BadName")
+        see(KEY.fullmatch(asked.get("key", "anything")), "BadKey")
         self.check_place(asked)
         if "order" in asked:
             see(1 <= asked["length"] <= 64 and asked["order"] in ("little", "big"), "BadSignal")
@@ -155,6 +158,14 @@ class Register:
     def release(self, _, asked):
         self.open_row(asked["variant"])
         self.rows("UPDATE variants SET released = 1 WHERE name = ?", asked["variant"])
+
+    def add_supplier(self, _, asked):
+        supplier, key = asked["supplier"], asked["key"]
+        see(supplier not in self.suppliers, "Exists")
+        see(key != self.cluster["integrator"] and key not in self.keys, "KeyTaken")
+        see(len(self.suppliers) < 64, "Limit")
+        insort(self.suppliers, supplier)
+        self.keys[key] = supplier
 
     def see_node(self, supplier, node):
         see(self.one("SELECT 1 FROM nodes WHERE supplier = ? AND name = ?", supplier, node), "NoNode")

@@ -13,12 +13,12 @@ from typing import NamedTuple, Sequence
 
 import imported
 from made import CLUSTER, DONE, LARGE, answers, at_the_limits, cluster_file, imports_of_rows, imports_that_are_kept
-from made import refused, script, suppliers, with_a_stranger
+from made import refused, script, suppliers, suppliers_that_join, with_a_stranger
 
 TOP = Path(__file__).resolve().parent.parent
 SCRIPT_BYTES = 16_777_216
 SECONDS = 120
-MIXES = ("plan", "refused", "queries", "place", "imports", "all")
+MIXES = ("plan", "refused", "queries", "place", "imports", "joining", "all")
 
 OPEN = 'integrator1 {"do":"open_variant","variant":"v1"}'
 FIRST = (TOP / "examples/first.script").read_bytes()
@@ -101,6 +101,8 @@ def made_scripts():
     yield Case("a stranger's lines between those of the first script", script(CLUSTER, pairs), answers(pairs))
     pairs = list(at_the_limits())
     yield Case("a script at the limits", script({**LARGE, "suppliers": suppliers(64)}, pairs), answers(pairs))
+    pairs = list(suppliers_that_join())
+    yield Case("a script of suppliers that join", script({**CLUSTER, "suppliers": "{}"}, pairs), answers(pairs))
     for imports in imports_of_rows, imports_that_are_kept:
         pairs = list(imports())
         yield Case(f"a script of {imports.__name__}", script(CLUSTER, pairs), answers(pairs))

@@ -72,33 +72,33 @@ same-flat f g xs same = ap (λ h. flat_map h xs) (λ i x. same x i)
 -- ---- all rows of a variant, supplier by supplier
 
 module _ (c : Cluster) (b : Book) (v : Name) (x : Variant) (sound : IsSound c b) (there : get b.variants v ≡ Some x) where
-  frames-all : flat_map (λ s. frames_of (own s x.frames)) (supplier_names c) ≡ frames_of x.frames
+  frames-all : flat_map (λ s. frames_of (own s x.frames)) (supplier_names b) ≡ frames_of x.frames
   unfolding frames_of
   frames-all =
-      map-flat_map frame_row (λ s. (own s x.frames).rows) (supplier_names c)
+      map-flat_map frame_row (λ s. (own s x.frames).rows) (supplier_names b)
       ∙ ap (map frame_row) (frames-split c b v x sound there x.frames (λ e i. i))
 
-  gaps-all : (p : Params) → flat_map (λ s. gaps_of p (own s x.frames)) (supplier_names c) ≡ gaps_of p x.frames
+  gaps-all : (p : Params) → flat_map (λ s. gaps_of p (own s x.frames)) (supplier_names b) ≡ gaps_of p x.frames
   unfolding gaps_of
   gaps-all p =
-      map-flat_map (gap_row p) (λ s. (own s x.frames).rows) (supplier_names c)
+      map-flat_map (gap_row p) (λ s. (own s x.frames).rows) (supplier_names b)
       ∙ ap (map (gap_row p)) (frames-split c b v x sound there x.frames (λ e i. i))
 
-  placements-all : placements_among (supplier_names c) x ≡ placements_of x.frames
+  placements-all : placements_among (supplier_names b) x ≡ placements_of x.frames
   unfolding placements_of
   placements-all =
-      flat-flat_map (λ row. filled_by row.0 row.1) (λ s. (own s x.frames).rows) (supplier_names c)
+      flat-flat_map (λ row. filled_by row.0 row.1) (λ s. (own s x.frames).rows) (supplier_names b)
       ∙ ap (flat_map (λ row. filled_by row.0 row.1)) (frames-split c b v x sound there x.frames (λ e i. i))
 
-  named-all : (f : Name) → frames_named f (supplier_names c) x ≡ (named f x.frames).rows
+  named-all : (f : Name) → frames_named f (supplier_names b) x ≡ (named f x.frames).rows
   unfolding named only
   named-all f =
-      same-flat (λ s. (named f (own s x.frames)).rows) (λ s. (own s (named f x.frames)).rows) (supplier_names c) (λ s. filter-swap (λ e. same_text e.0.1 f) (λ e. is_of s e.0) x.frames.rows)
+      same-flat (λ s. (named f (own s x.frames)).rows) (λ s. (own s (named f x.frames)).rows) (supplier_names b) (λ s. filter-swap (λ e. same_text e.0.1 f) (λ e. is_of s e.0) x.frames.rows)
       ∙ frames-split c b v x sound there (named f x.frames) (λ e i. In-filter (λ e. same_text e.0.1 f) (λ _. true) e x.frames.rows i)
 
 -- ---- what is shown
 
-module _ (old new : Standing) (v : Name) (suppliers : List Name) (known : (c : Cluster) (b : Book) → old c b → suppliers ≡ supplier_names c) where
+module _ (old new : Standing) (v : Name) (suppliers : List Name) (known : (c : Cluster) (b : Book) → old c b → suppliers ≡ supplier_names b) where
   pub all-grants : (rows : List GrantRow) →
       Gathers old new (Ok rows) v (λ p x rows. rows ≡ grants_of (grants_among suppliers x.grants)) → ShowsAll old new (Grants v) (Ok (answer.Grants true rows))
   unfolding shown

@@ -7,7 +7,7 @@ use Rattle.fr_base.specs.declared.params.Params.{Params}
 use Rattle.fr_base.specs.declared.request.Request.{Request}
 use Rattle.fr_base.specs.declared.request.Checked.TheVariants as checked
 use Rattle.fr_base.specs.declared.request.Command.{Command}
-use Rattle.fr_base.specs.declared.request.Command.TheVariants.{Common, AddNode, Rows}
+use Rattle.fr_base.specs.declared.request.Command.TheVariants.{Common, AddSupplier, AddNode, Rows}
 use Rattle.fr_base.specs.declared.request.Change.{Change}
 use Rattle.fr_base.specs.declared.request.Change.TheVariants.{Grant, Revoke, Frame}
 use Rattle.fr_base.specs.declared.request.FrameChange.{FrameChange}
@@ -32,6 +32,7 @@ change-checked p (Frame f change) form = frame-checked p f change form
 
 form-checked : (p : Params) (command : Command) → HasForm p command → IsCheckedCommand p command
 form-checked p (Common command) form = tt
+form-checked p (AddSupplier s key) form = tt
 form-checked p (AddNode s n) form = tt
 form-checked p (Rows s v change) form = change-checked p change form
 

@@ -1,26 +1,32 @@
 -- What records that were read and changed come to, by what was decided.
 use Rattle.std.proofs.Common.{◌≡◌, Bool, true, false, List, [], ◌∷◌, Result, Ok, Err, sym, ap, ◌∙◌, inl, inr, refl}
 use Rattle.std.specs.Prelude.{⊤}
+use Rattle.std.specs.List.{list_any}
 use Rattle.fr_base.specs.Refusing.{◌>>=◌, ◌>>◌, refuse◌when◌}
-use Rattle.fr_base.specs.Book.{Book, suppliers_of}
-use Rattle.fr_base.specs.Cluster.{Cluster}
+use Rattle.fr_base.specs.Book.{Book, file_of}
+use Rattle.fr_base.specs.Cluster.{Cluster, ClusterFile}
+use Rattle.fr_base.specs.Names.{same_text}
 use Rattle.fr_base.specs.Sound.{IsSound}
-use Rattle.fr_base.specs.Step.{add_node, common, done}
+use Rattle.fr_base.specs.Step.{add_node, add_supplier, common, done}
 use Rattle.fr_base.specs.Tables.{contains}
 use Rattle.fr_base.specs.declared.answer.Answer.TheVariants.{Done}
+use Rattle.fr_base.specs.declared.key.Key.{Key}
 use Rattle.fr_base.specs.declared.name.Name.{Name}
 use Rattle.fr_base.specs.declared.refusal.Refusal.{Refusal}
 use Rattle.fr_base.specs.declared.refusal.Refusal.TheVariants.{NoSupplier}
 use Rattle.fr_base.specs.declared.request.CommonCommand.{CommonCommand}
+use Rattle.fr_base.proofs.SuppliersLaws.{contains-listed}
 use Rattle.fr_world.specs.BookEdits.{applied, all_applied, variants_in}
 use Rattle.fr_world.specs.Common.{common_edit}
 use Rattle.fr_world.specs.Fits.{AllFit, Fits}
 use Rattle.fr_world.specs.Nodes.{new_node}
 use Rattle.fr_world.specs.Pages.{nodes_in}
+use Rattle.fr_world.specs.Suppliers.{new_supplier}
 use Rattle.fr_world.specs.declared.edit.Edit.{Edit}
 use Rattle.fr_world.specs.declared.variants.VariantRow.{VariantRow}
 use Rattle.fr_world.proofs.BookFits.{common-fits, node-fits}
 use Rattle.fr_world.proofs.IntegratorLaws.{common-decides, node-decides}
+use Rattle.fr_world.proofs.JoiningLaws.{joining-decides, joining-fits}
 use Rattle.fr_answers.specs.Carried.{Does, Performs}
 use Rattle.fr_records.specs.Held.{Standing, Applies}
 
@@ -77,31 +83,47 @@ performed old new (Err e) does did c b stood sound =
       ],
     )
 
+-- ---- a supplier, by those that are there
+
+module _ (old new : Standing) (file : ClusterFile) (same : (c : Cluster) (b : Book) → old c b → file ≡ file_of c b) (s : Name) (key : Key) where
+  joining_told : Known old old (λ c b. add_supplier c b s key ≡ (new_supplier file s key >>= λ edit. Ok (applied b edit)))
+  joining_told c b stood sound =
+      (stood, joining-decides c b s key ∙ ap (λ f. new_supplier f s key >>= λ edit. Ok (applied b edit)) (sym (same c b stood)))
+
+  joining_fits : (edit : Edit) → new_supplier file s key ≡ Ok edit → Known old old (λ c b. Fits b edit)
+  joining_fits edit allowed c b stood sound = (stood, joining-fits c b s key edit (ap (λ f. new_supplier f s key) (sym (same c b stood)) ∙ allowed))
+
+  pub joining_refused : (r : Result ⊤ Refusal) (e : Refusal) → r ≡ Err e → new_supplier file s key ≡ Err e → Does old old r (λ c b. add_supplier c b s key)
+  joining_refused = edit_refused old old new (λ c b. add_supplier c b s key) (new_supplier file s key) joining_told
+
+  pub joining_carried : (edit : Edit) (r : Result ⊤ Refusal) → new_supplier file s key ≡ Ok edit → Applies old new r (edit ∷ []) → Does old new r (λ c b. add_supplier c b s key)
+  joining_carried edit r allowed = edit_carried old old new (λ c b. add_supplier c b s key) (new_supplier file s key) joining_told edit r allowed (joining_fits edit allowed)
+
 -- ---- a node, by the supplier's nodes
 
--- the supplier is there, or is not, as in the cluster file
-pub named-there : (old : Standing) (config : Cluster) (s : Name) (has t : Bool) → ((c : Cluster) (b : Book) → old c b → config ≡ c) → has ≡ contains (suppliers_of config) s → has ≡ t →
-    (c : Cluster) (b : Book) → old c b → IsSound c b → contains b.suppliers s ≡ t
-named-there old config s has t same is so c b stood sound =
-    ap (λ t. contains t s) sound.suppliers ∙ ap (λ x. contains (suppliers_of x) s) (sym (same c b stood)) ∙ sym is ∙ so
+-- the supplier is there, or is not, as the list of suppliers has it
+pub named-there : (old : Standing) (file : ClusterFile) (s : Name) (has t : Bool) → ((c : Cluster) (b : Book) → old c b → file ≡ file_of c b) →
+    has ≡ list_any (λ x. same_text s x.name) file.suppliers → has ≡ t → (c : Cluster) (b : Book) → old c b → contains b.suppliers s ≡ t
+named-there old file s has t same is so c b stood =
+    sym (contains-listed b s) ∙ ap (λ (f : ClusterFile). list_any (λ x. same_text s x.name) f.suppliers) (sym (same c b stood)) ∙ sym is ∙ so
 
 module _ (old mid new : Standing) (s n : Name) where
   -- there is no such supplier
-  pub node_unnamed : ((c : Cluster) (b : Book) → old c b → IsSound c b → contains b.suppliers s ≡ false) → Does old old (Err NoSupplier) (λ c b. add_node b s n)
+  pub node_unnamed : ((c : Cluster) (b : Book) → old c b → contains b.suppliers s ≡ false) → Does old old (Err NoSupplier) (λ c b. add_node b s n)
   unfolding add_node ◌>>◌ refuse◌when◌
-  node_unnamed unknown c b stood sound = (stood, inr (rw (unknown c b stood sound) refl))
+  node_unnamed unknown c b stood sound = (stood, inr (rw (unknown c b stood) refl))
 
-  module _ (nodes : List Name) (known : (c : Cluster) (b : Book) → old c b → IsSound c b → contains b.suppliers s ≡ true)
+  module _ (nodes : List Name) (known : (c : Cluster) (b : Book) → old c b → contains b.suppliers s ≡ true)
       (read : (c : Cluster) (b : Book) → old c b → mid c b × (nodes ≡ nodes_in b s)) where
     node_told : Known old mid (λ c b. add_node b s n ≡ (new_node s nodes n >>= λ edit. Ok (applied b edit)))
     node_told c b stood sound =
         let r = read c b stood in
-        (r.0, node-decides b s n (known c b stood sound) ∙ ap (λ ns. new_node s ns n >>= λ edit. Ok (applied b edit)) (sym r.1))
+        (r.0, node-decides b s n (known c b stood) ∙ ap (λ ns. new_node s ns n >>= λ edit. Ok (applied b edit)) (sym r.1))
 
     node_fits : (edit : Edit) → new_node s nodes n ≡ Ok edit → Known old mid (λ c b. Fits b edit)
     node_fits edit allowed c b stood sound =
         let r = read c b stood in
-        (r.0, node-fits b s n edit (known c b stood sound) (ap (λ ns. new_node s ns n) (sym r.1) ∙ allowed))
+        (r.0, node-fits b s n edit (known c b stood) (ap (λ ns. new_node s ns n) (sym r.1) ∙ allowed))
 
     pub node_refused : (r : Result ⊤ Refusal) (e : Refusal) → r ≡ Err e → new_node s nodes n ≡ Err e → Does old mid r (λ c b. add_node b s n)
     node_refused = edit_refused old mid new (λ c b. add_node b s n) (new_node s nodes n) node_told

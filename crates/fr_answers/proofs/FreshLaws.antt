@@ -25,7 +25,7 @@ use Rattle.fr_world.specs.Edits.{IsOf, edited, releases}
 use Rattle.fr_world.specs.Fits.{AllFit, Fits, FitsVariant}
 use Rattle.fr_world.specs.Pages.{IsKept, PageData, nodes_in, own_rows_of, page_in}
 use Rattle.fr_world.specs.declared.edit.Edit.{Edit}
-use Rattle.fr_world.specs.declared.edit.Edit.TheVariants.{NewVariant, SetReleased, NewNode, Rows, KeepImport}
+use Rattle.fr_world.specs.declared.edit.Edit.TheVariants.{NewVariant, SetReleased, NewSupplier, NewNode, Rows, KeepImport}
 use Rattle.fr_world.proofs.AgreeLaws.{edits-agree, others-stay}
 use Rattle.fr_world.proofs.PageLaws.{rows-registers}
 use Rattle.fr_answers.specs.KeptPages.{AreFresh, KeptData, Spares, touches, untouched, untouched_by}
@@ -37,6 +37,7 @@ pub edited_params : (rows : OwnRows) (edit : Edit) → (edited rows edit).params
 unfolding edited
 edited_params rows (NewVariant v parent depth) = refl
 edited_params rows (SetReleased v) = refl
+edited_params rows (NewSupplier s key) = refl
 edited_params rows (NewNode s n) = refl
 edited_params rows (Rows s v what) = refl
 edited_params rows (KeepImport s label v body rows-kept) = refl
@@ -101,6 +102,7 @@ module _ (c : Cluster) (b : Book) (page : PageData) (fresh : IsFresh c.params b 
   unfolding applied nodes_in
   untouched-fresh (NewVariant v parent depth) other spares = still _ (other_variant b v page.variant _ other) refl
   untouched-fresh (SetReleased v) other spares = other_changed v _ other (get b.variants v)
+  untouched-fresh (NewSupplier s key) other spares = still _ refl refl
   untouched-fresh (NewNode s n) other spares = node_fresh s n other
   untouched-fresh (Rows s v what) other spares = elim (cases_Bool (same_text page.variant v)) [
     | inl e ↦
@@ -151,6 +153,7 @@ change_spares b s v x (Frame f what) fits = tt
 fit_spares : (b : Book) (edit : Edit) → Fits b edit → Spares b edit
 fit_spares b (NewVariant v parent depth) fits = tt
 fit_spares b (SetReleased v) fits = tt
+fit_spares b (NewSupplier s key) fits = tt
 fit_spares b (NewNode s n) fits = tt
 fit_spares b (Rows s v what) fits = λ x there.
     change_spares b s v x what (subst (λ y. FitsVariant b.nodes s y what) (same_some fits.0 x (sym fits.1.there ∙ there)) fits.2)

@@ -33,7 +33,7 @@ use Rattle.fr_answers.specs.declared.queries.grants.Holder.{Holder}
 use Rattle.fr_answers.proofs.GatherLaws.{IsSoFar, page-rows}
 use Rattle.fr_answers.proofs.PageRows.{grant_entry}
 use Rattle.fr_answers.proofs.ShownLaws.{flat-map}
-use Rattle.fr_answers.proofs.SplitLaws.{listed, names-rows, supplier_names}
+use Rattle.fr_answers.proofs.SplitLaws.{among_names, supplier_names}
 use Rattle.fr_world.specs.Maps.{table_of}
 use Rattle.fr_world.specs.Pages.{PageData, own_rows_of}
 use Rattle.fr_world.specs.declared.page.ChannelSlot.{ChannelSlot}
@@ -173,16 +173,16 @@ In-any n (s ∷ ss) (inr i) = ap (λ b. same_text n s || b) (In-any n ss i) ∙ 
     or_true true = refl
     or_true false = refl
 
--- in a sound book all grants are of the cluster's suppliers
-pub grants-all : (c : Cluster) (b : Book) (v : Name) (x : Variant) → IsSound c b → get b.variants v ≡ Some x → grants_among (supplier_names c) x.grants ≡ x.grants
-grants-all c b v x sound there = same_table _ _ (λ k. get-only channel_slots (λ _ h. list_any (same_text h.supplier) (supplier_names c)) x.grants k ∙ all_kept k (get x.grants k) refl)
+-- in a sound book all grants are of suppliers that are there
+pub grants-all : (c : Cluster) (b : Book) (v : Name) (x : Variant) → IsSound c b → get b.variants v ≡ Some x → grants_among (supplier_names b) x.grants ≡ x.grants
+grants-all c b v x sound there = same_table _ _ (λ k. get-only channel_slots (λ _ h. list_any (same_text h.supplier) (supplier_names b)) x.grants k ∙ all_kept k (get x.grants k) refl)
   where
-    all_kept : (k : ℕ × Channel) (o : Option book.Holder) → get x.grants k ≡ o → kept (λ _ h. list_any (same_text h.supplier) (supplier_names c)) k o ≡ o
+    all_kept : (k : ℕ × Channel) (o : Option book.Holder) → get x.grants k ≡ o → kept (λ _ h. list_any (same_text h.supplier) (supplier_names b)) k o ≡ o
     all_kept k None e = refl
     all_kept k (Some h) e =
         let nodes = (sound.variants v x there).1.grant_nodes k h e in
-        let among = subst (In h.supplier) (names-rows c b v x sound there) (listed c b v x sound there h.supplier (sound.nodes h.supplier h.node nodes).1) in
-        ap (λ t. cond t (Some h) None) (In-any h.supplier (supplier_names c) among)
+        let among = among_names b h.supplier (sound.nodes h.supplier h.node nodes).1 in
+        ap (λ t. cond t (Some h) None) (In-any h.supplier (supplier_names b) among)
 
 -- the rows of what is held
 pub held-shown : (old new : Standing) (v : Name) (ss : List Name) (es : List (ChannelSlot × Holder)) (rows : List GrantRow) →

@@ -1,4 +1,3 @@
-pub mod SupplierLaws
 pub mod CommandLaws
 pub mod RowsLaws
 pub mod CheckedLaws
@@ -16,6 +15,5 @@ pub mod OwnReplies
 pub mod SplitLaws
 pub mod StepLaws
 pub mod GatherLaws
-pub mod VariantLaws
 pub mod GrantLaws
 pub mod AllReplies

@@ -1,5 +1,5 @@
 -- The rows of a table are those of its suppliers, one supplier after another.
-use Rattle.std.proofs.Common.{◌≡◌, true, false, cond, List, [], ◌∷◌, ◌++◌, map, filter, Some, IsTrue, refl, sym, ap, subst, ◌∙◌, inl, inr, Ordering, Less, Equal, Greater}
+use Rattle.std.proofs.Common.{◌≡◌, true, false, cond, List, [], ◌∷◌, ◌++◌, map, filter, Some, IsTrue, refl, sym, ap, ◌∙◌, inl, inr, Ordering, Less, Equal, Greater}
 use Rattle.std.specs.Prelude.{T}
 use Rattle.std.specs.Cmp.{tied_itself}
 use Rattle.std.specs.FinMap.Entries.{below_all, is_sorted}
@@ -8,7 +8,7 @@ use Rattle.std.specs.Ordering.{is_lt, ordering_then}
 use Rattle.std.proofs.lemmas.Bool.{cases_Bool}
 use Rattle.std.proofs.lemmas.Grind.{flat_map-append}
 use Rattle.std.proofs.lemmas.List.{map-append}
-use Rattle.fr_base.specs.Book.{Frame, Book, Variant, is_of, own, suppliers_of}
+use Rattle.fr_base.specs.Book.{Frame, Book, Variant, is_of, listed, own}
 use Rattle.fr_base.specs.Cluster.{Cluster}
 use Rattle.fr_base.specs.Keys.{names, owned}
 use Rattle.fr_base.specs.Names.{same_text}
@@ -18,7 +18,6 @@ use Rattle.fr_base.specs.Tables.{Table, contains, get, only}
 use Rattle.fr_base.specs.declared.config.Supplier.{Supplier}
 use Rattle.fr_base.specs.declared.key.Key.{Key}
 use Rattle.fr_base.specs.declared.name.Name.{Name}
-use Rattle.fr_base.proofs.ActorsLemmas.{supplier_rows}
 use Rattle.fr_base.proofs.SoundRows.{same_text-is}
 use Rattle.fr_base.proofs.AloneCells.{same_text-itself}
 use Rattle.fr_base.proofs.SoundTables.{value_of}
@@ -130,34 +129,35 @@ flat-flat_map g h (x ∷ xs) = ap (λ rest. flat_map g (h x) ++ rest) (flat-flat
 -- ---- in a sound book
 
 -- the suppliers' names, in byte order
-abbrev pub supplier_names : Cluster → List Name
-supplier_names c = map (λ s. s.name) c.suppliers
+abbrev pub supplier_names : Book → List Name
+supplier_names b = map (λ (e : Name × Key). e.0) b.suppliers.rows
+
+-- as a cluster file lists them
+pub names-listed : (b : Book) → map (λ (s : Supplier). s.name) (map listed b.suppliers.rows) ≡ supplier_names b
+names-listed b = again b.suppliers.rows
+  where
+    again : (es : List (Name × Key)) → map (λ (s : Supplier). s.name) (map listed es) ≡ map (λ (e : Name × Key). e.0) es
+    again [] = refl
+    again (e ∷ es) = ap (λ rest. e.0 ∷ rest) (again es)
+
+-- who is there is among them
+pub among_names : (b : Book) (n : Name) → IsTrue (contains b.suppliers n) → In n (supplier_names b)
+unfolding get
+among_names b n h =
+    let found = value_of (get b.suppliers n) h in
+    In-map (λ (e : Name × Key). e.0) (n, found.0) b.suppliers.rows (find-In names b.suppliers.rows n found.0 found.1)
 
 module _ (c : Cluster) (b : Book) (v : Name) (x : Variant) (sound : IsSound c b) (there : get b.variants v ≡ Some x) where
-  pub names-rows : map (λ (e : Name × Key). e.0) (suppliers_of c).rows ≡ supplier_names c
-  names-rows = ap (map (λ (e : Name × Key). e.0)) (supplier_rows c sound.cluster.cluster) ∙ again c.suppliers
-    where
-      again : (ss : List Supplier) → map (λ (e : Name × Key). e.0) (map (λ s. (s.name, s.key)) ss) ≡ map (λ s. s.name) ss
-      again [] = refl
-      again (s ∷ ss) = ap (λ rest. s.name ∷ rest) (again ss)
-
-  pub listed : (n : Name) → IsTrue (contains b.suppliers n) → In n (map (λ (e : Name × Key). e.0) (suppliers_of c).rows)
-  unfolding get
-  listed n h =
-      let found = value_of (get (suppliers_of c) n) (subst (λ t. IsTrue (contains t n)) sound.suppliers h) in
-      In-map (λ (e : Name × Key). e.0) (n, found.0) (suppliers_of c).rows (find-In names (suppliers_of c).rows n found.0 found.1)
-
-  -- frames that are among the variant's have suppliers of the cluster
-  known-frames : (e : (Name × Name) × Frame) → In e x.frames.rows → In e.0.0 (map (λ (e : Name × Key). e.0) (suppliers_of c).rows)
+  -- frames that are among the variant's have suppliers that are there
+  known-frames : (e : (Name × Name) × Frame) → In e x.frames.rows → In e.0.0 (supplier_names b)
   unfolding get
   known-frames e i =
       let f = (sound.variants v x there).1.frames e.0 e.1 (In-find owned x.frames.rows e x.frames.sorted i) in
-      listed e.0.0 (sound.nodes e.0.0 e.1.node f.node).1
+      among_names b e.0.0 (sound.nodes e.0.0 e.1.node f.node).1
 
   -- frames of the variant are those of its suppliers, one supplier after another
-  pub frames-split : (t : Table owned Frame) → ((e : (Name × Name) × Frame) → In e t.rows → In e x.frames.rows) → flat_map (λ s. (own s t).rows) (supplier_names c) ≡ t.rows
+  pub frames-split : (t : Table owned Frame) → ((e : (Name × Name) × Frame) → In e t.rows → In e x.frames.rows) → flat_map (λ s. (own s t).rows) (supplier_names b) ≡ t.rows
   unfolding only
   frames-split t among =
-      ap (flat_map (λ s. (own s t).rows)) (sym names-rows)
-      ∙ flat-map (λ s. (own s t).rows) (λ (e : Name × Key). e.0) (suppliers_of c).rows
-      ∙ split t.rows (suppliers_of c).rows t.sorted (suppliers_of c).sorted (λ e i. known-frames e (among e i))
+      flat-map (λ s. (own s t).rows) (λ (e : Name × Key). e.0) b.suppliers.rows
+      ∙ split t.rows b.suppliers.rows t.sorted b.suppliers.sorted (λ e i. known-frames e (among e i))

@@ -2,12 +2,10 @@
 use Rattle.std.proofs.Common.{◌≡◌, Bool, true, false, [], ◌∷◌, Result, Ok, Err, IfOk, refl, sym, ap, subst, ◌∙◌, inl, inr}
 use Rattle.std.specs.Prelude.{IsTrue, is_ok, ⊤}
 use Rattle.fr_base.specs.Refusing.{◌>>=◌, ◌>>◌, refuse◌when◌}
-use Rattle.fr_base.specs.Tables.{contains}
 use Rattle.fr_base.specs.Checks.{check}
-use Rattle.fr_base.specs.Cluster.{Cluster}
-use Rattle.fr_base.specs.Book.{Book}
+use Rattle.fr_base.specs.Cluster.{Cluster, ClusterFile}
+use Rattle.fr_base.specs.Book.{Book, file_of}
 use Rattle.fr_base.specs.Run.{IsRun}
-use Rattle.fr_base.specs.Sound.{IsSound}
 use Rattle.fr_base.specs.Queries.{reply}
 use Rattle.fr_base.specs.Step.{Outcome, act, knows, outcome, perform, step}
 use Rattle.fr_base.specs.declared.actor.Actor.{Actor}
@@ -25,16 +23,17 @@ use Rattle.fr_base.specs.declared.request.Request.{Request}
 use Rattle.fr_base.specs.declared.request.Checked.{Checked}
 use Rattle.fr_base.specs.declared.request.Checked.TheVariants as checked
 use Rattle.fr_base.proofs.SoundChecks.{IsFormed, check-form}
+use Rattle.fr_base.proofs.SuppliersLaws.{contains-listed}
 use Rattle.fr_answers.specs.Answering.{Acts, Answers, HasPassed, answer_of, is_known}
 use Rattle.fr_answers.specs.Carried.{IsRefused, Performs, Replies}
 use Rattle.fr_records.specs.Held.{Standing}
 use Rattle.fr_answers.specs.Imports.{GivesImport}
 use Rattle.fr_answers.proofs.CheckedLaws.{command-checked}
 
--- who is in the cluster file is in a sound book
-known-so : (c : Cluster) (b : Book) (actor : Actor) → IsSound c b → knows b actor ≡ is_known c actor
-known-so c b Integrator sound = refl
-known-so c b (Supplier s) sound = ap (λ t. contains t s) sound.suppliers
+-- who is in the book is in what a cluster file says of it
+known-so : (c : Cluster) (b : Book) (actor : Actor) → knows b actor ≡ is_known (file_of c b) actor
+known-so c b Integrator = refl
+known-so c b (Supplier s) = sym (contains-listed b s)
 
 -- what passed the check
 pub passed : (p : Params) (actor : Actor) (request : Request) (valid : Checked) → check p actor request ≡ Ok valid → HasPassed p actor valid
@@ -56,39 +55,39 @@ module _ (c : Cluster) (b : Book) (ask : Ask) where
     unfolding step ◌>>◌ refuse◌when◌
     of_known said is = rw known (ap (λ r. outcome b (r >>= act c b ask.actor)) is)
 
-module _ (now : Standing) (config : Cluster) (same : (c : Cluster) (b : Book) → now c b → config ≡ c) (ask : Ask) where
-  knows-so : (t : Bool) → is_known config ask.actor ≡ t → (c : Cluster) (b : Book) → now c b → IsSound c b → knows b ask.actor ≡ t
-  knows-so t is c b stood sound = known-so c b ask.actor sound ∙ ap (λ k. is_known k ask.actor) (sym (same c b stood)) ∙ is
+module _ (now : Standing) (config : ClusterFile) (same : (c : Cluster) (b : Book) → now c b → config ≡ file_of c b) (ask : Ask) where
+  knows-so : (t : Bool) → is_known config ask.actor ≡ t → (c : Cluster) (b : Book) → now c b → knows b ask.actor ≡ t
+  knows-so t is c b stood = known-so c b ask.actor ∙ ap (λ k. is_known k ask.actor) (sym (same c b stood)) ∙ is
 
   -- who asks is not there
   pub unknown : is_known config ask.actor ≡ false → Answers now now ask (Refused UnknownKey)
-  unknown is c b stood sound = (b, stood, stepped c b ask _ (of_unknown c b ask (knows-so false is c b stood sound)))
+  unknown is c b stood sound = (b, stood, stepped c b ask _ (of_unknown c b ask (knows-so false is c b stood)))
 
   module _ (is : is_known config ask.actor ≡ true) where
-    checked_so : (said : Result Checked Refusal) → check config.params ask.actor ask.request ≡ said → (c : Cluster) (b : Book) → now c b → IsSound c b →
+    checked_so : (said : Result Checked Refusal) → check config.cluster.params ask.actor ask.request ≡ said → (c : Cluster) (b : Book) → now c b →
         step c b ask.actor ask.request ≡ outcome b (said >>= act c b ask.actor)
-    checked_so said checks c b stood sound =
-        of_known c b ask (knows-so true is c b stood sound) said (ap (λ (k : Cluster). check k.params ask.actor ask.request) (sym (same c b stood)) ∙ checks)
+    checked_so said checks c b stood =
+        of_known c b ask (knows-so true is c b stood) said (ap (λ (k : ClusterFile). check k.cluster.params ask.actor ask.request) (sym (same c b stood)) ∙ checks)
 
     -- the request's own text refuses it
-    pub unchecked : (e : Refusal) → check config.params ask.actor ask.request ≡ Err e → Answers now now ask (Refused e)
+    pub unchecked : (e : Refusal) → check config.cluster.params ask.actor ask.request ≡ Err e → Answers now now ask (Refused e)
     unfolding outcome ◌>>=◌
-    unchecked e checks c b stood sound = (b, stood, stepped c b ask _ (checked_so (Err e) checks c b stood sound))
+    unchecked e checks c b stood sound = (b, stood, stepped c b ask _ (checked_so (Err e) checks c b stood))
 
     -- it was carried out, or nothing was done
-    pub acted : (valid : Checked) → check config.params ask.actor ask.request ≡ Ok valid → (new : Standing) (r : Result Answer Refusal) → Acts now new r ask.actor valid → Answers now new ask (answer_of r)
+    pub acted : (valid : Checked) → check config.cluster.params ask.actor ask.request ≡ Ok valid → (new : Standing) (r : Result Answer Refusal) → Acts now new r ask.actor valid → Answers now new ask (answer_of r)
     unfolding outcome ◌>>=◌
     acted valid checks new (Ok answer) acts c b stood sound =
-        let a = acts c b stood sound (knows-so true is c b stood sound) in
-        (a.0, a.2, stepped c b ask (record { book = a.0; answer = answer }) (checked_so (Ok valid) checks c b stood sound ∙ ap (outcome b) a.1))
+        let a = acts c b stood sound (knows-so true is c b stood) in
+        (a.0, a.2, stepped c b ask (record { book = a.0; answer = answer }) (checked_so (Ok valid) checks c b stood ∙ ap (outcome b) a.1))
     acted valid checks new (Err e) acts c b stood sound =
-        let known = knows-so true is c b stood sound in
+        let known = knows-so true is c b stood in
         let a = acts c b stood sound known in (
           b,
           a.0,
           elim a.1 [
-            | inl lacked ↦ inl (record { known = known; checked = ap is_ok (ap (λ (k : Cluster). check k.params ask.actor ask.request) (sym (same c b stood)) ∙ checks) }, ap Refused lacked, refl)
-            | inr refused ↦ stepped c b ask (record { book = b; answer = Refused e }) (checked_so (Ok valid) checks c b stood sound ∙ ap (outcome b) refused)
+            | inl lacked ↦ inl (record { known = known; checked = ap is_ok (ap (λ (k : ClusterFile). check k.cluster.params ask.actor ask.request) (sym (same c b stood)) ∙ checks) }, ap Refused lacked, refl)
+            | inr refused ↦ stepped c b ask (record { book = b; answer = Refused e }) (checked_so (Ok valid) checks c b stood ∙ ap (outcome b) refused)
           ],
         )
 
@@ -96,20 +95,20 @@ module _ (now : Standing) (config : Cluster) (same : (c : Cluster) (b : Book) �
 
 module _ (old new : Standing) (actor : Actor) where
   -- a command that was carried out
-  pub command_done : (command : Command) (r : Result ⊤ Refusal) → r ≡ Ok tt → Performs old new r (λ c b. perform c.params b command) → Acts old new (Ok Done) actor (checked.Command command)
+  pub command_done : (command : Command) (r : Result ⊤ Refusal) → r ≡ Ok tt → Performs old new r (λ c b. perform c b command) → Acts old new (Ok Done) actor (checked.Command command)
   unfolding act
   command_done command (Ok x) is does c b stood sound known = does c b stood sound
   command_done command (Err e) is does c b stood sound known = cc
 
   -- one that was not
-  pub command_refused : (command : Command) (said : Result Answer Refusal) (r : Result ⊤ Refusal) (e : Refusal) → said ≡ Err e → r ≡ Err e → Performs old new r (λ c b. perform c.params b command)
+  pub command_refused : (command : Command) (said : Result Answer Refusal) (r : Result ⊤ Refusal) (e : Refusal) → said ≡ Err e → r ≡ Err e → Performs old new r (λ c b. perform c b command)
       → Acts old new said actor (checked.Command command)
   unfolding act
   command_refused command said (Ok x) e is refused does c b stood sound known = cc
   command_refused command (Ok a) (Err f) e is refused does c b stood sound known = cc
   command_refused command (Err h) (Err f) e is refused does c b stood sound known =
       let same : f ≡ h = cc in
-      subst (λ (e : Refusal). IsRefused new c b e (perform c.params b command)) same (does c b stood sound)
+      subst (λ (e : Refusal). IsRefused new c b e (perform c b command)) same (does c b stood sound)
 
   -- an import
   pub import_acts : (i : Import) (r : Result Answer Refusal) → actor ≡ Supplier i.supplier → GivesImport old new r i → Acts old new r actor (checked.Import i)

@@ -1,11 +1,12 @@
 -- What the office makes of a request.
 use Rattle.std.specs.Prelude.{◌≡◌, Bool, true, [], ◌∷◌, Result, Ok, Err, IsTrue, MatchResult, ⊤}
-use Rattle.fr_base.specs.Book.{Book, suppliers_of}
-use Rattle.fr_base.specs.Cluster.{Cluster}
+use Rattle.std.specs.List.{list_any}
+use Rattle.fr_base.specs.Book.{Book}
+use Rattle.fr_base.specs.Cluster.{Cluster, ClusterFile}
+use Rattle.fr_base.specs.Names.{same_text}
 use Rattle.fr_base.specs.Run.{IsRun}
 use Rattle.fr_base.specs.Sound.{IsSound}
 use Rattle.fr_base.specs.Step.{act, knows}
-use Rattle.fr_base.specs.Tables.{contains}
 use Rattle.fr_base.specs.declared.actor.Actor.{Actor}
 use Rattle.fr_base.specs.declared.actor.Actor.TheVariants.{Integrator, Supplier}
 use Rattle.fr_base.specs.declared.answer.Answer.{Answer}
@@ -19,10 +20,10 @@ use Rattle.fr_answers.specs.Carried.{IsRefused}
 use Rattle.fr_answers.specs.Decided.{IsCheckedCommand}
 use Rattle.fr_records.specs.Held.{Standing}
 
--- whether the cluster file has who asks
-abbrev pub is_known : Cluster → Actor → Bool
-is_known c Integrator = true
-is_known c (Supplier s) = contains (suppliers_of c) s
+-- whether who asks is in what a cluster file says
+abbrev pub is_known : ClusterFile → Actor → Bool
+is_known f Integrator = true
+is_known f (Supplier s) = list_any (λ t. same_text s t.name) f.suppliers
 
 -- So much of what the check of a request leaves is needed: a command's values fit the cluster, and an import is of who asks.
 abbrev pub HasPassed : Params → Actor → Checked → Type 0

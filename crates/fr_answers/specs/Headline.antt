@@ -1,7 +1,7 @@
 -- What the register promises, whatever it is asked and by whom: each supplier is answered as if it were alone, and in every
 -- variant, cycle, slot and channel at most one frame is sent, by the node that holds the grant.
 use Rattle.std.specs.Prelude.{◌≡◌, ℕ, List, [], ◌∷◌, take, drop, Some, ⊤}
-use Rattle.fr_base.specs.Alone.{rows_of, asks_of, answers_of, alone, answers_to, book_after}
+use Rattle.fr_base.specs.Alone.{rows_of, asks_of, answers_of, answers_to, book_after}
 use Rattle.fr_base.specs.Book.{Frame, Variant, Book}
 use Rattle.fr_base.specs.Cells.{Cell}
 use Rattle.fr_base.specs.Cluster.{Cluster}
@@ -30,11 +30,12 @@ AreDone _ _ = ⊥
 -- Requests were answered so, from this book to the last. What of them is the supplier's are its own requests, but those that
 -- were Unavailable, and the integrator's commands that were done and are common to all or name it. A register that holds this
 -- supplier alone begins with the supplier's rows of the book and is asked these, one after another: it gives the same answers one by one, Done
--- to each of the integrator's commands, and ends with the supplier's rows of the last book.
+-- to each of the integrator's commands, and ends with the supplier's rows of the last book. Which suppliers a register holds stands in
+-- its book alone, so both registers are of the same cluster.
 pub record IsAsIfAlone (c : Cluster) (s : Name) (b : Book) (asks : List Ask) (answers : List Answer) (last : Book) : Type 0 where
-  pub same : answers_to (alone s c) (rows_of s b) (asks_of s asks answers) ≡ answers_of s asks answers
-  pub done : AreDone (asks_of s asks answers) (answers_to (alone s c) (rows_of s b) (asks_of s asks answers))
-  pub rows : book_after (alone s c) (rows_of s b) (asks_of s asks answers) ≡ rows_of s last
+  pub same : answers_to c (rows_of s b) (asks_of s asks answers) ≡ answers_of s asks answers
+  pub done : AreDone (asks_of s asks answers) (answers_to c (rows_of s b) (asks_of s asks answers))
+  pub rows : book_after c (rows_of s b) (asks_of s asks answers) ≡ rows_of s last
 
 -- In each variant of the book, of all frames of all suppliers at most one is sent in a cell, by one of its placements alone; and
 -- the supplier and node that send it hold the grant of the cell's slot and channel.

@@ -3,20 +3,19 @@ use Rattle.std.specs.Prelude.{◌≡◌, ℕ, ◌+◌, ◌*◌, Bool, false, ◌
 use Rattle.std.specs.Option.{option_or}
 use Rattle.std.specs.Ordering.{match_ordering}
 use Rattle.fr_base.specs.Book.{Variant, Book}
-use Rattle.fr_base.specs.Cluster.{Cluster}
 use Rattle.fr_base.specs.Keys.{owned}
 use Rattle.fr_base.specs.Names.{same_text}
 use Rattle.fr_base.specs.Tables.{get}
 use Rattle.fr_base.specs.declared.name.Name.{Name}
 use Rattle.fr_base.specs.declared.params.Params.{Params}
 use Rattle.fr_world.specs.BookEdits.{SparesOthers}
-use Rattle.fr_world.specs.Pages.{PageData, page_in}
+use Rattle.fr_world.specs.Pages.{PageData}
 use Rattle.fr_records.specs.Held.{IsFresh, Standing}
 use Rattle.fr_answers.specs.ImportCounts.{AreCounted}
 use Rattle.fr_answers.specs.declared.import_counts.ImportCount.{ImportCount}
 use Rattle.fr_answers.specs.declared.shelf.TheConstants.{FRAME_BYTES, GRANT_BYTES, MAX_BYTES, MOST_FRAMES, MOST_GRANTS, PAGE_BYTES}
 use Rattle.fr_world.specs.declared.edit.Edit.{Edit}
-use Rattle.fr_world.specs.declared.edit.Edit.TheVariants.{NewVariant, SetReleased, NewNode, Rows, KeepImport}
+use Rattle.fr_world.specs.declared.edit.Edit.TheVariants.{NewVariant, SetReleased, NewSupplier, NewNode, Rows, KeepImport}
 
 -- the pages that were used last, and those that were used last before them
 pub record KeptData : Type 0 where
@@ -98,6 +97,7 @@ kept_with page kept =
 abbrev pub touches : Edit → PageData → Bool
 touches (NewVariant v parent depth) page = same_text page.variant v
 touches (SetReleased v) page = same_text page.variant v
+touches (NewSupplier s key) page = false
 touches (NewNode s n) page = same_text page.supplier s
 touches (Rows s v what) page = is_page_of s v page
 touches (KeepImport s label v body rows) page = false

@@ -30,7 +30,7 @@ pub fn answer<R: Records>(alloc: Global, records: &mut R, ask: &Ask) -> Answer
     }
 }
 
-// Whether the cluster file has who asks.
+// Whether who asks is there.
 fn is_known(config: &Config, actor: &Actor) -> bool
     ensures { result ≡ is_known config.now actor.now }
 {

@@ -6,10 +6,12 @@ ghost use Rattle.fr_answers.specs.Decided.{IsCheckedCommand};
 mod common;
 mod nodes;
 mod rows;
+mod suppliers;
 
 use crate::commands::common::change_common;
 use crate::commands::nodes::add_node;
 use crate::commands::rows::change_rows;
+use crate::commands::suppliers::add_supplier;
 use fr_base::{Command, Refusal};
 use fr_records::Records;
 use std::alloc::Global;
@@ -23,10 +25,11 @@ pub(crate) fn carry_out<R: Records>(
 ) -> Result<(), Refusal>
     requires checked { IsCheckedCommand (R.params records.old) command.now }
     ensures falls { R.clean records.new → R.clean records.old }
-    ensures does { R.clean records.new → Performs (R.stands records.old) (R.stands records.new) result (λ c b. perform c.params b command.now) }
+    ensures does { R.clean records.new → Performs (R.stands records.old) (R.stands records.new) result (λ c b. perform c b command.now) }
 {
     match command {
         Command::Common(command) => change_common(alloc, records, command),
+        Command::AddSupplier { supplier, key } => add_supplier(alloc, records, *supplier, *key),
         Command::AddNode { supplier, node } => add_node(alloc, records, *supplier, *node),
         Command::Rows {
             supplier,

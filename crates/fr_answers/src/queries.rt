@@ -11,7 +11,6 @@ mod grants;
 mod layout;
 mod schedule;
 mod suppliers;
-mod variants;
 
 use crate::queries::frames::{gather_frames, push_frames};
 use crate::queries::gaps::{gather_gaps, push_gaps};
@@ -19,7 +18,6 @@ use crate::queries::grants::{gather_grants, page_grants};
 use crate::queries::layout::{gather_signals, push_signals};
 use crate::queries::schedule::{gather_schedule, page_schedule};
 use crate::queries::suppliers::supplier_names;
-use crate::queries::variants::has_variant;
 use fr_base::{Actor, Answer, Name, Query, Refusal, Rows};
 use fr_records::Records;
 use fr_world::Page;
@@ -52,7 +50,7 @@ fn reply_to_integrator<R: Records>(
     ensures falls { R.clean records.new → R.clean records.old }
     ensures replies { R.clean records.new → Replies (R.stands records.old) (R.stands records.new) result (λ c b. reply c.params b Integrator query.now) }
 {
-    if has_variant(alloc, records, variant_asked(query))? {
+    if records.has_variant(variant_asked(query))? {
         show_all(alloc, records, query)
     } else {
         Err(Refusal::NoVariant)

@@ -125,6 +125,7 @@ impl Shelf {
             } => {
                 let _ = self.take(*supplier, *variant);
             }
+            Edit::NewSupplier { .. } => {}
             Edit::KeepImport { .. } => {}
             Edit::NewVariant { .. } | Edit::SetReleased { .. } | Edit::NewNode { .. } => {
                 let_go_touched(&mut self.pages, edit);
@@ -182,6 +183,6 @@ fn touches(edit: &Edit, page: &Page) -> bool
             variant,
             ..
         } => page.supplier() == *supplier && page.variant() == *variant,
-        Edit::KeepImport { .. } => false,
+        Edit::NewSupplier { .. } | Edit::KeepImport { .. } => false,
     }
 }

@@ -1,15 +1,13 @@
 //! Which suppliers there are.
 ghost use Rattle.std.specs.Prelude.{◌≡◌};
 ghost use Rattle.std.specs.List.{list_any};
-ghost use Rattle.fr_base.specs.Book.{suppliers_of};
 ghost use Rattle.fr_base.specs.Names.{same_text};
-ghost use Rattle.fr_base.specs.Tables.{contains};
 
 use fr_base::{Config, Name, Supplier};
 
-/// Whether the cluster has the supplier.
+/// Whether the supplier is there.
 pub(crate) fn has_supplier(config: &Config, supplier: Name) -> bool
-    ensures { result ≡ contains (suppliers_of config.now) supplier }
+    ensures { result ≡ list_any (λ s. same_text supplier s.name) config.now.suppliers }
 {
     is_named(config.suppliers(), supplier)
 }

@@ -75,6 +75,10 @@ impl<R: Records> Records for Warm<R> {
         self.records.config()
     }
 
+    fn has_variant(&mut self, variant: Name) -> Result<bool, Refusal> {
+        self.records.has_variant(variant)
+    }
+
     // A page that is kept is taken out, until it is given back.
     fn page(
         &mut self,

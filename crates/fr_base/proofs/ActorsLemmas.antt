@@ -1,94 +1,44 @@
--- Where the book's suppliers are the cluster file's, who asks with a key is found in the file's list.
-use Rattle.std.proofs.Common.{◌≡◌, ℕ, Bool, true, false, cond, ◌&&◌, List, [], ◌∷◌, map, find, Option, Some, None, is_some, IsTrue, IfSome, refl, sym, ap, ◌∙◌, Ordering, Less, Equal, Greater}
-use Rattle.std.specs.Prelude.{T}
-use Rattle.std.specs.Ordering.{nat_cmp, is_lt, is_eq}
+-- Where a list is the book's suppliers, who asks with a key is found in it.
+use Rattle.std.proofs.Common.{◌≡◌, ℕ, Bool, true, false, cond, List, [], ◌∷◌, map, find, Option, Some, None, is_some, IsTrue, IfSome, refl, sym, ap, ◌∙◌}
+use Rattle.std.specs.Ordering.{nat_cmp, is_eq}
 use Rattle.std.specs.Option.{option_map}
 use Rattle.std.specs.Cmp.Lexicographic.{slice_cmp, nat_list_cmp_total}
 use Rattle.std.specs.FinMap.Entries as entries
 use Rattle.std.specs.FinMap.Entries.{below_all, is_sorted}
 use Rattle.std.specs.Cmp.{tied_itself}
-use Rattle.fr_base.specs.TableRows.{both, first, second}
 use Rattle.fr_base.specs.Keys.{names}
-use Rattle.fr_base.specs.Cluster.{Cluster, is_before, names_rise, is_cluster}
+use Rattle.fr_base.specs.Cluster.{Cluster, ClusterFile}
 use Rattle.fr_base.specs.Names.{same_text}
-use Rattle.fr_base.specs.Book.{Book, suppliers_of}
+use Rattle.fr_base.specs.Book.{Book, listed, file_of}
 use Rattle.fr_base.specs.Actors.{actor_of}
 use Rattle.fr_base.specs.Step.{knows}
-use Rattle.fr_base.specs.Tables.{Table, get}
+use Rattle.fr_base.specs.Tables.{get}
 use Rattle.fr_base.specs.declared.actor.Actor.TheVariants as actor
 use Rattle.fr_base.specs.declared.config.Supplier.{Supplier}
 use Rattle.fr_base.specs.declared.key.Key.{Key}
 use Rattle.fr_base.specs.declared.name.Name.{Name}
-use Rattle.fr_base.proofs.TableLaws.{rows-from_rows}
 use Rattle.fr_base.proofs.SoundTables.{same_some}
-
--- a row of the book's suppliers
-abbrev pub row : Supplier → Name × Key
-row s = (s.name, s.key)
-
-parts : (a b : Bool) → IsTrue (a && b) → IsTrue a × IsTrue b
-parts true b h = (refl, h)
-parts false b h = cc
-
-is_less : (r : Ordering) → IsTrue (is_lt r) → r ≡ Less
-is_less Less h = refl
-is_less Equal h = cc
-is_less Greater h = cc
-
-holds : (b : Bool) → IsTrue b → T b
-holds true h = tt
-holds false h = cc
-
-less_holds : (r : Ordering) → T (is_lt r) → r ≡ Less
-less_holds Less h = refl
-less_holds Equal h = absurd h
-less_holds Greater h = absurd h
-
--- what is before a name is before all that the name is before
-further : (n m : Name) → slice_cmp nat_cmp n m ≡ Less → (es : List (Name × Key)) → T (below_all (slice_cmp nat_cmp) m es) → T (below_all (slice_cmp nat_cmp) n es)
-further n m less [] above = tt
-further n m less (e ∷ es) above =
-    let step : slice_cmp nat_cmp n e.0 ≡ Less = nat_list_cmp_total.trans n m e.0 less (less_holds _ (first _ _ above)) in
-    both _ _ (holds _ (ap is_lt step)) (further n m less es (second _ _ above))
-
--- a name before the first of names that rise is before them all
-before_all : (n : Name) (ss : List Supplier) → IsTrue (is_before n ss) → IsTrue (names_rise ss) → T (below_all (slice_cmp nat_cmp) n (map row ss))
-before_all n [] h rise = tt
-before_all n (s ∷ ss) h rise =
-    let later = parts _ _ rise in
-    both _ _ (holds _ h) (further n s.name (is_less _ h) (map row ss) (before_all s.name ss later.0 later.1))
-
-sorted : (ss : List Supplier) → IsTrue (names_rise ss) → T (is_sorted (slice_cmp nat_cmp) (map row ss))
-sorted [] rise = tt
-sorted (s ∷ ss) rise =
-    let later = parts _ _ rise in
-    both _ _ (before_all s.name ss later.0 later.1) (sorted ss later.1)
-
--- the book's suppliers are the list's, in its order
-pub supplier_rows : (c : Cluster) → IsTrue (is_cluster c.integrator c.suppliers) → (suppliers_of c).rows ≡ map row c.suppliers
-unfolding is_cluster suppliers_of names
-supplier_rows c h = rows-from_rows names (map row c.suppliers) (sorted c.suppliers (parts _ _ (parts _ _ h).0).1)
 
 abbrev pub has_key : List ℕ → Supplier → Bool
 has_key key s = same_text s.key key
 
--- who is found by key among the rows is found in the list
-pub found_row : {A : Type 0} (f : Name → A) (key : List ℕ) (ss : List Supplier) → option_map (λ s. f s.name) (find (has_key key) ss) ≡ option_map (λ r. f r.0) (find (λ r. same_text r.1 key) (map row ss))
+-- who is found by key among the rows is found in the list of them
+found_row : {A : Type 0} (f : Name → A) (key : List ℕ) (rows : List (Name × Key)) → option_map (λ s. f s.name) (find (has_key key) (map listed rows)) ≡ option_map (λ r. f r.0) (find (λ r. same_text r.1 key) rows)
 found_row f key [] = refl
-found_row f key (s ∷ ss) =
-    elim (has_key key s) as (λ b. option_map (λ t. f t.name) (cond b (Some s) (find (has_key key) ss)) ≡ option_map (λ r. f r.0) (cond b (Some (row s)) (find (λ r. same_text r.1 key) (map row ss)))) [
+found_row f key (r ∷ rs) =
+    elim (same_text r.1 key) as (λ b. option_map (λ t. f t.name) (cond b (Some (listed r)) (find (has_key key) (map listed rs))) ≡ option_map (λ r. f r.0) (cond b (Some r) (find (λ r. same_text r.1 key) rs))) [
       | true ↦ refl
-      | false ↦ found_row f key ss
+      | false ↦ found_row f key rs
     ]
 
 -- so who asks with a key that is not the integrator's is the supplier of the list that has it
-pub listed : (c : Cluster) (b : Book) (key : List ℕ) → IsTrue (is_cluster c.integrator c.suppliers) → b.suppliers ≡ suppliers_of c → same_text c.integrator key ≡ false →
-    option_map (λ s. actor.Supplier s.name) (find (has_key key) c.suppliers) ≡ actor_of c b key
+pub listed_now : (c : Cluster) (b : Book) (f : ClusterFile) (key : List ℕ) → f ≡ file_of c b → same_text f.cluster.integrator key ≡ false →
+    option_map (λ s. actor.Supplier s.name) (find (has_key key) f.suppliers) ≡ actor_of c b key
 unfolding actor_of
-listed c b key fine same other =
-    found_row actor.Supplier key c.suppliers
-    ∙ ap (λ rows. option_map (λ r. actor.Supplier r.0) (find (λ r. same_text r.1 key) rows)) (sym (ap (λ (t : Table names Key). t.rows) same ∙ supplier_rows c fine))
-    ∙ sym (ap (λ t. cond t (Some actor.Integrator) (option_map (λ r. actor.Supplier r.0) (find (λ r. same_text r.1 key) b.suppliers.rows))) other)
+listed_now c b f key same other =
+    ap (λ (g : ClusterFile). option_map (λ s. actor.Supplier s.name) (find (has_key key) g.suppliers)) same
+    ∙ found_row actor.Supplier key b.suppliers.rows
+    ∙ sym (ap (λ t. cond t (Some actor.Integrator) (option_map (λ r. actor.Supplier r.0) (find (λ r. same_text r.1 key) b.suppliers.rows))) (sym (ap (λ (g : ClusterFile). same_text g.cluster.integrator key) same) ∙ other))
 
 -- ---- who asks is there
 

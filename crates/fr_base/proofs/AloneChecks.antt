@@ -5,9 +5,9 @@ use Rattle.std.specs.Option.{option_and_then}
 use Rattle.std.proofs.lemmas.Bool.{cases_Bool}
 use Rattle.fr_base.specs.Refusing.{refuse◌when◌}
 use Rattle.fr_base.specs.Tables.{get}
-use Rattle.fr_base.specs.Names.{is_name, same_text}
+use Rattle.fr_base.specs.Names.{is_name, is_key, same_text}
 use Rattle.fr_base.specs.Channels.{has_channel, channel_of_text}
-use Rattle.fr_base.specs.Checks.{is_integrator, asking, name, slot, channel, placement, signal, parent_name, check}
+use Rattle.fr_base.specs.Checks.{is_integrator, asking, key, name, slot, channel, placement, signal, parent_name, check}
 use Rattle.fr_base.specs.Book.{Variant, Book}
 use Rattle.fr_base.specs.Alone.{concerns, is_another, holder_at}
 use Rattle.fr_base.specs.declared.channel.Channel.{Channel}
@@ -26,6 +26,7 @@ use Rattle.fr_base.specs.declared.request.FrameChange.{FrameChange}
 use Rattle.fr_base.specs.declared.request.Checked.{Checked}
 use Rattle.fr_base.specs.declared.request.Checked.TheVariants as checked
 use Rattle.fr_base.proofs.SoundRefusing.{gives_or, gives_bind, gives_each, gives_unless}
+use Rattle.fr_base.proofs.AloneJoining.{others_refuse}
 use Rattle.fr_base.proofs.AloneCommands.{names, of_frame, holder_in, against}
 
 -- whether a request is the supplier's: its own, or the integrator's that is common or names it
@@ -37,6 +38,7 @@ asked_of s (Supplier t) request = same_text t s
 abbrev pub refused_beside : Name → Book → Actor → Request → Result ⊤ Refusal
 refused_beside s b (Supplier t) request = Ok tt
 refused_beside s b Integrator (request.Grant v number text t n) = refuse Taken when is_another s (holder_at b v number text)
+refused_beside s b Integrator (request.AddSupplier t key) = others_refuse s b key
 refused_beside s b Integrator request = Ok tt
 
 -- a checked command says of suppliers what the request says, and changes a frame only where a supplier asks
@@ -69,6 +71,10 @@ name-is : (text : List ℕ) → IfOk (name text) (λ v. v ≡ text)
 unfolding name
 name-is text = elim (cases_Bool (is_name text)) [ inl h ↦ rw h refl | inr h ↦ rw h tt ]
 
+key-is : (text : List ℕ) → IfOk (key text) (λ k. k ≡ text)
+unfolding key
+key-is text = elim (cases_Bool (is_key text)) [ inl h ↦ rw h refl | inr h ↦ rw h tt ]
+
 slot-is : (p : Params) (n : ℕ) → IfOk (slot p n) (λ k. k ≡ n)
 unfolding slot
 slot-is p n = elim (cases_Bool (nat_le 1 n && nat_le n p.static_slots)) [ inl h ↦ rw h refl | inr h ↦ rw h tt ]
@@ -93,6 +99,11 @@ check-says p actor (request.Release variant) =
     gives_unless _ _ (is_integrator actor) _ (λ is.
     gives_each _ (name variant) _ (λ v _.
     by_integrator actor _ _ is (λ s. refl) (λ s b. refl) refl))
+check-says p actor (request.AddSupplier supplier text) =
+    gives_unless _ _ (is_integrator actor) _ (λ is.
+    gives_bind _ _ (name supplier) _ (name-is supplier) (λ t t_is.
+    gives_bind _ _ (key text) _ (key-is text) (λ k k_is.
+    by_integrator actor _ _ is (λ s. ap (λ x. same_text x s) t_is) (λ s b. ap (others_refuse s b) k_is) refl)))
 check-says p actor (request.AddNode supplier node) =
     gives_unless _ _ (is_integrator actor) _ (λ is.
     gives_bind _ _ (name supplier) _ (name-is supplier) (λ t t_is.

@@ -7,21 +7,21 @@ use Rattle.fr_base.specs.Tables.{get}
 use Rattle.fr_base.specs.Cluster.{Cluster}
 use Rattle.fr_base.specs.Book.{Book}
 use Rattle.fr_base.specs.Queries.{reply}
-use Rattle.fr_base.specs.Step.{Outcome, knows, common, add_node, change_rows, done, perform, import, act, outcome, step}
+use Rattle.fr_base.specs.Step.{Outcome, knows, common, add_supplier, add_node, change_rows, done, perform, import, act, outcome, step}
 use Rattle.fr_base.specs.Sound.{IsSound}
-use Rattle.fr_base.specs.Alone.{rows_of, concerns, is_another, holder_at, alone, beside}
+use Rattle.fr_base.specs.Alone.{rows_of, concerns, is_another, holder_at, another_has, is_full, beside}
 use Rattle.fr_base.specs.declared.name.Name.{Name}
 use Rattle.fr_base.specs.declared.answer.Answer.{Answer}
 use Rattle.fr_base.specs.declared.answer.Answer.TheVariants as answer
 use Rattle.fr_base.specs.declared.refusal.Refusal.{Refusal}
-use Rattle.fr_base.specs.declared.refusal.Refusal.TheVariants.{UnknownKey, Taken}
+use Rattle.fr_base.specs.declared.refusal.Refusal.TheVariants.{UnknownKey, Limit, Taken, KeyTaken}
 use Rattle.fr_base.specs.declared.actor.Actor.{Actor}
 use Rattle.fr_base.specs.declared.actor.Actor.TheVariants.{Integrator, Supplier}
 use Rattle.fr_base.specs.declared.request.Request.{Request}
 use Rattle.fr_base.specs.declared.request.Request.TheVariants as request
 use Rattle.fr_base.specs.declared.request.Query.{Query}
 use Rattle.fr_base.specs.declared.request.Command.{Command}
-use Rattle.fr_base.specs.declared.request.Command.TheVariants.{Common, AddNode, Rows}
+use Rattle.fr_base.specs.declared.request.Command.TheVariants.{Common, AddSupplier, AddNode, Rows}
 use Rattle.fr_base.specs.declared.request.Import.{Import}
 use Rattle.fr_base.specs.declared.request.Checked.{Checked}
 use Rattle.fr_base.specs.declared.request.Checked.TheVariants as checked
@@ -31,6 +31,7 @@ use Rattle.fr_base.proofs.AloneRefusing.{map_ok, alike_when, alike_bind}
 use Rattle.fr_base.proofs.AloneRows.{rows_of-supplier, rows_of-import}
 use Rattle.fr_base.proofs.AloneImports.{import-own}
 use Rattle.fr_base.proofs.AloneChanges.{unless, unless_none}
+use Rattle.fr_base.proofs.AloneJoining.{others_refuse}
 use Rattle.fr_base.proofs.AloneCommands.{perform-own}
 use Rattle.fr_base.proofs.AloneChecks.{asked_of, refused_beside, Says, check-says}
 use Rattle.fr_base.proofs.AloneOutcomes.{seen, answer-seen}
@@ -57,7 +58,7 @@ module _ (c : Cluster) (b : Book) (s : Name) where
   shown-own (Ok rows) = refl
   shown-own (Err e) = refl
 
-  query-own : (query : Query) → Beside (Ok tt) (act c b (Supplier s) (checked.Query query)) (act (alone s c) (rows_of s b) (Supplier s) (checked.Query query))
+  query-own : (query : Query) → Beside (Ok tt) (act c b (Supplier s) (checked.Query query)) (act c (rows_of s b) (Supplier s) (checked.Query query))
   unfolding act
   query-own query =
       shown-own (reply c.params b (Supplier s) query)
@@ -71,17 +72,17 @@ module _ (c : Cluster) (b : Book) (s : Name) where
       ∙ sym (unless_none _))
 
   act-own : (actor : Actor) (request : Request) → (is_integrator actor ≡ false → IsSound c b) → asked_of s actor request ≡ true → (what : Checked) → Says actor request what →
-      Beside (refused_beside s b actor request) (act c b actor what) (act (alone s c) (rows_of s b) actor what)
+      Beside (refused_beside s b actor request) (act c b actor what) (act c (rows_of s b) actor what)
   unfolding act
   act-own actor request sound asked (checked.Command command) says =
       perform-own c b s command (λ frame. sound (says.frames frame)) (says.names s ∙ asked)
-      ∙ ap (λ t. perform c.params (rows_of s b) command >>= unless t) (says.against s b)
+      ∙ ap (λ t. perform c (rows_of s b) command >>= unless t) (says.against s b)
   act-own Integrator request sound asked (checked.Import i) says = cc
   act-own (Supplier t) request sound asked (checked.Import i) says =
       import-alone i (sym (same_text-is t s asked) ∙ supplier-is says) (sound refl)
   act-own Integrator request sound asked (checked.Query query) says = let none = says refl s in cc
   act-own (Supplier t) request sound asked (checked.Query query) says =
-      subst (λ u. Beside (Ok tt) (act c b (Supplier u) (checked.Query query)) (act (alone s c) (rows_of s b) (Supplier u) (checked.Query query))) (sym (same_text-is t s asked)) (query-own query)
+      subst (λ u. Beside (Ok tt) (act c b (Supplier u) (checked.Query query)) (act c (rows_of s b) (Supplier u) (checked.Query query))) (sym (same_text-is t s asked)) (query-own query)
 
   said : (actor : Actor) (request : Request) (what : Checked) → check c.params actor request ≡ Ok what → Says actor request what
   said actor request what passed = subst (λ r. IfOk r (Says actor request)) passed (check-says c.params actor request)
@@ -92,7 +93,7 @@ module _ (c : Cluster) (b : Book) (s : Name) where
 
   -- a request that is the supplier's is refused as alone, and then by what is against it, and does the same to the supplier's rows
   pub lines-own : (actor : Actor) (request : Request) → (is_integrator actor ≡ false → IsSound c b) → asked_of s actor request ≡ true →
-      map_ok (seen s) (lines c b actor request) ≡ (lines (alone s c) (rows_of s b) actor request >>= unless (refused_beside s b actor request))
+      map_ok (seen s) (lines c b actor request) ≡ (lines c (rows_of s b) actor request >>= unless (refused_beside s b actor request))
   lines-own actor request sound asked =
       let t : Result ⊤ Refusal = refused_beside s b actor request in
       alike_when (Beside t) (same t) UnknownKey (not (knows b actor)) _ (ap not (knows-own actor request asked)) _ _ (λ _.
@@ -100,34 +101,42 @@ module _ (c : Cluster) (b : Book) (s : Name) where
 
   -- ---- the integrator's requests
 
-  perform-done : (k : Cluster) (d : Book) (command : Command) → IfOk (perform k.params d command) (λ o. o.answer ≡ answer.Done)
+  perform-done : (k : Cluster) (d : Book) (command : Command) → IfOk (perform k d command) (λ o. o.answer ≡ answer.Done)
   unfolding perform done
   perform-done k d (Common command) = gives_each _ (common d command) _ (λ after _. refl)
+  perform-done k d (AddSupplier t key) = gives_each _ (add_supplier k d t key) _ (λ after _. refl)
   perform-done k d (AddNode t n) = gives_each _ (add_node d t n) _ (λ after _. refl)
   perform-done k d (Rows t v what) = gives_each _ (change_rows k.params d t v what) _ (λ after _. refl)
 
-  act-answer : (request : Request) → concerns s request ≡ true → (d : Book) (what : Checked) → Says Integrator request what → IfOk (act (alone s c) d Integrator what) (λ o. o.answer ≡ answer.Done)
+  act-answer : (request : Request) → concerns s request ≡ true → (d : Book) (what : Checked) → Says Integrator request what → IfOk (act c d Integrator what) (λ o. o.answer ≡ answer.Done)
   unfolding act
-  act-answer request asked d (checked.Command command) says = perform-done (alone s c) d command
+  act-answer request asked d (checked.Command command) says = perform-done c d command
   act-answer request asked d (checked.Import i) says = cc
   act-answer request asked d (checked.Query query) says = let none = says refl s in cc
 
-  lines-answer : (request : Request) → concerns s request ≡ true → (d : Book) → IfOk (lines (alone s c) d Integrator request) (λ o. o.answer ≡ answer.Done)
+  lines-answer : (request : Request) → concerns s request ≡ true → (d : Book) → IfOk (lines c d Integrator request) (λ o. o.answer ≡ answer.Done)
   lines-answer request asked d =
       gives_unless _ _ (knows d Integrator) _ (λ _.
       gives_each _ (check c.params Integrator request) _ (λ what passed. act-answer request asked d what (said Integrator request what passed)))
 
   refused-beside : (request : Request) (e : Refusal) → answer.Refused e ≡ beside s b request (answer.Refused e)
   refused-beside (request.Grant v number text t n) e = refl
+  refused-beside (request.AddSupplier t key) e = refl
   refused-beside request e = refl
 
   done-beside : (d : Book) (request : Request) (o : Outcome) → o.answer ≡ answer.Done → (outcome d (unless (refused_beside s b Integrator request) o)).answer ≡ beside s b request answer.Done
-  unfolding outcome unless ◌>>◌ refuse◌when◌
+  unfolding outcome unless others_refuse ◌>>◌ refuse◌when◌
   done-beside d (request.Grant v number text t n) o is = grant (is_another s (holder_at b v number text))
     where
       grant : (another : Bool) → (outcome d ((refuse Taken when another) >> Ok o)).answer ≡ cond another (answer.Refused Taken) answer.Done
       grant true = refl
       grant false = is
+  done-beside d (request.AddSupplier t key) o is = joined (another_has s b key) (is_full b)
+    where
+      joined : (another full : Bool) → (outcome d (((refuse KeyTaken when another) >> (refuse Limit when full)) >> Ok o)).answer ≡ cond another (answer.Refused KeyTaken) (cond full (answer.Refused Limit) answer.Done)
+      joined true full = refl
+      joined false true = refl
+      joined false false = is
   done-beside d request o is = is
 
   answer-beside : (d : Book) (request : Request) (u : Result Outcome Refusal) → IfOk u (λ o. o.answer ≡ answer.Done) → (outcome d (u >>= unless (refused_beside s b Integrator request))).answer ≡ beside s b request (outcome d u).answer
@@ -136,9 +145,9 @@ module _ (c : Cluster) (b : Book) (s : Name) where
   answer-beside d request (Err e) h = refused-beside request e
 
   -- an integrator's command that is common or names the supplier is answered as alone, unless another's rows refuse it
-  pub step-beside : (request : Request) → concerns s request ≡ true → (step c b Integrator request).answer ≡ beside s b request (step (alone s c) (rows_of s b) Integrator request).answer
+  pub step-beside : (request : Request) → concerns s request ≡ true → (step c b Integrator request).answer ≡ beside s b request (step c (rows_of s b) Integrator request).answer
   unfolding step
   step-beside request asked =
       answer-seen s b (rows_of s b) (lines c b Integrator request)
       ∙ ap (λ r. (outcome (rows_of s b) r).answer) (lines-own Integrator request (λ h. cc) asked)
-      ∙ answer-beside (rows_of s b) request (lines (alone s c) (rows_of s b) Integrator request) (lines-answer request asked (rows_of s b))
+      ∙ answer-beside (rows_of s b) request (lines c (rows_of s b) Integrator request) (lines-answer request asked (rows_of s b))

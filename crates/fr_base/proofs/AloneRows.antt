@@ -7,6 +7,7 @@ use Rattle.fr_base.specs.Names.{same_text}
 use Rattle.fr_base.specs.Book.{Variant, Kept, Book, held_by, is_of, own}
 use Rattle.fr_base.specs.Step.{own_rows, with_variant, frame_at}
 use Rattle.fr_base.specs.Alone.{own_variant, rows_of}
+use Rattle.fr_base.specs.declared.key.Key.{Key}
 use Rattle.fr_base.specs.declared.name.Name.{Name}
 use Rattle.fr_base.specs.declared.params.Params.{Params}
 use Rattle.fr_base.proofs.TableLaws.{insert-same}
@@ -83,6 +84,14 @@ module _ (s : Name) where
   rows_of-still b v x y there same =
       rows_of-with b v y ∙ ap (with_variant (rows_of s b) v) same
       ∙ ap (λ t. record (rows_of s b) { variants = t }) (insert-same (each (own_variant s) b.variants) v (own_variant s x) (get-each names (own_variant s) b.variants v ∙ ap (option_map (own_variant s)) there))
+
+  pub rows_of-more_suppliers : (b : Book) (k : Key) → rows_of s (record b { suppliers = insert b.suppliers s k }) ≡ record (rows_of s b) { suppliers = insert (rows_of s b).suppliers s k }
+  unfolding rows_of
+  rows_of-more_suppliers b k = ap (λ t. record (rows_of s b) { suppliers = t }) (only-insert names (λ t. same_text t s) b.suppliers s k (same_text-itself s))
+
+  pub rows_of-more_suppliers_other : (b : Book) (t : Name) (k : Key) → same_text t s ≡ false → rows_of s (record b { suppliers = insert b.suppliers t k }) ≡ rows_of s b
+  unfolding rows_of
+  rows_of-more_suppliers_other b t k other = ap (λ u. record (rows_of s b) { suppliers = u }) (only-insert_other names (λ t. same_text t s) b.suppliers t k other)
 
   pub rows_of-more_nodes : (b : Book) (n : Name) → rows_of s (record b { nodes = insert b.nodes (s, n) tt }) ≡ record (rows_of s b) { nodes = insert (rows_of s b).nodes (s, n) tt }
   unfolding rows_of

@@ -4,7 +4,7 @@ use Rattle.std.specs.Prelude.{filter, map}
 use Rattle.std.proofs.lemmas.Bool.{cases_Bool}
 use Rattle.fr_base.specs.Tables.{only, insert, from_rows}
 use Rattle.fr_base.specs.Keys.{names, owned}
-use Rattle.fr_base.specs.Cluster.{Cluster}
+use Rattle.fr_base.specs.Cluster.{Cluster, ClusterFile}
 use Rattle.fr_base.specs.Names.{same_text}
 use Rattle.fr_base.specs.Book.{Book, is_of, suppliers_of, opening}
 use Rattle.fr_base.specs.Step.{Outcome, step}
@@ -49,20 +49,20 @@ not_lacked s (Supplier t) request = and_none (same_text t s)
 
 module _ (c : Cluster) (s : Name) where
   seen-step : (b : Book) → IsSound c b → (ask : Ask) → is_mine s ask.actor ask.request (step c b ask.actor ask.request).answer ≡ true →
-      step (alone s c) (rows_of s b) ask.actor ask.request ≡ record { book = rows_of s (step c b ask.actor ask.request).book; answer = (step c b ask.actor ask.request).answer }
+      step c (rows_of s b) ask.actor ask.request ≡ record { book = rows_of s (step c b ask.actor ask.request).book; answer = (step c b ask.actor ask.request).answer }
   unfolding seen
   seen-step b sound ask mine = step-mine c b s sound ask.actor ask.request mine
 
   -- what is not the supplier's, before others
   passed_over : (b : Book) (ask : Ask) (asks : List Ask) (answer : Answer) (answers : List Answer) (d last : Book) → is_mine s ask.actor ask.request answer ≡ false → rows_of s d ≡ rows_of s b →
-      Gives (alone s c) (rows_of s d) (asks_of s asks answers) (answers_of s asks answers) (rows_of s last) →
-      Gives (alone s c) (rows_of s b) (asks_of s (ask ∷ asks) (answer ∷ answers)) (answers_of s (ask ∷ asks) (answer ∷ answers)) (rows_of s last)
+      Gives c (rows_of s d) (asks_of s asks answers) (answers_of s asks answers) (rows_of s last) →
+      Gives c (rows_of s b) (asks_of s (ask ∷ asks) (answer ∷ answers)) (answers_of s (ask ∷ asks) (answer ∷ answers)) (rows_of s last)
   passed_over b ask asks answer answers d last other still rest =
-      rw other (subst (λ x. Gives (alone s c) x (asks_of s asks answers) (answers_of s asks answers) (rows_of s last)) still rest)
+      rw other (subst (λ x. Gives c x (asks_of s asks answers) (answers_of s asks answers) (rows_of s last)) still rest)
 
   -- The register that holds the supplier alone, asked what is the supplier's, gives the same answers and ends with its rows.
   pub run-alone : (b last : Book) (asks : List Ask) (answers : List Answer) → IsSound c b → IsRun c b asks answers last →
-      (answers_to (alone s c) (rows_of s b) (asks_of s asks answers) ≡ answers_of s asks answers) × (book_after (alone s c) (rows_of s b) (asks_of s asks answers) ≡ rows_of s last)
+      (answers_to c (rows_of s b) (asks_of s asks answers) ≡ answers_of s asks answers) × (book_after c (rows_of s b) (asks_of s asks answers) ≡ rows_of s last)
   run-alone b last [] [] sound run = (refl, ap (rows_of s) (sym run))
   run-alone b last [] (answer ∷ answers) sound run = absurd run
   run-alone b last (ask ∷ asks) [] sound run = absurd run
@@ -72,7 +72,7 @@ module _ (c : Cluster) (s : Name) where
       let o : Outcome = step c b ask.actor ask.request in
       let rest = run-alone o.book last asks answers (step-sound c b sound ask.actor ask.request) done.1 in
       elim (cases_Bool (is_mine s ask.actor ask.request answer)) [
-        | inl mine ↦ rw mine (gives_first (alone s c) (rows_of s b) ask (asks_of s asks answers) answer (answers_of s asks answers) (rows_of s o.book) (rows_of s last)
+        | inl mine ↦ rw mine (gives_first c (rows_of s b) ask (asks_of s asks answers) answer (answers_of s asks answers) (rows_of s o.book) (rows_of s last)
             (seen-step b sound ask (ap (is_mine s ask.actor ask.request) (sym done.0) ∙ mine) ∙ ap (λ a. record { book = rows_of s o.book; answer = a }) (sym done.0)) rest)
         | inr other ↦ passed_over b ask asks answer answers o.book last other (step-not_mine c b s ask.actor ask.request (ap (is_mine s ask.actor ask.request) (sym done.0) ∙ other)) rest
       ]
@@ -84,8 +84,8 @@ module _ (c : Cluster) (s : Name) where
   runs-alike b d last end asks others answers replies sound_b sound_d run_b run_d rows same =
       let one = run-alone b last asks answers sound_b run_b in
       let two = run-alone d end others replies sound_d run_d in (
-        sym one.0 ∙ ap (λ (z : Book × List Ask). answers_to (alone s c) z.0 z.1) (λ i. (rows i, same i)) ∙ two.0,
-        sym one.1 ∙ ap (λ (z : Book × List Ask). book_after (alone s c) z.0 z.1) (λ i. (rows i, same i)) ∙ two.1,
+        sym one.0 ∙ ap (λ (z : Book × List Ask). answers_to c z.0 z.1) (λ i. (rows i, same i)) ∙ two.0,
+        sym one.1 ∙ ap (λ (z : Book × List Ask). book_after c z.0 z.1) (λ i. (rows i, same i)) ∙ two.1,
       )
 
 -- ---- a new register
@@ -102,10 +102,10 @@ only-from_rows s (t ∷ ts) = elim (cases_Bool (same_text t.name s)) [
 ]
 
 -- the supplier's rows of a new register are a new register of the supplier alone
-pub opening-alone : (c : Cluster) (s : Name) → rows_of s (opening c) ≡ opening (alone s c)
+pub opening-alone : (f : ClusterFile) (s : Name) → rows_of s (opening f) ≡ opening (alone s f)
 unfolding rows_of opening suppliers_of row
-opening-alone c s = λ i. record {
-  suppliers = only-from_rows s c.suppliers i;
+opening-alone f s = λ i. record {
+  suppliers = only-from_rows s f.suppliers i;
   nodes = only-empty owned (λ k _. is_of s k) i;
   variants = each-empty names (own_variant s) i;
   imports = only-empty owned (λ k _. is_of s k) i;

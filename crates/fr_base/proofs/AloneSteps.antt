@@ -8,9 +8,9 @@ use Rattle.fr_base.specs.Checks.{check}
 use Rattle.fr_base.specs.Cluster.{Cluster}
 use Rattle.fr_base.specs.Book.{Kept, Book}
 use Rattle.fr_base.specs.Queries.{reply}
-use Rattle.fr_base.specs.Step.{Outcome, knows, common, add_node, change_rows, done, perform, RefusedAt, imported, import, act, outcome, step}
+use Rattle.fr_base.specs.Step.{Outcome, knows, common, add_supplier, add_node, change_rows, done, perform, RefusedAt, imported, import, act, outcome, step}
 use Rattle.fr_base.specs.Sound.{IsSound}
-use Rattle.fr_base.specs.Alone.{rows_of, is_done, is_unavailable, is_mine, alone}
+use Rattle.fr_base.specs.Alone.{rows_of, is_done, is_unavailable, is_mine}
 use Rattle.fr_base.specs.declared.name.Name.{Name}
 use Rattle.fr_base.specs.declared.answer.Answer.{Answer}
 use Rattle.fr_base.specs.declared.answer.Answer.TheVariants as answer
@@ -20,7 +20,7 @@ use Rattle.fr_base.specs.declared.refusal.Refusal.TheVariants.{NoVariant}
 use Rattle.fr_base.specs.declared.actor.Actor.{Actor}
 use Rattle.fr_base.specs.declared.actor.Actor.TheVariants.{Integrator, Supplier}
 use Rattle.fr_base.specs.declared.request.Request.{Request}
-use Rattle.fr_base.specs.declared.request.Command.TheVariants.{Common, AddNode, Rows}
+use Rattle.fr_base.specs.declared.request.Command.TheVariants.{Common, AddSupplier, AddNode, Rows}
 use Rattle.fr_base.specs.declared.request.Import.{Import}
 use Rattle.fr_base.specs.declared.request.Checked.{Checked}
 use Rattle.fr_base.specs.declared.request.Checked.TheVariants as checked
@@ -67,6 +67,7 @@ module _ (p : Params) (b : Book) (i : Import) where
 act-undone : (c : Cluster) (b : Book) (actor : Actor) (request : Request) (what : Checked) → Says actor request what → IfOk (act c b actor what) (λ o. carried actor o.answer ≡ false → o.book ≡ b)
 unfolding act perform done
 act-undone c b actor request (checked.Command (Common command)) says = gives_each _ (common b command) _ (λ after _ undone. absurd (true≢false (sym (done-carried actor) ∙ undone)))
+act-undone c b actor request (checked.Command (AddSupplier s key)) says = gives_each _ (add_supplier c b s key) _ (λ after _ undone. absurd (true≢false (sym (done-carried actor) ∙ undone)))
 act-undone c b actor request (checked.Command (AddNode s n)) says = gives_each _ (add_node b s n) _ (λ after _ undone. absurd (true≢false (sym (done-carried actor) ∙ undone)))
 act-undone c b actor request (checked.Command (Rows s v what)) says = gives_each _ (change_rows c.params b s v what) _ (λ after _ undone. absurd (true≢false (sym (done-carried actor) ∙ undone)))
 act-undone c b Integrator request (checked.Import i) says = cc
@@ -100,13 +101,13 @@ module _ (c : Cluster) (b : Book) (s : Name) where
   outcome-done t (Ok o) (Err e) h is = cc
 
   -- in a sound book a step that is the supplier's is the same alone, on the supplier's rows
-  pub step-mine : IsSound c b → (actor : Actor) (request : Request) → is_mine s actor request (step c b actor request).answer ≡ true → step (alone s c) (rows_of s b) actor request ≡ seen s (step c b actor request)
+  pub step-mine : IsSound c b → (actor : Actor) (request : Request) → is_mine s actor request (step c b actor request).answer ≡ true → step c (rows_of s b) actor request ≡ seen s (step c b actor request)
   unfolding step
   step-mine sound Integrator request h =
       let both = and_both _ _ h in
-      outcome-done (refused_beside s b Integrator request) (lines c b Integrator request) (lines (alone s c) (rows_of s b) Integrator request) (lines-own c b s Integrator request (λ _. sound) both.1) both.0
+      outcome-done (refused_beside s b Integrator request) (lines c b Integrator request) (lines c (rows_of s b) Integrator request) (lines-own c b s Integrator request (λ _. sound) both.1) both.0
   step-mine sound (Supplier t) request h =
-      sym (ap (outcome (rows_of s b)) (lines-own c b s (Supplier t) request (λ _. sound) (and_both _ _ h).0 ∙ unless_none (lines (alone s c) (rows_of s b) (Supplier t) request)))
+      sym (ap (outcome (rows_of s b)) (lines-own c b s (Supplier t) request (λ _. sound) (and_both _ _ h).0 ∙ unless_none (lines c (rows_of s b) (Supplier t) request)))
       ∙ outcome-own s b (lines c b (Supplier t) request)
 
   act-other : (actor : Actor) (request : Request) → asked_of s actor request ≡ false → (what : Checked) → Says actor request what → IfOk (act c b actor what) (λ o. rows_of s o.book ≡ rows_of s b)
@@ -134,7 +135,7 @@ module _ (c : Cluster) (b : Book) (s : Name) where
   ]
 
 pub step-alone : (c : Cluster) (b : Book) (s : Name) (actor : Actor) (request : Request) → IsSound c b → is_mine s actor request (step c b actor request).answer ≡ true →
-    ((step (alone s c) (rows_of s b) actor request).answer ≡ (step c b actor request).answer) × ((step (alone s c) (rows_of s b) actor request).book ≡ rows_of s (step c b actor request).book)
+    ((step c (rows_of s b) actor request).answer ≡ (step c b actor request).answer) × ((step c (rows_of s b) actor request).book ≡ rows_of s (step c b actor request).book)
 unfolding seen
 step-alone c b s actor request sound mine =
     let same = step-mine c b s sound actor request mine in

@@ -4,14 +4,14 @@ use Rattle.std.specs.Prelude.{⊤, ◌+◌, ◌/◌, ◌%◌, nat_lt, if◌then�
 use Rattle.std.specs.List.{range_with_len}
 use Rattle.fr_base.specs.Tables.{each}
 use Rattle.fr_base.specs.Book.{opening}
-use Rattle.fr_base.specs.Alone.{own_variant, rows_of, asks_of, answers_of, alone, answers_to}
+use Rattle.fr_base.specs.Alone.{own_variant, rows_of, asks_of, answers_of, alone, answers_to, book_after}
 use Rattle.fr_base.specs.declared.answer.Answer.{Answer}
 use Rattle.fr_base.specs.declared.answer.Answer.TheVariants.{Done, Refused, Schedule as Sent}
 use Rattle.fr_base.specs.declared.channel.Channel.TheVariants as ch
-use Rattle.fr_base.specs.declared.refusal.Refusal.TheVariants.{Limit, Taken}
+use Rattle.fr_base.specs.declared.refusal.Refusal.TheVariants.{UnknownKey, Limit, Taken, KeyTaken}
 use Rattle.fr_base.specs.declared.request.Ask.{Ask}
-use Rattle.fr_base.specs.declared.request.Request.TheVariants.{OpenVariant, AddNode, Grant, AddFrame, Place, Schedule}
-use Rattle.fr_base.proofs.WorkedRows.{cluster, answers, a_small_register, integrator, s1, s2}
+use Rattle.fr_base.specs.declared.request.Request.TheVariants.{OpenVariant, AddSupplier, AddNode, Grant, AddFrame, Place, Schedule}
+use Rattle.fr_base.proofs.WorkedRows.{file, full_file, answers, a_small_register, integrator, s1, s2, s3}
 
 -- what the rows below unfold
 unfoldable a_register_alone : ⊤
@@ -28,7 +28,7 @@ answers_for s asks = answers_of s asks (answers asks)
 
 -- the answers of a new register that holds the supplier alone
 abbrev pub answers_alone : List ℕ → List Ask → List Answer
-answers_alone s asks = answers_to (alone s cluster) (opening (alone s cluster)) asks
+answers_alone s asks = answers_to file.cluster (opening (alone s file)) asks
 
 -- a variant, a node of `s1`, a grant to it, a frame, and its placement in the first cycle
 unfoldable pub planned : List Ask
@@ -89,3 +89,49 @@ pub taken_beside :
     × (answers_alone (codes "s2") (integrator (OpenVariant (codes "v1") None) ∷ between 2) ≡ Done ∷ Done ∷ Done ∷ Done ∷ Done ∷ Done ∷ [])
 unfolding a_register_alone planned asked answered between
 taken_beside = (refl, refl)
+
+-- what a supplier asked before it joined is UnknownKey alone too
+unfoldable pub s3_joins : List Ask
+s3_joins =
+    s3 (Schedule (codes "v1"))
+    ∷ integrator (AddSupplier (codes "s3") (codes "supplier01"))
+    ∷ integrator (AddSupplier (codes "s3") (codes "supplier03"))
+    ∷ integrator (OpenVariant (codes "v1") None)
+    ∷ s3 (Schedule (codes "v1"))
+    ∷ []
+
+pub joined_alone :
+    (answers s3_joins ≡ Refused UnknownKey ∷ Refused KeyTaken ∷ Done ∷ Done ∷ Sent false [] ∷ [])
+    × (answers_for (codes "s3") s3_joins ≡ Refused UnknownKey ∷ Done ∷ Done ∷ Sent false [] ∷ [])
+    × (answers_alone (codes "s3") (asks_for (codes "s3") s3_joins) ≡ answers_for (codes "s3") s3_joins)
+unfolding a_register_alone s3_joins
+joined_alone = (refl, refl, refl)
+
+-- a key that another supplier has, and the limit of 64 suppliers, refuse a supplier beside the others, and alone they do not
+pub refused_beside :
+    (answers (integrator (AddSupplier (codes "s3") (codes "supplier01")) ∷ []) ≡ Refused KeyTaken ∷ [])
+    × (answers_alone (codes "s3") (integrator (AddSupplier (codes "s3") (codes "supplier01")) ∷ []) ≡ Done ∷ [])
+    × (answers_to file.cluster (opening full_file) (integrator (AddSupplier (codes "s99") (codes "supplier99")) ∷ []) ≡ Refused Limit ∷ [])
+    × (answers_to file.cluster (opening (alone (codes "s99") full_file)) (integrator (AddSupplier (codes "s99") (codes "supplier99")) ∷ []) ≡ Done ∷ [])
+unfolding a_register_alone full_file
+refused_beside = (refl, refl, refl, refl)
+
+-- `s3` joins, is granted a slot, and has a frame sent there
+unfoldable pub joins_and_sends : List Ask
+joins_and_sends =
+    integrator (AddSupplier (codes "s3") (codes "supplier03"))
+    ∷ integrator (AddNode (codes "s3") (codes "m1"))
+    ∷ integrator (Grant (codes "v1") 2 (codes "A") (codes "s3") (codes "m1"))
+    ∷ s3 (AddFrame (codes "v1") (codes "f1") (codes "m1"))
+    ∷ s3 (Place (codes "v1") (codes "f1") 2 (codes "A") 0 1)
+    ∷ []
+
+-- `s1` is asked, is answered and has the same, whether `s3` joins or not
+pub a_joiner_between :
+    (answers (planned ++ joins_and_sends) ≡ Done ∷ Done ∷ Done ∷ Done ∷ Done ∷ Done ∷ Done ∷ Done ∷ Done ∷ Done ∷ [])
+    × (asks_for (codes "s1") (planned ++ joins_and_sends ++ asked) ≡ asks_for (codes "s1") (planned ++ asked))
+    × (answers_for (codes "s1") (planned ++ joins_and_sends ++ asked) ≡ answers_for (codes "s1") (planned ++ asked))
+    × ((rows_of (codes "s1") (book_after file.cluster (opening file) (planned ++ joins_and_sends))).variants.rows
+    ≡ (rows_of (codes "s1") (book_after file.cluster (opening file) planned)).variants.rows)
+unfolding a_register_alone planned joins_and_sends asked
+a_joiner_between = (refl, refl, refl, refl)

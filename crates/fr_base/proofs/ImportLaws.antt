@@ -11,9 +11,10 @@ use Rattle.fr_base.specs.Cluster.{Cluster}
 use Rattle.fr_base.specs.Book.{Kept, Book}
 use Rattle.fr_base.specs.ImportRows.{rows_of_body}
 use Rattle.fr_base.specs.Queries.{reply}
-use Rattle.fr_base.specs.Step.{Outcome, RefusedAt, knows, begun, common, add_node, change_rows, done, perform, imported, import, act, outcome, step}
+use Rattle.fr_base.specs.Step.{Outcome, RefusedAt, knows, begun, common, add_supplier, add_node, change_rows, done, perform, imported, import, act, outcome, step}
 use Rattle.fr_base.specs.Run.{IsRun}
 use Rattle.fr_base.specs.Laws.{WasImported}
+use Rattle.fr_base.specs.declared.key.Key.{Key}
 use Rattle.fr_base.specs.declared.name.Name.{Name}
 use Rattle.fr_base.specs.declared.answer.Answer.{Answer}
 use Rattle.fr_base.specs.declared.answer.Answer.TheVariants as answer
@@ -26,7 +27,7 @@ use Rattle.fr_base.specs.declared.request.Ask.{Ask}
 use Rattle.fr_base.specs.declared.request.Request.{Request}
 use Rattle.fr_base.specs.declared.request.Request.TheVariants as request
 use Rattle.fr_base.specs.declared.request.Command.{Command}
-use Rattle.fr_base.specs.declared.request.Command.TheVariants.{Common, AddNode, Rows}
+use Rattle.fr_base.specs.declared.request.Command.TheVariants.{Common, AddSupplier, AddNode, Rows}
 use Rattle.fr_base.specs.declared.request.CommonCommand.{CommonCommand}
 use Rattle.fr_base.specs.declared.request.CommonCommand.TheVariants.{OpenVariant, Release}
 use Rattle.fr_base.specs.declared.request.Import.{Import}
@@ -37,8 +38,7 @@ use Rattle.fr_base.proofs.SoundTables.{same_key}
 use Rattle.fr_base.proofs.SoundRows.{same_text-is}
 use Rattle.fr_base.proofs.AloneCells.{same_text-itself}
 use Rattle.fr_base.proofs.SoundRefusing.{gives_or, gives_bind, gives_each, gives_when, gives_unless}
-use Rattle.fr_base.proofs.SoundSteps.{step-sound}
-use Rattle.fr_base.proofs.SoundLaws.{run-sound}
+use Rattle.fr_base.proofs.KnownSteps.{step-knows, run-knows_supplier}
 use Rattle.fr_base.proofs.SoundImports.{Keeps, change_rows-keeps, rows-keep}
 
 rows-are : {m n : ℕ} → answer.Imported m ≡ answer.Imported n → m ≡ n
@@ -60,6 +60,13 @@ module _ (b : Book) (k : Name × Name) (one : Kept) (there : get b.imports k ≡
       gives_or _ (get b.variants v) _ _ (λ x _.
       gives_when _ _ _ _ (λ _. there))
 
+  add_supplier-has : (c : Cluster) (s : Name) (key : Key) → IfOk (add_supplier c b s key) Has
+  unfolding add_supplier
+  add_supplier-has c s key =
+      gives_when _ _ _ _ (λ _.
+      gives_when _ _ _ _ (λ _.
+      gives_when _ _ _ _ (λ _. there)))
+
   add_node-has : (s n : Name) → IfOk (add_node b s n) Has
   unfolding add_node
   add_node-has s n =
@@ -70,11 +77,12 @@ module _ (b : Book) (k : Name × Name) (one : Kept) (there : get b.imports k ≡
   keeps-has : (d : Book) → Keeps b d → Has d
   keeps-has d keeps = ap (λ t. get t k) keeps.imports ∙ there
 
-  perform-has : (p : Params) (command : Command) → IfOk (perform p b command) (λ o. Has o.book)
+  perform-has : (c : Cluster) (command : Command) → IfOk (perform c b command) (λ o. Has o.book)
   unfolding perform done
-  perform-has p (Common command) = gives_bind _ _ (common b command) _ (common-has command) (λ after h. h)
-  perform-has p (AddNode s n) = gives_bind _ _ (add_node b s n) _ (add_node-has s n) (λ after h. h)
-  perform-has p (Rows s v what) = gives_bind _ _ (change_rows p b s v what) _ (change_rows-keeps p b s v what) (λ after keeps. keeps-has after keeps)
+  perform-has c (Common command) = gives_bind _ _ (common b command) _ (common-has command) (λ after h. h)
+  perform-has c (AddSupplier s key) = gives_bind _ _ (add_supplier c b s key) _ (add_supplier-has c s key) (λ after h. h)
+  perform-has c (AddNode s n) = gives_bind _ _ (add_node b s n) _ (add_node-has s n) (λ after h. h)
+  perform-has c (Rows s v what) = gives_bind _ _ (change_rows c.params b s v what) _ (change_rows-keeps c.params b s v what) (λ after keeps. keeps-has after keeps)
 
   imported-has : (i : Import) → get b.imports (i.supplier, i.label) ≡ None → (count : ℕ) (r : Result Book RefusedAt) → IfOk r (Keeps b) → Has (imported b i count r).book
   unfolding imported
@@ -97,7 +105,7 @@ module _ (b : Book) (k : Name × Name) (one : Kept) (there : get b.imports k ≡
 
   act-has : (c : Cluster) (actor : Actor) (what : Checked) → IfOk (act c b actor what) (λ o. Has o.book)
   unfolding act
-  act-has c actor (checked.Command command) = perform-has c.params command
+  act-has c actor (checked.Command command) = perform-has c command
   act-has c actor (checked.Import i) = import-has c.params i (get b.imports (i.supplier, i.label)) refl
   act-has c actor (checked.Query query) = gives_each _ (reply c.params b actor query) _ (λ rows _. there)
 
@@ -192,8 +200,7 @@ module _ (c : Cluster) (s : Name) (variant label body : List ℕ) where
     still-asked : IsAsked last
     still-asked =
         let asked = was_asked was.begin rows was.imported in
-        let sound = run-sound c _ last was.asks was.answers (step-sound c was.begin was.sound (Supplier s) (request.Import variant label body)) was.run in
-        (ap (λ t. contains t s) (sound.suppliers ∙ sym was.sound.suppliers) ∙ asked.0, asked.1, asked.2)
+        (run-knows_supplier c _ last was.asks was.answers s (step-knows was.begin s asked.0 c (Supplier s) (request.Import variant label body)) was.run, asked.1, asked.2)
 
     pub acts_once : step c last (Supplier s) (request.Import variant label body) ≡ record { book = last; answer = answer.Imported rows }
     unfolding import outcome ◌>>◌ refuse◌when◌

@@ -5,14 +5,14 @@ use Rattle.fr_base.specs.Checks.{check}
 use Rattle.fr_base.specs.Cluster.{Cluster}
 use Rattle.fr_base.specs.Book.{Kept, Book}
 use Rattle.fr_base.specs.Queries.{reply}
-use Rattle.fr_base.specs.Step.{Outcome, RefusedAt, knows, common, add_node, change_rows, done, perform, imported, import, act, outcome, step}
+use Rattle.fr_base.specs.Step.{Outcome, RefusedAt, knows, common, add_supplier, add_node, change_rows, done, perform, imported, import, act, outcome, step}
 use Rattle.fr_base.specs.Alone.{is_refused}
 use Rattle.fr_base.specs.declared.params.Params.{Params}
 use Rattle.fr_base.specs.declared.refusal.Refusal.{Refusal}
 use Rattle.fr_base.specs.declared.actor.Actor.{Actor}
 use Rattle.fr_base.specs.declared.request.Request.{Request}
 use Rattle.fr_base.specs.declared.request.Command.{Command}
-use Rattle.fr_base.specs.declared.request.Command.TheVariants.{Common, AddNode, Rows}
+use Rattle.fr_base.specs.declared.request.Command.TheVariants.{Common, AddSupplier, AddNode, Rows}
 use Rattle.fr_base.specs.declared.request.Import.{Import}
 use Rattle.fr_base.specs.declared.request.Checked.{Checked}
 use Rattle.fr_base.specs.declared.request.Checked.TheVariants as checked
@@ -23,11 +23,12 @@ module _ (b : Book) where
   abbrev Unchanged : Outcome → Type 0
   Unchanged o = is_refused o.answer ≡ true → o.book ≡ b
 
-  perform-unchanged : (p : Params) (command : Command) → IfOk (perform p b command) Unchanged
+  perform-unchanged : (c : Cluster) (command : Command) → IfOk (perform c b command) Unchanged
   unfolding perform done
-  perform-unchanged p (Common command) = gives_each _ (common b command) _ (λ after _ refused. cc)
-  perform-unchanged p (AddNode s n) = gives_each _ (add_node b s n) _ (λ after _ refused. cc)
-  perform-unchanged p (Rows s v what) = gives_each _ (change_rows p b s v what) _ (λ after _ refused. cc)
+  perform-unchanged c (Common command) = gives_each _ (common b command) _ (λ after _ refused. cc)
+  perform-unchanged c (AddSupplier s key) = gives_each _ (add_supplier c b s key) _ (λ after _ refused. cc)
+  perform-unchanged c (AddNode s n) = gives_each _ (add_node b s n) _ (λ after _ refused. cc)
+  perform-unchanged c (Rows s v what) = gives_each _ (change_rows c.params b s v what) _ (λ after _ refused. cc)
 
   imported-unchanged : (i : Import) (count : ℕ) (r : Result Book RefusedAt) → Unchanged (imported b i count r)
   unfolding imported
@@ -45,7 +46,7 @@ module _ (b : Book) where
 
   act-unchanged : (c : Cluster) (actor : Actor) (what : Checked) → IfOk (act c b actor what) Unchanged
   unfolding act
-  act-unchanged c actor (checked.Command command) = perform-unchanged c.params command
+  act-unchanged c actor (checked.Command command) = perform-unchanged c command
   act-unchanged c actor (checked.Import i) = import-unchanged c.params i (get b.imports (i.supplier, i.label))
   act-unchanged c actor (checked.Query query) = gives_each _ (reply c.params b actor query) _ (λ rows _ refused. refl)
 

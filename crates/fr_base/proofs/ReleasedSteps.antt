@@ -11,20 +11,20 @@ use Rattle.fr_base.specs.Names.{same_text}
 use Rattle.fr_base.specs.Book.{Frame, Variant, Kept, Book}
 use Rattle.fr_base.specs.ImportRows.{rows_of_body}
 use Rattle.fr_base.specs.Queries.{shown, reply, variant_asked}
-use Rattle.fr_base.specs.Step.{Outcome, knows, with_variant, begun, common, add_node, own_rows, shared_by, admits, change_rows, done, perform, RefusedAt, frame_at, with_frame, act_row, act_rows, imported, import, act, outcome, step}
+use Rattle.fr_base.specs.Step.{Outcome, knows, with_variant, begun, common, add_supplier, add_node, own_rows, shared_by, admits, change_rows, done, perform, RefusedAt, frame_at, with_frame, act_row, act_rows, imported, import, act, outcome, step}
 use Rattle.fr_base.specs.Run.{IsRun}
+use Rattle.fr_base.specs.declared.key.Key.{Key}
 use Rattle.fr_base.specs.declared.name.Name.{Name}
 use Rattle.fr_base.specs.declared.params.Params.{Params}
 use Rattle.fr_base.specs.declared.answer.Answer.{Answer}
 use Rattle.fr_base.specs.declared.refusal.Refusal.{Refusal}
 use Rattle.fr_base.specs.declared.refusal.Refusal.TheVariants.{NoVariant}
 use Rattle.fr_base.specs.declared.actor.Actor.{Actor}
-use Rattle.fr_base.specs.declared.actor.Actor.TheVariants.{Integrator, Supplier}
 use Rattle.fr_base.specs.declared.request.Ask.{Ask}
 use Rattle.fr_base.specs.declared.request.Request.{Request}
 use Rattle.fr_base.specs.declared.request.Query.{Query}
 use Rattle.fr_base.specs.declared.request.Command.{Command}
-use Rattle.fr_base.specs.declared.request.Command.TheVariants.{Common, AddNode, Rows}
+use Rattle.fr_base.specs.declared.request.Command.TheVariants.{Common, AddSupplier, AddNode, Rows}
 use Rattle.fr_base.specs.declared.request.CommonCommand.{CommonCommand}
 use Rattle.fr_base.specs.declared.request.CommonCommand.TheVariants.{OpenVariant, Release}
 use Rattle.fr_base.specs.declared.request.Change.{Change}
@@ -38,30 +38,29 @@ use Rattle.fr_base.specs.declared.request.Checked.{Checked}
 use Rattle.fr_base.specs.declared.request.Checked.TheVariants as checked
 use Rattle.fr_base.proofs.TableLaws.{equal, get-insert}
 use Rattle.fr_base.proofs.SoundTables.{same_some}
-use Rattle.fr_base.proofs.SoundRefusing.{gives_or, gives_each, gives_then, gives_bind, gives_bind_last, gives_when, gives_unless}
+use Rattle.fr_base.proofs.SoundRefusing.{gives_or, gives_each, gives_then, gives_bind, gives_when, gives_unless}
 use Rattle.fr_base.proofs.SoundImports.{at_line-gives}
+use Rattle.fr_base.proofs.KnownSteps.{run-knows}
 
--- the variant stands, and the suppliers are those of before
-abbrev Stays : Name → Variant → Book → Book → Type 0
-Stays v x b d = (get d.variants v ≡ Some x) × (d.suppliers ≡ b.suppliers)
+-- the variant stands
+abbrev Stays : Name → Variant → Book → Type 0
+Stays v x d = get d.variants v ≡ Some x
 
 module _ (b : Book) (v : Name) (x : Variant) (there : get b.variants v ≡ Some x) (frozen : x.released ≡ true) where
   -- after another variant was put in
-  stays-with : (w : Name) (y : Variant) → (v ≡ w → ⊥) → Stays v x b (with_variant b w y)
-  stays-with w y other = (
-    get-insert b.variants w y v ∙ elim (cases_Bool (eq_by_cmp names.compare v w)) [
-      | inl tie ↦ absurd (other (names.exact v w (equal _ tie)))
-      | inr apart ↦ ap (λ t. cond t (Some y) (get b.variants v)) apart ∙ there
-    ],
-    refl,
-  )
+  stays-with : (w : Name) (y : Variant) → (v ≡ w → ⊥) → Stays v x (with_variant b w y)
+  stays-with w y other =
+      get-insert b.variants w y v ∙ elim (cases_Bool (eq_by_cmp names.compare v w)) [
+        | inl tie ↦ absurd (other (names.exact v w (equal _ tie)))
+        | inr apart ↦ ap (λ t. cond t (Some y) (get b.variants v)) apart ∙ there
+      ]
 
   -- a variant that is not released is another
   open-other : (w : Name) (y : Variant) → get b.variants w ≡ Some y → y.released ≡ false → v ≡ w → ⊥
   open-other w y found open_yet same =
       true≢false (sym frozen ∙ ap (λ (z : Variant). z.released) (same_some x y (sym there ∙ ap (get b.variants) same ∙ found)) ∙ open_yet)
 
-  common-stays : (command : CommonCommand) → IfOk (common b command) (Stays v x b)
+  common-stays : (command : CommonCommand) → IfOk (common b command) (Stays v x)
   unfolding common
   common-stays (OpenVariant w parent) =
       gives_each _ (begun b parent) _ (λ y _.
@@ -72,15 +71,22 @@ module _ (b : Book) (v : Name) (x : Variant) (there : get b.variants v ≡ Some 
       gives_or _ (get b.variants w) _ _ (λ y found.
       gives_when _ _ y.released _ (λ open_yet. stays-with w _ (open-other w y found open_yet)))
 
-  add_node-stays : (s n : Name) → IfOk (add_node b s n) (Stays v x b)
+  add_supplier-stays : (c : Cluster) (s : Name) (k : Key) → IfOk (add_supplier c b s k) (Stays v x)
+  unfolding add_supplier
+  add_supplier-stays c s k =
+      gives_when _ _ _ _ (λ _.
+      gives_when _ _ _ _ (λ _.
+      gives_when _ _ _ _ (λ _. there)))
+
+  add_node-stays : (s n : Name) → IfOk (add_node b s n) (Stays v x)
   unfolding add_node
   add_node-stays s n =
       gives_unless _ _ _ _ (λ _.
       gives_when _ _ _ _ (λ _.
-      gives_when _ _ _ _ (λ _. (there, refl))))
+      gives_when _ _ _ _ (λ _. there)))
 
   module _ (p : Params) where
-    pub change_rows-stays : (s w : Name) (what : Change) → IfOk (change_rows p b s w what) (Stays v x b)
+    pub change_rows-stays : (s w : Name) (what : Change) → IfOk (change_rows p b s w what) (Stays v x)
     unfolding change_rows
     change_rows-stays s w what =
         gives_or _ (get b.variants w) _ _ (λ y found.
@@ -89,45 +95,43 @@ module _ (b : Book) (v : Name) (x : Variant) (there : get b.variants v ≡ Some 
         gives_then _ (admits (own_rows p b s y) (shared_by y.grants y.frames) what) _ (λ _ _.
         stays-with w _ (open-other w y found open_yet)))))
 
-    pub perform-stays : (command : Command) → IfOk (perform p b command) (λ o. Stays v x b o.book)
-    unfolding perform done
-    perform-stays (Common command) = gives_bind _ _ (common b command) _ (common-stays command) (λ after h. h)
-    perform-stays (AddNode s n) = gives_bind _ _ (add_node b s n) _ (add_node-stays s n) (λ after h. h)
-    perform-stays (Rows s w what) = gives_bind _ _ (change_rows p b s w what) _ (change_rows-stays s w what) (λ after h. h)
+  pub perform-stays : (c : Cluster) (command : Command) → IfOk (perform c b command) (λ o. Stays v x o.book)
+  unfolding perform done
+  perform-stays c (Common command) = gives_bind _ _ (common b command) _ (common-stays command) (λ after h. h)
+  perform-stays c (AddSupplier s k) = gives_bind _ _ (add_supplier c b s k) _ (add_supplier-stays c s k) (λ after h. h)
+  perform-stays c (AddNode s n) = gives_bind _ _ (add_node b s n) _ (add_node-stays s n) (λ after h. h)
+  perform-stays c (Rows s w what) = gives_bind _ _ (change_rows c.params b s w what) _ (change_rows-stays c.params s w what) (λ after h. h)
 
 -- ---- an import
 
-stays_on : (v : Name) (x : Variant) (b d e : Book) → Stays v x b d → Stays v x d e → Stays v x b e
-stays_on v x b d e one two = (two.0, two.1 ∙ one.1)
-
 module _ (v : Name) (x : Variant) (frozen : x.released ≡ true) (p : Params) (s w : Name) where
-  framed-stays : (b : Book) → get b.variants v ≡ Some x → (f n : Name) (o : Option Frame) → IfOk (with_frame p b s w f n o) (Stays v x b)
+  framed-stays : (b : Book) → get b.variants v ≡ Some x → (f n : Name) (o : Option Frame) → IfOk (with_frame p b s w f n o) (Stays v x)
   unfolding with_frame
   framed-stays b there f n None = change_rows-stays b v x there frozen p s w (change.Frame f (Add n))
-  framed-stays b there f n (Some frame) = gives_unless _ _ (same_text frame.node n) _ (λ _. (there, refl))
+  framed-stays b there f n (Some frame) = gives_unless _ _ (same_text frame.node n) _ (λ _. there)
 
-  row-stays : (b : Book) → get b.variants v ≡ Some x → (r : Row) → IfOk (act_row p b s w r) (Stays v x b)
+  row-stays : (b : Book) → get b.variants v ≡ Some x → (r : Row) → IfOk (act_row p b s w r) (Stays v x)
   unfolding act_row
   row-stays b there (row.Place f n q) =
       gives_unless _ _ _ _ (λ _.
       gives_bind _ _ (with_frame p b s w f n (frame_at b s w f)) _ (framed-stays b there f n (frame_at b s w f)) (λ d mid.
-      gives_bind_last _ (Stays v x d) _ (change_rows-stays d v x mid.0 frozen p s w (change.Frame f (Place q))) (λ e last. stays_on v x b d e mid last)))
+      change_rows-stays d v x mid frozen p s w (change.Frame f (Place q))))
   row-stays b there (row.AddSignal f signal) = change_rows-stays b v x there frozen p s w (change.Frame f (AddSignal signal))
 
-  rows-stay : (reads : List RowRead) (b : Book) → get b.variants v ≡ Some x → IfOk (act_rows p b s w reads) (Stays v x b)
+  rows-stay : (reads : List RowRead) (b : Book) → get b.variants v ≡ Some x → IfOk (act_rows p b s w reads) (Stays v x)
   unfolding act_rows
-  rows-stay [] b there = (there, refl)
+  rows-stay [] b there = there
   rows-stay (read ∷ rest) b there =
-      gives_bind _ (Stays v x b) _ _ (at_line-gives _ read.line _ (gives_each _ read.row _ (λ r _. row-stays b there r))) (λ d mid.
-      gives_bind_last _ (Stays v x d) _ (rows-stay rest d mid.0) (λ e last. stays_on v x b d e mid last))
+      gives_bind _ (Stays v x) _ _ (at_line-gives _ read.line _ (gives_each _ read.row _ (λ r _. row-stays b there r))) (λ d mid.
+      rows-stay rest d mid)
 
-imported-stays : (v : Name) (x : Variant) (b : Book) → get b.variants v ≡ Some x → (i : Import) (count : ℕ) (r : Result Book RefusedAt) → IfOk r (Stays v x b) → Stays v x b (imported b i count r).book
+imported-stays : (v : Name) (x : Variant) (b : Book) → get b.variants v ≡ Some x → (i : Import) (count : ℕ) (r : Result Book RefusedAt) → IfOk r (Stays v x) → Stays v x (imported b i count r).book
 unfolding imported
 imported-stays v x b there i count (Ok d) h = h
-imported-stays v x b there i count (Err fault) h = (there, refl)
+imported-stays v x b there i count (Err fault) h = there
 
 module _ (b : Book) (v : Name) (x : Variant) (there : get b.variants v ≡ Some x) (frozen : x.released ≡ true) where
-  import-stays : (p : Params) (i : Import) (o : Option Kept) → IfOk (import p b i o) (λ o. Stays v x b o.book)
+  import-stays : (p : Params) (i : Import) (o : Option Kept) → IfOk (import p b i o) (λ o. Stays v x o.book)
   unfolding import
   import-stays p i None =
       gives_or _ (get b.variants i.variant) _ _ (λ y _.
@@ -135,23 +139,23 @@ module _ (b : Book) (v : Name) (x : Variant) (there : get b.variants v ≡ Some 
       gives_when _ _ _ _ (λ _.
       gives_when _ _ _ _ (λ _.
       imported-stays v x b there i _ _ (rows-stay v x frozen p i.supplier i.variant (rows_of_body p i.body) b there)))))
-  import-stays p i (Some one) = gives_unless _ _ _ _ (λ _. (there, refl))
+  import-stays p i (Some one) = gives_unless _ _ _ _ (λ _. there)
 
 -- ---- a step
 
 module _ (b : Book) (v : Name) (x : Variant) (there : get b.variants v ≡ Some x) (frozen : x.released ≡ true) where
-  outcome-stays : (r : Result Outcome Refusal) → IfOk r (λ o. Stays v x b o.book) → Stays v x b (outcome b r).book
+  outcome-stays : (r : Result Outcome Refusal) → IfOk r (λ o. Stays v x o.book) → Stays v x (outcome b r).book
   unfolding outcome
   outcome-stays (Ok o) h = h
-  outcome-stays (Err e) h = (there, refl)
+  outcome-stays (Err e) h = there
 
-  act-stays : (c : Cluster) (actor : Actor) (what : Checked) → IfOk (act c b actor what) (λ o. Stays v x b o.book)
+  act-stays : (c : Cluster) (actor : Actor) (what : Checked) → IfOk (act c b actor what) (λ o. Stays v x o.book)
   unfolding act
-  act-stays c actor (checked.Command command) = perform-stays b v x there frozen c.params command
+  act-stays c actor (checked.Command command) = perform-stays b v x there frozen c command
   act-stays c actor (checked.Import i) = import-stays b v x there frozen c.params i (get b.imports (i.supplier, i.label))
-  act-stays c actor (checked.Query query) = gives_each _ (reply c.params b actor query) _ (λ rows _. (there, refl))
+  act-stays c actor (checked.Query query) = gives_each _ (reply c.params b actor query) _ (λ rows _. there)
 
-  pub step-stays : (c : Cluster) (actor : Actor) (request : Request) → Stays v x b (step c b actor request).book
+  pub step-stays : (c : Cluster) (actor : Actor) (request : Request) → Stays v x (step c b actor request).book
   unfolding step
   step-stays c actor request = outcome-stays _ (
       gives_unless _ _ (knows b actor) _ (λ _.
@@ -159,24 +163,18 @@ module _ (b : Book) (v : Name) (x : Variant) (there : get b.variants v ≡ Some 
 
 -- ---- ever after
 
-run-stays : (c : Cluster) (b last : Book) (asks : List Ask) (answers : List Answer) (v : Name) (x : Variant) → get b.variants v ≡ Some x → x.released ≡ true → IsRun c b asks answers last → Stays v x b last
-run-stays c b last [] [] v x there frozen run = (ap (λ (d : Book). get d.variants v) run ∙ there, ap (λ (d : Book). d.suppliers) run)
+run-stays : (c : Cluster) (b last : Book) (asks : List Ask) (answers : List Answer) (v : Name) (x : Variant) → get b.variants v ≡ Some x → x.released ≡ true → IsRun c b asks answers last → Stays v x last
+run-stays c b last [] [] v x there frozen run = ap (λ (d : Book). get d.variants v) run ∙ there
 run-stays c b last [] (answer ∷ answers) v x there frozen run = absurd run
 run-stays c b last (ask ∷ asks) [] v x there frozen run = absurd run
 run-stays c b last (ask ∷ asks) (answer ∷ answers) v x there frozen (inl lacking) = run-stays c b last asks answers v x there frozen lacking.2
 run-stays c b last (ask ∷ asks) (answer ∷ answers) v x there frozen (inr done) =
-    let now = step-stays b v x there frozen c ask.actor ask.request in
-    let later = run-stays c (step c b ask.actor ask.request).book last asks answers v x now.0 frozen done.1 in
-    (later.0, later.1 ∙ now.1)
+    run-stays c (step c b ask.actor ask.request).book last asks answers v x (step-stays b v x there frozen c ask.actor ask.request) frozen done.1
 
 pub run-keeps_released : (c : Cluster) (b last : Book) (asks : List Ask) (answers : List Answer) (v : Name) (x : Variant) → get b.variants v ≡ Some x → IsTrue x.released → IsRun c b asks answers last → get last.variants v ≡ Some x
-run-keeps_released c b last asks answers v x there frozen run = (run-stays c b last asks answers v x there frozen run).0
+run-keeps_released c b last asks answers v x there frozen run = run-stays c b last asks answers v x there frozen run
 
 -- ---- queries
-
-knows-alike : (b d : Book) → d.suppliers ≡ b.suppliers → (actor : Actor) → knows d actor ≡ knows b actor
-knows-alike b d same Integrator = refl
-knows-alike b d same (Supplier s) = ap (λ t. contains t s) same
 
 -- where the variant that is asked about is the same, the reply is
 reply-alike : (p : Params) (b d : Book) (actor : Actor) (query : Query) → get d.variants (variant_asked query) ≡ get b.variants (variant_asked query) → reply p d actor query ≡ reply p b actor query
@@ -189,17 +187,14 @@ answer-of b d (Ok rows) = refl
 answer-of b d (Err e) = refl
 
 -- a request that is a query is answered alike where its sender is known and the variant that it asks about is the same
-query-alike : (c : Cluster) (b d : Book) (actor : Actor) (request : Request) (query : Query) → check c.params actor request ≡ Ok (checked.Query query) → knows d actor ≡ knows b actor →
+query-alike : (c : Cluster) (b d : Book) (actor : Actor) (request : Request) (query : Query) → check c.params actor request ≡ Ok (checked.Query query) → IsTrue (knows b actor) → IsTrue (knows d actor) →
     get d.variants (variant_asked query) ≡ get b.variants (variant_asked query) → (step c d actor request).answer ≡ (step c b actor request).answer
 unfolding step act outcome ◌>>=◌ ◌>>◌ refuse◌when◌
-query-alike c b d actor request query passed known same = elim (cases_Bool (knows b actor)) [
-  | inl is ↦ rw (known, is, passed) (ap (λ r. (outcome d (r >>= (λ rows. Ok (record { book = d; answer = rows })))).answer) (reply-alike c.params b d actor query same) ∙ answer-of b d (reply c.params b actor query))
-  | inr unknown ↦ rw (known, unknown) refl
-]
+query-alike c b d actor request query passed was is same =
+    rw (was, is, passed) (ap (λ r. (outcome d (r >>= (λ rows. Ok (record { book = d; answer = rows })))).answer) (reply-alike c.params b d actor query same) ∙ answer-of b d (reply c.params b actor query))
 
 pub run-keeps_answers : (c : Cluster) (b last : Book) (asks : List Ask) (answers : List Answer) (v : Name) (x : Variant) → get b.variants v ≡ Some x → IsTrue x.released → IsRun c b asks answers last →
-    (actor : Actor) (request : Request) (query : Query) → check c.params actor request ≡ Ok (checked.Query query) → variant_asked query ≡ v → (step c last actor request).answer ≡ (step c b actor request).answer
-run-keeps_answers c b last asks answers v x there frozen run actor request query passed about =
-    let stays = run-stays c b last asks answers v x there frozen run in
-    query-alike c b last actor request query passed (knows-alike b last stays.1 actor)
-    (ap (get last.variants) about ∙ stays.0 ∙ sym (ap (get b.variants) about ∙ there))
+    (actor : Actor) (request : Request) (query : Query) → IsTrue (knows b actor) → check c.params actor request ≡ Ok (checked.Query query) → variant_asked query ≡ v → (step c last actor request).answer ≡ (step c b actor request).answer
+run-keeps_answers c b last asks answers v x there frozen run actor request query known passed about =
+    query-alike c b last actor request query passed known (run-knows c b last asks answers actor known run)
+    (ap (get last.variants) about ∙ run-stays c b last asks answers v x there frozen run ∙ sym (ap (get b.variants) about ∙ there))

@@ -3,11 +3,11 @@ use Rattle.std.proofs.Common.{◌≡◌, ℕ, ◌≤◌, ◌&&◌, List, IfOk, I
 use Rattle.std.specs.Prelude.{⊤}
 use Rattle.std.specs.List.{list_all}
 use Rattle.std.proofs.lemmas.Bool.{cases_Bool, and_parts}
-use Rattle.fr_base.specs.Names.{is_name}
+use Rattle.fr_base.specs.Names.{is_name, is_key}
 use Rattle.fr_base.specs.Cycles.{cycle_count, is_cycle_set}
 use Rattle.fr_base.specs.Signals.{is_signal_length, order_of_text}
 use Rattle.fr_base.specs.Channels.{channels_in, has_channel, channel_of_text, channels_of_text}
-use Rattle.fr_base.specs.Checks.{asking, name, cycles, slot, channel, channels, placement, signal, parent_name, check}
+use Rattle.fr_base.specs.Checks.{asking, key, name, cycles, slot, channel, channels, placement, signal, parent_name, check}
 use Rattle.fr_base.specs.Sound.{HasChannelSlot, FitsCluster}
 use Rattle.fr_base.specs.declared.name.Name.{Name}
 use Rattle.fr_base.specs.declared.params.Params.{Params}
@@ -16,7 +16,7 @@ use Rattle.fr_base.specs.declared.actor.Actor.TheVariants.{Integrator, Supplier}
 use Rattle.fr_base.specs.declared.request.Request.{Request}
 use Rattle.fr_base.specs.declared.request.Request.TheVariants as request
 use Rattle.fr_base.specs.declared.request.Command.{Command}
-use Rattle.fr_base.specs.declared.request.Command.TheVariants.{Common, AddNode, Rows}
+use Rattle.fr_base.specs.declared.request.Command.TheVariants.{Common, AddSupplier, AddNode, Rows}
 use Rattle.fr_base.specs.declared.request.CommonCommand.TheVariants.{OpenVariant, Release}
 use Rattle.fr_base.specs.declared.request.Change.{Change}
 use Rattle.fr_base.specs.declared.request.Change.TheVariants.{Grant, Revoke, Frame}
@@ -42,10 +42,11 @@ IsFormedChange p (Grant k c n) = HasChannelSlot p (k, c)
 IsFormedChange p (Revoke k c) = ⊤
 IsFormedChange p (Frame f what) = IsFormedFrame p f what
 
--- the names that a command brings into the book are names, its slot, channels and cycles fit the cluster, and its signal has 1 to 64 bits
+-- the names and the key that a command brings into the book are names and a key, its slot, channels and cycles fit the cluster, and its signal has 1 to 64 bits
 abbrev pub HasForm : Params → Command → Type 0
 HasForm p (Common (OpenVariant v parent)) = IsTrue (is_name v)
 HasForm p (Common (Release v)) = ⊤
+HasForm p (AddSupplier s k) = IsTrue (is_name s) × IsTrue (is_key k)
 HasForm p (AddNode s n) = IsTrue (is_name n)
 HasForm p (Rows s v what) = IsFormedChange p what
 
@@ -68,6 +69,10 @@ asking-form (Supplier s) = refl
 pub name-form : (text : List ℕ) → IfOk (name text) (λ v. IsTrue (is_name v))
 unfolding name
 name-form text = elim (cases_Bool (is_name text)) [ inl h ↦ rw h (h) | inr h ↦ rw h tt ]
+
+key-form : (text : List ℕ) → IfOk (key text) (λ k. IsTrue (is_key k))
+unfolding key
+key-form text = elim (cases_Bool (is_key text)) [ inl h ↦ rw h (h) | inr h ↦ rw h tt ]
 
 cycles-form : (base repetition : ℕ) → IfOk (cycles base repetition) (λ r. IsTrue (is_cycle_set cycle_count r.base r.repetition))
 unfolding cycles
@@ -110,6 +115,10 @@ check-form p actor (request.OpenVariant variant parent) =
 check-form p actor (request.Release variant) =
     gives_when _ _ _ _ (λ _.
     gives_each _ (name variant) _ (λ v _. tt))
+check-form p actor (request.AddSupplier supplier text) =
+    gives_when _ _ _ _ (λ _.
+    gives_bind _ _ (name supplier) _ (name-form supplier) (λ s named.
+    gives_bind _ _ (key text) _ (key-form text) (λ k h. (named, h))))
 check-form p actor (request.AddNode supplier node) =
     gives_when _ _ _ _ (λ _.
     gives_each _ (name supplier) _ (λ s _.

@@ -7,17 +7,18 @@ use Rattle.fr_base.specs.Keys.{owned, channel_slots}
 use Rattle.fr_base.specs.Channels.{channels_in}
 use Rattle.fr_base.specs.Cells.{Cell}
 use Rattle.fr_base.specs.Cluster.{Cluster}
-use Rattle.fr_base.specs.Names.{is_name, same_text}
+use Rattle.fr_base.specs.Names.{is_name, is_key, same_text}
 use Rattle.fr_base.specs.Book.{Holder, Frame, Variant, Book, Sender, empty_variant, held_by_node, is_of, own, own_grants, granted}
 use Rattle.fr_base.specs.Signals.{SignalData}
 use Rattle.fr_base.specs.Layouts.{admits_signal, with_signal, without_signal}
-use Rattle.fr_base.specs.Step.{own_rows, shared_by, cell_taken, layout_of, begun, common, add_node, admits_frame, admits, grants_after, frame_after, frames_after, changed, change_rows, done, perform, with_variant}
+use Rattle.fr_base.specs.Step.{own_rows, shared_by, cell_taken, layout_of, begun, common, add_supplier, add_node, admits_frame, admits, grants_after, frame_after, frames_after, changed, change_rows, done, perform, with_variant}
 use Rattle.fr_base.specs.Sound.{IsSoundVariant, IsOpenedFrom, IsSound}
+use Rattle.fr_base.specs.declared.key.Key.{Key}
 use Rattle.fr_base.specs.declared.name.Name.{Name}
 use Rattle.fr_base.specs.declared.placement.Placement.{Placement}
 use Rattle.fr_base.specs.declared.channel.Channel.{Channel}
 use Rattle.fr_base.specs.declared.request.Command.{Command}
-use Rattle.fr_base.specs.declared.request.Command.TheVariants.{Common, AddNode, Rows}
+use Rattle.fr_base.specs.declared.request.Command.TheVariants.{Common, AddSupplier, AddNode, Rows}
 use Rattle.fr_base.specs.declared.request.CommonCommand.{CommonCommand}
 use Rattle.fr_base.specs.declared.request.CommonCommand.TheVariants.{OpenVariant, Release}
 use Rattle.fr_base.specs.declared.request.Change.{Change}
@@ -28,6 +29,7 @@ use Rattle.fr_base.proofs.LayoutLaws.{IsLayoutOf, admits_signal-layout, without_
 use Rattle.fr_base.proofs.ParametersLaws.{few_words}
 use Rattle.fr_base.proofs.SoundTables.{only-stood, get-passing}
 use Rattle.fr_base.proofs.SoundRows.{holder-is, all_more, more_grants-sound, empty_variant-sound, marked-sound, revoked-sound, dropped-sound, with_variant-sound, changed-sound, more_nodes-sound}
+use Rattle.fr_base.proofs.SoundSuppliers.{joined-sound}
 use Rattle.fr_base.proofs.SoundFrames.{added_variant-sound, placed_variant-sound, unplaced_variant-sound, signals_variant-sound}
 use Rattle.fr_base.proofs.SoundRefusing.{gives_or, gives_bind, gives_next, gives_last, gives_bind_last, gives_when, gives_when_last, gives_unless, gives_unless_last}
 use Rattle.fr_base.proofs.SoundChecks.{HasForm, IsFormedChange, IsFormedFrame}
@@ -151,6 +153,14 @@ module _ (c : Cluster) (b : Book) (sound : IsSound c b) where
       let fine = (sound.variants v x found).1 in
       changed-sound c b sound v x _ found (marked-sound c.params b.nodes x fine x.parent x.depth true fine.depth) refl refl (λ _. refl)))
 
+  pub add_supplier-sound : (s : Name) (k : Key) → IsTrue (is_name s) → IsTrue (is_key k) → IfOk (add_supplier c b s k) (IsSound c)
+  unfolding add_supplier
+  add_supplier-sound s k named formed =
+      gives_when _ _ _ _ (λ free.
+      gives_when _ _ _ _ (λ new.
+      gives_when _ _ _ _ (λ room.
+      joined-sound c b sound s k named formed free new (leb-false _ _ room))))
+
   pub add_node-sound : (s n : Name) → IsTrue (is_name n) → IfOk (add_node b s n) (IsSound c)
   unfolding add_node
   add_node-sound s n named =
@@ -173,8 +183,9 @@ module _ (c : Cluster) (b : Book) (sound : IsSound c b) where
       gives_next _ _ (admits (own_rows c.params b s x) (shared_by x.grants x.frames) what) _ (changed_variant-sound c b sound s x fine what (few_words c.params sound.cluster.params) h) (λ y after.
       changed-alike s v what x found after))))
 
-  pub perform-sound : (command : Command) → HasForm c.params command → IfOk (perform c.params b command) (λ o. IsSound c o.book)
+  pub perform-sound : (command : Command) → HasForm c.params command → IfOk (perform c b command) (λ o. IsSound c o.book)
   unfolding perform done
   perform-sound (Common command) h = gives_bind _ _ (common b command) _ (common-sound command h) (λ after fine. fine)
+  perform-sound (AddSupplier s k) h = gives_bind _ _ (add_supplier c b s k) _ (add_supplier-sound s k h.0 h.1) (λ after fine. fine)
   perform-sound (AddNode s n) h = gives_bind _ _ (add_node b s n) _ (add_node-sound s n h) (λ after fine. fine)
   perform-sound (Rows s v what) h = gives_bind _ _ (change_rows c.params b s v what) _ (change_rows-sound s v what h) (λ after fine. fine)

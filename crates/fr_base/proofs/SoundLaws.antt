@@ -7,22 +7,22 @@ use Rattle.fr_base.specs.Book.{Frame, Variant, Book, opening, held_by_node, gran
 use Rattle.fr_base.specs.Step.{step}
 use Rattle.fr_base.specs.Run.{IsRun}
 use Rattle.fr_base.specs.Sound.{IsSent, IsSound}
-use Rattle.fr_base.specs.Cluster.{IsWellFormed}
+use Rattle.fr_base.specs.Cluster.{ClusterFile, IsWellFormed}
 use Rattle.fr_base.specs.declared.answer.Answer.{Answer}
 use Rattle.fr_base.specs.declared.name.Name.{Name}
 use Rattle.fr_base.specs.declared.placement.Placement.{Placement}
 use Rattle.fr_base.specs.declared.request.Ask.{Ask}
 use Rattle.fr_base.proofs.SoundCells.{has_cell-in}
 use Rattle.fr_base.proofs.SoundRows.{holder-is}
+use Rattle.fr_base.proofs.SuppliersLaws.{file_of-opening}
 use Rattle.fr_base.proofs.SoundSteps.{step-sound}
 
 -- ---- a new register
 
-pub opening-sound : (c : Cluster) → IsWellFormed c → IsSound c (opening c)
+pub opening-sound : (f : ClusterFile) → IsWellFormed f → IsSound f.cluster (opening f)
 unfolding opening empty get len only
-opening-sound c form = record {
-  cluster = form;
-  suppliers = refl;
+opening-sound f form = record {
+  cluster = subst IsWellFormed (sym (file_of-opening f form.cluster)) form;
   nodes = λ s n h. cc;
   variants = λ v x e. cc;
   parents = λ v x e. cc;

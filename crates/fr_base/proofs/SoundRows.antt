@@ -231,7 +231,6 @@ module _ (c : Cluster) (b : Book) (sound : IsSound c b) where
       IsTrue (contains b.variants v) ⊎ (len b.variants < MAX_VARIANTS) → IsSound c (with_variant b v x)
   with_variant-sound v x named fine from keeps room = record {
     cluster = sound.cluster;
-    suppliers = sound.suppliers;
     nodes = sound.nodes;
     variants = λ w y e. elim (insert-cases b.variants v x w y e) [
       | inl new ↦ (subst (λ n. IsTrue (is_name n)) (sym new.0) named, subst (IsSoundVariant c.params b.nodes) new.1 fine)
@@ -265,7 +264,6 @@ module _ (c : Cluster) (b : Book) (sound : IsSound c b) where
   pub more_nodes-sound : (s n : Name) → IsTrue (is_name n) → IsTrue (contains b.suppliers s) → len (own s b.nodes) < MAX_NODES → IsSound c (record b { nodes = insert b.nodes (s, n) tt })
   more_nodes-sound s n named known room = record {
     cluster = sound.cluster;
-    suppliers = sound.suppliers;
     nodes = λ t m h. elim (contains-cases b.nodes (s, n) tt (t, m) h) [
       | inl e ↦ (subst (λ x. IsTrue (is_name x)) (sym (ap (λ (k : Name × Name). k.1) e)) named, subst (λ x. IsTrue (contains b.suppliers x)) (sym (ap (λ (k : Name × Name). k.0) e)) known)
       | inr old ↦ sound.nodes t m old
@@ -282,7 +280,6 @@ module _ (c : Cluster) (b : Book) (sound : IsSound c b) where
   pub more_imports-sound : (s l : Name) (one : Kept) → IsSoundImport b.suppliers b.variants s l one → len (own s b.imports) < MAX_IMPORTS → IsSound c (record b { imports = insert b.imports (s, l) one })
   more_imports-sound s l one fine room = record {
     cluster = sound.cluster;
-    suppliers = sound.suppliers;
     nodes = sound.nodes;
     variants = sound.variants;
     parents = sound.parents;

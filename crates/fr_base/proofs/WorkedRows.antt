@@ -1,17 +1,20 @@
 -- The definitions computed on small registers.
-use Rattle.std.proofs.Common.{◌≡◌, ℕ, List, [], ◌∷◌, false, true, Some, None, map, filter, refl, codes}
-use Rattle.std.specs.Prelude.{⊤}
+use Rattle.std.proofs.Common.{◌≡◌, ℕ, List, [], ◌∷◌, ◌++◌, false, true, Some, None, map, filter, refl, codes}
+use Rattle.std.specs.Prelude.{⊤, ◌+◌, ◌/◌, ◌%◌}
+use Rattle.std.specs.List.{range_with_len}
 use Rattle.fr_base.specs.Refusing.{◌>>=◌, ◌>>◌, ◌or◌, refuse◌when◌}
 use Rattle.fr_base.specs.Tables.{empty, get, len, insert, only, remove, from_rows, settle}
 use Rattle.fr_base.specs.Keys.{numbers, names, channel_order, channels_order, owned, channel_slots, placement_order}
 use Rattle.fr_base.specs.Names.{is_name, is_key}
 use Rattle.fr_base.specs.Cycles.{Cycles, is_repetition, is_cycle_set, cycle_count, all_cycles, cycles_of, has_cycle, first_common}
-use Rattle.fr_base.specs.Checks.{asking, name, cycles, slot, channel, channels, placement, signal, parent_name, check}
+use Rattle.fr_base.specs.Checks.{asking, key, name, cycles, slot, channel, channels, placement, signal, parent_name, check}
 use Rattle.fr_base.specs.Cells.{cells_of, has_cell, cluster_cells}
 use Rattle.fr_base.specs.Schedule.{fill, first_taken, entries}
-use Rattle.fr_base.specs.Cluster.{Cluster}
-use Rattle.fr_base.specs.Book.{Book, empty_variant, suppliers_of, opening, granted, placements_of, schedule_of}
-use Rattle.fr_base.specs.Step.{begun, common, add_node, own_rows, shared_by, in_use, cell_taken, admits_frame, admits, grants_after, frame_after, frames_after, changed, change_rows, done, perform, act, outcome, step}
+use Rattle.fr_base.specs.Cluster.{ClusterFile}
+use Rattle.fr_base.specs.Actors.{actor_of}
+use Rattle.fr_base.specs.Alone.{answers_to, book_after}
+use Rattle.fr_base.specs.Book.{empty_variant, suppliers_of, opening, granted, placements_of, schedule_of}
+use Rattle.fr_base.specs.Step.{begun, common, has_key, add_supplier, add_node, own_rows, shared_by, in_use, cell_taken, admits_frame, admits, grants_after, frame_after, frames_after, changed, change_rows, done, perform, act, outcome, step}
 use Rattle.fr_base.specs.Queries.{grants_of, frames_of, sendings_of, gaps_of, named, signals_of, shown, reply}
 use Rattle.fr_base.specs.Moments.{ring, moment, moments, gaps, greatest_gap}
 use Rattle.fr_base.specs.Bits.{bits_of}
@@ -21,11 +24,11 @@ use Rattle.fr_base.specs.declared.answer.Answer.{Answer}
 use Rattle.fr_base.specs.declared.answer.Answer.TheVariants.{Done, Refused, Grants as Holds, Frames as Framed, Schedule as Sent, Gaps as Longest, Layout as Laid}
 use Rattle.fr_base.specs.declared.channel.Channel.TheVariants as ch
 use Rattle.fr_base.specs.declared.channel.Channels.TheVariants as chs
-use Rattle.fr_base.specs.declared.refusal.Refusal.TheVariants.{UnknownKey, NotYours, BadName, BadCycles, BadSlot, BadChannel, BadSignal, NoVariant, Released, NotReleased, TooDeep, NoSupplier, NoNode, NoFrame, NoSignal, NoPlacement, NotGranted, InUse, Exists, NodeDiffers, Limit, Taken, CellTaken, OutOfPayload, BitTaken}
+use Rattle.fr_base.specs.declared.refusal.Refusal.TheVariants.{UnknownKey, NotYours, BadName, BadCycles, BadSlot, BadChannel, BadSignal, NoVariant, Released, NotReleased, TooDeep, NoSupplier, NoNode, NoFrame, NoSignal, NoPlacement, NotGranted, InUse, Exists, NodeDiffers, Limit, Taken, CellTaken, OutOfPayload, BitTaken, BadKey, KeyTaken}
 use Rattle.fr_base.specs.declared.actor.Actor.TheVariants.{Integrator, Supplier}
 use Rattle.fr_base.specs.declared.request.Ask.{Ask}
 use Rattle.fr_base.specs.declared.request.Request.{Request}
-use Rattle.fr_base.specs.declared.request.Request.TheVariants.{OpenVariant, Release, AddNode, Grant, Revoke, AddFrame, DropFrame, Place, Unplace, AddSignal, DropSignal, Grants, Frames, Schedule, Gaps, Layout}
+use Rattle.fr_base.specs.declared.request.Request.TheVariants.{OpenVariant, Release, AddNode, Grant, Revoke, AddFrame, DropFrame, Place, Unplace, AddSignal, DropSignal, Grants, Frames, Schedule, Gaps, Layout, AddSupplier}
 use Rattle.fr_base.specs.declared.signal.Order.TheVariants as order
 
 -- the most that a register holds: suppliers, nodes of a supplier, variants, depth, frames of a supplier, placements and signals of
@@ -62,26 +65,20 @@ unfolding all_cycles cycle_count
 repetitions = refl
 
 -- two channels, four slots of ten macroticks, two suppliers
-unfoldable pub cluster : Cluster
-cluster = record {
-  params = record { channels = chs.AB; static_slots = 4; slot_macroticks = 10; dynamic_macroticks = 40; symbol_macroticks = 10; idle_macroticks = 10; macroticks_per_cycle = 100; payload_words = 1 };
-  integrator = codes "integrator1";
+unfoldable pub file : ClusterFile
+file = record {
+  cluster = record { params = record { channels = chs.AB; static_slots = 4; slot_macroticks = 10; dynamic_macroticks = 40; symbol_macroticks = 10; idle_macroticks = 10; macroticks_per_cycle = 100; payload_words = 1 }; integrator = codes "integrator1" };
   suppliers = record { name = codes "s1"; key = codes "supplier01" } ∷ record { name = codes "s2"; key = codes "supplier02" } ∷ [];
 }
 
--- the answers to some requests in turn, from this book
-unfoldable pub answers_from : Cluster → Book → List Ask → List Answer
-answers_from c b [] = []
-answers_from c b (ask ∷ asks) = let o = step c b ask.actor ask.request in o.answer ∷ answers_from c o.book asks
-
 -- the answers of a new register
 unfoldable pub answers : List Ask → List Answer
-unfolding cluster
-answers asks = answers_from cluster (opening cluster) asks
+unfolding file
+answers asks = answers_to file.cluster (opening file) asks
 
 -- what the rows below unfold
 unfoldable pub a_small_register : ⊤
-unfolding cluster answers answers_from ◌>>=◌ ◌>>◌ ◌or◌ refuse◌when◌ empty get len insert only remove from_rows settle numbers names channel_order channels_order owned channel_slots placement_order is_name is_key cycle_count all_cycles cycles_of asking name cycles slot channel channels placement signal parent_name check cells_of has_cell cluster_cells fill first_taken entries empty_variant suppliers_of opening granted placements_of schedule_of begun common add_node own_rows shared_by in_use cell_taken admits_frame admits grants_after frame_after frames_after changed change_rows done perform grants_of frames_of sendings_of gaps_of named signals_of shown reply ring moment moments gaps greatest_gap bits_of layouts.first_taken_bit layouts.admits_signal act outcome step
+unfolding file answers ◌>>=◌ ◌>>◌ ◌or◌ refuse◌when◌ empty get len insert only remove from_rows settle numbers names channel_order channels_order owned channel_slots placement_order is_name is_key cycle_count all_cycles cycles_of asking key name cycles slot channel channels placement signal parent_name check cells_of has_cell cluster_cells fill first_taken entries empty_variant suppliers_of opening granted placements_of schedule_of begun common has_key add_supplier add_node own_rows shared_by in_use cell_taken admits_frame admits grants_after frame_after frames_after changed change_rows done perform grants_of frames_of sendings_of gaps_of named signals_of shown reply ring moment moments gaps greatest_gap bits_of layouts.first_taken_bit layouts.admits_signal act outcome step
 a_small_register = tt
 
 abbrev pub integrator : Request → Ask
@@ -529,3 +526,68 @@ pub signals_refused :
     ∷ []
 unfolding a_small_register
 signals_refused = refl
+
+-- ---- suppliers that join
+
+abbrev pub s3 : Request → Ask
+s3 r = record { actor = Supplier (codes "s3"); request = r }
+
+-- Who asks before it joined is not known. Then it is, and sees nothing of what others have. Its key and its name cannot be used
+-- again. Nodes and grants are as any supplier's.
+unfoldable pub joining : List Ask
+joining =
+    integrator (OpenVariant (codes "v1") None)
+    ∷ integrator (AddNode (codes "s1") (codes "n1"))
+    ∷ integrator (Grant (codes "v1") 1 (codes "A") (codes "s1") (codes "n1"))
+    ∷ s1 (AddFrame (codes "v1") (codes "f1") (codes "n1"))
+    ∷ s1 (Place (codes "v1") (codes "f1") 1 (codes "A") 0 64)
+    ∷ s3 (Schedule (codes "v1"))
+    ∷ integrator (AddSupplier (codes "s3") (codes "supplier03"))
+    ∷ s3 (Schedule (codes "v1"))
+    ∷ integrator (AddSupplier (codes "s3") (codes "supplier01"))
+    ∷ integrator (AddSupplier (codes "s4") (codes "supplier03"))
+    ∷ integrator (AddSupplier (codes "s4") (codes "integrator1"))
+    ∷ integrator (AddSupplier (codes "s4") (codes "short"))
+    ∷ integrator (AddSupplier (codes "4s") (codes "short"))
+    ∷ s1 (AddSupplier (codes "4s") (codes "short"))
+    ∷ s3 (AddFrame (codes "v1") (codes "f1") (codes "m1"))
+    ∷ integrator (AddNode (codes "s3") (codes "m1"))
+    ∷ integrator (Grant (codes "v1") 2 (codes "A") (codes "s3") (codes "m1"))
+    ∷ integrator (Grant (codes "v1") 1 (codes "A") (codes "s3") (codes "m1"))
+    ∷ []
+
+pub a_supplier_joins :
+    answers joining
+    ≡ Done ∷ Done ∷ Done ∷ Done ∷ Done
+    ∷ Refused UnknownKey ∷ Done ∷ Sent false []
+    ∷ Refused Exists ∷ Refused KeyTaken ∷ Refused KeyTaken ∷ Refused BadKey ∷ Refused BadName ∷ Refused NotYours
+    ∷ Refused NoNode ∷ Done ∷ Done ∷ Refused Taken ∷ []
+unfolding a_small_register joining
+a_supplier_joins = refl
+
+-- Nobody has the key before; then it is the supplier's.
+pub a_key_before_and_after :
+    (actor_of file.cluster (opening file) (codes "supplier03") ≡ None)
+    × (actor_of file.cluster (book_after file.cluster (opening file) joining) (codes "supplier03") ≡ Some (Supplier (codes "s3")))
+    × (actor_of file.cluster (book_after file.cluster (opening file) joining) (codes "integrator1") ≡ Some Integrator)
+unfolding a_small_register joining actor_of
+a_key_before_and_after = (refl, refl, refl)
+
+-- `s10`, `s11`, .., whose keys are `supplier10`, `supplier11`, ..
+abbrev pub two_digits : ℕ → List ℕ
+two_digits n = (48 + (n / 10)) ∷ (48 + (n % 10)) ∷ []
+
+-- a file of 64 suppliers
+unfoldable pub full_file : ClusterFile
+full_file = record file { suppliers = map (λ n. record { name = codes "s" ++ two_digits n; key = codes "supplier" ++ two_digits n }) (range_with_len 10 64) }
+
+-- One supplier more meets the limit, but a key in use first.
+pub one_more_than_64 :
+    answers_to file.cluster (opening full_file) (
+    integrator (AddSupplier (codes "s99") (codes "supplier99"))
+    ∷ integrator (AddSupplier (codes "s99") (codes "supplier10"))
+    ∷ integrator (AddSupplier (codes "s10") (codes "supplier10"))
+    ∷ [])
+    ≡ Refused Limit ∷ Refused KeyTaken ∷ Refused Exists ∷ []
+unfolding a_small_register full_file
+one_more_than_64 = refl

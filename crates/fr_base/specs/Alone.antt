@@ -1,22 +1,24 @@
 -- What is one supplier's: its rows of a book, its part of a list of requests, and the register that holds it alone.
-use Rattle.std.specs.Prelude.{ℕ, Bool, true, false, not, ◌&&◌, List, [], ◌∷◌, filter, Option, Some, None, if◌then◌else◌}
+use Rattle.std.specs.Prelude.{ℕ, Bool, true, false, not, ◌&&◌, nat_le, List, [], ◌∷◌, filter, Option, Some, None, if◌then◌else◌}
+use Rattle.std.specs.List.{list_any}
 use Rattle.std.specs.Option.{option_and_then}
-use Rattle.fr_base.specs.Tables.{get, only, each}
+use Rattle.fr_base.specs.Tables.{get, len, only, each}
 use Rattle.fr_base.specs.Channels.{channel_of_text}
-use Rattle.fr_base.specs.Cluster.{Cluster}
+use Rattle.fr_base.specs.Cluster.{Cluster, ClusterFile}
 use Rattle.fr_base.specs.Names.{same_text}
 use Rattle.fr_base.specs.Book.{Holder, Variant, Book, Sender, own, own_grants}
 use Rattle.fr_base.specs.Step.{step}
+use Rattle.fr_base.specs.declared.limits.TheConstants.{MAX_SUPPLIERS}
 use Rattle.fr_base.specs.declared.name.Name.{Name}
 use Rattle.fr_base.specs.declared.answer.Answer.{Answer}
 use Rattle.fr_base.specs.declared.answer.Answer.TheVariants.{Done, Refused, RefusedRow}
 use Rattle.fr_base.specs.declared.refusal.Refusal.{Refusal}
-use Rattle.fr_base.specs.declared.refusal.Refusal.TheVariants.{Taken, Unavailable}
+use Rattle.fr_base.specs.declared.refusal.Refusal.TheVariants.{Limit, Taken, Unavailable, KeyTaken}
 use Rattle.fr_base.specs.declared.actor.Actor.{Actor}
 use Rattle.fr_base.specs.declared.actor.Actor.TheVariants.{Integrator, Supplier}
 use Rattle.fr_base.specs.declared.request.Ask.{Ask}
 use Rattle.fr_base.specs.declared.request.Request.{Request}
-use Rattle.fr_base.specs.declared.request.Request.TheVariants.{OpenVariant, Release, AddNode, Grant, Revoke}
+use Rattle.fr_base.specs.declared.request.Request.TheVariants.{OpenVariant, Release, AddSupplier, AddNode, Grant, Revoke}
 
 -- ---- rows
 
@@ -44,6 +46,7 @@ own_sender s (Some o) = if same_text o.supplier s then Some o else None
 abbrev pub concerns : Name → Request → Bool
 concerns s (OpenVariant v parent) = true
 concerns s (Release v) = true
+concerns s (AddSupplier t key) = same_text t s
 concerns s (AddNode t n) = same_text t s
 concerns s (Grant v k c t n) = same_text t s
 concerns s (Revoke v k c t) = same_text t s
@@ -88,9 +91,9 @@ answers_of s _ _ = []
 
 -- ---- a supplier alone
 
--- the cluster file with this supplier alone
-abbrev pub alone : Name → Cluster → Cluster
-alone s c = record c { suppliers = filter (λ t. same_text t.name s) c.suppliers }
+-- the cluster file with this supplier alone, or with none where it does not name the supplier
+abbrev pub alone : Name → ClusterFile → ClusterFile
+alone s f = record f { suppliers = filter (λ t. same_text t.name s) f.suppliers }
 
 -- the answers to some requests, one step after another: those of the run in which none is Unavailable
 abbrev pub answers_to : Cluster → Book → List Ask → List Answer
@@ -115,8 +118,18 @@ abbrev pub is_another : Name → Option Holder → Bool
 is_another s None = false
 is_another s (Some h) = not (same_text h.supplier s)
 
+-- whether another supplier has the key
+abbrev pub another_has : Name → Book → List ℕ → Bool
+another_has s b key = list_any (λ row. not (same_text row.0 s) && same_text key row.1) b.suppliers.rows
+
+-- whether 64 suppliers are there
+abbrev pub is_full : Book → Bool
+is_full b = nat_le MAX_SUPPLIERS (len b.suppliers)
+
 -- The answer beside other suppliers, from the answer in the register of the supplier alone: a Grant that is done there is
--- Taken where another supplier holds slot and channel; all else is answered alike.
+-- Taken where another supplier holds slot and channel; an AddSupplier that is done there is KeyTaken where another supplier has the
+-- key, else Limit where no more may join; all else is answered alike.
 abbrev pub beside : Name → Book → Request → Answer → Answer
 beside s b (Grant v slot channel t n) Done = if is_another s (holder_at b v slot channel) then Refused Taken else Done
+beside s b (AddSupplier t key) Done = if another_has s b key then Refused KeyTaken else if is_full b then Refused Limit else Done
 beside s b request answer = answer

@@ -6,9 +6,10 @@ use Rattle.fr_base.specs.Keys.{names, owned, channel_slots, placement_order}
 use Rattle.fr_base.specs.Cells.{Cell}
 use Rattle.fr_base.specs.Channels.{channels_in}
 use Rattle.fr_base.specs.Schedule.{fill}
-use Rattle.fr_base.specs.Cluster.{Cluster}
+use Rattle.fr_base.specs.Cluster.{Cluster, ClusterFile}
 use Rattle.fr_base.specs.Names.{same_text}
 use Rattle.fr_base.specs.Signals.{SignalData}
+use Rattle.fr_base.specs.declared.config.Supplier.{Supplier}
 use Rattle.fr_base.specs.declared.key.Key.{Key}
 use Rattle.fr_base.specs.declared.name.Name.{Name}
 use Rattle.fr_base.specs.declared.placement.Placement.{Placement}
@@ -51,12 +52,20 @@ unfoldable pub empty_variant : Variant
 empty_variant = record { parent = None; depth = 1; released = false; grants = empty; frames = empty }
 
 -- the cluster file's suppliers with their keys
-unfoldable pub suppliers_of : Cluster → Table names Key
-suppliers_of c = from_rows (map (λ s. (s.name, s.key)) c.suppliers)
+unfoldable pub suppliers_of : ClusterFile → Table names Key
+suppliers_of f = from_rows (map (λ s. (s.name, s.key)) f.suppliers)
 
 -- the book of a register that was just made: the cluster file's suppliers, and nothing else
-unfoldable pub opening : Cluster → Book
-opening c = record { suppliers = suppliers_of c; nodes = empty; variants = empty; imports = empty }
+unfoldable pub opening : ClusterFile → Book
+opening f = record { suppliers = suppliers_of f; nodes = empty; variants = empty; imports = empty }
+
+-- a supplier with its key
+abbrev pub listed : Name × Key → Supplier
+listed row = record { name = row.0; key = row.1 }
+
+-- the cluster file that says what the book has: the same parameters and integrator's key, and the suppliers that are there now
+abbrev pub file_of : Cluster → Book → ClusterFile
+file_of c b = record { cluster = c; suppliers = map listed b.suppliers.rows }
 
 -- whether slot and channel are held by this supplier
 abbrev pub held_by : Name → Option Holder → Bool

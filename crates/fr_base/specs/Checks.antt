@@ -2,22 +2,23 @@
 use Rattle.std.specs.Prelude.{ℕ, Bool, true, false, not, ◌&&◌, List, nat_le, Option, Some, None, Result, Ok, Err, if◌then◌else◌}
 use Rattle.std.specs.List.{list_all}
 use Rattle.fr_base.specs.Refusing.{◌>>=◌, ◌>>◌, ◌or◌, refuse◌when◌}
-use Rattle.fr_base.specs.Names.{is_name}
+use Rattle.fr_base.specs.Names.{is_name, is_key}
 use Rattle.fr_base.specs.Cycles.{Cycles, cycle_count, is_cycle_set}
 use Rattle.fr_base.specs.Signals.{SignalData, is_signal_length, order_of_text}
 use Rattle.fr_base.specs.Channels.{channels_in, has_channel, channel_of_text, channels_of_text}
 use Rattle.fr_base.specs.declared.channel.Channel.{Channel}
 use Rattle.fr_base.specs.declared.channel.Channels.{Channels}
+use Rattle.fr_base.specs.declared.key.Key.{Key}
 use Rattle.fr_base.specs.declared.name.Name.{Name}
 use Rattle.fr_base.specs.declared.params.Params.{Params}
 use Rattle.fr_base.specs.declared.placement.Placement.{Placement}
 use Rattle.fr_base.specs.declared.refusal.Refusal.{Refusal}
-use Rattle.fr_base.specs.declared.refusal.Refusal.TheVariants.{NotYours, BadName, BadCycles, BadSlot, BadChannel, BadSignal}
+use Rattle.fr_base.specs.declared.refusal.Refusal.TheVariants.{NotYours, BadName, BadKey, BadCycles, BadSlot, BadChannel, BadSignal}
 use Rattle.fr_base.specs.declared.actor.Actor.{Actor}
 use Rattle.fr_base.specs.declared.actor.Actor.TheVariants.{Integrator, Supplier}
 use Rattle.fr_base.specs.declared.request.Request.{Request}
 use Rattle.fr_base.specs.declared.request.Request.TheVariants as request
-use Rattle.fr_base.specs.declared.request.Command.TheVariants.{Common, AddNode, Rows}
+use Rattle.fr_base.specs.declared.request.Command.TheVariants.{Common, AddSupplier, AddNode, Rows}
 use Rattle.fr_base.specs.declared.request.CommonCommand.TheVariants.{OpenVariant, Release}
 use Rattle.fr_base.specs.declared.request.Change.TheVariants.{Grant, Revoke, Frame}
 use Rattle.fr_base.specs.declared.request.FrameChange.TheVariants.{Add, Drop, Place, Unplace, AddSignal, DropSignal}
@@ -37,6 +38,10 @@ asking (Supplier s) = Ok s
 -- a text that is a name
 unfoldable pub name : List ℕ → Result Name Refusal
 name text = if is_name text then Ok text else Err BadName
+
+-- a text that is a key
+unfoldable pub key : List ℕ → Result Key Refusal
+key text = if is_key text then Ok text else Err BadKey
 
 -- a base and a repetition that select cycles
 unfoldable pub cycles : ℕ → ℕ → Result Cycles Refusal
@@ -94,6 +99,11 @@ check p actor (request.Release variant) = do
   refuse NotYours when not (is_integrator actor)
   v ← name variant
   Ok (checked.Command (Common (Release v)))
+check p actor (request.AddSupplier supplier text) = do
+  refuse NotYours when not (is_integrator actor)
+  s ← name supplier
+  k ← key text
+  Ok (checked.Command (AddSupplier s k))
 check p actor (request.AddNode supplier node) = do
   refuse NotYours when not (is_integrator actor)
   s ← name supplier

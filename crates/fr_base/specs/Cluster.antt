@@ -10,10 +10,14 @@ use Rattle.fr_base.specs.declared.params.RawParams.{RawParams}
 use Rattle.fr_base.specs.declared.config.Supplier.{Supplier}
 use Rattle.fr_base.specs.declared.key.Key.{Key}
 
--- the parameters, the integrator's key, and the suppliers with theirs
+-- the parameters and the integrator's key, which never change in a register
 pub record Cluster : Type 0 where
   pub params : RawParams
   pub integrator : Key
+
+-- what a cluster file says: the parameters, the integrator's key, and the suppliers with their keys
+pub record ClusterFile : Type 0 where
+  pub cluster : Cluster
   pub suppliers : List Supplier
 
 -- whether the text is before the first of these names, if there is one
@@ -42,8 +46,8 @@ is_cluster integrator suppliers =
 
 -- what a cluster file gives: parameters without a fault, at most 64 suppliers in order, no name and no key twice, and each
 -- name and each key of its form
-pub record IsWellFormed (c : Cluster) : Type 0 where
-  pub params : check_params c.params ≡ Ok c.params
-  pub cluster : IsTrue (is_cluster c.integrator c.suppliers)
-  pub names : IsTrue (list_all (λ s. is_name s.name) c.suppliers)
-  pub keys : IsTrue (list_all is_key (keys_of c.integrator c.suppliers))
+pub record IsWellFormed (f : ClusterFile) : Type 0 where
+  pub params : check_params f.cluster.params ≡ Ok f.cluster.params
+  pub cluster : IsTrue (is_cluster f.cluster.integrator f.suppliers)
+  pub names : IsTrue (list_all (λ s. is_name s.name) f.suppliers)
+  pub keys : IsTrue (list_all is_key (keys_of f.cluster.integrator f.suppliers))

@@ -1,14 +1,14 @@
--- Laws of the register. Each says of which books it is: any, or sound ones. `IsWellFormed c` is what reading a cluster file gives.
+-- Laws of the register. Each says of which books it is: any, or sound ones. `IsWellFormed f` is what reading a cluster file gives.
 use Rattle.std.specs.Prelude.{◌≡◌, ℕ, ◌&&◌, List, take, drop, Some, Ok, IsTrue, IsFalse}
 use Rattle.fr_base.specs.Tables.{get}
 use Rattle.fr_base.specs.Cells.{Cell, cells_of}
 use Rattle.fr_base.specs.Schedule.{first_taken}
 use Rattle.fr_base.specs.Checks.{check}
-use Rattle.fr_base.specs.Cluster.{Cluster, IsWellFormed}
+use Rattle.fr_base.specs.Cluster.{Cluster, ClusterFile, IsWellFormed}
 use Rattle.fr_base.specs.Names.{is_name, same_text}
 use Rattle.fr_base.specs.Book.{Frame, Variant, Book, opening, granted, schedule_of}
 use Rattle.fr_base.specs.Queries.{variant_asked}
-use Rattle.fr_base.specs.Step.{step}
+use Rattle.fr_base.specs.Step.{knows, step}
 use Rattle.fr_base.specs.Run.{IsRun}
 use Rattle.fr_base.specs.Sound.{IsSent, IsSound}
 use Rattle.fr_base.specs.Alone.{own_variant, rows_of, own_sender, concerns, is_refused, is_mine, asks_of, answers_of, alone, answers_to, book_after, beside}
@@ -27,7 +27,7 @@ use Rattle.fr_base.specs.declared.request.Checked.TheVariants as checked
 
 -- A new register is sound.
 abbrev pub OpeningIsSound : Type 0
-OpeningIsSound = (c : Cluster) → IsWellFormed c → IsSound c (opening c)
+OpeningIsSound = (f : ClusterFile) → IsWellFormed f → IsSound f.cluster (opening f)
 
 -- Whoever asks, and whatever is asked, done or refused: a sound book stays sound.
 abbrev pub StepKeepsSound : Type 0
@@ -53,6 +53,13 @@ abbrev pub HolderSends : Type 0
 HolderSends = (c : Cluster) (b : Book) (name : Name) (v : Variant) (k : Name × Name) (f : Frame) (q : Placement) (cell : Cell) →
     IsSound c b → get b.variants name ≡ Some v → IsSent v k f q cell → get v.grants (cell.slot, cell.channel) ≡ Some (record { supplier = k.0; node = f.node })
 
+-- ---- who is known
+
+-- Who is known stays known: no request takes a supplier away.
+abbrev pub KnownStaysKnown : Type 0
+KnownStaysKnown = (c : Cluster) (b last : Book) (asks : List Ask) (answers : List Answer) (actor : Actor) →
+    IsTrue (knows b actor) → IsRun c b asks answers last → IsTrue (knows last actor)
+
 -- ---- a release freezes
 
 -- Once a variant is released, its grants, frames, placements and signals stay, whatever is asked.
@@ -60,12 +67,13 @@ abbrev pub ReleaseFreezes : Type 0
 ReleaseFreezes = (c : Cluster) (b last : Book) (asks : List Ask) (answers : List Answer) (v : Name) (variant : Variant) →
     get b.variants v ≡ Some variant → IsTrue variant.released → IsRun c b asks answers last → get last.variants v ≡ Some variant
 
--- And each query of it that is not answered Unavailable gives the same actor the same answer ever after. One whose frame is no
--- name is BadName in every book.
+-- And each query of it that is not answered Unavailable gives the same actor, from when it is known, the same answer ever after. A
+-- query whose frame is no name is no query by this law: it is BadName in every book that knows who asks.
 abbrev pub ReleasedAnswersStay : Type 0
 ReleasedAnswersStay = (c : Cluster) (b last : Book) (asks : List Ask) (answers : List Answer) (v : Name) (variant : Variant) →
     get b.variants v ≡ Some variant → IsTrue variant.released → IsRun c b asks answers last →
-    (actor : Actor) (request : Request) (query : Query) → check c.params actor request ≡ Ok (checked.Query query) → variant_asked query ≡ v →
+    (actor : Actor) (request : Request) (query : Query) → IsTrue (knows b actor) →
+    check c.params actor request ≡ Ok (checked.Query query) → variant_asked query ≡ v →
     (step c last actor request).answer ≡ (step c b actor request).answer
 
 -- ---- what is refused
@@ -132,8 +140,8 @@ ScheduleIsOwn = (c : Cluster) (b : Book) (v : Name) (variant : Variant) (s : Nam
 abbrev pub OwnStepIsAlone : Type 0
 OwnStepIsAlone = (c : Cluster) (b : Book) (s : Name) (actor : Actor) (request : Request) →
     IsSound c b → IsTrue (is_mine s actor request (step c b actor request).answer) →
-    ((step (alone s c) (rows_of s b) actor request).answer ≡ (step c b actor request).answer)
-    × ((step (alone s c) (rows_of s b) actor request).book ≡ rows_of s (step c b actor request).book)
+    ((step c (rows_of s b) actor request).answer ≡ (step c b actor request).answer)
+    × ((step c (rows_of s b) actor request).book ≡ rows_of s (step c b actor request).book)
 
 -- Any other request leaves the supplier's rows as they were, in any book.
 abbrev pub OtherStepLeavesRows : Type 0
@@ -142,7 +150,7 @@ OtherStepLeavesRows = (c : Cluster) (b : Book) (s : Name) (actor : Actor) (reque
 
 -- A new register that holds the supplier alone has the supplier's rows of a new register.
 abbrev pub OpeningIsAlone : Type 0
-OpeningIsAlone = (c : Cluster) (s : Name) → opening (alone s c) ≡ rows_of s (opening c)
+OpeningIsAlone = (f : ClusterFile) (s : Name) → opening (alone s f) ≡ rows_of s (opening f)
 
 -- One step after another is a run, in which no request is answered Unavailable.
 abbrev pub StepsAreARun : Type 0
@@ -154,20 +162,22 @@ StepsAreARun = (c : Cluster) (b : Book) (asks : List Ask) → IsRun c b asks (an
 abbrev pub RunIsAlone : Type 0
 RunIsAlone = (c : Cluster) (b last : Book) (asks : List Ask) (answers : List Answer) (s : Name) →
     IsSound c b → IsRun c b asks answers last →
-    (answers_to (alone s c) (rows_of s b) (asks_of s asks answers) ≡ answers_of s asks answers)
-    × (book_after (alone s c) (rows_of s b) (asks_of s asks answers) ≡ rows_of s last)
+    (answers_to c (rows_of s b) (asks_of s asks answers) ≡ answers_of s asks answers)
+    × (book_after c (rows_of s b) (asks_of s asks answers) ≡ rows_of s last)
 
--- So under one cluster file two sound registers that begin with the same rows of the supplier, and are asked the same that is the supplier's, give it
--- the same answers and end with the same rows of the supplier, whatever else is in them and whatever else is asked.
+-- So under the same parameters and integrator's key two sound registers that begin with the same rows of the supplier, and are asked
+-- the same that is the supplier's, give it the same answers and end with the same rows of the supplier, whatever else is in them and
+-- whatever else is asked.
 abbrev pub EqualViews : Type 0
 EqualViews = (c : Cluster) (b d last end : Book) (asks others : List Ask) (answers replies : List Answer) (s : Name) →
     IsSound c b → IsSound c d → IsRun c b asks answers last → IsRun c d others replies end →
     rows_of s b ≡ rows_of s d → asks_of s asks answers ≡ asks_of s others replies →
     (answers_of s asks answers ≡ answers_of s others replies) × (rows_of s last ≡ rows_of s end)
 
--- The one dependence between suppliers: an integrator's command that is common or names the supplier, where it is not
--- answered Unavailable, is answered as by the register that holds the supplier alone, with the supplier's rows of the book, except that a Grant which that
--- register accepts is Taken exactly where another supplier holds slot and channel in the variant.
+-- How suppliers depend on each other. An integrator's command that is common or names the supplier, where it is not answered
+-- Unavailable, is answered as by the register that holds the supplier alone, with the supplier's rows of the book. There are two
+-- exceptions. A Grant which that register accepts is Taken exactly where another supplier holds slot and channel in the variant. An
+-- AddSupplier which it accepts is KeyTaken exactly where another supplier has the key, else Limit exactly where 64 suppliers are there.
 abbrev pub OneDependence : Type 0
 OneDependence = (c : Cluster) (b : Book) (s : Name) (request : Request) → IsTrue (concerns s request) →
-    (step c b Integrator request).answer ≡ beside s b request (step (alone s c) (rows_of s b) Integrator request).answer
+    (step c b Integrator request).answer ≡ beside s b request (step c (rows_of s b) Integrator request).answer

@@ -11,6 +11,7 @@ pub mod Keys
 pub mod Parameters
 pub mod Cluster
 pub mod Refusals
+pub mod Joining
 pub mod Signals
 pub mod Bits
 pub mod Layouts

@@ -1,7 +1,7 @@
 -- What a client is told of a refusal.
 use Rattle.std.specs.Prelude.{ℕ, List, codes}
 use Rattle.fr_base.specs.declared.refusal.Refusal.{Refusal}
-use Rattle.fr_base.specs.declared.refusal.Refusal.TheVariants.{BadText, UnknownKey, NotYours, BadName, BadCycles, BadSlot, BadChannel, BadSignal, LabelUsed, NoVariant, Released, NotReleased, TooDeep, NoSupplier, NoNode, NoFrame, NoSignal, NoPlacement, Exists, NodeDiffers, NotGranted, InUse, Limit, Taken, CellTaken, OutOfPayload, BitTaken, Unavailable}
+use Rattle.fr_base.specs.declared.refusal.Refusal.TheVariants.{BadText, UnknownKey, NotYours, BadName, BadCycles, BadSlot, BadChannel, BadSignal, LabelUsed, NoVariant, Released, NotReleased, TooDeep, NoSupplier, NoNode, NoFrame, NoSignal, NoPlacement, Exists, NodeDiffers, NotGranted, InUse, Limit, Taken, CellTaken, OutOfPayload, BitTaken, Unavailable, BadKey, KeyTaken}
 
 -- the table of refusals: the number, the name, and the reply's HTTP status; an import's refused row is number 29, BadRow, 422
 abbrev pub row_of : Refusal → ℕ × List ℕ × ℕ
@@ -33,6 +33,8 @@ row_of (CellTaken cycle channel frame) = (25, codes "CellTaken", 409)
 row_of OutOfPayload = (26, codes "OutOfPayload", 422)
 row_of (BitTaken bit signal) = (27, codes "BitTaken", 409)
 row_of Unavailable = (28, codes "Unavailable", 503)
+row_of BadKey = (30, codes "BadKey", 422)
+row_of KeyTaken = (31, codes "KeyTaken", 409)
 
 -- the refusal's number
 abbrev pub number_of : Refusal → ℕ

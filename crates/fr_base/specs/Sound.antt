@@ -8,7 +8,7 @@ use Rattle.fr_base.specs.Cycles.{cycle_count, is_cycle_set}
 use Rattle.fr_base.specs.Channels.{channels_in, has_channel}
 use Rattle.fr_base.specs.Cluster.{Cluster, IsWellFormed}
 use Rattle.fr_base.specs.Names.{is_name}
-use Rattle.fr_base.specs.Book.{Holder, Frame, Variant, Kept, Book, suppliers_of, own, granted}
+use Rattle.fr_base.specs.Book.{Holder, Frame, Variant, Kept, Book, file_of, own, granted}
 use Rattle.fr_base.specs.Layouts.{IsLayout}
 use Rattle.fr_base.specs.Step.{layout_of}
 use Rattle.fr_base.specs.declared.limits.TheConstants.{MAX_NODES, MAX_VARIANTS, MAX_DEPTH, MAX_FRAMES, MAX_PLACEMENTS, MAX_IMPORTS, MAX_IMPORT_BYTES, MAX_ROWS}
@@ -71,12 +71,11 @@ pub record IsSoundImport (suppliers : Table names Key) (variants : Table names V
   pub bytes : length kept.body ≤ MAX_IMPORT_BYTES
   pub rows : kept.rows ≤ MAX_ROWS
 
--- a book under a cluster file: the file is well formed, and its suppliers are the book's; each node has a name, and its supplier is
--- there; each variant has a name, is sound, and was opened empty, or from a released one that is one less deep; the kept imports are
--- sound; the limits are kept
+-- a book under a cluster: the cluster with the book's suppliers is what a cluster file may say, at most 64, with names and keys of
+-- their form, and no key twice, the integrator's too; each node has a name, and its supplier is there; each variant has a name, is
+-- sound, and was opened empty, or from a released one that is one less deep; the kept imports are sound; the limits are kept
 pub record IsSound (c : Cluster) (b : Book) : Type 0 where
-  pub cluster : IsWellFormed c
-  pub suppliers : b.suppliers ≡ suppliers_of c
+  pub cluster : IsWellFormed (file_of c b)
   pub nodes : (s n : Name) → IsTrue (contains b.nodes (s, n)) → IsTrue (is_name n) × IsTrue (contains b.suppliers s)
   pub variants : (v : Name) (variant : Variant) → get b.variants v ≡ Some variant → IsTrue (is_name v) × IsSoundVariant c.params b.nodes variant
   pub parents : (v : Name) (variant : Variant) → get b.variants v ≡ Some variant → IsOpenedFrom b.variants variant.parent variant.depth

@@ -9,21 +9,22 @@ use Rattle.fr_base.specs.Cells.{Cell, cells_of}
 use Rattle.fr_base.specs.Schedule.{first_taken}
 use Rattle.fr_base.specs.Checks.{check}
 use Rattle.fr_base.specs.Channels.{has_channel}
-use Rattle.fr_base.specs.Cluster.{Cluster}
+use Rattle.fr_base.specs.Cluster.{Cluster, keys_of}
 use Rattle.fr_base.specs.Layouts.{LayoutData, has_signal, with_signal, without_signal, admits_signal}
 use Rattle.fr_base.specs.ImportRows.{rows_of_body}
 use Rattle.fr_base.specs.Queries.{reply}
 use Rattle.fr_base.specs.Names.{same_text}
-use Rattle.fr_base.specs.Book.{Holder, Frame, Variant, Kept, Book, Sender, empty_variant, held_by_node, own, own_grants, granted, placements_of, schedule_of}
-use Rattle.fr_base.specs.declared.limits.TheConstants.{MAX_NODES, MAX_VARIANTS, MAX_DEPTH, MAX_FRAMES, MAX_PLACEMENTS, MAX_IMPORTS, MAX_IMPORT_BYTES}
+use Rattle.fr_base.specs.Book.{Holder, Frame, Variant, Kept, Book, Sender, file_of, empty_variant, held_by_node, own, own_grants, granted, placements_of, schedule_of}
+use Rattle.fr_base.specs.declared.limits.TheConstants.{MAX_SUPPLIERS, MAX_NODES, MAX_VARIANTS, MAX_DEPTH, MAX_FRAMES, MAX_PLACEMENTS, MAX_IMPORTS, MAX_IMPORT_BYTES}
 use Rattle.fr_base.specs.declared.channel.Channel.{Channel}
+use Rattle.fr_base.specs.declared.key.Key.{Key}
 use Rattle.fr_base.specs.declared.name.Name.{Name}
 use Rattle.fr_base.specs.declared.params.Params.{Params}
 use Rattle.fr_base.specs.declared.placement.Placement.{Placement}
 use Rattle.fr_base.specs.declared.answer.Answer.{Answer}
 use Rattle.fr_base.specs.declared.answer.Answer.TheVariants as answer
 use Rattle.fr_base.specs.declared.refusal.Refusal.{Refusal}
-use Rattle.fr_base.specs.declared.refusal.Refusal.TheVariants.{UnknownKey, LabelUsed, NoVariant, Released, NotReleased, TooDeep, NoSupplier, NoNode, NoFrame, NoSignal, NoPlacement, Exists, NodeDiffers, NotGranted, InUse, Limit, Taken, CellTaken}
+use Rattle.fr_base.specs.declared.refusal.Refusal.TheVariants.{UnknownKey, LabelUsed, NoVariant, Released, NotReleased, TooDeep, NoSupplier, NoNode, NoFrame, NoSignal, NoPlacement, Exists, NodeDiffers, NotGranted, InUse, Limit, Taken, CellTaken, KeyTaken}
 use Rattle.fr_base.specs.declared.import.Row.{Row}
 use Rattle.fr_base.specs.declared.import.Row.TheVariants as row
 use Rattle.fr_base.specs.declared.import.RowRead.{RowRead}
@@ -31,7 +32,7 @@ use Rattle.fr_base.specs.declared.actor.Actor.{Actor}
 use Rattle.fr_base.specs.declared.actor.Actor.TheVariants.{Integrator, Supplier}
 use Rattle.fr_base.specs.declared.request.Request.{Request}
 use Rattle.fr_base.specs.declared.request.Command.{Command}
-use Rattle.fr_base.specs.declared.request.Command.TheVariants.{Common, AddNode, Rows}
+use Rattle.fr_base.specs.declared.request.Command.TheVariants.{Common, AddSupplier, AddNode, Rows}
 use Rattle.fr_base.specs.declared.request.CommonCommand.{CommonCommand}
 use Rattle.fr_base.specs.declared.request.CommonCommand.TheVariants.{OpenVariant, Release}
 use Rattle.fr_base.specs.declared.request.Change.{Change}
@@ -69,7 +70,19 @@ common b (Release v) = do
   refuse Released when variant.released
   Ok (with_variant b v (record variant { released = true }))
 
--- ---- the integrator's command to one supplier
+-- ---- the integrator's commands to one supplier
+
+-- whether the integrator or a supplier has the key
+unfoldable pub has_key : Cluster → Book → Key → Bool
+has_key c b key = list_any (same_text key) (keys_of c.integrator (file_of c b).suppliers)
+
+-- AddSupplier: the supplier is there, without nodes
+unfoldable pub add_supplier : Cluster → Book → Name → Key → Result Book Refusal
+add_supplier c b s key = do
+  refuse Exists when contains b.suppliers s
+  refuse KeyTaken when has_key c b key
+  refuse Limit when nat_le MAX_SUPPLIERS (len b.suppliers)
+  Ok (record b { suppliers = insert b.suppliers s key })
 
 -- AddNode: the supplier has the node, in all variants
 unfoldable pub add_node : Book → Name → Name → Result Book Refusal
@@ -274,14 +287,15 @@ done result = do
   Ok (record { book = after; answer = answer.Done })
 
 -- what a command does
-unfoldable pub perform : Params → Book → Command → Result Outcome Refusal
-perform p b (Common command) = done (common b command)
-perform p b (AddNode s n) = done (add_node b s n)
-perform p b (Rows s v change) = done (change_rows p b s v change)
+unfoldable pub perform : Cluster → Book → Command → Result Outcome Refusal
+perform c b (Common command) = done (common b command)
+perform c b (AddSupplier s key) = done (add_supplier c b s key)
+perform c b (AddNode s n) = done (add_node b s n)
+perform c b (Rows s v change) = done (change_rows c.params b s v change)
 
 -- what a request with checked values does
 unfoldable pub act : Cluster → Book → Actor → Checked → Result Outcome Refusal
-act c b actor (checked.Command command) = perform c.params b command
+act c b actor (checked.Command command) = perform c b command
 act c b actor (checked.Import i) = import c.params b i (get b.imports (i.supplier, i.label))
 act c b actor (checked.Query query) = do
   shown ← reply c.params b actor query
@@ -297,7 +311,7 @@ abbrev pub knows : Book → Actor → Bool
 knows b Integrator = true
 knows b (Supplier s) = contains b.suppliers s
 
--- one request, under a cluster file
+-- one request, under a cluster
 unfoldable pub step : Cluster → Book → Actor → Request → Outcome
 step c b actor request = outcome b (do
   refuse UnknownKey when not (knows b actor)

@@ -2,7 +2,8 @@
 ghost use Rattle.std.specs.Prelude.{◌≡◌, find, IfSome, IsTrue};
 ghost use Rattle.std.specs.Option.{option_copied};
 ghost use Rattle.fr_base.specs.Actors.{actor_of};
-ghost use Rattle.fr_base.specs.Book.{Book, suppliers_of};
+ghost use Rattle.fr_base.specs.Book.{Book, file_of};
+ghost use Rattle.fr_base.specs.Cluster.{Cluster};
 ghost use Rattle.fr_base.specs.Names.{same_text};
 ghost use Rattle.fr_base.specs.Step.{knows};
 
@@ -20,12 +21,11 @@ pub enum Actor {
 }
 
 impl Config {
-    /// Who asks with this key, where the register's suppliers are the cluster file's: the integrator,
-    /// a supplier, or nobody.
+    /// Who asks with this key, the integrator or one of these suppliers; or nobody has it.
     #[tactic(auto, unfolding(crate::specs::Actors::actor_of))]
     pub fn actor_of(&self, key: &[u8]) -> Option<Actor>
-        ensures value { (b : Book) → b.suppliers ≡ suppliers_of self.now → result ≡ actor_of self.now b key.now }
-        ensures known { (b : Book) → b.suppliers ≡ suppliers_of self.now → IfSome result (λ actor. IsTrue (knows b actor)) }
+        ensures value { (c : Cluster) (b : Book) → self.now ≡ file_of c b → result ≡ actor_of c b key.now }
+        ensures known { (c : Cluster) (b : Book) → self.now ≡ file_of c b → IfSome result (λ actor. IsTrue (knows b actor)) }
     {
         if is_text_of(&self.integrator(), key) {
             return Some(Actor::Integrator);

@@ -4,12 +4,13 @@ ghost use Rattle.std.specs.List.{list_all};
 ghost use Rattle.fr_base.specs.Channels.{channels_in, has_channel};
 ghost use Rattle.fr_base.specs.Refusing.{refuse◌when◌};
 ghost use Rattle.fr_base.specs.declared.request.Request.TheVariants as request;
-ghost use Rattle.fr_base.specs.Checks.{asking, is_integrator, check, name, cycles, slot, channel, channels, placement, signal, parent_name};
+ghost use Rattle.fr_base.specs.Checks.{asking, is_integrator, check, key, name, cycles, slot, channel, channels, placement, signal, parent_name};
 
 use crate::actor::Actor;
 use crate::body::{Body, BodyRef};
 use crate::channel::{Channel, Channels};
 use crate::cycles::CycleSet;
+use crate::key::Key;
 use crate::name::Name;
 use crate::params::Params;
 use crate::placement::Placement;
@@ -22,7 +23,7 @@ use crate::slot::Slot;
 use crate::text::Text;
 
 /// The request with checked values, or the first refusal that it meets by itself, whatever the
-/// register holds: `NotYours`, `BadName`, `BadCycles`, `BadSlot`, `BadChannel`, `BadSignal`, in this order.
+/// register holds: `NotYours`, `BadName`, `BadKey`, `BadCycles`, `BadSlot`, `BadChannel`, `BadSignal`, in this order.
 pub fn check<'a>(
     params: &Params,
     actor: &Actor,
@@ -33,6 +34,7 @@ pub fn check<'a>(
     match request {
         Request::OpenVariant { variant, parent } => open_variant(actor, variant, parent),
         Request::Release { variant } => release(actor, variant),
+        Request::AddSupplier { supplier, key } => add_supplier(actor, supplier, key),
         Request::AddNode { supplier, node } => add_node(actor, supplier, node),
         Request::Grant {
             variant,
@@ -123,6 +125,15 @@ fn release(actor: &Actor, variant: &Text) -> Result<Checked<'static>, Refusal>
     integrator(actor)?;
     let variant = name(variant)?;
     Ok(common(CommonCommand::Release { variant }))
+}
+
+#[tactic(auto, unfolding(crate::proofs::ChecksLemmas::checks_open))]
+fn add_supplier(actor: &Actor, supplier: &Text, text: &Text) -> Result<Checked<'static>, Refusal>
+    ensures { (p : Params) → result ≡ check p actor.now (request.AddSupplier supplier.now text.now) }
+{
+    integrator(actor)?;
+    let (supplier, key) = (name(supplier)?, key(text)?);
+    Ok(Checked::Command(Command::AddSupplier { supplier, key }))
 }
 
 #[tactic(auto, unfolding(crate::proofs::ChecksLemmas::checks_open))]
@@ -376,6 +387,14 @@ pub(crate) fn read_name(bytes: &[u8]) -> Result<Name, Refusal>
     ensures { result ≡ name bytes.now }
 {
     Name::from_bytes(bytes).ok_or(Refusal::BadName)
+}
+
+// The key that a request's text is.
+#[tactic(auto, unfolding(crate::specs::Checks::key))]
+fn key(text: &Text) -> Result<Key, Refusal>
+    ensures { result ≡ key text.now }
+{
+    Key::read(text.as_str()).ok_or(Refusal::BadKey)
 }
 
 // The cycles that base and repetition select.

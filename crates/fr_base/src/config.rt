@@ -1,11 +1,18 @@
 //! What a cluster file says.
 ghost use Rattle.std.specs.Prelude.{◌≡◌, ◌==◌, [], ◌∷◌, ◌++◌, length, OnOk, OnErr};
-ghost use Rattle.fr_base.specs.Cluster.{IsWellFormed};
+ghost use Rattle.std.specs.Prelude.{◌⊎◌, Ok, Err, IfOk, IfErr, position, IsTrue};
+ghost use Rattle.std.specs.List.{list_any};
+ghost use Rattle.fr_base.specs.Cluster.{IsWellFormed, keys_of};
+ghost use Rattle.fr_base.specs.Joining.{admits_supplier, is_earlier, joined, with_supplier};
+ghost use Rattle.fr_base.specs.Names.{same_text};
+ghost use Rattle.fr_base.specs.declared.refusal.Refusal.TheVariants.{Unavailable};
 
 use crate::NoMemory;
 use crate::key::Key;
+use crate::limits::MAX_SUPPLIERS;
 use crate::name::Name;
 use crate::params::Params;
+use crate::refusal::Refusal;
 use std::alloc::Global;
 use std::marker::Model;
 
@@ -52,6 +59,17 @@ impl Suppliers {
         Ok(())
     }
 
+    /// One more supplier, before the first whose name is after its own. The list stays as it was where
+    /// memory runs out.
+    pub fn insert(&mut self, supplier: Supplier) -> Result<(), NoMemory>
+        ensures ok { OnOk result (self.new ≡ with_supplier supplier self.old) }
+        ensures err { OnErr result (self.new ≡ self.old) }
+    {
+        let index = first_after(&self.list, supplier.name).unwrap_or(self.list.len());
+        self.list.insert(index, supplier)?;
+        Ok(())
+    }
+
     /// How many suppliers there are.
     pub fn len(&self) -> usize
         ensures { result ≡ length self.now }
@@ -85,20 +103,20 @@ pub struct Config {
 }
 
 impl Model for Config {
-    ghost use Rattle.fr_base.specs.Cluster.{Cluster, IsWellFormed};
+    ghost use Rattle.fr_base.specs.Cluster.{ClusterFile, IsWellFormed};
 
-    ghost Value = { Cluster };
+    ghost Value = { ClusterFile };
 
-    ghost view = { λ c. record { params = c.params; integrator = c.integrator; suppliers = c.suppliers } };
+    ghost view = { λ c. record { cluster = record { params = c.params; integrator = c.integrator }; suppliers = c.suppliers } };
 
-    ghost invariant = { λ c. IsWellFormed (record { params = c.params; integrator = c.integrator; suppliers = c.suppliers }) };
+    ghost invariant = { λ c. IsWellFormed (record { cluster = record { params = c.params; integrator = c.integrator }; suppliers = c.suppliers }) };
 }
 
 impl Config {
     /// A cluster of these parameters, this integrator and these suppliers.
     pub fn new(params: Params, integrator: Key, suppliers: Suppliers) -> Config
-        requires { IsWellFormed (record { params = params; integrator = integrator; suppliers = suppliers }) }
-        ensures { result ≡ record { params = params; integrator = integrator; suppliers = suppliers } }
+        requires { IsWellFormed (record { cluster = record { params = params; integrator = integrator }; suppliers = suppliers }) }
+        ensures { result ≡ record { cluster = record { params = params; integrator = integrator }; suppliers = suppliers } }
     {
         Config {
             params,
@@ -109,7 +127,7 @@ impl Config {
 
     /// The cluster's parameters.
     pub fn params(&self) -> Params
-        ensures value { result ≡ self.now.params }
+        ensures value { result ≡ self.now.cluster.params }
         ensures formed { IsWellFormed self.now }
     {
         self.params
@@ -117,7 +135,7 @@ impl Config {
 
     /// The integrator's key.
     pub fn integrator(&self) -> Key
-        ensures { result ≡ self.now.integrator }
+        ensures { result ≡ self.now.cluster.integrator }
     {
         self.integrator
     }
@@ -130,4 +148,78 @@ impl Config {
     {
         self.suppliers.as_slice()
     }
+
+    /// Whether the supplier may join with this key. If not: `Exists` where a supplier has the name,
+    /// `KeyTaken` where the integrator or a supplier has the key, `Limit` where 64 suppliers are there;
+    /// the first of these that applies.
+    #[tactic(auto, unfolding(crate::proofs::JoiningLemmas::joining_open))]
+    pub fn admits(&self, supplier: Name, key: Key) -> Result<(), Refusal>
+        ensures { result ≡ admits_supplier self.now supplier key }
+    {
+        let list = self.suppliers();
+        if has_name(list, supplier) {
+            return Err(Refusal::Exists);
+        }
+        if self.has_key(key) {
+            return Err(Refusal::KeyTaken);
+        }
+        if list.len() >= MAX_SUPPLIERS {
+            return Err(Refusal::Limit);
+        }
+        Ok(())
+    }
+
+    // Whether the integrator or a supplier has this key.
+    #[tactic(auto, using(crate::proofs::JoiningLemmas::any_key))]
+    fn has_key(&self, key: Key) -> bool
+        ensures { result ≡ list_any (same_text key) (keys_of self.now.cluster.integrator self.now.suppliers) }
+    {
+        key == self.integrator() || is_key_of(self.suppliers(), key)
+    }
+
+    /// This with one supplier more. It is refused as [`Config::admits`] says, or is `Unavailable` where memory
+    /// is refused.
+    pub fn joined(&self, alloc: Global, supplier: Supplier) -> Result<Config, Refusal>
+        ensures ok { IfOk result (λ new. (admits_supplier self.now supplier.name supplier.key ≡ Ok tt) × (new ≡ joined self.now supplier.name supplier.key)) }
+        ensures err { IfErr result (λ e. ((admits_supplier self.now supplier.name supplier.key ≡ Ok tt) × (e ≡ Unavailable)) ⊎ (admits_supplier self.now supplier.name supplier.key ≡ Err e)) }
+    {
+        self.admits(supplier.name, supplier.key)?;
+        let mut suppliers = copied(alloc, self.suppliers())?;
+        suppliers.insert(supplier)?;
+        // The contracts of these readers say that they are a name and a key, which `Config::new` asks.
+        let (_name, _key) = (supplier.name.as_str(), supplier.key.as_str());
+        Ok(Config::new(self.params(), self.integrator(), suppliers))
+    }
+}
+
+// A copy of the list.
+fn copied(alloc: Global, list: &[Supplier]) -> Result<Suppliers, NoMemory>
+    ensures { IfOk result (λ copy. copy ≡ list.now) }
+{
+    let mut suppliers = Suppliers::new(alloc);
+    for supplier in list {
+        suppliers.push(*supplier)?;
+    }
+    Ok(suppliers)
+}
+
+// The index of the first supplier whose name is after this one.
+fn first_after(suppliers: &[Supplier], name: Name) -> Option<usize>
+    ensures { result ≡ position (λ s. is_earlier name s.name) suppliers.now }
+{
+    suppliers.iter().position(|supplier| name < supplier.name)
+}
+
+// Whether one of the suppliers has this name.
+fn has_name(suppliers: &[Supplier], name: Name) -> bool
+    ensures { result ≡ list_any (λ s. same_text name s.name) suppliers.now }
+{
+    suppliers.iter().any(|supplier| name == supplier.name)
+}
+
+// Whether one of the suppliers has this key.
+fn is_key_of(suppliers: &[Supplier], key: Key) -> bool
+    ensures { result ≡ list_any (λ s. same_text key s.key) suppliers.now }
+{
+    suppliers.iter().any(|supplier| key == supplier.key)
 }

@@ -1,5 +1,5 @@
 //! Laws of the register: functions with nothing to do, whose contracts say what holds of any register.
-ghost use Rattle.fr_base.specs.Laws.{BadVariantIsBadName, EqualViews, FirstTakenIsOwn, HolderSends, ImportActsOnce, ImportIsKept, LabelStaysUsed, OneDependence, OneFrameInACell, OpeningIsAlone, OpeningIsSound, OtherStepLeavesRows, OwnStepIsAlone, RefusedChangesNothing, ReleaseFreezes, ReleasedAnswersStay, RunIsAlone, RunIsSoundThroughout, RunKeepsSound, ScheduleIsOwn, StepKeepsSound, StepsAreARun};
+ghost use Rattle.fr_base.specs.Laws.{BadVariantIsBadName, EqualViews, FirstTakenIsOwn, HolderSends, ImportActsOnce, ImportIsKept, KnownStaysKnown, LabelStaysUsed, OneDependence, OneFrameInACell, OpeningIsAlone, OpeningIsSound, OtherStepLeavesRows, OwnStepIsAlone, RefusedChangesNothing, ReleaseFreezes, ReleasedAnswersStay, RunIsAlone, RunIsSoundThroughout, RunKeepsSound, ScheduleIsOwn, StepKeepsSound, StepsAreARun};
 
 /// The book of a new register is sound.
 pub fn opening_is_sound()
@@ -31,12 +31,17 @@ pub fn holder_sends()
     ensures { HolderSends }
 {}
 
+/// Who is known stays known, whatever is asked.
+pub fn known_stays_known()
+    ensures { KnownStaysKnown }
+{}
+
 /// A released variant stays as it is, whatever is asked.
 pub fn release_freezes()
     ensures { ReleaseFreezes }
 {}
 
-/// A query of a released variant gives the same actor the same answer ever after.
+/// A query of a released variant gives the same actor, from when it is known, the same answer ever after.
 pub fn released_answers_stay()
     ensures { ReleasedAnswersStay }
 {}
@@ -111,8 +116,10 @@ pub fn equal_views()
     ensures { EqualViews }
 {}
 
-/// An integrator's command that is common or names a supplier is answered as alone, but that a Grant
-/// which is done alone is Taken exactly where another supplier holds slot and channel.
+/// An integrator's command that is common or names a supplier is answered as alone, with two exceptions. A
+/// Grant which is done alone is `Taken` exactly where another supplier holds slot and channel. An
+/// AddSupplier which is done alone is `KeyTaken` exactly where another supplier has the key, else `Limit`
+/// exactly where 64 suppliers are there.
 pub fn one_dependence()
     ensures { OneDependence }
 {}

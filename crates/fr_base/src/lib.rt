@@ -38,10 +38,10 @@ pub use import::{Header, Row, RowRead};
 pub use key::Key;
 pub use laws::{
     bad_variant_is_bad_name, equal_views, first_taken_is_own, holder_sends, import_acts_once,
-    import_is_kept, label_stays_used, one_dependence, one_frame_in_a_cell, opening_is_alone,
-    opening_is_sound, other_step_leaves_rows, own_step_is_alone, refused_changes_nothing,
-    release_freezes, released_answers_stay, run_is_alone, run_is_sound_throughout, run_keeps_sound,
-    schedule_is_own, step_keeps_sound, steps_are_a_run,
+    import_is_kept, known_stays_known, label_stays_used, one_dependence, one_frame_in_a_cell,
+    opening_is_alone, opening_is_sound, other_step_leaves_rows, own_step_is_alone,
+    refused_changes_nothing, release_freezes, released_answers_stay, run_is_alone,
+    run_is_sound_throughout, run_keeps_sound, schedule_is_own, step_keeps_sound, steps_are_a_run,
 };
 pub use limits::{
     MAX_DEPTH, MAX_FRAMES, MAX_IMPORT_BYTES, MAX_IMPORTS, MAX_NODES, MAX_PAYLOAD_WORDS,

@@ -5,8 +5,8 @@ use crate::name::Name;
 use std::alloc::AllocFailed;
 use std::fmt;
 
-/// Why a request was refused. A refusal changes nothing. Where several apply, the first by number is
-/// answered. (Number 29, `BadRow`, is that of an import's row, and wraps the row's own refusal.)
+/// Why a request was refused. A refusal changes nothing. They are checked in the order of their numbers,
+/// but `BadKey` after `BadName`, and `KeyTaken` after `Exists`; the first that applies is answered. (Number 29, `BadRow`, is that of an import's row, and wraps the row's own refusal.)
 #[derive(Clone, Copy, Debug, PartialEq, Eq)]
 pub enum Refusal {
     /// The request's text does not have the form of a request.
@@ -45,7 +45,7 @@ pub enum Refusal {
     NoSignal,
     /// There is no placement with exactly these fields.
     NoPlacement,
-    /// The variant, node, frame, signal or grant is there already.
+    /// The variant, supplier, node, frame, signal or grant is there already.
     Exists,
     /// The supplier holds the slot and channel, or has the frame, with another node.
     NodeDiffers,
@@ -76,15 +76,19 @@ pub enum Refusal {
         signal: Name,
     },
     /// The store or memory refused. It changes nothing, and may come at any point, but never in place
-    /// of a refusal by the request itself, numbers 3 to 8.
+    /// of a refusal by the request itself or of a key that is nobody's, numbers 2 to 8 and 30.
     Unavailable,
+    /// The key is not 8 to 64 ASCII letters and digits. This is checked after `BadName`.
+    BadKey,
+    /// The integrator or a supplier has the key. This is checked after `Exists` and before `Limit`.
+    KeyTaken,
 }
 
 impl Refusal {
     ghost use Rattle.std.specs.Prelude.{◌≡◌};
     ghost use Rattle.fr_base.specs.Refusals.{number_of, name_of, status_of};
 
-    /// The refusal's number, 1 to 28: its place in the table of refusals.
+    /// The refusal's number, 1 to 28, 30 or 31: its place in the table of refusals.
     pub fn number(&self) -> u8
         ensures { result ≡ number_of self.now }
     {
@@ -140,6 +144,8 @@ impl Refusal {
             Refusal::OutOfPayload => (26, "OutOfPayload", 422),
             Refusal::BitTaken { .. } => (27, "BitTaken", 409),
             Refusal::Unavailable => (28, "Unavailable", 503),
+            Refusal::BadKey => (30, "BadKey", 422),
+            Refusal::KeyTaken => (31, "KeyTaken", 409),
         }
     }
 }

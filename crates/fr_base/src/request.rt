@@ -2,6 +2,7 @@
 use crate::actor::Actor;
 use crate::body::{Body, BodyRef};
 use crate::channel::Channel;
+use crate::key::Key;
 use crate::name::Name;
 use crate::placement::Placement;
 use crate::signal::Signal;
@@ -18,6 +19,11 @@ pub enum Request {
     /// The integrator freezes a variant.
     Release {
         variant: Text,
+    },
+    /// The integrator adds a supplier, with the key by which it is known.
+    AddSupplier {
+        supplier: Text,
+        key: Text,
     },
     /// The integrator gives a supplier a node, in all variants.
     AddNode {
@@ -127,6 +133,10 @@ impl Drop for Request {
             | Request::Frames { variant: _ }
             | Request::Schedule { variant: _ }
             | Request::Gaps { variant: _ } => {}
+            Request::AddSupplier {
+                supplier: _,
+                key: _,
+            } => {}
             Request::AddNode {
                 supplier: _,
                 node: _,
@@ -208,6 +218,11 @@ pub struct Ask {
 pub enum Command {
     /// The integrator's, common to all suppliers.
     Common(CommonCommand),
+    /// The integrator adds a supplier, with the key by which it is known.
+    AddSupplier {
+        supplier: Name,
+        key: Key,
+    },
     /// The integrator gives a supplier a node, in all variants.
     AddNode {
         supplier: Name,

@@ -1,5 +1,7 @@
 mod LineLemmas
 mod CommandLaws
+pub mod ScriptRunLaws
+mod ScriptRows
 pub mod OutputLaws
 pub mod RunLaws
 pub mod EndingLaws

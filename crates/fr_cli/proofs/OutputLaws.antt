@@ -2,7 +2,7 @@
 use Rattle.std.proofs.Common.{◌≡◌, inl, inr, ℕ, List, [], ◌∷◌, ◌++◌, length, codes, Result, Ok, Err, refl, sym, ap, ◌∙◌, subst, arith}
 use Rattle.std.proofs.lemmas.List.{flat_map_more}
 use Rattle.fr_base.specs.Book.{Book, opening}
-use Rattle.fr_base.specs.Cluster.{Cluster, IsWellFormed}
+use Rattle.fr_base.specs.Cluster.{Cluster, ClusterFile, IsWellFormed}
 use Rattle.fr_base.specs.Run.{IsRun}
 use Rattle.fr_base.specs.Sound.{IsSound}
 use Rattle.fr_base.proofs.SoundSteps.{step-sound}
@@ -17,8 +17,9 @@ use Rattle.fr_records.specs.Held.{Standing}
 use Rattle.fr_text.specs.AnswerText.{text_of}
 use Rattle.fr_cli.specs.Asked.{ask_in}
 use Rattle.fr_cli.specs.Answering.{AnswersLine, AnswersLines, Reads}
-use Rattle.fr_cli.specs.Laws.{asks_of, answers_of}
-use Rattle.fr_cli.specs.Output.{AreAnswered, Replied, text_of_answers, IsAnsweredTo}
+use Rattle.fr_cli.specs.Output.{IsAnsweredTo, text_of_answers}
+use Rattle.fr_cli.specs.ScriptRun.{AreAnswered, Replied}
+use Rattle.fr_cli.proofs.ScriptRunLaws.{answered-sound, collision-free_after, script-alone}
 
 -- After some lines, one line more is answered.
 answered-more : (c : Cluster) (b mid last : Book) (lines : List (List ℕ)) (line : List ℕ) (answers : List Answer) (answer : Answer)
@@ -28,48 +29,38 @@ answered-more c b mid last [] line (x ∷ xs) answer so replied = absurd so
 answered-more c b mid last (l ∷ ls) line [] answer so replied = absurd so
 answered-more c b mid last (l ∷ ls) line (x ∷ xs) answer so replied = (so.0, so.1, answered-more c so.0 mid last ls line xs answer so.2 replied)
 
--- A line that is answered leaves a sound book sound.
-replied-sound : (c : Cluster) (old new : Book) (read : Result Ask Refusal) (answer : Answer) → Replied c old read answer new → IsSound c old → IsSound c new
-replied-sound c old new (Err refusal) answer replied sound = subst (IsSound c) (sym replied.1) sound
-replied-sound c old new (Ok ask) answer (inl lacks) sound = subst (IsSound c) (sym lacks.2) sound
-replied-sound c old new (Ok ask) answer (inr steps) sound = subst (IsSound c) (sym steps.1) (step-sound c old sound ask.actor ask.request)
-
-answered-sound : (c : Cluster) (b last : Book) (lines : List (List ℕ)) (answers : List Answer) → AreAnswered c b lines answers last → IsSound c b → IsSound c last
-answered-sound c b last [] [] so sound = subst (IsSound c) (sym so) sound
-answered-sound c b last [] (x ∷ xs) so sound = absurd so
-answered-sound c b last (l ∷ ls) [] so sound = absurd so
-answered-sound c b last (l ∷ ls) (x ∷ xs) so sound = answered-sound c so.0 last ls xs so.2 (replied-sound c b so.0 (ask_in c b l) x so.1 sound)
-
 -- The lines were answered by these bytes, and then the book is this.
-pub record Answering (c : Cluster) (lines : List (List ℕ)) (book : Book) (written : List ℕ) : Type 0 where
+pub record Answering (f : ClusterFile) (lines : List (List ℕ)) (book : Book) (written : List ℕ) : Type 0 where
   pub answers : List Answer
-  pub answered : AreAnswered c (opening c) lines answers book
+  pub answered : AreAnswered f.cluster (opening f) lines answers book
   pub bytes : written ≡ text_of_answers answers
 
 -- One line more is answered.
-answering-more : (c : Cluster) (lines : List (List ℕ)) (line : List ℕ) (book new : Book) (answer : Answer) (written : List ℕ)
-    → Answering c lines book written → Replied c book (ask_in c book line) answer new
-    → Answering c (lines ++ line ∷ []) new (written ++ (text_of answer ++ codes "\n"))
-answering-more c lines line book new answer written so replied =
+answering-more : (f : ClusterFile) (lines : List (List ℕ)) (line : List ℕ) (book new : Book) (answer : Answer) (written : List ℕ)
+    → Answering f lines book written → Replied f.cluster book (ask_in f.cluster book line) answer new
+    → Answering f (lines ++ line ∷ []) new (written ++ (text_of answer ++ codes "\n"))
+answering-more f lines line book new answer written so replied =
     let ended : Answer → List ℕ = λ a. text_of a ++ codes "\n" in
     record {
       answers = so.answers ++ answer ∷ [];
-      answered = answered-more c (opening c) book new lines line so.answers answer so.answered replied;
+      answered = answered-more f.cluster (opening f) book new lines line so.answers answer so.answered replied;
       bytes = ap (λ l. l ++ ended answer) so.bytes ∙ flat_map_more ended [] so.answers answer;
     }
 
 -- The lines are answered up to those that are left.
-answered_to : (c : Cluster) (lines front left : List (List ℕ)) (book : Book) (written : List ℕ) → IsWellFormed c → lines ≡ front ++ left
-    → Answering c front book written → IsAnsweredTo c lines left written
-answered_to c lines front left book written formed whole so = record {
+answered_to : (f : ClusterFile) (lines front left : List (List ℕ)) (book : Book) (written : List ℕ) → IsWellFormed f → lines ≡ front ++ left
+    → Answering f front book written → IsAnsweredTo f lines left written
+answered_to f lines front left book written formed whole so = record {
   front = front;
   all = whole;
   answered = record {
     answers = so.answers;
     last = book;
     answered = so.answered;
-    sound = answered-sound c (opening c) book front so.answers so.answered (opening-sound c formed);
     bytes = so.bytes;
+    alone = λ s. script-alone f book front so.answers s formed so.answered;
+    collision_free = collision-free_after f book front so.answers formed so.answered;
+    sound = answered-sound f.cluster (opening f) book front so.answers so.answered (opening-sound f formed);
   };
 }
 
@@ -93,47 +84,28 @@ line_refused old line refusal other (inr reads) = λ c b stands sound.
 
 -- The lines were answered by these bytes, from records that stood for a register that was just made; they now stand for the book after that.
 abbrev pub AnsweredSoFar : Standing → Standing → List (List ℕ) → List ℕ → Type 0
-AnsweredSoFar old new lines written = (c : Cluster) → IsWellFormed c → old c (opening c) → (book : Book) × new c book × Answering c lines book written
+AnsweredSoFar old new lines written = (f : ClusterFile) → IsWellFormed f → old f.cluster (opening f) → (book : Book) × new f.cluster book × Answering f lines book written
 
 -- No line is answered yet.
 pub none_answered : (old : Standing) → AnsweredSoFar old old [] []
-none_answered old c formed stands = (opening c, stands, record { answers = []; answered = refl; bytes = refl })
+none_answered old f formed stands = (opening f, stands, record { answers = []; answered = refl; bytes = refl })
 
 -- One line more is answered.
 pub one_answered : (old mid new : Standing) (lines : List (List ℕ)) (line : List ℕ) (answer : Answer) (written text : List ℕ)
     → AnsweredSoFar old mid lines written → AnswersLine mid new line answer → text ≡ text_of answer ++ codes "\n"
     → AnsweredSoFar old new (lines ++ line ∷ []) (written ++ text)
-one_answered old mid new lines line answer written text so next e c formed stands =
-    let (book, there, answering) = so c formed stands in
-    let sound = answered-sound c (opening c) book lines answering.answers answering.answered (opening-sound c formed) in
-    let (last, after, replied) = next c book there sound in (
+one_answered old mid new lines line answer written text so next e f formed stands =
+    let (book, there, answering) = so f formed stands in
+    let sound = answered-sound f.cluster (opening f) book lines answering.answers answering.answered (opening-sound f formed) in
+    let (last, after, replied) = next f.cluster book there sound in (
       last,
       after,
-      subst (λ t. Answering c (lines ++ line ∷ []) last (written ++ t)) (sym e) (answering-more c lines line book last answer written answering replied),
+      subst (λ t. Answering f (lines ++ line ∷ []) last (written ++ t)) (sym e) (answering-more f lines line book last answer written answering replied),
     )
 
 -- All are answered up to those that are left.
 pub answered_up_to : (old new : Standing) (lines front left : List (List ℕ)) (written : List ℕ) → lines ≡ front ++ left
     → AnsweredSoFar old new front written → AnswersLines old lines left written
-answered_up_to old new lines front left written whole so c formed stands =
-    let (book, _, answering) = so c formed stands in
-    answered_to c lines front left book written formed whole answering
-
--- ---- the asks among the lines are a run
-
-pub lines-run : (c : Cluster) (b last : Book) (lines : List (List ℕ)) (answers : List Answer) → AreAnswered c b lines answers last →
-    (read : List (Result Ask Refusal)) × (given : List Answer) × IsRun c b (asks_of read) given last × (answers ≡ answers_of read given) × (length read ≡ length lines)
-lines-run c b last [] [] so = ([], [], so, refl, refl)
-lines-run c b last [] (x ∷ xs) so = absurd so
-lines-run c b last (l ∷ ls) [] so = absurd so
-lines-run c b last (l ∷ ls) (x ∷ xs) so = one_more (ask_in c b l) so.1 (lines-run c so.0 last ls xs so.2)
-  where
-    one_more : (r : Result Ask Refusal) → Replied c b r x so.0 →
-        ((read : List (Result Ask Refusal)) × (given : List Answer) × IsRun c so.0 (asks_of read) given last × (xs ≡ answers_of read given) × (length read ≡ length ls)) →
-        (read : List (Result Ask Refusal)) × (given : List Answer) × IsRun c b (asks_of read) given last × (x ∷ xs ≡ answers_of read given) × (length read ≡ length (l ∷ ls))
-    one_more (Err refusal) replied rest =
-        (Err refusal ∷ rest.0, rest.1, subst (λ m. IsRun c m (asks_of rest.0) rest.1 last) replied.1 rest.2, λ i. replied.0 i ∷ rest.3 i, omega (arith, rest.4))
-    one_more (Ok ask) (inl lacks) rest =
-        (Ok ask ∷ rest.0, x ∷ rest.1, inl (lacks.0, lacks.1, subst (λ m. IsRun c m (asks_of rest.0) rest.1 last) lacks.2 rest.2), ap (λ l. x ∷ l) rest.3, omega (arith, rest.4))
-    one_more (Ok ask) (inr steps) rest =
-        (Ok ask ∷ rest.0, x ∷ rest.1, inr (steps.0, subst (λ m. IsRun c m (asks_of rest.0) rest.1 last) steps.1 rest.2), ap (λ l. x ∷ l) rest.3, omega (arith, rest.4))
+answered_up_to old new lines front left written whole so f formed stands =
+    let (book, _, answering) = so f formed stands in
+    answered_to f lines front left book written formed whole answering

@@ -4,7 +4,7 @@ use Rattle.std.specs.Prelude.{⊤}
 use Rattle.std.specs.Io.KnownBytes.{Appends, IsAtEnd}
 use Rattle.std.specs.Option.{option_map}
 use Rattle.fr_base.specs.Book.{opening}
-use Rattle.fr_base.specs.Cluster.{Cluster, IsWellFormed}
+use Rattle.fr_base.specs.Cluster.{ClusterFile, IsWellFormed}
 use Rattle.fr_text.specs.ClusterFile.{config_of}
 use Rattle.fr_records.specs.Held.{Standing}
 use Rattle.fr_cli.specs.Answering.{HasWritten}
@@ -20,18 +20,18 @@ on_script P None bytes whole so = tt
 on_script P (Some s) bytes whole so = subst P whole so
 
 -- A script of these parts, whose cluster file is read so.
-pub record HasParts (script : List ℕ) (c : Cluster) (requests : List ℕ) : Type 0 where
+pub record HasParts (script : List ℕ) (f : ClusterFile) (requests : List ℕ) : Type 0 where
   pub size : length script ≤ max_script
   pub cluster : List ℕ
   pub split : parts_of script ≡ Some (cluster, requests)
-  pub file : config_of cluster ≡ Ok c
-  pub formed : IsWellFormed c
+  pub file : config_of cluster ≡ Ok f
+  pub formed : IsWellFormed f
 
-output_to : (script requests : List ℕ) (c : Cluster) (left : List (List ℕ)) (written : List ℕ) → HasParts script c requests
-    → IsAnsweredTo c (request_lines requests) left written → IsOutputTo script left written
-output_to script requests c left written has answered = record {
+output_to : (script requests : List ℕ) (f : ClusterFile) (left : List (List ℕ)) (written : List ℕ) → HasParts script f requests
+    → IsAnsweredTo f (request_lines requests) left written → IsOutputTo script left written
+output_to script requests f left written has answered = record {
   size = has.size;
-  cluster = c;
+  config = f;
   formed = has.formed;
   lines = request_lines requests;
   file = ap (option_map (λ parts. config_of parts.0)) has.split ∙ ap Some has.file;
@@ -68,13 +68,13 @@ failed script left a b so = record {
   unavailable = λ e. absurd cc;
 }
 
-pub run_of : (old : Standing) (script left a b : Option (List ℕ)) (bytes requests : List ℕ) (c : Cluster) (done : Result ⊤ ScriptFault)
-    → IfSome script (λ all. bytes ≡ all) → IsAtEnd left → HasParts bytes c requests → old c (opening c)
+pub run_of : (old : Standing) (script left a b : Option (List ℕ)) (bytes requests : List ℕ) (f : ClusterFile) (done : Result ⊤ ScriptFault)
+    → IfSome script (λ all. bytes ≡ all) → IsAtEnd left → HasParts bytes f requests → old f.cluster (opening f)
     → HasWritten old (request_lines requests) a b done → IsRunOf script left a b done
-run_of old script left a b bytes requests c (Ok x) whole end has stands w = record {
+run_of old script left a b bytes requests f (Ok x) whole end has stands w = record {
   output =
       let (written, appended, answered) = w.all in
-      on_script _ script bytes whole (written, appended, output_to bytes requests c [] written has (answered c has.formed stands));
+      on_script _ script bytes whole (written, appended, output_to bytes requests f [] written has (answered f has.formed stands));
   whole_script = end;
   too_long = λ e. absurd cc;
   too_many_reads = λ e. absurd cc;
@@ -85,13 +85,13 @@ run_of old script left a b bytes requests c (Ok x) whole end has stands w = reco
   write_failed = λ e. absurd cc;
   unavailable = λ e. absurd cc;
 }
-run_of old script left a b bytes requests c (Err fault) whole end has stands w = elim w.faults [
+run_of old script left a b bytes requests f (Err fault) whole end has stands w = elim w.faults [
   | inl is ↦
       let (line, rest, written, appended, answered) = w.no_memory (ap Err is) in
-      subst (λ f. IsRunOf script left a b (Err f)) (sym is)
-      (lacked script left a b (on_script _ script bytes whole (written, appended, (line, rest, output_to bytes requests c (line ∷ rest) written has (answered c has.formed stands)))))
+      subst (λ e. IsRunOf script left a b (Err e)) (sym is)
+      (lacked script left a b (on_script _ script bytes whole (written, appended, (line, rest, output_to bytes requests f (line ∷ rest) written has (answered f has.formed stands)))))
   | inr is ↦
       let (rest, missing, written, appended, answered) = w.write_failed (ap Err is) in
-      subst (λ f. IsRunOf script left a b (Err f)) (sym is)
-      (failed script left a b (on_script _ script bytes whole (written, appended, (rest, missing, output_to bytes requests c rest (written ++ missing) has (answered c has.formed stands)))))
+      subst (λ e. IsRunOf script left a b (Err e)) (sym is)
+      (failed script left a b (on_script _ script bytes whole (written, appended, (rest, missing, output_to bytes requests f rest (written ++ missing) has (answered f has.formed stands)))))
 ]

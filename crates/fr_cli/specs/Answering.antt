@@ -2,14 +2,15 @@
 use Rattle.std.specs.Prelude.{◌≡◌, ◌⊎◌, ℕ, List, [], ◌∷◌, ◌++◌, Option, Result, Err, OnOk, IfErr, IsErrOf, ⊤}
 use Rattle.std.specs.Io.KnownBytes.{Appends}
 use Rattle.fr_base.specs.Book.{Book, opening}
-use Rattle.fr_base.specs.Cluster.{Cluster, IsWellFormed}
+use Rattle.fr_base.specs.Cluster.{Cluster, ClusterFile, IsWellFormed}
 use Rattle.fr_base.specs.Sound.{IsSound}
 use Rattle.fr_base.specs.declared.answer.Answer.{Answer}
 use Rattle.fr_base.specs.declared.refusal.Refusal.{Refusal}
 use Rattle.fr_base.specs.declared.refusal.Refusal.TheVariants.{Unavailable}
 use Rattle.fr_base.specs.declared.request.Ask.{Ask}
 use Rattle.fr_cli.specs.Asked.{ask_in}
-use Rattle.fr_cli.specs.Output.{IsAnsweredTo, Replied}
+use Rattle.fr_cli.specs.Output.{IsAnsweredTo}
+use Rattle.fr_cli.specs.ScriptRun.{Replied}
 use Rattle.fr_cli.specs.declared.script_fault.ScriptFault.{ScriptFault}
 use Rattle.fr_cli.specs.declared.script_fault.ScriptFault.TheVariants.{NoMemory, WriteFailed}
 use Rattle.fr_records.specs.Held.{Standing}
@@ -25,7 +26,7 @@ AnswersLine old new line answer = (c : Cluster) (b : Book) → old c b → IsSou
 
 -- Where the records stood for a register that was just made, the bytes answer the lines up to those that are left.
 abbrev pub AnswersLines : Standing → List (List ℕ) → List (List ℕ) → List ℕ → Type 0
-AnswersLines old lines left written = (c : Cluster) → IsWellFormed c → old c (opening c) → IsAnsweredTo c lines left written
+AnswersLines old lines left written = (f : ClusterFile) → IsWellFormed f → old f.cluster (opening f) → IsAnsweredTo f lines left written
 
 -- What was written of the lines' answers, by how that ended: all; or those up to a line for which there was no memory; or a front.
 pub record HasWritten (old : Standing) (lines : List (List ℕ)) (a b : Option (List ℕ)) (done : Result ⊤ ScriptFault) : Type 0 where

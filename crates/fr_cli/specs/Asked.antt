@@ -1,5 +1,5 @@
--- What a request's line asks, as the book stands.
-use Rattle.std.specs.Prelude.{ℕ, List, Option, Some, None, Result, Ok, Err}
+-- Who sends a request's line and what it asks, as the book stands.
+use Rattle.std.specs.Prelude.{ℕ, List, Option, Some, None, Result, Ok, Err, option_and_then}
 use Rattle.fr_base.specs.Actors.{actor_of}
 use Rattle.fr_base.specs.Book.{Book}
 use Rattle.fr_base.specs.Cluster.{Cluster}
@@ -16,16 +16,19 @@ abbrev pub asked_by : Option Actor → Request → Result Ask Refusal
 asked_by None request = Err UnknownKey
 asked_by (Some actor) request = Ok (record { actor = actor; request = request })
 
--- what the bytes after the key ask, if they are a request
+-- what a text and its sender ask: a text that is no request is refused before its key is looked up
 abbrev pub asked : Option Request → Option Actor → Result Ask Refusal
-asked None actor = Err BadText
-asked (Some request) actor = asked_by actor request
+asked None sender = Err BadText
+asked (Some request) sender = asked_by sender request
 
--- a line without a space, or whose text is no request, is refused before its key is looked up
-abbrev pub ask_of : Cluster → Book → Option (List ℕ × List ℕ) → Result Ask Refusal
-ask_of c b None = Err BadText
-ask_of c b (Some (key, text)) = asked (request_of text) (actor_of c b key)
+-- the request that the line's text is, if it is one
+abbrev pub request_in : List ℕ → Option Request
+request_in line = option_and_then (λ parts. request_of parts.1) (key_and_text line)
+
+-- who sends the line: whoever has its key
+abbrev pub sender_of : Cluster → Book → List ℕ → Option Actor
+sender_of c b line = option_and_then (λ parts. actor_of c b parts.0) (key_and_text line)
 
 -- who asks what by the line
 unfoldable pub ask_in : Cluster → Book → List ℕ → Result Ask Refusal
-ask_in c b line = ask_of c b (key_and_text line)
+ask_in c b line = asked (request_in line) (sender_of c b line)

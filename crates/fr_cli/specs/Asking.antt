@@ -17,7 +17,7 @@ use Rattle.fr_text.specs.Styles.{plain_lines}
 use Rattle.fr_http.specs.Asking.{Standing}
 use Rattle.fr_http.specs.Connection.{InSound}
 use Rattle.fr_cli.specs.Asked.{asked_by}
-use Rattle.fr_cli.specs.Output.{Replied}
+use Rattle.fr_cli.specs.ScriptRun.{Replied}
 use Rattle.fr_cli.specs.declared.asking.ImportWords.{ImportWords}
 use Rattle.fr_cli.specs.declared.asking.Report.{Report}
 use Rattle.fr_cli.specs.declared.asking.Report.TheVariants.{Schedule, Gaps}

@@ -1,6 +1,7 @@
 pub mod Script
 pub mod ScriptFault
 pub mod Asked
+pub mod ScriptRun
 pub mod Output
 pub mod Answering
 pub mod Laws

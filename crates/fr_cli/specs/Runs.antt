@@ -1,7 +1,7 @@
 -- The run of a script: what it writes where it ends well, and what stands where a fault ends it.
 use Rattle.std.specs.Prelude.{◌≡◌, ◌⊎◌, ◌<◌, ℕ, List, length, Option, Some, None, Result, Ok, Err, IfSome, IsErrOf, OnOk, ⊤}
 use Rattle.std.specs.Io.KnownBytes.{Appends, IsAtEnd, Keeps}
-use Rattle.fr_base.specs.Cluster.{Cluster, IsWellFormed}
+use Rattle.fr_base.specs.Cluster.{ClusterFile, IsWellFormed}
 use Rattle.fr_text.specs.declared.cluster_file.ConfigFault.{ConfigFault}
 use Rattle.fr_text.specs.declared.cluster_file.ConfigFault.TheVariants as cluster
 use Rattle.fr_cli.specs.Output.{IsCutShort, IsOutput, LacksMemory, cluster_in}
@@ -11,7 +11,7 @@ use Rattle.fr_cli.specs.declared.script_fault.ScriptFault.TheVariants.{TooLong, 
 
 -- The script's cluster file is one.
 abbrev pub HasCluster : List ℕ → Type 0
-HasCluster script = (c : Cluster) × IsWellFormed c × (cluster_in script ≡ Some (Ok c))
+HasCluster script = (f : ClusterFile) × IsWellFormed f × (cluster_in script ≡ Some (Ok f))
 
 -- The run ended so: the reader had this script and has this left, and the writer had the old bytes and has the new ones.
 pub record IsRunOf (script left old new : Option (List ℕ)) (done : Result ⊤ ScriptFault) : Type 0 where

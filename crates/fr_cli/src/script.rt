@@ -27,6 +27,12 @@ use std::str;
 /// cluster file and a register that could not be made come before anything is written; want of
 /// memory for a request comes after whole answers to all before it, and a failed write may cut an
 /// answer short.
+///
+/// Each supplier is answered as if it were alone. A register that the cluster file makes with this
+/// supplier alone, given the supplier's lines, and those of the integrator's that were done and are
+/// common or name the supplier, answers them alike, line by line; a line that was answered
+/// `Unavailable` is left out. And after each line at most one frame is sent in a cycle, slot and
+/// channel of a variant, by the node that holds the grant.
 pub fn run_script<R: Read, W: Write>(
     alloc: Global,
     reader: &mut R,

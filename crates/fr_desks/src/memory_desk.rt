@@ -42,9 +42,11 @@ impl Desk for MemoryDesk {
 impl MemoryDesk {
     /// The desk of a new register of this cluster. It is `Unavailable` where memory is refused.
     pub fn new(alloc: Global, config: &Config) -> Result<MemoryDesk, StoreFault>
-        ensures stands { IfOk result (λ it. ⟦<MemoryDesk as Desk>⟧.stands it config.now (opening config.now)) }
+        ensures stands { IfOk result (λ it. ⟦<MemoryDesk as Desk>⟧.stands it config.now.cluster (opening config.now)) }
         ensures told { IfErr result (λ e. e ≡ Unavailable) }
     {
+        // Gives the proof that the suppliers are in order.
+        let _formed = config.params();
         let store = Store::create_in_memory(alloc, config)?;
         let office = Office::new(alloc, store);
         Ok(MemoryDesk { office })

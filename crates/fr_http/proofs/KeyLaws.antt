@@ -1,5 +1,5 @@
 -- A key is a text, so what is none is nobody's key.
-use Rattle.std.proofs.Common.{◌≡◌, ℕ, ◌<◌, Bool, true, false, cond, List, [], ◌∷◌, map, find, Option, None, IsTrue, IsUtf8, arith, refl, sym, ap, ◌∙◌, subst, inl, inr}
+use Rattle.std.proofs.Common.{◌≡◌, ℕ, ◌<◌, true, false, List, [], ◌∷◌, map, find, Option, None, IsUtf8, arith, refl, sym, ap, ◌∙◌, subst, inl, inr}
 use Rattle.std.specs.List.{list_all}
 use Rattle.std.specs.Option.{option_map}
 use Rattle.std.specs.Str.{IsAscii}
@@ -9,7 +9,7 @@ use Rattle.std.proofs.lemmas.Slice.Eq.{bytes_eq-Decides}
 use Rattle.std.proofs.lemmas.Str.{IsUtf8-from_ascii}
 use Rattle.std.proofs.lemmas.Str.Ascii.{IsAscii-nil, IsAscii-cons}
 use Rattle.fr_base.specs.Actors.{actor_of}
-use Rattle.fr_base.specs.Book.{Book}
+use Rattle.fr_base.specs.Book.{Book, file_of}
 use Rattle.fr_base.specs.Cluster.{Cluster}
 use Rattle.fr_base.specs.Names.{is_key, is_key_byte, same_text}
 use Rattle.fr_base.specs.Sound.{IsSound}
@@ -18,7 +18,7 @@ use Rattle.fr_base.specs.declared.config.Supplier.{Supplier}
 use Rattle.fr_base.specs.declared.actor.Actor.{Actor}
 use Rattle.fr_http.specs.Head.{only_one}
 use Rattle.fr_http.specs.Outcome.{holder}
-use Rattle.fr_base.proofs.ActorsLemmas.{has_key, listed}
+use Rattle.fr_base.proofs.ActorsLemmas.{has_key, listed_now}
 
 key_byte_is_ascii : (c : ℕ) → is_key_byte c ≡ true → c < 128
 key_byte_is_ascii c h = grind (arith, nat_tests)
@@ -48,8 +48,9 @@ none_has (s ∷ ss) text are none =
 pub nobodys : (c : Cluster) (b : Book) (key : List ℕ) → IsSound c b → (IsUtf8 key → ⊥) → None ≡ actor_of c b key
 nobodys c b key sound none =
     let both = and_parts _ _ sound.cluster.keys in
-    sym (ap (option_map (λ s. actor.Supplier s.name)) (none_has c.suppliers key both.1 none))
-    ∙ listed c b key sound.cluster.cluster sound.suppliers (other_than c.integrator key both.0 none)
+    let file = file_of c b in
+    sym (ap (option_map (λ s. actor.Supplier s.name)) (none_has file.suppliers key both.1 none))
+    ∙ listed_now c b file key refl (other_than c.integrator key both.0 none)
 
 -- who has the one value that there is
 pub holder_of : (who : List ℕ → Option Actor) (values rest left : List (List ℕ)) (key : List ℕ) → values ≡ key ∷ rest → rest ≡ left → left ≡ [] → holder who (only_one values) ≡ who key

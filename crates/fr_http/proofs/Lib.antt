@@ -7,3 +7,5 @@ pub mod ReadingLaws
 pub mod ServeLaws
 pub mod KeyLaws
 mod WorkedRows
+pub mod AloneActors
+pub mod ExchangeLaws

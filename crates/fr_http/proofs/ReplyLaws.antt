@@ -1,5 +1,5 @@
 -- Laws of replies.
-use Rattle.std.proofs.Common.{◌≡◌, ℕ, ◌≤◌, ◌<◌, List, [], ◌++◌, length, take, drop, refl, sym, ap, ◌∙◌, append_assoc, append-nil, arith, Bool, Result, Ok, Err, OnOk}
+use Rattle.std.proofs.Common.{◌≡◌, ℕ, List, [], ◌++◌, length, take, drop, sym, ap, ◌∙◌, append-nil, arith, Bool, Result, Ok, Err, OnOk}
 use Rattle.std.proofs.Math.Seq.{take-append_seam, drop-append_seam}
 use Rattle.fr_text.proofs.WordsLemmas.{adds}
 use Rattle.std.specs.Prelude.{codes}
@@ -11,7 +11,7 @@ use Rattle.fr_http.specs.declared.method.Method.{Method}
 use Rattle.fr_base.specs.declared.answer.Answer.{Answer}
 use Rattle.fr_base.specs.Refusals.{status_of}
 use Rattle.fr_base.specs.declared.refusal.Refusal.{Refusal}
-use Rattle.fr_base.specs.declared.refusal.Refusal.TheVariants.{BadText, UnknownKey, NotYours, BadName, BadCycles, BadSlot, BadChannel, BadSignal, LabelUsed, NoVariant, Released, NotReleased, TooDeep, NoSupplier, NoNode, NoFrame, NoSignal, NoPlacement, Exists, NodeDiffers, NotGranted, InUse, Limit, Taken, CellTaken, OutOfPayload, BitTaken, Unavailable}
+use Rattle.fr_base.specs.declared.refusal.Refusal.TheVariants.{BadText, UnknownKey, NotYours, BadName, BadCycles, BadSlot, BadChannel, BadSignal, LabelUsed, NoVariant, Released, NotReleased, TooDeep, NoSupplier, NoNode, NoFrame, NoSignal, NoPlacement, Exists, NodeDiffers, NotGranted, InUse, Limit, Taken, CellTaken, OutOfPayload, BitTaken, Unavailable, BadKey, KeyTaken}
 
 -- ---- statuses
 
@@ -44,6 +44,8 @@ refusal_has_status (CellTaken cycle channel frame) = (omega arith, omega arith)
 refusal_has_status OutOfPayload = (omega arith, omega arith)
 refusal_has_status (BitTaken bit signal) = (omega arith, omega arith)
 refusal_has_status Unavailable = (omega arith, omega arith)
+refusal_has_status BadKey = (omega arith, omega arith)
+refusal_has_status KeyTaken = (omega arith, omega arith)
 
 -- one text at the end, and then another, if there was memory for it
 pub last_adds : {E : Type 0} (r : Result (Unit {0}) E) (old a mid b new : List ℕ) → mid ≡ old ++ a → OnOk r (new ≡ mid ++ b) → OnOk r (new ≡ old ++ (a ++ b))

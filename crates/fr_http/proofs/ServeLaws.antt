@@ -1,14 +1,13 @@
 -- Laws of a connection's outcome.
-use Rattle.std.proofs.Common.{◌≡◌, ◌≢◌, ℕ, Bool, true, false, List, [], ◌∷◌, ◌++◌, Option, Some, None, Result, Ok, Err, refl, sym, ap, ◌∙◌, subst, append_assoc, append-nil, inl, inr, arith, MatchResult}
+use Rattle.std.proofs.Common.{◌≡◌, ◌≢◌, ℕ, Bool, true, false, List, [], ◌++◌, Option, Some, None, Result, Ok, Err, refl, sym, ap, ◌∙◌, subst, append_assoc, inl, inr, arith}
 use Rattle.std.proofs.KnownBytes.{Appends-kept, Appends-nil, Appends-trans, Consumes-trans, Keeps-refl}
-use Rattle.std.specs.Io.KnownBytes.{Appends, Consumes, IsAtEnd, Keeps}
+use Rattle.std.specs.Io.KnownBytes.{Appends, Consumes, Keeps}
 use Rattle.httparse.specs.Grammar.{RequestHead}
 use Rattle.fr_base.specs.Actors.{actor_of}
 use Rattle.fr_base.specs.Book.{Book}
-use Rattle.fr_base.specs.Cluster.{Cluster}
-use Rattle.fr_base.specs.Refusing.{◌>>=◌, ◌>>◌, ◌or◌, refuse◌when◌}
-use Rattle.fr_base.specs.Sound.{IsSound}
+use Rattle.fr_base.specs.Refusing.{◌>>=◌, ◌>>◌, ◌or◌}
 use Rattle.fr_base.specs.declared.actor.Actor.{Actor}
+use Rattle.fr_base.specs.declared.answer.Answer.{Answer}
 use Rattle.fr_base.specs.declared.refusal.Refusal.TheVariants.{BadText, UnknownKey}
 use Rattle.fr_base.specs.declared.request.Request.{Request}
 use Rattle.fr_http.specs.Asking.{FindsActor, MakesRequest, Standing}
@@ -17,11 +16,12 @@ use Rattle.fr_http.specs.Reply.{Reply, answer_reply, print}
 use Rattle.fr_http.specs.Replying.{IsReply}
 use Rattle.fr_http.specs.declared.reply.ReplyText.{ReplyText}
 use Rattle.fr_http.specs.declared.serve.Served.{Served}
-use Rattle.fr_http.specs.Connection.{HasAnswered, HasReplied, HasSent, HasTaken, IsConnection, IsServed, Replies, WasAsked, InSound, IsInterim, Takes, is_silent}
+use Rattle.fr_http.specs.Connection.{HasAnswered, HasReplied, HasSent, HasTaken, IsConnection, InSound, IsInterim, Takes, is_silent}
+use Rattle.fr_http.specs.Exchanges.{IsExchange, unasked_reply}
 use Rattle.fr_http.specs.Head.{BeginsWith, HeadData, key_of, said}
 use Rattle.fr_http.specs.Outcome.{IsOutcome, Wanted, asked_before, continue_if, due, front, holder, interim, outcome_of, plan_of}
 use Rattle.fr_http.specs.Planning.{Plans}
-use Rattle.fr_http.specs.Reading.{FailsToReceive, HasReceived, LacksBody, Receives}
+use Rattle.fr_http.specs.Reading.{HasReceived, LacksBody}
 use Rattle.fr_http.specs.Routes.{method_of, path_of, request_by}
 use Rattle.fr_http.specs.declared.asked.Asked.{Asked}
 use Rattle.fr_http.specs.declared.fault.LinkFault.{LinkFault}
@@ -265,30 +265,19 @@ module _ (clean : Type 0) (old new : Standing) (input left held mid now : Option
     written = t.written ++ print (answer_reply asked.method h.answer);
     consumed = t.consumed;
     appended = Appends-trans _ _ _ _ _ t.appended h.reply.0;
-    served = λ cl c b s i.
+    exchanged = λ cl c b s i.
         let (last, run, stands) = h.step cl c b s i in
-        record {
-          before = t.written;
-          outcome = Ok asked;
-          is_outcome = t.takes.1 c b s i;
-          reply = answer_reply asked.method h.answer;
-          last = last;
-          replied = (h.answer, run, refl);
-          stands = stands;
-          text = refl;
-          status = h.reply.1;
-          asked = h.reply.2;
-        };
+        (Some (asked, h.answer), last, (h.reply.2, record { before = t.written; outcome = t.takes.1 c b s i; step = run; told = (refl, h.reply.1) }), stands);
     truncated = λ e. grind (arith, e);
     silent = tt;
-    asked = λ _. tt;
   }
   served_asked asked (Err fault) t h = unanswered h.reply
     where
-      was_asked : clean → InSound old (λ c b. WasAsked c b new t.bytes)
-      was_asked cl c b s i =
+      exchanged : (f : LinkFault) (written : List ℕ) → asked_before f ≡ true → clean → InSound old (λ c b. (a : Option (Asked × Answer)) × (last : Book)
+          × IsExchange c b (record { read = t.bytes; written = written; done = Err f; asked = a }) last × new c last)
+      exchanged f written before cl c b s i =
           let (last, run, stands) = h.step cl c b s i in
-          record { before = t.written; asked = asked; is_outcome = t.takes.1 c b s i; answer = h.answer; last = last; answered = run; stands = stands }
+          (Some (asked, h.answer), last, (before, record { before = t.written; outcome = t.takes.1 c b s i; step = run; told = tt }), stands)
 
       unanswered : HasReplied (answer_reply asked.method h.answer) true mid now (Err fault) → IsConnection clean old new input left held now (Err fault)
       unanswered (inl (is, keeps)) = subst (λ f. IsConnection clean old new input left held now (Err f)) (sym is) (record {
@@ -296,67 +285,57 @@ module _ (clean : Type 0) (old new : Standing) (input left held mid now : Option
         written = t.written;
         consumed = t.consumed;
         appended = Appends-kept _ _ _ _ t.appended keeps;
-        served = λ _. tt;
+        exchanged = exchanged (NoMemory true) t.written refl;
         truncated = λ e. grind (arith, e);
         silent = λ _. t.takes.0;
-        asked = λ cl _. was_asked cl;
       })
       unanswered (inr (is, (w, appended))) = subst (λ f. IsConnection clean old new input left held now (Err f)) (sym is) (record {
         bytes = t.bytes;
         written = t.written ++ w;
         consumed = t.consumed;
         appended = Appends-trans _ _ _ _ _ t.appended appended;
-        served = λ _. tt;
+        exchanged = exchanged (WriteFailed true) (t.written ++ w) refl;
         truncated = λ e. grind (arith, e);
         silent = λ e. grind (arith, e);
-        asked = λ cl _. was_asked cl;
       })
 
 module _ (clean : Type 0) (old : Standing) (input left held mid now : Option (List ℕ)) where
+  -- nothing was asked, and no reply was written whole
+  not_asked : (bytes written : List ℕ) (fault : LinkFault) → asked_before fault ≡ false → clean → InSound old (λ c b. (a : Option (Asked × Answer)) × (last : Book)
+      × IsExchange c b (record { read = bytes; written = written; done = Err fault; asked = a }) last × old c last)
+  not_asked bytes written fault before cl c b s i = (None, b, (before, (refl, tt)), s)
+
   -- a reply was to be written without asking
   pub served_unasked : (unasked : Unasked) (reply : Reply) (done : Result Served LinkFault) (t : HasTaken old input left held mid (Err unasked))
       → IsInterim t.bytes t.written → InSound old (λ c b. IsOutcome (actor_of c b) t.bytes t.written (Err unasked))
-      → ((c : Cluster) (b : Book) → Replies c b (Err unasked) reply b) → HasReplied reply false mid now done → IsConnection clean old old input left held now done
-  served_unasked unasked reply (Ok served) t only outcome replies h = record {
+      → unasked_reply unasked ≡ Some reply → HasReplied reply false mid now done → IsConnection clean old old input left held now done
+  served_unasked unasked reply (Ok served) t only outcome is_reply h = record {
     bytes = t.bytes;
     written = t.written ++ print reply;
     consumed = t.consumed;
     appended = Appends-trans _ _ _ _ _ t.appended h.0;
-    served = λ _ c b s i. record {
-      before = t.written;
-      outcome = Err unasked;
-      is_outcome = outcome c b s i;
-      reply = reply;
-      last = b;
-      replied = replies c b;
-      stands = s;
-      text = refl;
-      status = h.1;
-      asked = h.2;
-    };
+    exchanged = λ _ c b s i.
+        (None, b, (h.2, (refl, record { before = t.written; unasked = unasked; outcome = outcome c b s i; reply = reply; is_reply = is_reply; told = (refl, h.1) })), s);
     truncated = λ e. grind (arith, e);
     silent = tt;
-    asked = λ _. tt;
   }
-  served_unasked unasked reply (Err fault) t only outcome replies (inl (is, keeps)) = subst (λ f. IsConnection clean old old input left held now (Err f)) (sym is) (record {
+  served_unasked unasked reply (Err fault) t only outcome is_reply (inl (is, keeps)) = subst (λ f. IsConnection clean old old input left held now (Err f)) (sym is) (record {
     bytes = t.bytes;
     written = t.written;
     consumed = t.consumed;
     appended = Appends-kept _ _ _ _ t.appended keeps;
-    served = λ _. tt;
+    exchanged = not_asked t.bytes t.written (NoMemory false) refl;
     truncated = λ e. grind (arith, e);
     silent = λ _. only;
-    asked = λ _ e. grind (arith, e);
   })
-  served_unasked unasked reply (Err fault) t only outcome replies (inr (is, (w, appended))) = subst (λ f. IsConnection clean old old input left held now (Err f)) (sym is) (record {
+  served_unasked unasked reply (Err fault) t only outcome is_reply (inr (is, (w, appended))) = subst (λ f. IsConnection clean old old input left held now (Err f)) (sym is) (record {
     bytes = t.bytes;
     written = t.written ++ w;
     consumed = t.consumed;
     appended = Appends-trans _ _ _ _ _ t.appended appended;
-    served = λ _. tt;
+    exchanged = not_asked t.bytes (t.written ++ w) (WriteFailed false) refl;
     truncated = λ e. grind (arith, e);
     silent = λ e. grind (arith, e);
-    asked = λ _ e. grind (arith, e);
   })
 
   other : (fault : LinkFault) (t : HasTaken old input left held mid (Err (Fault fault))) → (asked_before fault ≡ false) × (is_silent fault ≡ true → IsInterim t.bytes t.written)
@@ -366,10 +345,9 @@ module _ (clean : Type 0) (old : Standing) (input left held mid now : Option (Li
     written = t.written;
     consumed = t.consumed;
     appended = t.appended;
-    served = λ _. tt;
+    exchanged = not_asked t.bytes t.written fault takes.0;
     truncated = λ e. absurd (differs (grind (arith, e)));
     silent = takes.1;
-    asked = λ _ e. grind (arith, e, takes.0);
   }
 
   -- a fault came before
@@ -379,10 +357,9 @@ module _ (clean : Type 0) (old : Standing) (input left held mid now : Option (Li
     written = t.written;
     consumed = t.consumed;
     appended = t.appended;
-    served = λ _. tt;
+    exchanged = not_asked t.bytes t.written Truncated refl;
     truncated = λ _. (t.takes.1, t.takes.2);
     silent = λ _. t.takes.0;
-    asked = λ _ e. grind (arith, e);
   }
   served_fault ReadFailed t = other ReadFailed t t.takes (λ e. grind (arith, e))
   served_fault TooManyReads t = other TooManyReads t t.takes (λ e. grind (arith, e))

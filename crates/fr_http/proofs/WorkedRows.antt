@@ -1,7 +1,6 @@
 -- Requests and replies, computed by the definitions.
 use Rattle.std.specs.Fmt.{digits}
-use Rattle.std.specs.Prelude.{⊤, ℕ, ◌≡◌, false, true, List, [], ◌∷◌, ◌++◌, codes, map, if◌then◌else◌, Option, Some, None, Result, Ok, Err, refl}
-use Rattle.matchit.proofs.OnLiterals.{matchit_on_literals}
+use Rattle.std.specs.Prelude.{⊤, ℕ, ◌≡◌, false, true, List, [], ◌∷◌, ◌++◌, codes, map, if◌then◌else◌, Option, Some, None, Ok, Err, refl}
 use Rattle.matchit.specs.Route.{scan}
 use Rattle.matchit.specs.Seek.{seek, param_step}
 use Rattle.fr_base.specs.Names.{same_text}
@@ -20,9 +19,8 @@ use Rattle.fr_http.specs.Head.{HeadData, values}
 use Rattle.fr_http.specs.Routes.{part, request_by, route_of, router, with_route}
 use Rattle.fr_http.specs.Outcome.{due, interim, length_in, outcome_of, plan_of}
 use Rattle.fr_http.specs.Reply.{answer_reply, body_of, engine_reply, print, status_line}
-use Rattle.fr_http.specs.declared.asked.Asked.{Asked}
 use Rattle.fr_http.specs.declared.fault.Rejection.TheVariants.{BadRequest, NotFound, MethodNotAllowed, LengthRequired, PayloadTooLarge, HeadTooLarge, NotImplemented}
-use Rattle.fr_http.specs.declared.fault.Unasked.TheVariants.{Engine, Refused, Fault}
+use Rattle.fr_http.specs.declared.fault.Unasked.TheVariants.{Refused, Fault}
 use Rattle.fr_http.specs.declared.fault.LinkFault.TheVariants.{Truncated}
 use Rattle.fr_http.specs.declared.method.Method.TheVariants.{Get, Post}
 use Rattle.fr_http.specs.declared.routes.Route.TheVariants.{Commands, Import, Grants, Frames, Schedule, Gaps, Layout}

@@ -17,7 +17,7 @@ use Rattle.fr_http.specs.declared.fault.Unasked.{Unasked}
 use Rattle.fr_http.specs.declared.fault.Unasked.TheVariants.{Fault, Refused}
 use Rattle.fr_http.specs.declared.routes.Route.{Route}
 
--- what a register's rows stand for: a cluster file and a book
+-- what a register's rows stand for: a cluster and a book
 abbrev pub Standing : Type 1
 Standing = Cluster → Book → Type 0
 

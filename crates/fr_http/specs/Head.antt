@@ -1,6 +1,5 @@
 -- The head of a request: which bytes are one, and what it says.
 use Rattle.std.specs.Prelude.{ℕ, ◌≤◌, Bool, List, [], ◌∷◌, length, map, filter, codes, Option, Some, None}
-use Rattle.std.specs.List.{list_any}
 use Rattle.std.specs.Str.{str_eq_ignore_ascii_case}
 use Rattle.httparse.specs.Grammar.{ReadsRequest, RequestHead, print_request}
 use Rattle.httparse.specs.Spans.{name_and_value}

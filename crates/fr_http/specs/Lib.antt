@@ -7,4 +7,6 @@ pub mod Reading
 pub mod Asking
 pub mod Reply
 pub mod Replying
+pub mod Exchanges
 pub mod Connection
+pub mod Laws

@@ -3,7 +3,7 @@ use Rattle.std.specs.Prelude.{ℕ, Bool, true, false, ◌==◌, List, [], ◌++�
 use Rattle.http.specs.StatusCode.{reason_phrase}
 use Rattle.fr_base.specs.Refusals.{status_of}
 use Rattle.fr_base.specs.declared.answer.Answer.{Answer}
-use Rattle.fr_base.specs.declared.answer.Answer.TheVariants.{Done, Imported, Grants, Frames, Schedule, Gaps, Layout, Refused, RefusedRow}
+use Rattle.fr_base.specs.declared.answer.Answer.TheVariants.{Refused, RefusedRow}
 use Rattle.fr_text.specs.AnswerText.{report_of, text_of}
 use Rattle.fr_http.specs.Routes.{text_of_method}
 use Rattle.fr_http.specs.declared.fault.Rejection.{Rejection}

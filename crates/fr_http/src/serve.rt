@@ -2,7 +2,8 @@
 ghost use Rattle.std.specs.Prelude.{◌≡◌, ℕ, List, Err, IfOk, IfErr, OnOk, OnErr, false};
 ghost use Rattle.std.specs.List.{list_any};
 ghost use Rattle.std.specs.Io.KnownBytes.{Appends};
-ghost use Rattle.fr_http.specs.Connection.{HasAnswered, HasSent, HasTaken, IsConnection, was_asked};
+ghost use Rattle.fr_http.specs.Connection.{HasAnswered, HasSent, HasTaken, IsConnection};
+ghost use Rattle.fr_http.specs.Exchanges.{was_asked};
 ghost use Rattle.fr_http.specs.Outcome.{continue_if, due, is_continue};
 
 use crate::asked::Asked;

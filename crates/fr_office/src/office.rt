@@ -14,11 +14,20 @@ use fr_answers::{Stopped, Warm, answer, run};
 use fr_base::{Actor, Answer, Ask, Desk};
 use fr_records::Records;
 use std::alloc::Global;
+use std::marker::Model;
 
 /// The office of a register, which answers requests from its records. It keeps pages of them in memory, of
 /// at most twice [`MAX_BYTES`](fr_answers::MAX_BYTES), and none that is stale.
 pub struct Office<R: Records> {
     warm: Warm<R>,
+}
+
+impl<R: Records> Model for Office<R> {
+    ghost use Rattle.fr_answers.specs.KeptPages.{WarmData};
+
+    ghost Value = { WarmData R };
+
+    ghost view = { λ office. office.warm };
 }
 
 // It is written out, so that a caller does not prove again how the records are dropped.
@@ -29,24 +38,24 @@ impl<R: Records + Drop> Drop for Office<R> {
 }
 
 impl<R: Records> Desk for Office<R> {
-    ghost stands = { λ office. StandsWarm R.stands office.warm };
+    ghost stands = { StandsWarm R.stands };
 
-    ghost clean = { λ office. R.clean office.warm.records };
+    ghost clean = { λ office. R.clean office.records };
 
     fn actor_of(&self, key: &str) -> Option<Actor> {
         Office::actor_of(self, key)
     }
 
     fn ask(&mut self, alloc: Global, ask: &Ask) -> Answer {
-        answer(alloc, &mut self.warm, ask)
+        Office::ask(self, alloc, ask)
     }
 }
 
 impl<R: Records> Office<R> {
     /// The office of the register that has these records. No page is kept yet.
     pub fn new(alloc: Global, records: R) -> Office<R>
-        ensures value { result.warm ≡ record { records = records; pages = record { recent = []; earlier = [] }; counts = [] } }
-        ensures stands { (c : Cluster) (b : Book) → R.stands records c b → StandsWarm R.stands result.warm c b }
+        ensures value { result ≡ record { records = records; pages = record { recent = []; earlier = [] }; counts = [] } }
+        ensures stands { (c : Cluster) (b : Book) → R.stands records c b → StandsWarm R.stands result c b }
     {
         Office {
             warm: Warm::new(alloc, records),
@@ -55,15 +64,15 @@ impl<R: Records> Office<R> {
 
     /// The register's records.
     pub fn into_records(self) -> R
-        ensures { result ≡ self.warm.records }
+        ensures { result ≡ self.records }
     {
         let Office { warm } = self;
         warm.into_records()
     }
 
-    /// Who asks with this key in a sound register: the integrator, a supplier, or nobody.
+    /// Who asks with this key in a sound register: the integrator, a supplier that is there, or nobody.
     pub fn actor_of(&self, key: &str) -> Option<Actor>
-        ensures { (c : Cluster) (b : Book) → StandsWarm R.stands self.now.warm c b → IsSound c b → result ≡ actor_of c b key.now }
+        ensures { (c : Cluster) (b : Book) → StandsWarm R.stands self.now c b → IsSound c b → result ≡ actor_of c b key.now }
     {
         self.warm.config().actor_of(key.as_bytes())
     }
@@ -72,8 +81,8 @@ impl<R: Records> Office<R> {
     /// where who asks is known and nothing in the request itself refuses it, and the rows stay. Who is
     /// not there is answered `UnknownKey`.
     pub fn ask(&mut self, alloc: Global, ask: &Ask) -> Answer
-        ensures falls { R.clean self.new.warm.records → R.clean self.old.warm.records }
-        ensures answers { R.clean self.new.warm.records → Answers (StandsWarm R.stands self.old.warm) (StandsWarm R.stands self.new.warm) ask.now result }
+        ensures falls { R.clean self.new.records → R.clean self.old.records }
+        ensures answers { R.clean self.new.records → Answers (StandsWarm R.stands self.old) (StandsWarm R.stands self.new) ask.now result }
     {
         answer(alloc, &mut self.warm, ask)
     }
@@ -85,12 +94,12 @@ impl<R: Records> Office<R> {
     /// that holds it alone, and after each request at most one frame is sent in a cycle, slot and channel
     /// of a variant, by the node that holds the grant.
     pub fn run(&mut self, alloc: Global, asks: &[Ask]) -> Result<Vec<Answer>, Stopped>
-        ensures falls { R.clean self.new.warm.records → R.clean self.old.warm.records }
+        ensures falls { R.clean self.new.records → R.clean self.old.records }
         ensures each { IfOk result (λ answers. length answers.items ≡ length asks.now) }
         ensures front { IfErr result (λ stopped. length stopped.answers.items < length asks.now) }
-        ensures headline { R.clean self.new.warm.records → (c : Cluster) (b : Book) → StandsWarm R.stands self.old.warm c b → IsSound c b → MatchResult result
-            (λ answers. WereAnswered (StandsWarm R.stands self.new.warm c) c b asks.now answers.items)
-            (λ stopped. WereAnswered (StandsWarm R.stands self.new.warm c) c b (take (length stopped.answers.items) asks.now) stopped.answers.items) }
+        ensures headline { R.clean self.new.records → (c : Cluster) (b : Book) → StandsWarm R.stands self.old c b → IsSound c b → MatchResult result
+            (λ answers. WereAnswered (StandsWarm R.stands self.new c) c b asks.now answers.items)
+            (λ stopped. WereAnswered (StandsWarm R.stands self.new c) c b (take (length stopped.answers.items) asks.now) stopped.answers.items) }
     {
         run(alloc, self, asks)
     }

@@ -13,7 +13,7 @@ use Rattle.fr_world.specs.Fits.{AllFit}
 use Rattle.fr_world.specs.Pages.{PageData, page_in}
 use Rattle.fr_world.specs.declared.edit.Edit.{Edit}
 
--- The books for which records stand, under a cluster file.
+-- The books for which records stand, each in a cluster.
 abbrev pub Standing : Type 1
 Standing = Cluster → Book → Type 0
 

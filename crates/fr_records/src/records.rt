@@ -9,7 +9,7 @@ use std::alloc::Global;
 /// clean: once somebody else may have written to them nothing is known, and they are never clean again.
 /// The only refusal is `Unavailable`.
 pub trait Records {
-    ghost use Rattle.fr_base.specs.Book.{Book, own};
+    ghost use Rattle.fr_base.specs.Book.{Book, file_of, own};
     ghost use Rattle.fr_base.specs.Cluster.{Cluster};
     ghost use Rattle.fr_base.specs.Tables.{contains, get, len};
     ghost use Rattle.fr_base.specs.declared.params.Params.{Params};
@@ -18,7 +18,7 @@ pub trait Records {
     ghost use Rattle.fr_world.specs.ImportLabels.{kept_of};
     ghost use Rattle.fr_world.specs.Pages.{nodes_in};
 
-    /// The book for which they stand, under a cluster file.
+    /// The book for which they stand, in a cluster.
     ghost stands: { Self → Cluster → Book → Type 0 };
 
     /// Nobody else has written to them so far.
@@ -27,10 +27,16 @@ pub trait Records {
     /// The cluster's parameters, which stay.
     ghost params: { Self → Params };
 
-    /// The cluster file, which stays.
+    /// What a cluster file says of the cluster now: the suppliers are those of the book.
     fn config(&self) -> &Config
-        ensures params { result.now.params ≡ params self.now }
-        ensures config { (c : Cluster) (b : Book) → stands self.now c b → result.now ≡ c };
+        ensures params { result.now.cluster.params ≡ params self.now }
+        ensures config { (c : Cluster) (b : Book) → stands self.now c b → result.now ≡ file_of c b };
+
+    /// Whether the variant is there.
+    fn has_variant(&mut self, variant: Name) -> Result<bool, Refusal>
+        ensures falls { clean self.new → clean self.old }
+        ensures same { params self.new ≡ params self.old }
+        ensures has { clean self.new → Tells (stands self.old) (stands self.new) result (λ c b has. has ≡ contains b.variants variant) };
 
     /// The supplier's page of the variant, if the variant is there. A page has the cluster's parameters.
     fn page(

@@ -6,8 +6,8 @@ use Rattle.sqlite.specs.Files.{HoldsDatabase}
 use Rattle.sqlite.specs.Tree.{Trees}
 use Rattle.sqlite.specs.State.{State}
 use Rattle.sqlite_wal.specs.Recovery.{Image}
-use Rattle.fr_base.specs.Cluster.{Cluster, IsWellFormed}
-use Rattle.fr_base.specs.Book.{Book}
+use Rattle.fr_base.specs.Cluster.{Cluster, ClusterFile, IsWellFormed}
+use Rattle.fr_base.specs.Book.{Book, file_of}
 use Rattle.fr_tables.specs.Rows.{RegisterRow}
 use Rattle.fr_tables.specs.Tables.{Tables, HasTables, tables_in, AreOrdered}
 use Rattle.fr_store.specs.StandsFor.{StandsFor}
@@ -19,23 +19,23 @@ use Rattle.fr_tables.specs.Asking.{numbered, our_schema_number}
 use Rattle.fr_store.specs.declared.fault.StoreFault.{StoreFault}
 use Rattle.fr_store.specs.declared.fault.StoreFault.TheVariants.{NotEmpty, NotARegister, WrongSchema, Unavailable}
 use Rattle.fr_tables.proofs.TypedLemmas.{in_order}
-use Rattle.fr_store.proofs.SameCluster.{same_cluster}
+use Rattle.fr_store.proofs.SameCluster.{same_file}
 
 -- tables that stand for a book tell of its cluster
-tells_of : (t : Tables) (c : Cluster) (b : Book) → StandsFor t c b → TellsOf c t
+tells_of : (t : Tables) (c : Cluster) (b : Book) → StandsFor t c b → TellsOf (file_of c b) t
 tells_of t c b h = record { register = h.register; cluster = h.cluster; suppliers = h.suppliers }
 
 pub still_stands : (old new : State) (c : Cluster) (b : Book) → new.now ≡ old.now → Stands old c b → Stands new c b
 still_stands old new c b same h =
     record { has = subst HasTables (sym same) h.has; for = subst (λ (d : Database). StandsFor (tables_in d.trees) c b) (sym same) h.for }
 
-pub found_again : (old new : State) (found : Cluster) → new.now ≡ old.now → IsWellFormed found → (AreOrdered old.now.trees → IsRegisterOf found new.now) → FindsAgain old new found
-found_again old new found same good is c b fine stood =
+pub found_again : (old new : State) (found : ClusterFile) → new.now ≡ old.now → IsWellFormed found → (AreOrdered old.now.trees → IsRegisterOf found new.now) → FindsAgain old new found
+found_again old new found same good is c b stood =
     let stands = still_stands old new c b same stood in
-    (same_cluster found c (tables_in new.now.trees) good fine (is (in_order old.now stood.has)).tells (tells_of (tables_in new.now.trees) c b stands.for), stands)
+    (same_file found c b (tables_in new.now.trees) good (is (in_order old.now stood.has)).tells stands.for, stands)
 
 -- a register is refused for no other reason
-pub only_unavailable : (c : Cluster) (db : Database) (e : StoreFault) → IsRegisterOf c db → Explains db e → e ≡ Unavailable
+pub only_unavailable : (c : ClusterFile) (db : Database) (e : StoreFault) → IsRegisterOf c db → Explains db e → e ≡ Unavailable
 only_unavailable c db NotEmpty is h = absurd h
 only_unavailable c db NotARegister is h = absurd (h our_schema_number (record { has = is.has; number = is.tells.register }))
 only_unavailable c db WrongSchema is h =
@@ -45,7 +45,7 @@ only_unavailable c db WrongSchema is h =
 only_unavailable c db Unavailable is h = refl
 
 -- nor are files that hold one
-pub only_unavailable_files : (image : Image) (c : Cluster) (db : Trees) (e : StoreFault) → HoldsRegister c image db
+pub only_unavailable_files : (image : Image) (c : ClusterFile) (db : Trees) (e : StoreFault) → HoldsRegister c image db
     → ((d : Database) → IsDatabase d → HoldsDatabase image d.trees → Explains d e) → e ≡ Unavailable
 only_unavailable_files image c db Unavailable h told = refl
 only_unavailable_files image c db NotEmpty h told = absurd (∥∥₁_elim h.held.holds (hlevel) (λ held. told (database_of db) h.held.sound held))
@@ -60,12 +60,12 @@ held_stands image s c b h is =
     record { has = subst HasTables (sym is) h.register.is.has; for = subst (λ (d : Database). StandsFor (tables_in d.trees) c b) (sym is) h.for }
 
 -- a register whose tables stand for a book, in files
-pub holds_book : (image : Image) (db : Database) (c : Cluster) (b : Book) → IsWellFormed c → IsRegisterFor c b db → IsHeld image db → HoldsBook c b image
-holds_book image db c b fine is held =
+pub holds_book : (image : Image) (db : Database) (c : Cluster) (b : Book) → IsRegisterFor c b db → IsHeld image db → HoldsBook c b image
+holds_book image db c b is held =
     let same : database_of db.trees ≡ db = λ i. record { schema = sym is.has.schema i; trees = db.trees } in
-    let of : IsRegisterOf c db = record { has = is.has; tells = tells_of (tables_in db.trees) c b is.for } in
+    let of : IsRegisterOf (file_of c b) db = record { has = is.has; tells = tells_of (tables_in db.trees) c b is.for } in
     record {
       trees = db.trees;
-      register = record { held = subst (IsHeld image) (sym same) held; formed = fine; is = subst (IsRegisterOf c) (sym same) of };
+      register = record { held = subst (IsHeld image) (sym same) held; is = subst (IsRegisterOf (file_of c b)) (sym same) of };
       for = is.for;
     }

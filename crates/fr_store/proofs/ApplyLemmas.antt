@@ -1,20 +1,23 @@
 -- What the tables stand for after an edit.
 use Rattle.std.proofs.Common.{◌≡◌, None, Some, List, [], ◌∷◌, ◌++◌, map, cond, Ordering, Less, Equal, Greater, Result, Ok, Err, OnOk, MatchResult, sym, subst, IsPermutation}
-use Rattle.std.specs.Ordering.{is_eq}
+use Rattle.std.specs.Ordering.{nat_cmp, is_eq}
+use Rattle.std.specs.Cmp.Lexicographic.{slice_cmp}
 use Rattle.std.specs.FinMap.Entries.{put, find, by_order}
 use Rattle.std.proofs.lemmas.List.Sorted.{IsPermutation-refl, IsPermutation-sym, IsPermutation-trans, IsPermutation-cons, IsPermutation-middle, IsPermutation-map, IsPermutation-to_front}
 use Rattle.sqlite.specs.State.{State}
 use Rattle.fr_base.specs.Tables.{get, insert}
-use Rattle.fr_base.specs.Keys.{owned}
+use Rattle.fr_base.specs.Keys.{names, owned}
 use Rattle.fr_base.specs.Cluster.{Cluster}
-use Rattle.fr_base.specs.Book.{Book}
+use Rattle.fr_base.specs.Book.{Book, listed}
+use Rattle.fr_base.specs.declared.key.Key.{Key}
 use Rattle.fr_base.specs.declared.name.Name.{Name}
 use Rattle.fr_world.specs.BookEdits.{applied}
-use Rattle.fr_world.specs.declared.edit.Edit.TheVariants.{NewNode}
-use Rattle.fr_tables.specs.Rows.{NodeRow}
+use Rattle.fr_world.specs.declared.edit.Edit.TheVariants.{NewSupplier, NewNode}
+use Rattle.fr_tables.specs.Rows.{SupplierRow, NodeRow}
+use Rattle.fr_tables.specs.Filling.{supplier_row}
 use Rattle.fr_tables.specs.Tables.{Tables}
 use Rattle.fr_tables.specs.Changes.{Changes, Stays, tables_of}
-use Rattle.fr_tables.specs.Statements.{with_node}
+use Rattle.fr_tables.specs.Statements.{with_supplier, with_node}
 use Rattle.fr_store.specs.StandsFor.{StandsFor, node_row}
 use Rattle.fr_store.specs.Reading.{Stands}
 
@@ -45,7 +48,6 @@ module _ (s n : Name) where
     register = h.register;
     cluster = h.cluster;
     suppliers = h.suppliers;
-    known = h.known;
     nodes = IsPermutation-trans _ _ _ (IsPermutation-sym _ _ (IsPermutation-map node_row _ _ (put_new owned.compare (s, n) tt b.nodes.rows new))) (one_at_end row (map node_row b.nodes.rows) t.nodes h.nodes);
     imports = h.imports;
     stored = h.stored;
@@ -63,3 +65,32 @@ module _ (s n : Name) where
   node_applied old state (Ok x) h c b stands new =
       record { has = h.has; for = subst (λ t. StandsFor t c (applied b (NewNode s n))) (sym h.now) (new_node (tables_of old) c b stands.for new) }
   node_applied old state (Err e) h c b stands new = tt
+
+module _ (s : Name) (key : Key) where
+  abbrev joining : SupplierRow
+  joining = record { name = s; key = key }
+
+  -- the tables with the supplier stand for the book with it
+  new_supplier : (t : Tables) (c : Cluster) (b : Book) → StandsFor t c b → get b.suppliers s ≡ None → StandsFor (with_supplier joining t) c (applied b (NewSupplier s key))
+  unfolding applied insert get names
+  new_supplier t c b h new = record {
+    register = h.register;
+    cluster = h.cluster;
+    suppliers = IsPermutation-trans _ _ _ (IsPermutation-sym _ _ (IsPermutation-map supplier_row _ _ (IsPermutation-map listed _ _ (put_new (slice_cmp nat_cmp) s key b.suppliers.rows new)))) (one_at_end joining (map supplier_row (map listed b.suppliers.rows)) t.suppliers h.suppliers);
+    nodes = h.nodes;
+    imports = h.imports;
+    stored = h.stored;
+    variants = h.variants;
+    grants = h.grants;
+    frames = h.frames;
+    placements = h.placements;
+    signals = h.signals;
+    dropped = h.dropped;
+    each = h.each;
+  }
+
+  pub supplier_applied : {X E : Type 0} (old state : State) (r : Result X E) → MatchResult r (λ _. Changes (with_supplier joining) old state) (λ _. Stays old state) → (c : Cluster) (b : Book) → Stands old c b → get b.suppliers s ≡ None
+      → OnOk r (Stands state c (applied b (NewSupplier s key)))
+  supplier_applied old state (Ok x) h c b stands new =
+      record { has = h.has; for = subst (λ t. StandsFor t c (applied b (NewSupplier s key))) (sym h.now) (new_supplier (tables_of old) c b stands.for new) }
+  supplier_applied old state (Err e) h c b stands new = tt

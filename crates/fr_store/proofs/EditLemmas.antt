@@ -11,7 +11,7 @@ use Rattle.fr_base.specs.declared.request.Change.TheVariants.{Grant, Revoke, Fra
 use Rattle.fr_base.specs.declared.request.FrameChange.{FrameChange}
 use Rattle.fr_base.specs.declared.request.FrameChange.TheVariants.{Add, Drop, Place, Unplace, AddSignal, DropSignal}
 use Rattle.fr_world.specs.Edits.{FitsFrame}
-use Rattle.fr_world.specs.declared.edit.Edit.TheVariants.{NewVariant, SetReleased, NewNode, KeepImport, Rows}
+use Rattle.fr_world.specs.declared.edit.Edit.TheVariants.{NewVariant, SetReleased, NewSupplier, NewNode, KeepImport, Rows}
 use Rattle.fr_world.specs.declared.edit.Edit.{Edit}
 use Rattle.fr_world.specs.Fits.{Fits}
 use Rattle.fr_store.specs.Applying.{CarriesOut, MakesReady, IsReady, IsStoredIfSome, framed_in}
@@ -61,6 +61,7 @@ module _ (t : Tables) (c : Cluster) (b : Book) (stands : StandsFor t c b) (v s f
 pub ready_alone : (t : Tables) (c : Cluster) (b : Book) → StandsFor t c b → (edit : Edit) → Fits b edit → (over : Bool) → over ≡ false → IsStoredIfSome (framed_in edit) over t → IsReady edit t
 ready_alone t c b stands (NewVariant v parent depth) fits over alone so = tt
 ready_alone t c b stands (SetReleased v) fits over alone so = tt
+ready_alone t c b stands (NewSupplier s key) fits over alone so = tt
 ready_alone t c b stands (NewNode s n) fits over alone so = tt
 ready_alone t c b stands (KeepImport s label v body rows) fits over alone so = tt
 ready_alone t c b stands (Rows s v (Grant slot channel node)) fits over alone so = tt

@@ -215,7 +215,6 @@ module _ (t : Tables) (c : Cluster) (b : Book) (h : StandsFor t c b) (v s f : Na
       register = h.register;
       cluster = h.cluster;
       suppliers = h.suppliers;
-      known = h.known;
       nodes = h.nodes;
       imports = h.imports;
       stored = stored_next;

@@ -33,7 +33,6 @@ module _ (s label v : Name) (body : List ℕ) (rows : ℕ) where
     register = h.register;
     cluster = h.cluster;
     suppliers = h.suppliers;
-    known = h.known;
     nodes = h.nodes;
     imports = added_row owned b.imports (s, label) kept new import_row t.imports h.imports;
     stored = h.stored;

@@ -43,3 +43,4 @@ pub mod ChainLemmas
 pub mod ReadyLemmas
 pub mod StandsForWorked
 pub mod StoredLaws
+pub mod JoinedLemmas

@@ -5,7 +5,7 @@ use Rattle.std.proofs.lemmas.List.Sorted.{IsPermutation-sym}
 use Rattle.sqlite.specs.Order.{Row}
 use Rattle.sqlite.specs.Effect.{Database}
 use Rattle.sqlite.proofs.Callers.{one_permutation}
-use Rattle.fr_base.specs.Cluster.{Cluster}
+use Rattle.fr_base.specs.Cluster.{ClusterFile}
 use Rattle.fr_base.specs.declared.config.Supplier.{Supplier}
 use Rattle.fr_tables.specs.Rows.{ClusterRow, SupplierRow}
 use Rattle.fr_tables.specs.Tables.{HasTables, tables_in}
@@ -38,12 +38,12 @@ only_one (x ∷ []) r is =
 only_one (x ∷ y ∷ found) r is = absurd cc
 
 -- the row that is read is the one row of the cluster
-pub one_cluster : (xs : List ClusterRow) (rows : List Row) (found : Option Cluster) → AreListed shows_cluster every any_order xs rows → IfSome found (λ c. rows ≡ shows_cluster (cluster_row c.params c.integrator) ∷ [])
-    → IfSome found (λ c. xs ≡ cluster_row c.params c.integrator ∷ [])
+pub one_cluster : (xs : List ClusterRow) (rows : List Row) (found : Option ClusterFile) → AreListed shows_cluster every any_order xs rows → IfSome found (λ c. rows ≡ shows_cluster (cluster_row c.cluster.params c.cluster.integrator) ∷ [])
+    → IfSome found (λ c. xs ≡ cluster_row c.cluster.params c.cluster.integrator ∷ [])
 one_cluster xs rows None listed is = tt
 one_cluster xs rows (Some c) listed is =
-    let one = only_one listed.found (cluster_row c.params c.integrator) (sym is ∙ listed.shown) in
-    one_permutation (cluster_row c.params c.integrator) xs (IsPermutation-sym _ _ (rw (all_pass xs, one) at listed.same))
+    let one = only_one listed.found (cluster_row c.cluster.params c.cluster.integrator) (sym is ∙ listed.shown) in
+    one_permutation (cluster_row c.cluster.params c.cluster.integrator) xs (IsPermutation-sym _ _ (rw (all_pass xs, one) at listed.same))
 
 same_suppliers : (found : List SupplierRow) (list : List Supplier) → map shown_supplier list ≡ map shows_supplier found → found ≡ map supplier_row list
 same_suppliers [] [] is = refl
@@ -58,7 +58,7 @@ same_suppliers (x ∷ found) (s ∷ list) is =
     λ i. both i ∷ same_suppliers found list rest i
 
 -- the suppliers that are read are those of the rows
-pub all_suppliers : (xs : List SupplierRow) (rows : List Row) (found : Option Cluster) → AreListed shows_supplier every suppliers_cmp xs rows → IfSome found (λ c. rows ≡ map shown_supplier c.suppliers)
+pub all_suppliers : (xs : List SupplierRow) (rows : List Row) (found : Option ClusterFile) → AreListed shows_supplier every suppliers_cmp xs rows → IfSome found (λ c. rows ≡ map shown_supplier c.suppliers)
     → IfSome found (λ c. IsPermutation (map supplier_row c.suppliers) xs)
 all_suppliers xs rows None listed is = tt
 all_suppliers xs rows (Some c) listed is =
@@ -74,8 +74,8 @@ variants_found old new rows items (Some f) same has listed shown opened is =
     (rows, subst (λ (d : Database). AreListed shows_variant every variants_cmp (tables_in d.trees).variants rows) (sym same) (listed (subst HasTables same has)), subst AreOpened shown opened)
 
 -- what was read in turn of tables that stayed
-pub register_found : (c : Cluster) (old mid new : Database) (n : ℤ) → mid ≡ old → new ≡ mid → n ≡ our_schema_number → HasTables new → (HasTables old → HasNumber old n)
-    → (HasTables mid → (tables_in mid.trees).cluster ≡ cluster_row c.params c.integrator ∷ []) → (HasTables mid → IsPermutation (map supplier_row c.suppliers) (tables_in mid.trees).suppliers) → IsRegisterOf c new
+pub register_found : (c : ClusterFile) (old mid new : Database) (n : ℤ) → mid ≡ old → new ≡ mid → n ≡ our_schema_number → HasTables new → (HasTables old → HasNumber old n)
+    → (HasTables mid → (tables_in mid.trees).cluster ≡ cluster_row c.cluster.params c.cluster.integrator ∷ []) → (HasTables mid → IsPermutation (map supplier_row c.suppliers) (tables_in mid.trees).suppliers) → IsRegisterOf c new
 register_found c old mid new n first second ours has number cluster suppliers =
     subst (IsRegisterOf c) (sym second) (record {
       has = has_mid;

@@ -1,5 +1,5 @@
 -- What the queries show of the book for which the tables stand.
-use Rattle.std.proofs.Common.{◌≡◌, ℕ, pos, Bool, true, false, None, Some, Option, List, map, filter, Less, refl, sym, ap, ◌∙◌, subst, IfSome, IfOk, ok_or, Result, MatchResult, inl}
+use Rattle.std.proofs.Common.{◌≡◌, ℕ, pos, Bool, true, false, None, Some, Option, List, map, filter, Less, refl, sym, ap, ◌∙◌, subst, IfSome, IfOk, ok_or, Result, Ok, Err, MatchResult, inl}
 use Rattle.std.specs.Ordering.{int_eq, ordering_then}
 use Rattle.std.specs.Cmp.{tied_itself, on_total}
 use Rattle.std.specs.Prelude.{⊤}
@@ -36,6 +36,11 @@ pub told_if : {X E : Type 0} (P Q : X → Type 0) → ((x : X) → P x → Q x) 
 told_if P Q so None e o is h = subst (λ o. IfOk o Q) (sym is) tt
 told_if P Q so (Some x) e o is h = subst (λ o. IfOk o Q) (sym is) (so x h)
 
+-- what is said of what was found is said of the answer
+pub told_ok : {X E : Type 0} (P Q : X → Type 0) → ((x : X) → P x → Q x) → (r : Result X E) → IfOk r P → IfOk r Q
+told_ok P Q so (Ok x) h = so x h
+told_ok P Q so (Err e) h = tt
+
 -- the tables stay; what is said of the value, if there is one, is said of the answer
 pub reads_if : {X E : Type 0} (P Q : X → Type 0) (old new : State) → IsUnchanged old new → ((x : X) → P x → Q x) → (r : Option X) (e : E) (o : Result X E) → o ≡ ok_or r e → IfSome r P
     → MatchResult o (λ x. Q x × IsUnchanged old new) (λ _. Stays old new)
@@ -50,6 +55,11 @@ maybe_back (Some w) = refl
 pub flag_back : (is : Bool) → int_eq (flag is) (pos 1) ≡ is
 flag_back true = refl
 flag_back false = refl
+
+-- the same of what was found
+pub reads_ok : {X E : Type 0} (P Q : X → Type 0) (old new : State) → IsUnchanged old new → ((x : X) → P x → Q x) → (r : Result X E) → IfOk r P → MatchResult r (λ x. Q x × IsUnchanged old new) (λ _. Stays old new)
+reads_ok P Q old new same so (Ok x) h = (so x h, same)
+reads_ok P Q old new same so (Err e) h = inl same
 
 pub both_if : {X : Type 0} (P Q : X → Type 0) (r : Option X) → IfSome r P → IfSome r Q → IfSome r (λ x. P x × Q x)
 both_if P Q None p q = tt

@@ -8,21 +8,22 @@ use Rattle.sqlite_keyed.proofs.SortLemmas.{sorted_unique}
 use Rattle.fr_base.specs.Tables.{Order, Table}
 use Rattle.fr_base.specs.Keys.{names}
 use Rattle.fr_base.specs.Channels.{text_of_channels, channels_of_text}
-use Rattle.fr_base.specs.Cluster.{Cluster, IsWellFormed}
-use Rattle.fr_base.specs.Book.{suppliers_of}
+use Rattle.fr_base.specs.Cluster.{Cluster, ClusterFile, IsWellFormed}
+use Rattle.fr_base.specs.Book.{Book, suppliers_of, listed, file_of}
 use Rattle.fr_base.specs.declared.channel.Channels.{Channels}
 use Rattle.fr_base.specs.declared.channel.Channels.TheVariants as channels
 use Rattle.fr_base.specs.declared.config.Supplier.{Supplier}
 use Rattle.fr_base.specs.declared.name.Name.{Name}
 use Rattle.fr_base.specs.declared.key.Key.{Key}
 use Rattle.fr_base.specs.declared.params.RawParams.{RawParams}
-use Rattle.fr_base.proofs.ActorsLemmas.{row, supplier_rows}
+use Rattle.fr_base.proofs.SuppliersLaws.{row, supplier_rows}
 use Rattle.fr_base.proofs.SoundTables.{same_some}
 use Rattle.fr_tables.specs.Rows.{SupplierRow}
 use Rattle.fr_tables.specs.Tables.{Tables}
 use Rattle.fr_tables.specs.Filling.{supplier_row}
 use Rattle.fr_tables.specs.Statements.{cluster_row}
 use Rattle.fr_store.specs.Store.{TellsOf}
+use Rattle.fr_store.specs.StandsFor.{StandsFor}
 use Rattle.fr_store.proofs.OrderLemmas.{rises}
 
 -- what rises is in order
@@ -45,24 +46,20 @@ entries : (ss : List Supplier) → map entry (map supplier_row ss) ≡ map row s
 entries [] = refl
 entries (s ∷ ss) = ap (λ es. row s ∷ es) (entries ss)
 
-same_list : (ss ts : List Supplier) → map row ss ≡ map row ts → ss ≡ ts
-same_list [] [] is = refl
-same_list [] (t ∷ ts) is = absurd cc
-same_list (s ∷ ss) [] is = absurd cc
-same_list (s ∷ ss) (t ∷ ts) is =
-    let first : row s ≡ row t = cc in
-    let name : s.name ≡ t.name = ap (λ (e : Name × Key). e.0) first in
-    let key : s.key ≡ t.key = ap (λ (e : Name × Key). e.1) first in
-    let rest : map row ss ≡ map row ts = cc in
-    λ i. record { name = name i; key = key i } ∷ same_list ss ts rest i
+entries_of : (es : List (Name × Key)) → map entry (map supplier_row (map listed es)) ≡ es
+entries_of [] = refl
+entries_of (e ∷ es) = ap (λ rest. e ∷ rest) (entries_of es)
 
-module _ (c k : Cluster) (fine : IsWellFormed c) (good : IsWellFormed k) where
-  same_suppliers : (rows : List SupplierRow) → IsPermutation (map supplier_row c.suppliers) rows → IsPermutation (map supplier_row k.suppliers) rows → c.suppliers ≡ k.suppliers
-  same_suppliers rows of_c of_k =
-      let same = IsPermutation-map entry _ _ (IsPermutation-trans _ _ _ of_c (IsPermutation-sym _ _ of_k)) in
-      let listed : IsPermutation (suppliers_of c).rows (suppliers_of k).rows =
-      rw (supplier_rows c fine.cluster, supplier_rows k good.cluster) (rw (entries c.suppliers, entries k.suppliers) at same) in
-      same_list c.suppliers k.suppliers (sym (supplier_rows c fine.cluster) ∙ one_order names (suppliers_of c) (suppliers_of k) listed ∙ supplier_rows k good.cluster)
+relisted : (ss : List Supplier) → map listed (map row ss) ≡ ss
+relisted [] = refl
+relisted (s ∷ ss) = ap (λ rest. s ∷ rest) (relisted ss)
+
+-- the suppliers of a cluster file are the book's, where the rows are those of both
+same_suppliers : (f : ClusterFile) → IsWellFormed f → (b : Book) (rows : List SupplierRow) → IsPermutation (map supplier_row f.suppliers) rows → IsPermutation (map supplier_row (map listed b.suppliers.rows)) rows → f.suppliers ≡ map listed b.suppliers.rows
+same_suppliers f good b rows of_f of_b =
+    let same = IsPermutation-map entry _ _ (IsPermutation-trans _ _ _ of_f (IsPermutation-sym _ _ of_b)) in
+    let in_rows : IsPermutation (suppliers_of f).rows b.suppliers.rows = rw (supplier_rows f good.cluster) (rw (entries f.suppliers, entries_of b.suppliers.rows) at same) in
+    sym (relisted f.suppliers) ∙ ap (map listed) (sym (supplier_rows f good.cluster) ∙ one_order names (suppliers_of f) b.suppliers in_rows)
 
 read_back : (a : Channels) → channels_of_text (text_of_channels a) ≡ Some a
 read_back channels.A = refl
@@ -93,10 +90,11 @@ same_params p q m n is =
       payload_words = e7 i;
     }
 
-pub same_cluster : (c k : Cluster) (t : Tables) → IsWellFormed c → IsWellFormed k → TellsOf c t → TellsOf k t → c ≡ k
-same_cluster c k t fine good of_c of_k =
-    let one : cluster_row c.params c.integrator ≡ cluster_row k.params k.integrator = cc (sym of_c.cluster ∙ of_k.cluster) in
-    let params = same_params c.params k.params c.integrator k.integrator one in
-    let integrator : c.integrator ≡ k.integrator = ap (λ r. r.integrator) one in
-    let suppliers = same_suppliers c k fine good t.suppliers of_c.suppliers of_k.suppliers in
-    λ i. record { params = params i; integrator = integrator i; suppliers = suppliers i }
+-- a cluster file of which the tables tell is that of the cluster and the book for which they stand
+pub same_file : (f : ClusterFile) (c : Cluster) (b : Book) (t : Tables) → IsWellFormed f → TellsOf f t → StandsFor t c b → f ≡ file_of c b
+same_file f c b t good tells stands =
+    let one : cluster_row f.cluster.params f.cluster.integrator ≡ cluster_row c.params c.integrator = cc (sym tells.cluster ∙ stands.cluster) in
+    let params = same_params f.cluster.params c.params f.cluster.integrator c.integrator one in
+    let integrator : f.cluster.integrator ≡ c.integrator = ap (λ r. r.integrator) one in
+    let suppliers = same_suppliers f good b t.suppliers tells.suppliers stands.suppliers in
+    λ i. record { cluster = record { params = params i; integrator = integrator i }; suppliers = suppliers i }

@@ -13,7 +13,7 @@ use Rattle.fr_base.specs.declared.channel.Channels.TheVariants as chs
 use Rattle.fr_base.specs.declared.request.Change.TheVariants.{Grant, Frame as OfFrame}
 use Rattle.fr_base.specs.declared.request.FrameChange.TheVariants.{Add, Place, AddSignal}
 use Rattle.fr_base.specs.declared.signal.Order.TheVariants.{Little}
-use Rattle.fr_base.proofs.WorkedRows.{cluster}
+use Rattle.fr_base.proofs.WorkedRows.{file}
 use Rattle.fr_world.specs.BookEdits.{applied, all_applied, or_empty}
 use Rattle.fr_world.specs.declared.edit.Edit.TheVariants.{NewVariant, SetReleased, NewNode, Rows}
 use Rattle.fr_tables.specs.Rows.{DroppedRow}
@@ -21,12 +21,12 @@ use Rattle.fr_store.specs.StandsFor.{Stored, node_row, variant_row, grant_rows, 
 
 -- what the rows below unfold
 unfoldable pub rows_of_a_small_register : ⊤
-unfolding cluster opening suppliers_of applied empty get insert remove only from_rows settle numbers names channel_order channels_order owned channel_slots placement_order cycle_count empty_variant changed grants_after frames_after frame_after of_frames of_parent seen
+unfolding file opening suppliers_of applied empty get insert remove only from_rows settle numbers names channel_order channels_order owned channel_slots placement_order cycle_count empty_variant changed grants_after frames_after frame_after of_frames of_parent seen
 rows_of_a_small_register = tt
 
 -- the register of the first script: a variant, a node, a grant to it, and a frame with a placement and a signal
 unfoldable pub register : Book
-register = all_applied (opening cluster) (
+register = all_applied (opening file) (
     NewVariant (codes "v1") None 1
     ∷ NewNode (codes "s1") (codes "n1")
     ∷ Rows (codes "s1") (codes "v1") (Grant 1 ch.A (codes "n1"))
@@ -76,7 +76,7 @@ bare node = record { node = node; placements = empty; signals = [] }
 
 -- released, with the frames f1, f2 and f3 of s1
 unfoldable pub parents : Book
-parents = all_applied (opening cluster) (
+parents = all_applied (opening file) (
     NewVariant (codes "v1") None 1
     ∷ Rows (codes "s1") (codes "v1") (OfFrame (codes "f1") (Add (codes "n1")))
     ∷ Rows (codes "s1") (codes "v1") (OfFrame (codes "f2") (Add (codes "n1")))

@@ -1,22 +1,28 @@
 -- What the records of a store are known to hold after a call.
-use Rattle.std.proofs.Common.{◌≡◌, ℕ, Option, Some, None, is_some, option_map, IsTrue, inl, inr, refl, sym, ap, subst, ◌∙◌, Ok, Err, Result, MatchResult, IfOk}
+use Rattle.std.proofs.Common.{◌≡◌, ℕ, Option, Some, None, is_some, option_map, List, IsTrue, inl, inr, refl, sym, ap, subst, ◌∙◌, Ok, Err, Result, MatchResult, IfOk, OnOk, OnErr}
 use Rattle.sqlite.specs.State.{State, HasCleanDisk}
 use Rattle.sqlite_wal.specs.Recovery.{Image}
 use Rattle.fr_base.specs.Book.{Book, Variant}
-use Rattle.fr_base.specs.Cluster.{Cluster}
+use Rattle.fr_base.specs.Cluster.{Cluster, ClusterFile}
 use Rattle.fr_base.specs.Tables.{get}
 use Rattle.fr_base.specs.declared.channel.Channel.{Channel}
 use Rattle.fr_base.specs.declared.name.Name.{Name}
 use Rattle.fr_base.specs.declared.refusal.Refusal.{Refusal}
 use Rattle.fr_base.specs.declared.refusal.Refusal.TheVariants.{Unavailable}
-use Rattle.fr_tables.specs.Changes.{Stays, tables_of}
-use Rattle.fr_store.specs.Reading.{Leaves, as_holder, holder_in}
-use Rattle.fr_store.specs.StandsFor.{StandsFor}
+use Rattle.fr_world.specs.BookEdits.{all_applied}
+use Rattle.fr_world.specs.Fits.{AllFit}
+use Rattle.fr_world.specs.declared.edit.Edit.{Edit}
+use Rattle.fr_tables.specs.Asking.{AreAsBefore}
+use Rattle.fr_tables.specs.Changes.{Stays}
+use Rattle.fr_store.specs.Joined.{after_edits}
+use Rattle.fr_store.specs.Reading.{Leaves, Stands, as_holder, holder_in}
 use Rattle.fr_store.specs.Store.{IsRegisterFor}
 use Rattle.fr_store.specs.StoreFiles.{HoldsBook, KeepsBook}
 use Rattle.fr_store.specs.declared.fault.StoreFault.{StoreFault}
 use Rattle.fr_store.specs.declared.slot_holder.Holder as store
+use Rattle.fr_store.proofs.AgainLemmas as again
 use Rattle.fr_store.proofs.ChainLemmas.{still_stands}
+use Rattle.fr_store.proofs.JoinedLemmas.{follows, cluster_after}
 use Rattle.fr_records.specs.Held.{held_in}
 use Rattle.fr_store.specs.Stored.{StandsStored}
 
@@ -33,7 +39,7 @@ was_open : (old new : State) → Stays old new → IsTrue new.is_open → IsTrue
 was_open old new (inl same) up = same.0.was_open
 was_open old new (inr back) up = back.was_open up
 
-module _ (old new : State) (kept found : Cluster) (same : found ≡ kept) (clean : HasCleanDisk new) (c : Cluster) (b : Book) (stored : StandsStored kept old c b) where
+module _ (old new : State) (kept found : ClusterFile) (same : found ≡ kept) (clean : HasCleanDisk new) (c : Cluster) (b : Book) (stored : StandsStored kept old c b) where
   -- nothing is changed, or a transaction of which nothing was committed is undone
   pub stays_stored : Stays old new → StandsStored found new c b
   stays_stored stays = record {
@@ -50,6 +56,39 @@ module _ (old new : State) (kept found : Cluster) (same : found ≡ kept) (clean
   told says (Ok x) o is ready leaves h = (leaves_stored ready leaves, subst (λ o. MatchResult o says (λ e. e ≡ Unavailable)) (sym is) h)
   told says (Err e) o is ready leaves h = (leaves_stored ready leaves, subst (λ o. MatchResult o says (λ e. e ≡ Unavailable)) (sym is) refl)
 
+-- ---- edits
+
+-- where the tables are as they were, they stand for the same book
+stored_as_before : (old new : State) (kept found : ClusterFile) (c : Cluster) (b : Book) → StandsStored kept old c b → found ≡ kept → AreAsBefore old new → StandsStored found new c b
+stored_as_before old new kept found c b stored same before = record {
+  config = same ∙ stored.config;
+  rows = λ up.
+      let back = before up in
+      let rows = stored.rows back.0 in
+      (again.still_stands old new c b back.1 rows.0, back.2 ∙ rows.1 ∙ sym back.1);
+}
+
+module _ (old new : State) (kept found : ClusterFile) (edits : List Edit) (c : Cluster) (b : Book) (stored : StandsStored kept old c b) (fit : AllFit b edits) where
+  -- all edits were carried out, and the suppliers are those of the book after them; or none was
+  pub edits_stored : {X : Type 0} (r : Result X StoreFault) (o : Result X Refusal) → Answers r o
+      → OnOk r (Stands new c (all_applied b edits)) → OnOk r (new.committed ≡ new.now) → OnOk r (found ≡ after_edits kept edits)
+      → OnErr r (found ≡ kept) → OnErr r (AreAsBefore old new)
+      → MatchResult o (λ _. StandsStored found new c (all_applied b edits)) (λ e. (e ≡ Unavailable) × StandsStored found new c b)
+  edits_stored (Ok x) o is stands settled listed same before =
+      let config = listed ∙ ap (λ f. after_edits f edits) stored.config ∙ sym (follows c b edits fit) in
+      subst (λ o. MatchResult o (λ _. StandsStored found new c (all_applied b edits)) (λ e. (e ≡ Unavailable) × StandsStored found new c b)) (sym is)
+      (record { config = config; rows = λ up. (stands, settled) })
+  edits_stored (Err e) o is stands settled listed same before =
+      subst (λ o. MatchResult o (λ _. StandsStored found new c (all_applied b edits)) (λ e. (e ≡ Unavailable) × StandsStored found new c b)) (sym is)
+      (refl, stored_as_before old new kept found c b stored same before)
+
+-- the cluster stays in either case
+pub cluster_stays : {X : Type 0} (r : Result X StoreFault) (kept found : ClusterFile) (edits : List Edit) → OnOk r (found ≡ after_edits kept edits) → OnErr r (found ≡ kept) → found.cluster ≡ kept.cluster
+cluster_stays (Ok x) kept found edits listed same = ap (λ f. f.cluster) listed ∙ cluster_after kept edits
+cluster_stays (Err e) kept found edits listed same = ap (λ f. f.cluster) same
+
+-- ---- who holds a slot
+
 some_same : (o : Option store.Holder) → is_some o ≡ is_some (option_map as_holder o)
 some_same None = refl
 some_same (Some x) = refl
@@ -64,17 +103,14 @@ held_as b v at o h = some_same o ∙ ap is_some h ∙ known (get b.variants v) r
 
 -- ---- files
 
-module _ (found : Cluster) (s : State) (c : Cluster) (b : Book) (up : IsTrue s.is_open) (stood : StandsStored found s c b) where
+module _ (found : ClusterFile) (s : State) (c : Cluster) (b : Book) (up : IsTrue s.is_open) (stood : StandsStored found s c b) where
   -- what was committed is a register for the book
-  committed_for : IsRegisterFor found b s.committed
-  committed_for =
-      let rows = stood.rows up in
-      let for = subst (λ k. StandsFor (tables_of s) k b) (sym stood.config) rows.0.for in
-      subst (IsRegisterFor found b) (sym rows.1) (record { has = rows.0.has; for = for })
+  committed_for : IsRegisterFor c b s.committed
+  committed_for = let rows = stood.rows up in subst (IsRegisterFor c b) (sym rows.1) (record { has = rows.0.has; for = rows.0.for })
 
   -- files that keep it hold the book
-  pub holds_book : (image : Image) → KeepsBook found s.committed image → HoldsBook c b image
-  holds_book image keeps = subst (λ k. HoldsBook k b image) stood.config (keeps b committed_for)
+  pub holds_book : (image : Image) → KeepsBook s.committed image → HoldsBook c b image
+  holds_book image keeps = keeps c b committed_for
 
 -- what follows from two facts of what was given
 pub if_both : {X E : Type 0} (P Q T : X → Type 0) (r : Result X E) → ((x : X) → P x → Q x → T x) → IfOk r P → IfOk r Q → IfOk r T

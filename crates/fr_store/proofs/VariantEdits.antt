@@ -43,7 +43,6 @@ module _ (t : Tables) (c : Cluster) (b : Book) (stands : StandsFor t c b) (v : N
     register = stands.register;
     cluster = stands.cluster;
     suppliers = stands.suppliers;
-    known = stands.known;
     nodes = stands.nodes;
     imports = stands.imports;
     stored = stands.stored;

@@ -1,5 +1,5 @@
 -- The frames that a variant shows: its own, and where it is laid over its parent also those of the parent.
-use Rattle.std.proofs.Common.{◌≡◌, ℕ, suc, ◌+◌, ◌<◌, pos, Bool, true, false, not, ◌||◌, ◌&&◌, cond, None, Some, Option, List, [], ◌∷◌, ◌++◌, map, filter, take, length, get_or, option_map, bytes_eq, if◌then◌else◌, refl, sym, ap, ap₂, ◌∙◌, subst, arith, Less, slice_get, MatchOption, inl, inr, true≢false}
+use Rattle.std.proofs.Common.{◌≡◌, ◌==◌, ℕ, suc, ◌+◌, ◌<◌, pos, Bool, true, false, not, ◌||◌, ◌&&◌, cond, None, Some, Option, is_some, List, [], ◌∷◌, ◌++◌, map, filter, take, length, get_or, option_map, bytes_eq, if◌then◌else◌, refl, sym, ap, ap₂, ◌∙◌, subst, arith, Less, slice_get, MatchOption, inl, inr, true≢false}
 use Rattle.std.specs.Ordering.{int_eq, is_eq}
 use Rattle.std.specs.List.{list_any}
 use Rattle.std.specs.Option.{option_or}
@@ -15,7 +15,7 @@ use Rattle.std.proofs.Math.Seq.{take-suc}
 use Rattle.sqlite.specs.Order.{Row}
 use Rattle.sqlite_trees.specs.Tree.{IsAscending}
 use Rattle.sqlite_keyed.proofs.ListLemmas.{filter-map}
-use Rattle.fr_base.specs.Tables.{Table, get}
+use Rattle.fr_base.specs.Tables.{Table, get, contains}
 use Rattle.fr_base.specs.Keys.{names, owned}
 use Rattle.fr_base.specs.Cluster.{Cluster}
 use Rattle.fr_base.specs.Book.{Book, Variant, Frame, is_of, own}
@@ -69,11 +69,27 @@ module _ (t : Tables) (c : Cluster) (b : Book) (stands : StandsFor t c b) (v : N
   by_variant None = refl
   by_variant (Some x) = (x, refl, flag_back x.released, parent_back x)
 
-  pub level_told : (rows : List Row) (found : Option Level) → AreListed shows_variant (is_variant v) any_order t.variants rows → found ≡ option_map level_shown (slice_get rows 0) → Tells (get b.variants v) found
+  abbrev IsListed : List Row → Type 0
+  IsListed = AreListed shows_variant (is_variant v) any_order t.variants
+
+  -- the rows that are listed are the one of the variant, if it is there
+  one_listed : (rows : List Row) → IsListed rows → rows ≡ map shows_variant (map row_of (row_at v (get b.variants v)))
+  one_listed rows listed =
+      are_listed shows_variant (is_variant v) any_order any_order_total (map row_of b.variants.rows) t.variants rows stands.variants
+      (subst (IsAscending (λ x y. any_order x y ≡ Less)) (sym one_row) (one_rises (get b.variants v))) listed
+      ∙ ap (map shows_variant) one_row
+
+  pub level_told : (rows : List Row) (found : Option Level) → IsListed rows → found ≡ option_map level_shown (slice_get rows 0) → Tells (get b.variants v) found
   level_told rows found listed read =
-      let is = are_listed shows_variant (is_variant v) any_order any_order_total (map row_of b.variants.rows) t.variants rows stands.variants
-      (subst (IsAscending (λ x y. any_order x y ≡ Less)) (sym one_row) (one_rises (get b.variants v))) listed ∙ ap (map shows_variant) one_row in
-      subst (Tells (get b.variants v)) (sym (read ∙ ap (λ rs. option_map level_shown (slice_get rs 0)) is)) (by_variant (get b.variants v))
+      subst (Tells (get b.variants v)) (sym (read ∙ ap (λ rs. option_map level_shown (slice_get rs 0)) (one_listed rows listed))) (by_variant (get b.variants v))
+
+  a_row : (o : Option Variant) → not (length (map shows_variant (map row_of (row_at v o))) == 0) ≡ is_some o
+  a_row None = refl
+  a_row (Some x) = refl
+
+  -- there is a row where the variant is there
+  pub has_told : (rows : List Row) → IsListed rows → not (length rows == 0) ≡ contains b.variants v
+  has_told rows listed = ap (λ rs. not (length rs == 0)) (one_listed rows listed) ∙ a_row (get b.variants v)
 
 -- ---- names of rows
 

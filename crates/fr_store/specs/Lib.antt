@@ -8,3 +8,4 @@ pub mod Reading
 pub mod FrameEdits
 pub mod Paging
 pub mod Stored
+pub mod Joined

@@ -19,7 +19,7 @@ use Rattle.fr_tables.specs.Statements.{shows_variant, every, variants_cmp}
 use Rattle.fr_store.specs.StandsFor.{StandsFor}
 use Rattle.fr_store.specs.declared.slot_holder.Holder.{Holder}
 
--- the tables that the connection sees stand for a cluster file and a book
+-- the tables that the connection sees stand for a cluster and a book
 pub record Stands (s : State) (c : Cluster) (b : Book) : Type 0 where
   pub has : HasTables s.now
   pub for : StandsFor (tables_of s) c b

@@ -1,4 +1,4 @@
--- When the tables stand for a cluster file and a book.
+-- When the tables stand for a cluster and a book.
 use Rattle.std.specs.Prelude.{◌≡◌, ℕ, suc, pos, Bool, not, ◌||◌, List, [], ◌∷◌, map, Option, Some, None, IsTrue, IsPermutation, IsSorted, All, ⊤, if◌then◌else◌}
 use Rattle.std.specs.List.{flat_map, list_any}
 use Rattle.std.specs.Ordering.{on, nat_cmp}
@@ -6,7 +6,7 @@ use Rattle.fr_base.specs.Tables.{Table, get, contains}
 use Rattle.fr_base.specs.Keys.{names, owned}
 use Rattle.fr_base.specs.Channels.{text_of_channel}
 use Rattle.fr_base.specs.Cluster.{Cluster}
-use Rattle.fr_base.specs.Book.{Frame, Variant, Kept, Book, suppliers_of}
+use Rattle.fr_base.specs.Book.{Frame, Variant, Kept, Book, file_of}
 use Rattle.fr_base.specs.Queries.{placements_in}
 use Rattle.fr_base.specs.declared.name.Name.{Name}
 use Rattle.fr_tables.specs.Rows.{flag, NodeRow, VariantRow, GrantRow, FrameRow, PlacementRow, SignalRow, ImportRow, DroppedRow}
@@ -97,8 +97,7 @@ pub record IsAsStored (dropped : List DroppedRow) (variants : Table names Varian
 pub record StandsFor (t : Tables) (c : Cluster) (b : Book) : Type 0 where
   pub register : t.register ≡ numbered our_schema_number ∷ []
   pub cluster : t.cluster ≡ cluster_row c.params c.integrator ∷ []
-  pub suppliers : IsPermutation (map supplier_row c.suppliers) t.suppliers
-  pub known : b.suppliers ≡ suppliers_of c
+  pub suppliers : IsPermutation (map supplier_row (file_of c b).suppliers) t.suppliers
   pub nodes : IsPermutation (map node_row b.nodes.rows) t.nodes
   pub imports : IsPermutation (map import_row b.imports.rows) t.imports
   pub stored : Name → Stored

@@ -6,8 +6,8 @@ use Rattle.sqlite.specs.Schema.{Schema}
 use Rattle.sqlite.specs.Effect.{Database}
 use Rattle.sqlite.specs.State.{State, Shows, HasCleanDisk, KeepsCommit}
 use Rattle.sqlite_schema.specs.Names.{same_name}
-use Rattle.fr_base.specs.Cluster.{Cluster, IsWellFormed}
-use Rattle.fr_base.specs.Book.{Book}
+use Rattle.fr_base.specs.Cluster.{Cluster, ClusterFile}
+use Rattle.fr_base.specs.Book.{Book, file_of}
 use Rattle.fr_tables.specs.Schema.{all_tables}
 use Rattle.fr_tables.specs.Tables.{Tables, HasTables, tables_in}
 use Rattle.fr_tables.specs.Statements.{cluster_row}
@@ -22,36 +22,36 @@ use Rattle.fr_store.specs.declared.fault.StoreFault.TheVariants.{NotEmpty, NotAR
 -- ---- of which cluster the tables tell
 
 -- the tables tell the number of this schema, and of this cluster and its suppliers
-pub record TellsOf (c : Cluster) (t : Tables) : Type 0 where
+pub record TellsOf (f : ClusterFile) (t : Tables) : Type 0 where
   pub register : t.register ≡ numbered our_schema_number ∷ []
-  pub cluster : t.cluster ≡ cluster_row c.params c.integrator ∷ []
-  pub suppliers : IsPermutation (map supplier_row c.suppliers) t.suppliers
+  pub cluster : t.cluster ≡ cluster_row f.cluster.params f.cluster.integrator ∷ []
+  pub suppliers : IsPermutation (map supplier_row f.suppliers) t.suppliers
 
 -- the database is a register of this cluster
-pub record IsRegisterOf (c : Cluster) (db : Database) : Type 0 where
+pub record IsRegisterOf (f : ClusterFile) (db : Database) : Type 0 where
   pub has : HasTables db
-  pub tells : TellsOf c (tables_in db.trees)
+  pub tells : TellsOf f (tables_in db.trees)
 
 -- the database's tables stand for this cluster and this book
 pub record IsRegisterFor (c : Cluster) (b : Book) (db : Database) : Type 0 where
   pub has : HasTables db
   pub for : StandsFor (tables_in db.trees) c b
 
--- What was found is the cluster for which the tables stood, and they stand as they did.
-abbrev pub FindsAgain : State → State → Cluster → Type 0
-FindsAgain old new found = (c : Cluster) (b : Book) → IsWellFormed c → Stands old c b → (found ≡ c) × Stands new c b
+-- What was found is the cluster for which the tables stood, with the book's suppliers, and they stand as they did.
+abbrev pub FindsAgain : State → State → ClusterFile → Type 0
+FindsAgain old new found = (c : Cluster) (b : Book) → Stands old c b → (found ≡ file_of c b) × Stands new c b
 
 -- ---- a new register
 
 -- the database is a new register of this cluster
-pub record IsNewOf (c : Cluster) (db : Database) : Type 0 where
+pub record IsNewOf (f : ClusterFile) (db : Database) : Type 0 where
   pub has : HasTables db
-  pub rows : tables_in db.trees ≡ with_config c no_rows
+  pub rows : tables_in db.trees ≡ with_config f no_rows
 
 -- Statements inside a transaction make a new register where no table is, or fail and commit nothing.
-abbrev pub MakesNew : {X E : Type 0} → Cluster → State → State → Result X E → Type 0
-MakesNew c old new r =
-    HasCleanDisk new → IsTrue old.in_transaction → IsFresh 0 0 old.now → MatchResult r (λ _. IsNewOf c new.now × Shows old new new.now old.committed old.in_transaction) (λ _. KeepsCommit old new)
+abbrev pub MakesNew : {X E : Type 0} → ClusterFile → State → State → Result X E → Type 0
+MakesNew f old new r =
+    HasCleanDisk new → IsTrue old.in_transaction → IsFresh 0 0 old.now → MatchResult r (λ _. IsNewOf f new.now × Shows old new new.now old.committed old.in_transaction) (λ _. KeepsCommit old new)
 
 -- whether one of a register's tables has this name
 abbrev pub is_ours : List ℕ → Bool

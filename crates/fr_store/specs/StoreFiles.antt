@@ -11,8 +11,8 @@ use Rattle.sqlite_disk.specs.declared.Disk.{Ghosts}
 use Rattle.sqlite_store.specs.declared.store.FileStore.{FileStore}
 use Rattle.sqlite.specs.Tree.{Trees}
 use Rattle.sqlite_wal.specs.Recovery.{Image}
-use Rattle.fr_base.specs.Cluster.{Cluster, IsWellFormed}
-use Rattle.fr_base.specs.Book.{Book}
+use Rattle.fr_base.specs.Cluster.{Cluster, ClusterFile}
+use Rattle.fr_base.specs.Book.{Book, file_of}
 use Rattle.fr_tables.specs.Schema.{register_schema}
 use Rattle.fr_store.specs.StandsFor.{StandsFor}
 use Rattle.fr_tables.specs.Tables.{tables_in}
@@ -28,24 +28,23 @@ abbrev pub database_of : Trees → Database
 database_of db = record { schema = register_schema; trees = db }
 
 -- the files hold a register of this cluster, in these trees
-pub record HoldsRegister (c : Cluster) (image : Image) (db : Trees) : Type 0 where
+pub record HoldsRegister (f : ClusterFile) (image : Image) (db : Trees) : Type 0 where
   pub held : IsHeld image (database_of db)
-  pub formed : IsWellFormed c
-  pub is : IsRegisterOf c (database_of db)
+  pub is : IsRegisterOf f (database_of db)
 
 -- the files hold a register whose tables stand for this cluster and this book
 pub record HoldsBook (c : Cluster) (b : Book) (image : Image) : Type 0 where
   pub trees : Trees
-  pub register : HoldsRegister c image trees
+  pub register : HoldsRegister (file_of c b) image trees
   pub for : StandsFor (tables_in trees) c b
 
--- if the database's tables stand for this cluster and a book, so do those that the files hold
-abbrev pub KeepsBook : Cluster → Database → Image → Type 0
-KeepsBook c db image = (b : Book) → IsRegisterFor c b db → HoldsBook c b image
+-- if the database's tables stand for a cluster and a book, so do those that the files hold
+abbrev pub KeepsBook : Database → Image → Type 0
+KeepsBook db image = (c : Cluster) (b : Book) → IsRegisterFor c b db → HoldsBook c b image
 
 -- What was found is the cluster of the register that the files held, and the tables stand for its book.
-abbrev pub FindsBook : Image → State → Cluster → Type 0
-FindsBook image s found = (c : Cluster) (b : Book) → HoldsBook c b image → (found ≡ c) × Stands s c b
+abbrev pub FindsBook : Image → State → ClusterFile → Type 0
+FindsBook image s found = (c : Cluster) (b : Book) → HoldsBook c b image → (found ≡ file_of c b) × Stands s c b
 
 module _ {D : Type 0} {g : Ghosts D} where
   -- what is left of two files

@@ -5,6 +5,7 @@ ghost use Rattle.sqlite.specs.State.{HasCleanDisk, Survives};
 ghost use Rattle.sqlite.specs.Held.{state};
 ghost use Rattle.fr_world.specs.BookEdits.{all_applied};
 ghost use Rattle.fr_world.specs.Fits.{AllFit};
+ghost use Rattle.fr_store.specs.Joined.{after_edits};
 ghost use Rattle.fr_store.specs.Applying.{CarriesOutAll, LeavesAll, StaysInside};
 ghost use Rattle.fr_tables.specs.Asking.{AreAsBefore};
 ghost use Rattle.fr_store.specs.Reading.{Stands};
@@ -14,10 +15,12 @@ ghost use Rattle.fr_store.specs.declared.fault.StoreFault.TheVariants.{Unavailab
 use crate::applying::edits::carry_out;
 use crate::applying::ready::make_ready;
 use crate::applying::seen::{Seen, see_variant};
+use crate::applying::suppliers::config_after;
 use crate::fault::StoreFault;
 use crate::store::Store;
 use fr_world::Edit;
 use sqlite::{Alter, Connection, Transaction};
+use std::alloc::Global;
 
 /// Carries the edits out, one after the other.
 fn all<S: Alter>(tx: &mut Transaction<'_, S>, edits: &[Edit]) -> Result<(), StoreFault>
@@ -34,9 +37,7 @@ fn all<S: Alter>(tx: &mut Transaction<'_, S>, edits: &[Edit]) -> Result<(), Stor
     for edit in edits {
         seen = see_variant(tx, seen, edit)?;
         make_ready(tx, edit, seen.overlay)?;
-        let Ok(_) = carry_out(tx, edit, seen.overlay) else {
-            return Err(StoreFault::Unavailable);
-        };
+        carry_out(tx, edit, seen.overlay)?;
     }
     Ok(())
 }
@@ -55,18 +56,17 @@ fn in_one<S: Alter>(conn: &mut Connection<S>, edits: &[Edit]) -> Result<(), Stor
     let _settled = conn.is_autocommit();
     let mut tx = conn.transaction();
     all(&mut tx, edits)?;
-    let Ok(()) = tx.commit() else {
-        return Err(StoreFault::Unavailable);
-    };
+    tx.commit()?;
     Ok(())
 }
 
 impl<S: Alter> Store<S> {
     /// Carries the edits out, one after the other, in one transaction: all of them, or none. Each has to
-    /// fit the rows that those before it left: what it adds has a new key, what it names or takes out is
-    /// there, a variant that changes is open, and a parent is released. The only refusal is
-    /// `Unavailable`, and then the rows are as they were.
-    pub fn apply(&mut self, edits: &[Edit]) -> Result<(), StoreFault>
+    /// fit the rows that those before it left: what it adds is not there, what it names or takes out is
+    /// there, a variant that changes is open, and a parent is released. The config then lists the
+    /// suppliers that joined. The only refusal is `Unavailable`, also where the config does not admit a
+    /// supplier; then the rows and the config are as they were.
+    pub fn apply(&mut self, alloc: Global, edits: &[Edit]) -> Result<(), StoreFault>
         ensures stands { HasCleanDisk (state S.Store self.new.conn) → (c : _) (b : _) → Stands (state S.Store self.old.conn) c b → AllFit b edits.now
             → OnOk result (Stands (state S.Store self.new.conn) c (all_applied b edits.now)) }
         ensures committed { HasCleanDisk (state S.Store self.new.conn) → OnOk result ((state S.Store self.new.conn).committed ≡ (state S.Store self.new.conn).now) }
@@ -74,12 +74,19 @@ impl<S: Alter> Store<S> {
             → OnErr result (AreAsBefore (state S.Store self.old.conn) (state S.Store self.new.conn)) }
         ensures refused { IfErr result (λ fault. fault ≡ Unavailable) }
         ensures outside { self.old.conn.in_transaction ≡ false → self.new.conn.in_transaction ≡ false }
-        ensures config { self.new.config ≡ self.old.config }
+        ensures config { OnOk result (self.new.config ≡ after_edits self.old.config edits.now) }
+        ensures same { OnErr result (self.new.config ≡ self.old.config) }
         ensures survives { Survives (state S.Store self.old.conn) (state S.Store self.new.conn) (LeavesAll edits.now (state S.Store self.old.conn)) }
     {
         if !self.conn.is_autocommit() {
             return Err(StoreFault::Unavailable);
         }
-        in_one(&mut self.conn, edits)
+        // Memory for the suppliers that join is taken before anything is written.
+        let after = config_after(alloc, &self.config, edits)?;
+        in_one(&mut self.conn, edits)?;
+        if let Some(config) = after {
+            self.config = config;
+        }
+        Ok(())
     }
 }

@@ -18,6 +18,7 @@ pub mod level;
 pub mod owning;
 pub mod ready;
 pub mod seen;
+pub mod suppliers;
 pub mod variants;
 
 use fr_base::Name;

@@ -100,7 +100,7 @@ impl<S: Alter + Drop> Store<S> {
         config: &Config,
     ) -> Result<Store<S>, (StoreFault, Connection<S>)>
         ensures made { IfOk result (λ s. HasCleanDisk (state S.Store s.conn) → IsNewOf config.now (state S.Store s.conn).now) }
-        ensures stands { IfOk result (λ s. HasCleanDisk (state S.Store s.conn) → Stands (state S.Store s.conn) config.now (opening config.now)) }
+        ensures stands { IfOk result (λ s. HasCleanDisk (state S.Store s.conn) → Stands (state S.Store s.conn) config.now.cluster (opening config.now)) }
         ensures committed { IfOk result (λ s. HasCleanDisk (state S.Store s.conn) → (state S.Store s.conn).committed ≡ (state S.Store s.conn).now) }
         ensures config { IfOk result (λ s. s.config ≡ config.now) }
         ensures outside { IfOk result (λ s. s.conn.in_transaction ≡ false) }
@@ -117,6 +117,8 @@ impl<S: Alter + Drop> Store<S> {
         if !conn.is_autocommit() || !is_bare(conn.schema()) {
             return Err((StoreFault::Unavailable, conn));
         }
+        // Gives the proof that the suppliers are in order.
+        let _formed = config.params();
         let Ok(config) = cluster::copied(alloc, config) else {
             return Err((StoreFault::Unavailable, conn));
         };

@@ -1,5 +1,8 @@
 //! Why a register cannot be made or opened.
 
+use sqlite::Error;
+use std::alloc::AllocError;
+
 /// Why a register cannot be made or opened, or what was asked of it cannot be carried out.
 #[derive(Clone, Copy, Debug, PartialEq, Eq, Drop)]
 pub enum StoreFault {
@@ -11,4 +14,28 @@ pub enum StoreFault {
     WrongSchema,
     /// There was no memory, the disk failed, or the rows are no register's.
     Unavailable,
+}
+
+/// A statement that failed is `Unavailable`.
+impl From<Error> for StoreFault {
+    ghost use Rattle.std.specs.Prelude.{◌≡◌};
+    ghost use Rattle.fr_store.specs.declared.fault.StoreFault.TheVariants.{Unavailable};
+
+    ghost from_gives = { λ _ fault. fault ≡ Unavailable };
+
+    fn from(_error: Error) -> StoreFault {
+        StoreFault::Unavailable
+    }
+}
+
+/// Want of memory is `Unavailable`.
+impl From<AllocError> for StoreFault {
+    ghost use Rattle.std.specs.Prelude.{◌≡◌};
+    ghost use Rattle.fr_store.specs.declared.fault.StoreFault.TheVariants.{Unavailable};
+
+    ghost from_gives = { λ _ fault. fault ≡ Unavailable };
+
+    fn from(_refused: AllocError) -> StoreFault {
+        StoreFault::Unavailable
+    }
 }

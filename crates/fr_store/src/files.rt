@@ -77,12 +77,11 @@ impl<D: Disk + Drop> Store<FileStore<D>> {
         ensures usable { IfOk result (λ files. IsTrue (D.Disk.is_usable files.log) × IsTrue (D.Disk.is_usable files.db)) }
         ensures clean { IfOk result (λ files. AreClean D.Disk files.log files.db → HasCleanDisk (file_state self.conn) × IsTrue (file_state self.conn).is_open) }
         ensures held { IfOk result (λ files. AreClean D.Disk files.log files.db → IsRegisterOf self.config (file_state self.conn).committed → HoldsRegister self.config (image_of D.Disk files) (file_state self.conn).committed.trees) }
-        ensures book { IfOk result (λ files. AreClean D.Disk files.log files.db → KeepsBook self.config (file_state self.conn).committed (image_of D.Disk files)) }
+        ensures book { IfOk result (λ files. AreClean D.Disk files.log files.db → KeepsBook (file_state self.conn).committed (image_of D.Disk files)) }
         ensures survives { IfOk result (λ files. AreClean D.Disk files.log files.db → (image : _) → outcomes D.Disk files.log files.db image
-            → KeepsBook self.config (file_state self.conn).committed image) }
+            → KeepsBook (file_state self.conn).committed image) }
         ensures told { IfErr result (λ e. e ≡ fault.Unavailable) }
     {
-        let _formed = self.config.params();
         match closed(self.into_connection()) {
             Some(files) => Ok(files),
             None => Err(StoreFault::Unavailable),
@@ -101,7 +100,7 @@ impl<D: Disk + Drop> Store<FileStore<D>> {
         requires log { IsTrue (D.Disk.is_usable files.log) }
         requires db { IsTrue (D.Disk.is_usable files.db) }
         ensures made { IfOk result (λ s. HasCleanDisk (file_state s.conn) → IsNewOf config.now (file_state s.conn).now) }
-        ensures stands { IfOk result (λ s. HasCleanDisk (file_state s.conn) → Stands (file_state s.conn) config.now (opening config.now)) }
+        ensures stands { IfOk result (λ s. HasCleanDisk (file_state s.conn) → Stands (file_state s.conn) config.now.cluster (opening config.now)) }
         ensures committed { IfOk result (λ s. HasCleanDisk (file_state s.conn) → (file_state s.conn).committed ≡ (file_state s.conn).now) }
         ensures config { IfOk result (λ s. s.config ≡ config.now) }
         ensures honest { IfOk result (λ s. HasCleanDisk (file_state s.conn) → AreClean D.Disk files.log files.db) }

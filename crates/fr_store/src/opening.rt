@@ -81,7 +81,7 @@ fn has_opened_variants<S: Alter>(alloc: Global, conn: &mut Connection<S>) -> boo
 /// of memory.
 fn config<S: Alter>(alloc: Global, conn: &mut Connection<S>) -> Option<Config>
     requires { conn.old.in_transaction ≡ false }
-    ensures cluster { HasCleanDisk (state S.Store conn.new) → IsTrue (state S.Store conn.new).is_open → HasTables (state S.Store conn.old).now → IfSome result (λ c. (tables_of (state S.Store conn.old)).cluster ≡ cluster_row c.params c.integrator ∷ []) }
+    ensures cluster { HasCleanDisk (state S.Store conn.new) → IsTrue (state S.Store conn.new).is_open → HasTables (state S.Store conn.old).now → IfSome result (λ c. (tables_of (state S.Store conn.old)).cluster ≡ cluster_row c.cluster.params c.cluster.integrator ∷ []) }
     ensures suppliers { HasCleanDisk (state S.Store conn.new) → IsTrue (state S.Store conn.new).is_open → HasTables (state S.Store conn.old).now → IfSome result (λ c. IsPermutation (map supplier_row c.suppliers) (tables_of (state S.Store conn.old)).suppliers) }
     ensures variants { HasCleanDisk (state S.Store conn.new) → IsTrue (state S.Store conn.new).is_open → HasTables (state S.Store conn.new).now → IfSome result (λ _. TellsOpened (tables_of (state S.Store conn.new))) }
     ensures formed { IfSome result IsWellFormed }

@@ -1,4 +1,4 @@
-//! A supplier's page of a variant, from its rows in the tables.
+//! A supplier's rows in a variant, of which its page is made, read from the tables.
 
 ghost use Rattle.std.specs.Prelude.{◌≡◌, map, option_map, reverse, IfErr, IfOk, IfSome};
 ghost use Rattle.sqlite.specs.Held.{state};
@@ -6,8 +6,8 @@ ghost use Rattle.fr_base.specs.Keys.{owned, channel_slots};
 ghost use Rattle.fr_world.specs.Maps.{set_of, table_of};
 ghost use Rattle.fr_world.specs.Pages.{holder_of, rows_data};
 ghost use Rattle.fr_tables.specs.Changes.{Spares};
-ghost use Rattle.fr_store.specs.Paging.{Reads, TellsNodes, TellsGrants, TellsRows, grant_shown, page_of};
-ghost use Rattle.fr_store.specs.Reading.{Leaves, Tells, name_shown};
+ghost use Rattle.fr_store.specs.Paging.{Reads, TellsNodes, TellsGrants, TellsRows, grant_shown};
+ghost use Rattle.fr_store.specs.Reading.{name_shown};
 ghost use Rattle.fr_store.specs.declared.fault.StoreFault.TheVariants.{Unavailable};
 
 mod frames;
@@ -17,37 +17,14 @@ use crate::fault::StoreFault;
 use fr_base::{MAX_DEPTH, Name, Params};
 use fr_tables::tables;
 use fr_tables::values::{channel_at, name_at, slot_at};
-use fr_world::{ChannelSlot, Page, PageRows};
+use fr_world::{ChannelSlot, PageRows};
 use sqlite::{Alter, Connection, Row};
 use std::alloc::Global;
 use std::collections::{BTreeMap, BTreeSet};
 use view::{View, view_of};
 
-/// The supplier's page of the variant, if the variant is there. The only refusal is `Unavailable`.
-pub fn page<S: Alter>(
-    alloc: Global,
-    conn: &mut Connection<S>,
-    params: &Params,
-    supplier: &Name,
-    variant: &Name,
-) -> Result<Option<Page>, StoreFault>
-    ensures page { Tells (state S.Store conn.old) (state S.Store conn.new) result (λ c b found. found ≡ page_of params.now b supplier.now variant.now) }
-    ensures params { IfOk result (λ found. IfSome found (λ page. page.params ≡ params.now)) }
-    ensures refused { IfErr result (λ fault. fault ≡ Unavailable) }
-    ensures stays { Leaves (state S.Store conn.old) (state S.Store conn.new) }
-    ensures spares { Spares (state S.Store conn.old) (state S.Store conn.new) }
-{
-    let Some(rows) = rows(alloc, conn, params, supplier, variant)? else {
-        return Ok(None);
-    };
-    match Page::build(alloc, rows) {
-        Ok(Some(page)) => Ok(Some(page)),
-        _ => Err(StoreFault::Unavailable),
-    }
-}
-
-// The supplier's rows in the variant, if it is there.
-fn rows<S: Alter>(
+/// The supplier's rows in the variant, if it is there. The only refusal is `Unavailable`.
+pub(crate) fn rows<S: Alter>(
     alloc: Global,
     conn: &mut Connection<S>,
     params: &Params,
@@ -86,9 +63,7 @@ fn own_nodes<S: Alter>(
     ensures refused { IfErr result (λ fault. fault ≡ Unavailable) }
     ensures spares { Spares (state S.Store conn.old) (state S.Store conn.new) }
 {
-    let Ok(rows) = tables::nodes::of_supplier(conn, supplier) else {
-        return Err(StoreFault::Unavailable);
-    };
+    let rows = tables::nodes::of_supplier(conn, supplier)?;
     nodes_of(alloc, rows.as_slice()).ok_or(StoreFault::Unavailable)
 }
 
@@ -116,9 +91,7 @@ fn own_grants<S: Alter>(
     ensures refused { IfErr result (λ fault. fault ≡ Unavailable) }
     ensures spares { Spares (state S.Store conn.old) (state S.Store conn.new) }
 {
-    let Ok(rows) = tables::grants::of_supplier(conn, variant, supplier) else {
-        return Err(StoreFault::Unavailable);
-    };
+    let rows = tables::grants::of_supplier(conn, variant, supplier)?;
     grants_of(alloc, rows.as_slice()).ok_or(StoreFault::Unavailable)
 }
 

@@ -62,7 +62,7 @@ impl<S: Start> Store<FileStore<FileFrom<S>>> {
         start: S,
     ) -> Result<Store<FileStore<FileFrom<S>>>, (StoreFault, Option<Leftover<FileFrom<S>>>)>
         ensures made { IfOk result (λ s. HasCleanDisk (file_state s.conn) → IsNewOf config.now (file_state s.conn).now) }
-        ensures stands { IfOk result (λ s. HasCleanDisk (file_state s.conn) → Stands (file_state s.conn) config.now (opening config.now)) }
+        ensures stands { IfOk result (λ s. HasCleanDisk (file_state s.conn) → Stands (file_state s.conn) config.now.cluster (opening config.now)) }
         ensures committed { IfOk result (λ s. HasCleanDisk (file_state s.conn) → (file_state s.conn).committed ≡ (file_state s.conn).now) }
         ensures config { IfOk result (λ s. s.config ≡ config.now) }
         ensures survives { IfOk result (λ s. SurvivesSince (image_at S.Start) s.conn (λ db. tables_in db ≡ with_config config.now no_rows)) }

@@ -3,7 +3,7 @@
 ghost use Rattle.std.specs.Prelude.{◌≡◌, IfErr, IfOk, IfSome, option_map};
 ghost use Rattle.sqlite.specs.Held.{state};
 ghost use Rattle.fr_base.specs.Book.{own};
-ghost use Rattle.fr_base.specs.Tables.{get, len};
+ghost use Rattle.fr_base.specs.Tables.{contains, get, len};
 ghost use Rattle.fr_world.specs.BookEdits.{variants_in};
 ghost use Rattle.fr_world.specs.ImportLabels.{kept_of};
 ghost use Rattle.fr_world.specs.Pages.{nodes_in};
@@ -13,15 +13,29 @@ ghost use Rattle.fr_store.specs.Reading.{AreOpened, Leaves, Tells, as_holder, ho
 ghost use Rattle.fr_store.specs.declared.fault.StoreFault.TheVariants.{Unavailable};
 
 use crate::fault::StoreFault;
+use crate::page::rows;
+use crate::reading::{first_holder, first_import, names_of, opened_variants};
 use crate::slot_holder::Holder;
 use crate::store::Store;
-use crate::{page, reading};
 use fr_base::{Channel, Name, Slot};
+use fr_tables::tables;
 use fr_world::{KeptImport, Page, VariantRow};
 use sqlite::Alter;
 use std::alloc::Global;
 
 impl<S: Alter> Store<S> {
+    /// Whether the variant is there. The only refusal is `Unavailable`.
+    pub fn has_variant(&mut self, variant: &Name) -> Result<bool, StoreFault>
+        ensures has { Tells (state S.Store self.old.conn) (state S.Store self.new.conn) result (λ c b has. has ≡ contains b.variants variant.now) }
+        ensures config { self.new.config ≡ self.old.config }
+        ensures refused { IfErr result (λ fault. fault ≡ Unavailable) }
+        ensures stays { Leaves (state S.Store self.old.conn) (state S.Store self.new.conn) }
+        ensures spares { Spares (state S.Store self.old.conn) (state S.Store self.new.conn) }
+    {
+        let rows = tables::variants::one(&mut self.conn, variant)?;
+        Ok(!rows.is_empty())
+    }
+
     /// The supplier's page of the variant, if the variant is there. The only refusal is `Unavailable`.
     pub fn page(
         &mut self,
@@ -29,15 +43,21 @@ impl<S: Alter> Store<S> {
         supplier: &Name,
         variant: &Name,
     ) -> Result<Option<Page>, StoreFault>
-        ensures page { Tells (state S.Store self.old.conn) (state S.Store self.new.conn) result (λ c b found. found ≡ page_of self.old.config.params b supplier.now variant.now) }
-        ensures params { IfOk result (λ found. IfSome found (λ page. page.params ≡ self.old.config.params)) }
+        ensures page { Tells (state S.Store self.old.conn) (state S.Store self.new.conn) result (λ c b found. found ≡ page_of self.old.config.cluster.params b supplier.now variant.now) }
+        ensures params { IfOk result (λ found. IfSome found (λ page. page.params ≡ self.old.config.cluster.params)) }
         ensures config { self.new.config ≡ self.old.config }
         ensures refused { IfErr result (λ fault. fault ≡ Unavailable) }
         ensures stays { Leaves (state S.Store self.old.conn) (state S.Store self.new.conn) }
         ensures spares { Spares (state S.Store self.old.conn) (state S.Store self.new.conn) }
     {
         let params = self.config.params();
-        page::page(alloc, &mut self.conn, &params, supplier, variant)
+        let Some(rows) = rows(alloc, &mut self.conn, &params, supplier, variant)? else {
+            return Ok(None);
+        };
+        match Page::build(alloc, rows) {
+            Ok(Some(page)) => Ok(Some(page)),
+            _ => Err(StoreFault::Unavailable),
+        }
     }
 
     /// Who holds the slot on the channel in the variant. The only refusal is `Unavailable`.
@@ -53,7 +73,8 @@ impl<S: Alter> Store<S> {
         ensures stays { Leaves (state S.Store self.old.conn) (state S.Store self.new.conn) }
         ensures spares { Spares (state S.Store self.old.conn) (state S.Store self.new.conn) }
     {
-        reading::holder(&mut self.conn, variant, slot, channel)
+        let rows = tables::grants::holder(&mut self.conn, variant, slot, channel)?;
+        first_holder(rows.as_slice())
     }
 
     /// The variants, by name, each opened empty or from one of them. The only refusal is `Unavailable`.
@@ -65,7 +86,8 @@ impl<S: Alter> Store<S> {
         ensures stays { Leaves (state S.Store self.old.conn) (state S.Store self.new.conn) }
         ensures spares { Spares (state S.Store self.old.conn) (state S.Store self.new.conn) }
     {
-        reading::variants(alloc, &mut self.conn)
+        let rows = tables::variants::all(&mut self.conn)?;
+        opened_variants(alloc, rows.as_slice()).ok_or(StoreFault::Unavailable)
     }
 
     /// The supplier's nodes, in byte order. The only refusal is `Unavailable`.
@@ -76,7 +98,8 @@ impl<S: Alter> Store<S> {
         ensures stays { Leaves (state S.Store self.old.conn) (state S.Store self.new.conn) }
         ensures spares { Spares (state S.Store self.old.conn) (state S.Store self.new.conn) }
     {
-        reading::nodes(alloc, &mut self.conn, supplier)
+        let rows = tables::nodes::of_supplier(&mut self.conn, supplier)?;
+        names_of(alloc, rows.as_slice()).ok_or(StoreFault::Unavailable)
     }
 
     /// The import that the supplier has under the label, if it is kept. The only refusal is `Unavailable`.
@@ -92,7 +115,8 @@ impl<S: Alter> Store<S> {
         ensures stays { Leaves (state S.Store self.old.conn) (state S.Store self.new.conn) }
         ensures spares { Spares (state S.Store self.old.conn) (state S.Store self.new.conn) }
     {
-        reading::import(alloc, &mut self.conn, supplier, label)
+        let rows = tables::imports::one(&mut self.conn, supplier, label)?;
+        first_import(alloc, rows.as_slice())
     }
 
     /// How many imports of the supplier are kept. The only refusal is `Unavailable`.
@@ -103,6 +127,7 @@ impl<S: Alter> Store<S> {
         ensures stays { Leaves (state S.Store self.old.conn) (state S.Store self.new.conn) }
         ensures spares { Spares (state S.Store self.old.conn) (state S.Store self.new.conn) }
     {
-        reading::imports(&mut self.conn, supplier)
+        let rows = tables::imports::labels(&mut self.conn, supplier)?;
+        Ok(rows.len())
     }
 }

@@ -30,7 +30,8 @@ impl<S: Alter> Store<S> {
         conn
     }
 
-    /// The cluster, as the register was made of it.
+    /// What a cluster file says of the register now: the cluster, as the register was made of it, and the
+    /// suppliers that are there.
     pub fn config(&self) -> &Config
         ensures { result.now ≡ self.now.config }
     {

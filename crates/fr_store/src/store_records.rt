@@ -18,10 +18,15 @@ impl<S: Alter> Records for Store<S> {
 
     ghost clean = { λ s. HasCleanDisk (state S.Store s.conn) };
 
-    ghost params = { λ s. s.config.params };
+    ghost params = { λ s. s.config.cluster.params };
 
     fn config(&self) -> &Config {
         self.config()
+    }
+
+    fn has_variant(&mut self, variant: Name) -> Result<bool, Refusal> {
+        see_open(self)?;
+        answer(self.has_variant(&variant))
     }
 
     fn page(
@@ -67,9 +72,9 @@ impl<S: Alter> Records for Store<S> {
         answer(self.imports(&supplier))
     }
 
-    fn apply(&mut self, _alloc: Global, edits: &[Edit]) -> Result<(), Refusal> {
+    fn apply(&mut self, alloc: Global, edits: &[Edit]) -> Result<(), Refusal> {
         see_open(self)?;
-        answer(self.apply(edits))
+        answer(self.apply(alloc, edits))
     }
 }
 

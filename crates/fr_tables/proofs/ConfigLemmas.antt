@@ -14,7 +14,7 @@ use Rattle.std.specs.Prelude.{⊤}
 use Rattle.std.proofs.lemmas.Bool.{and_from}
 use Rattle.sqlite.specs.Order.{Row, column}
 use Rattle.fr_base.specs.declared.config.Supplier.{Supplier}
-use Rattle.fr_base.specs.Cluster.{Cluster, IsWellFormed, keys_of, keys_differ, is_cluster}
+use Rattle.fr_base.specs.Cluster.{ClusterFile, IsWellFormed, keys_of, keys_differ, is_cluster}
 use Rattle.fr_tables.specs.ClusterRows.{AreFormed}
 
 -- a row of nine columns is these
@@ -70,5 +70,5 @@ integrator_and integrator suppliers first rest = and_from _ _ first (each suppli
     each (s ∷ list) h = let both = both (is_key s.key) (list_all (λ s. is_key s.key) list) h in and_from _ _ both.0 (each list both.1)
 
 -- what was read and tested is a cluster
-pub well_formed : (c : Cluster) → check_params c.params ≡ Ok c.params → is_cluster c.integrator c.suppliers ≡ true → IsTrue (is_key c.integrator) → AreFormed c.suppliers → IsWellFormed c
-well_formed c params cluster integrator formed = record { params = params; cluster = cluster; names = formed.0; keys = integrator_and c.integrator c.suppliers integrator formed.1 }
+pub well_formed : (f : ClusterFile) → check_params f.cluster.params ≡ Ok f.cluster.params → is_cluster f.cluster.integrator f.suppliers ≡ true → IsTrue (is_key f.cluster.integrator) → AreFormed f.suppliers → IsWellFormed f
+well_formed f params cluster integrator formed = record { params = params; cluster = cluster; names = formed.0; keys = integrator_and f.cluster.integrator f.suppliers integrator formed.1 }

@@ -2,7 +2,7 @@
 use Rattle.std.specs.Prelude.{◌++◌, pos, List, [], ◌∷◌, map, Result, MatchResult, IsTrue}
 use Rattle.sqlite.specs.State.{State, HasCleanDisk, KeepsCommit}
 use Rattle.fr_base.specs.declared.config.Supplier.{Supplier}
-use Rattle.fr_base.specs.Cluster.{Cluster}
+use Rattle.fr_base.specs.Cluster.{ClusterFile}
 use Rattle.fr_tables.specs.Rows.{SupplierRow}
 use Rattle.fr_tables.specs.Tables.{Tables, HasTables}
 use Rattle.fr_tables.specs.Changes.{Changes}
@@ -15,11 +15,11 @@ abbrev pub with_suppliers : List Supplier → Tables → Tables
 with_suppliers list t = record t { suppliers = t.suppliers ++ map supplier_row list }
 
 -- the number of the schema, the cluster and its suppliers
-abbrev pub with_config : Cluster → Tables → Tables
-with_config c t = record t {
+abbrev pub with_config : ClusterFile → Tables → Tables
+with_config f t = record t {
   register = t.register ++ record { schema = pos 1 } ∷ [];
-  cluster = t.cluster ++ cluster_row c.params c.integrator ∷ [];
-  suppliers = t.suppliers ++ map supplier_row c.suppliers;
+  cluster = t.cluster ++ cluster_row f.cluster.params f.cluster.integrator ∷ [];
+  suppliers = t.suppliers ++ map supplier_row f.suppliers;
 }
 
 -- Several statements inside a transaction make the change, or fail and commit nothing.

@@ -161,7 +161,7 @@ fn is_cluster(integrator: Key, suppliers: &[Supplier]) -> bool
 
 /// The cluster of these rows. None, if they make none, or for want of memory.
 pub fn read(alloc: Global, cluster: &[Row], suppliers: &[Row]) -> Option<Config>
-    ensures cluster { IfSome result (λ c. cluster.now ≡ shows_cluster (cluster_row c.params c.integrator) ∷ []) }
+    ensures cluster { IfSome result (λ c. cluster.now ≡ shows_cluster (cluster_row c.cluster.params c.cluster.integrator) ∷ []) }
     ensures suppliers { IfSome result (λ c. suppliers.now ≡ map shown_supplier c.suppliers) }
     ensures formed { IfSome result IsWellFormed }
 {

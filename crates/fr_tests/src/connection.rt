@@ -106,10 +106,11 @@ fn whole(bytes: &[u8]) -> Source<'_> {
 }
 
 /// A writer that is interrupted so often, takes so many bytes, at most so many a write, and then has the error each time;
-/// as `WriteZero` it then takes nothing.
+/// as `WriteZero` it then takes nothing. It counts how many of the bytes that it took were flushed.
 #[derive(Drop)]
 struct Sink {
     taken: Vec<u8>,
+    flushed: usize,
     waits: u32,
     room: usize,
     piece: usize,
@@ -120,6 +121,7 @@ impl Sink {
     fn new(alloc: Global, room: usize, error: ErrorKind) -> Sink {
         Sink {
             taken: Vec::new(alloc),
+            flushed: 0,
             waits: 0,
             room,
             piece: usize::MAX,
@@ -147,6 +149,7 @@ impl Write for Sink {
     }
 
     fn flush(&mut self) -> io::Result<()> {
+        self.flushed = self.taken.len();
         Ok(())
     }
 }
@@ -256,6 +259,8 @@ const REPLIES: [(&str, &str); 22] = [
 fn served(alloc: Global, input: &[u8], desk: &mut Counter) -> (Result<Served, LinkFault>, Vec<u8>) {
     let mut writer = Sink::new(alloc, usize::MAX, ErrorKind::Other);
     let done = serve_one(alloc, &mut whole(input), &mut writer, desk);
+    // What was not flushed may never come.
+    writer.taken.truncate(writer.flushed);
     (done, writer.taken)
 }
 

@@ -6,6 +6,8 @@
 #[cfg(test)]
 mod asks;
 #[cfg(test)]
+mod joining;
+#[cfg(test)]
 mod registers;
 #[cfg(test)]
 mod reopened;

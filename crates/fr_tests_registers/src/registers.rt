@@ -92,12 +92,14 @@ const SIGNAL: [Line; 2] = [
     ),
 ];
 
-fn desk(alloc: Global) -> Result<MemoryDesk, Fail> {
-    let config = read_config(alloc, CLUSTER.as_bytes())?;
+/// The desk of a new register of this cluster file.
+pub(crate) fn desk(alloc: Global, cluster: &str) -> Result<MemoryDesk, Fail> {
+    let config = read_config(alloc, cluster.as_bytes())?;
     Ok(MemoryDesk::new(alloc, &config)?)
 }
 
-fn run(alloc: Global, desk: &mut MemoryDesk, asks: &[Ask]) -> Result<Vec<Answer>, Fail> {
+/// The answers to the requests, asked as one list.
+pub(crate) fn run(alloc: Global, desk: &mut MemoryDesk, asks: &[Ask]) -> Result<Vec<Answer>, Fail> {
     match desk.run(alloc, asks) {
         Ok(answers) => Ok(answers),
         Err(_) => Err(Fail::from("no memory")),
@@ -114,7 +116,7 @@ fn are_answered(alloc: Global, desk: &mut MemoryDesk, lines: &[Line]) -> Result<
 
 #[test]
 fn a_list_of_requests_is_answered(rt: HostRuntime) -> Result<(), Fail> {
-    let mut desk = desk(rt.alloc())?;
+    let mut desk = desk(rt.alloc(), CLUSTER)?;
     assert!(rt; are_answered(rt.alloc(), &mut desk, &FIRST)?);
     assert!(rt; are_answered(rt.alloc(), &mut desk, &GRANTS)?);
     Ok(())
@@ -129,7 +131,7 @@ fn layout(alloc: Global, desk: &mut MemoryDesk) -> Result<Vec<u8>, Fail> {
 
 #[test]
 fn a_layout_is_written(rt: HostRuntime) -> Result<(), Fail> {
-    let mut desk = desk(rt.alloc())?;
+    let mut desk = desk(rt.alloc(), CLUSTER)?;
     assert!(rt; are_answered(rt.alloc(), &mut desk, &FIRST)?);
     assert!(rt; are_answered(rt.alloc(), &mut desk, &SIGNAL)?);
     let lines = layout(rt.alloc(), &mut desk)?;
@@ -214,7 +216,7 @@ struct Told {
 
 fn served(alloc: Global, supplier: &str, is_stranger_there: bool) -> Result<Told, Fail> {
     let supplier = Name::read(supplier).ok_or("no name")?;
-    let mut desk = desk(alloc)?;
+    let mut desk = desk(alloc, CLUSTER)?;
     let asks = requests(alloc, &desk, is_stranger_there)?;
     let answers = answers_to(alloc, &mut desk, supplier, &asks)?;
     let looks = looks(alloc, &desk)?;

@@ -27,10 +27,14 @@ impl Records for Counted {
 
     ghost clean = { λ _. ⊥ };
 
-    ghost params = { λ counted. counted.config.params };
+    ghost params = { λ counted. counted.config.cluster.params };
 
     fn config(&self) -> &Config {
         &self.config
+    }
+
+    fn has_variant(&mut self, variant: Name) -> Result<bool, Refusal> {
+        Ok(variant.as_str() == "v1")
     }
 
     fn page(

@@ -19,7 +19,7 @@ use Rattle.toml.specs.Parse.{parse_document}
 use Rattle.std.proofs.lemmas.List.{length-map}
 use Rattle.std.proofs.lemmas.Grind.{common_steps}
 use Rattle.toml.proofs.Views.{Entry}
-use Rattle.fr_base.specs.Cluster.{Cluster, names_rise, is_cluster, keys_of, keys_differ}
+use Rattle.fr_base.specs.Cluster.{ClusterFile, names_rise, is_cluster, keys_of, keys_differ}
 use Rattle.fr_base.specs.Names.{same_text}
 use Rattle.fr_base.specs.Names.{is_name, is_key}
 use Rattle.fr_base.specs.Parameters.{check_params}
@@ -151,20 +151,20 @@ keys_differ-split key (s ∷ suppliers) next is some =
     let rest : take (length (s ∷ suppliers) - 1) (drop 1 (s ∷ suppliers)) ≡ suppliers = grind (arith, common_steps) in
     rw (is, rest) (keys_differ-step key s suppliers)
 
--- the cluster that the texts describe
-abbrev pub cluster : RawParams → List ℕ → List SupplierText → Cluster
-cluster params integrator texts = record { params = params; integrator = integrator; suppliers = suppliers_of texts }
+-- the cluster file that the texts describe
+abbrev pub file : RawParams → List ℕ → List SupplierText → ClusterFile
+file params integrator texts = record { cluster = record { params = params; integrator = integrator }; suppliers = suppliers_of texts }
 
 -- the last three tests, of names, keys, and keys that differ
-abbrev pub judged : Bool → Bool → Bool → Cluster → Result Cluster ConfigFault
-judged false keys differ c = Err BadName
-judged true false differ c = Err BadKey
-judged true true false c = Err KeyTwice
-judged true true true c = Ok c
+abbrev pub judged : Bool → Bool → Bool → ClusterFile → Result ClusterFile ConfigFault
+judged false keys differ f = Err BadName
+judged true false differ f = Err BadKey
+judged true true false f = Err KeyTwice
+judged true true true f = Ok f
 
 pub check_cluster-judged : (params same : RawParams) (integrator : List ℕ) (texts : List SupplierText) → check_params params ≡ Ok same → length texts ≤ 64
-    → check_cluster (cluster params integrator texts)
-    ≡ judged (list_all (λ t. is_name t.name.now) texts) (is_key integrator && list_all (λ t. is_key t.key.now) texts) (keys_differ (keys_of integrator (suppliers_of texts))) (cluster params integrator texts)
+    → check_cluster (file params integrator texts)
+    ≡ judged (list_all (λ t. is_name t.name.now) texts) (is_key integrator && list_all (λ t. is_key t.key.now) texts) (keys_differ (keys_of integrator (suppliers_of texts))) (file params integrator texts)
 unfolding ◌>>◌ refuse◌when◌ check_cluster
 check_cluster-judged params same integrator texts checked few =
     let within : nat_lt 64 (length (suppliers_of texts)) ≡ false = rw length-map (grind (arith, nat_tests)) in
@@ -173,17 +173,17 @@ check_cluster-judged params same integrator texts checked few =
     rw (checked, within, names, keys)
     (tests (list_all (λ t. is_name t.name.now) texts) (is_key integrator && list_all (λ t. is_key t.key.now) texts) (keys_differ (keys_of integrator (suppliers_of texts)))) where
       tests : (names keys differ : Bool)
-          → ((refuse BadName when (not names)) >> ((refuse BadKey when (not keys)) >> ((refuse KeyTwice when (not differ)) >> Ok (cluster params integrator texts)))) ≡ judged names keys differ (cluster params integrator texts)
+          → ((refuse BadName when (not names)) >> ((refuse BadKey when (not keys)) >> ((refuse KeyTwice when (not differ)) >> Ok (file params integrator texts)))) ≡ judged names keys differ (file params integrator texts)
       tests false keys differ = refl
       tests true false differ = refl
       tests true true false = refl
       tests true true true = refl
 
 -- the same, at what a value is seen as
-pub check_cluster-seen : (c : Cluster) (params same : RawParams) (integrator : List ℕ) (items texts : List SupplierText) → cluster params integrator items ≡ c → texts ≡ items → Ok same ≡ check_params params → length texts ≤ 64
-    → check_cluster c ≡ judged (list_all (λ t. is_name t.name.now) texts) (is_key integrator && list_all (λ t. is_key t.key.now) texts) (keys_differ (keys_of integrator (suppliers_of texts))) c
-check_cluster-seen c params same integrator items texts seen read checked few =
-    let at : cluster params integrator texts ≡ c = ap (cluster params integrator) read ∙ seen in
+pub check_cluster-seen : (f : ClusterFile) (params same : RawParams) (integrator : List ℕ) (items texts : List SupplierText) → file params integrator items ≡ f → texts ≡ items → Ok same ≡ check_params params → length texts ≤ 64
+    → check_cluster f ≡ judged (list_all (λ t. is_name t.name.now) texts) (is_key integrator && list_all (λ t. is_key t.key.now) texts) (keys_differ (keys_of integrator (suppliers_of texts))) f
+check_cluster-seen f params same integrator items texts seen read checked few =
+    let at : file params integrator texts ≡ f = ap (file params integrator) read ∙ seen in
     rw at at (check_cluster-judged params same integrator texts (sym checked) few)
 
 -- checked parameters are those that were given

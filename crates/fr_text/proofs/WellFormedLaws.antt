@@ -2,7 +2,7 @@
 use Rattle.std.proofs.Common.{◌≡◌, ◌∙◌, ℕ, false, ap, refl, Result, Ok, Err, IfOk, IsTrue, nat_le, nat_lt, length, arith, subst}
 use Rattle.std.proofs.lemmas.Bool.{and_from}
 use Rattle.std.proofs.lemmas.Bool.Decides.{nat_tests}
-use Rattle.fr_base.specs.Cluster.{Cluster, IsWellFormed, is_cluster, names_rise}
+use Rattle.fr_base.specs.Cluster.{ClusterFile, IsWellFormed, is_cluster, names_rise}
 use Rattle.fr_base.specs.Parameters.{check_params}
 use Rattle.fr_base.proofs.SoundRefusing.{gives_then, gives_when, gives_unless}
 use Rattle.fr_base.specs.declared.params.RawParams.{RawParams}
@@ -19,21 +19,21 @@ in_params-same params checked (Err e) said is = cc
 few_enough : (n : ℕ) → nat_lt 64 n ≡ false → IsTrue (nat_le n 64)
 few_enough n h = grind (arith, nat_tests, h)
 
-forms : (c : Cluster) → IsTrue (names_rise c.suppliers) → IfOk (check_cluster c) IsWellFormed
+forms : (f : ClusterFile) → IsTrue (names_rise f.suppliers) → IfOk (check_cluster f) IsWellFormed
 unfolding check_cluster is_cluster
-forms c rise =
-    gives_then IsWellFormed (in_params (check_params c.params)) _ (λ checked passed.
+forms f rise =
+    gives_then IsWellFormed (in_params (check_params f.cluster.params)) _ (λ checked passed.
     gives_when IsWellFormed Limit _ _ (λ few.
     gives_unless IsWellFormed BadName _ _ (λ named.
     gives_unless IsWellFormed BadKey _ _ (λ keyed.
     gives_unless IsWellFormed KeyTwice _ _ (λ differ.
     record {
-      params = in_params-same c.params checked (check_params c.params) refl passed;
-      cluster = and_from _ _ (and_from _ _ (few_enough (length c.suppliers) few) rise) differ;
+      params = in_params-same f.cluster.params checked (check_params f.cluster.params) refl passed;
+      cluster = and_from _ _ (and_from _ _ (few_enough (length f.suppliers) few) rise) differ;
       names = named;
       keys = keyed;
     })))))
 
--- A cluster that was checked is well formed, if its suppliers are in order.
-pub checked-well_formed : (c d : Cluster) → IsTrue (names_rise c.suppliers) → check_cluster c ≡ Ok d → IsWellFormed d
-checked-well_formed c d rise is = subst (λ r. IfOk r IsWellFormed) is (forms c rise)
+-- A cluster file that was checked is well formed, if its suppliers are in order.
+pub checked-well_formed : (f d : ClusterFile) → IsTrue (names_rise f.suppliers) → check_cluster f ≡ Ok d → IsWellFormed d
+checked-well_formed f d rise is = subst (λ r. IfOk r IsWellFormed) is (forms f rise)

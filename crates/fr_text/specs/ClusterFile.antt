@@ -8,7 +8,7 @@ use Rattle.fr_base.specs.Refusing.{◌>>=◌, ◌>>◌, ◌or◌, refuse◌when�
 use Rattle.fr_base.specs.Channels.{channels_of_text}
 use Rattle.fr_base.specs.Names.{is_name, is_key}
 use Rattle.fr_base.specs.Parameters.{check_params, word_of}
-use Rattle.fr_base.specs.Cluster.{Cluster, keys_of, keys_differ}
+use Rattle.fr_base.specs.Cluster.{ClusterFile, keys_of, keys_differ}
 use Rattle.fr_base.specs.declared.params.RawParams.{RawParams}
 use Rattle.fr_base.specs.declared.params.ParamFault.{ParamFault}
 use Rattle.fr_base.specs.declared.config.Supplier.{Supplier}
@@ -76,40 +76,40 @@ suppliers_in (member name d rest) = do
   Ok (record { name = name; key = key } ∷ suppliers)
 
 -- what the fields say, where all are there, each is of its kind, and no other is there
-unfoldable pub fields_in : Members → Result Cluster ConfigFault
+unfoldable pub fields_in : Members → Result ClusterFile ConfigFault
 fields_in file = do
   refuse BadField when (not (has_only_file_keys file))
   params ← params_in file
   integrator ← text_at (codes "integrator") file
   table ← table_at (codes "suppliers") file
   suppliers ← suppliers_in table
-  Ok (record { params = params; integrator = integrator; suppliers = suppliers })
+  Ok (record { cluster = record { params = params; integrator = integrator }; suppliers = suppliers })
 
 -- a fault of the parameters is one of the file
 abbrev pub in_params : Result RawParams ParamFault → Result RawParams ConfigFault
 in_params (Ok params) = Ok params
 in_params (Err fault) = Err (Params fault)
 
--- the cluster, if its parameters, names and keys are in order
-unfoldable pub check_cluster : Cluster → Result Cluster ConfigFault
-check_cluster c = do
-  in_params (check_params c.params)
-  refuse Limit when (nat_lt 64 (length c.suppliers))
-  refuse BadName when (not (list_all (λ s. is_name s.name) c.suppliers))
-  refuse BadKey when (not (list_all is_key (keys_of c.integrator c.suppliers)))
-  refuse KeyTwice when (not (keys_differ (keys_of c.integrator c.suppliers)))
-  Ok c
+-- what the file says, if its parameters, names and keys are in order
+unfoldable pub check_cluster : ClusterFile → Result ClusterFile ConfigFault
+check_cluster f = do
+  in_params (check_params f.cluster.params)
+  refuse Limit when (nat_lt 64 (length f.suppliers))
+  refuse BadName when (not (list_all (λ s. is_name s.name) f.suppliers))
+  refuse BadKey when (not (list_all is_key (keys_of f.cluster.integrator f.suppliers)))
+  refuse KeyTwice when (not (keys_differ (keys_of f.cluster.integrator f.suppliers)))
+  Ok f
 
 -- the table of the TOML document that the bytes are
 unfoldable pub document : List ℕ → Option Members
 document bytes = if is_utf8 bytes then parse_document bytes else None
 
--- the cluster that the bytes describe, or the first fault
-unfoldable pub config_of : List ℕ → Result Cluster ConfigFault
+-- what the bytes of a cluster file say, or the first fault
+unfoldable pub config_of : List ℕ → Result ClusterFile ConfigFault
 config_of bytes = do
-  file ← document bytes or BadToml
-  cluster ← fields_in file
-  check_cluster cluster
+  table ← document bytes or BadToml
+  file ← fields_in table
+  check_cluster file
 
 -- the fault's word
 abbrev pub config_fault_word : ConfigFault → List ℕ

@@ -5,7 +5,7 @@ use Rattle.std.specs.Str.{is_utf8}
 use Rattle.serde_json.specs.Data.{Data, Members, no_members, string, number, unsigned, null, object, put}
 use Rattle.serde_json.specs.Read.{read}
 use Rattle.fr_base.specs.declared.request.Request.{Request}
-use Rattle.fr_base.specs.declared.request.Request.TheVariants.{OpenVariant, Release, AddNode, Grant, Revoke, AddFrame, DropFrame, Place, Unplace, AddSignal, DropSignal, Import, Grants, Frames, Schedule, Gaps, Layout}
+use Rattle.fr_base.specs.declared.request.Request.TheVariants.{OpenVariant, Release, AddSupplier, AddNode, Grant, Revoke, AddFrame, DropFrame, Place, Unplace, AddSignal, DropSignal, Import, Grants, Frames, Schedule, Gaps, Layout}
 use Rattle.fr_text.specs.RequestText.{request_of}
 
 -- an object's fields, each a name and its value
@@ -26,6 +26,7 @@ text_or_null (Some text) = string text
 unfoldable pub fields_of : Request → Members
 fields_of (OpenVariant v parent) = fields ((codes "do", string (codes "open_variant")) ∷ (codes "variant", string v) ∷ (codes "from", text_or_null parent) ∷ [])
 fields_of (Release v) = fields ((codes "do", string (codes "release")) ∷ (codes "variant", string v) ∷ [])
+fields_of (AddSupplier s key) = fields ((codes "do", string (codes "add_supplier")) ∷ (codes "supplier", string s) ∷ (codes "key", string key) ∷ [])
 fields_of (AddNode s n) = fields ((codes "do", string (codes "add_node")) ∷ (codes "supplier", string s) ∷ (codes "node", string n) ∷ [])
 fields_of (Grant v k c s n) = fields ((codes "do", string (codes "grant")) ∷ (codes "variant", string v) ∷ (codes "slot", count k) ∷ (codes "channel", string c) ∷ (codes "supplier", string s) ∷ (codes "node", string n) ∷ [])
 fields_of (Revoke v k c s) = fields ((codes "do", string (codes "revoke")) ∷ (codes "variant", string v) ∷ (codes "slot", count k) ∷ (codes "channel", string c) ∷ (codes "supplier", string s) ∷ [])

@@ -6,7 +6,7 @@ use Rattle.std.specs.Str.{bytes_eq}
 use Rattle.serde_json.specs.Data.{Members}
 use Rattle.serde_json.specs.Find.{as_object}
 use Rattle.fr_base.specs.declared.request.Request.{Request}
-use Rattle.fr_base.specs.declared.request.Request.TheVariants.{OpenVariant, Release, AddNode, Grant, Revoke, AddFrame, DropFrame, Place, Unplace, AddSignal, DropSignal, Import, Grants, Frames, Schedule, Gaps, Layout}
+use Rattle.fr_base.specs.declared.request.Request.TheVariants.{OpenVariant, Release, AddSupplier, AddNode, Grant, Revoke, AddFrame, DropFrame, Place, Unplace, AddSignal, DropSignal, Import, Grants, Frames, Schedule, Gaps, Layout}
 use Rattle.fr_text.specs.Fields.{◌>>=◌, ◌>>◌, provided, value_of, only, text, text_or_null, whole}
 
 -- ---- the integrator's
@@ -23,6 +23,13 @@ release fields = do
   provided (only (codes "do" ∷ codes "variant" ∷ []) fields)
   variant ← text (codes "variant") fields
   Some (Release variant)
+
+unfoldable pub add_supplier : Members → Option Request
+add_supplier fields = do
+  provided (only (codes "do" ∷ codes "supplier" ∷ codes "key" ∷ []) fields)
+  supplier ← text (codes "supplier") fields
+  key ← text (codes "key") fields
+  Some (AddSupplier supplier key)
 
 unfoldable pub add_node : Members → Option Request
 add_node fields = do
@@ -156,6 +163,7 @@ unfoldable pub readers : List (List ℕ × (Members → Option Request))
 readers =
     (codes "open_variant", open_variant)
     ∷ (codes "release", release)
+    ∷ (codes "add_supplier", add_supplier)
     ∷ (codes "add_node", add_node)
     ∷ (codes "grant", grant)
     ∷ (codes "revoke", revoke)

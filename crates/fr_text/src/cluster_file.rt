@@ -116,12 +116,12 @@ struct Fields<'a> {
 
 impl<'a> Model for Fields<'a> {
     ghost use Rattle.std.specs.Prelude.{IsTrue};
-    ghost use Rattle.fr_base.specs.Cluster.{Cluster, names_rise};
+    ghost use Rattle.fr_base.specs.Cluster.{ClusterFile, names_rise};
     ghost use Rattle.fr_text.specs.SupplierTexts.{suppliers_of};
 
-    ghost Value = { Cluster };
+    ghost Value = { ClusterFile };
 
-    ghost view = { λ f. record { params = f.params; integrator = f.integrator.now; suppliers = suppliers_of f.suppliers.items } };
+    ghost view = { λ f. record { cluster = record { params = f.params; integrator = f.integrator.now }; suppliers = suppliers_of f.suppliers.items } };
 
     ghost invariant = { λ f. IsTrue (names_rise (suppliers_of f.suppliers.items)) };
 }
@@ -264,7 +264,7 @@ impl<'a> Fields<'a> {
         })
     }
 
-    /// The cluster, if its parameters, names and keys are in order.
+    /// What the file says, if its parameters, names and keys are in order.
     #[tactic(auto, unfolding(crate::proofs::ClusterFileLemmas::check_cluster_open))]
     fn check(&self, alloc: Global) -> Result<Config, ConfigFault>
         ensures read { IfOk result (λ config. check_cluster self.now ≡ Ok config) }

@@ -31,6 +31,7 @@ fn request_in(alloc: Global, fields: &Fields) -> Result<Request, Refusal>
     match text_in(fields, "do")? {
         "open_variant" => integrator::open_variant(alloc, fields),
         "release" => integrator::release(alloc, fields),
+        "add_supplier" => integrator::add_supplier(alloc, fields),
         "add_node" => integrator::add_node(alloc, fields),
         "grant" => integrator::grant(alloc, fields),
         "revoke" => integrator::revoke(alloc, fields),

@@ -36,7 +36,7 @@ use Rattle.fr_world.specs.Nodes.{new_node}
 use Rattle.fr_world.specs.Pages.{own_rows_of, nodes_in, page_in}
 use Rattle.fr_world.specs.RowDecisions.{AreChecked, rows_decision}
 use Rattle.fr_world.specs.declared.edit.Edit.{Edit}
-use Rattle.fr_world.specs.declared.edit.Edit.TheVariants.{NewVariant, SetReleased, NewNode, Rows, KeepImport}
+use Rattle.fr_world.specs.declared.edit.Edit.TheVariants.{NewVariant, SetReleased, NewSupplier, NewNode, Rows, KeepImport}
 use Rattle.fr_world.proofs.AgreeLaws.{edits-agree}
 use Rattle.fr_world.proofs.FitsLaws.{none_there}
 use Rattle.fr_world.proofs.IntegratorLaws.{node-listed, row, row-of, row-there}
@@ -105,6 +105,7 @@ module _ (c : Cluster) (s v : Name) where
   one-fits b x there unreleased (NewVariant w parent depth) of own fits = absurd of
   one-fits b x there unreleased (SetReleased w) of own fits = absurd of
   one-fits b x there unreleased (NewNode t n) of own fits = absurd of
+  one-fits b x there unreleased (NewSupplier t key) of own fits = absurd of
   one-fits b x there unreleased (KeepImport t label w body rows) of own fits = absurd of
 
   -- and leaves the variant open
@@ -113,6 +114,7 @@ module _ (c : Cluster) (s v : Name) where
   still_open (NewVariant w parent depth) of = absurd of
   still_open (SetReleased w) of = absurd of
   still_open (NewNode t n) of = absurd of
+  still_open (NewSupplier t key) of = absurd of
   still_open (KeepImport t label w body rows) of = absurd of
 
   changed-keeps : (b : Book) (w : Name) (change : Variant → Variant) (o : Option Variant) → Keeps b (changed_at b w change o)
@@ -126,6 +128,7 @@ module _ (c : Cluster) (s v : Name) where
   one-keeps b (NewVariant w parent depth) of = absurd of
   one-keeps b (SetReleased w) of = absurd of
   one-keeps b (NewNode t n) of = absurd of
+  one-keeps b (NewSupplier t key) of = absurd of
   one-keeps b (KeepImport t label w body rows) of = absurd of
 
   -- the edits fit, and then more that fit a book in which these stay

@@ -18,6 +18,7 @@ pub mod ScheduleLaws
 pub mod TriggeringLaws
 pub mod FrameLaws
 pub mod IntegratorLaws
+pub mod JoiningLaws
 pub mod RemoveLaws
 pub mod AmendLaws
 pub mod AmendSignals

@@ -11,7 +11,7 @@ use Rattle.fr_base.specs.declared.request.Change.TheVariants as change
 use Rattle.fr_world.specs.BookEdits.{applied}
 use Rattle.fr_world.specs.Edits.{FitsFrame}
 use Rattle.fr_world.specs.declared.edit.Edit.{Edit}
-use Rattle.fr_world.specs.declared.edit.Edit.TheVariants.{NewVariant, SetReleased, NewNode, Rows, KeepImport}
+use Rattle.fr_world.specs.declared.edit.Edit.TheVariants.{NewVariant, SetReleased, NewSupplier, NewNode, Rows, KeepImport}
 
 -- The variant is there, and open.
 pub record IsOpen (b : Book) (v : Name) (x : Variant) : Type 0 where
@@ -34,6 +34,7 @@ FitsVariant nodes s x (change.Frame f what) = FitsFrame nodes s (get x.frames (s
 abbrev pub Fits : Book → Edit → Type 0
 Fits b (NewVariant v parent depth) = (get b.variants v ≡ None) × IsOpenedFrom b.variants parent depth × (depth ≤ MAX_DEPTH)
 Fits b (SetReleased v) = (x : Variant) × IsOpen b v x
+Fits b (NewSupplier s key) = get b.suppliers s ≡ None
 Fits b (NewNode s n) = IsTrue (contains b.suppliers s) × (get b.nodes (s, n) ≡ None)
 Fits b (Rows s v what) = (x : Variant) × IsOpen b v x × FitsVariant b.nodes s x what
 Fits b (KeepImport s label v body rows) = IsTrue (contains b.suppliers s) × IsTrue (contains b.variants v) × (get b.imports (s, label) ≡ None)

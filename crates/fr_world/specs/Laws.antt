@@ -3,14 +3,16 @@ use Rattle.std.specs.Prelude.{◌≡◌, ◌||◌, ◌++◌, ℕ, List, [], ◌�
 use Rattle.fr_base.specs.Refusing.{◌>>=◌, ◌>>◌, refuse◌when◌}
 use Rattle.fr_base.specs.Tables.{get, contains}
 use Rattle.fr_base.specs.Cluster.{Cluster}
+use Rattle.fr_base.specs.Joining.{joined}
 use Rattle.fr_base.specs.Names.{same_text}
 use Rattle.fr_base.specs.Parameters.{check_params}
-use Rattle.fr_base.specs.Book.{Variant, Kept, Book}
+use Rattle.fr_base.specs.Book.{Variant, Kept, Book, file_of}
 use Rattle.fr_base.specs.Sound.{IsSound}
 use Rattle.fr_base.specs.ImportRows.{rows_of_body}
-use Rattle.fr_base.specs.Step.{add_node, common, change_rows, own_rows, act_rows, import}
+use Rattle.fr_base.specs.Step.{add_supplier, add_node, common, change_rows, own_rows, act_rows, import}
 use Rattle.fr_base.specs.declared.channel.Channel.{Channel}
 use Rattle.fr_base.specs.declared.import.RowRead.{RowRead}
+use Rattle.fr_base.specs.declared.key.Key.{Key}
 use Rattle.fr_base.specs.declared.name.Name.{Name}
 use Rattle.fr_base.specs.declared.params.Params.{Params}
 use Rattle.fr_base.specs.declared.refusal.Refusal.TheVariants.{Taken}
@@ -28,8 +30,9 @@ use Rattle.fr_world.specs.ImportLabels.{after_label, label_decision}
 use Rattle.fr_world.specs.ImportLimits.{new_import}
 use Rattle.fr_world.specs.RowDecisions.{AreChecked, rows_decision}
 use Rattle.fr_world.specs.declared.edit.Edit.{Edit}
-use Rattle.fr_world.specs.declared.edit.Edit.TheVariants.{KeepImport}
+use Rattle.fr_world.specs.declared.edit.Edit.TheVariants.{NewSupplier, KeepImport}
 use Rattle.fr_world.specs.Nodes.{new_node}
+use Rattle.fr_world.specs.Suppliers.{new_supplier}
 use Rattle.fr_world.specs.Pages.{PageData, IsKept, nodes_in, own_rows_of, page_in}
 
 -- A supplier's rows of a sound book are a page's.
@@ -88,6 +91,18 @@ RevokeDecides = (c : Cluster) (b : Book) (s v : Name) (x : Variant) (k : ℕ) (c
     get b.variants v ≡ Some x → IsTrue (contains b.suppliers s) →
     change_rows c.params b s v (Revoke k channel)
     ≡ (decision (page_in c.params b s v x) (Revoke k channel) >>= λ edits. Ok (all_applied b edits))
+
+-- In any book a supplier that joins is decided by the list of those that are there.
+abbrev pub JoiningDecides : Type 0
+JoiningDecides = (c : Cluster) (b : Book) (s : Name) (key : Key) → add_supplier c b s key ≡ (new_supplier (file_of c b) s key >>= λ edit. Ok (applied b edit))
+
+-- What is decided so fits.
+abbrev pub JoiningFits : Type 0
+JoiningFits = (c : Cluster) (b : Book) (s : Name) (key : Key) (edit : Edit) → new_supplier (file_of c b) s key ≡ Ok edit → Fits b edit
+
+-- And a supplier of a new name joins the book as it joins the list.
+abbrev pub JoiningIsListed : Type 0
+JoiningIsListed = (c : Cluster) (b : Book) (s : Name) (key : Key) → Fits b (NewSupplier s key) → file_of c (applied b (NewSupplier s key)) ≡ joined (file_of c b) s key
 
 -- In any book a new node for a supplier that is there is decided by the supplier's nodes.
 abbrev pub NodeDecides : Type 0

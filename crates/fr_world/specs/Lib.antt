@@ -17,6 +17,7 @@ pub mod CycleChannels
 pub mod Occupancies
 pub mod Common
 pub mod Nodes
+pub mod Suppliers
 pub mod Sendings
 pub mod Amends
 pub mod Building

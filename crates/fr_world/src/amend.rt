@@ -70,7 +70,7 @@ impl Page {
                     change_frame(frames, cells, alloc, words, *frame, change)
                 }
             },
-            Edit::NewVariant { .. } | Edit::KeepImport { .. } => Ok(()),
+            Edit::NewVariant { .. } | Edit::NewSupplier { .. } | Edit::KeepImport { .. } => Ok(()),
         }
     }
 }

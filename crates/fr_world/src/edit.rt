@@ -1,5 +1,5 @@
 //! The changes of which the register's rows are made.
-use fr_base::{Body, Change, Name};
+use fr_base::{Body, Change, Key, Name};
 
 /// A change of the register's rows, with their keys and, where it adds a row, all of it.
 #[derive(Drop, PartialEq, Eq)]
@@ -14,6 +14,11 @@ pub enum Edit {
     /// The variant is released.
     SetReleased {
         variant: Name,
+    },
+    /// A supplier, with the key by which it is known.
+    NewSupplier {
+        supplier: Name,
+        key: Key,
     },
     /// A node of the supplier.
     NewNode {

@@ -1,5 +1,5 @@
 //! Laws of pages: what is decided on one is the register's step.
-ghost use Rattle.fr_world.specs.Laws.{CommonDecides, CommonFits, DecisionFits, DecisionLeads, EditsAgree, GrantDecides, ImportFits, LabelDecides, NewImportDecides, NodeDecides, NodeFits, OthersStay, RevokeDecides, RowsAreChecked, RowsAreTheRegisters, RowsDecide, RowsFit, RowsLead, SoundRowsAreAPage, SupplierDecides};
+ghost use Rattle.fr_world.specs.Laws.{CommonDecides, CommonFits, DecisionFits, DecisionLeads, EditsAgree, GrantDecides, ImportFits, JoiningDecides, JoiningFits, JoiningIsListed, LabelDecides, NewImportDecides, NodeDecides, NodeFits, OthersStay, RevokeDecides, RowsAreChecked, RowsAreTheRegisters, RowsDecide, RowsFit, RowsLead, SoundRowsAreAPage, SupplierDecides};
 
 /// In a sound book a supplier's rows of a variant are a page's.
 pub fn sound_rows_are_a_page()
@@ -51,6 +51,21 @@ pub fn grant_decides()
 /// the page's edits make of it.
 pub fn revoke_decides()
     ensures { RevokeDecides }
+{}
+
+/// A supplier that joins is decided by the list of those that are there.
+pub fn joining_decides()
+    ensures { JoiningDecides }
+{}
+
+/// What is decided so fits the register's rows.
+pub fn joining_fits()
+    ensures { JoiningFits }
+{}
+
+/// And a supplier of a new name joins the register as it joins the list.
+pub fn joining_is_listed()
+    ensures { JoiningIsListed }
 {}
 
 /// A node for a supplier is decided by the supplier's nodes.

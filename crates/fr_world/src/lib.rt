@@ -24,6 +24,7 @@ mod page_sendings;
 mod row_occupancy;
 mod sendings;
 mod slot_table;
+mod suppliers;
 mod triggerings;
 mod variants;
 
@@ -36,9 +37,10 @@ pub use import_room::admit_import;
 pub use kept_import::KeptImport;
 pub use laws::{
     common_decides, common_fits, decision_fits, decision_leads, edits_agree, grant_decides,
-    import_fits, label_decides, new_import_decides, node_decides, node_fits, others_stay,
-    revoke_decides, rows_are_checked, rows_are_the_registers, rows_decide, rows_fit, rows_lead,
-    sound_rows_are_a_page, supplier_decides,
+    import_fits, joining_decides, joining_fits, joining_is_listed, label_decides,
+    new_import_decides, node_decides, node_fits, others_stay, revoke_decides, rows_are_checked,
+    rows_are_the_registers, rows_decide, rows_fit, rows_lead, sound_rows_are_a_page,
+    supplier_decides,
 };
 pub use mask_occupancy::MaskOccupancy;
 pub use nodes::decide_node;
@@ -46,5 +48,6 @@ pub use occupancy::{Occupancy, TakenCell};
 pub use page::{ChannelSlot, Page, PageFrame, PageRows};
 pub use page_sendings::sent;
 pub use row_occupancy::RowOccupancy;
+pub use suppliers::decide_supplier;
 pub use triggerings::Triggerings;
 pub use variants::{VariantRow, decide_common};

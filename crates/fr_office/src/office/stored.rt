@@ -18,23 +18,23 @@ use sqlite_disk::Disk;
 impl<S: Alter> Office<Store<S>> {
     /// The store from which it answers, with the tables as they are.
     pub fn into_store(self) -> Store<S>
-        ensures { result ≡ self.warm.records }
+        ensures { result ≡ self.records }
     {
         self.into_records()
     }
 }
 
 impl<D: Disk + Drop> Office<Store<FileStore<D>>> {
-    /// Gives the files back, with each commit in the database file: they hold the register, under the same
-    /// cluster file and with the same book, and so does what a crash leaves of them. `Unavailable` where
-    /// they fail to close.
+    /// Gives the files back, with each commit in the database file: they hold the register, of the same
+    /// cluster and with the same book, and so does what a crash leaves of them. `Unavailable` where they
+    /// fail to close.
     pub fn close(self) -> Result<Files<D>, StoreFault>
         ensures usable { IfOk result (λ files. IsTrue (D.Disk.is_usable files.log) × IsTrue (D.Disk.is_usable files.db)) }
-        ensures clean { IfOk result (λ files. AreClean D.Disk files.log files.db → HasCleanDisk (file_state self.warm.records.conn)) }
+        ensures clean { IfOk result (λ files. AreClean D.Disk files.log files.db → HasCleanDisk (file_state self.records.conn)) }
         ensures book { IfOk result (λ files. AreClean D.Disk files.log files.db → (c : Cluster) (b : Book) →
-            StandsStored self.warm.records.config (file_state self.warm.records.conn) c b → HoldsBook c b (image_of D.Disk files)) }
+            StandsStored self.records.config (file_state self.records.conn) c b → HoldsBook c b (image_of D.Disk files)) }
         ensures survives { IfOk result (λ files. AreClean D.Disk files.log files.db → (image : _) → outcomes D.Disk files.log files.db image → (c : Cluster) (b : Book) →
-            StandsStored self.warm.records.config (file_state self.warm.records.conn) c b → HoldsBook c b image) }
+            StandsStored self.records.config (file_state self.records.conn) c b → HoldsBook c b image) }
         ensures told { IfErr result (λ e. e ≡ Unavailable) }
     {
         self.into_store().close()

@@ -7,7 +7,7 @@ ghost use Rattle.fr_base.specs.declared.request.Change.TheVariants.{Frame as OfF
 ghost use Rattle.fr_world.specs.declared.edit.Edit.TheVariants.{NewVariant, Rows};
 ghost use Rattle.fr_store.specs.Applying.{CarriesOut, StaysInside};
 
-use crate::applying::{frames, grants, imports, new_node, variants};
+use crate::applying::{frames, grants, imports, new_node, suppliers, variants};
 use fr_base::{Change, FrameChange, Name};
 use fr_world::Edit;
 use sqlite::{Alter, Error, Transaction};
@@ -105,6 +105,7 @@ pub fn carry_out<S: Alter>(
             depth,
         } => new_variant(tx, variant, *parent, *depth),
         Edit::SetReleased { variant } => variants::set_released(tx, variant),
+        Edit::NewSupplier { supplier, key } => suppliers::join(tx, supplier, key),
         Edit::NewNode { supplier, node } => new_node(tx, supplier, node),
         Edit::Rows {
             supplier,

@@ -44,9 +44,7 @@ pub fn read_level<S: Alter>(
     ensures refused { IfErr result (λ fault. fault ≡ Unavailable) }
     ensures survives { Survives (state S.Store tx.old.conn.now) (state S.Store tx.new.conn.now) (λ _. ⊥) }
 {
-    let Ok(rows) = tables::variants::one_inside(tx, variant) else {
-        return Err(StoreFault::Unavailable);
-    };
+    let rows = tables::variants::one_inside(tx, variant)?;
     let Some(row) = rows.as_slice().first() else {
         return Err(StoreFault::Unavailable);
     };

@@ -26,9 +26,7 @@ fn is_own<S: Alter>(
     ensures refused { IfErr result (λ fault. fault ≡ Unavailable) }
     ensures survives { Survives (state S.Store tx.old.conn.now) (state S.Store tx.new.conn.now) (λ _. ⊥) }
 {
-    let Ok(rows) = tables::frames::one_inside(tx, variant, supplier, frame) else {
-        return Err(StoreFault::Unavailable);
-    };
+    let rows = tables::frames::one_inside(tx, variant, supplier, frame)?;
     Ok(!rows.is_empty())
 }
 
@@ -91,8 +89,6 @@ pub fn make_own<S: Alter>(
     if owner == *variant {
         return Ok(());
     }
-    let Ok(_) = copy_frame(tx, &owner, variant, supplier, frame) else {
-        return Err(StoreFault::Unavailable);
-    };
+    copy_frame(tx, &owner, variant, supplier, frame)?;
     Ok(())
 }

@@ -61,15 +61,9 @@ fn frame_rows<S: Alter>(
     ensures refused { IfErr result (λ fault. fault ≡ Unavailable) }
     ensures spares { Spares (state S.Store conn.old) (state S.Store conn.new) }
 {
-    let Ok(frames) = tables::frames::of_supplier(conn, variant, supplier) else {
-        return Err(StoreFault::Unavailable);
-    };
-    let Ok(placements) = tables::placements::of_supplier(conn, variant, supplier) else {
-        return Err(StoreFault::Unavailable);
-    };
-    let Ok(signals) = tables::signals::of_supplier(conn, variant, supplier) else {
-        return Err(StoreFault::Unavailable);
-    };
+    let frames = tables::frames::of_supplier(conn, variant, supplier)?;
+    let placements = tables::placements::of_supplier(conn, variant, supplier)?;
+    let signals = tables::signals::of_supplier(conn, variant, supplier)?;
     Ok(FrameRows {
         frames,
         placements,

@@ -1,6 +1,6 @@
 //! The frames that a variant shows: its own, and where it is laid over its parent also those of the parent.
 
-ghost use Rattle.std.specs.Prelude.{◌≡◌, bytes_eq, option_map, slice_get, None, IfErr, IfSome, if◌then◌else◌};
+ghost use Rattle.std.specs.Prelude.{◌≡◌, bytes_eq, option_map, slice_get, None, IfErr, IfOk, IfSome, if◌then◌else◌};
 ghost use Rattle.std.specs.List.{list_any};
 ghost use Rattle.std.specs.Option.{option_or};
 ghost use Rattle.sqlite.specs.Held.{state};
@@ -47,9 +47,7 @@ pub(super) fn view_of<S: Alter>(
     let Some(Level { released, parent }) = level_of(conn, variant)? else {
         return Ok(None);
     };
-    let Some(above) = levels.checked_sub(1) else {
-        return Err(StoreFault::Unavailable);
-    };
+    let above = levels.checked_sub(1).ok_or(StoreFault::Unavailable)?;
     let Some(parent) = parent else {
         let frames = own_frames(alloc, conn, params, variant, supplier)?;
         return Ok(Some(View { released, frames }));
@@ -74,20 +72,20 @@ fn level_of<S: Alter>(conn: &mut Connection<S>, variant: &Name) -> Result<Option
     ensures refused { IfErr result (λ fault. fault ≡ Unavailable) }
     ensures spares { Spares (state S.Store conn.old) (state S.Store conn.new) }
 {
-    let Ok(rows) = tables::variants::one(conn, variant) else {
-        return Err(StoreFault::Unavailable);
-    };
-    first_level(rows.as_slice()).ok_or(StoreFault::Unavailable)
+    let rows = tables::variants::one(conn, variant)?;
+    first_level(rows.as_slice())
 }
 
-// The first row, if there is one. None where it has not its form.
-fn first_level(rows: &[Row]) -> Option<Option<Level>>
-    ensures { IfSome result (λ found. found ≡ option_map level_shown (slice_get rows.now 0)) }
+// What the first row says, if there is one. `Unavailable` where it has not its form.
+fn first_level(rows: &[Row]) -> Result<Option<Level>, StoreFault>
+    ensures level { IfOk result (λ found. found ≡ option_map level_shown (slice_get rows.now 0)) }
+    ensures refused { IfErr result (λ fault. fault ≡ Unavailable) }
 {
-    match rows.first() {
-        Some(row) => Some(Some(level_in(row)?)),
-        None => Some(None),
-    }
+    let Some(row) = rows.first() else {
+        return Ok(None);
+    };
+    let level = level_in(row).ok_or(StoreFault::Unavailable)?;
+    Ok(Some(level))
 }
 
 fn level_in(row: &Row) -> Option<Level>
@@ -113,9 +111,7 @@ fn lay_over<S: Alter>(
     ensures refused { IfErr result (λ fault. fault ≡ Unavailable) }
     ensures spares { Spares (state S.Store conn.old) (state S.Store conn.new) }
 {
-    let Ok(dropped) = tables::dropped::of_supplier(conn, variant, supplier) else {
-        return Err(StoreFault::Unavailable);
-    };
+    let dropped = tables::dropped::of_supplier(conn, variant, supplier)?;
     let own = own_frames(alloc, conn, params, variant, supplier)?;
     let Some(kept) = without(inherited, dropped.as_slice()) else {
         return Err(StoreFault::Unavailable);

@@ -1,5 +1,5 @@
 use Rattle.std.proofs.Common.{sym, subst}
-use Rattle.fr_base.specs.Step.{add_node, change_rows, common, perform}
+use Rattle.fr_base.specs.Step.{add_node, add_supplier, change_rows, common, perform}
 use Rattle.fr_base.specs.declared.request.Command.{Command}
 use Rattle.fr_answers.specs.Carried.{Performs}
 use Rattle.fr_answers.proofs.CommandLaws.{performed}
@@ -10,15 +10,23 @@ unfolding perform
 returns-in-Common-clause-does g c = λ clean.
     let old = g.R.Records.stands c.args.records.now in
     let new = g.R.Records.stands c.change_common.new.records in
-    subst (λ (command : Command). Performs old new c.change_common.result (λ cl b. perform cl.params b command)) (sym c.in-Common.is)
+    subst (λ (command : Command). Performs old new c.change_common.result (λ cl b. perform cl b command)) (sym c.in-Common.is)
     (performed old new c.change_common.result (λ cl b. common b c.in-Common.command) (c.change_common.ensures.does clean))
+
+pub returns-in-AddSupplier-clause-does : goal.returns-in-AddSupplier-clause-does
+unfolding perform
+returns-in-AddSupplier-clause-does g c = λ clean.
+    let old = g.R.Records.stands c.args.records.now in
+    let new = g.R.Records.stands c.add_supplier.new.records in
+    subst (λ (command : Command). Performs old new c.add_supplier.result (λ cl b. perform cl b command)) (sym c.in-AddSupplier.is)
+    (performed old new c.add_supplier.result (λ cl b. add_supplier cl b c.in-AddSupplier.supplier c.in-AddSupplier.key) (c.add_supplier.ensures.does clean))
 
 pub returns-in-AddNode-clause-does : goal.returns-in-AddNode-clause-does
 unfolding perform
 returns-in-AddNode-clause-does g c = λ clean.
     let old = g.R.Records.stands c.args.records.now in
     let new = g.R.Records.stands c.add_node.new.records in
-    subst (λ (command : Command). Performs old new c.add_node.result (λ cl b. perform cl.params b command)) (sym c.in-AddNode.is)
+    subst (λ (command : Command). Performs old new c.add_node.result (λ cl b. perform cl b command)) (sym c.in-AddNode.is)
     (performed old new c.add_node.result (λ cl b. add_node b c.in-AddNode.supplier c.in-AddNode.node) (c.add_node.ensures.does clean))
 
 pub returns-in-Rows-clause-does : goal.returns-in-Rows-clause-does
@@ -26,5 +34,5 @@ unfolding perform
 returns-in-Rows-clause-does g c = λ clean.
     let old = g.R.Records.stands c.args.records.now in
     let new = g.R.Records.stands c.change_rows.new.records in
-    subst (λ (command : Command). Performs old new c.change_rows.result (λ cl b. perform cl.params b command)) (sym c.in-Rows.is)
+    subst (λ (command : Command). Performs old new c.change_rows.result (λ cl b. perform cl b command)) (sym c.in-Rows.is)
     (performed old new c.change_rows.result (λ cl b. change_rows cl.params b c.in-Rows.supplier c.in-Rows.variant c.in-Rows.change) (c.change_rows.ensures.does clean))

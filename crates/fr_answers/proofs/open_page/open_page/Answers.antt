@@ -22,7 +22,7 @@ returns-then-not-has_supplier-clause-page g c = λ clean cl b stood sound.
     let told = c.in_ok-page.ensures.page clean cl b stood in (
       told.0,
       inr (open-unknown cl.params b c.args.supplier c.args.variant c.in-Some.page (sym c.in-Some.is ∙ told.1) (sym c.released.ensures ∙ c.if-released.false)
-          (named-there (g.R.Records.stands c.page.new.self) c.config.result.now c.args.supplier c.has_supplier.result _ c.config.ensures.config c.has_supplier.ensures c.if-not-has_supplier.true cl b told.0 sound)),
+          (named-there (g.R.Records.stands c.page.new.self) c.config.result.now c.args.supplier c.has_supplier.result _ c.config.ensures.config c.has_supplier.ensures c.if-not-has_supplier.true cl b told.0)),
     )
 
 pub returns-clause-page : goal.returns-clause-page
@@ -30,5 +30,5 @@ returns-clause-page g c = λ clean cl b stood sound.
     let told = c.in_ok-page.ensures.page clean cl b stood in (
       told.0,
       opened cl.params b c.args.supplier c.args.variant c.in-Some.page (sym c.in-Some.is ∙ told.1) (sym c.released.ensures ∙ c.if-released.false)
-          (named-there (g.R.Records.stands c.page.new.self) c.config.result.now c.args.supplier c.has_supplier.result _ c.config.ensures.config c.has_supplier.ensures c.if-not-has_supplier.false cl b told.0 sound),
+          (named-there (g.R.Records.stands c.page.new.self) c.config.result.now c.args.supplier c.has_supplier.result _ c.config.ensures.config c.has_supplier.ensures c.if-not-has_supplier.false cl b told.0),
     )

@@ -17,7 +17,7 @@ pub returns-then-branch-clause-replies : goal.returns-then-branch-clause-replies
 returns-then-branch-clause-replies g c = λ now.
     let records = g.R.Records in
     let old = records.stands c.args.records.now in
-    let mid = records.stands c.has_variant.new.records in
+    let mid = records.stands c.has_variant.new.self in
     let has = c.in_ok-has_variant.field-0 in
     all-replied old mid c.args.query.now has (asked old mid has c.variant_asked.result (variant_asked c.args.query.now) c.variant_asked.ensures (c.in_ok-has_variant.ensures.has (c.show_all.ensures.falls now)))
     (records.stands c.show_all.new.records) c.show_all.result c.if-branch.true (c.show_all.ensures.shows now)
@@ -26,6 +26,6 @@ pub returns-else-branch-clause-replies : goal.returns-else-branch-clause-replies
 returns-else-branch-clause-replies g c = λ now.
     let records = g.R.Records in
     let old = records.stands c.args.records.now in
-    let mid = records.stands c.has_variant.new.records in
+    let mid = records.stands c.has_variant.new.self in
     let has = c.in_ok-has_variant.field-0 in
     none-replied old mid c.args.query.now has (asked old mid has c.variant_asked.result (variant_asked c.args.query.now) c.variant_asked.ensures (c.in_ok-has_variant.ensures.has now)) c.if-branch.false

@@ -4,7 +4,7 @@ use Rattle.fr_base.specs.declared.actor.Actor.{Actor}
 use Rattle.fr_base.specs.declared.answer.Answer.TheVariants.{Refused}
 use Rattle.fr_base.specs.declared.refusal.Refusal.TheVariants.{UnknownKey}
 use Rattle.fr_cli.specs.Asked.{asked_by}
-use Rattle.fr_cli.specs.Output.{Replied}
+use Rattle.fr_cli.specs.ScriptRun.{Replied}
 use Rattle.fr_cli.proofs.asking.ask_by.Goals as goal
 
 pub returns-in-Some-clause-answers : goal.returns-in-Some-clause-answers

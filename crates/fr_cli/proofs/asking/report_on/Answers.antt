@@ -4,7 +4,7 @@ use Rattle.fr_base.specs.declared.request.Request.{Request}
 use Rattle.fr_cli.proofs.AskingLaws.{refused_prints}
 use Rattle.fr_cli.proofs.asking.report_on.Goals as goal
 use Rattle.fr_cli.specs.Asking.{IsAnswer, query_of, report_of}
-use Rattle.fr_cli.specs.Output.{Replied}
+use Rattle.fr_cli.specs.ScriptRun.{Replied}
 
 pub returns-then-is_refusal-clause-prints : goal.returns-then-is_refusal-clause-prints
 returns-then-is_refusal-clause-prints g c =

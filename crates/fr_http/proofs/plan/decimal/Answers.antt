@@ -1,4 +1,4 @@
-use Rattle.std.proofs.Common.{rules, ◌≡◌, ◌<◌, ◌≤◌, ◌+◌, ◌*◌, ◌-◌, get_or, length, true, sym, ◌∙◌}
+use Rattle.std.proofs.Common.{rules, ◌≡◌, true, sym}
 use Rattle.fr_http.specs.Outcome.{is_decimal}
 use Rattle.fr_http.proofs.PlanLaws.{all_digits, already_long, bad_length, next_digit}
 use Rattle.fr_http.proofs.plan.decimal.Goals as goal

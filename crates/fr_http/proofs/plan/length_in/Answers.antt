@@ -1,4 +1,4 @@
-use Rattle.std.proofs.Common.{rules, sym, ◌∙◌}
+use Rattle.std.proofs.Common.{sym, ◌∙◌}
 use Rattle.fr_http.proofs.PlanLaws.{needs_length, has_two, has_one, some_first, none_left}
 use Rattle.fr_http.proofs.plan.length_in.Goals as goal
 

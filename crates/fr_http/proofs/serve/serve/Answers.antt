@@ -1,4 +1,4 @@
-use Rattle.std.proofs.Common.{rules, ◌≡◌, Err, refl, ap, ◌∙◌, subst, false}
+use Rattle.std.proofs.Common.{◌≡◌, Err, refl, ap, ◌∙◌, subst, false}
 use Rattle.fr_base.specs.declared.answer.Answer.TheVariants as answer
 use Rattle.fr_http.specs.Connection.{HasTaken}
 use Rattle.fr_http.specs.Reply.{answer_reply, engine_reply}
@@ -16,7 +16,7 @@ returns-in-Err-Engine-clause-served g c =
     let is : c.take.result ≡ Err (Engine rejection) = c.in-Err-Engine.is ∙ ap (λ u. Err u) c.in-Err-Engine.field-0-is in
     let t : HasTaken (g.D.Desk.stands c.args.desk.now) (g.R.Read.remaining c.args.input.now.reader.now) (g.R.Read.remaining c.take.new.input.reader.now)
     (g.W.Write.contents c.args.output.now.writer.now) (g.W.Write.contents c.take.new.output.writer.now) (Err (Engine rejection)) = subst (HasTaken _ _ _ _ _) is c.take.ensures.taken in
-    served_unasked _ _ _ _ _ _ _ (Engine rejection) (engine_reply rejection) c.send.result t t.takes.0 t.takes.1 (λ _ _. (refl, refl))
+    served_unasked _ _ _ _ _ _ _ (Engine rejection) (engine_reply rejection) c.send.result t t.takes.0 t.takes.1 refl
     (replied c.engine_reply.result (engine_reply rejection) false _ _ c.send.result c.engine_reply.ensures c.send.ensures.sent c.send.ensures.none)
 
 pub returns-in-Err-Refused-clause-served : goal.returns-in-Err-Refused-clause-served
@@ -25,7 +25,7 @@ returns-in-Err-Refused-clause-served g c =
     let is : c.take.result ≡ Err (Refused refusal) = c.in-Err-Refused.is ∙ ap (λ u. Err u) c.in-Err-Refused.field-0-is in
     let t : HasTaken (g.D.Desk.stands c.args.desk.now) (g.R.Read.remaining c.args.input.now.reader.now) (g.R.Read.remaining c.take.new.input.reader.now)
     (g.W.Write.contents c.args.output.now.writer.now) (g.W.Write.contents c.take.new.output.writer.now) (Err (Refused refusal)) = subst (HasTaken _ _ _ _ _) is c.take.ensures.taken in
-    served_unasked _ _ _ _ _ _ _ (Refused refusal) (answer_reply Post (answer.Refused refusal)) c.send-in-Err-Refused.result t t.takes.0 t.takes.1 (λ _ _. (refl, refl))
+    served_unasked _ _ _ _ _ _ _ (Refused refusal) (answer_reply Post (answer.Refused refusal)) c.send-in-Err-Refused.result t t.takes.0 t.takes.1 refl
     (replied c.answer_reply.result (answer_reply Post (answer.Refused refusal)) false _ _ c.send-in-Err-Refused.result c.answer_reply.ensures c.send-in-Err-Refused.ensures.sent c.send-in-Err-Refused.ensures.none)
 
 pub returns-in-Err-Fault-clause-served : goal.returns-in-Err-Fault-clause-served

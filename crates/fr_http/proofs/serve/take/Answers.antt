@@ -1,4 +1,4 @@
-use Rattle.std.proofs.Common.{rules, ◌≡◌, ◌++◌, Err, Ok, None, Some, refl, sym, subst, ap, ◌∙◌}
+use Rattle.std.proofs.Common.{rules, ◌≡◌, ◌++◌, Err, Ok, None, Some, sym, subst, ap, ◌∙◌}
 use Rattle.fr_base.specs.declared.refusal.Refusal.TheVariants.{UnknownKey}
 use Rattle.fr_http.specs.Asking.{FindsActor, MakesRequest}
 use Rattle.fr_http.specs.Connection.{HasTaken}
@@ -6,7 +6,7 @@ use Rattle.fr_http.specs.Outcome.{Wanted, front}
 use Rattle.fr_http.specs.Reading.{LacksBody}
 use Rattle.fr_http.specs.Routes.{path_of, request_by}
 use Rattle.fr_http.specs.declared.fault.Unasked.TheVariants.{Fault, Refused}
-use Rattle.fr_http.proofs.ServeLaws.{Invited, no_actor, no_body, no_request, planned_nothing, received_nothing, to_ask}
+use Rattle.fr_http.proofs.ServeLaws.{no_actor, no_body, no_request, planned_nothing, received_nothing, to_ask}
 use Rattle.fr_http.proofs.serve.take.Goals as goal
 
 pub returns-in_err-received-clause-taken : goal.returns-in_err-received-clause-taken

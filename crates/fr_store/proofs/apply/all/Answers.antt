@@ -26,10 +26,10 @@ loop-edit-preserved g c =
           let come = c.loop-edit.invariant.1 clean_before inside has in
           let sees = c.in_ok-seen.ensures.seen clean_mid come.goes.inside come.goes.has come.so in
           let made = c.in_ok-make_ready.ensures.stays clean_ready sees.1.inside (has_still before mid sees.1.now come.goes.has) in
-          let stays = c.in-Ok.ensures.stays clean made.1.inside made.1.has in
+          let stays = c.in_ok-carry_out.ensures.stays clean made.1.inside made.1.has in
           one_more edits at edit within is c.loop-edit.seen c.in_ok-seen.seen old before mid ready new come sees.0 sees.1 made.0 made.1
           (λ cluster b stands fits so. c.in_ok-make_ready.ensures.ready clean_ready sees.1.inside cluster b stands fits so) stays.0 stays.1
-          (λ cluster b stands fits so is_ready. c.in-Ok.ensures.carried clean made.1.inside cluster b stands fits so is_ready),
+          (λ cluster b stands fits so is_ready. c.in_ok-carry_out.ensures.carried clean made.1.inside cluster b stands fits so is_ready),
       survives_both old before new c.loop-edit.invariant.2
           (survives_both before mid new c.see_variant.ensures.survives (survives_both mid ready new c.make_ready.ensures.survives c.carry_out.ensures.survives)),
     )

@@ -8,8 +8,8 @@ use Rattle.fr_store.proofs.CommitLemmas.{begun_inside, begun_stands, crash_leave
 use Rattle.fr_store.proofs.AgainLemmas.{still_stands}
 use Rattle.fr_store.proofs.apply.in_one.Goals as goal
 
-pub returns-in_default-clause-survives : goal.returns-in_default-clause-survives
-returns-in_default-clause-survives g c =
+pub returns-in_err-commit-clause-survives : goal.returns-in_err-commit-clause-survives
+returns-in_err-commit-clause-survives g c =
     let end = c.commit.new.self.0 in
     let same : end ≡ c.conn-2-1.given.0 = search rules in
     let inside = begun_inside g.S.Store c.args.conn.now c.transaction-tx.result.conn.now c.transaction-tx.ensures.begun in
@@ -36,4 +36,4 @@ returns-clause-stands g c clean cluster b stands fit =
     let inside = begun_inside g.S.Store c.args.conn.now c.transaction-tx.result.conn.now c.transaction-tx.ensures.begun in
     let carried = c.in_ok-all.ensures.carried clean_mid inside cluster b (begun_stands g.S.Store c.args.conn.now c.transaction-tx.result.conn.now c.transaction-tx.ensures.begun cluster b stands) fit in
     subst (λ h. Stands (state g.S.Store h) cluster (all_applied b c.args.edits.now)) same
-    (still_stands mid (state g.S.Store end) cluster (all_applied b c.args.edits.now) (c.in-Ok.ensures.ok late).1.now_is carried)
+    (still_stands mid (state g.S.Store end) cluster (all_applied b c.args.edits.now) (c.in_ok-commit.ensures.ok late).1.now_is carried)

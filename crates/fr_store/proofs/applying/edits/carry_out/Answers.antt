@@ -40,3 +40,12 @@ returns-in-NewNode-clause-stays g c clean inside has =
 pub returns-in-KeepImport-clause-stays : goal.returns-in-KeepImport-clause-stays
 returns-in-KeepImport-clause-stays g c clean inside has =
     one_stays _ (state g.S.Store c.args.tx.now.conn.now) (state g.S.Store c.keep_import.new.tx.conn.now) c.keep_import.result (λ t v over so. so) inside (c.keep_import.ensures.added clean inside has)
+
+pub returns-in-NewSupplier-clause-carried : goal.returns-in-NewSupplier-clause-carried
+returns-in-NewSupplier-clause-carried g c =
+    subst (λ edit. CarriesOut edit c.args.overlay (state g.S.Store c.args.tx.now.conn.now) (state g.S.Store c.join.new.tx.conn.now) c.join.result) (sym c.in-NewSupplier.is)
+    (λ clean inside cluster b stands fits so ready. c.join.ensures.stands clean inside cluster b stands fits)
+
+pub returns-in-NewSupplier-clause-stays : goal.returns-in-NewSupplier-clause-stays
+returns-in-NewSupplier-clause-stays g c clean inside has =
+    one_stays _ (state g.S.Store c.args.tx.now.conn.now) (state g.S.Store c.join.new.tx.conn.now) c.join.result (λ t v over so. so) inside (c.join.ensures.added clean inside has)

@@ -20,4 +20,4 @@ returns-clause-own g c clean inside cluster b stands =
     let found = (c.in_ok-owner.ensures.found clean_mid inside stands.has).1 in
     let other : c.in_ok-owner.owner ≢ c.args.variant.now = search rules in
     copied_own c.in_ok-owner.owner c.args.variant.now c.args.supplier.now c.args.frame.now old mid (state g.S.Store c.copy_frame.new.tx.conn.now)
-    found other (c.in-Ok.ensures.copied clean found.inside (has_after old mid found.now stands.has)) cluster b stands
+    found other (c.in_ok-copy_frame.ensures.copied clean found.inside (has_after old mid found.now stands.has)) cluster b stands

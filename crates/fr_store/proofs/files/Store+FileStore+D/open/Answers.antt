@@ -37,7 +37,7 @@ returns-in-Ok-open_on-clause-again g c clean up k b holds =
     let is = c.in-Ok.ensures.opens before in
     let image = image_of g.D.Disk c.args.files in
     let found = found_database image (file_state c.in-Ok.conn).now (database_of holds.trees) (is.1 is.0.is_open).0 (c.in-Ok.ensures.found before) holds.register.held in
-    c.in-Ok-open_on.ensures.again clean up k b holds.register.formed (held_stands image (file_state c.in-Ok.conn) k b holds found)
+    c.in-Ok-open_on.ensures.again clean up k b (held_stands image (file_state c.in-Ok.conn) k b holds found)
 
 pub returns-in-Some-clause-told : goal.returns-in-Some-clause-told
 returns-in-Some-clause-told g c clean d is held =

@@ -1,7 +1,7 @@
 use Rattle.std.proofs.Common.{◌≡◌, ap, arith, subst, IfOk, IfSome}
 use Rattle.sqlite.specs.Held.{state}
 use Rattle.sqlite.specs.State.{HasCleanDisk}
-use Rattle.fr_base.specs.Cluster.{Cluster}
+use Rattle.fr_base.specs.Cluster.{ClusterFile}
 use Rattle.fr_base.specs.declared.params.Params.{Params}
 use Rattle.fr_records.specs.Held.{page_of}
 use Rattle.fr_store.proofs.StoredLaws.{answered, told}
@@ -9,8 +9,8 @@ use Rattle.fr_store.proofs.store_records.StoreRecords.page.Goals as goal
 
 pub returns-clause-params : goal.returns-clause-params
 returns-clause-params g c =
-    let same = ap (λ (k : Cluster). k.params) c.see_open.ensures.config in
-    answered (λ found. IfSome found (λ page. page.params ≡ c.args.self.now.config.params)) c.page.result c.answer.result c.answer.ensures
+    let same = ap (λ (f : ClusterFile). f.cluster.params) c.see_open.ensures.config in
+    answered (λ found. IfSome found (λ page. page.params ≡ c.args.self.now.config.cluster.params)) c.page.result c.answer.result c.answer.ensures
     (subst (λ (p : Params). IfOk c.page.result (λ found. IfSome found (λ page. page.params ≡ p))) same c.page.ensures.params)
 
 pub returns-clause-page : goal.returns-clause-page
@@ -21,4 +21,4 @@ returns-clause-page g c clean cluster b stored =
     let ready = c.in_ok-see_open.ensures.open clean_mid in
     told mid (state g.S.Store c.page.new.self.conn) c.see_open.new.store.config c.page.new.self.config c.page.ensures.config clean cluster b there
     (λ found. found ≡ page_of cluster.params b c.args.supplier c.args.variant) c.page.result c.answer.result c.answer.ensures ready c.page.ensures.stays
-    (subst (λ x. IfOk c.page.result (λ found. found ≡ page_of x.params b c.args.supplier c.args.variant)) there.config (c.page.ensures.page clean cluster b (there.rows ready).0))
+    (subst (λ x. IfOk c.page.result (λ found. found ≡ page_of x.cluster.params b c.args.supplier c.args.variant)) there.config (c.page.ensures.page clean cluster b (there.rows ready).0))

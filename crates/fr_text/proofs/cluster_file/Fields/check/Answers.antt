@@ -2,7 +2,7 @@ use Rattle.std.proofs.Common.{◌≡◌, true, false, Err, inl, inr, IsTrue, ref
 use Rattle.std.proofs.lemmas.Result.{err_from_is_err_and}
 use Rattle.std.proofs.lemmas.Bool.{false≢true}
 use Rattle.fr_base.specs.Names.{is_key}
-use Rattle.fr_base.specs.Cluster.{Cluster, keys_of, keys_differ, names_rise}
+use Rattle.fr_base.specs.Cluster.{ClusterFile, keys_of, keys_differ, names_rise}
 use Rattle.fr_text.specs.SupplierTexts.{suppliers_of}
 use Rattle.fr_text.proofs.ClusterFileLemmas.{check_cluster-seen, check_params-same, read-some, read-none}
 use Rattle.fr_text.proofs.WellFormedLaws.{checked-well_formed}
@@ -63,4 +63,4 @@ new-requires c =
     let differ : keys_differ (keys_of c.self.inside.integrator.now (suppliers_of c.as_slice-texts.result.now)) ≡ true =
     rw (← key.1, ← read.0, ← c.as_slice.ensures, ← c.keys_differ.ensures) c.if-not-keys_differ.false in
     let params = check_params-same c.self.inside.params c.in_ok-params.params (sym c.in_ok-params.ensures) in
-    checked-well_formed c.args.self.now _ (subst (λ (k : Cluster). IsTrue (names_rise k.suppliers)) c.self.view_is c.self.invariant) (rw (rest, ← c.are_names.ensures, c.if-not-are_names.false, key.0, read.1, differ) (rw (params, key.1, read.0, c.as_slice-texts.ensures.value, ← c.self.view_is) refl))
+    checked-well_formed c.args.self.now _ (subst (λ (k : ClusterFile). IsTrue (names_rise k.suppliers)) c.self.view_is c.self.invariant) (rw (rest, ← c.are_names.ensures, c.if-not-are_names.false, key.0, read.1, differ) (rw (params, key.1, read.0, c.as_slice-texts.ensures.value, ← c.self.view_is) refl))

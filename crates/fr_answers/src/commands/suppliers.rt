@@ -1,0 +1,23 @@
+//! The integrator's command by which a supplier joins.
+ghost use Rattle.fr_base.specs.Step.{add_supplier};
+ghost use Rattle.fr_answers.specs.Carried.{Does};
+
+use fr_base::{Key, Name, Refusal};
+use fr_records::Records;
+use fr_world::decide_supplier;
+use std::alloc::Global;
+
+/// The supplier is there from now on, with this key and without nodes. Else `Exists`, `KeyTaken`, `Limit`, the
+/// first that applies.
+pub(crate) fn add_supplier<R: Records>(
+    alloc: Global,
+    records: &mut R,
+    supplier: Name,
+    key: Key,
+) -> Result<(), Refusal>
+    ensures falls { R.clean records.new → R.clean records.old }
+    ensures does { R.clean records.new → Does (R.stands records.old) (R.stands records.new) result (λ c b. add_supplier c b supplier key) }
+{
+    let edit = decide_supplier(records.config(), supplier, key)?;
+    records.apply(alloc, &[edit])
+}

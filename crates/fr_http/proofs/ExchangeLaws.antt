@@ -1,0 +1,173 @@
+-- Exchanges that are a supplier's, with the register of the supplier alone; and what asks nothing.
+use Rattle.std.proofs.Common.{◌≡◌, ◌≢◌, inl, inr, ℕ, true, false, true≢false, List, [], ◌∷◌, Option, Some, None, Result, Ok, Err, sym, ap, ◌∙◌, subst}
+use Rattle.std.proofs.lemmas.Bool.{cases_Bool}
+use Rattle.fr_base.specs.Actors.{actor_of}
+use Rattle.fr_base.specs.Alone.{is_mine, rows_of}
+use Rattle.fr_base.specs.Book.{Book}
+use Rattle.fr_base.specs.Cluster.{Cluster}
+use Rattle.fr_base.specs.Refusing.{◌>>=◌, ◌or◌}
+use Rattle.fr_base.specs.Run.{IsRun}
+use Rattle.fr_base.specs.Sound.{IsSound}
+use Rattle.fr_base.specs.declared.actor.Actor.{Actor}
+use Rattle.fr_base.specs.declared.answer.Answer.{Answer}
+use Rattle.fr_base.specs.declared.name.Name.{Name}
+use Rattle.fr_base.specs.declared.refusal.Refusal.TheVariants.{BadText, UnknownKey}
+use Rattle.fr_base.specs.declared.request.Ask.{Ask}
+use Rattle.fr_base.specs.declared.request.Request.{Request}
+use Rattle.fr_base.proofs.SoundSteps.{step-sound}
+use Rattle.fr_base.proofs.AloneSteps.{step-alone, step-not_mine}
+use Rattle.fr_http.specs.Exchanges.{AreExchanged, Asks, Exchange, IsReplied, is_own, own_exchanges}
+use Rattle.fr_http.specs.Head.{HeadData, key_of, said}
+use Rattle.fr_http.specs.Outcome.{IsOutcome, by_engine, front, holder, outcome_of, plan_of}
+use Rattle.fr_http.specs.Routes.{method_of, path_of, request_by}
+use Rattle.fr_http.specs.declared.asked.Asked.{Asked}
+use Rattle.fr_http.specs.declared.fault.Unasked.{Unasked}
+use Rattle.fr_http.specs.declared.fault.Unasked.TheVariants.{Refused, Fault}
+use Rattle.fr_http.specs.declared.fault.LinkFault.TheVariants.{Truncated}
+use Rattle.fr_http.specs.declared.method.Method.{Method}
+use Rattle.fr_http.proofs.AloneActors.{actor-alone, is_heard, mine-heard, not_lacked}
+
+-- ---- what bytes ask, where the key of who asks has the same holder
+
+-- two chains that go the same way to their last line have the same outcome
+bind_alike : {A B E : Type 0} (r : Result A E) (f g : A → Result B E) (v : B) → ((x : A) → f x ≡ Ok v → g x ≡ Ok v) → r >>= f ≡ Ok v → r >>= g ≡ Ok v
+unfolding ◌>>=◌
+bind_alike (Ok x) f g v same is = same x is
+bind_alike (Err e) f g v same is = absurd cc
+
+actor_in : Actor → Result Asked Unasked → Actor
+actor_in other (Ok asked) = asked.ask.actor
+actor_in other (Err unasked) = other
+
+-- the last line: who asks, if there is someone
+abbrev asks_found : Option Actor → Request → Method → Result Asked Unasked
+asks_found found request method = (found or Refused UnknownKey) >>= λ actor. Ok (record { ask = record { actor = actor; request = request }; method = method })
+
+module _ (who alone : List ℕ → Option Actor) (asked : Asked) (heard : (key : List ℕ) → who key ≡ Some asked.ask.actor → alone key ≡ Some asked.ask.actor) where
+  is_found : (found : Option Actor) (request : Request) (method : Method) → asks_found found request method ≡ Ok asked → found ≡ Some asked.ask.actor
+  unfolding ◌>>=◌ ◌or◌ actor_in
+  is_found None request method is = absurd cc
+  is_found (Some actor) request method is = ap Some (ap (actor_in actor) is)
+
+  held_alike : (key : Option (List ℕ)) (request : Request) (method : Method) → asks_found (holder who key) request method ≡ Ok asked → asks_found (holder alone key) request method ≡ Ok asked
+  held_alike None request method is = is
+  held_alike (Some key) request method is =
+      let found = is_found (who key) request method is in
+      ap (λ o. asks_found o request method) (heard key found ∙ sym found) ∙ is
+
+  asks_alike : (head : HeadData) (rest : List ℕ) → outcome_of who head rest ≡ Ok asked → outcome_of alone head rest ≡ Ok asked
+  unfolding outcome_of
+  asks_alike head rest =
+      bind_alike (by_engine (plan_of head)) _ _ asked (λ plan.
+      bind_alike (front plan.length rest or Fault Truncated) _ _ asked (λ body.
+      bind_alike (request_by plan.route (path_of head.target) body or Refused BadText) _ _ asked (λ request.
+      held_alike (key_of head) request (method_of plan.route))))
+
+  outcome_alike : (bytes before : List ℕ) → IsOutcome who bytes before (Ok asked) → IsOutcome alone bytes before (Ok asked)
+  outcome_alike bytes before (inl by_head) = inl (record {
+    head = by_head.head;
+    rest = by_head.rest;
+    begins = by_head.begins;
+    asks = sym (asks_alike (said by_head.head) by_head.rest (sym by_head.asks));
+    interim = by_head.interim;
+  })
+  outcome_alike bytes before (inr without) = let none : Ok asked ≡ Err without.unasked = without.asks in absurd cc
+
+-- ---- what bytes do not ask
+
+-- two chains that go the same way to their last line have the same refusal
+bind_refused_alike : {A B E : Type 0} (r : Result A E) (f g : A → Result B E) (e : E) → ((x : A) → f x ≡ Err e → g x ≡ Err e) → r >>= f ≡ Err e → r >>= g ≡ Err e
+unfolding ◌>>=◌
+bind_refused_alike (Ok x) f g e same is = same x is
+bind_refused_alike (Err d) f g e same is = is
+
+cause_in : Unasked → Result Asked Unasked → Unasked
+cause_in other (Ok asked) = other
+cause_in other (Err unasked) = unasked
+
+module _ (who alone : List ℕ → Option Actor) (unasked : Unasked) (known : unasked ≢ Refused UnknownKey) where
+  not_refused : (found : Option Actor) (request : Request) (method : Method) → asks_found found request method ≡ Err unasked → ⊥
+  unfolding ◌>>=◌ ◌or◌ cause_in
+  not_refused None request method is = known (sym (ap (cause_in unasked) is))
+  not_refused (Some actor) request method is = cc
+
+  unasked_alike : (head : HeadData) (rest : List ℕ) → outcome_of who head rest ≡ Err unasked → outcome_of alone head rest ≡ Err unasked
+  unfolding outcome_of
+  unasked_alike head rest =
+      bind_refused_alike (by_engine (plan_of head)) _ _ unasked (λ plan.
+      bind_refused_alike (front plan.length rest or Fault Truncated) _ _ unasked (λ body.
+      bind_refused_alike (request_by plan.route (path_of head.target) body or Refused BadText) _ _ unasked (λ request is.
+      absurd (not_refused (holder who (key_of head)) request (method_of plan.route) is))))
+
+  unasked_outcome_alike : (bytes before : List ℕ) → IsOutcome who bytes before (Err unasked) → IsOutcome alone bytes before (Err unasked)
+  unasked_outcome_alike bytes before (inl by_head) = inl (record {
+    head = by_head.head;
+    rest = by_head.rest;
+    begins = by_head.begins;
+    asks = sym (unasked_alike (said by_head.head) by_head.rest (sym by_head.asks));
+    interim = by_head.interim;
+  })
+  unasked_outcome_alike bytes before (inr without) = inr without
+
+pub replied-alike : (c d : Cluster) (b e : Book) (x : Exchange) (replied : IsReplied c b x) → replied.unasked ≢ Refused UnknownKey → IsReplied d e x
+replied-alike c d b e x replied known = record {
+  before = replied.before;
+  unasked = replied.unasked;
+  outcome = unasked_outcome_alike (actor_of c b) (actor_of d e) replied.unasked known x.read replied.before replied.outcome;
+  reply = replied.reply;
+  is_reply = replied.is_reply;
+  told = replied.told;
+}
+
+-- ---- a connection
+
+module _ (s : Name) (c : Cluster) (b last : Book) where
+  step-own : IsSound c b → (ask : Ask) (answer : Answer) → is_mine s ask.actor ask.request answer ≡ true → IsRun c b (ask ∷ []) (answer ∷ []) last →
+      IsRun c (rows_of s b) (ask ∷ []) (answer ∷ []) (rows_of s last)
+  step-own sound ask answer mine (inl lacks) = absurd (true≢false (sym mine ∙ ap (is_mine s ask.actor ask.request) lacks.1 ∙ not_lacked s ask.actor ask.request))
+  step-own sound ask answer mine (inr steps) =
+      let same = step-alone c b s ask.actor ask.request sound (ap (is_mine s ask.actor ask.request) (sym steps.0) ∙ mine) in
+      inr (steps.0 ∙ sym same.0, ap (rows_of s) steps.1 ∙ sym same.1)
+
+  step-other : (ask : Ask) (answer : Answer) → is_mine s ask.actor ask.request answer ≡ false → IsRun c b (ask ∷ []) (answer ∷ []) last → rows_of s last ≡ rows_of s b
+  step-other ask answer other (inl lacks) = ap (rows_of s) lacks.2
+  step-other ask answer other (inr steps) =
+      ap (rows_of s) steps.1 ∙ step-not_mine c b s ask.actor ask.request (ap (is_mine s ask.actor ask.request) (sym steps.0) ∙ other)
+
+  asks-own : (x : Exchange) (a : Option (Asked × Answer)) → IsSound c b → is_own s a ≡ true → Asks c b x a last → Asks c (rows_of s b) x a (rows_of s last)
+  asks-own x None sound own so = cc
+  asks-own x (Some (asked, answer)) sound own so =
+      let ask = asked.ask in
+      let heard : (key : List ℕ) → actor_of c b key ≡ Some ask.actor → actor_of c (rows_of s b) key ≡ Some ask.actor =
+      λ key has. actor-alone s c b key (ap (is_heard s) has ∙ mine-heard s ask.actor ask.request answer own) ∙ has in
+      record {
+        before = so.before;
+        outcome = outcome_alike (actor_of c b) (actor_of c (rows_of s b)) asked heard x.read so.before so.outcome;
+        step = step-own sound ask answer own so.step;
+        told = so.told;
+      }
+
+  asks-other : (x : Exchange) (a : Option (Asked × Answer)) → is_own s a ≡ false → Asks c b x a last → rows_of s last ≡ rows_of s b
+  asks-other x None other so = ap (rows_of s) so.0
+  asks-other x (Some (asked, answer)) other so = step-other asked.ask answer other so.step
+
+  step-keeps : IsSound c b → (ask : Ask) (answer : Answer) → IsRun c b (ask ∷ []) (answer ∷ []) last → IsSound c last
+  step-keeps sound ask answer (inl lacks) = subst (IsSound c) (sym lacks.2) sound
+  step-keeps sound ask answer (inr steps) = subst (IsSound c) (sym steps.1) (step-sound c b sound ask.actor ask.request)
+
+  asks-sound : (x : Exchange) (a : Option (Asked × Answer)) → IsSound c b → Asks c b x a last → IsSound c last
+  asks-sound x None sound so = subst (IsSound c) (sym so.0) sound
+  asks-sound x (Some (asked, answer)) sound so = step-keeps sound asked.ask answer so.step
+
+-- ---- connections one after another
+
+pub exchanges-alone : (c : Cluster) (b last : Book) (xs : List Exchange) (s : Name) → IsSound c b → AreExchanged c b xs last →
+    AreExchanged c (rows_of s b) (own_exchanges s xs) (rows_of s last)
+exchanges-alone c b last [] s sound so = ap (rows_of s) so
+exchanges-alone c b last (x ∷ xs) s sound so =
+    let next : Book = so.0 in
+    let rest = exchanges-alone c next last xs s (asks-sound s c b next x x.asked sound so.1.1) so.2 in
+    elim (cases_Bool (is_own s x.asked)) [
+      | inl own ↦ rw own (rows_of s next, (so.1.0, asks-own s c b next x x.asked sound own so.1.1), rest)
+      | inr other ↦ rw other (subst (λ d. AreExchanged c d (own_exchanges s xs) (rows_of s last)) (asks-other s c b next x x.asked other so.1.1) rest)
+    ]

@@ -1,0 +1,85 @@
+-- What happens on connections that are served one after another, and what of it is one supplier's.
+use Rattle.std.specs.Prelude.{◌≡◌, ℕ, Bool, false, List, [], ◌∷◌, ◌++◌, filter, Option, Some, None, is_some, Result, Ok, Err, IfOk}
+use Rattle.fr_base.specs.Actors.{actor_of}
+use Rattle.fr_base.specs.Alone.{is_mine}
+use Rattle.fr_base.specs.Book.{Book}
+use Rattle.fr_base.specs.Cluster.{Cluster}
+use Rattle.fr_base.specs.Run.{IsRun}
+use Rattle.fr_base.specs.declared.answer.Answer.{Answer}
+use Rattle.fr_base.specs.declared.answer.Answer.TheVariants as answer
+use Rattle.fr_base.specs.declared.name.Name.{Name}
+use Rattle.fr_http.specs.Outcome.{IsOutcome, asked_before}
+use Rattle.fr_http.specs.Reply.{Reply, answer_reply, engine_reply, print}
+use Rattle.fr_http.specs.declared.asked.Asked.{Asked}
+use Rattle.fr_http.specs.declared.fault.LinkFault.{LinkFault}
+use Rattle.fr_http.specs.declared.fault.Unasked.{Unasked}
+use Rattle.fr_http.specs.declared.fault.Unasked.TheVariants.{Engine, Refused, Fault}
+use Rattle.fr_http.specs.declared.method.Method.TheVariants.{Post}
+use Rattle.fr_http.specs.declared.serve.Served.{Served}
+
+-- ---- one connection
+
+-- What happened on a connection: the bytes that were read of it, and those that were written to it; how it ended; and what the register
+-- was asked, with its answer, if it was asked.
+pub record Exchange : Type 0 where
+  pub read : List ℕ
+  pub written : List ℕ
+  pub done : Result Served LinkFault
+  pub asked : Option (Asked × Answer)
+
+-- whether the register was asked
+abbrev pub was_asked : Result Served LinkFault → Bool
+was_asked (Ok served) = served.asked
+was_asked (Err fault) = asked_before fault
+
+-- the reply where nothing is asked of the register, if there is one
+abbrev pub unasked_reply : Unasked → Option Reply
+unasked_reply (Engine rejection) = Some (engine_reply rejection)
+unasked_reply (Refused refusal) = Some (answer_reply Post (answer.Refused refusal))
+unasked_reply (Fault fault) = None
+
+-- Where the connection was served this was written before the body was read, and then the reply, whose status was told.
+abbrev pub IsTold : Exchange → List ℕ → Reply → Type 0
+IsTold x before reply = IfOk x.done (λ served. (x.written ≡ before ++ print reply) × (served.status ≡ reply.status))
+
+-- From this book the bytes read ask this. The register answered so by one step, to the last book, and that was the reply.
+pub record IsAnswered (c : Cluster) (b : Book) (x : Exchange) (asked : Asked) (answer : Answer) (last : Book) : Type 0 where
+  pub before : List ℕ
+  pub outcome : IsOutcome (actor_of c b) x.read before (Ok asked)
+  pub step : IsRun c b (asked.ask ∷ []) (answer ∷ []) last
+  pub told : IsTold x before (answer_reply asked.method answer)
+
+-- From this book the bytes read ask nothing, for this cause, to which there is a reply.
+pub record IsReplied (c : Cluster) (b : Book) (x : Exchange) : Type 0 where
+  pub before : List ℕ
+  pub unasked : Unasked
+  pub outcome : IsOutcome (actor_of c b) x.read before (Err unasked)
+  pub reply : Reply
+  pub is_reply : unasked_reply unasked ≡ Some reply
+  pub told : IsTold x before reply
+
+-- The register was asked, and answered; or it was not, and the book stays.
+abbrev pub Asks : Cluster → Book → Exchange → Option (Asked × Answer) → Book → Type 0
+Asks c b x (Some (asked, answer)) last = IsAnswered c b x asked answer last
+Asks c b x None last = (last ≡ b) × IfOk x.done (λ _. IsReplied c b x)
+
+-- From this book a connection may be served so, and then the book is the last.
+abbrev pub IsExchange : Cluster → Book → Exchange → Book → Type 0
+IsExchange c b x last = (was_asked x.done ≡ is_some x.asked) × Asks c b x x.asked last
+
+-- ---- connections one after another
+
+-- From this book connections may be served so, one after another, and then the book is the last.
+abbrev pub AreExchanged : Cluster → Book → List Exchange → Book → Type 0
+AreExchanged c b [] last = last ≡ b
+AreExchanged c b (x ∷ xs) last = (next : Book) × IsExchange c b x next × AreExchanged c next xs last
+
+-- whether what was asked, and answered so, is the supplier's: its own, unless it was answered Unavailable; or the integrator's, and it was
+-- done and is common or names the supplier
+abbrev pub is_own : Name → Option (Asked × Answer) → Bool
+is_own s None = false
+is_own s (Some (asked, answer)) = is_mine s asked.ask.actor asked.ask.request answer
+
+-- the exchanges that are the supplier's, in order
+abbrev pub own_exchanges : Name → List Exchange → List Exchange
+own_exchanges s xs = filter (λ x. is_own s x.asked) xs

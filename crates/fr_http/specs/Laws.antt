@@ -1,0 +1,21 @@
+-- What connections that are served one after another are for a supplier, and what asks nothing of the register.
+use Rattle.std.specs.Prelude.{◌≢◌, List}
+use Rattle.fr_base.specs.Alone.{rows_of}
+use Rattle.fr_base.specs.Book.{Book}
+use Rattle.fr_base.specs.Cluster.{Cluster}
+use Rattle.fr_base.specs.Sound.{IsSound}
+use Rattle.fr_base.specs.declared.name.Name.{Name}
+use Rattle.fr_base.specs.declared.refusal.Refusal.TheVariants.{UnknownKey}
+use Rattle.fr_http.specs.Exchanges.{AreExchanged, Exchange, IsReplied, own_exchanges}
+use Rattle.fr_http.specs.declared.fault.Unasked.TheVariants.{Refused}
+
+-- From a sound register connections were served so, one after another. Then the exchanges that are the supplier's, the same bytes read and
+-- the same bytes written, are those of the register that holds this supplier alone and begins with its rows, where it serves these
+-- connections alone; and it ends with the supplier's rows.
+abbrev pub ExchangesAreAlone : Type 0
+ExchangesAreAlone = (c : Cluster) (b last : Book) (xs : List Exchange) (s : Name) →
+    IsSound c b → AreExchanged c b xs last → AreExchanged c (rows_of s b) (own_exchanges s xs) (rows_of s last)
+
+-- What asks nothing has the same reply from every register, unless its key is nobody's.
+abbrev pub UnaskedIsAlike : Type 0
+UnaskedIsAlike = (c d : Cluster) (b e : Book) (x : Exchange) (replied : IsReplied c b x) → replied.unasked ≢ Refused UnknownKey → IsReplied d e x

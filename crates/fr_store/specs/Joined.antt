@@ -1,0 +1,16 @@
+-- What edits make of the suppliers that a config lists.
+use Rattle.std.specs.Prelude.{List, [], ◌∷◌}
+use Rattle.fr_base.specs.Cluster.{ClusterFile}
+use Rattle.fr_base.specs.Joining.{joined}
+use Rattle.fr_world.specs.declared.edit.Edit.{Edit}
+use Rattle.fr_world.specs.declared.edit.Edit.TheVariants.{NewSupplier}
+
+-- the file after an edit: one supplier more where one joins
+abbrev pub after_edit : ClusterFile → Edit → ClusterFile
+after_edit f (NewSupplier s key) = joined f s key
+after_edit f _ = f
+
+-- and after edits, one after the other
+abbrev pub after_edits : ClusterFile → List Edit → ClusterFile
+after_edits f [] = f
+after_edits f (edit ∷ edits) = after_edits (after_edit f edit) edits

@@ -1,0 +1,16 @@
+-- What is decided of a supplier that joins.
+use Rattle.std.specs.Prelude.{Result, Ok}
+use Rattle.fr_base.specs.Refusing.{◌>>◌}
+use Rattle.fr_base.specs.Cluster.{ClusterFile}
+use Rattle.fr_base.specs.Joining.{admits_supplier}
+use Rattle.fr_base.specs.declared.key.Key.{Key}
+use Rattle.fr_base.specs.declared.name.Name.{Name}
+use Rattle.fr_base.specs.declared.refusal.Refusal.{Refusal}
+use Rattle.fr_world.specs.declared.edit.Edit.{Edit}
+use Rattle.fr_world.specs.declared.edit.Edit.TheVariants.{NewSupplier}
+
+-- the edit by which the supplier joins those of the file; or the first refusal
+unfoldable pub new_supplier : ClusterFile → Name → Key → Result Edit Refusal
+new_supplier f s key = do
+  admits_supplier f s key
+  Ok (NewSupplier s key)
