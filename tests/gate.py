@@ -8,6 +8,7 @@ import subprocess
 import sys
 import time
 from pathlib import Path
+from typing import NamedTuple
 
 TOP = Path(__file__).resolve().parent.parent
 PROGRAM = "crates/slotplan/out/slotplan"
@@ -27,6 +28,15 @@ TRIALS = {
     "its memory refused": ["tests/refused.py", "--step", "120"],
 }
 COUNT = re.compile(r"(\d+) passed, (\d+) failed")
+# Lines that tell of a failure are shown once more at the end, so many of each command.
+FAILURE = re.compile(r"wanted|in place of|[Ff]ail|FAIL|error|not proved|Traceback|^crates/slotplan/out/slotplan")
+SHOWN = 10
+
+
+class Count(NamedTuple):
+    passed: int
+    failed: int
+    told: list
 
 
 def processor_minutes():
@@ -37,28 +47,34 @@ def processor_minutes():
 
 def counted(name, words):
     """Runs a command and shows what it says, as it says it, and how long it took. Gives what it counts at its end as passed
-    and as failed; a command that counts nothing, or ends with another status than its count, has failed once more."""
+    and as failed, and its lines that tell of a failure; a command that counts nothing, or ends with another status than its
+    count, has failed once more."""
     passed, failed = 0, 0
     begun, used = time.monotonic(), processor_minutes()
+    told = []
     with subprocess.Popen(words, cwd=TOP, stdin=subprocess.DEVNULL, stdout=subprocess.PIPE, text=True, errors="replace") as command:
         count = None
         for line in command.stdout:
             count = COUNT.fullmatch(line.rstrip("\n"))
             print(f"{name}: {line}" if count else line, end="", flush=True)
+            if FAILURE.search(line) and not count:
+                told.append(f"{name}: {line.rstrip()}")
     print(f"{name}: {(time.monotonic() - begun) / 60:.1f} minutes, {processor_minutes() - used:.1f} of processor time", flush=True)
     if count:
         passed, failed = int(count[1]), int(count[2])
     if not count or (command.returncode != 0) != (failed != 0):
         print(f"{name}: ended with status {command.returncode}, and counted {count[0] if count else 'nothing'}")
         failed += 1
-    return passed, failed
+    return Count(passed, failed, told[-SHOWN:] if failed else [])
 
 
 def main():
     counts = [counted("rt ci", ["rt", "ci"]), counted("the statements", [sys.executable, "tests/statements.py"])]
     for name, words in TRIALS.items():
         counts.append(counted(name, [sys.executable, *words, PROGRAM, f"{PROGRAM}.by-rattle"]))
-    passed, failed = (sum(each) for each in zip(*counts))
+    for line in (line for count in counts for line in count.told):
+        print(f"{line:.400}")
+    passed, failed = sum(count.passed for count in counts), sum(count.failed for count in counts)
     print(f"{passed} passed, {failed} failed")
     return 1 if failed else 0
 

@@ -92,7 +92,7 @@ def follow(program, page):
                 text += f"$ {command}\n{printed}"
                 passed += printed == wanted
                 if printed != wanted:
-                    wrong.append(f"$ {command}\nwanted:\n{wanted}printed:\n{printed}")
+                    wrong.append(f"$ {command}: wanted {wanted!r:.500}, got {printed!r:.500}")
             return f"{found['before']}\n\n```console\n{text}```\n"
 
         try:
