@@ -6,7 +6,7 @@ use Rattle.std.proofs.lemmas.Bool.{eqb-true, eqb-false, eq-eqb, ne_eqb, ltb-true
 use Rattle.std.proofs.Math.Bool.{and_comm}
 use Rattle.std.specs.Bool.{then_some}
 use Rattle.std.specs.List.{filter, find, list_all, list_any, range_with_len}
-use Rattle.fr_base.specs.Cycles.{Cycles, is_repetition, is_cycle_set, selects, cycle_count, all_cycles, cycles_of, has_cycle, first_common}
+use Rattle.fr_base.specs.Cycles.{Cycles, is_cycle_count, is_repetition, are_cycles, selects, all_cycles, cycles_of, has_cycle, first_common}
 
 -- a divisor is at most the number
 pub divisor_within : (n r : ℕ) → 0 < n → n % r ≡ 0 → r ≤ n
@@ -19,34 +19,32 @@ all-range p a (suc n) k l h all =
     let parts = and_parts (p a) _ all in
     elim (cases_eq a k) [ inl e ↦ rw (← e) parts.0 | inr ne ↦ all-range p (a + 1) n k (omega (arith, ne)) (omega arith) parts.1 ]
 
--- of two repetitions the smaller one divides the larger one: a test of them all
-abbrev divides : ℕ → ℕ → Bool
-divides a b = not (is_repetition cycle_count b && leb a b) || eqb (b % a) 0
-
-abbrev divides_each : ℕ → Bool
-divides_each a = not (is_repetition cycle_count a) || list_all (divides a) (range_with_len 1 cycle_count)
-
-divides_all : list_all divides_each (range_with_len 1 cycle_count) ≡ true
-unfolding cycle_count
-divides_all = refl
-
--- where a repetition stands among the numbers from 1
-pub in_range : (r : ℕ) → is_repetition cycle_count r ≡ true → (1 ≤ r) × (r < 1 + cycle_count)
-unfolding cycle_count
-in_range r h =
+-- a repetition is at least 1 and at most the count
+pub in_range : (n r : ℕ) → 0 < n → is_repetition n r ≡ true → (1 ≤ r) × (r ≤ n)
+in_range n r some h =
     let parts = and_parts (leb 1 r) _ h in
-    let above = leb-true 1 r parts.0 in
-    let below = divisor_within cycle_count r (omega arith) (eqb-true _ _ parts.1) in
-    (above, omega arith)
+    (leb-true 1 r parts.0, divisor_within n r some (eqb-true _ _ parts.1))
 
-pub repetition-divides : (a b : ℕ) → is_repetition cycle_count a ≡ true → is_repetition cycle_count b ≡ true → a ≤ b → b % a ≡ 0
-repetition-divides a b ra rb l =
-    let at_a = in_range a ra in
-    let at_b = in_range b rb in
-    let each : divides_each a ≡ true = all-range divides_each 1 cycle_count a at_a.0 at_a.1 divides_all in
-    let all : list_all (divides a) (range_with_len 1 cycle_count) ≡ true = rw ra at each in
-    let this : divides a b ≡ true = all-range (divides a) 1 cycle_count b at_b.0 at_b.1 all in
-    eqb-true _ _ (rw (rb, le-leb a b l) at this)
+-- the numbers of a set of cycles: the count is at most 64, the repetition at most the count, the base below the repetition
+pub record Within (s : Cycles) : Type 0 where
+  pub some : 8 ≤ s.count
+  pub most : s.count ≤ 64
+  pub from_one : 1 ≤ s.repetition
+  pub repetition : s.repetition ≤ s.count
+  pub base : s.base < s.repetition
+
+pub count_within : (n : ℕ) → is_cycle_count n ≡ true → (8 ≤ n) × (n ≤ 64)
+count_within n h =
+    let range = and_parts _ _ (and_parts (leb 8 n && leb n 64) _ h).0 in
+    (leb-true 8 n range.0, leb-true n 64 range.1)
+
+pub within : (s : Cycles) → IsTrue (are_cycles s) → Within s
+within s h =
+    let parts = and_parts (is_cycle_count s.count) _ h in
+    let count = count_within s.count parts.0 in
+    let set = and_parts (is_repetition s.count s.repetition) _ parts.1 in
+    let known = in_range s.count s.repetition (omega (arith, count.0)) set.0 in
+    record { some = count.0; most = count.1; from_one = known.0; repetition = known.1; base = ltb-true s.base s.repetition set.1 }
 
 -- a search of a range gives a number that passes where none before it does
 pub find-range_Some : (p : ℕ → Bool) (a n k : ℕ) → a ≤ k → k < a + n → p k ≡ true → ((j : ℕ) → j < k → p j ≡ false) → find p (range_with_len a n) ≡ Some k
@@ -91,95 +89,18 @@ any-filter_range_in q c a (suc n) l h = elim (cases_eq c a) [
 ]
 
 -- a cycle is in a set where the set selects it
-pub has_cycle-in : (s : Cycles) (c : ℕ) → c < cycle_count → has_cycle s c ≡ selects s c
+pub has_cycle-in : (s : Cycles) (c : ℕ) → c < s.count → has_cycle s c ≡ selects s c
 unfolding has_cycle cycles_of all_cycles
-has_cycle-in s c h = any-filter_range_in (selects s) c 0 cycle_count (omega arith) (omega arith)
+has_cycle-in s c h = any-filter_range_in (selects s) c 0 s.count (omega arith) (omega arith)
 
 -- no set has a cycle past the last one
-pub has_cycle-out : (s : Cycles) (c : ℕ) → cycle_count ≤ c → has_cycle s c ≡ false
+pub has_cycle-out : (s : Cycles) (c : ℕ) → s.count ≤ c → has_cycle s c ≡ false
 unfolding has_cycle cycles_of all_cycles
-has_cycle-out s c h = any-filter_range_out (selects s) c 0 cycle_count (inr (omega arith))
+has_cycle-out s c h = any-filter_range_out (selects s) c 0 s.count (inr (omega arith))
 
 -- a set has no cycle past the last one
-pub below-has_cycle : (s : Cycles) (c : ℕ) → has_cycle s c ≡ true → c < cycle_count
-below-has_cycle s c h = elim (cases_lt c cycle_count) [ inl l ↦ l | inr l ↦ absurd (true≢false (sym h ∙ has_cycle-out s c l)) ]
-
--- a search, in what one test keeps of a range, of what another test keeps of it
-find-both_Some : (p q : ℕ → Bool) (n k : ℕ) → k < n → p k ≡ true → q k ≡ true → ((j : ℕ) → j < k → (p j && q j) ≡ false) → find (λ c. list_any (eqb c) (filter q (range_with_len 0 n))) (filter p (range_with_len 0 n)) ≡ Some k
-find-both_Some p q n k h pk qk below =
-    let kept : (j : ℕ) → j < n → list_any (eqb j) (filter q (range_with_len 0 n)) ≡ q j = λ j l. any-filter_range_in q j 0 n (omega arith) (omega arith) in
-    find-filter _ p (range_with_len 0 n)
-    ∙ find-range_Some _ 0 n k (omega arith) (omega arith) (and_from _ _ pk (kept k h ∙ qk)) (λ j l. ap (λ b. p j && b) (kept j (omega arith)) ∙ below j l)
-
-find-both_None : (p q : ℕ → Bool) (n : ℕ) → ((j : ℕ) → j < n → (p j && q j) ≡ false) → find (λ c. list_any (eqb c) (filter q (range_with_len 0 n))) (filter p (range_with_len 0 n)) ≡ None
-find-both_None p q n none =
-    let kept : (j : ℕ) → j < n → list_any (eqb j) (filter q (range_with_len 0 n)) ≡ q j = λ j l. any-filter_range_in q j 0 n (omega arith) (omega arith) in
-    find-filter _ p (range_with_len 0 n)
-    ∙ find-range_None _ 0 n (λ j l. let low : j < n = omega arith in ap (λ b. p j && b) (kept j low) ∙ none j low)
-
--- a cycle that both select, below which they select none together, is the first common one
-first_common-Some : (s t : Cycles) (k : ℕ) → k < cycle_count → selects s k ≡ true → selects t k ≡ true → ((j : ℕ) → j < k → (selects s j && selects t j) ≡ false) → first_common s t ≡ Some k
-unfolding first_common has_cycle cycles_of all_cycles
-first_common-Some s t k h sk tk below = find-both_Some (selects s) (selects t) cycle_count k h sk tk below
-
-first_common-None : (s t : Cycles) → ((j : ℕ) → j < cycle_count → (selects s j && selects t j) ≡ false) → first_common s t ≡ None
-unfolding first_common has_cycle cycles_of all_cycles
-first_common-None s t none = find-both_None (selects s) (selects t) cycle_count none
-
--- a cycle set, as a fact
-abbrev pub IsCycleSet : Cycles → Type 0
-IsCycleSet s = IsTrue (is_cycle_set cycle_count s.base s.repetition)
-
--- the larger repetition's cycles leave, by the smaller one, the remainder that its base leaves
-remainder : (d p : Cycles) → IsCycleSet d → IsCycleSet p → d.repetition ≤ p.repetition → (c : ℕ) → selects p c ≡ true → c % d.repetition ≡ p.base % d.repetition
-remainder d p hd hp l c h =
-    let divides = dvd_of_mod-eq-zero d.repetition (repetition-divides _ _ (and_parts _ _ hd).0 (and_parts _ _ hp).0 l) in
-    sym (mod-mod_of_dvd d.repetition c divides) ∙ ap (λ n. n % d.repetition) (eqb-true _ _ h)
-
--- the base of the larger repetition, if it leaves the other base by the smaller one
-pub record Meet (d p : Cycles) : Type 0 where
-  pub here : p.base < cycle_count
-  pub dense : selects d p.base ≡ true
-  pub sparse : selects p p.base ≡ true
-  pub below : (j : ℕ) → j < p.base → selects p j ≡ false
-
-meet : (d p : Cycles) → IsCycleSet d → IsCycleSet p → p.base % d.repetition ≡ d.base → Meet d p
-meet d p hd hp e =
-    let within : p.base < p.repetition = ltb-true p.base p.repetition (and_parts (is_repetition cycle_count p.repetition) _ hp).1 in
-    let small = (in_range p.repetition (and_parts (is_repetition cycle_count p.repetition) _ hp).0).1 in
-    record {
-      here = omega arith;
-      dense = eq-eqb _ _ e;
-      sparse = eq-eqb _ _ (mod-eq_of_lt within);
-      below = λ j l. ne_eqb _ _ (λ q. let low : j < p.repetition = omega arith in omega (arith, mod-eq_of_lt low, q));
-    }
-
--- the bases agree by the smaller repetition: the first common cycle is the base of the larger one
-met : (d p : Cycles) → IsCycleSet d → IsCycleSet p → p.base % d.repetition ≡ d.base → (first_common d p ≡ Some p.base) × (first_common p d ≡ Some p.base)
-met d p hd hp e =
-    let m = meet d p hd hp e in (
-      first_common-Some d p p.base m.here m.dense m.sparse (λ j l. and_right _ _ (m.below j l)),
-      first_common-Some p d p.base m.here m.sparse m.dense (λ j l. and_left _ _ (m.below j l)),
-    )
-
--- they do not: no cycle is in both
-apart : (d p : Cycles) → IsCycleSet d → IsCycleSet p → d.repetition ≤ p.repetition → p.base % d.repetition ≢ d.base → (j : ℕ) → selects p j ≡ true → selects d j ≡ false
-apart d p hd hp l ne j h = ne_eqb _ _ (λ e. ne (sym (remainder d p hd hp l j h) ∙ e))
-
-missed : (d p : Cycles) → IsCycleSet d → IsCycleSet p → d.repetition ≤ p.repetition → p.base % d.repetition ≢ d.base → (first_common d p ≡ None) × (first_common p d ≡ None)
-missed d p hd hp l ne =
-    let none : (j : ℕ) → (selects d j && selects p j) ≡ false =
-    λ j. elim (cases_Bool (selects p j)) [ inl t ↦ and_left _ _ (apart d p hd hp l ne j t) | inr f ↦ and_right _ _ f ] in
-    let none_back : (j : ℕ) → (selects p j && selects d j) ≡ false =
-    λ j. elim (cases_Bool (selects p j)) [ inl t ↦ and_right _ _ (apart d p hd hp l ne j t) | inr f ↦ and_left _ _ f ] in
-    (first_common-None d p (λ j l. none j), first_common-None p d (λ j l. none_back j))
-
--- the first common cycle of two sets, by the bases and the smaller repetition, in either order
-pub first_common_by_bases : (d p : Cycles) → IsCycleSet d → IsCycleSet p → d.repetition ≤ p.repetition → let least : Option ℕ = then_some (eqb (p.base % d.repetition) d.base) p.base in (first_common d p ≡ least) × (first_common p d ≡ least)
-first_common_by_bases d p hd hp l = elim (cases_Bool (eqb (p.base % d.repetition) d.base)) [
-  | inl t ↦ rw t (met d p hd hp (eqb-true _ _ t))
-  | inr f ↦ rw f (missed d p hd hp l (eqb-false _ _ f))
-]
+pub below-has_cycle : (s : Cycles) (c : ℕ) → has_cycle s c ≡ true → c < s.count
+below-has_cycle s c h = elim (cases_lt c s.count) [ inl l ↦ l | inr l ↦ absurd (true≢false (sym h ∙ has_cycle-out s c l)) ]
 
 -- whether both sets have the cycle
 abbrev pub both_have : Cycles → Cycles → ℕ → Bool
@@ -204,24 +125,27 @@ least p (suc n) = elim (least p n) [
 
 -- there is a first common cycle, or no common one
 pub first_or_none : (s t : Cycles) → ((c : ℕ) × IsFirstCommon s t c) ⊎ ((j : ℕ) → both_have s t j ≡ false)
-first_or_none s t = elim (least (both_have s t) cycle_count) [
+first_or_none s t = elim (least (both_have s t) s.count) [
   | inl found ↦ let has = and_parts _ _ found.1 in inl (found.0, record { first = has.0; second = has.1; below = found.2 })
-  | inr none ↦ inr (λ j. elim (cases_lt j cycle_count) [ inl l ↦ none j l | inr l ↦ and_left _ _ (has_cycle-out s j l) ])
+  | inr none ↦ inr (λ j. elim (cases_lt j s.count) [ inl l ↦ none j l | inr l ↦ and_left _ _ (has_cycle-out s j l) ])
 ]
-
--- the sets select together what they have together
-selects-both : (s t : Cycles) (j : ℕ) → j < cycle_count → both_have s t j ≡ false → (selects s j && selects t j) ≡ false
-selects-both s t j l h = rw (has_cycle-in s j l, has_cycle-in t j l) at h
 
 -- the first common cycle is the answer
 pub first_common_is : (s t : Cycles) (c : ℕ) → IsFirstCommon s t c → first_common s t ≡ Some c
+unfolding first_common cycles_of all_cycles
 first_common_is s t c h =
     let l = below-has_cycle s c h.first in
-    first_common-Some s t c l (sym (has_cycle-in s c l) ∙ h.first) (sym (has_cycle-in t c l) ∙ h.second) (λ j m. let low : j < cycle_count = omega arith in selects-both s t j low (h.below j m))
+    find-filter (has_cycle t) (selects s) (range_with_len 0 s.count)
+    ∙ find-range_Some (λ k. selects s k && has_cycle t k) 0 s.count c (omega arith) (omega (arith, l)) (and_from _ _ (sym (has_cycle-in s c l) ∙ h.first) h.second)
+    (λ j m. let low : j < s.count = omega (arith, m, l) in ap (λ b. b && has_cycle t j) (sym (has_cycle-in s j low)) ∙ h.below j m)
 
 -- where no cycle is in both, there is no answer
 pub first_common_nowhere : (s t : Cycles) → ((j : ℕ) → both_have s t j ≡ false) → first_common s t ≡ None
-first_common_nowhere s t none = first_common-None s t (λ j l. selects-both s t j l (none j))
+unfolding first_common cycles_of all_cycles
+first_common_nowhere s t none =
+    find-filter (has_cycle t) (selects s) (range_with_len 0 s.count)
+    ∙ find-range_None (λ k. selects s k && has_cycle t k) 0 s.count
+    (λ j l. let low : j < s.count = omega (arith, l) in ap (λ b. b && has_cycle t j) (sym (has_cycle-in s j low)) ∙ none j)
 
 None≢Some : (c : ℕ) → (let none : Option ℕ = None in none ≢ Some c)
 None≢Some c e = cc

@@ -57,7 +57,7 @@ frame name base repetition = record {
   frame = name;
   node = codes "n1";
   supplier = codes "s1";
-  placements = record { slot = 1; channels = chs.A; cycles = record { base = base; repetition = repetition } } ∷ [];
+  placements = record { slot = 1; channels = chs.A; cycles = record { count = 64; base = base; repetition = repetition } } ∷ [];
 }
 
 -- signal `x` of eight bits, from bit 0

@@ -13,7 +13,6 @@ use Rattle.csv.specs.declared.parser.State.{State}
 use Rattle.csv.specs.declared.parser.State.TheVariants as st
 use Rattle.fr_base.specs.Refusing.{◌>>=◌, ◌>>◌, ◌or◌, refuse◌when◌}
 use Rattle.fr_base.specs.Names.{is_name}
-use Rattle.fr_base.specs.Cycles.{cycle_count}
 use Rattle.fr_base.specs.Checks.{name, cycles, slot, channels, placement, signal}
 use Rattle.fr_base.specs.ImportRows.{records_of, header_of, text_at, number, number_at, placement_row, signal_row, placement_in, signal_in, row_of, row_at, rows_from, rows_below, rows_of_records, up_to_refused, rows_of_body}
 use Rattle.fr_base.specs.declared.channel.Channels.TheVariants as chs
@@ -29,7 +28,7 @@ use Rattle.fr_base.specs.declared.signal.Order.TheVariants as order
 
 -- channel A alone, four slots of ten macroticks
 unfoldable pub params : Params
-params = record { channels = chs.A; static_slots = 4; slot_macroticks = 10; dynamic_macroticks = 40; symbol_macroticks = 10; idle_macroticks = 10; macroticks_per_cycle = 100; payload_words = 1 }
+params = record { channels = chs.A; static_slots = 4; slot_macroticks = 10; dynamic_macroticks = 40; symbol_macroticks = 10; idle_macroticks = 10; macroticks_per_cycle = 100; payload_words = 1; cycles = 64 }
 
 -- the rows of a file with these bytes
 unfoldable pub rows : List ℕ → List RowRead
@@ -38,7 +37,7 @@ rows body = rows_of_body params body
 
 -- what the rows below unfold
 unfoldable pub a_small_file : ⊤
-unfolding csv_on_literals field_at is_utf8 chars encode_utf8 ◌>>=◌ ◌>>◌ ◌or◌ refuse◌when◌ is_name cycle_count name cycles slot channels placement signal records_of header_of text_at number number_at placement_row signal_row placement_in signal_in row_of row_at rows_from rows_below rows_of_records up_to_refused rows_of_body params rows
+unfolding csv_on_literals field_at is_utf8 chars encode_utf8 ◌>>=◌ ◌>>◌ ◌or◌ refuse◌when◌ is_name name cycles slot channels placement signal records_of header_of text_at number number_at placement_row signal_row placement_in signal_in row_of row_at rows_from rows_below rows_of_records up_to_refused rows_of_body params rows
 a_small_file = tt
 
 -- a row that was read, and one that is refused
@@ -51,7 +50,7 @@ refused line why = record { line = line; row = Err why }
 -- a frame of node `n1` in a slot of channel A
 abbrev pub placed : List ℕ → ℕ → ℕ → ℕ → Row
 placed frame number base repetition =
-    Place frame (codes "n1") (record { slot = number; channels = chs.A; cycles = record { base = base; repetition = repetition } })
+    Place frame (codes "n1") (record { slot = number; channels = chs.A; cycles = record { count = 64; base = base; repetition = repetition } })
 
 -- a signal of frame `f1` in little order
 abbrev pub little : List ℕ → ℕ → ℕ → Row

@@ -11,7 +11,8 @@ same_params p =
     gives_when _ _ _ _ (λ _.
     gives_when _ _ _ _ (λ _.
     gives_when _ _ _ _ (λ _.
-    gives_when _ _ _ _ (λ _. refl))))
+    gives_when _ _ _ _ (λ _.
+    gives_when _ _ _ _ (λ _. refl)))))
 
 words-few : (p : RawParams) → IfOk (check_params p) (λ _. p.payload_words ≤ 127)
 unfolding check_params
@@ -19,7 +20,8 @@ words-few p =
     gives_when _ _ _ _ (λ _.
     gives_when _ _ (ltb 127 p.payload_words) _ (λ few.
     gives_when _ _ _ _ (λ _.
-    gives_when _ _ _ _ (λ _. ltb-false 127 p.payload_words few))))
+    gives_when _ _ _ _ (λ _.
+    gives_when _ _ _ _ (λ _. ltb-false 127 p.payload_words few)))))
 
 -- their payload has at most 127 words
 pub few_words : (p : RawParams) → check_params p ≡ Ok p → p.payload_words ≤ 127

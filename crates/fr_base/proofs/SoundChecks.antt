@@ -4,7 +4,7 @@ use Rattle.std.specs.Prelude.{⊤}
 use Rattle.std.specs.List.{list_all}
 use Rattle.std.proofs.lemmas.Bool.{cases_Bool, and_parts}
 use Rattle.fr_base.specs.Names.{is_name, is_key}
-use Rattle.fr_base.specs.Cycles.{cycle_count, is_cycle_set}
+use Rattle.fr_base.specs.Cycles.{Cycles, are_cycles}
 use Rattle.fr_base.specs.Signals.{is_signal_length, order_of_text}
 use Rattle.fr_base.specs.Channels.{channels_in, has_channel, channel_of_text, channels_of_text}
 use Rattle.fr_base.specs.Checks.{asking, key, name, cycles, slot, channel, channels, placement, signal, parent_name, check}
@@ -74,9 +74,11 @@ key-form : (text : List ℕ) → IfOk (key text) (λ k. IsTrue (is_key k))
 unfolding key
 key-form text = elim (cases_Bool (is_key text)) [ inl h ↦ rw h (h) | inr h ↦ rw h tt ]
 
-cycles-form : (base repetition : ℕ) → IfOk (cycles base repetition) (λ r. IsTrue (is_cycle_set cycle_count r.base r.repetition))
+cycles-form : (p : Params) (base repetition : ℕ) → IfOk (cycles p base repetition) (λ r. (r.count ≡ p.cycles) × IsTrue (are_cycles r))
 unfolding cycles
-cycles-form base repetition = elim (cases_Bool (is_cycle_set cycle_count base repetition)) [ inl h ↦ rw h (h) | inr h ↦ rw h tt ]
+cycles-form p base repetition =
+    let s : Cycles = record { count = p.cycles; base = base; repetition = repetition } in
+    elim (cases_Bool (are_cycles s)) [ inl h ↦ rw h (refl, h) | inr h ↦ rw h tt ]
 
 slot-form : (p : Params) (n : ℕ) → IfOk (slot p n) (λ k. (1 ≤ k) × (k ≤ p.static_slots))
 unfolding slot
@@ -96,10 +98,10 @@ channels-form p text = gives_or _ (channels_of_text text) _ _ (λ cs _. gives_un
 pub placement-form : (p : Params) (number : ℕ) (text : List ℕ) (base repetition : ℕ) → IfOk (placement p number text base repetition) (FitsCluster p)
 unfolding placement
 placement-form p number text base repetition =
-    gives_bind _ _ (cycles base repetition) _ (cycles-form base repetition) (λ r selects.
+    gives_bind _ _ (cycles p base repetition) _ (cycles-form p base repetition) (λ r selects.
     gives_bind _ _ (slot p number) _ (slot-form p number) (λ k in_range.
     gives_bind _ _ (channels p text) _ (channels-form p text) (λ cs has.
-    record { from_one = in_range.0; to_last = in_range.1; channels = has; cycles = selects })))
+    record { from_one = in_range.0; to_last = in_range.1; channels = has; count = selects.0; cycles = selects.1 })))
 
 pub signal-form : (n : Name) (start length : ℕ) (text : List ℕ) → IsTrue (is_name n) → IfOk (signal n start length text) (λ s. IsTrue (is_name s.name) × IsTrue (is_signal_length s.length))
 unfolding signal

@@ -6,7 +6,7 @@ use Rattle.fr_base.specs.Refusing.{◌>>=◌, ◌>>◌, ◌or◌, refuse◌when�
 use Rattle.fr_base.specs.Tables.{empty, get, len, insert, only, remove, from_rows, settle}
 use Rattle.fr_base.specs.Keys.{numbers, names, channel_order, channels_order, owned, channel_slots, placement_order}
 use Rattle.fr_base.specs.Names.{is_name, is_key}
-use Rattle.fr_base.specs.Cycles.{Cycles, is_repetition, is_cycle_set, cycle_count, all_cycles, cycles_of, has_cycle, first_common}
+use Rattle.fr_base.specs.Cycles.{Cycles, is_cycle_count, is_repetition, is_cycle_set, all_cycles, cycles_of, has_cycle, first_common}
 use Rattle.fr_base.specs.Checks.{asking, key, name, cycles, slot, channel, channels, placement, signal, parent_name, check}
 use Rattle.fr_base.specs.Cells.{cells_of, has_cell, cluster_cells}
 use Rattle.fr_base.specs.Schedule.{fill, first_taken, entries}
@@ -38,9 +38,12 @@ pub the_limits :
     ≡ 64 ∷ 64 ∷ 64 ∷ 16 ∷ 256 ∷ 8 ∷ 64 ∷ 127 ∷ 1000 ∷ 65536 ∷ 512 ∷ []
 the_limits = refl
 
--- the cycles of a base and a repetition
+-- the cycles of a base and a repetition, of 64 and of other counts
 abbrev cycle_set : ℕ → ℕ → Cycles
-cycle_set base repetition = record { base = base; repetition = repetition }
+cycle_set base repetition = record { count = 64; base = base; repetition = repetition }
+
+abbrev of_count : ℕ → ℕ → ℕ → Cycles
+of_count n base repetition = record { count = n; base = base; repetition = repetition }
 
 -- the least cycle of both sets
 pub least_common_cycle :
@@ -49,25 +52,40 @@ pub least_common_cycle :
     ∷ first_common (cycle_set 0 1) (cycle_set 63 64)
     ∷ []
     ≡ Some 3 ∷ None ∷ Some 63 ∷ []
-unfolding first_common has_cycle cycles_of all_cycles cycle_count
+unfolding first_common has_cycle cycles_of all_cycles
 least_common_cycle = refl
+
+-- of 12 cycles, and of sets of different counts
+pub least_common_of_others :
+    first_common (of_count 12 0 4) (of_count 12 2 6)
+    ∷ first_common (of_count 12 1 4) (of_count 12 2 6)
+    ∷ first_common (of_count 12 0 3) (of_count 12 2 4)
+    ∷ first_common (of_count 12 0 3) (of_count 64 7 8)
+    ∷ first_common (of_count 10 9 10) (of_count 8 1 2)
+    ∷ []
+    ≡ Some 8 ∷ None ∷ Some 6 ∷ None ∷ None ∷ []
+unfolding first_common has_cycle cycles_of all_cycles
+least_common_of_others = refl
 
 -- which sets of cycles there are: the base below the repetition, the repetition a divisor of the count
 pub sets_of_cycles :
-    map (λ s. is_cycle_set cycle_count s.base s.repetition) (cycle_set 0 1 ∷ cycle_set 63 64 ∷ cycle_set 2 2 ∷ cycle_set 0 3 ∷ cycle_set 0 128 ∷ cycle_set 0 0 ∷ [])
-    ≡ true ∷ true ∷ false ∷ false ∷ false ∷ false ∷ []
-unfolding cycle_count
+    map (λ s. is_cycle_set s.count s.base s.repetition) (cycle_set 0 1 ∷ cycle_set 63 64 ∷ cycle_set 2 2 ∷ cycle_set 0 3 ∷ cycle_set 0 128 ∷ cycle_set 0 0 ∷ of_count 12 0 8 ∷ of_count 48 47 48 ∷ of_count 48 0 32 ∷ [])
+    ≡ true ∷ true ∷ false ∷ false ∷ false ∷ false ∷ false ∷ true ∷ false ∷ []
 sets_of_cycles = refl
 
 -- the repetitions of 64 cycles
-pub repetitions : filter (is_repetition cycle_count) (all_cycles 100) ≡ 1 ∷ 2 ∷ 4 ∷ 8 ∷ 16 ∷ 32 ∷ 64 ∷ []
-unfolding all_cycles cycle_count
+pub repetitions : filter (is_repetition 64) (all_cycles 100) ≡ 1 ∷ 2 ∷ 4 ∷ 8 ∷ 16 ∷ 32 ∷ 64 ∷ []
+unfolding all_cycles
 repetitions = refl
+
+-- the counts of cycles
+pub counts : map is_cycle_count (6 ∷ 7 ∷ 8 ∷ 9 ∷ 64 ∷ 66 ∷ []) ≡ false ∷ false ∷ true ∷ false ∷ true ∷ false ∷ []
+counts = refl
 
 -- two channels, four slots of ten macroticks, two suppliers
 unfoldable pub file : ClusterFile
 file = record {
-  cluster = record { params = record { channels = chs.AB; static_slots = 4; slot_macroticks = 10; dynamic_macroticks = 40; symbol_macroticks = 10; idle_macroticks = 10; macroticks_per_cycle = 100; payload_words = 1 }; integrator = codes "integrator1" };
+  cluster = record { params = record { channels = chs.AB; static_slots = 4; slot_macroticks = 10; dynamic_macroticks = 40; symbol_macroticks = 10; idle_macroticks = 10; macroticks_per_cycle = 100; payload_words = 1; cycles = 64 }; integrator = codes "integrator1" };
   suppliers = record { name = codes "s1"; key = codes "supplier01" } ∷ record { name = codes "s2"; key = codes "supplier02" } ∷ [];
 }
 
@@ -78,7 +96,7 @@ answers asks = answers_to file.cluster (opening file) asks
 
 -- what the rows below unfold
 unfoldable pub a_small_register : ⊤
-unfolding file answers ◌>>=◌ ◌>>◌ ◌or◌ refuse◌when◌ empty get len insert only remove from_rows settle numbers names channel_order channels_order owned channel_slots placement_order is_name is_key cycle_count all_cycles cycles_of asking key name cycles slot channel channels placement signal parent_name check cells_of has_cell cluster_cells fill first_taken entries empty_variant suppliers_of opening granted placements_of schedule_of begun common has_key add_supplier add_node own_rows shared_by in_use cell_taken admits_frame admits grants_after frame_after frames_after changed change_rows done perform grants_of frames_of sendings_of gaps_of named signals_of shown reply ring moment moments gaps greatest_gap bits_of layouts.first_taken_bit layouts.admits_signal act outcome step
+unfolding file answers ◌>>=◌ ◌>>◌ ◌or◌ refuse◌when◌ empty get len insert only remove from_rows settle numbers names channel_order channels_order owned channel_slots placement_order is_name is_key all_cycles cycles_of asking key name cycles slot channel channels placement signal parent_name check cells_of has_cell cluster_cells fill first_taken entries empty_variant suppliers_of opening granted placements_of schedule_of begun common has_key add_supplier add_node own_rows shared_by in_use cell_taken admits_frame admits grants_after frame_after frames_after changed change_rows done perform grants_of frames_of sendings_of gaps_of named signals_of shown reply ring moment moments gaps greatest_gap bits_of layouts.first_taken_bit layouts.admits_signal act outcome step
 a_small_register = tt
 
 abbrev pub integrator : Request → Ask
@@ -254,6 +272,53 @@ pub gap_of_two_slots :
     ∷ []
 unfolding a_small_register
 gap_of_two_slots = refl
+
+-- the same cluster with so many cycles
+unfoldable pub counting : ℕ → Cluster
+unfolding cluster
+counting n = record cluster { params = record cluster.params { cycles = n } }
+
+-- twelve cycles: two sets of repetitions 4 and 6 meet in cycle 8
+pub twelve_cycles :
+    answers_from (counting 12) (opening (counting 12)) (
+    integrator (OpenVariant (codes "v1") None)
+    ∷ integrator (AddNode (codes "s1") (codes "n1"))
+    ∷ integrator (Grant (codes "v1") 1 (codes "A") (codes "s1") (codes "n1"))
+    ∷ s1 (AddFrame (codes "v1") (codes "f") (codes "n1"))
+    ∷ s1 (AddFrame (codes "v1") (codes "g") (codes "n1"))
+    ∷ s1 (Place (codes "v1") (codes "f") 1 (codes "A") 0 4)
+    ∷ s1 (Place (codes "v1") (codes "g") 1 (codes "A") 2 6)
+    ∷ [])
+    ≡ Done ∷ Done ∷ Done ∷ Done ∷ Done ∷ Done
+    ∷ Refused (CellTaken 8 ch.A (codes "f"))
+    ∷ []
+unfolding a_small_register counting
+twelve_cycles = refl
+
+-- ten cycles: a ring of 1000 macroticks, no cycle from the tenth on, and no repetition that does not divide 10
+pub ten_cycles :
+    answers_from (counting 10) (opening (counting 10)) (
+    integrator (OpenVariant (codes "v1") None)
+    ∷ integrator (AddNode (codes "s1") (codes "n1"))
+    ∷ integrator (Grant (codes "v1") 1 (codes "A") (codes "s1") (codes "n1"))
+    ∷ s1 (AddFrame (codes "v1") (codes "f") (codes "n1"))
+    ∷ s1 (Place (codes "v1") (codes "f") 1 (codes "A") 1 5)
+    ∷ s1 (Place (codes "v1") (codes "f") 1 (codes "A") 0 4)
+    ∷ s1 (Place (codes "v1") (codes "f") 1 (codes "A") 0 64)
+    ∷ s1 (Gaps (codes "v1"))
+    ∷ s1 (Schedule (codes "v1"))
+    ∷ [])
+    ≡ Done ∷ Done ∷ Done ∷ Done ∷ Done
+    ∷ Refused BadCycles
+    ∷ Refused BadCycles
+    ∷ Longest false (record { frame = codes "f"; supplier = codes "s1"; gap = Some 500 } ∷ [])
+    ∷ Sent false (
+    record { cycle = 1; slot = 1; channel = ch.A; frame = codes "f"; node = codes "n1"; supplier = codes "s1" }
+    ∷ record { cycle = 6; slot = 1; channel = ch.A; frame = codes "f"; node = codes "n1"; supplier = codes "s1" }
+    ∷ [])
+    ∷ []
+unfolding a_small_register counting
+ten_cycles = refl
 
 -- a lone moment, two slots, and none
 pub gaps_alone_mixed_never :

@@ -3,7 +3,7 @@ use Rattle.std.specs.Prelude.{ℕ, Bool, List, [], ◌∷◌, map}
 use Rattle.std.specs.declared.cmp.Ordering.{Ordering}
 use Rattle.std.specs.Ordering.{nat_cmp, is_eq, on, then_cmp}
 use Rattle.std.specs.List.{flat_map, list_any, range_with_len}
-use Rattle.fr_base.specs.Cycles.{all_cycles, cycle_count, cycles_of}
+use Rattle.fr_base.specs.Cycles.{all_cycles, cycles_of}
 use Rattle.fr_base.specs.Channels.{channel_number, channels_in}
 use Rattle.fr_base.specs.declared.channel.Channel.{Channel}
 use Rattle.fr_base.specs.declared.params.Params.{Params}
@@ -41,4 +41,4 @@ slots_of p = range_with_len 1 p.static_slots
 
 -- all cells of a cluster
 unfoldable pub cluster_cells : Params → List Cell
-cluster_cells p = cells_in (all_cycles cycle_count) (slots_of p) (channels_in p.channels)
+cluster_cells p = cells_in (all_cycles p.cycles) (slots_of p) (channels_in p.channels)

@@ -3,7 +3,7 @@ use Rattle.std.specs.Prelude.{ℕ, Bool, true, false, not, ◌&&◌, List, nat_l
 use Rattle.std.specs.List.{list_all}
 use Rattle.fr_base.specs.Refusing.{◌>>=◌, ◌>>◌, ◌or◌, refuse◌when◌}
 use Rattle.fr_base.specs.Names.{is_name, is_key}
-use Rattle.fr_base.specs.Cycles.{Cycles, cycle_count, is_cycle_set}
+use Rattle.fr_base.specs.Cycles.{Cycles, are_cycles}
 use Rattle.fr_base.specs.Signals.{SignalData, is_signal_length, order_of_text}
 use Rattle.fr_base.specs.Channels.{channels_in, has_channel, channel_of_text, channels_of_text}
 use Rattle.fr_base.specs.declared.channel.Channel.{Channel}
@@ -43,10 +43,11 @@ name text = if is_name text then Ok text else Err BadName
 unfoldable pub key : List ℕ → Result Key Refusal
 key text = if is_key text then Ok text else Err BadKey
 
--- a base and a repetition that select cycles
-unfoldable pub cycles : ℕ → ℕ → Result Cycles Refusal
-cycles base repetition =
-    if is_cycle_set cycle_count base repetition then Ok (record { base = base; repetition = repetition }) else Err BadCycles
+-- a base and a repetition that select cycles of the cluster
+unfoldable pub cycles : Params → ℕ → ℕ → Result Cycles Refusal
+cycles p base repetition =
+    let s : Cycles = record { count = p.cycles; base = base; repetition = repetition } in
+    if are_cycles s then Ok s else Err BadCycles
 
 -- a static slot of the cluster
 unfoldable pub slot : Params → ℕ → Result ℕ Refusal
@@ -69,7 +70,7 @@ channels p text = do
 -- a placement: its cycles are asked first, then its slot, then its channels
 unfoldable pub placement : Params → ℕ → List ℕ → ℕ → ℕ → Result Placement Refusal
 placement p number text base repetition = do
-  r ← cycles base repetition
+  r ← cycles p base repetition
   k ← slot p number
   cs ← channels p text
   Ok (record { slot = k; channels = cs; cycles = r })

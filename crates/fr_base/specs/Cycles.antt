@@ -3,14 +3,15 @@ use Rattle.std.specs.Prelude.{ℕ, ◌%◌, ◌==◌, Bool, ◌&&◌, List, filt
 use Rattle.std.specs.Int.{bit_at}
 use Rattle.std.specs.List.{list_any, range_with_len}
 
--- a base cycle and a cycle repetition
+-- a base cycle and a cycle repetition, where the cycle counter goes through so many cycles
 pub record Cycles : Type 0 where
+  pub count : ℕ
   pub base : ℕ
   pub repetition : ℕ
 
--- how many cycles the cycle counter goes through
-unfoldable pub cycle_count : ℕ
-cycle_count = 64
+-- how many cycles the cycle counter goes through: an even number from 8 to 64
+abbrev pub is_cycle_count : ℕ → Bool
+is_cycle_count n = (nat_le 8 n && nat_le n 64) && ((n % 2) == 0)
 
 -- a repetition divides the count of cycles
 abbrev pub is_repetition : ℕ → ℕ → Bool
@@ -19,6 +20,10 @@ is_repetition count r = nat_le 1 r && ((count % r) == 0)
 -- and a base is below it
 abbrev pub is_cycle_set : ℕ → ℕ → ℕ → Bool
 is_cycle_set count base repetition = is_repetition count repetition && nat_lt base repetition
+
+-- whether these select cycles
+abbrev pub are_cycles : Cycles → Bool
+are_cycles s = is_cycle_count s.count && is_cycle_set s.count s.base s.repetition
 
 -- whether the cycle is selected
 abbrev pub selects : Cycles → ℕ → Bool
@@ -30,7 +35,7 @@ all_cycles count = range_with_len 0 count
 
 -- the cycles that are selected, in order
 unfoldable pub cycles_of : Cycles → List ℕ
-cycles_of s = filter (selects s) (all_cycles cycle_count)
+cycles_of s = filter (selects s) (all_cycles s.count)
 
 -- whether the cycle is one of them
 unfoldable pub has_cycle : Cycles → ℕ → Bool

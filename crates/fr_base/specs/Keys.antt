@@ -36,15 +36,15 @@ owned = pairs_by names names
 unfoldable pub channel_slots : Order (ℕ × Channel)
 channel_slots = pairs_by numbers channel_order
 
--- a placement's slot, channels, base and repetition
-abbrev pub placement_key : Placement → ℕ × (Channels × (ℕ × ℕ))
-placement_key q = (q.slot, (q.channels, (q.cycles.base, q.cycles.repetition)))
+-- a placement's slot, channels, base and repetition; then of how many cycles these are, which is the same for all of a cluster
+abbrev pub placement_key : Placement → ℕ × (Channels × (ℕ × (ℕ × ℕ)))
+placement_key q = (q.slot, (q.channels, (q.cycles.base, (q.cycles.repetition, q.cycles.count))))
 
 -- two placements with the same ones are the same
 pub same_placement : (x y : Placement) → placement_key x ≡ placement_key y → x ≡ y
-same_placement x y e i = record { slot = (e i).0; channels = (e i).1.0; cycles = record { base = (e i).1.1.0; repetition = (e i).1.1.1 } }
+same_placement x y e i = record { slot = (e i).0; channels = (e i).1.0; cycles = record { count = (e i).1.1.1.1; base = (e i).1.1.0; repetition = (e i).1.1.1.0 } }
 
--- placements by slot, channels, base and repetition
+-- placements by slot, channels, base and repetition, then by the count of cycles
 unfoldable pub placement_order : Order Placement
 unfolding numbers channels_order
-placement_order = by_key placement_key same_placement (pairs_by numbers (pairs_by channels_order (pairs_by numbers numbers)))
+placement_order = by_key placement_key same_placement (pairs_by numbers (pairs_by channels_order (pairs_by numbers (pairs_by numbers numbers))))

@@ -2,13 +2,12 @@
 use Rattle.std.specs.Prelude.{ℕ, ◌+◌, ◌-◌, ◌*◌, List, [], ◌∷◌, map, Option, Some, None, if◌then◌else◌, nat_lt, min, max}
 use Rattle.std.specs.List.{flat_map, filter_map}
 use Rattle.fr_base.specs.Cells.{Cell, cells_of}
-use Rattle.fr_base.specs.Cycles.{cycle_count}
 use Rattle.fr_base.specs.declared.params.Params.{Params}
 use Rattle.fr_base.specs.declared.placement.Placement.{Placement}
 
 -- the macroticks of all cycles, after which all is sent again
 unfoldable pub ring : Params → ℕ
-ring p = cycle_count * p.macroticks_per_cycle
+ring p = p.cycles * p.macroticks_per_cycle
 
 -- the sending moment of a cell: the macrotick on the ring at which its slot starts
 unfoldable pub moment : Params → Cell → ℕ

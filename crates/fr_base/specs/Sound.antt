@@ -4,7 +4,7 @@ use Rattle.std.specs.List.{list_all}
 use Rattle.fr_base.specs.Tables.{Table, get, contains, len}
 use Rattle.fr_base.specs.Keys.{names, owned, channel_slots}
 use Rattle.fr_base.specs.Cells.{Cell, has_cell}
-use Rattle.fr_base.specs.Cycles.{cycle_count, is_cycle_set}
+use Rattle.fr_base.specs.Cycles.{are_cycles}
 use Rattle.fr_base.specs.Channels.{channels_in, has_channel}
 use Rattle.fr_base.specs.Cluster.{Cluster, IsWellFormed}
 use Rattle.fr_base.specs.Names.{is_name}
@@ -24,12 +24,13 @@ pub record HasChannelSlot (p : Params) (at : ℕ × Channel) : Type 0 where
   pub to_last : at.0 ≤ p.static_slots
   pub channel : IsTrue (has_channel p.channels at.1)
 
--- the cluster has the placement's slot and channels, and its cycles are a set of cycles
+-- the cluster has the placement's slot and channels, and its cycles are a set of the cluster's cycles
 pub record FitsCluster (p : Params) (q : Placement) : Type 0 where
   pub from_one : 1 ≤ q.slot
   pub to_last : q.slot ≤ p.static_slots
   pub channels : IsTrue (list_all (has_channel p.channels) (channels_in q.channels))
-  pub cycles : IsTrue (is_cycle_set cycle_count q.cycles.base q.cycles.repetition)
+  pub count : q.cycles.count ≡ p.cycles
+  pub cycles : IsTrue (are_cycles q.cycles)
 
 -- a frame has a name, and its node is its supplier's; each of its placements fits the cluster and lies in grants to that node; its placements are within the limit;
 -- and its signals have names and make a layout of the payload

@@ -397,13 +397,13 @@ fn key(text: &Text) -> Result<Key, Refusal>
     Key::read(text.as_str()).ok_or(Refusal::BadKey)
 }
 
-// The cycles that base and repetition select.
+// The cycles of the cluster that base and repetition select.
 #[tactic(auto, unfolding(crate::specs::Checks::cycles))]
 #[inline(always)]
-fn cycles(base: u32, repetition: u32) -> Result<CycleSet, Refusal>
-    ensures { result ≡ cycles base repetition }
+fn cycles(params: &Params, base: u32, repetition: u32) -> Result<CycleSet, Refusal>
+    ensures { result ≡ cycles params.now base repetition }
 {
-    CycleSet::new(base, repetition).map_err(|_| Refusal::BadCycles)
+    CycleSet::new(params.cycles(), base, repetition).map_err(|_| Refusal::BadCycles)
 }
 
 // The static slot of this number, if the cluster has it.
@@ -455,7 +455,7 @@ pub(crate) fn placement(
     ensures { result ≡ placement params.now number text.now base repetition }
 {
     Ok(Placement {
-        cycles: cycles(base, repetition)?,
+        cycles: cycles(params, base, repetition)?,
         slot: slot(params, number)?,
         channels: channels(params, text)?,
     })

@@ -32,7 +32,7 @@ pub use body::{Body, BodyRef};
 pub use channel::{Channel, Channels};
 pub use checks::check;
 pub use config::{Config, Supplier, Suppliers};
-pub use cycles::{BadCycles, CYCLE_COUNT, CycleSet};
+pub use cycles::{BadCycles, CycleSet, MAX_CYCLES};
 pub use desk::Desk;
 pub use import::{Header, Row, RowRead};
 pub use key::Key;

@@ -1,5 +1,6 @@
 //! The parameters of a cluster's static segment.
-ghost use Rattle.std.specs.Prelude.{◌≡◌, ◌≤◌, Ok};
+ghost use Rattle.std.specs.Prelude.{◌≡◌, ◌≤◌, IsTrue, Ok};
+ghost use Rattle.fr_base.specs.Cycles.{is_cycle_count};
 ghost use Rattle.fr_base.specs.Parameters.{check_params, segments, word_of};
 
 use crate::channel::Channels;
@@ -32,6 +33,9 @@ pub struct RawParams {
     /// The payload length of every static frame in words of two bytes, at most 127
     /// (`gPayloadLengthStatic`).
     pub payload_words: u32,
+    /// How many communication cycles the cycle counter goes through before it starts at 0 again: an even
+    /// number from 8 to 64. The standard has 64 (chapter 5, media access control).
+    pub cycles: u32,
 }
 
 /// Why parameters make no cluster. Where several apply, the first of this list is answered.
@@ -45,6 +49,8 @@ pub enum ParamFault {
     BadMacroticks,
     /// The segments' lengths are not together the cycle's.
     BadSum,
+    /// The count of cycles is odd, or not 8 to 64.
+    BadCycleCount,
 }
 
 /// The parameters of a cluster's static segment, within their ranges and with segments that are
@@ -64,6 +70,7 @@ impl ParamFault {
             ParamFault::BadPayload => "BadPayload",
             ParamFault::BadMacroticks => "BadMacroticks",
             ParamFault::BadSum => "BadSum",
+            ParamFault::BadCycleCount => "BadCycleCount",
         }
     }
 }
@@ -114,6 +121,9 @@ impl Params {
         }
         if raw.segments() != u64::from(raw.macroticks_per_cycle) {
             return Err(ParamFault::BadSum);
+        }
+        if raw.cycles < 8 || raw.cycles > 64 || raw.cycles % 2 != 0 {
+            return Err(ParamFault::BadCycleCount);
         }
         Ok(Params { raw })
     }
@@ -191,6 +201,16 @@ impl Params {
         ensures range { result ≤ 127 }
     {
         self.raw.payload_words
+    }
+
+    /// How many communication cycles there are: an even number from 8 to 64.
+    #[tactic(auto, unfolding(crate::proofs::ParametersLemmas::parameters_open))]
+    pub fn cycles(&self) -> u32
+        ensures value { result ≡ self.now.cycles }
+        ensures count { IsTrue (is_cycle_count result) }
+        ensures range { (8 ≤ result) × (result ≤ 64) }
+    {
+        self.raw.cycles
     }
 }
 

@@ -9,7 +9,7 @@ use Rattle.sqlite.specs.Table.{Table}
 use Rattle.sqlite.specs.Tree.{Trees}
 use Rattle.sqlite.specs.State.{State, Shows}
 use Rattle.fr_tables.specs.Schema.{register_schema, all_tables}
-use Rattle.fr_tables.specs.Rows.{RegisterRow, ClusterRow, SupplierRow, NodeRow, VariantRow, GrantRow, FrameRow, PlacementRow, SignalRow, ImportRow, DroppedRow, of_register, of_cluster, of_supplier, of_node, of_variant, of_grant, of_frame, of_placement, of_signal, of_import, of_dropped, register_in, cluster_in, supplier_in, node_in, variant_in, grant_in, frame_in, placement_in, signal_in, import_in, dropped_in}
+use Rattle.fr_tables.specs.Rows.{RegisterRow, ClusterRow, SupplierRow, NodeRow, VariantRow, GrantRow, FrameRow, PlacementRow, SignalRow, ImportRow, DroppedRow, Cluster2Row, of_register, of_cluster, of_supplier, of_node, of_variant, of_grant, of_frame, of_placement, of_signal, of_import, of_dropped, of_cluster2, register_in, cluster_in, supplier_in, node_in, variant_in, grant_in, frame_in, placement_in, signal_in, import_in, dropped_in, cluster2_in}
 use Rattle.fr_tables.specs.Tables.{Tables, HasTables, AreKept}
 use Rattle.fr_tables.specs.Changes.{Changes, tables_of}
 use Rattle.fr_tables.proofs.Written.{WritesTo, AreMade}
@@ -42,8 +42,9 @@ module _ (old new : State) where
       → AreMade of_signal signal_in (next 15) after.signals
       → AreMade of_import import_in (next 17) after.imports
       → AreMade of_dropped dropped_in (next 19) after.dropped
+      → AreMade of_cluster2 cluster2_in (next 22) after.cluster2
       → (change : Tables → Tables) → after ≡ change (tables_of old) → Changes change old new
-  whole after schema shown a b c d e f g h i j k change is = record {
+  whole after schema shown a b c d e f g h i j k l change is = record {
     has = record {
       schema = schema;
       register = a.kept;
@@ -57,6 +58,7 @@ module _ (old new : State) where
       signals = i.kept;
       imports = j.kept;
       dropped = k.kept;
+      cluster2 = l.kept;
     };
     now = (λ z. record {
       register = a.values_are z;
@@ -70,6 +72,7 @@ module _ (old new : State) where
       signals = i.values_are z;
       imports = j.values_are z;
       dropped = k.values_are z;
+      cluster2 = l.values_are z;
     }) ∙ is;
     shown = shown;
   }
@@ -93,6 +96,7 @@ module _ (old new : State) where
         (same of_signal signal_in (db 15) (next 15) k.1.1.1.1.1.1.1.1.0 was.signals)
         (same of_import import_in (db 17) (next 17) k.1.1.1.1.1.1.1.1.1.0 was.imports)
         (same of_dropped dropped_in (db 19) (next 19) k.1.1.1.1.1.1.1.1.1.1.0 was.dropped)
+        (same of_cluster2 cluster2_in (db 22) (next 22) k.1.1.1.1.1.1.1.1.1.1.1.0 was.cluster2)
         (λ t. record t { register = f t.register }) refl
 
     pub cluster_made : (f : List ClusterRow → List ClusterRow) → WritesTo register_schema 1 old new → AreMade of_cluster cluster_in (next 1) (f (map cluster_in (db 1))) → Changes (λ t. record t { cluster = f t.cluster }) old new
@@ -110,6 +114,7 @@ module _ (old new : State) where
         (same of_signal signal_in (db 15) (next 15) k.1.1.1.1.1.1.1.1.0 was.signals)
         (same of_import import_in (db 17) (next 17) k.1.1.1.1.1.1.1.1.1.0 was.imports)
         (same of_dropped dropped_in (db 19) (next 19) k.1.1.1.1.1.1.1.1.1.1.0 was.dropped)
+        (same of_cluster2 cluster2_in (db 22) (next 22) k.1.1.1.1.1.1.1.1.1.1.1.0 was.cluster2)
         (λ t. record t { cluster = f t.cluster }) refl
 
     pub suppliers_made : (f : List SupplierRow → List SupplierRow) → WritesTo register_schema 2 old new → AreMade of_supplier supplier_in (next 2) (f (map supplier_in (db 2))) → Changes (λ t. record t { suppliers = f t.suppliers }) old new
@@ -127,6 +132,7 @@ module _ (old new : State) where
         (same of_signal signal_in (db 15) (next 15) k.1.1.1.1.1.1.1.1.0 was.signals)
         (same of_import import_in (db 17) (next 17) k.1.1.1.1.1.1.1.1.1.0 was.imports)
         (same of_dropped dropped_in (db 19) (next 19) k.1.1.1.1.1.1.1.1.1.1.0 was.dropped)
+        (same of_cluster2 cluster2_in (db 22) (next 22) k.1.1.1.1.1.1.1.1.1.1.1.0 was.cluster2)
         (λ t. record t { suppliers = f t.suppliers }) refl
 
     pub nodes_made : (f : List NodeRow → List NodeRow) → WritesTo register_schema 5 old new → AreMade of_node node_in (next 5) (f (map node_in (db 5))) → Changes (λ t. record t { nodes = f t.nodes }) old new
@@ -144,6 +150,7 @@ module _ (old new : State) where
         (same of_signal signal_in (db 15) (next 15) k.1.1.1.1.1.1.1.1.0 was.signals)
         (same of_import import_in (db 17) (next 17) k.1.1.1.1.1.1.1.1.1.0 was.imports)
         (same of_dropped dropped_in (db 19) (next 19) k.1.1.1.1.1.1.1.1.1.1.0 was.dropped)
+        (same of_cluster2 cluster2_in (db 22) (next 22) k.1.1.1.1.1.1.1.1.1.1.1.0 was.cluster2)
         (λ t. record t { nodes = f t.nodes }) refl
 
     pub variants_made : (f : List VariantRow → List VariantRow) → WritesTo register_schema 7 old new → AreMade of_variant variant_in (next 7) (f (map variant_in (db 7))) → Changes (λ t. record t { variants = f t.variants }) old new
@@ -161,6 +168,7 @@ module _ (old new : State) where
         (same of_signal signal_in (db 15) (next 15) k.1.1.1.1.1.1.1.1.0 was.signals)
         (same of_import import_in (db 17) (next 17) k.1.1.1.1.1.1.1.1.1.0 was.imports)
         (same of_dropped dropped_in (db 19) (next 19) k.1.1.1.1.1.1.1.1.1.1.0 was.dropped)
+        (same of_cluster2 cluster2_in (db 22) (next 22) k.1.1.1.1.1.1.1.1.1.1.1.0 was.cluster2)
         (λ t. record t { variants = f t.variants }) refl
 
     pub grants_made : (f : List GrantRow → List GrantRow) → WritesTo register_schema 9 old new → AreMade of_grant grant_in (next 9) (f (map grant_in (db 9))) → Changes (λ t. record t { grants = f t.grants }) old new
@@ -178,6 +186,7 @@ module _ (old new : State) where
         (same of_signal signal_in (db 15) (next 15) k.1.1.1.1.1.1.1.1.0 was.signals)
         (same of_import import_in (db 17) (next 17) k.1.1.1.1.1.1.1.1.1.0 was.imports)
         (same of_dropped dropped_in (db 19) (next 19) k.1.1.1.1.1.1.1.1.1.1.0 was.dropped)
+        (same of_cluster2 cluster2_in (db 22) (next 22) k.1.1.1.1.1.1.1.1.1.1.1.0 was.cluster2)
         (λ t. record t { grants = f t.grants }) refl
 
     pub frames_made : (f : List FrameRow → List FrameRow) → WritesTo register_schema 11 old new → AreMade of_frame frame_in (next 11) (f (map frame_in (db 11))) → Changes (λ t. record t { frames = f t.frames }) old new
@@ -195,6 +204,7 @@ module _ (old new : State) where
         (same of_signal signal_in (db 15) (next 15) k.1.1.1.1.1.1.1.1.0 was.signals)
         (same of_import import_in (db 17) (next 17) k.1.1.1.1.1.1.1.1.1.0 was.imports)
         (same of_dropped dropped_in (db 19) (next 19) k.1.1.1.1.1.1.1.1.1.1.0 was.dropped)
+        (same of_cluster2 cluster2_in (db 22) (next 22) k.1.1.1.1.1.1.1.1.1.1.1.0 was.cluster2)
         (λ t. record t { frames = f t.frames }) refl
 
     pub placements_made : (f : List PlacementRow → List PlacementRow) → WritesTo register_schema 13 old new → AreMade of_placement placement_in (next 13) (f (map placement_in (db 13))) → Changes (λ t. record t { placements = f t.placements }) old new
@@ -212,6 +222,7 @@ module _ (old new : State) where
         (same of_signal signal_in (db 15) (next 15) k.1.1.1.1.1.1.1.1.0 was.signals)
         (same of_import import_in (db 17) (next 17) k.1.1.1.1.1.1.1.1.1.0 was.imports)
         (same of_dropped dropped_in (db 19) (next 19) k.1.1.1.1.1.1.1.1.1.1.0 was.dropped)
+        (same of_cluster2 cluster2_in (db 22) (next 22) k.1.1.1.1.1.1.1.1.1.1.1.0 was.cluster2)
         (λ t. record t { placements = f t.placements }) refl
 
     pub signals_made : (f : List SignalRow → List SignalRow) → WritesTo register_schema 15 old new → AreMade of_signal signal_in (next 15) (f (map signal_in (db 15))) → Changes (λ t. record t { signals = f t.signals }) old new
@@ -229,6 +240,7 @@ module _ (old new : State) where
         made
         (same of_import import_in (db 17) (next 17) k.1.1.1.1.1.1.1.1.1.0 was.imports)
         (same of_dropped dropped_in (db 19) (next 19) k.1.1.1.1.1.1.1.1.1.1.0 was.dropped)
+        (same of_cluster2 cluster2_in (db 22) (next 22) k.1.1.1.1.1.1.1.1.1.1.1.0 was.cluster2)
         (λ t. record t { signals = f t.signals }) refl
 
     pub imports_made : (f : List ImportRow → List ImportRow) → WritesTo register_schema 17 old new → AreMade of_import import_in (next 17) (f (map import_in (db 17))) → Changes (λ t. record t { imports = f t.imports }) old new
@@ -246,6 +258,7 @@ module _ (old new : State) where
         (same of_signal signal_in (db 15) (next 15) k.1.1.1.1.1.1.1.1.0 was.signals)
         made
         (same of_dropped dropped_in (db 19) (next 19) k.1.1.1.1.1.1.1.1.1.1.0 was.dropped)
+        (same of_cluster2 cluster2_in (db 22) (next 22) k.1.1.1.1.1.1.1.1.1.1.1.0 was.cluster2)
         (λ t. record t { imports = f t.imports }) refl
 
     pub dropped_made : (f : List DroppedRow → List DroppedRow) → WritesTo register_schema 19 old new → AreMade of_dropped dropped_in (next 19) (f (map dropped_in (db 19))) → Changes (λ t. record t { dropped = f t.dropped }) old new
@@ -263,4 +276,23 @@ module _ (old new : State) where
         (same of_signal signal_in (db 15) (next 15) k.1.1.1.1.1.1.1.1.0 was.signals)
         (same of_import import_in (db 17) (next 17) k.1.1.1.1.1.1.1.1.1.0 was.imports)
         made
+        (same of_cluster2 cluster2_in (db 22) (next 22) k.1.1.1.1.1.1.1.1.1.1.1.0 was.cluster2)
         (λ t. record t { dropped = f t.dropped }) refl
+
+    pub cluster2_made : (f : List Cluster2Row → List Cluster2Row) → WritesTo register_schema 22 old new → AreMade of_cluster2 cluster2_in (next 22) (f (map cluster2_in (db 22))) → Changes (λ t. record t { cluster2 = f t.cluster2 }) old new
+    cluster2_made f w made =
+        let k = others 22 db next all_tables w.others in
+        whole (record (tables_of old) { cluster2 = f (tables_of old).cluster2 }) w.schema_is w.shown
+        (same of_register register_in (db 0) (next 0) k.0 was.register)
+        (same of_cluster cluster_in (db 1) (next 1) k.1.0 was.cluster)
+        (same of_supplier supplier_in (db 2) (next 2) k.1.1.0 was.suppliers)
+        (same of_node node_in (db 5) (next 5) k.1.1.1.0 was.nodes)
+        (same of_variant variant_in (db 7) (next 7) k.1.1.1.1.0 was.variants)
+        (same of_grant grant_in (db 9) (next 9) k.1.1.1.1.1.0 was.grants)
+        (same of_frame frame_in (db 11) (next 11) k.1.1.1.1.1.1.0 was.frames)
+        (same of_placement placement_in (db 13) (next 13) k.1.1.1.1.1.1.1.0 was.placements)
+        (same of_signal signal_in (db 15) (next 15) k.1.1.1.1.1.1.1.1.0 was.signals)
+        (same of_import import_in (db 17) (next 17) k.1.1.1.1.1.1.1.1.1.0 was.imports)
+        (same of_dropped dropped_in (db 19) (next 19) k.1.1.1.1.1.1.1.1.1.1.0 was.dropped)
+        made
+        (λ t. record t { cluster2 = f t.cluster2 }) refl

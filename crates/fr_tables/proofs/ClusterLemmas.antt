@@ -1,5 +1,5 @@
 -- What the statements on the cluster's row do.
-use Rattle.std.proofs.Common.{ℕ, List, [], ◌∷◌, codes, lit≤, Ok, Err, Result, MatchResult, refl}
+use Rattle.std.proofs.Common.{ℕ, List, [], ◌∷◌, codes, map, filter, not, subst, ◌≡◌, Ok, Err, Result, MatchResult, refl}
 use Rattle.sqlite.specs.declared.types.Value.TheVariants.{Null, Int, Text}
 use Rattle.sqlite.specs.declared.error.Error.{Error}
 use Rattle.sqlite.specs.Order.{Row}
@@ -11,44 +11,33 @@ use Rattle.fr_tables.specs.Schema.{register_schema, cluster}
 use Rattle.fr_tables.specs.Rows.{ClusterRow, of_cluster, cluster_in}
 use Rattle.fr_tables.specs.Tables.{HasTables}
 use Rattle.fr_tables.specs.Changes.{Changes, Stays}
-use Rattle.fr_tables.specs.Statements.{with_cluster, shows_cluster, every, any_order}
-use Rattle.fr_tables.proofs.Compared.{cast_null, cast_integer}
-use Rattle.fr_tables.proofs.InsertLemmas.{Adds, adds, added}
+use Rattle.fr_tables.specs.Statements.{shows_cluster, every, any_order, without_cluster}
+use Rattle.fr_tables.proofs.RemoveLemmas.{Removes, removes}
 use Rattle.fr_tables.proofs.ChangeLemmas.{cluster_made}
 use Rattle.fr_tables.proofs.RunLemmas.{stays_inside}
 use Rattle.fr_tables.proofs.FindLemmas.{Queries}
 
-abbrev insert_text : List ℕ
-insert_text = codes "INSERT INTO cluster (static_slots, slot_macroticks, dynamic_macroticks, symbol_macroticks, idle_macroticks, macroticks_per_cycle, payload_words, channels, integrator) VALUES (?1, ?2, ?3, ?4, ?5, ?6, ?7, ?8, ?9)"
+abbrev delete_text : List ℕ
+delete_text = codes "DELETE FROM cluster"
 
--- the parameters
-abbrev pub given : ClusterRow → Row
-given c = Int c.static_slots ∷ Int c.slot_macroticks ∷ Int c.dynamic_macroticks ∷ Int c.symbol_macroticks ∷ Int c.idle_macroticks ∷ Int c.macroticks_per_cycle ∷ Int c.payload_words ∷ Text c.channels ∷ Text c.integrator ∷ []
-
-insert_is : (c : ClusterRow) → Adds register_schema cluster.name cluster.tree cluster.columns cluster.key cluster.primary cluster.uniques cluster.checks cluster.references insert_text (given c) (of_cluster c)
+delete_is : Removes of_cluster every cluster delete_text []
 unfolding understood everything
-insert_is c = record {
-  at = 1;
-  terms = lit Null ∷ lit Null ∷ col 0 0 ∷ col 0 1 ∷ col 0 2 ∷ col 0 3 ∷ col 0 4 ∷ col 0 5 ∷ col 0 6 ∷ col 0 7 ∷ col 0 8 ∷ [];
-  width = 11;
-  source = Null ∷ of_cluster c;
-  is = refl;
-  plain = (refl, refl);
-  place = refl;
-  whole = lit≤ tt;
-  arity = refl;
-  typed = refl;
-  gives = refl;
-  stores = rw (cast_null, cast_integer c.static_slots, cast_integer c.slot_macroticks, cast_integer c.dynamic_macroticks, cast_integer c.symbol_macroticks, cast_integer c.idle_macroticks, cast_integer c.macroticks_per_cycle, cast_integer c.payload_words);
-  idle = λ new. refl;
+delete_is = record {
+  tests = [];
+  is = record { at = 1; is = refl; plain = (refl, refl); place = refl; stored = λ db. refl };
+  idle = λ olds. refl;
+  tested = λ p. refl;
 }
 
-pub inserts : (c : ClusterRow) (old new : State) (r : Result ℕ Error) → HasTables old.now → ExecutesInside 0 insert_text (given c) old new r
-    → MatchResult r (λ _. Changes (with_cluster c) old new) (λ _. Stays old new)
-inserts c old new (Err e) was h = stays_inside insert_text _ old new e h
-inserts c old new (Ok count) was h =
-    let did = adds register_schema cluster.name cluster.tree cluster.columns cluster.key cluster.primary cluster.uniques cluster.checks cluster.references insert_text (given c) (of_cluster c) (insert_is c) old new count was.schema h.0 in
-    cluster_made old new was _ did.wrote (added register_schema cluster.name cluster.tree cluster.columns cluster.key cluster.primary cluster.uniques cluster.checks cluster.references of_cluster cluster_in c (λ id. refl) old new did was.cluster)
+none_left : (rows : List ClusterRow) → filter (λ x. not (every x)) rows ≡ []
+none_left [] = refl
+none_left (r ∷ rows) = none_left rows
+
+pub deletes : (old new : State) (r : Result ℕ Error) → HasTables old.now → ExecutesInside 0 delete_text [] old new r → MatchResult r (λ _. Changes without_cluster old new) (λ _. Stays old new)
+deletes old new (Err e) was h = stays_inside delete_text _ old new e h
+deletes old new (Ok count) was h =
+    let did = removes of_cluster cluster_in every cluster delete_text _ delete_is old new count was.schema was.cluster h.0 in
+    subst (λ rows. Changes (λ t. record t { cluster = rows }) old new) (none_left (map cluster_in (old.now.trees 1))) (cluster_made old new was (λ rows. filter (λ x. not (every x)) (map cluster_in (old.now.trees 1))) did.0 did.1)
 
 abbrev pub select_text : List ℕ
 select_text = codes "SELECT static_slots, slot_macroticks, dynamic_macroticks, symbol_macroticks, idle_macroticks, macroticks_per_cycle, payload_words, channels, integrator FROM cluster"

@@ -29,7 +29,7 @@ use Rattle.sqlite_schema.specs.Rules.{agree, has_parent, is_among}
 use Rattle.sqlite_tied.specs.Compute.{everything}
 use Rattle.sqlite_tied.proofs.RuleLemmas.{and_true}
 use Rattle.fr_tables.specs.Schema.{register_schema, all_tables, frames, placements, signals}
-use Rattle.fr_tables.specs.Rows.{FrameRow, of_register, register_in, of_cluster, cluster_in, of_supplier, supplier_in, of_node, node_in, of_variant, variant_in, of_grant, grant_in, of_frame, frame_in, of_placement, placement_in, of_signal, signal_in, of_import, import_in, of_dropped, dropped_in}
+use Rattle.fr_tables.specs.Rows.{FrameRow, of_register, register_in, of_cluster, cluster_in, of_supplier, supplier_in, of_node, node_in, of_variant, variant_in, of_grant, grant_in, of_frame, frame_in, of_placement, placement_in, of_signal, signal_in, of_import, import_in, of_dropped, of_cluster2, dropped_in, cluster2_in}
 use Rattle.fr_tables.specs.Tables.{HasTables, AreKept}
 use Rattle.fr_tables.specs.Changes.{Changes, Stays, tables_of}
 use Rattle.fr_tables.specs.Statements.{is_frame, without_frame}
@@ -219,6 +219,7 @@ module _ (variant supplier name : List ℕ) where
       (λ id there. let it = s.children id there in (it.0, subst (λ rows. Has rows it.0) before15 it.1, it.2, it.3)) did.refers.1.1.1.1.1.1.1.1.0)
       (same of_import import_in (db 17) (next 17) (m.1.1.1.1.1.1.1.1.1.0 ∙ l.1.1.1.1.1.1.1.1.1.0 ∙ k.1.1.1.1.1.1.1.1.1.0) was.imports)
       (same of_dropped dropped_in (db 19) (next 19) (m.1.1.1.1.1.1.1.1.1.1.0 ∙ l.1.1.1.1.1.1.1.1.1.1.0 ∙ k.1.1.1.1.1.1.1.1.1.1.0) was.dropped)
+      (same of_cluster2 cluster2_in (db 22) (next 22) (m.1.1.1.1.1.1.1.1.1.1.1.0 ∙ l.1.1.1.1.1.1.1.1.1.1.1.0 ∙ k.1.1.1.1.1.1.1.1.1.1.1.0) was.cluster2)
       (without_frame variant supplier name) refl
 
   pub deletes : (old new : State) (r : Result ℕ Error) → HasTables old.now → ExecutesInside 0 delete_text params old new r

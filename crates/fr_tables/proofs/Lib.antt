@@ -14,6 +14,7 @@ pub mod CopyLemmas
 pub mod Compared
 pub mod RegisterLemmas
 pub mod ClusterLemmas
+pub mod Cluster2Lemmas
 pub mod SupplierLemmas
 pub mod NodeLemmas
 pub mod GrantLemmas

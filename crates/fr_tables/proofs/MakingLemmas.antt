@@ -15,14 +15,14 @@ use Rattle.sqlite.specs.declared.error.Error.{Error}
 use Rattle.sqlite.proofs.Callers.{IsPlain, command_of, statement_of, runs_as}
 use Rattle.sqlite_tied.specs.Compute.{everything}
 use Rattle.sqlite_trees.proofs.ListLemmas.{all-append}
-use Rattle.fr_tables.specs.Schema.{schema_of, all_tables, register_schema, grants, grants_index, register_at, cluster_at, suppliers_at, nodes_at, variants_at, grants_at, frames_at, placements_at, signals_at, imports_at, dropped_at}
-use Rattle.fr_tables.specs.SchemaText.{index_text, register_text, cluster_text, suppliers_text, nodes_text, variants_text, grants_text, frames_text, placements_text, signals_text, imports_text, dropped_text}
+use Rattle.fr_tables.specs.Schema.{schema_of, all_tables, register_schema, grants, grants_index, register_at, cluster_at, suppliers_at, nodes_at, variants_at, grants_at, frames_at, placements_at, signals_at, imports_at, dropped_at, cluster2_at, cluster2, old_tables, old_schema}
+use Rattle.fr_tables.specs.SchemaText.{index_text, register_text, cluster_text, suppliers_text, nodes_text, variants_text, grants_text, frames_text, placements_text, signals_text, imports_text, dropped_text, cluster2_text}
 use Rattle.sqlite_schema.specs.declared.schema.Index.{Index}
 use Rattle.sqlite.specs.Order.{Row}
-use Rattle.fr_tables.specs.Tables.{HasTables, AreKept, tables_in}
-use Rattle.fr_tables.specs.Rows.{of_register, of_cluster, of_supplier, of_node, of_variant, of_grant, of_frame, of_placement, of_signal, of_import, of_dropped, register_in, cluster_in, supplier_in, node_in, variant_in, grant_in, frame_in, placement_in, signal_in, import_in, dropped_in}
+use Rattle.fr_tables.specs.Tables.{HasTables, HasOldTables, AreKept, tables_in, old_tables_in}
+use Rattle.fr_tables.specs.Rows.{of_register, of_cluster, of_supplier, of_node, of_variant, of_grant, of_frame, of_placement, of_signal, of_import, of_dropped, of_cluster2, register_in, cluster_in, supplier_in, node_in, variant_in, grant_in, frame_in, placement_in, signal_in, import_in, dropped_in, cluster2_in}
 use Rattle.fr_tables.specs.Changes.{Stays}
-use Rattle.fr_tables.specs.Making.{IsFresh, Enlarges, IsMade, no_rows}
+use Rattle.fr_tables.specs.Making.{IsFresh, Enlarges, IsMade, IsOldMade, IsRenewed, no_rows}
 use Rattle.fr_tables.proofs.Steps.{went, same_value}
 use Rattle.fr_tables.proofs.RunLemmas.{stays_inside}
 
@@ -123,7 +123,7 @@ pub dropped_is : Defines (schema_of 10 9) (schema_of 11 10) (dropped_at 0) dropp
 unfolding understood everything
 dropped_is = record { command = refl; whole = refl; plain = (refl, refl); defines = refl; leaves = refl; uncounted = refl }
 
--- ---- the index, made last
+-- ---- the index
 
 record IsIndex : Type 0 where
   pub command : command_of (understood (schema_of 11 10) index_text) ≡ CreateIndex 5
@@ -131,7 +131,7 @@ record IsIndex : Type 0 where
   pub plain : IsPlain (understood (schema_of 11 10) index_text)
   pub made : Index
   pub defines : index_defined_by grants index_text ≡ Ok made
-  pub leaves : indexed (schema_of 11 10) grants made ≡ register_schema
+  pub leaves : indexed (schema_of 11 10) grants made ≡ old_schema
 
 index_is : IsIndex
 unfolding understood everything
@@ -141,7 +141,7 @@ none_kept : {X : Type 0} (columns : X → Row) (read : Row → X) (rows : List R
 none_kept columns read rows none = subst (AreKept columns read) (sym none) (record { rise = tt; numbered = tt; typed = tt })
 
 -- tables with no row
-empty_tables : (db : Database) → db.schema ≡ register_schema → AllByRecursion (λ t. db.trees t.tree ≡ []) all_tables → HasTables db × (tables_in db.trees ≡ no_rows)
+empty_tables : (db : Database) → db.schema ≡ old_schema → AllByRecursion (λ t. db.trees t.tree ≡ []) old_tables → HasOldTables db × (old_tables_in db.trees ≡ no_rows)
 empty_tables db schema e = (
   record {
     schema = schema;
@@ -169,12 +169,13 @@ empty_tables db schema e = (
     signals = map signal_in (e.1.1.1.1.1.1.1.1.0 i);
     imports = map import_in (e.1.1.1.1.1.1.1.1.1.0 i);
     dropped = map dropped_in (e.1.1.1.1.1.1.1.1.1.1.0 i);
+    cluster2 = [];
   },
 )
 
-pub makes_all : (old new : State) (r : Result ℕ Error) → IsTrue old.in_transaction → IsFresh 11 10 old.now → ExecutesInside 0 index_text [] old new r → MatchResult r (λ _. IsMade old new) (λ _. Stays old new)
-makes_all old new (Err e) inside was h = stays_inside index_text [] old new e h
-makes_all old new (Ok count) inside was h =
+pub makes_old : (old new : State) (r : Result ℕ Error) → IsTrue old.in_transaction → IsFresh 11 10 old.now → ExecutesInside 0 index_text [] old new r → MatchResult r (λ _. IsOldMade old new) (λ _. Stays old new)
+makes_old old new (Err e) inside was h = stays_inside index_text [] old new e h
+makes_old old new (Ok count) inside was h =
     let schema = schema_of 11 10 in
     let w = runs_as index_text [] old new schema was.schema (CreateIndex 5) index_is.command index_is.plain count h.0 in
     let changed = subst (λ s. Does old.step_limit (mode_of old) [] (record { schema = s; trees = old.now.trees }) (statement_of index_text (understood schema index_text)) None (CreateIndex 5) (Ok (w.tally, new.now))) was.schema w.changed in
@@ -183,6 +184,55 @@ makes_all old new (Ok count) inside was h =
     let both : Ok it.index ≡ Ok index_is.made = sym it.defined ∙ index_is.defines in
     let same : it.index ≡ index_is.made = cc in
     let now : new.now ≡ all.0 = ap (λ (p : Tally × Database). p.1) (same_value all.2) in
-    let empty = subst (λ (d : Database). AllByRecursion (λ t. d.trees t.tree ≡ []) all_tables) (sym now) (still_empty all_tables old.now.trees all.0.trees was.empty it.rows) in
+    let empty = subst (λ (d : Database). AllByRecursion (λ t. d.trees t.tree ≡ []) old_tables) (sym now) (still_empty old_tables old.now.trees all.0.trees was.empty it.rows) in
     let tables = empty_tables new.now (ap (λ (d : Database). d.schema) now ∙ it.is ∙ ap (indexed schema grants) same ∙ index_is.leaves) empty in
     record { has = tables.0; empty = tables.1; shown = subst (λ b. Shows old new new.now old.committed b) (sym inside) h.1 }
+
+-- ---- the table that is made last
+
+cluster2_is : Defines old_schema register_schema (cluster2_at 0) cluster2_text
+unfolding understood everything
+cluster2_is = record { command = refl; whole = refl; plain = (refl, refl); defines = refl; leaves = refl; uncounted = refl }
+
+still_kept : {X : Type 0} (columns : X → Row) (read : Row → X) (before after : List Row) → after ≡ before → AreKept columns read before → AreKept columns read after
+still_kept columns read before after is kept = subst (AreKept columns read) (sym is) kept
+
+pub renews : (old new : State) (r : Result ℕ Error) → IsTrue old.in_transaction → HasOldTables old.now → ExecutesInside 0 cluster2_text [] old new r → MatchResult r (λ _. IsRenewed old new) (λ _. Stays old new)
+renews old new (Err e) inside was h = stays_inside cluster2_text [] old new e h
+renews old new (Ok count) inside was h =
+    let added = adds_table old_schema register_schema (cluster2_at 0) cluster2_text cluster2_is old new count was.schema h.0 in
+    let k = added.others in
+    let db = old.now.trees in
+    let next = new.now.trees in
+    record {
+      has = record {
+        schema = added.schema;
+        register = still_kept of_register register_in (db 0) (next 0) k.0 was.register;
+        cluster = still_kept of_cluster cluster_in (db 1) (next 1) k.1.0 was.cluster;
+        suppliers = still_kept of_supplier supplier_in (db 2) (next 2) k.1.1.0 was.suppliers;
+        nodes = still_kept of_node node_in (db 5) (next 5) k.1.1.1.0 was.nodes;
+        variants = still_kept of_variant variant_in (db 7) (next 7) k.1.1.1.1.0 was.variants;
+        grants = still_kept of_grant grant_in (db 9) (next 9) k.1.1.1.1.1.0 was.grants;
+        frames = still_kept of_frame frame_in (db 11) (next 11) k.1.1.1.1.1.1.0 was.frames;
+        placements = still_kept of_placement placement_in (db 13) (next 13) k.1.1.1.1.1.1.1.0 was.placements;
+        signals = still_kept of_signal signal_in (db 15) (next 15) k.1.1.1.1.1.1.1.1.0 was.signals;
+        imports = still_kept of_import import_in (db 17) (next 17) k.1.1.1.1.1.1.1.1.1.0 was.imports;
+        dropped = still_kept of_dropped dropped_in (db 19) (next 19) k.1.1.1.1.1.1.1.1.1.1.0 was.dropped;
+        cluster2 = none_kept of_cluster2 cluster2_in (next 22) added.empty;
+      };
+      same = λ i. record {
+        register = map register_in (k.0 i);
+        cluster = map cluster_in (k.1.0 i);
+        suppliers = map supplier_in (k.1.1.0 i);
+        nodes = map node_in (k.1.1.1.0 i);
+        variants = map variant_in (k.1.1.1.1.0 i);
+        grants = map grant_in (k.1.1.1.1.1.0 i);
+        frames = map frame_in (k.1.1.1.1.1.1.0 i);
+        placements = map placement_in (k.1.1.1.1.1.1.1.0 i);
+        signals = map signal_in (k.1.1.1.1.1.1.1.1.0 i);
+        imports = map import_in (k.1.1.1.1.1.1.1.1.1.0 i);
+        dropped = map dropped_in (k.1.1.1.1.1.1.1.1.1.1.0 i);
+        cluster2 = map cluster2_in (added.empty i);
+      };
+      shown = subst (λ b. Shows old new new.now old.committed b) (sym inside) h.1;
+    }

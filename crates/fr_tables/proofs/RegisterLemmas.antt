@@ -1,20 +1,24 @@
 -- What the statements on the register's row do.
-use Rattle.std.proofs.Common.{ℕ, List, [], ◌∷◌, codes, lit≤, Ok, Err, Result, MatchResult, refl}
+use Rattle.std.proofs.Common.{◌≡◌, ◌==◌, ℕ, ℤ, length, map, inl, inr, if◌then◌else◌, List, [], ◌∷◌, codes, lit≤, Ok, Err, Result, MatchResult, refl}
 use Rattle.sqlite.specs.declared.types.Value.TheVariants.{Null, Int}
 use Rattle.sqlite.specs.declared.error.Error.{Error}
 use Rattle.sqlite.specs.Order.{Row}
 use Rattle.sqlite.specs.Term.{lit, col}
 use Rattle.sqlite.specs.Listing.{understood}
 use Rattle.sqlite.specs.State.{State, ExecutesInside}
+use Rattle.std.proofs.lemmas.Bool.{cases_Bool}
+use Rattle.sqlite_rules.specs.Action.{works}
+use Rattle.sqlite_schema.specs.declared.schema.Keys.TheVariants.{Enforced}
 use Rattle.sqlite_tied.specs.Compute.{everything}
 use Rattle.fr_tables.specs.Schema.{register_schema, register}
 use Rattle.fr_tables.specs.Rows.{RegisterRow, of_register, register_in}
 use Rattle.fr_tables.specs.Tables.{HasTables}
 use Rattle.fr_tables.specs.Changes.{Changes, Stays}
-use Rattle.fr_tables.specs.Statements.{with_register, shows_register, every, any_order}
+use Rattle.fr_tables.specs.Statements.{with_number, with_register, shows_register, every, any_order}
 use Rattle.fr_tables.proofs.Compared.{cast_null, cast_integer}
 use Rattle.fr_tables.proofs.InsertLemmas.{Adds, adds, added}
 use Rattle.fr_tables.proofs.ChangeLemmas.{register_made}
+use Rattle.fr_tables.proofs.RenewLemmas.{Renews, renews}
 use Rattle.fr_tables.proofs.RunLemmas.{stays_inside}
 use Rattle.fr_tables.proofs.FindLemmas.{Queries}
 
@@ -49,6 +53,34 @@ inserts g old new (Err e) was h = stays_inside insert_text _ old new e h
 inserts g old new (Ok count) was h =
     let did = adds register_schema register.name register.tree register.columns register.key register.primary register.uniques register.checks register.references insert_text (given g) (of_register g) (insert_is g) old new count was.schema h.0 in
     register_made old new was _ did.wrote (added register_schema register.name register.tree register.columns register.key register.primary register.uniques register.checks register.references of_register register_in g (λ id. refl) old new did was.register)
+
+-- ---- another number
+
+abbrev update_text : List ℕ
+update_text = codes "UPDATE register SET schema = ?1"
+
+update_idle : (olds news : List Row) → length olds ≡ length news → works register_schema Enforced 0 0 olds news ≡ []
+unfolding everything
+update_idle olds news h = elim (cases_Bool (length news == 0)) [ inl none ↦ rw none | inr some ↦ rw some ]
+
+update_is : (n : ℤ) → Renews of_register every (λ r. record { schema = n }) register update_text (Int n ∷ [])
+unfolding understood everything
+update_is n = record {
+  tests = [];
+  terms = lit Null ∷ col 0 0 ∷ [];
+  is = record { at = 0; is = refl; plain = (refl, refl); place = refl; stored = λ db. refl; idle = update_idle };
+  tested = λ p. refl;
+  gives = λ m r. rw (cast_null, cast_integer m, cast_integer n);
+}
+
+all_changed : (n : ℤ) (rows : List RegisterRow) → map (λ r. if every r then record { schema = n } else r) rows ≡ map (λ r. record { schema = n }) rows
+all_changed n rows = refl
+
+pub updates : (n : ℤ) (old new : State) (r : Result ℕ Error) → HasTables old.now → ExecutesInside 0 update_text (Int n ∷ []) old new r
+    → MatchResult r (λ _. Changes (with_number n) old new) (λ _. Stays old new)
+updates n old new (Err e) was h = stays_inside update_text _ old new e h
+updates n old new (Ok count) was h =
+    let did = renews of_register register_in (λ id x. refl) _ _ register update_text _ (update_is n) old new count was.schema was.register h.0 in register_made old new was _ did.0 did.1
 
 abbrev pub select_text : List ℕ
 select_text = codes "SELECT schema FROM register"

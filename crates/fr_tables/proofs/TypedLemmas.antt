@@ -22,8 +22,8 @@ use Rattle.sqlite_schema.specs.declared.schema.Constraint.TheVariants.{Datatype,
 use Rattle.sqlite_schema.specs.Names.{is_key}
 use Rattle.sqlite_schema.specs.Rules.{are_typed, are_present, has_computed, is_of, suits}
 use Rattle.sqlite_catalog.specs.Listing.{IsSound}
-use Rattle.fr_tables.specs.Schema.{register_schema, all_tables, register, cluster, suppliers, nodes, variants, grants, frames, placements, signals, imports, dropped}
-use Rattle.fr_tables.specs.Rows.{words, number, bytes, maybe_words, of_maybe, of_register, of_cluster, of_supplier, of_node, of_variant, of_grant, of_frame, of_placement, of_signal, of_import, of_dropped, register_in, cluster_in, supplier_in, node_in, variant_in, grant_in, frame_in, placement_in, signal_in, import_in, dropped_in}
+use Rattle.fr_tables.specs.Schema.{register_schema, all_tables, register, cluster, suppliers, nodes, variants, grants, frames, placements, signals, imports, dropped, cluster2}
+use Rattle.fr_tables.specs.Rows.{words, number, bytes, maybe_words, of_maybe, of_register, of_cluster, of_supplier, of_node, of_variant, of_grant, of_frame, of_placement, of_signal, of_import, of_dropped, register_in, cluster_in, supplier_in, node_in, variant_in, grant_in, frame_in, placement_in, signal_in, import_in, dropped_in, of_cluster2, cluster2_in}
 use Rattle.fr_tables.specs.Tables.{AreKept, HasTables, AreOrdered}
 
 both : (a b : Bool) → (a && b) ≡ true → (a ≡ true) × (b ≡ true)
@@ -183,6 +183,7 @@ typed_tables db sound o =
       signals = kept of_signal signal_in signals (λ row. refl) refl refl (db 15) o.1.1.1.1.1.1.1.1.0 t.1.1.1.1.1.1.1.1.0 p.1.1.1.1.1.1.1.1.0;
       imports = kept of_import import_in imports (λ row. refl) refl refl (db 17) o.1.1.1.1.1.1.1.1.1.0 t.1.1.1.1.1.1.1.1.1.0 p.1.1.1.1.1.1.1.1.1.0;
       dropped = kept of_dropped dropped_in dropped (λ row. refl) refl refl (db 19) o.1.1.1.1.1.1.1.1.1.1.0 t.1.1.1.1.1.1.1.1.1.1.0 p.1.1.1.1.1.1.1.1.1.1.0;
+      cluster2 = kept of_cluster2 cluster2_in cluster2 (λ row. refl) refl refl (db 22) o.1.1.1.1.1.1.1.1.1.1.1.0 t.1.1.1.1.1.1.1.1.1.1.1.0 p.1.1.1.1.1.1.1.1.1.1.1.0;
     }
 
 pub has_tables : (db : Database) → IsSound db.schema db.trees → db.schema ≡ register_schema → AreOrdered db.trees → HasTables db
@@ -192,7 +193,7 @@ has_tables db sound schema ordered =
 
 -- and tables are in order
 pub in_order : (db : Database) → HasTables db → AreOrdered db.trees
-in_order db h = ((h.register.rise, h.register.numbered), ((h.cluster.rise, h.cluster.numbered), ((h.suppliers.rise, h.suppliers.numbered), ((h.nodes.rise, h.nodes.numbered), ((h.variants.rise, h.variants.numbered), ((h.grants.rise, h.grants.numbered), ((h.frames.rise, h.frames.numbered), ((h.placements.rise, h.placements.numbered), ((h.signals.rise, h.signals.numbered), ((h.imports.rise, h.imports.numbered), ((h.dropped.rise, h.dropped.numbered), tt)))))))))))
+in_order db h = ((h.register.rise, h.register.numbered), ((h.cluster.rise, h.cluster.numbered), ((h.suppliers.rise, h.suppliers.numbered), ((h.nodes.rise, h.nodes.numbered), ((h.variants.rise, h.variants.numbered), ((h.grants.rise, h.grants.numbered), ((h.frames.rise, h.frames.numbered), ((h.placements.rise, h.placements.numbered), ((h.signals.rise, h.signals.numbered), ((h.imports.rise, h.imports.numbered), ((h.dropped.rise, h.dropped.numbered), ((h.cluster2.rise, h.cluster2.numbered), tt))))))))))))
 
 -- the tables of a sound store are in order
 pub ordered_in : (v : View) → IsOrdered v.shape v.trees → IsListed (v.trees catalog_tree) v.shape v.reals → IsSound register_schema v.trees → AreOrdered v.trees

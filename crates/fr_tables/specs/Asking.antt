@@ -7,13 +7,13 @@ use Rattle.fr_tables.specs.Tables.{HasTables, tables_in}
 
 -- the schema that this version reads and writes
 abbrev pub our_schema_number : ℤ
-our_schema_number = pos 1
+our_schema_number = pos 2
 
 abbrev pub number_text : List ℕ
 number_text = codes "SELECT schema FROM register"
 
 abbrev pub cluster_text : List ℕ
-cluster_text = codes "SELECT static_slots, slot_macroticks, dynamic_macroticks, symbol_macroticks, idle_macroticks, macroticks_per_cycle, payload_words, channels, integrator FROM cluster"
+cluster_text = codes "SELECT static_slots, slot_macroticks, dynamic_macroticks, symbol_macroticks, idle_macroticks, macroticks_per_cycle, payload_words, channels, integrator, cycles FROM cluster2"
 
 abbrev pub suppliers_text : List ℕ
 suppliers_text = codes "SELECT name, key FROM suppliers ORDER BY name"

@@ -6,7 +6,7 @@ use Rattle.fr_base.specs.Cluster.{ClusterFile}
 use Rattle.fr_tables.specs.Rows.{SupplierRow}
 use Rattle.fr_tables.specs.Tables.{Tables, HasTables}
 use Rattle.fr_tables.specs.Changes.{Changes}
-use Rattle.fr_tables.specs.Statements.{cluster_row}
+use Rattle.fr_tables.specs.Statements.{cluster2_row}
 
 abbrev pub supplier_row : Supplier → SupplierRow
 supplier_row s = record { name = s.name; key = s.key }
@@ -17,8 +17,8 @@ with_suppliers list t = record t { suppliers = t.suppliers ++ map supplier_row l
 -- the number of the schema, the cluster and its suppliers
 abbrev pub with_config : ClusterFile → Tables → Tables
 with_config f t = record t {
-  register = t.register ++ record { schema = pos 1 } ∷ [];
-  cluster = t.cluster ++ cluster_row f.cluster.params f.cluster.integrator ∷ [];
+  register = t.register ++ record { schema = pos 2 } ∷ [];
+  cluster2 = t.cluster2 ++ cluster2_row f.cluster.params f.cluster.integrator ∷ [];
   suppliers = t.suppliers ++ map supplier_row f.suppliers;
 }
 

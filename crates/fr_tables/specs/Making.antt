@@ -4,7 +4,7 @@ use Rattle.std.specs.List.{AllByRecursion}
 use Rattle.sqlite.specs.Effect.{Database}
 use Rattle.sqlite.specs.State.{State, Shows, HasCleanDisk, KeepsCommit}
 use Rattle.fr_tables.specs.Schema.{schema_of, all_tables}
-use Rattle.fr_tables.specs.Tables.{Tables, HasTables}
+use Rattle.fr_tables.specs.Tables.{Tables, HasTables, HasOldTables, old_tables_in}
 use Rattle.fr_tables.specs.Changes.{Stays, tables_of}
 
 -- the database has the first so many tables and keys' indexes, and no row
@@ -22,7 +22,7 @@ MakesTable count others next others_next old new r =
     HasCleanDisk new → IsTrue old.in_transaction → IsFresh count others old.now → MatchResult r (λ _. Enlarges next others_next old new) (λ _. Stays old new)
 
 abbrev pub no_rows : Tables
-no_rows = record { register = []; cluster = []; suppliers = []; nodes = []; variants = []; grants = []; frames = []; placements = []; signals = []; imports = []; dropped = [] }
+no_rows = record { register = []; cluster = []; suppliers = []; nodes = []; variants = []; grants = []; frames = []; placements = []; signals = []; imports = []; dropped = []; cluster2 = [] }
 
 -- all tables are there, with no row
 pub record IsMade (old new : State) : Type 0 where
@@ -30,9 +30,25 @@ pub record IsMade (old new : State) : Type 0 where
   pub empty : tables_of new ≡ no_rows
   pub shown : Shows old new new.now old.committed old.in_transaction
 
--- The last statement makes the index, or fails and leaves the tables as they are.
-abbrev pub MakesAll : {X E : Type 0} → State → State → Result X E → Type 0
-MakesAll old new r = HasCleanDisk new → IsTrue old.in_transaction → IsFresh 11 10 old.now → MatchResult r (λ _. IsMade old new) (λ _. Stays old new)
+-- all tables of the schema before are there, with no row
+pub record IsOldMade (old new : State) : Type 0 where
+  pub has : HasOldTables new.now
+  pub empty : old_tables_in new.now.trees ≡ no_rows
+  pub shown : Shows old new new.now old.committed old.in_transaction
+
+-- A statement makes the index, or fails and leaves the tables as they are.
+abbrev pub MakesOld : {X E : Type 0} → State → State → Result X E → Type 0
+MakesOld old new r = HasCleanDisk new → IsTrue old.in_transaction → IsFresh 11 10 old.now → MatchResult r (λ _. IsOldMade old new) (λ _. Stays old new)
+
+-- the tables of the schema before are those of this one, `cluster2` with no row
+pub record IsRenewed (old new : State) : Type 0 where
+  pub has : HasTables new.now
+  pub same : tables_of new ≡ old_tables_in old.now.trees
+  pub shown : Shows old new new.now old.committed old.in_transaction
+
+-- The last statement adds `cluster2`, or fails and leaves the tables as they are.
+abbrev pub Renews : {X E : Type 0} → State → State → Result X E → Type 0
+Renews old new r = HasCleanDisk new → IsTrue old.in_transaction → HasOldTables old.now → MatchResult r (λ _. IsRenewed old new) (λ _. Stays old new)
 
 -- Several statements inside a transaction take the tables from here to there, or fail and commit nothing.
 abbrev pub Grows : {X E : Type 0} → ℕ → ℕ → ℕ → ℕ → State → State → Result X E → Type 0

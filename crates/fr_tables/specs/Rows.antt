@@ -45,6 +45,19 @@ pub record ClusterRow : Type 0 where
   pub channels : List ℕ
   pub integrator : List ℕ
 
+-- with the count of cycles
+pub record Cluster2Row : Type 0 where
+  pub static_slots : ℤ
+  pub slot_macroticks : ℤ
+  pub dynamic_macroticks : ℤ
+  pub symbol_macroticks : ℤ
+  pub idle_macroticks : ℤ
+  pub macroticks_per_cycle : ℤ
+  pub payload_words : ℤ
+  pub channels : List ℕ
+  pub integrator : List ℕ
+  pub cycles : ℤ
+
 pub record SupplierRow : Type 0 where
   pub name : List ℕ
   pub key : List ℕ
@@ -128,6 +141,25 @@ cluster_in r = record {
   payload_words = number (column r 8);
   channels = words (column r 9);
   integrator = words (column r 10);
+}
+
+abbrev pub of_cluster2 : Cluster2Row → Row
+of_cluster2 c =
+    Null ∷ Int c.static_slots ∷ Int c.slot_macroticks ∷ Int c.dynamic_macroticks ∷ Int c.symbol_macroticks ∷ Int c.idle_macroticks ∷ Int c.macroticks_per_cycle ∷ Int c.payload_words
+    ∷ Text c.channels ∷ Text c.integrator ∷ Int c.cycles ∷ []
+
+abbrev pub cluster2_in : Row → Cluster2Row
+cluster2_in r = record {
+  static_slots = number (column r 2);
+  slot_macroticks = number (column r 3);
+  dynamic_macroticks = number (column r 4);
+  symbol_macroticks = number (column r 5);
+  idle_macroticks = number (column r 6);
+  macroticks_per_cycle = number (column r 7);
+  payload_words = number (column r 8);
+  channels = words (column r 9);
+  integrator = words (column r 10);
+  cycles = number (column r 11);
 }
 
 abbrev pub of_supplier : SupplierRow → Row

@@ -83,6 +83,14 @@ cluster_at tree =
     (integer (codes "static_slots") ∷ integer (codes "slot_macroticks") ∷ integer (codes "dynamic_macroticks") ∷ integer (codes "symbol_macroticks")
     ∷ integer (codes "idle_macroticks") ∷ integer (codes "macroticks_per_cycle") ∷ integer (codes "payload_words") ∷ text (codes "channels") ∷ text (codes "integrator") ∷ [])
 
+-- with the count of cycles, 8 to 64
+abbrev pub cluster2_at : ℕ → Table
+cluster2_at tree =
+    table (codes "cluster2") tree
+    (integer (codes "id") ∷ integer (codes "static_slots") ∷ integer (codes "slot_macroticks") ∷ integer (codes "dynamic_macroticks") ∷ integer (codes "symbol_macroticks")
+    ∷ integer (codes "idle_macroticks") ∷ integer (codes "macroticks_per_cycle") ∷ integer (codes "payload_words") ∷ text (codes "channels") ∷ text (codes "integrator") ∷ integer (codes "cycles") ∷ [])
+    (Some 0) (0 ∷ []) [] (op2 (Compare Eq Binary) (col 1 0) (lit (Int (pos 1))) ∷ within 8 64 11 ∷ []) []
+
 abbrev pub suppliers_at : ℕ → Table
 suppliers_at tree = table (codes "suppliers") tree (text (codes "name") ∷ text (codes "key") ∷ []) None (1 ∷ []) ((1 ∷ []) ∷ (2 ∷ []) ∷ []) [] []
 
@@ -158,8 +166,15 @@ imports = imports_at 17
 abbrev pub dropped : Table
 dropped = dropped_at 19
 
+-- made after the index, so that its tree is the same in a register that was made before it
+abbrev pub cluster2 : Table
+cluster2 = cluster2_at 22
+
+abbrev pub old_tables : List Table
+old_tables = register ∷ cluster ∷ suppliers ∷ nodes ∷ variants ∷ grants ∷ frames ∷ placements ∷ signals ∷ imports ∷ dropped ∷ []
+
 abbrev pub all_tables : List Table
-all_tables = register ∷ cluster ∷ suppliers ∷ nodes ∷ variants ∷ grants ∷ frames ∷ placements ∷ signals ∷ imports ∷ dropped ∷ []
+all_tables = register ∷ cluster ∷ suppliers ∷ nodes ∷ variants ∷ grants ∷ frames ∷ placements ∷ signals ∷ imports ∷ dropped ∷ cluster2 ∷ []
 
 abbrev unique : List ℕ → ℕ → ℕ → List ℕ → Index
 unique name tree table columns = record { name = name; tree = tree; table = table; columns = columns; order = plain; is_unique = true }
@@ -179,6 +194,10 @@ grants_index = record { name = codes "grants_by_supplier"; tree = 21; table = 9;
 -- the first so many tables, with the first so many indexes
 abbrev pub schema_of : ℕ → ℕ → Schema
 schema_of count others = record { tables = take count all_tables; indexes = take others key_indexes; views = [] }
+
+-- the schema before that of this version
+abbrev pub old_schema : Schema
+old_schema = record { tables = old_tables; indexes = key_indexes ++ grants_index ∷ []; views = [] }
 
 abbrev pub register_schema : Schema
 register_schema = record { tables = all_tables; indexes = key_indexes ++ grants_index ∷ []; views = [] }

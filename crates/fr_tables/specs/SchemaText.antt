@@ -34,5 +34,8 @@ imports_text = codes "CREATE TABLE imports (supplier TEXT NOT NULL, label TEXT N
 abbrev pub dropped_text : List ℕ
 dropped_text = codes "CREATE TABLE dropped (variant TEXT NOT NULL, supplier TEXT NOT NULL, frame TEXT NOT NULL, PRIMARY KEY (variant, supplier, frame)) STRICT"
 
+abbrev pub cluster2_text : List ℕ
+cluster2_text = codes "CREATE TABLE cluster2 (id INTEGER NOT NULL PRIMARY KEY CHECK (id = 1), static_slots INTEGER NOT NULL, slot_macroticks INTEGER NOT NULL, dynamic_macroticks INTEGER NOT NULL, symbol_macroticks INTEGER NOT NULL, idle_macroticks INTEGER NOT NULL, macroticks_per_cycle INTEGER NOT NULL, payload_words INTEGER NOT NULL, channels TEXT NOT NULL, integrator TEXT NOT NULL, cycles INTEGER NOT NULL CHECK (cycles >= 8 AND cycles <= 64)) STRICT"
+
 abbrev pub index_text : List ℕ
 index_text = codes "CREATE INDEX grants_by_supplier ON grants (variant, supplier)"

@@ -13,7 +13,7 @@ use Rattle.fr_base.specs.declared.signal.Order.{Order}
 use Rattle.fr_base.specs.declared.signal.Order.TheVariants.{Little, Big}
 use Rattle.fr_base.specs.Signals.{SignalData}
 use Rattle.fr_base.specs.Channels.{text_of_channels}
-use Rattle.fr_tables.specs.Rows.{RegisterRow, ClusterRow, SupplierRow, NodeRow, VariantRow, GrantRow, FrameRow, PlacementRow, SignalRow, ImportRow, DroppedRow, of_maybe}
+use Rattle.fr_tables.specs.Rows.{RegisterRow, ClusterRow, Cluster2Row, SupplierRow, NodeRow, VariantRow, GrantRow, FrameRow, PlacementRow, SignalRow, ImportRow, DroppedRow, of_maybe}
 use Rattle.fr_tables.specs.Tables.{Tables}
 
 -- byte order
@@ -55,6 +55,36 @@ cluster_row p integrator = record {
   channels = text_of_channels p.channels;
   integrator = integrator;
 }
+
+abbrev pub with_cluster2 : Cluster2Row → Tables → Tables
+with_cluster2 c t = record t { cluster2 = t.cluster2 ++ c ∷ [] }
+
+abbrev pub shows_cluster2 : Cluster2Row → Row
+shows_cluster2 c =
+    Int c.static_slots ∷ Int c.slot_macroticks ∷ Int c.dynamic_macroticks ∷ Int c.symbol_macroticks ∷ Int c.idle_macroticks ∷ Int c.macroticks_per_cycle ∷ Int c.payload_words
+    ∷ Text c.channels ∷ Text c.integrator ∷ Int c.cycles ∷ []
+
+abbrev pub cluster2_row : RawParams → List ℕ → Cluster2Row
+cluster2_row p integrator = record {
+  static_slots = pos p.static_slots;
+  slot_macroticks = pos p.slot_macroticks;
+  dynamic_macroticks = pos p.dynamic_macroticks;
+  symbol_macroticks = pos p.symbol_macroticks;
+  idle_macroticks = pos p.idle_macroticks;
+  macroticks_per_cycle = pos p.macroticks_per_cycle;
+  payload_words = pos p.payload_words;
+  channels = text_of_channels p.channels;
+  integrator = integrator;
+  cycles = pos p.cycles;
+}
+
+-- the schema's number is another
+abbrev pub with_number : ℤ → Tables → Tables
+with_number n t = record t { register = map (λ r. record { schema = n }) t.register }
+
+-- no row says what the cluster is
+abbrev pub without_cluster : Tables → Tables
+without_cluster t = record t { cluster = [] }
 
 -- ---- suppliers
 

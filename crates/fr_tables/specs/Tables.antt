@@ -1,11 +1,11 @@
 -- The tables of a register as lists of rows, in the order in which the rows came.
-use Rattle.std.specs.Prelude.{◌≡◌, List, ◌∷◌, map, IsTrue}
+use Rattle.std.specs.Prelude.{◌≡◌, List, [], ◌∷◌, map, IsTrue}
 use Rattle.std.specs.List.{AllByRecursion}
 use Rattle.sqlite.specs.Order.{Row}
 use Rattle.sqlite.specs.Tree.{Trees, IsTable, rowid}
 use Rattle.sqlite_trees.specs.View.{is_int}
 use Rattle.sqlite.specs.Effect.{Database}
-use Rattle.fr_tables.specs.Schema.{register_schema, all_tables}
+use Rattle.fr_tables.specs.Schema.{register_schema, all_tables, old_schema}
 use Rattle.fr_tables.specs.Rows.{
   RegisterRow,
   ClusterRow,
@@ -18,6 +18,7 @@ use Rattle.fr_tables.specs.Rows.{
   SignalRow,
   ImportRow,
   DroppedRow,
+  Cluster2Row,
   of_register,
   of_cluster,
   of_supplier,
@@ -29,6 +30,7 @@ use Rattle.fr_tables.specs.Rows.{
   of_signal,
   of_import,
   of_dropped,
+  of_cluster2,
   register_in,
   cluster_in,
   supplier_in,
@@ -40,6 +42,7 @@ use Rattle.fr_tables.specs.Rows.{
   signal_in,
   import_in,
   dropped_in,
+  cluster2_in,
 }
 
 pub record Tables : Type 0 where
@@ -54,6 +57,7 @@ pub record Tables : Type 0 where
   pub signals : List SignalRow
   pub imports : List ImportRow
   pub dropped : List DroppedRow
+  pub cluster2 : List Cluster2Row
 
 abbrev pub tables_in : Trees → Tables
 tables_in db = record {
@@ -68,7 +72,12 @@ tables_in db = record {
   signals = map signal_in (db 15);
   imports = map import_in (db 17);
   dropped = map dropped_in (db 19);
+  cluster2 = map cluster2_in (db 22);
 }
+
+-- those of the schema before, which had no `cluster2`
+abbrev pub old_tables_in : Trees → Tables
+old_tables_in db = record (tables_in db) { cluster2 = [] }
 
 -- each row has a number above the last one's, and says no more than its value
 pub record AreKept {X : Type 0} (columns : X → Row) (read : Row → X) (rows : List Row) : Type 0 where
@@ -79,6 +88,22 @@ pub record AreKept {X : Type 0} (columns : X → Row) (read : Row → X) (rows :
 -- the database has the tables, and each row its table's columns
 pub record HasTables (db : Database) : Type 0 where
   pub schema : db.schema ≡ register_schema
+  pub register : AreKept of_register register_in (db.trees 0)
+  pub cluster : AreKept of_cluster cluster_in (db.trees 1)
+  pub suppliers : AreKept of_supplier supplier_in (db.trees 2)
+  pub nodes : AreKept of_node node_in (db.trees 5)
+  pub variants : AreKept of_variant variant_in (db.trees 7)
+  pub grants : AreKept of_grant grant_in (db.trees 9)
+  pub frames : AreKept of_frame frame_in (db.trees 11)
+  pub placements : AreKept of_placement placement_in (db.trees 13)
+  pub signals : AreKept of_signal signal_in (db.trees 15)
+  pub imports : AreKept of_import import_in (db.trees 17)
+  pub dropped : AreKept of_dropped dropped_in (db.trees 19)
+  pub cluster2 : AreKept of_cluster2 cluster2_in (db.trees 22)
+
+-- the database has the tables of the schema before
+pub record HasOldTables (db : Database) : Type 0 where
+  pub schema : db.schema ≡ old_schema
   pub register : AreKept of_register register_in (db.trees 0)
   pub cluster : AreKept of_cluster cluster_in (db.trees 1)
   pub suppliers : AreKept of_supplier supplier_in (db.trees 2)

@@ -4,7 +4,7 @@ ghost use Rattle.std.specs.Prelude.{◌≡◌, ◌≢◌, ℤ, IsTrue, IfOk, IfE
 ghost use Rattle.sqlite.specs.declared.error.Error.TheVariants.{SqlInputError};
 ghost use Rattle.sqlite.specs.State.{HasCleanDisk, Survives};
 ghost use Rattle.sqlite.specs.Held.{state};
-ghost use Rattle.fr_tables.specs.Statements.{shows_register, shows_cluster, shows_supplier, shows_variant, every, any_order, suppliers_cmp, variants_cmp};
+ghost use Rattle.fr_tables.specs.Statements.{shows_register, shows_cluster2, shows_supplier, shows_variant, every, any_order, suppliers_cmp, variants_cmp};
 ghost use Rattle.fr_tables.specs.Tables.{HasTables};
 ghost use Rattle.fr_tables.specs.Changes.{AreListed, tables_of};
 ghost use Rattle.fr_tables.specs.Asking.{AreAsBefore, HasNumber, numbered, number_text, cluster_text, suppliers_text, variants_text};
@@ -17,7 +17,7 @@ pub fn asked<S: Alter>(conn: &mut Connection<S>, sql: &str) -> Result<Vec<Row>, 
     requires { conn.old.in_transaction ≡ false }
     ensures number { HasCleanDisk (state S.Store conn.new) → sql.now ≡ number_text → HasTables (state S.Store conn.old).now → IfOk result (λ rows. IsPermutation (map shows_register (tables_of (state S.Store conn.old)).register) rows.items) }
     ensures told { HasCleanDisk (state S.Store conn.new) → sql.now ≡ number_text → HasTables (state S.Store conn.old).now → IfErr result (λ e. (x : _) → e ≢ SqlInputError x) }
-    ensures cluster { HasCleanDisk (state S.Store conn.new) → sql.now ≡ cluster_text → HasTables (state S.Store conn.old).now → IfOk result (λ rows. AreListed shows_cluster every any_order (tables_of (state S.Store conn.old)).cluster rows.items) }
+    ensures cluster { HasCleanDisk (state S.Store conn.new) → sql.now ≡ cluster_text → HasTables (state S.Store conn.old).now → IfOk result (λ rows. AreListed shows_cluster2 every any_order (tables_of (state S.Store conn.old)).cluster2 rows.items) }
     ensures suppliers { HasCleanDisk (state S.Store conn.new) → sql.now ≡ suppliers_text → HasTables (state S.Store conn.old).now → IfOk result (λ rows. AreListed shows_supplier every suppliers_cmp (tables_of (state S.Store conn.old)).suppliers rows.items) }
     ensures variants { HasCleanDisk (state S.Store conn.new) → sql.now ≡ variants_text → HasTables (state S.Store conn.old).now → IfOk result (λ rows. AreListed shows_variant every variants_cmp (tables_of (state S.Store conn.old)).variants rows.items) }
     ensures same { HasCleanDisk (state S.Store conn.new) → AreAsBefore (state S.Store conn.old) (state S.Store conn.new) }

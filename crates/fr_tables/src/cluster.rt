@@ -9,7 +9,7 @@ ghost use Rattle.fr_base.specs.Names.{is_name, is_key};
 ghost use Rattle.fr_base.specs.Parameters.{check_params};
 ghost use Rattle.fr_base.specs.Channels.{text_of_channels};
 ghost use Rattle.fr_base.specs.Cluster.{IsWellFormed, names_rise, keys_of, keys_differ, is_cluster};
-ghost use Rattle.fr_tables.specs.Statements.{cluster_row, shows_cluster, shows_supplier};
+ghost use Rattle.fr_tables.specs.Statements.{cluster2_row, shows_cluster2, shows_supplier};
 ghost use Rattle.fr_tables.specs.Filling.{supplier_row};
 ghost use Rattle.fr_tables.specs.ClusterRows.{AreFormed, shown_supplier};
 
@@ -72,11 +72,11 @@ fn name(row: &Row, at: usize) -> Option<Name>
 
 /// The parameters and the integrator's key, if the row has their form.
 fn params_of(row: &Row) -> Option<(Params, Key)>
-    ensures row { IfSome result (λ read. row.now ≡ shows_cluster (cluster_row read.0 read.1)) }
+    ensures row { IfSome result (λ read. row.now ≡ shows_cluster2 (cluster2_row read.0 read.1)) }
     ensures formed { IfSome result (λ read. IsTrue (is_key read.1)) }
     ensures checked { IfSome result (λ read. check_params read.0 ≡ Ok read.0) }
 {
-    if row.column_count() != 9 {
+    if row.column_count() != 10 {
         return None;
     }
     let raw = RawParams {
@@ -88,6 +88,7 @@ fn params_of(row: &Row) -> Option<(Params, Key)>
         macroticks_per_cycle: number(row, 5)?,
         payload_words: number(row, 6)?,
         channels: channels(row, 7)?,
+        cycles: number(row, 9)?,
     };
     let params = Params::check(raw).ok()?;
     Some((params, key(row, 8)?))
@@ -161,7 +162,7 @@ fn is_cluster(integrator: Key, suppliers: &[Supplier]) -> bool
 
 /// The cluster of these rows. None, if they make none, or for want of memory.
 pub fn read(alloc: Global, cluster: &[Row], suppliers: &[Row]) -> Option<Config>
-    ensures cluster { IfSome result (λ c. cluster.now ≡ shows_cluster (cluster_row c.cluster.params c.cluster.integrator) ∷ []) }
+    ensures cluster { IfSome result (λ c. cluster.now ≡ shows_cluster2 (cluster2_row c.cluster.params c.cluster.integrator) ∷ []) }
     ensures suppliers { IfSome result (λ c. suppliers.now ≡ map shown_supplier c.suppliers) }
     ensures formed { IfSome result IsWellFormed }
 {

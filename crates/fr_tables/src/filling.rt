@@ -27,7 +27,7 @@ pub fn config<S: Alter>(tx: &mut Transaction<'_, S>, config: &Config) -> Result<
     ensures added { MakesAllOf (with_config config.now) (state S.Store tx.old.conn.now) (state S.Store tx.new.conn.now) result }
     ensures survives { Survives (state S.Store tx.old.conn.now) (state S.Store tx.new.conn.now) (λ _. ⊥) }
 {
-    tables::register::insert(tx, 1)?;
-    tables::cluster::insert(tx, &config.params(), &config.integrator())?;
+    tables::register::insert(tx, 2)?;
+    tables::cluster2::insert(tx, &config.params(), &config.integrator())?;
     suppliers(tx, config.suppliers())
 }

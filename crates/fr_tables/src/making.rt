@@ -3,7 +3,7 @@
 ghost use Rattle.std.specs.Prelude.{◌≡◌};
 ghost use Rattle.sqlite.specs.State.{Survives};
 ghost use Rattle.sqlite.specs.Held.{state};
-ghost use Rattle.fr_tables.specs.Making.{MakesTable, MakesAll, Grows, MakesWhole};
+ghost use Rattle.fr_tables.specs.Making.{MakesTable, MakesOld, Renews, Grows, MakesWhole};
 
 use sqlite::{Alter, Error, Transaction};
 
@@ -131,11 +131,23 @@ fn dropped<S: Alter>(tx: &mut Transaction<'_, S>) -> Result<usize, Error>
 /// Makes the index by which a variant's grants to a supplier are found.
 fn grants_index<S: Alter>(tx: &mut Transaction<'_, S>) -> Result<usize, Error>
     ensures same_reference { tx.new.conn.ghost_name ≡ tx.old.conn.ghost_name }
-    ensures made { MakesAll (state S.Store tx.old.conn.now) (state S.Store tx.new.conn.now) result }
+    ensures made { MakesOld (state S.Store tx.old.conn.now) (state S.Store tx.new.conn.now) result }
     ensures survives { Survives (state S.Store tx.old.conn.now) (state S.Store tx.new.conn.now) (λ _. ⊥) }
 {
     tx.execute(
         "CREATE INDEX grants_by_supplier ON grants (variant, supplier)",
+        &[],
+    )
+}
+
+/// Makes the table that says what the cluster is, in a database with the tables of the schema before.
+pub fn cluster2<S: Alter>(tx: &mut Transaction<'_, S>) -> Result<usize, Error>
+    ensures same_reference { tx.new.conn.ghost_name ≡ tx.old.conn.ghost_name }
+    ensures made { Renews (state S.Store tx.old.conn.now) (state S.Store tx.new.conn.now) result }
+    ensures survives { Survives (state S.Store tx.old.conn.now) (state S.Store tx.new.conn.now) (λ _. ⊥) }
+{
+    tx.execute(
+        "CREATE TABLE cluster2 (id INTEGER NOT NULL PRIMARY KEY CHECK (id = 1), static_slots INTEGER NOT NULL, slot_macroticks INTEGER NOT NULL, dynamic_macroticks INTEGER NOT NULL, symbol_macroticks INTEGER NOT NULL, idle_macroticks INTEGER NOT NULL, macroticks_per_cycle INTEGER NOT NULL, payload_words INTEGER NOT NULL, channels TEXT NOT NULL, integrator TEXT NOT NULL, cycles INTEGER NOT NULL CHECK (cycles >= 8 AND cycles <= 64)) STRICT",
         &[],
     )
 }
@@ -188,5 +200,6 @@ pub fn all<S: Alter>(tx: &mut Transaction<'_, S>) -> Result<(), Error>
     up_to_placements(tx)?;
     up_to_dropped(tx)?;
     grants_index(tx)?;
+    cluster2(tx)?;
     Ok(())
 }

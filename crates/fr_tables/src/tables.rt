@@ -2,6 +2,7 @@
 //! becomes of the tables' rows.
 
 pub mod cluster;
+pub mod cluster2;
 pub mod dropped;
 pub mod frames;
 pub mod grants;

@@ -13,7 +13,7 @@ use Rattle.std.specs.Option.{ok_or}
 use Rattle.toml.specs.declared.value.Value.{Value}
 use Rattle.fr_text.specs.declared.cluster_file.ConfigFault.{ConfigFault}
 use Rattle.fr_text.specs.declared.cluster_file.ConfigFault.TheVariants.{BadField, BadName, BadKey, KeyTwice}
-use Rattle.toml.specs.Data.{Data, Members, member, no_members, as_str}
+use Rattle.toml.specs.Data.{Data, Members, member, no_members, as_str, get_member}
 use Rattle.toml.specs.View.{view, members_view}
 use Rattle.toml.specs.Parse.{parse_document}
 use Rattle.std.proofs.lemmas.List.{length-map}
@@ -30,7 +30,7 @@ use Rattle.fr_text.specs.declared.cluster_file.SupplierText.{SupplierText}
 use Rattle.fr_text.specs.SupplierTexts.{supplier_of, suppliers_of}
 use Rattle.std.proofs.lemmas.List.Folds.{list_all-map}
 use Rattle.std.proofs.lemmas.Bool.Decides.{nat_tests}
-use Rattle.fr_text.specs.ClusterFile.{is_file_key, has_only_file_keys, text_at, number_at, table_at, params_in, suppliers_in, fields_in, check_cluster, document, config_of}
+use Rattle.fr_text.specs.ClusterFile.{is_file_key, has_only_file_keys, text_at, number_at, number_or, table_at, params_in, suppliers_in, fields_in, check_cluster, document, config_of}
 
 unfoldable pub text_at_open : ⊤
 unfolding ◌or◌ text_at
@@ -85,6 +85,15 @@ pub found_or : (found : Option (Bor Value)) (r : Result (Bor Value) ConfigFault)
     → MatchResult r (λ x. value ≡ Some (view x.now)) (λ fault. (fault ≡ BadField) × (value ≡ None))
 found_or None r value same is = rw is (refl, sym same)
 found_or (Some x) r value same is = rw is (sym same)
+
+-- the number at a key that is not there, and at one that is
+pub number_or-none : (other : ℕ) (key : List ℕ) (file : Members) → get_member key file ≡ None → (let given : Result ℕ ConfigFault = Ok other in given ≡ number_or other key file)
+unfolding number_or
+number_or-none other key file e = rw e refl
+
+pub number_or-some : (other : ℕ) (key : List ℕ) (file : Members) (d : Data) → get_member key file ≡ Some d → number_at key file ≡ number_or other key file
+unfolding number_or
+number_or-some other key file d e = rw e refl
 
 -- these suppliers in front of the others, if there is no fault
 abbrev pub prefixed : List Supplier → Result (List Supplier) ConfigFault → Result (List Supplier) ConfigFault

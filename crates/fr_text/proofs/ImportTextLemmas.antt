@@ -336,7 +336,7 @@ no_order text e = rw (other_word text (codes "little") refl e, other_word text (
 
 no_placement : (p : Params) (slot : ℕ) (text : List ℕ) (base repetition : ℕ) → is_utf8 text ≡ false → result_ok (placement_of p slot text base repetition) ≡ None
 unfolding placement_of channels_of ◌>>=◌ ◌or◌
-no_placement p slot text base repetition e = rw (no_channels text e) (by (cycles_of base repetition) (slot_of p slot))
+no_placement p slot text base repetition e = rw (no_channels text e) (by (cycles_of p base repetition) (slot_of p slot))
   where
     by : {A B C : Type 0} (r : Result A Refusal) (k : Result B Refusal) → result_ok {T = C} (r >>= λ _. k >>= λ _. Err BadChannel) ≡ None
     by (Ok r) (Ok k) = refl

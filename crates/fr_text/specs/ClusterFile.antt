@@ -1,5 +1,5 @@
 -- What the bytes of a cluster file say.
-use Rattle.std.specs.Prelude.{ℕ, ◌^◌, ℤ, pos, negsuc, Bool, true, not, ◌&&◌, List, [], ◌∷◌, length, codes, nat_lt, Option, Some, None, option_and_then, Result, Ok, Err, if◌then◌else◌}
+use Rattle.std.specs.Prelude.{ℕ, ◌^◌, ℤ, pos, negsuc, Bool, true, not, ◌&&◌, List, [], ◌∷◌, length, codes, nat_lt, Option, Some, None, is_some, option_and_then, Result, Ok, Err, if◌then◌else◌}
 use Rattle.std.specs.List.{list_all, list_any}
 use Rattle.std.specs.Str.{is_utf8, bytes_eq}
 use Rattle.toml.specs.Data.{Members, no_members, member, get_member, as_str, as_integer, as_table}
@@ -20,7 +20,7 @@ abbrev pub is_file_key : List ℕ → Bool
 is_file_key key =
     list_any (bytes_eq key)
     (codes "channels" ∷ codes "static_slots" ∷ codes "slot_macroticks" ∷ codes "dynamic_macroticks" ∷ codes "symbol_macroticks"
-    ∷ codes "idle_macroticks" ∷ codes "macroticks_per_cycle" ∷ codes "payload_words" ∷ codes "integrator" ∷ codes "suppliers" ∷ [])
+    ∷ codes "idle_macroticks" ∷ codes "macroticks_per_cycle" ∷ codes "payload_words" ∷ codes "cycles" ∷ codes "integrator" ∷ codes "suppliers" ∷ [])
 
 -- whether the table has no other keys
 unfoldable pub has_only_file_keys : Members → Bool
@@ -35,6 +35,10 @@ as_u32 (negsuc n) = None
 -- the number at a key
 unfoldable pub number_at : List ℕ → Members → Result ℕ ConfigFault
 number_at key file = option_and_then as_u32 (option_and_then as_integer (get_member key file)) or BadField
+
+-- the number at a key, or this one where there is none
+unfoldable pub number_or : ℕ → List ℕ → Members → Result ℕ ConfigFault
+number_or other key file = if is_some (get_member key file) then number_at key file else Ok other
 
 -- the text at a key
 unfoldable pub text_at : List ℕ → Members → Result (List ℕ) ConfigFault
@@ -56,6 +60,7 @@ params_in file = do
   idle_macroticks ← number_at (codes "idle_macroticks") file
   macroticks_per_cycle ← number_at (codes "macroticks_per_cycle") file
   payload_words ← number_at (codes "payload_words") file
+  cycles ← number_or 64 (codes "cycles") file
   Ok (record {
     channels = channels;
     static_slots = static_slots;
@@ -65,6 +70,7 @@ params_in file = do
     idle_macroticks = idle_macroticks;
     macroticks_per_cycle = macroticks_per_cycle;
     payload_words = payload_words;
+    cycles = cycles;
   })
 
 -- the suppliers in the table's order, each a name and the text of its key

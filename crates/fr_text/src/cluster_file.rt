@@ -8,7 +8,7 @@ ghost use Rattle.toml.specs.View.{view, table_view};
 ghost use Rattle.toml.specs.Data.{get_member};
 ghost use Rattle.fr_base.specs.Cluster.{names_rise, keys_of, keys_differ};
 ghost use Rattle.fr_base.specs.Names.{is_name, is_key};
-ghost use Rattle.fr_text.specs.ClusterFile.{is_file_key, has_only_file_keys, text_at, number_at, table_at, params_in, suppliers_in, fields_in, check_cluster, document, config_of, config_fault_word};
+ghost use Rattle.fr_text.specs.ClusterFile.{is_file_key, has_only_file_keys, text_at, number_at, number_or, table_at, params_in, suppliers_in, fields_in, check_cluster, document, config_of, config_fault_word};
 ghost use Rattle.fr_text.specs.SupplierTexts.{suppliers_of};
 
 use fr_base::{
@@ -154,6 +154,7 @@ fn is_file_key(key: &str) -> bool
             | "idle_macroticks"
             | "macroticks_per_cycle"
             | "payload_words"
+            | "cycles"
             | "integrator"
             | "suppliers"
     )
@@ -184,6 +185,17 @@ fn number_at(file: &Table, key: &str) -> Result<u32, ConfigFault>
         .as_integer()
         .ok_or(ConfigFault::BadField)?;
     u32::try_from(number).map_err(|_| ConfigFault::BadField)
+}
+
+/// The number at a key, or this one where there is none.
+#[tactic(auto, unfolding(crate::specs::ClusterFile::number_or))]
+fn number_or(file: &Table, key: &str, other: u32) -> Result<u32, ConfigFault>
+    ensures { result ≡ number_or other key.now (table_view file.now) }
+{
+    match file.get(key) {
+        None => Ok(other),
+        Some(_) => number_at(file, key),
+    }
 }
 
 /// The text at a key.
@@ -221,6 +233,7 @@ fn params_in(file: &Table) -> Result<RawParams, ConfigFault>
         idle_macroticks: number_at(file, "idle_macroticks")?,
         macroticks_per_cycle: number_at(file, "macroticks_per_cycle")?,
         payload_words: number_at(file, "payload_words")?,
+        cycles: number_or(file, "cycles", 64)?,
     })
 }
 

@@ -13,6 +13,7 @@ use Rattle.fr_base.specs.Step.{OwnRows, own_rows, changed}
 use Rattle.fr_base.specs.declared.limits.TheConstants.{MAX_DEPTH}
 use Rattle.fr_base.specs.declared.import.RowRead.{RowRead}
 use Rattle.fr_base.specs.declared.name.Name.{Name}
+use Rattle.fr_base.specs.declared.params.Params.{Params}
 use Rattle.fr_base.specs.declared.refusal.Refusal.TheVariants.{NoVariant, Released, NotReleased, TooDeep}
 use Rattle.fr_base.specs.declared.request.Change.{Change}
 use Rattle.fr_base.specs.declared.request.Change.TheVariants.{Grant, Revoke, Frame as OfFrame}
@@ -42,7 +43,7 @@ use Rattle.fr_world.proofs.FitsLaws.{none_there}
 use Rattle.fr_world.proofs.IntegratorLaws.{node-listed, row, row-of, row-there}
 use Rattle.fr_world.proofs.LeadsLaws.{rows-leave}
 use Rattle.fr_world.proofs.PageLaws.{rows-kept, rows-registers}
-use Rattle.fr_world.proofs.RowsLead.{IsOfFrame, frames-lead}
+use Rattle.fr_world.proofs.RowsLead.{IsOfFrame, frames-lead, is_counted}
 
 -- ---- what fits a supplier's own rows fits those of all
 
@@ -74,7 +75,7 @@ module _ (c : Cluster) (b : Book) (s : Name) (x : Variant) where
 -- ---- what is decided on a page
 
 module _ (c : Cluster) (b : Book) (s v : Name) (x : Variant) (sound : IsSound c b) (there : get b.variants v ≡ Some x) (what : Change) (checked : IsChecked c.params what) (unheld : IsUnheld x what) where
-  decided : IfOk (decision (page_in c.params b s v x) what) (AllFit b)
+  decided : IfOk (decision (page_in c.params b s v x) what) (AllFit c.params b)
   unfolding decision
   decided =
       let mine : OwnRows = own_rows_of (page_in c.params b s v x) in
@@ -83,22 +84,23 @@ module _ (c : Cluster) (b : Book) (s v : Name) (x : Variant) (sound : IsSound c 
       (rows-leave mine (rows-kept c b s v x sound there).page (few_words c.params sound.cluster.params) what checked)
       (λ _ leaves.
       let fits : FitsRows (own_rows c.params b s x) what = subst (λ rows. FitsRows rows what) (rows-registers c b s v x) leaves.0 in
-      ((x, record { there = there; unreleased = unreleased }, change-fits c b s x what unheld fits), tt)))
+      ((x, record { there = there; unreleased = unreleased }, change-fits c b s x what unheld fits, is_counted c.params what checked), tt)))
 
 pub decision-fits : (c : Cluster) (b : Book) (s v : Name) (x : Variant) (what : Change) (edits : List Edit) → IsSound c b → get b.variants v ≡ Some x → IsChecked c.params what → IsUnheld x what →
-    decision (page_in c.params b s v x) what ≡ Ok edits → AllFit b edits
-decision-fits c b s v x what edits sound there checked unheld e = subst (λ r. IfOk r (AllFit b)) e (decided c b s v x sound there what checked unheld)
+    decision (page_in c.params b s v x) what ≡ Ok edits → AllFit c.params b edits
+decision-fits c b s v x what edits sound there checked unheld e = subst (λ r. IfOk r (AllFit c.params b)) e (decided c b s v x sound there what checked unheld)
 
 -- ---- what the rows of an import are decided to
 
 module _ (c : Cluster) (s v : Name) where
   -- a frame's change that fits the page fits the book
-  one-fits : (b : Book) (x : Variant) → get b.variants v ≡ Some x → IsFalse x.released → (edit : Edit) → IsOfFrame edit → IsOf s v edit → FitsPage (own_rows c.params b s x) edit → Fits b edit
+  one-fits : (b : Book) (x : Variant) → get b.variants v ≡ Some x → IsFalse x.released → (edit : Edit) → IsOfFrame c.params edit → IsOf s v edit → FitsPage (own_rows c.params b s x) edit → Fits c.params b edit
   unfolding own_rows
   one-fits b x there unreleased (Rows t w (OfFrame f what)) of own fits = (
     x,
     record { there = ap (get b.variants) own.1 ∙ there; unreleased = unreleased },
     subst (λ u. FitsFrame b.nodes u (get x.frames (u, f)) what) (sym own.0) (change-fits c b s x (OfFrame f what) tt fits),
+    of,
   )
   one-fits b x there unreleased (Rows t w (Grant slot channel node)) of own fits = absurd of
   one-fits b x there unreleased (Rows t w (Revoke slot channel)) of own fits = absurd of
@@ -109,7 +111,7 @@ module _ (c : Cluster) (s v : Name) where
   one-fits b x there unreleased (KeepImport t label w body rows) of own fits = absurd of
 
   -- and leaves the variant open
-  still_open : (edit : Edit) → IsOfFrame edit → releases edit ≡ false
+  still_open : (edit : Edit) → IsOfFrame c.params edit → releases edit ≡ false
   still_open (Rows t w what) of = refl
   still_open (NewVariant w parent depth) of = absurd of
   still_open (SetReleased w) of = absurd of
@@ -122,7 +124,7 @@ module _ (c : Cluster) (s v : Name) where
   changed-keeps b w change (Some x) = record { suppliers = refl; nodes = refl; imports = refl; variants = λ u there. contains-more b.variants w (change x) u there }
 
   -- it leaves the suppliers and the imports, and each variant is there still
-  one-keeps : (b : Book) (edit : Edit) → IsOfFrame edit → Keeps b (applied b edit)
+  one-keeps : (b : Book) (edit : Edit) → IsOfFrame c.params edit → Keeps b (applied b edit)
   unfolding applied
   one-keeps b (Rows t w what) of = changed-keeps b w (changed t what) (get b.variants w)
   one-keeps b (NewVariant w parent depth) of = absurd of
@@ -132,8 +134,8 @@ module _ (c : Cluster) (s v : Name) where
   one-keeps b (KeepImport t label w body rows) of = absurd of
 
   -- the edits fit, and then more that fit a book in which these stay
-  all-fit : (edits more : List Edit) (b : Book) (x : Variant) (mine last : OwnRows) → get b.variants v ≡ Some x → IsFalse x.released → mine ≡ own_rows c.params b s x → AllByRecursion IsOfFrame edits → Leads v mine edits last →
-      ((d : Book) → Keeps b d → AllFit d more) → AllFit b (edits ++ more)
+  all-fit : (edits more : List Edit) (b : Book) (x : Variant) (mine last : OwnRows) → get b.variants v ≡ Some x → IsFalse x.released → mine ≡ own_rows c.params b s x → AllByRecursion (IsOfFrame c.params) edits → Leads v mine edits last →
+      ((d : Book) → Keeps b d → AllFit c.params d more) → AllFit c.params b (edits ++ more)
   unfolding own_rows
   all-fit [] more b x mine last there unreleased is of led then = then b (keeps_all b)
   all-fit (edit ∷ edits) more b x mine last there unreleased is of led then =
@@ -150,35 +152,35 @@ module _ (c : Cluster) (s v : Name) where
 module _ (c : Cluster) (b : Book) (s v : Name) (x : Variant) (reads : List RowRead) (edits : List Edit) (sound : IsSound c b) (there : get b.variants v ≡ Some x) (unreleased : IsFalse x.released) (checked : AreChecked c.params reads)
     (decided : rows_decision (page_in c.params b s v x) reads ≡ Ok edits) where
   -- what the rows are decided to fits, and then more
-  rows-more : (more : List Edit) → ((d : Book) → Keeps b d → AllFit d more) → AllFit b (edits ++ more)
+  rows-more : (more : List Edit) → ((d : Book) → Keeps b d → AllFit c.params d more) → AllFit c.params b (edits ++ more)
   rows-more more then =
       let led = frames-lead (page_in c.params b s v x) sound.cluster.params (rows-kept c b s v x sound there) reads checked edits decided in
       all-fit c s v edits more b x _ _ there unreleased (rows-registers c b s v x) led.1 led.0 then
 
 pub rows-fit : (c : Cluster) (b : Book) (s v : Name) (x : Variant) (reads : List RowRead) (edits : List Edit) → IsSound c b → get b.variants v ≡ Some x → IsFalse x.released → AreChecked c.params reads →
-    rows_decision (page_in c.params b s v x) reads ≡ Ok edits → AllFit b edits
-rows-fit c b s v x reads edits sound there unreleased checked e = subst (AllFit b) (append-nil edits) (rows-more c b s v x reads edits sound there unreleased checked e [] (λ d keeps. tt))
+    rows_decision (page_in c.params b s v x) reads ≡ Ok edits → AllFit c.params b edits
+rows-fit c b s v x reads edits sound there unreleased checked e = subst (AllFit c.params b) (append-nil edits) (rows-more c b s v x reads edits sound there unreleased checked e [] (λ d keeps. tt))
 
 pub import-fits : (c : Cluster) (b : Book) (s v label : Name) (x : Variant) (body : List ℕ) (reads : List RowRead) (edits : List Edit) (count : ℕ) → IsSound c b → get b.variants v ≡ Some x → IsFalse x.released → IsTrue (contains b.suppliers s) →
-    get b.imports (s, label) ≡ None → AreChecked c.params reads → rows_decision (page_in c.params b s v x) reads ≡ Ok edits → AllFit b (edits ++ KeepImport s label v body count ∷ [])
+    get b.imports (s, label) ≡ None → AreChecked c.params reads → rows_decision (page_in c.params b s v x) reads ≡ Ok edits → AllFit c.params b (edits ++ KeepImport s label v body count ∷ [])
 import-fits c b s v label x body reads edits count sound there unreleased known free checked e =
     rows-more c b s v x reads edits sound there unreleased checked e (KeepImport s label v body count ∷ []) (λ d keeps.
     ((ap (λ t. contains t s) keeps.suppliers ∙ known, keeps.variants v (some_there (get b.variants v) x there), ap (λ t. get t (s, label)) keeps.imports ∙ free), tt))
 
 -- ---- what is decided of a node, and of all variants
 
-module _ (b : Book) (s n : Name) (known : IsTrue (contains b.suppliers s)) where
-  node-made : IfOk (new_node s (nodes_in b s) n) (Fits b)
+module _ (p : Params) (b : Book) (s n : Name) (known : IsTrue (contains b.suppliers s)) where
+  node-made : IfOk (new_node s (nodes_in b s) n) (Fits p b)
   unfolding new_node
   node-made =
       gives_when _ _ _ _ (λ new.
       gives_when _ _ _ _ (λ _.
       (known, none_there (get b.nodes (s, n)) (node-listed b s n ∙ new))))
 
-pub node-fits : (b : Book) (s n : Name) (edit : Edit) → IsTrue (contains b.suppliers s) → new_node s (nodes_in b s) n ≡ Ok edit → Fits b edit
-node-fits b s n edit known e = subst (λ r. IfOk r (Fits b)) e (node-made b s n known)
+pub node-fits : (p : Params) (b : Book) (s n : Name) (edit : Edit) → IsTrue (contains b.suppliers s) → new_node s (nodes_in b s) n ≡ Ok edit → Fits p b edit
+node-fits p b s n edit known e = subst (λ r. IfOk r (Fits p b)) e (node-made p b s n known)
 
-module _ (b : Book) where
+module _ (params : Params) (b : Book) where
   abbrev Begins : Option Name → ℕ → Type 0
   Begins parent depth = IsOpenedFrom b.variants parent depth × (depth ≤ MAX_DEPTH)
 
@@ -196,12 +198,12 @@ module _ (b : Book) where
       (sym (row-of b p)) (parent-found p (get b.variants p) refl)
 
   release-found : (v : Name) (o : Option Variant) → get b.variants v ≡ o →
-      IfOk ((option_map (row v) o or NoVariant) >>= λ r. (refuse Released when r.released) >> Ok (SetReleased v)) (Fits b)
+      IfOk ((option_map (row v) o or NoVariant) >>= λ r. (refuse Released when r.released) >> Ok (SetReleased v)) (Fits params b)
   unfolding ◌or◌ ◌>>=◌
   release-found v None e = tt
   release-found v (Some y) e = gives_when _ _ _ _ (λ unreleased. (y, record { there = e; unreleased = unreleased }))
 
-  common-made : (command : CommonCommand) → IfOk (common_edit (variants_in b) command) (Fits b)
+  common-made : (command : CommonCommand) → IfOk (common_edit (variants_in b) command) (Fits params b)
   unfolding common_edit
   common-made (OpenVariant v parent) =
       gives_bind _ (Begins parent) (depth_after (variants_in b) parent) _ (depth-begins parent) (λ depth begins.
@@ -209,8 +211,8 @@ module _ (b : Book) where
       gives_when _ _ _ _ (λ _.
       (none_there (get b.variants v) (row-there b v ∙ new), begins.0, begins.1))))
   common-made (Release v) =
-      subst (λ o. IfOk ((o or NoVariant) >>= λ r. (refuse Released when r.released) >> Ok (SetReleased v)) (Fits b))
+      subst (λ o. IfOk ((o or NoVariant) >>= λ r. (refuse Released when r.released) >> Ok (SetReleased v)) (Fits params b))
       (sym (row-of b v)) (release-found v (get b.variants v) refl)
 
-pub common-fits : (b : Book) (command : CommonCommand) (edit : Edit) → common_edit (variants_in b) command ≡ Ok edit → Fits b edit
-common-fits b command edit e = subst (λ r. IfOk r (Fits b)) e (common-made b command)
+pub common-fits : (p : Params) (b : Book) (command : CommonCommand) (edit : Edit) → common_edit (variants_in b) command ≡ Ok edit → Fits p b edit
+common-fits p b command edit e = subst (λ r. IfOk r (Fits p b)) e (common-made p b command)

@@ -64,8 +64,9 @@ fits_decided p q = (
       let one = and_parts _ _ h in
       let two = and_parts _ _ one.1 in
       let three = and_parts _ _ two.1 in
-      record { from_one = leb-true _ _ one.0; to_last = leb-true _ _ two.0; channels = three.0; cycles = three.1 },
-  λ f. and_from _ _ (le-leb _ _ f.from_one) (and_from _ _ (le-leb _ _ f.to_last) (and_from _ _ f.channels f.cycles)),
+      let four = and_parts _ _ three.1 in
+      record { from_one = leb-true _ _ one.0; to_last = leb-true _ _ two.0; channels = three.0; count = eqb-true _ _ four.0; cycles = four.1 },
+  λ f. and_from _ _ (le-leb _ _ f.from_one) (and_from _ _ (le-leb _ _ f.to_last) (and_from _ _ f.channels (and_from _ _ (eq-eqb _ _ f.count) f.cycles))),
 )
 
 placed_decided : (page : OwnRows) (n : Name) (q : Placement) → Decides (is_placed page n q) (FitsCluster page.params q × IsTrue (granted page.grants page.supplier n q))

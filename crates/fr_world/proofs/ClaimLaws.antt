@@ -6,7 +6,7 @@ use Rattle.std.proofs.lemmas.Bool.{and_right, cases_lt, cases_order, eq-eqb, ne_
 use Rattle.std.proofs.lemmas.List.{get_or-set_other, get_or-set_same, length-set}
 use Rattle.std.proofs.lemmas.Nat.{div-add-mod'}
 use Rattle.fr_base.specs.Channels.{has_channel}
-use Rattle.fr_base.specs.Cycles.{Cycles, cycle_count, has_cycle}
+use Rattle.fr_base.specs.Cycles.{Cycles, has_cycle}
 use Rattle.fr_base.proofs.CycleLemmas.{has_cycle-in, has_cycle-out}
 use Rattle.fr_base.specs.declared.channel.Channel.{Channel}
 use Rattle.fr_base.specs.declared.placement.Placement.{Placement}
@@ -15,17 +15,8 @@ use Rattle.fr_world.specs.declared.slot_table.FirstPlaces.{FirstPlaces}
 
 -- ---- the cycles of a set are a repetition apart
 
--- a cycle leaves a remainder by the repetition
-has_in : (s : Cycles) (k : ℕ) → k < 64 → has_cycle s k ≡ eqb (k % s.repetition) s.base
-unfolding cycle_count
-has_in s k l = has_cycle-in s k l
-
-has_out : (s : Cycles) (k : ℕ) → 64 ≤ k → has_cycle s k ≡ false
-unfolding cycle_count
-has_out s k l = has_cycle-out s k l
-
 lacks : (s : Cycles) (k : ℕ) → (k % s.repetition ≡ s.base → ⊥) → has_cycle s k ≡ false
-lacks s k apart = elim (cases_lt k 64) [ inl l ↦ has_in s k l ∙ ne_eqb _ _ apart | inr l ↦ has_out s k l ]
+lacks s k apart = elim (cases_lt k s.count) [ inl l ↦ has_cycle-in s k l ∙ ne_eqb _ _ apart | inr l ↦ has_cycle-out s k l ]
 
 -- the same remainders are at least that far apart
 apart : (r a b m : ℕ) → a * r + b < m * r + b → m * r + b < a * r + b + r → ⊥
@@ -86,19 +77,19 @@ module _ (q : Placement) (place : ℕ) (old : List FirstPlaces) where
   }
 
   -- one cycle more
-  pub claimed-next : (new : List FirstPlaces) (c : ℕ) (v : FirstPlaces) → c < 64
+  pub claimed-next : (new : List FirstPlaces) (c : ℕ) (v : FirstPlaces) → c < q.cycles.count → q.cycles.count ≤ 64
       → ((x : Channel) → place_on x v ≡ option_or (place_on x (cycle_at new c)) (cond (has_channel q.channels x) (Some place) None))
       → (n : ℕ) → q.cycles.base < q.cycles.repetition → n ≡ c + q.cycles.repetition
       → IsClaimedBelow q place old new c → IsClaimedBelow q place old (set new c v) n
-  claimed-next new c v low marks n some e h = record {
+  claimed-next new c v low most marks n some e h = record {
     len = length-set new c v ∙ h.len;
     next = ap (λ n. n % q.cycles.repetition) e ∙ add-mod_right c q.cycles.repetition ∙ h.next;
     below = λ k x l. elim (cases_order k c) [
       | inl same ↦
           ap (λ k. place_at (set new c v) k x) same
-          ∙ ap (place_on x) (get_or-set_same new c v (record { a = None; b = None }) (omega (arith, low, h.len)))
+          ∙ ap (place_on x) (get_or-set_same new c v (record { a = None; b = None }) (omega (arith, low, most, h.len)))
           ∙ marks x
-          ∙ takes q place c x (place_on x (cycle_at new c)) (has_in q.cycles c low ∙ eq-eqb _ _ h.next)
+          ∙ takes q place c x (place_on x (cycle_at new c)) (has_cycle-in q.cycles c low ∙ eq-eqb _ _ h.next)
           ∙ ap (λ f. option_or (place_on x f) (claim_of q place c x)) (h.above c (omega arith))
           ∙ ap (λ k. option_or (place_at old k x) (claim_of q place k x)) (sym same)
       | inr (inl before) ↦ ap (place_on x) (get_or-set_other new c k v (record { a = None; b = None }) (λ f. omega (arith, f, before))) ∙ h.below k x before
@@ -110,8 +101,8 @@ module _ (q : Placement) (place : ℕ) (old : List FirstPlaces) where
   }
 
   -- after the last cycle all are claimed
-  pub claimed-all : (new : List FirstPlaces) (c : ℕ) → 64 ≤ c → IsClaimedBelow q place old new c → IsClaimed q place old new
+  pub claimed-all : (new : List FirstPlaces) (c : ℕ) → q.cycles.count ≤ c → IsClaimedBelow q place old new c → IsClaimed q place old new
   claimed-all new c over h k x = elim (cases_lt k c) [
     | inl l ↦ h.below k x l
-    | inr l ↦ ap (place_on x) (h.above k l) ∙ stays q place k x (place_at old k x) (has_out q.cycles k (omega (arith, over, l)))
+    | inr l ↦ ap (place_on x) (h.above k l) ∙ stays q place k x (place_at old k x) (has_cycle-out q.cycles k (omega (arith, over, l)))
   ]

@@ -8,7 +8,7 @@ use Rattle.std.proofs.Math.Nat.{mod-eq_of_lt}
 use Rattle.std.proofs.lemmas.Bool.{and_parts, cases_Bool, eq-eqb, eqb-true, ltb-true}
 use Rattle.fr_base.specs.Cells.{Cell, cells_in, cells_of, has_cell, same_cell}
 use Rattle.fr_base.specs.Channels.{channel_number, channels_in}
-use Rattle.fr_base.specs.Cycles.{Cycles, cycle_count, cycles_of, has_cycle, is_cycle_set, is_repetition}
+use Rattle.fr_base.specs.Cycles.{Cycles, are_cycles, cycles_of, has_cycle}
 use Rattle.fr_base.specs.Book.{Frame, schedule_of}
 use Rattle.fr_base.specs.Keys.{owned}
 use Rattle.fr_base.specs.Layouts.{LayoutData, has_signal, admits_signal}
@@ -23,20 +23,17 @@ use Rattle.fr_base.specs.declared.channel.Channels.TheVariants as channels
 use Rattle.fr_base.specs.declared.name.Name.{Name}
 use Rattle.fr_base.specs.declared.params.Params.{Params}
 use Rattle.fr_base.specs.declared.placement.Placement.{Placement}
-use Rattle.fr_base.proofs.CycleLemmas.{divisor_within, has_cycle-in}
+use Rattle.fr_base.proofs.CycleLemmas.{has_cycle-in, within}
 use Rattle.fr_base.proofs.SoundCells.{free_cells}
 use Rattle.fr_base.proofs.SoundRefusing.{gives_last, gives_unless, gives_when}
 
 -- ---- a placement that fits the cluster has a cell
 
 -- a cycle set selects its base
-selected : (s : Cycles) → IsTrue (is_cycle_set cycle_count s.base s.repetition) → IsTrue (has_cycle s s.base)
-unfolding cycle_count
+selected : (s : Cycles) → IsTrue (are_cycles s) → IsTrue (has_cycle s s.base)
 selected s h =
-    let parts = and_parts (is_repetition cycle_count s.repetition) _ h in
-    let within : s.base < s.repetition = ltb-true s.base s.repetition parts.1 in
-    let most : s.repetition ≤ cycle_count = divisor_within cycle_count s.repetition (omega arith) (eqb-true _ _ (and_parts (leb 1 s.repetition) _ parts.0).1) in
-    has_cycle-in s s.base (omega (arith, within, most)) ∙ eq-eqb _ _ (mod-eq_of_lt within)
+    let w = within s h in
+    has_cycle-in s s.base (omega (arith, w.base, w.repetition)) ∙ eq-eqb _ _ (mod-eq_of_lt w.base)
 
 same_cell-itself : (c : Cell) → same_cell c c ≡ true
 same_cell-itself c = ap is_eq (tied_itself (then_total (on_total (λ (d : Cell). d.cycle) nat_cmp_total) (then_total (on_total (λ (d : Cell). d.slot) nat_cmp_total) (on_total (λ (d : Cell). channel_number d.channel) nat_cmp_total))) c)

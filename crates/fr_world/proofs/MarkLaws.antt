@@ -4,12 +4,12 @@ use Rattle.std.specs.Prelude.{is_none, ◌^◌}
 use Rattle.std.specs.Int.{trailing_zeros}
 use Rattle.std.specs.Option.{option_or}
 use Rattle.std.specs.List.{find, list_all}
-use Rattle.std.proofs.lemmas.Bool.{cases_Bool}
+use Rattle.std.proofs.lemmas.Bool.{and_parts, cases_Bool}
 use Rattle.std.proofs.Math.Bool.{and_comm}
 use Rattle.std.proofs.lemmas.Nat.Bits.{bit_at-trailing_zeros}
 use Rattle.fr_base.specs.Cells.{Cell, cells_in, cells_of}
 use Rattle.fr_base.specs.Channels.{channels_in}
-use Rattle.fr_base.specs.Cycles.{Cycles, all_cycles, cycle_count, cycles_of, has_cycle, is_bit_set, selects}
+use Rattle.fr_base.specs.Cycles.{Cycles, all_cycles, cycles_of, has_cycle, is_bit_set, selects}
 use Rattle.fr_base.specs.Schedule.{fill, first_taken}
 use Rattle.fr_base.specs.declared.channel.Channel.{Channel}
 use Rattle.fr_base.specs.declared.channel.Channel.TheVariants as channel
@@ -17,7 +17,7 @@ use Rattle.fr_base.specs.declared.channel.Channels.{Channels}
 use Rattle.fr_base.specs.declared.channel.Channels.TheVariants as channels
 use Rattle.fr_base.specs.declared.name.Name.{Name}
 use Rattle.fr_base.specs.declared.placement.Placement.{Placement}
-use Rattle.fr_base.proofs.CycleLemmas.{find-filter, find-range_None, find-range_Some, has_cycle-in}
+use Rattle.fr_base.proofs.CycleLemmas.{below-has_cycle, find-filter, find-range_None, find-range_Some, has_cycle-in}
 use Rattle.fr_world.specs.CycleChannels.{compare_cycle_channels, earlier, taken_of}
 use Rattle.fr_world.specs.Masks.{first_cycle, is_free_on}
 use Rattle.fr_world.specs.Occupancies.{is_free}
@@ -27,7 +27,7 @@ use Rattle.fr_world.proofs.TakenLaws.{cells-rise, first_taken-or, option_is, tak
 -- ---- the first cycle of a set whose bit is set
 
 module _ (s : Cycles) (word mask : ℕ) (shows : (k : ℕ) → is_bit_set mask k ≡ has_cycle s k) where
-  marked : (k : ℕ) → k < cycle_count → (selects s k && is_bit_set word k) ≡ is_bit_set (bit_and word mask) k
+  marked : (k : ℕ) → k < s.count → (selects s k && is_bit_set word k) ≡ is_bit_set (bit_and word mask) k
   marked k low =
       (λ i. (sym (has_cycle-in s k low) ∙ sym (shows k)) i && is_bit_set word k)
       ∙ and_comm (is_bit_set mask k) (is_bit_set word k)
@@ -36,20 +36,20 @@ module _ (s : Cycles) (word mask : ℕ) (shows : (k : ℕ) → is_bit_set mask k
   pub none_marked : bit_and word mask ≡ 0 → None ≡ find (is_bit_set word) (cycles_of s)
   unfolding cycles_of all_cycles
   none_marked zeros = sym (
-      find-filter (is_bit_set word) (selects s) (all_cycles cycle_count)
-      ∙ find-range_None (λ k. selects s k && is_bit_set word k) 0 cycle_count (λ k low. marked k (omega (arith, low)) ∙ ap (λ w. is_bit_set w k) zeros ∙ is_set-none k)
+      find-filter (is_bit_set word) (selects s) (all_cycles s.count)
+      ∙ find-range_None (λ k. selects s k && is_bit_set word k) 0 s.count (λ k low. marked k (omega (arith, low)) ∙ ap (λ w. is_bit_set w k) zeros ∙ is_set-none k)
       )
 
   pub first_marked : 0 < bit_and word mask → bit_and word mask < 2 ^ 64 → Some (trailing_zeros w64 (bit_and word mask)) ≡ find (is_bit_set word) (cycles_of s)
-  unfolding cycles_of all_cycles cycle_count
+  unfolding cycles_of all_cycles
   first_marked some small =
       let first = bit_at-trailing_zeros w64 (bit_and word mask) some small in
       let t = trailing_zeros w64 (bit_and word mask) in
-      let low : t < 64 = first.0 in
+      let inside : t < s.count = below-has_cycle s t (sym (shows t) ∙ (and_parts _ _ (sym (is_set-and word mask t) ∙ ap (λ n. eqb n 1) first.1)).1) in
       sym (
-      find-filter (is_bit_set word) (selects s) (all_cycles cycle_count)
-      ∙ find-range_Some (λ k. selects s k && is_bit_set word k) 0 cycle_count t (omega arith) (omega (arith, low)) (marked t low ∙ ap (λ n. eqb n 1) first.1)
-      (λ j below. let within : j < 64 = omega (arith, below, low) in marked j within ∙ ap (λ n. eqb n 1) (first.2 j below))
+      find-filter (is_bit_set word) (selects s) (all_cycles s.count)
+      ∙ find-range_Some (λ k. selects s k && is_bit_set word k) 0 s.count t (omega arith) (omega (arith, inside)) (marked t inside ∙ ap (λ n. eqb n 1) first.1)
+      (λ j below. let early : j < s.count = omega (arith, below, inside) in marked j early ∙ ap (λ n. eqb n 1) (first.2 j below))
       )
 
 -- ---- the cells of a slot

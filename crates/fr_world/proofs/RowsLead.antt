@@ -16,12 +16,13 @@ use Rattle.fr_base.specs.declared.params.Params.{Params}
 use Rattle.fr_base.specs.declared.request.Change.{Change}
 use Rattle.fr_base.specs.declared.request.Change.TheVariants as change
 use Rattle.fr_base.specs.declared.request.FrameChange.{FrameChange}
-use Rattle.fr_base.specs.declared.request.FrameChange.TheVariants.{Add, Place, AddSignal}
+use Rattle.fr_base.specs.declared.request.FrameChange.TheVariants.{Add, Drop, Place, Unplace, AddSignal, DropSignal}
 use Rattle.fr_base.proofs.ParametersLaws.{few_words}
 use Rattle.fr_base.proofs.SoundRefusing.{gives_bind, gives_next, gives_unless}
 use Rattle.fr_base.proofs.SoundImports.{at_line-gives}
 use Rattle.fr_world.specs.Decisions.{IsChecked, admits_alone}
 use Rattle.fr_world.specs.Edits.{FitsPage, FitsRows, Leads, Takes, all_edited, edited, rows_after}
+use Rattle.fr_world.specs.Fits.{IsCounted}
 use Rattle.fr_world.specs.Pages.{IsKept, IsPage, PageData, own_rows_of}
 use Rattle.fr_world.specs.RowDecisions.{AreChecked, DraftData, IsCheckedRow, draft_of, make, make_frame, make_read, make_row, make_rows, rows_decision, with_frame}
 use Rattle.fr_world.specs.declared.edit.Edit.{Edit}
@@ -40,14 +41,25 @@ module _ (v : Name) where
   leads-last page last [] led = led
   leads-last page last (e ∷ edits) led = leads-last (edited page e) last edits led.2
 
--- the edit is of a frame
-abbrev pub IsOfFrame : Edit → Type 0
-IsOfFrame (Rows s v (change.Frame f what)) = ⊤
-IsOfFrame _ = ⊥
+-- a placement that fits the cluster is of its cycles
+pub is_counted : (p : Params) (what : Change) → IsChecked p what → IsCounted p what
+is_counted p (change.Grant slot channel node) checked = tt
+is_counted p (change.Revoke slot channel) checked = tt
+is_counted p (change.Frame f (Add node)) checked = tt
+is_counted p (change.Frame f Drop) checked = tt
+is_counted p (change.Frame f (Place q)) checked = checked.count
+is_counted p (change.Frame f (Unplace q)) checked = tt
+is_counted p (change.Frame f (AddSignal signal)) checked = tt
+is_counted p (change.Frame f (DropSignal name)) checked = tt
 
-frames-more : (edits : List Edit) (edit : Edit) → AllByRecursion IsOfFrame edits → IsOfFrame edit → AllByRecursion IsOfFrame (edits ++ edit ∷ [])
-frames-more [] edit all one = (one, tt)
-frames-more (e ∷ edits) edit all one = (all.0, frames-more edits edit all.1 one)
+-- the edit is of a frame, and a placement that it adds is of the cluster's cycles
+abbrev pub IsOfFrame : Params → Edit → Type 0
+IsOfFrame p (Rows s v (change.Frame f what)) = IsCounted p (change.Frame f what)
+IsOfFrame p _ = ⊥
+
+frames-more : (p : Params) (edits : List Edit) (edit : Edit) → AllByRecursion (IsOfFrame p) edits → IsOfFrame p edit → AllByRecursion (IsOfFrame p) (edits ++ edit ∷ [])
+frames-more p [] edit all one = (one, tt)
+frames-more p (e ∷ edits) edit all one = (all.0, frames-more p edits edit all.1 one)
 
 module _ (v : Name) (start : OwnRows) (words : start.params.payload_words ≤ 127) where
   -- the edits led to the page, and its parameters are those of the start
@@ -56,7 +68,7 @@ module _ (v : Name) (start : OwnRows) (words : start.params.payload_words ≤ 12
     params : d.page.params ≡ start.params
     leads : Leads v start d.edits d.page
     page : IsPage d.page
-    frames : AllByRecursion IsOfFrame d.edits
+    frames : AllByRecursion (IsOfFrame start.params) d.edits
 
   make-led : (d : DraftData) → IsLed d → (f : Name) (part : FrameChange) → IsChecked start.params (change.Frame f part) → IfOk (make d (change.Frame f part)) IsLed
   unfolding make edited
@@ -69,7 +81,7 @@ module _ (v : Name) (start : OwnRows) (words : start.params.payload_words ≤ 12
         params = led.params;
         leads = leads-more v start d.page d.edits _ led.leads (record { own = (refl, led.variant); leaves = leaves.1 }) leaves.0;
         page = leaves.1;
-        frames = frames-more d.edits _ led.frames tt;
+        frames = frames-more start.params d.edits _ led.frames (is_counted start.params what checked);
       })
 
   frame-led : (d : DraftData) → IsLed d → (f n : Name) (there : Option Frame) → IfOk (with_frame d f n there) IsLed
@@ -100,7 +112,7 @@ module _ (rows : PageData) (params : check_params rows.params ≡ Ok rows.params
 
   -- the page takes them, and they are of frames
   abbrev AreLed : List Edit → Type 0
-  AreLed edits = Leads rows.variant page edits (all_edited page edits) × AllByRecursion IsOfFrame edits
+  AreLed edits = Leads rows.variant page edits (all_edited page edits) × AllByRecursion (IsOfFrame rows.params) edits
 
   decided : IfOk (rows_decision rows reads) AreLed
   unfolding rows_decision

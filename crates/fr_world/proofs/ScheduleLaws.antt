@@ -10,7 +10,7 @@ use Rattle.std.proofs.lemmas.List.Elements.{filter-append, filter_map-append}
 use Rattle.fr_base.specs.Book as book
 use Rattle.fr_base.specs.Cells.{Cell, cells_in, cluster_cells, has_cell, slots_of}
 use Rattle.fr_base.specs.Channels.{channels_in, has_channel}
-use Rattle.fr_base.specs.Cycles.{all_cycles, cycle_count, has_cycle}
+use Rattle.fr_base.specs.Cycles.{all_cycles, has_cycle}
 use Rattle.fr_base.specs.Numbers.{is_slot}
 use Rattle.fr_base.specs.Schedule.{entries, fill}
 use Rattle.fr_base.specs.Queries.{sending}
@@ -186,9 +186,9 @@ sent-used-slots ss ps (k ∷ ks) chs slots =
     ∙ sym (sent-append (filled ss ps) (slot_cells k chs slots) (cells_in ks slots chs))
 
 -- after the last cycle that is the whole schedule
-pub sent-all : (p : Params) (ss : List FrameSender) (ps : List FrameTriggering) (used : List ℕ) (rows : List Sending) (n : ℕ) → n ≡ 64 → used ≡ filter (is_used ps) (slots_of p)
+pub sent-all : (p : Params) (ss : List FrameSender) (ps : List FrameTriggering) (used : List ℕ) (rows : List Sending) (n : ℕ) → n ≡ p.cycles → used ≡ filter (is_used ps) (slots_of p)
     → rows ≡ sent_in (filled ss ps) (cells_in (range_with_len 0 n) used (channels_in p.channels)) → rows ≡ sent_in (filled ss ps) (cluster_cells p)
-unfolding cluster_cells all_cycles cycle_count
+unfolding cluster_cells all_cycles
 sent-all p ss ps used rows n e u h =
     h ∙ ap (λ slots. sent_in (filled ss ps) (cells_in (range_with_len 0 n) slots (channels_in p.channels))) u
     ∙ sent-used-slots ss ps (range_with_len 0 n) (channels_in p.channels) (slots_of p)

@@ -9,7 +9,7 @@ use Rattle.std.specs.List.Sorted.{IsStrictlySortedBy}
 use Rattle.std.proofs.lemmas.Bool.{cases_Bool}
 use Rattle.fr_base.specs.Cells.{Cell, cells_in, cells_of, has_cell}
 use Rattle.fr_base.specs.Channels.{channel_number, channels_in}
-use Rattle.fr_base.specs.Cycles.{all_cycles, cycle_count, cycles_of, selects}
+use Rattle.fr_base.specs.Cycles.{all_cycles, cycles_of, selects}
 use Rattle.fr_base.specs.Keys.{channel_slots, channel_order, numbers}
 use Rattle.fr_base.specs.Schedule.{fill, first_taken}
 use Rattle.fr_base.specs.declared.channel.Channel.{Channel}
@@ -99,7 +99,7 @@ rising test slot chs a (suc n) =
 -- a placement's cells rise
 pub cells-rise : (q : Placement) → IsStrictlySortedBy by_cycle_channel (cells_of q)
 unfolding cells_of cycles_of all_cycles
-cells-rise q = rising (selects q.cycles) q.slot q.channels 0 cycle_count
+cells-rise q = rising (selects q.cycles) q.slot q.channels 0 q.cycles.count
 
 -- ---- the first cell that is filled by the former or by the latter
 

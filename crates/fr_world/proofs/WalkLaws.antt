@@ -8,7 +8,7 @@ use Rattle.std.proofs.lemmas.Bool.{true≢false, cases_lt}
 use Rattle.std.proofs.lemmas.List.{take_more, take_all, get_or-take, get_or_default, length-take-le}
 use Rattle.std.proofs.lemmas.List.Elements.{All-contains, Contains-append_left, Contains-push, Contains-push_cases}
 use Rattle.std.proofs.lemmas.List.Sorted.{All-permutation, Contains-permutation, IsPermutation-sym}
-use Rattle.fr_base.specs.Cycles.{cycle_count, has_cycle}
+use Rattle.fr_base.specs.Cycles.{has_cycle}
 use Rattle.fr_base.specs.Moments.{gaps, greatest_gap, moments, ring}
 use Rattle.fr_base.specs.Parameters.{segments}
 use Rattle.fr_base.specs.Sound.{FitsCluster}
@@ -196,49 +196,50 @@ Sees-more p qs k i at q met are inside is here on sees =
 -- ---- after all cycles
 
 -- these are the placements' moments
-seen-In : (p : Params) (ps qs : List Placement) (x : ℕ) → IsPermutation ps qs → IsSeen p qs 64 0 x → In x (moments p ps)
+seen-In : (p : Params) (ps qs : List Placement) (x : ℕ) → IsPermutation ps qs → IsSeen p qs p.cycles 0 x → In x (moments p ps)
 seen-In p ps qs x moved seen = elim seen.before [
   | inl low ↦ In-moments p ps seen.placement seen.at x (In-Contains seen.placement ps (Contains-permutation qs ps seen.placement (IsPermutation-sym ps qs moved) low.1)) seen.sent
   | inr none ↦ let less = none.1.1 in absurd (omega (arith, less))
 ]
 
-In-seen : (p : Params) (ps qs : List Placement) (x : ℕ) → IsPermutation ps qs → In x (moments p ps) → IsSeen p qs 64 0 x
-unfolding cycle_count
-In-seen p ps qs x moved i =
+In-seen : (p : Params) (ps qs : List Placement) (x : ℕ) → AreRising p qs → IsPermutation ps qs → In x (moments p ps) → IsSeen p qs p.cycles 0 x
+In-seen p ps qs x are moved i =
     let found = moments-In p ps x i in
+    let there = Contains-permutation ps qs found.0 moved (Contains-In found.0 ps found.2) in
+    let fits = All-contains (FitsCluster p) qs found.0 are.fits there in
     record {
       placement = found.0;
       at = found.1;
       sent = found.3;
-      before = inl (below-has_cycle found.0.cycles found.1 found.3.cycle, Contains-permutation ps qs found.0 moved (Contains-In found.0 ps found.2));
+      before = inl (omega (arith, below-has_cycle found.0.cycles found.1 found.3.cycle, fits.count), there);
     }
 
-pub Sees-end : (p : Params) (qs : List Placement) (k : ℕ) (met end : Option Moments) → k ≡ 64 → met ≡ end → Sees p qs k 0 met → Sees p qs 64 0 end
+pub Sees-end : (p : Params) (qs : List Placement) (k : ℕ) (met end : Option Moments) → k ≡ p.cycles → met ≡ end → Sees p qs k 0 met → Sees p qs p.cycles 0 end
 Sees-end p qs k met end last is sees = subst (λ j. Sees p qs j 0 end) last (subst (λ m. Sees p qs k 0 m) is sees)
 
 -- they lie on the ring
-pub Sees-inside : (p : Params) (qs : List Placement) (m : Moments) → AreRising p qs → Sees p qs 64 0 (Some m) → (m.first ≤ m.last) × (m.last ≤ 64 * p.macroticks_per_cycle)
+pub Sees-inside : (p : Params) (qs : List Placement) (m : Moments) → AreRising p qs → Sees p qs p.cycles 0 (Some m) → (m.first ≤ m.last) × (m.last ≤ p.cycles * p.macroticks_per_cycle)
 Sees-inside p qs m are met =
     let last = met.last in (
       (met.within m.last last).0,
       elim last.before [
         | inl low ↦
             let within = starts_within p last.placement are.sum are.some (All-contains (FitsCluster p) qs last.placement are.fits low.1) in
-            omega (arith, earlier_cycle p last.placement last.at 64 m.last within last.sent low.0)
+            omega (arith, earlier_cycle p last.placement last.at p.cycles m.last within last.sent low.0)
         | inr none ↦ let less = none.1.1 in absurd (omega (arith, less))
       ],
     )
 
-pub Sees-greatest : (p : Params) (ps qs : List Placement) (m : Moments) → IsPermutation ps qs → AreRising p qs → Sees p qs 64 0 (Some m) →
-    greatest_gap p ps ≡ Some (max m.step ((64 * p.macroticks_per_cycle - m.last) + m.first))
-unfolding greatest_gap ring cycle_count
+pub Sees-greatest : (p : Params) (ps qs : List Placement) (m : Moments) → IsPermutation ps qs → AreRising p qs → Sees p qs p.cycles 0 (Some m) →
+    greatest_gap p ps ≡ Some (max m.step ((p.cycles * p.macroticks_per_cycle - m.last) + m.first))
+unfolding greatest_gap ring
 Sees-greatest p ps qs m moved are met =
-    Keeps-greatest (64 * p.macroticks_per_cycle) (moments p ps) m (Sees-inside p qs m are met).1
-    (Keeps-same (IsSeen p qs 64 0) (λ x. In x (moments p ps)) (Some m) (λ x seen. seen-In p ps qs x moved seen) (λ x i. In-seen p ps qs x moved i) met)
+    Keeps-greatest (p.cycles * p.macroticks_per_cycle) (moments p ps) m (Sees-inside p qs m are met).1
+    (Keeps-same (IsSeen p qs p.cycles 0) (λ x. In x (moments p ps)) (Some m) (λ x seen. seen-In p ps qs x moved seen) (λ x i. In-seen p ps qs x are moved i) met)
 
-pub Sees-nothing : (p : Params) (ps qs : List Placement) → IsPermutation ps qs → Sees p qs 64 0 None → greatest_gap p ps ≡ None
+pub Sees-nothing : (p : Params) (ps qs : List Placement) → AreRising p qs → IsPermutation ps qs → Sees p qs p.cycles 0 None → greatest_gap p ps ≡ None
 unfolding greatest_gap
-Sees-nothing p ps qs moved none = Keeps-none (ring p) (moments p ps) (λ x i. none x (In-seen p ps qs x moved i))
+Sees-nothing p ps qs are moved none = Keeps-none (ring p) (moments p ps) (λ x i. none x (In-seen p ps qs x are moved i))
 
 -- nothing is placed
 pub greatest_gap-nil : (p : Params) (ps : List Placement) → None ≡ slice_get ps 0 → greatest_gap p ps ≡ None

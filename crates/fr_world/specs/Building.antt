@@ -1,10 +1,10 @@
 -- By which tests rows are found to be a page's.
-use Rattle.std.specs.Prelude.{◌≡◌, ◌&&◌, Bool, nat_le}
+use Rattle.std.specs.Prelude.{◌≡◌, ◌==◌, ◌&&◌, Bool, nat_le}
 use Rattle.std.specs.List.{list_all}
 use Rattle.std.specs.List.Sorted.{IsStrictlySortedBy}
 use Rattle.fr_base.specs.Keys.{placement_order}
 use Rattle.fr_base.specs.Channels.{channels_in, has_channel}
-use Rattle.fr_base.specs.Cycles.{cycle_count, is_cycle_set}
+use Rattle.fr_base.specs.Cycles.{are_cycles}
 use Rattle.fr_base.specs.Book.{granted}
 use Rattle.fr_base.specs.declared.name.Name.{Name}
 use Rattle.fr_base.specs.declared.params.Params.{Params}
@@ -12,11 +12,12 @@ use Rattle.fr_base.specs.declared.placement.Placement.{Placement}
 use Rattle.fr_base.specs.Step.{OwnRows}
 use Rattle.fr_world.specs.Pages.{FrameData, IsPageFrame, frame_of}
 
--- whether the cluster has the placement's slot and channels, and its cycles are a set of cycles
+-- whether the cluster has the placement's slot and channels, and its cycles are a set of the cluster's cycles
 unfoldable pub fits : Params → Placement → Bool
 fits p q =
     nat_le 1 q.slot && (nat_le q.slot p.static_slots
-    && (list_all (has_channel p.channels) (channels_in q.channels) && is_cycle_set cycle_count q.cycles.base q.cycles.repetition))
+    && (list_all (has_channel p.channels) (channels_in q.channels)
+    && ((q.cycles.count == p.cycles) && are_cycles q.cycles)))
 
 -- and it lies in grants to the node
 unfoldable pub is_placed : OwnRows → Name → Placement → Bool

@@ -6,8 +6,10 @@ use Rattle.fr_base.specs.Book.{Variant, Book, held_by}
 use Rattle.fr_base.specs.Sound.{IsOpenedFrom}
 use Rattle.fr_base.specs.declared.limits.TheConstants.{MAX_DEPTH}
 use Rattle.fr_base.specs.declared.name.Name.{Name}
+use Rattle.fr_base.specs.declared.params.Params.{Params}
 use Rattle.fr_base.specs.declared.request.Change.{Change}
 use Rattle.fr_base.specs.declared.request.Change.TheVariants as change
+use Rattle.fr_base.specs.declared.request.FrameChange.TheVariants.{Place}
 use Rattle.fr_world.specs.BookEdits.{applied}
 use Rattle.fr_world.specs.Edits.{FitsFrame}
 use Rattle.fr_world.specs.declared.edit.Edit.{Edit}
@@ -23,6 +25,11 @@ abbrev pub IsUnheld : Variant → Change → Type 0
 IsUnheld x (change.Grant slot channel node) = get x.grants (slot, channel) ≡ None
 IsUnheld x _ = ⊤
 
+-- A placement that the change adds is of the cluster's cycles.
+abbrev pub IsCounted : Params → Change → Type 0
+IsCounted p (change.Frame f (Place q)) = q.cycles.count ≡ p.cycles
+IsCounted p _ = ⊤
+
 -- A change of the supplier's rows fits the variant: a grant is of what nobody holds, to a node that is there; one that ends is the
 -- supplier's; and a change of a frame fits what stands at the frame's name.
 abbrev pub FitsVariant : Table owned ⊤ → Name → Variant → Change → Type 0
@@ -30,16 +37,17 @@ FitsVariant nodes s x (change.Grant slot channel node) = IsTrue (contains nodes 
 FitsVariant nodes s x (change.Revoke slot channel) = IsTrue (held_by s (get x.grants (slot, channel)))
 FitsVariant nodes s x (change.Frame f what) = FitsFrame nodes s (get x.frames (s, f)) what
 
--- The edit fits the book: a variant that changes is open, and a new one is opened empty, or from a released one that is one less deep.
-abbrev pub Fits : Book → Edit → Type 0
-Fits b (NewVariant v parent depth) = (get b.variants v ≡ None) × IsOpenedFrom b.variants parent depth × (depth ≤ MAX_DEPTH)
-Fits b (SetReleased v) = (x : Variant) × IsOpen b v x
-Fits b (NewSupplier s key) = get b.suppliers s ≡ None
-Fits b (NewNode s n) = IsTrue (contains b.suppliers s) × (get b.nodes (s, n) ≡ None)
-Fits b (Rows s v what) = (x : Variant) × IsOpen b v x × FitsVariant b.nodes s x what
-Fits b (KeepImport s label v body rows) = IsTrue (contains b.suppliers s) × IsTrue (contains b.variants v) × (get b.imports (s, label) ≡ None)
+-- The edit fits the book of a cluster: a variant that changes is open, and a new one is opened empty, or from a released one that is
+-- one less deep; a placement that is added is of the cluster's cycles.
+abbrev pub Fits : Params → Book → Edit → Type 0
+Fits p b (NewVariant v parent depth) = (get b.variants v ≡ None) × IsOpenedFrom b.variants parent depth × (depth ≤ MAX_DEPTH)
+Fits p b (SetReleased v) = (x : Variant) × IsOpen b v x
+Fits p b (NewSupplier s key) = get b.suppliers s ≡ None
+Fits p b (NewNode s n) = IsTrue (contains b.suppliers s) × (get b.nodes (s, n) ≡ None)
+Fits p b (Rows s v what) = (x : Variant) × IsOpen b v x × FitsVariant b.nodes s x what × IsCounted p what
+Fits p b (KeepImport s label v body rows) = IsTrue (contains b.suppliers s) × IsTrue (contains b.variants v) × (get b.imports (s, label) ≡ None)
 
 -- Each of the edits fits the book that those before it left.
-abbrev pub AllFit : Book → List Edit → Type 0
-AllFit b [] = ⊤
-AllFit b (edit ∷ edits) = Fits b edit × AllFit (applied b edit) edits
+abbrev pub AllFit : Params → Book → List Edit → Type 0
+AllFit p b [] = ⊤
+AllFit p b (edit ∷ edits) = Fits p b edit × AllFit p (applied b edit) edits

@@ -142,24 +142,24 @@ OthersStay = (c : Cluster) (b : Book) (s t v w : Name) (x y : Variant) (edit : E
 abbrev pub DecisionFits : Type 0
 DecisionFits = (c : Cluster) (b : Book) (s v : Name) (x : Variant) (what : Change) (edits : List Edit) →
     IsSound c b → get b.variants v ≡ Some x → IsChecked c.params what → IsUnheld x what →
-    decision (page_in c.params b s v x) what ≡ Ok edits → AllFit b edits
+    decision (page_in c.params b s v x) what ≡ Ok edits → AllFit c.params b edits
 
 -- So do those of the rows of an import into a variant that is open.
 abbrev pub RowsFit : Type 0
 RowsFit = (c : Cluster) (b : Book) (s v : Name) (x : Variant) (reads : List RowRead) (edits : List Edit) →
     IsSound c b → get b.variants v ≡ Some x → IsFalse x.released → AreChecked c.params reads →
-    rows_decision (page_in c.params b s v x) reads ≡ Ok edits → AllFit b edits
+    rows_decision (page_in c.params b s v x) reads ≡ Ok edits → AllFit c.params b edits
 
 -- And then, where the supplier is there and keeps no import under the label, the edit that keeps the import fits.
 abbrev pub ImportFits : Type 0
 ImportFits = (c : Cluster) (b : Book) (s v label : Name) (x : Variant) (body : List ℕ) (reads : List RowRead) (edits : List Edit) (count : ℕ) →
     IsSound c b → get b.variants v ≡ Some x → IsFalse x.released → IsTrue (contains b.suppliers s) → get b.imports (s, label) ≡ None →
-    AreChecked c.params reads → rows_decision (page_in c.params b s v x) reads ≡ Ok edits → AllFit b (edits ++ KeepImport s label v body count ∷ [])
+    AreChecked c.params reads → rows_decision (page_in c.params b s v x) reads ≡ Ok edits → AllFit c.params b (edits ++ KeepImport s label v body count ∷ [])
 
 -- In any book a new node that is decided by the nodes of a supplier that is there fits,
 abbrev pub NodeFits : Type 0
-NodeFits = (b : Book) (s n : Name) (edit : Edit) → IsTrue (contains b.suppliers s) → new_node s (nodes_in b s) n ≡ Ok edit → Fits b edit
+NodeFits = (p : Params) (b : Book) (s n : Name) (edit : Edit) → IsTrue (contains b.suppliers s) → new_node s (nodes_in b s) n ≡ Ok edit → Fits p b edit
 
 -- and so does what the list of variants decides of them.
 abbrev pub CommonFits : Type 0
-CommonFits = (b : Book) (command : CommonCommand) (edit : Edit) → common_edit (variants_in b) command ≡ Ok edit → Fits b edit
+CommonFits = (p : Params) (b : Book) (command : CommonCommand) (edit : Edit) → common_edit (variants_in b) command ≡ Ok edit → Fits p b edit

@@ -5,7 +5,7 @@ ghost use Rattle.fr_base.specs.declared.limits.TheConstants.{MAX_PLACEMENTS};
 ghost use Rattle.fr_base.specs.Moments.{greatest_gap};
 ghost use Rattle.fr_base.specs.Sound.{FitsCluster};
 
-use fr_base::{CYCLE_COUNT, MAX_PLACEMENTS, Params, Placement};
+use fr_base::{MAX_PLACEMENTS, Params, Placement};
 
 /// The longest time from a moment at which a frame with these placements is sent to the next such moment,
 /// in macroticks on the ring of all cycles. A moment is the start of a slot, so cells on A and on B at once
@@ -15,6 +15,7 @@ pub fn greatest_gap(params: &Params, placements: &[Placement]) -> Option<u32>
     requires fits { All (FitsCluster params.now) placements.now }
     ensures { result ≡ greatest_gap params.now placements.now }
 {
+    let cycles = params.cycles();
     let cycle_length = params.macroticks_per_cycle();
     let slot_length = params.slot_macroticks();
     let mut room = [*placements.first()?; MAX_PLACEMENTS];
@@ -22,7 +23,7 @@ pub fn greatest_gap(params: &Params, placements: &[Placement]) -> Option<u32>
     by_slot.copy_from_slice(placements);
     by_slot.sort_unstable_by_key(|placement| placement.slot.get());
     let mut moments = None;
-    for cycle in 0..CYCLE_COUNT {
+    for cycle in 0..cycles {
         for placement in by_slot.iter() {
             if placement.cycles.contains(cycle as u8) {
                 let moment = cycle * cycle_length + (placement.slot.get() - 1) * slot_length;
@@ -30,7 +31,7 @@ pub fn greatest_gap(params: &Params, placements: &[Placement]) -> Option<u32>
             }
         }
     }
-    Some(moments?.greatest_gap(CYCLE_COUNT * cycle_length))
+    Some(moments?.greatest_gap(cycles * cycle_length))
 }
 
 /// The moments so far, in rising order: the first one, the last one, and the greatest step from one to

@@ -10,7 +10,7 @@ ghost use Rattle.fr_world.specs.Sendings.{HaveSenders, cycle_cells, filled, is_u
 
 use crate::slot_table::{FirstPlaces, SlotTable, places_in, slot_tables};
 use crate::triggerings::{FrameSender, FrameTriggering};
-use fr_base::{CYCLE_COUNT, Channel, Channels, NoMemory, Params, Rows, Sending, Slot};
+use fr_base::{Channel, Channels, NoMemory, Params, Rows, Sending, Slot};
 use std::alloc::Global;
 
 /// Which of the senders sends in which cycle, slot and channel: by cycle, slot and channel. Where several
@@ -27,7 +27,7 @@ pub(crate) fn schedule(
     let slots = used_slots(alloc, params, triggerings)?;
     let tables = slot_tables(alloc, triggerings)?;
     let mut rows = Rows::with_capacity(alloc, triggerings.len())?;
-    for cycle in 0..CYCLE_COUNT as u8 {
+    for cycle in 0..params.cycles() as u8 {
         push_cycle(
             senders,
             triggerings,
@@ -41,7 +41,7 @@ pub(crate) fn schedule(
     Ok(rows)
 }
 
-/// Appends what the senders send in the cycle, 0 to 63: by slot and channel. Where several placements have
+/// Appends what the senders send in the cycle: by slot and channel. Where several placements have
 /// a cell, the first one is sent. Where memory is refused, some of it may have been appended.
 pub(crate) fn push_sendings(
     alloc: Global,

@@ -6,7 +6,7 @@ ghost use Rattle.fr_base.specs.declared.channel.Channel.{Channel as OneChannel};
 ghost use Rattle.fr_world.specs.FirstPlaces.{AreFirst, IsClaimed, place_on, places_at};
 
 use crate::triggerings::FrameTriggering;
-use fr_base::{CYCLE_COUNT, Channel, Channels, NoMemory, Placement, Slot};
+use fr_base::{Channel, Channels, MAX_CYCLES, NoMemory, Placement, Slot};
 use std::alloc::Global;
 use std::marker::Model;
 
@@ -61,8 +61,8 @@ impl SlotTable {
     pub(crate) fn claim(&mut self, placement: &Placement, place: usize) -> Result<(), NoMemory>
         ensures { OnOk result (IsClaimed placement.now place self.old self.new) }
     {
-        if self.cycles.len() < CYCLE_COUNT as usize {
-            self.cycles.resize(CYCLE_COUNT as usize, NO_PLACES)?;
+        if self.cycles.len() < MAX_CYCLES as usize {
+            self.cycles.resize(MAX_CYCLES as usize, NO_PLACES)?;
         }
         claim_cycles(&mut self.cycles, placement, place);
         Ok(())
@@ -137,8 +137,9 @@ fn claim_cycles(cycles: &mut [FirstPlaces], placement: &Placement, place: usize)
     ensures len { length cycles.new ≡ 64 }
     ensures claimed { IsClaimed placement.now place cycles.old cycles.new }
 {
+    let count = u32::from(placement.cycles.cycles());
     let mut cycle = u32::from(placement.cycles.base());
-    while cycle < CYCLE_COUNT {
+    while cycle < count {
         cycles[cycle as usize].claim(placement.channels, place);
         cycle += u32::from(placement.cycles.repetition());
     }

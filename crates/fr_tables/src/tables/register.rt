@@ -4,7 +4,7 @@ ghost use Rattle.std.specs.Prelude.{◌≡◌, pos};
 ghost use Rattle.sqlite.specs.State.{Survives};
 ghost use Rattle.sqlite.specs.Held.{state};
 ghost use Rattle.fr_tables.specs.Changes.{Makes, Finds, Spares};
-ghost use Rattle.fr_tables.specs.Statements.{with_register, shows_register, every, any_order};
+ghost use Rattle.fr_tables.specs.Statements.{with_number, with_register, shows_register, every, any_order};
 
 use sqlite::{Alter, Connection, Error, Row, Transaction, params};
 
@@ -23,4 +23,13 @@ pub fn all<S: Alter>(conn: &mut Connection<S>) -> Result<Vec<Row>, Error>
     ensures spares { Spares (state S.Store conn.old) (state S.Store conn.new) }
 {
     conn.query_all("SELECT schema FROM register", &[])
+}
+
+/// Gives the row another number.
+pub fn update<S: Alter>(tx: &mut Transaction<'_, S>, schema: u32) -> Result<usize, Error>
+    ensures same_reference { tx.new.conn.ghost_name ≡ tx.old.conn.ghost_name }
+    ensures renewed { Makes (with_number (pos schema)) (state S.Store tx.old.conn.now) (state S.Store tx.new.conn.now) result }
+    ensures survives { Survives (state S.Store tx.old.conn.now) (state S.Store tx.new.conn.now) (λ _. ⊥) }
+{
+    tx.execute("UPDATE register SET schema = ?1", params![schema])
 }

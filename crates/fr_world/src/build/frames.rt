@@ -50,15 +50,14 @@ fn is_placed(rows: &PageRows, node: Name, placement: &Placement) -> bool
     fits(&rows.params, placement) && is_granted(&rows.grants, node, placement)
 }
 
-// Whether the cluster has the placement's slot and channels.
+// Whether the cluster has the placement's slot and channels, and its cycles are of the cluster's.
 #[tactic(auto, unfolding(crate::specs::Building::fits))]
 fn fits(params: &Params, placement: &Placement) -> bool
     ensures { result ≡ fits params.now placement.now }
 {
-    // Gives the proof that the cycles are a set of cycles.
-    let _repetition = placement.cycles.repetition();
     placement.slot.get() <= params.static_slots()
         && has_channels(params.channels(), placement.channels)
+        && u32::from(placement.cycles.cycles()) == params.cycles()
 }
 
 // Whether a cluster of these channels has those.

@@ -1,10 +1,10 @@
 use Rattle.std.proofs.Common.{rules, ◌≡◌, [], arith, ap, true, refl, sym, ◌∙◌, subst, IsTrue}
 use Rattle.sqlite.specs.State.{HasCleanDisk}
 use Rattle.sqlite.specs.Held.{state}
-use Rattle.fr_tables.specs.Rows.{of_cluster, of_supplier, of_variant, cluster_in, supplier_in, variant_in}
-use Rattle.fr_tables.specs.Statements.{shows_cluster, shows_supplier, shows_variant, every, any_order, suppliers_cmp, variants_cmp}
+use Rattle.fr_tables.specs.Rows.{of_cluster2, of_supplier, of_variant, cluster2_in, supplier_in, variant_in}
+use Rattle.fr_tables.specs.Statements.{shows_cluster2, shows_supplier, shows_variant, every, any_order, suppliers_cmp, variants_cmp}
 use Rattle.fr_tables.specs.Asking.{cluster_text, suppliers_text, variants_text}
-use Rattle.fr_tables.proofs.ClusterLemmas as cluster
+use Rattle.fr_tables.proofs.Cluster2Lemmas as cluster2
 use Rattle.fr_tables.proofs.SupplierLemmas as suppliers
 use Rattle.fr_tables.proofs.VariantLemmas as variants
 use Rattle.fr_tables.proofs.NumberLemmas.{asked_shown, asked_told, asked_listed, as_before, keeps}
@@ -25,8 +25,8 @@ returns-clause-told g c clean text was =
 pub returns-clause-cluster : goal.returns-clause-cluster
 returns-clause-cluster g c clean text was =
     let late : HasCleanDisk (state g.S.Store c.drop-tx.new.self.0) = search rules in
-    asked_listed of_cluster shows_cluster cluster_in every any_order 1 cluster_text cluster.its_row c.args.sql.now (state g.S.Store c.args.conn.now) (state g.S.Store c.transaction-tx.result.conn.now) (state g.S.Store c.query_all.new.self.conn.now) c.query_all.result
-    text (ap (λ h. (state g.S.Store h).now) c.transaction-tx.ensures.begun) was was.cluster (c.query_all.ensures.ok (omega (arith, c.drop-tx.ensures.survives.clean)))
+    asked_listed of_cluster2 shows_cluster2 cluster2_in every any_order 22 cluster_text cluster2.its_row c.args.sql.now (state g.S.Store c.args.conn.now) (state g.S.Store c.transaction-tx.result.conn.now) (state g.S.Store c.query_all.new.self.conn.now) c.query_all.result
+    text (ap (λ h. (state g.S.Store h).now) c.transaction-tx.ensures.begun) was was.cluster2 (c.query_all.ensures.ok (omega (arith, c.drop-tx.ensures.survives.clean)))
 
 pub returns-clause-suppliers : goal.returns-clause-suppliers
 returns-clause-suppliers g c clean text was =

@@ -15,8 +15,9 @@ returns-clause-row c =
       idle_macroticks = c.in_ok-number-5.field-0;
       macroticks_per_cycle = c.in_ok-number-6.field-0;
       payload_words = c.in_ok-number-7.field-0;
+      cycles = c.in_ok-number-8.field-0;
     } in
-    let size : length c.args.row.now ≡ 9 = search rules in
+    let size : length c.args.row.now ≡ 10 = search rules in
     let checked : check_params raw ≡ Ok c.in_ok-params.params = search rules in
     its_row c.args.row.now raw c.in_ok-params.params c.in_ok-key.field-0 size checked c.in_ok-number.ensures c.in_ok-number-2.ensures c.in_ok-number-3.ensures c.in_ok-number-4.ensures
-    c.in_ok-number-5.ensures c.in_ok-number-6.ensures c.in_ok-number-7.ensures c.in_ok-channels.ensures c.in_ok-key.ensures.value
+    c.in_ok-number-5.ensures c.in_ok-number-6.ensures c.in_ok-number-7.ensures c.in_ok-channels.ensures c.in_ok-key.ensures.value c.in_ok-number-8.ensures

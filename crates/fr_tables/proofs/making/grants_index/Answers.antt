@@ -1,6 +1,6 @@
 use Rattle.sqlite.specs.Held.{state}
-use Rattle.fr_tables.proofs.MakingLemmas.{makes_all}
+use Rattle.fr_tables.proofs.MakingLemmas.{makes_old}
 use Rattle.fr_tables.proofs.making.grants_index.Goals as goal
 
 pub returns-clause-made : goal.returns-clause-made
-returns-clause-made g c clean inside was = makes_all (state g.S.Store c.args.tx.now.conn.now) (state g.S.Store c.execute.new.self.conn.now) c.execute.result inside was (c.execute.ensures.runs clean inside)
+returns-clause-made g c clean inside was = makes_old (state g.S.Store c.args.tx.now.conn.now) (state g.S.Store c.execute.new.self.conn.now) c.execute.result inside was (c.execute.ensures.runs clean inside)

@@ -17,4 +17,5 @@ returns c =
       ← c.in_ok-number_at-5.ensures,
       ← c.in_ok-number_at-6.ensures,
       ← c.in_ok-number_at-7.ensures,
+      ← c.in_ok-number_or.ensures,
     )

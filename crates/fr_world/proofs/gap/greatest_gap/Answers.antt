@@ -71,19 +71,22 @@ pub returns-in_err-moments : goal.returns-in_err-moments
 returns-in_err-moments c =
     let none : c.from_residual-in_err-moments.result ≡ None = search rules in
     none
-    ∙ sym (Sees-nothing c.args.params.now c.args.placements.now c.sort_unstable_by_key.new.self c.loop-cycle.invariant.moved
+    ∙ sym (Sees-nothing c.args.params.now c.args.placements.now c.sort_unstable_by_key.new.self c.loop-cycle.invariant.rising c.loop-cycle.invariant.moved
     (Sees-end c.args.params.now c.sort_unstable_by_key.new.self c.loop-cycle.cycle c.loop-cycle.moments None (omega arith) c.in_err-moments.was c.loop-cycle.invariant.sees))
 
 pub greatest_gap-requires : goal.greatest_gap-requires
 greatest_gap-requires c =
     let inside = Sees-inside c.args.params.now c.sort_unstable_by_key.new.self c.in_ok-moments.field-0 c.loop-cycle.invariant.rising
     (Sees-end c.args.params.now c.sort_unstable_by_key.new.self c.loop-cycle.cycle c.loop-cycle.moments (Some c.in_ok-moments.field-0) (omega arith) c.in_ok-moments.was c.loop-cycle.invariant.sees) in
-    (inside.0, omega (arith, inside.1, c.macroticks_per_cycle-cycle_length.ensures.value))
+    let ring : c.cycles-cycles.result * c.macroticks_per_cycle-cycle_length.result ≡ c.args.params.now.cycles * c.args.params.now.macroticks_per_cycle =
+    λ i. c.cycles-cycles.ensures.value i * c.macroticks_per_cycle-cycle_length.ensures.value i in
+    (inside.0, omega (arith, inside.1, ring))
 
 pub returns : goal.returns
 returns c =
     let is = c.macroticks_per_cycle-cycle_length.ensures.value in
+    let many = c.cycles-cycles.ensures.value in
     let m = c.in_ok-moments.field-0 in
-    ap Some (c.greatest_gap.ensures ∙ (λ i. max m.step ((64 * is i - m.last) + m.first)))
+    ap Some (c.greatest_gap.ensures ∙ (λ i. max m.step ((many i * is i - m.last) + m.first)))
     ∙ sym (Sees-greatest c.args.params.now c.args.placements.now c.sort_unstable_by_key.new.self m c.loop-cycle.invariant.moved c.loop-cycle.invariant.rising
     (Sees-end c.args.params.now c.sort_unstable_by_key.new.self c.loop-cycle.cycle c.loop-cycle.moments (Some m) (omega arith) c.in_ok-moments.was c.loop-cycle.invariant.sees))

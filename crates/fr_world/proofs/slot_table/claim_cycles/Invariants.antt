@@ -7,4 +7,4 @@ abbrev pub invariant-loop-cycle : goal.invariant-loop-cycle
 invariant-loop-cycle l = IsClaimedBelow l.placement l.place l.fn.cycles l.cycles l.cycle
 
 abbrev pub decreases-loop-cycle : goal.decreases-loop-cycle
-decreases-loop-cycle l = 64 - l.cycle
+decreases-loop-cycle l = l.placement.cycles.count - l.cycle

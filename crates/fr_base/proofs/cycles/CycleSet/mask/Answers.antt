@@ -1,24 +1,25 @@
-use Rattle.std.proofs.Common.{arith}
-use Rattle.std.proofs.lemmas.Bool.{and_parts, ltb-true}
-use Rattle.fr_base.specs.Cycles.{cycle_count, is_repetition}
-use Rattle.fr_base.proofs.CycleLemmas.{in_range}
-use Rattle.fr_base.proofs.MaskLemmas.{word-has_cycle}
+use Rattle.std.proofs.Common.{ℕ, arith, IsTrue}
+use Rattle.fr_base.specs.Cycles.{are_cycles}
+use Rattle.fr_base.proofs.CycleLemmas.{Within, within}
+use Rattle.fr_base.proofs.MaskLemmas.{ones-some, word-has_cycle}
 use Rattle.fr_base.proofs.cycles.CycleSet.mask.Goals as goal
 
-pub overflow_sub-ones : goal.overflow_sub-ones
-unfolding cycle_count
-overflow_sub-ones c =
-    let parts = and_parts (is_repetition cycle_count c.self.inside.repetition) _ c.self.invariant in
-    let known = in_range c.self.inside.repetition parts.0 in
-    omega (arith, known.1, c.from.ensures)
+-- the bounds of these numbers
+bounds : (n b r : ℕ) → IsTrue (are_cycles (record { count = n; base = b; repetition = r })) → Within (record { count = n; base = b; repetition = r })
+bounds n b r h = within (record { count = n; base = b; repetition = r }) h
+
+pub ones-requires : goal.ones-requires
+ones-requires c = let w = bounds c.self.inside.count c.self.inside.base c.self.inside.repetition c.self.invariant in (omega (arith, w.some), w.most)
+
+pub ones-requires-2 : goal.ones-requires-2
+ones-requires-2 c = let w = bounds c.self.inside.count c.self.inside.base c.self.inside.repetition c.self.invariant in (w.from_one, omega (arith, w.repetition, w.most))
+
+pub nonzero_div-result : goal.nonzero_div-result
+nonzero_div-result c = let w = bounds c.self.inside.count c.self.inside.base c.self.inside.repetition c.self.invariant in
+    rw c.ones-2.ensures (ones-some c.self.inside.repetition w.from_one (omega (arith, w.repetition, w.most)))
 
 pub overflow_shl-result : goal.overflow_shl-result
-unfolding cycle_count
-overflow_shl-result c =
-    let parts = and_parts (is_repetition cycle_count c.self.inside.repetition) _ c.self.invariant in
-    let known = in_range c.self.inside.repetition parts.0 in
-    let base = ltb-true c.self.inside.base c.self.inside.repetition parts.1 in
-    omega (arith, known.1, base)
+overflow_shl-result c = let w = bounds c.self.inside.count c.self.inside.base c.self.inside.repetition c.self.invariant in omega (arith, w.base, w.repetition, w.most)
 
 pub returns : goal.returns
-returns c = λ k. rw (c.from.ensures, ← c.self.view_is) (word-has_cycle _ c.self.invariant k)
+returns c = λ k. rw (c.ones.ensures, c.ones-2.ensures, ← c.self.view_is) (word-has_cycle _ c.self.invariant k)

@@ -1,0 +1,48 @@
+//! The one row that says what the cluster is.
+
+ghost use Rattle.std.specs.Prelude.{◌≡◌};
+ghost use Rattle.sqlite.specs.State.{Survives};
+ghost use Rattle.sqlite.specs.Held.{state};
+ghost use Rattle.fr_tables.specs.Changes.{Makes, Finds, Spares};
+ghost use Rattle.fr_tables.specs.Statements.{with_cluster2, cluster2_row, shows_cluster2, every, any_order};
+
+use fr_base::{Key, Params};
+use sqlite::{Alter, Connection, Error, Row, Transaction, params};
+
+/// Adds the row of a cluster with none. It gets the number 1.
+pub fn insert<S: Alter>(
+    tx: &mut Transaction<'_, S>,
+    of: &Params,
+    integrator: &Key,
+) -> Result<usize, Error>
+    ensures same_reference { tx.new.conn.ghost_name ≡ tx.old.conn.ghost_name }
+    ensures added { Makes (with_cluster2 (cluster2_row of.now integrator.now)) (state S.Store tx.old.conn.now) (state S.Store tx.new.conn.now) result }
+    ensures survives { Survives (state S.Store tx.old.conn.now) (state S.Store tx.new.conn.now) (λ _. ⊥) }
+{
+    tx.execute(
+        "INSERT INTO cluster2 (static_slots, slot_macroticks, dynamic_macroticks, symbol_macroticks, idle_macroticks, macroticks_per_cycle, payload_words, channels, integrator, cycles) VALUES (?1, ?2, ?3, ?4, ?5, ?6, ?7, ?8, ?9, ?10)",
+        params![
+            of.static_slots(),
+            of.slot_macroticks(),
+            of.dynamic_macroticks(),
+            of.symbol_macroticks(),
+            of.idle_macroticks(),
+            of.macroticks_per_cycle(),
+            of.payload_words(),
+            of.channels().as_str(),
+            integrator.as_str(),
+            of.cycles()
+        ],
+    )
+}
+
+/// The cluster.
+pub fn all<S: Alter>(conn: &mut Connection<S>) -> Result<Vec<Row>, Error>
+    ensures listed { Finds shows_cluster2 every any_order (λ t. t.cluster2) (state S.Store conn.old) (state S.Store conn.new) result }
+    ensures spares { Spares (state S.Store conn.old) (state S.Store conn.new) }
+{
+    conn.query_all(
+        "SELECT static_slots, slot_macroticks, dynamic_macroticks, symbol_macroticks, idle_macroticks, macroticks_per_cycle, payload_words, channels, integrator, cycles FROM cluster2",
+        &[],
+    )
+}
