@@ -274,13 +274,17 @@ unfolding a_small_register
 gap_of_two_slots = refl
 
 -- the same cluster with so many cycles
-unfoldable pub counting : ℕ → Cluster
-unfolding cluster
-counting n = record cluster { params = record cluster.params { cycles = n } }
+unfoldable pub counting : ℕ → ClusterFile
+unfolding file
+counting n = record file { cluster = record file.cluster { params = record file.cluster.params { cycles = n } } }
+
+-- the answers of a new register with so many cycles
+unfoldable pub counted_answers : ℕ → List Ask → List Answer
+counted_answers n asks = answers_to (counting n).cluster (opening (counting n)) asks
 
 -- twelve cycles: two sets of repetitions 4 and 6 meet in cycle 8
 pub twelve_cycles :
-    answers_from (counting 12) (opening (counting 12)) (
+    counted_answers 12 (
     integrator (OpenVariant (codes "v1") None)
     ∷ integrator (AddNode (codes "s1") (codes "n1"))
     ∷ integrator (Grant (codes "v1") 1 (codes "A") (codes "s1") (codes "n1"))
@@ -292,12 +296,12 @@ pub twelve_cycles :
     ≡ Done ∷ Done ∷ Done ∷ Done ∷ Done ∷ Done
     ∷ Refused (CellTaken 8 ch.A (codes "f"))
     ∷ []
-unfolding a_small_register counting
+unfolding a_small_register counting counted_answers
 twelve_cycles = refl
 
 -- ten cycles: a ring of 1000 macroticks, no cycle from the tenth on, and no repetition that does not divide 10
 pub ten_cycles :
-    answers_from (counting 10) (opening (counting 10)) (
+    counted_answers 10 (
     integrator (OpenVariant (codes "v1") None)
     ∷ integrator (AddNode (codes "s1") (codes "n1"))
     ∷ integrator (Grant (codes "v1") 1 (codes "A") (codes "s1") (codes "n1"))
@@ -317,7 +321,7 @@ pub ten_cycles :
     ∷ record { cycle = 6; slot = 1; channel = ch.A; frame = codes "f"; node = codes "n1"; supplier = codes "s1" }
     ∷ [])
     ∷ []
-unfolding a_small_register counting
+unfolding a_small_register counting counted_answers
 ten_cycles = refl
 
 -- a lone moment, two slots, and none
