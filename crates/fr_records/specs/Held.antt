@@ -23,7 +23,7 @@ Tells old new r says = (c : Cluster) (b : Book) → old c b → new c b × Match
 
 -- The edits were carried out, one after another; or the answer is Unavailable, and the records stand for the same book as before.
 abbrev pub Applies : {X : Type 0} → Standing → Standing → Result X Refusal → List Edit → Type 0
-Applies old new r edits = (c : Cluster) (b : Book) → old c b → AllFit b edits →
+Applies old new r edits = (c : Cluster) (b : Book) → old c b → AllFit c.params b edits →
     MatchResult r (λ _. new c (all_applied b edits)) (λ e. (e ≡ Unavailable) × new c b)
 
 -- the supplier's page of the variant, if the variant is there

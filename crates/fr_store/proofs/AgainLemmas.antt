@@ -23,7 +23,7 @@ use Rattle.fr_store.proofs.SameCluster.{same_file}
 
 -- tables that stand for a book tell of its cluster
 tells_of : (t : Tables) (c : Cluster) (b : Book) → StandsFor t c b → TellsOf (file_of c b) t
-tells_of t c b h = record { register = h.register; cluster = h.cluster; suppliers = h.suppliers }
+tells_of t c b h = record { register = h.heads.number; cluster2 = h.heads.params; suppliers = h.rows.suppliers }
 
 pub still_stands : (old new : State) (c : Cluster) (b : Book) → new.now ≡ old.now → Stands old c b → Stands new c b
 still_stands old new c b same h =

@@ -18,7 +18,7 @@ use Rattle.fr_tables.specs.Filling.{supplier_row}
 use Rattle.fr_tables.specs.Tables.{Tables}
 use Rattle.fr_tables.specs.Changes.{Changes, Stays, tables_of}
 use Rattle.fr_tables.specs.Statements.{with_supplier, with_node}
-use Rattle.fr_store.specs.StandsFor.{StandsFor, node_row}
+use Rattle.fr_store.specs.StandsFor.{StandsFor, HoldsRows, node_row}
 use Rattle.fr_store.specs.Reading.{Stands}
 
 module _ {K V : Type 0} (R : K → K → Ordering) (k : K) (v : V) where
@@ -42,11 +42,9 @@ module _ (s n : Name) where
   row = record { supplier = s; name = n }
 
   -- the tables with the node stand for the book with it
-  new_node : (t : Tables) (c : Cluster) (b : Book) → StandsFor t c b → get b.nodes (s, n) ≡ None → StandsFor (with_node row t) c (applied b (NewNode s n))
+  new_node : (t : Tables) (count : ℕ) (b : Book) → HoldsRows t count b → get b.nodes (s, n) ≡ None → HoldsRows (with_node row t) count (applied b (NewNode s n))
   unfolding applied insert get
-  new_node t c b h new = record {
-    register = h.register;
-    cluster = h.cluster;
+  new_node t count b h new = record {
     suppliers = h.suppliers;
     nodes = IsPermutation-trans _ _ _ (IsPermutation-sym _ _ (IsPermutation-map node_row _ _ (put_new owned.compare (s, n) tt b.nodes.rows new))) (one_at_end row (map node_row b.nodes.rows) t.nodes h.nodes);
     imports = h.imports;
@@ -63,7 +61,7 @@ module _ (s n : Name) where
   pub node_applied : {X E : Type 0} (old state : State) (r : Result X E) → MatchResult r (λ _. Changes (with_node row) old state) (λ _. Stays old state) → (c : Cluster) (b : Book) → Stands old c b → get b.nodes (s, n) ≡ None
       → OnOk r (Stands state c (applied b (NewNode s n)))
   node_applied old state (Ok x) h c b stands new =
-      record { has = h.has; for = subst (λ t. StandsFor t c (applied b (NewNode s n))) (sym h.now) (new_node (tables_of old) c b stands.for new) }
+      record { has = h.has; for = subst (λ t. StandsFor t c (applied b (NewNode s n))) (sym h.now) (record { heads = stands.for.heads; rows = new_node (tables_of old) c.params.cycles b stands.for.rows new }) }
   node_applied old state (Err e) h c b stands new = tt
 
 module _ (s : Name) (key : Key) where
@@ -71,11 +69,9 @@ module _ (s : Name) (key : Key) where
   joining = record { name = s; key = key }
 
   -- the tables with the supplier stand for the book with it
-  new_supplier : (t : Tables) (c : Cluster) (b : Book) → StandsFor t c b → get b.suppliers s ≡ None → StandsFor (with_supplier joining t) c (applied b (NewSupplier s key))
+  new_supplier : (t : Tables) (count : ℕ) (b : Book) → HoldsRows t count b → get b.suppliers s ≡ None → HoldsRows (with_supplier joining t) count (applied b (NewSupplier s key))
   unfolding applied insert get names
-  new_supplier t c b h new = record {
-    register = h.register;
-    cluster = h.cluster;
+  new_supplier t count b h new = record {
     suppliers = IsPermutation-trans _ _ _ (IsPermutation-sym _ _ (IsPermutation-map supplier_row _ _ (IsPermutation-map listed _ _ (put_new (slice_cmp nat_cmp) s key b.suppliers.rows new)))) (one_at_end joining (map supplier_row (map listed b.suppliers.rows)) t.suppliers h.suppliers);
     nodes = h.nodes;
     imports = h.imports;
@@ -92,5 +88,5 @@ module _ (s : Name) (key : Key) where
   pub supplier_applied : {X E : Type 0} (old state : State) (r : Result X E) → MatchResult r (λ _. Changes (with_supplier joining) old state) (λ _. Stays old state) → (c : Cluster) (b : Book) → Stands old c b → get b.suppliers s ≡ None
       → OnOk r (Stands state c (applied b (NewSupplier s key)))
   supplier_applied old state (Ok x) h c b stands new =
-      record { has = h.has; for = subst (λ t. StandsFor t c (applied b (NewSupplier s key))) (sym h.now) (new_supplier (tables_of old) c b stands.for new) }
+      record { has = h.has; for = subst (λ t. StandsFor t c (applied b (NewSupplier s key))) (sym h.now) (record { heads = stands.for.heads; rows = new_supplier (tables_of old) c.params.cycles b stands.for.rows new }) }
   supplier_applied old state (Err e) h c b stands new = tt

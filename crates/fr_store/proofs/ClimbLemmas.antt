@@ -73,6 +73,6 @@ module _ (v s f : Name) (old : State) where
           shows = λ c b stands x frame there shown.
               let here = climbed.shows c b stands x frame there shown in
               let its = subst (λ t. TellsLevel above t level) tables_mid told in
-              above_shows above s f (tables_of old) c b stands.for here.0 here.1 frame here.2 not_here parent (its.parent c b stands.for here.0 here.1 ∙ is);
+              above_shows above s f (tables_of old) c.params.cycles b stands.for.rows here.0 here.1 frame here.2 not_here parent (its.parent c.params.cycles b stands.for.rows here.0 here.1 ∙ is);
           first = λ own. absurd (true≢false (sym own ∙ ap (λ w. is_own w s f (tables_of old)) (sym (climbed.first own)) ∙ not_here));
         }

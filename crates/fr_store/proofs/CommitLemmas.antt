@@ -38,7 +38,7 @@ module _ {S : Type 0} (g : Ghosts S) (held begun : Held S) (is : begun ≡ recor
   survives_begun mid s = record { clean = s.clean; shield = s.shield; counts = s.counts; limit = s.limit; closes = s.closes; crash = s.crash }
 
   -- what a crash leaves is from before, or what is committed
-  pub crash_leaves : (edits : List Edit) (mid end : State) → (HasCleanDisk mid → (c : Cluster) (b : Book) → Stands (state g begun) c b → AllFit b edits → Stands mid c (all_applied b edits))
+  pub crash_leaves : (edits : List Edit) (mid end : State) → (HasCleanDisk mid → (c : Cluster) (b : Book) → Stands (state g begun) c b → AllFit c.params b edits → Stands mid c (all_applied b edits))
       → Survives (state g begun) mid (λ _. ⊥) → Survives mid end (λ db. db ≡ mid.now.trees) → Survives (state g held) end (LeavesAll edits (state g held))
   crash_leaves edits mid end carried before commits =
       survives_then (state g held) mid end (λ _. ⊥) (λ db. db ≡ mid.now.trees) (LeavesAll edits (state g held)) (λ clean db none. absurd none)

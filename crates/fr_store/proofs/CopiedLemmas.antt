@@ -13,7 +13,7 @@ use Rattle.fr_base.specs.declared.name.Name.{Name}
 use Rattle.fr_tables.specs.Rows.{GrantRow}
 use Rattle.fr_tables.specs.Tables.{Tables}
 use Rattle.fr_tables.specs.Statements.{grant_for, grants_for}
-use Rattle.fr_store.specs.StandsFor.{StandsFor, grant_rows}
+use Rattle.fr_store.specs.StandsFor.{HoldsRows, grant_rows}
 use Rattle.fr_store.proofs.HolderLemmas.{other_name}
 use Rattle.fr_store.proofs.SectionLemmas.{at, only_at}
 
@@ -46,6 +46,6 @@ module _ {X : Type 0} (variant : X → Name) (rows : Name × Variant → List X)
 its_grants : (e : Name × Variant) → AllByRecursion (λ (g : GrantRow). g.variant ≡ e.0) (grant_rows e)
 its_grants e = all_map (λ (g : GrantRow). g.variant ≡ e.0) _ e.1.grants.rows (all_of _ (λ g. refl) e.1.grants.rows)
 
-module _ (t : Tables) (c : Cluster) (b : Book) (stands : StandsFor t c b) (p v : Name) (x : Variant) (there : get b.variants p ≡ Some x) where
+module _ (t : Tables) (count : ℕ) (b : Book) (stands : HoldsRows t count b) (p v : Name) (x : Variant) (there : get b.variants p ≡ Some x) where
   pub grants_copied : (ys : List GrantRow) → IsPermutation (grants_for p v t) ys → IsPermutation (map (grant_for v) (grant_rows (p, x))) ys
   grants_copied ys same = copied (λ (g : GrantRow). g.variant) grant_rows its_grants b.variants p x there (grant_for v) t.grants ys stands.grants same

@@ -22,14 +22,14 @@ use Rattle.fr_store.proofs.InsideLemmas.{keeps_then, goes_then}
 -- the first edits are carried out, and the others fit what they left
 pub record HasCarriedOut (edits : List Edit) (at : ℕ) (old now : State) (c : Cluster) (b : Book) : Type 0 where
   pub stands : Stands now c (all_applied b (take at edits))
-  pub fit : AllFit (all_applied b (take at edits)) (drop at edits)
+  pub fit : AllFit c.params (all_applied b (take at edits)) (drop at edits)
 
 -- the first edits are carried out, and the variant that was seen last is stored so
 pub record HasCome (edits : List Edit) (at : ℕ) (seen : Seen) (old now : State) : Type 0 where
   pub keeps : KeepsCommit old now
   pub goes : GoesOn old now
   pub so : IsSeen seen (tables_of now)
-  pub carried : (c : Cluster) (b : Book) → Stands old c b → AllFit b edits → HasCarriedOut edits at old now c b
+  pub carried : (c : Cluster) (b : Book) → Stands old c b → AllFit c.params b edits → HasCarriedOut edits at old now c b
 
 -- one edit more
 applied_more : (b : Book) (edits : List Edit) (edit : Edit) → all_applied b (edits ++ edit ∷ []) ≡ applied (all_applied b edits) edit
@@ -58,9 +58,9 @@ module _ (edits : List Edit) (at : ℕ) (edit : Edit) (within : at < length edit
 
   pub one_more : (known found : Seen) (old before mid ready new : State) → HasCome edits at known old before → KeepsCommit before mid → SeesStored edit found before mid
       → KeepsCommit mid ready → GoesOn mid ready
-      → ((c : Cluster) (b : Book) → Stands mid c b → Fits b edit → IsStoredIfSome (framed_in edit) found.overlay (tables_of mid) → Stands ready c b × IsReady edit (tables_of ready))
+      → ((c : Cluster) (b : Book) → Stands mid c b → Fits c.params b edit → IsStoredIfSome (framed_in edit) found.overlay (tables_of mid) → Stands ready c b × IsReady edit (tables_of ready))
       → KeepsCommit ready new → GoesOn ready new
-      → ((c : Cluster) (b : Book) → Stands ready c b → Fits b edit → IsStoredIfSome (framed_in edit) found.overlay (tables_of ready) → IsReady edit (tables_of ready) → Stands new c (applied b edit))
+      → ((c : Cluster) (b : Book) → Stands ready c b → Fits c.params b edit → IsStoredIfSome (framed_in edit) found.overlay (tables_of ready) → IsReady edit (tables_of ready) → Stands new c (applied b edit))
       → HasCome edits (at + 1) found old new
   one_more known found old before mid ready new come kept sees keeps goes makes carry_keeps carry_goes carries = record {
     keeps = keeps_then old ready new (keeps_then old mid ready (keeps_then old before mid come.keeps kept) keeps) carry_keeps;
@@ -69,13 +69,13 @@ module _ (edits : List Edit) (at : ℕ) (edit : Edit) (within : at < length edit
     carried = λ c b stands fit.
         let come_so_far = come.carried c b stands fit in
         let b' = all_applied b (take at edits) in
-        let fits = subst (AllFit b') left come_so_far.fit in
+        let fits = subst (AllFit c.params b') left come_so_far.fit in
         let after : all_applied b (take (at + 1) edits) ≡ applied b' edit = ap (all_applied b) taken ∙ applied_more b (take at edits) edit in
         let so = same_stored before mid (framed_in edit) found.overlay sees.now sees.edit_so in
         let made = makes c b' (still_stands before mid c b' sees.now come_so_far.stands) fits.0 so in
         record {
           stands = subst (Stands new c) (sym after) (carries c b' made.0 fits.0 (still_stored mid ready (framed_in edit) found.overlay goes so) made.1);
-          fit = subst (λ e. AllFit e (drop (at + 1) edits)) (sym after) fits.1;
+          fit = subst (λ e. AllFit c.params e (drop (at + 1) edits)) (sym after) fits.1;
         };
   }
     where
@@ -87,5 +87,5 @@ module _ (edits : List Edit) (at : ℕ) (edit : Edit) (within : at < length edit
       }
 
 -- all edits
-pub all_come : (edits : List Edit) (at : ℕ) (seen : Seen) (old now : State) → length edits ≤ at → HasCome edits at seen old now → (c : Cluster) (b : Book) → Stands old c b → AllFit b edits → Stands now c (all_applied b edits)
+pub all_come : (edits : List Edit) (at : ℕ) (seen : Seen) (old now : State) → length edits ≤ at → HasCome edits at seen old now → (c : Cluster) (b : Book) → Stands old c b → AllFit c.params b edits → Stands now c (all_applied b edits)
 all_come edits at seen old now end come c b stands fit = subst (λ es. Stands now c (all_applied b es)) (take_all at edits end) (come.carried c b stands fit).stands

@@ -17,7 +17,7 @@ use Rattle.fr_base.proofs.SoundTables.{insert-cases, contains-more, same_key, sa
 use Rattle.fr_tables.specs.Rows.{FrameRow, PlacementRow, SignalRow, DroppedRow, flag}
 use Rattle.fr_tables.specs.Tables.{Tables}
 use Rattle.fr_tables.specs.Statements.{placement_row, signal_row, is_frame, is_placement_of, is_signal_of, is_dropped}
-use Rattle.fr_store.specs.StandsFor.{StandsFor, Stored, Entry, IsAsStored, HasItsParent, variant_row, grant_rows, frame_row, placement_rows, signal_rows, of_frames, seen, own_or, is_hidden, of_parent}
+use Rattle.fr_store.specs.StandsFor.{HoldsRows, Stored, Entry, IsAsStored, IsFine, HasItsParent, variant_row, grant_rows, frame_row, placement_rows, signal_rows, of_frames, seen, own_or, is_hidden, of_parent}
 use Rattle.fr_world.specs.Fits.{IsOpen}
 use Rattle.fr_store.proofs.ApartLemmas.{apart, remove-insert}
 use Rattle.fr_store.proofs.FrameSections.{section, others, parted, others_stay, others_apart}
@@ -62,9 +62,6 @@ module _ (v s f : Name) where
       filter-map (is_signal_of v s f) (signal_row w e.0.0 e.0.1) e.1.signals
       ∙ ap (map (signal_row w e.0.0 e.0.1)) (all_or_none (is_it v s f w e.0) e.1.signals ∙ ap (λ b. cond b e.1.signals []) other)
 
-abbrev pub ByStart : Frame → Type 0
-ByStart g = IsSorted (on (λ s. s.start) nat_cmp) g.signals
-
 -- ---- the frames that a variant has not of its parent's
 
 module _ (t : Tables) (b : Book) (v s f : Name) where
@@ -73,13 +70,13 @@ module _ (t : Tables) (b : Book) (v s f : Name) where
     pub others : (w : Name) (k : Name × Name) → (w ≡ v → k ≡ (s, f) → ⊥) → list_any (is_dropped w k.0 k.1) drops ≡ list_any (is_dropped w k.0 k.1) t.dropped
     pub known : All (λ d. IsTrue (contains b.variants d.variant)) drops
 
-module _ (t : Tables) (c : Cluster) (b : Book) (h : StandsFor t c b) (v s f : Name) where
+module _ (t : Tables) (count : ℕ) (b : Book) (h : HoldsRows t count b) (v s f : Name) where
   pub as_dropped : DropsElsewhere t b v s f t.dropped
   as_dropped = record { others = λ w k other. refl; known = h.dropped }
 
 -- ---- a variant whose frame changes
 
-module _ (t : Tables) (c : Cluster) (b : Book) (h : StandsFor t c b) (v s f : Name) (x : Variant) (is : IsOpen b v x) where
+module _ (t : Tables) (count : ℕ) (b : Book) (h : HoldsRows t count b) (v s f : Name) (x : Variant) (is : IsOpen b v x) where
   -- the variant's row, and those of the others
   abbrev parts : List (Name × Variant)
   parts = (v, x) ∷ (remove b.variants v).rows
@@ -92,7 +89,7 @@ module _ (t : Tables) (c : Cluster) (b : Book) (h : StandsFor t c b) (v s f : Na
   Shows own frames drops = (k : Name × Name) → get frames k ≡ own_or (get own k) (is_hidden drops v (h.stored v) k) (of_parent b.variants x.parent k)
 
   module _ (own frames : Table owned Frame) (drops : List DroppedRow) (kept : remove own (s, f) ≡ remove (h.stored v).own (s, f)) (elsewhere : DropsElsewhere t b v s f drops) (shows : Shows own frames drops)
-      (sorted : (k : Name × Name) (g : Frame) → get frames k ≡ Some g → ByStart g) where
+      (sorted : (k : Name × Name) (g : Frame) → get frames k ≡ Some g → IsFine count g) where
     abbrev after : Variant
     after = record x { frames = frames }
 
@@ -176,44 +173,42 @@ module _ (t : Tables) (c : Cluster) (b : Book) (h : StandsFor t c b) (v s f : Na
     same_parent None d has k = refl
     same_parent (Some name) d has k = rw (still_there name has.0 has.1 has.2)
 
-    itself : IsAsStored drops next stored_after v after
+    itself : IsAsStored count drops next stored_after v after
     unfolding seen
     itself = record {
       parent = still_parent x.parent x.depth (h.each v x is.there).parent;
       frames = λ k. shows k ∙ ap (own_or (get own k) (is_hidden drops v (h.stored v) k)) (sym (same_parent x.parent x.depth (h.each v x is.there).parent k));
-      by_start = sorted;
+      fine = sorted;
     }
 
     -- none of another variant's frames is dropped, or no more
     same_hidden : (w : Name) → w ≢ v → (k : Name × Name) → is_hidden t.dropped w (h.stored w) k ≡ is_hidden drops w (h.stored w) k
     same_hidden w other k = ap (λ is. not (h.stored w).overlay || is) (sym (elsewhere.others w k (λ same _. other same)))
 
-    another : (w : Name) (y : Variant) → w ≢ v → get b.variants w ≡ Some y → IsAsStored drops next (h.stored w) w y
+    another : (w : Name) (y : Variant) → w ≢ v → get b.variants w ≡ Some y → IsAsStored count drops next (h.stored w) w y
     unfolding seen
     another w y other there =
         let old = h.each w y there in
         record {
           parent = still_parent y.parent y.depth old.parent;
           frames = λ k. old.frames k ∙ ap₂ (own_or (get (h.stored w).own k)) (same_hidden w other k) (sym (same_parent y.parent y.depth old.parent k));
-          by_start = old.by_start;
+          fine = old.fine;
         }
 
     other_tie : (w : Name) → w ≢ v → is_eq (names.compare v w) ≡ false
     other_tie w other = false_from_ne_true _ (λ tie. other (sym (names.exact v w (equal _ tie))))
 
-    each_next : (w : Name) (y : Variant) → get next w ≡ Some y → IsAsStored drops next (stored_next w) w y
+    each_next : (w : Name) (y : Variant) → get next w ≡ Some y → IsAsStored count drops next (stored_next w) w y
     each_next w y found = elim (insert-cases b.variants v after w y found) [
-      | inl it ↦ subst₂ (λ u z. IsAsStored drops next (stored_next u) u z) (sym it.0) it.1 (subst (λ st. IsAsStored drops next st v after) (sym at_v) itself)
-      | inr other ↦ subst (λ st. IsAsStored drops next st w y) (sym (at_other w (other_tie w other.0))) (another w y other.0 other.1)
+      | inl it ↦ subst₂ (λ u z. IsAsStored count drops next (stored_next u) u z) (sym it.0) it.1 (subst (λ st. IsAsStored count drops next st v after) (sym at_v) itself)
+      | inr other ↦ subst (λ st. IsAsStored count drops next st w y) (sym (at_other w (other_tie w other.0))) (another w y other.0 other.1)
     ]
 
     -- the tables with the frame's rows turned stand for the book with its variant's frames
     pub frame_changed : (fs : List FrameRow) (ps : List PlacementRow) (ss : List SignalRow) → FramesTurn v s f (get (h.stored v).own (s, f)) (get own (s, f)) t.frames fs
         → PlacementsTurn v s f (get (h.stored v).own (s, f)) (get own (s, f)) t.placements ps → SignalsTurn v s f (get (h.stored v).own (s, f)) (get own (s, f)) t.signals ss
-        → StandsFor (record t { frames = fs; placements = ps; signals = ss; dropped = drops }) c (with_variant b v after)
+        → HoldsRows (record t { frames = fs; placements = ps; signals = ss; dropped = drops }) count (with_variant b v after)
     frame_changed fs ps ss in_frames in_placements in_signals = record {
-      register = h.register;
-      cluster = h.cluster;
       suppliers = h.suppliers;
       nodes = h.nodes;
       imports = h.imports;

@@ -29,7 +29,7 @@ use Rattle.fr_tables.specs.Tables.{Tables}
 use Rattle.fr_tables.specs.Changes.{Changes, Stays, tables_of}
 use Rattle.fr_tables.specs.Statements as statements
 use Rattle.fr_tables.specs.Statements.{with_dropped, is_dropped, with_frame, without_frame, with_placement, without_placement, is_frame, is_placement, is_placement_of, is_signal, is_signal_of, placement_row, signal_row}
-use Rattle.fr_store.specs.StandsFor.{StandsFor, placement_rows, signal_rows, own_or, is_hidden, of_parent, seen}
+use Rattle.fr_store.specs.StandsFor.{StandsFor, HoldsRows, HasHeads, IsFine, placement_rows, signal_rows, own_or, is_hidden, of_parent, seen}
 use Rattle.fr_store.specs.Reading.{Stands}
 use Rattle.fr_store.specs.FrameEdits.{FitsAt}
 use Rattle.fr_store.specs.Owning.{IsStoredSo, is_own}
@@ -37,11 +37,12 @@ use Rattle.fr_store.proofs.ApartLemmas.{becomes, get-settle, get-settle_other, s
 use Rattle.fr_store.proofs.DroppedRows.{dropped_row, now_dropped, drops_elsewhere}
 use Rattle.fr_store.proofs.FramePartLemmas.{is_it}
 use Rattle.fr_store.proofs.FrameSections.{section}
-use Rattle.fr_store.proofs.FrameChanges.{one_row, FramesTurn, PlacementsTurn, SignalsTurn, ByStart, Shows, DropsElsewhere, as_dropped, frame_changed}
+use Rattle.fr_store.proofs.FrameChanges.{one_row, FramesTurn, PlacementsTurn, SignalsTurn, Shows, DropsElsewhere, as_dropped, frame_changed}
 use Rattle.fr_store.proofs.FrameTurns.{turns_not, turns_more, turns_fewer}
 use Rattle.fr_store.proofs.OwningLemmas.{own_as_shown, stored_so}
 use Rattle.fr_store.proofs.PlacementSections.{own_text, none_there, of_frame, place_section, unplace_section}
-use Rattle.fr_store.proofs.SignalSections.{rise-with, rise-without, add_section, of_signal, drop_section}
+use Rattle.fr_store.proofs.CountedLemmas.{fine_empty, fine_placed, fine_unplaced, fine_with, fine_without, each_counted}
+use Rattle.fr_store.proofs.SignalSections.{add_section, of_signal, drop_section}
 
 applied_is : (b : Book) (v s f : Name) (what : FrameChange) (x : Variant) → get b.variants v ≡ Some x
     → applied b (Rows s v (OfFrame f what)) ≡ with_variant b v (record x { frames = settle x.frames (s, f) (frame_after what (get x.frames (s, f))) })
@@ -51,7 +52,7 @@ applied_is b v s f what x there = ap (changed_at b v (changed s (OfFrame f what)
 it_is : (v s f : Name) → is_it v s f v (s, f) ≡ true
 it_is v s f = and_from _ _ (own_text v) (and_from _ _ (own_text s) (own_text f))
 
-module _ (t : Tables) (c : Cluster) (b : Book) (h : StandsFor t c b) (v s f : Name) (x : Variant) (is : IsOpen b v x) where
+module _ (t : Tables) (count : ℕ) (b : Book) (h : HoldsRows t count b) (v s f : Name) (x : Variant) (is : IsOpen b v x) where
   -- the frame, where it is the variant's own
   abbrev own_there : Option Frame
   own_there = get (h.stored v).own (s, f)
@@ -63,7 +64,7 @@ module _ (t : Tables) (c : Cluster) (b : Book) (h : StandsFor t c b) (v s f : Na
   of_its_parent = of_parent b.variants x.parent
 
   settled_shows : (fate : Fate Frame) (drops : List DroppedRow) → DropsElsewhere t b v s f drops → own_or (becomes fate) (hidden drops (s, f)) (of_its_parent (s, f)) ≡ becomes fate
-      → Shows t c b h v s f x is (settle (h.stored v).own (s, f) fate) (settle x.frames (s, f) fate) drops
+      → Shows t count b h v s f x is (settle (h.stored v).own (s, f) fate) (settle x.frames (s, f) fate) drops
   unfolding seen
   settled_shows fate drops elsewhere closes k = by_test (eq_by_cmp owned.compare (s, f) k) refl
     where
@@ -79,34 +80,34 @@ module _ (t : Tables) (c : Cluster) (b : Book) (h : StandsFor t c b) (v s f : Na
 
   edited_with : (what : FrameChange) (there own : Option Frame) (fate : Fate Frame) (drops : List DroppedRow) → DropsElsewhere t b v s f drops
       → own_or (becomes fate) (hidden drops (s, f)) (of_its_parent (s, f)) ≡ becomes fate → get x.frames (s, f) ≡ there → own_there ≡ own → frame_after what there ≡ fate
-      → ((g : Frame) → becomes fate ≡ Some g → ByStart g) → (fs : List FrameRow) (ps : List PlacementRow) (ss : List SignalRow)
+      → ((g : Frame) → becomes fate ≡ Some g → IsFine count g) → (fs : List FrameRow) (ps : List PlacementRow) (ss : List SignalRow)
       → FramesTurn v s f own (becomes fate) t.frames fs → PlacementsTurn v s f own (becomes fate) t.placements ps → SignalsTurn v s f own (becomes fate) t.signals ss
-      → StandsFor (record t { frames = fs; placements = ps; signals = ss; dropped = drops }) c (applied b (Rows s v (OfFrame f what)))
-  edited_with what there own fate drops elsewhere closes at own_at after by_start fs ps ss in_frames in_placements in_signals =
+      → HoldsRows (record t { frames = fs; placements = ps; signals = ss; dropped = drops }) count (applied b (Rows s v (OfFrame f what)))
+  edited_with what there own fate drops elsewhere closes at own_at after fine fs ps ss in_frames in_placements in_signals =
       let frames = settle x.frames (s, f) fate in
       let owns = settle (h.stored v).own (s, f) fate in
       let sorted = λ (k : Name × Name) (g : Frame) (found : get frames k ≡ Some g).
-      let rises : ByStart g = elim (settle-cases owned x.frames (s, f) fate k g found) [ inl new ↦ by_start g new | inr old ↦ (h.each v x is.there).by_start k g old ] in rises in
+      let rises : IsFine count g = elim (settle-cases owned x.frames (s, f) fate k g found) [ inl new ↦ fine g new | inr old ↦ (h.each v x is.there).fine k g old ] in rises in
       let now_at : get owns (s, f) ≡ becomes fate = get-settle owned (h.stored v).own (s, f) fate in
-      let turns = frame_changed t c b h v s f x is owns frames drops (remove-settle owned (h.stored v).own (s, f) fate) elsewhere (settled_shows fate drops elsewhere closes) sorted fs ps ss in
-      let stands : StandsFor (record t { frames = fs; placements = ps; signals = ss; dropped = drops }) c (with_variant b v (record x { frames = frames })) =
+      let turns = frame_changed t count b h v s f x is owns frames drops (remove-settle owned (h.stored v).own (s, f) fate) elsewhere (settled_shows fate drops elsewhere closes) sorted fs ps ss in
+      let stands : HoldsRows (record t { frames = fs; placements = ps; signals = ss; dropped = drops }) count (with_variant b v (record x { frames = frames })) =
       turns
       (subst₂ (λ o p. FramesTurn v s f o p t.frames fs) (sym own_at) (sym now_at) in_frames)
       (subst₂ (λ o p. PlacementsTurn v s f o p t.placements ps) (sym own_at) (sym now_at) in_placements)
       (subst₂ (λ o p. SignalsTurn v s f o p t.signals ss) (sym own_at) (sym now_at) in_signals) in
-      subst (StandsFor (record t { frames = fs; placements = ps; signals = ss; dropped = drops }) c)
+      subst (HoldsRows (record t { frames = fs; placements = ps; signals = ss; dropped = drops }) count)
       (sym (applied_is b v s f what x is.there ∙ ap (λ fate. with_variant b v (record x { frames = settle x.frames (s, f) fate })) (ap (frame_after what) at ∙ after))) stands
 
   -- an edit after which the frame is there
-  edited : (what : FrameChange) (there own : Option Frame) (next : Frame) → get x.frames (s, f) ≡ there → own_there ≡ own → frame_after what there ≡ Becomes next → ByStart next
+  edited : (what : FrameChange) (there own : Option Frame) (next : Frame) → get x.frames (s, f) ≡ there → own_there ≡ own → frame_after what there ≡ Becomes next → IsFine count next
       → (fs : List FrameRow) (ps : List PlacementRow) (ss : List SignalRow)
       → FramesTurn v s f own (Some next) t.frames fs → PlacementsTurn v s f own (Some next) t.placements ps → SignalsTurn v s f own (Some next) t.signals ss
-      → StandsFor (record t { frames = fs; placements = ps; signals = ss }) c (applied b (Rows s v (OfFrame f what)))
-  edited what there own next at own_at after by_start fs ps ss =
-      edited_with what there own (Becomes next) t.dropped (as_dropped t c b h v s f) refl at own_at after (λ g is. subst ByStart (same_some next g is) by_start) fs ps ss
+      → HoldsRows (record t { frames = fs; placements = ps; signals = ss }) count (applied b (Rows s v (OfFrame f what)))
+  edited what there own next at own_at after fine fs ps ss =
+      edited_with what there own (Becomes next) t.dropped (as_dropped t count b h v s f) refl at own_at after (λ g is. subst (IsFine count) (same_some next g is) fine) fs ps ss
 
-  by_start_at : (frame : Frame) → get x.frames (s, f) ≡ Some frame → ByStart frame
-  by_start_at frame at = (h.each v x is.there).by_start (s, f) frame at
+  fine_at : (frame : Frame) → get x.frames (s, f) ≡ Some frame → IsFine count frame
+  fine_at frame at = (h.each v x is.there).fine (s, f) frame at
 
   -- a frame that the variant does not show is not its own
   not_own : get x.frames (s, f) ≡ None → own_there ≡ None
@@ -120,12 +121,12 @@ module _ (t : Tables) (c : Cluster) (b : Book) (h : StandsFor t c b) (v s f : Na
   -- ---- a frame is added, or dropped
 
   pub new_frame : (node : Name) → is_some (get x.frames (s, f)) ≡ false
-      → StandsFor (with_frame (record { variant = v; supplier = s; name = f; node = node }) t) c (applied b (Rows s v (OfFrame f (Add node))))
+      → HoldsRows (with_frame (record { variant = v; supplier = s; name = f; node = node }) t) count (applied b (Rows s v (OfFrame f (Add node))))
   unfolding frame_after empty
   new_frame node new =
       let next : Frame = record { node = node; placements = empty; signals = [] } in
       let none : get x.frames (s, f) ≡ None = none_there _ new in
-      edited (Add node) None None next none (not_own none) refl (λ k d low short. absurd (omega arith)) _ _ _
+      edited (Add node) None None next none (not_own none) refl (fine_empty count node) _ _ _
       (turns_more one_row (is_frame v s f) v s f None (Some next) t.frames _ (IsPermutation-refl _))
       (turns_not placement_rows (is_placement_of v s f) v s f None (Some next) t.placements refl)
       (turns_not signal_rows (is_signal_of v s f) v s f None (Some next) t.signals refl)
@@ -158,7 +159,7 @@ module _ (t : Tables) (c : Cluster) (b : Book) (h : StandsFor t c b) (v s f : Na
 
   -- the own rows go, if there are any, and the parent's frame is hidden
   ended : (frame : Frame) → get x.frames (s, f) ≡ Some frame → (drops : List DroppedRow) → DropsElsewhere t b v s f drops → hidden drops (s, f) ≡ true
-      → StandsFor (record (without_frame v s f t) { dropped = drops }) c (applied b (Rows s v (OfFrame f Drop)))
+      → HoldsRows (record (without_frame v s f t) { dropped = drops }) count (applied b (Rows s v (OfFrame f Drop)))
   unfolding frame_after
   ended frame there drops elsewhere hides =
       edited_with Drop (Some frame) own_there Gone drops elsewhere (ap (λ is. own_or None is (of_its_parent (s, f))) hides) there refl refl (λ g is. absurd cc) _ _ _
@@ -166,11 +167,11 @@ module _ (t : Tables) (c : Cluster) (b : Book) (h : StandsFor t c b) (v s f : Na
       (turns_fewer placement_rows (is_placement_of v s f) v s f own_there None t.placements (is_placement_of v s f) (λ r is. is) (all_of_placements own_there))
       (turns_fewer signal_rows (is_signal_of v s f) v s f own_there None t.signals (is_signal_of v s f) (λ r is. is) (all_of_signals own_there))
 
-  pub end_alone : (frame : Frame) → get x.frames (s, f) ≡ Some frame → (h.stored v).overlay ≡ false → StandsFor (without_frame v s f t) c (applied b (Rows s v (OfFrame f Drop)))
-  end_alone frame there alone = ended frame there t.dropped (as_dropped t c b h v s f) (ap (λ over. not over || list_any (is_dropped v s f) t.dropped) alone)
+  pub end_alone : (frame : Frame) → get x.frames (s, f) ≡ Some frame → (h.stored v).overlay ≡ false → HoldsRows (without_frame v s f t) count (applied b (Rows s v (OfFrame f Drop)))
+  end_alone frame there alone = ended frame there t.dropped (as_dropped t count b h v s f) (ap (λ over. not over || list_any (is_dropped v s f) t.dropped) alone)
 
   pub end_over : (frame : Frame) → get x.frames (s, f) ≡ Some frame
-      → StandsFor (with_dropped (dropped_row v s f) (without_frame v s f t)) c (applied b (Rows s v (OfFrame f Drop)))
+      → HoldsRows (with_dropped (dropped_row v s f) (without_frame v s f t)) count (applied b (Rows s v (OfFrame f Drop)))
   end_over frame there =
       ended frame there (with_dropped (dropped_row v s f) t).dropped (drops_elsewhere v s f t b x is.there h.dropped) (ap (λ is. not (h.stored v).overlay || is) (now_dropped v s f t.dropped) ∙ either (not (h.stored v).overlay))
     where
@@ -180,45 +181,45 @@ module _ (t : Tables) (c : Cluster) (b : Book) (h : StandsFor t c b) (v s f : Na
 
   module _ (frame : Frame) (there : get x.frames (s, f) ≡ Some frame) (is_its_own : IsTrue (is_own v s f t)) where
     own : own_there ≡ Some frame
-    own = own_as_shown v s f t c b h x is.there frame there is_its_own
+    own = own_as_shown v s f t count b h x is.there frame there is_its_own
 
     -- ---- a placement is added, or ended
 
-    pub put_placement : (q : Placement) → contains frame.placements q ≡ false → StandsFor (with_placement (placement_row v s f q) t) c (applied b (Rows s v (OfFrame f (Place q))))
+    pub put_placement : (q : Placement) → contains frame.placements q ≡ false → q.cycles.count ≡ count → HoldsRows (with_placement (placement_row v s f q) t) count (applied b (Rows s v (OfFrame f (Place q))))
     unfolding frame_after
-    put_placement q new =
+    put_placement q new same =
         let next : Frame = record frame { placements = insert frame.placements q tt } in
-        edited (Place q) (Some frame) (Some frame) next there own refl (by_start_at frame there) _ _ _
+        edited (Place q) (Some frame) (Some frame) next there own refl (fine_placed count frame (fine_at frame there) q same) _ _ _
         (turns_not one_row (is_frame v s f) v s f (Some frame) (Some next) t.frames refl)
         (turns_more placement_rows (is_placement_of v s f) v s f (Some frame) (Some next) t.placements _ (place_section v s f frame q new))
         (turns_not signal_rows (is_signal_of v s f) v s f (Some frame) (Some next) t.signals refl)
 
-    pub end_placement : (q : Placement) → StandsFor (without_placement (placement_row v s f q) t) c (applied b (Rows s v (OfFrame f (Unplace q))))
+    pub end_placement : (q : Placement) → IsTrue (contains frame.placements q) → HoldsRows (without_placement (placement_row v s f q) t) count (applied b (Rows s v (OfFrame f (Unplace q))))
     unfolding frame_after
-    end_placement q =
+    end_placement q there_is =
         let next : Frame = record frame { placements = remove frame.placements q } in
-        edited (Unplace q) (Some frame) (Some frame) next there own refl (by_start_at frame there) _ _ _
+        edited (Unplace q) (Some frame) (Some frame) next there own refl (fine_unplaced count frame (fine_at frame there) q) _ _ _
         (turns_not one_row (is_frame v s f) v s f (Some frame) (Some next) t.frames refl)
         (turns_fewer placement_rows (is_placement_of v s f) v s f (Some frame) (Some next) t.placements (is_placement (placement_row v s f q))
-        (λ r is. of_frame v s f (placement_row v s f q) r refl refl refl is) (unplace_section v s f frame q))
+        (λ r is. of_frame v s f (placement_row v s f q) r refl refl refl is) (unplace_section v s f frame q count ((fine_at frame there).counted q there_is) (each_counted count frame (fine_at frame there))))
         (turns_not signal_rows (is_signal_of v s f) v s f (Some frame) (Some next) t.signals refl)
 
     -- ---- a signal is added, or dropped
 
-    pub put_signal : (signal : SignalData) → StandsFor (statements.with_signal (signal_row v s f signal) t) c (applied b (Rows s v (OfFrame f (AddSignal signal))))
+    pub put_signal : (signal : SignalData) → HoldsRows (statements.with_signal (signal_row v s f signal) t) count (applied b (Rows s v (OfFrame f (AddSignal signal))))
     unfolding frame_after
     put_signal signal =
         let next : Frame = record frame { signals = with_signal signal frame.signals } in
-        edited (AddSignal signal) (Some frame) (Some frame) next there own refl (rise-with signal frame.signals (by_start_at frame there)) _ _ _
+        edited (AddSignal signal) (Some frame) (Some frame) next there own refl (fine_with count frame (fine_at frame there) signal) _ _ _
         (turns_not one_row (is_frame v s f) v s f (Some frame) (Some next) t.frames refl)
         (turns_not placement_rows (is_placement_of v s f) v s f (Some frame) (Some next) t.placements refl)
         (turns_more signal_rows (is_signal_of v s f) v s f (Some frame) (Some next) t.signals _ (add_section v s f frame signal))
 
-    pub end_signal : (name : Name) → StandsFor (statements.without_signal v s f name t) c (applied b (Rows s v (OfFrame f (DropSignal name))))
+    pub end_signal : (name : Name) → HoldsRows (statements.without_signal v s f name t) count (applied b (Rows s v (OfFrame f (DropSignal name))))
     unfolding frame_after
     end_signal name =
         let next : Frame = record frame { signals = without_signal name frame.signals } in
-        edited (DropSignal name) (Some frame) (Some frame) next there own refl (rise-without name frame.signals (by_start_at frame there)) _ _ _
+        edited (DropSignal name) (Some frame) (Some frame) next there own refl (fine_without count frame (fine_at frame there) name) _ _ _
         (turns_not one_row (is_frame v s f) v s f (Some frame) (Some next) t.frames refl)
         (turns_not placement_rows (is_placement_of v s f) v s f (Some frame) (Some next) t.placements refl)
         (turns_fewer signal_rows (is_signal_of v s f) v s f (Some frame) (Some next) t.signals (is_signal v s f name) (of_signal v s f frame name) (drop_section v s f frame name))
@@ -226,9 +227,9 @@ module _ (t : Tables) (c : Cluster) (b : Book) (h : StandsFor t c b) (v s f : Na
 -- ---- what was changed stands for the book after the edit
 
 pub carried : {X E : Type 0} (change : Tables → Tables) (old new : State) (r : Result X E) (c : Cluster) (next : Book) → MatchResult r (λ _. Changes change old new) (λ _. Stays old new)
-    → StandsFor (change (tables_of old)) c next → OnOk r (Stands new c next)
-carried change old new (Ok x) c next h for = record { has = h.has; for = subst (λ t. StandsFor t c next) (sym h.now) for }
-carried change old new (Err e) c next h for = tt
+    → HasHeads (change (tables_of old)).register (change (tables_of old)).cluster (change (tables_of old)).cluster2 c → HoldsRows (change (tables_of old)) c.params.cycles next → OnOk r (Stands new c next)
+carried change old new (Ok x) c next h heads rows = record { has = h.has; for = subst (λ t. StandsFor t c next) (sym h.now) (record { heads = heads; rows = rows }) }
+carried change old new (Err e) c next h heads rows = tt
 
 -- a frame is dropped by two statements, or by one where the variant is not stored over its parent
 pub ended_over : {X E : Type 0} (v s f : Name) (old mid new : State) (r : Result X E) (c : Cluster) (b : Book) (x : Variant) (frame : Frame) → Stands old c b → IsOpen b v x → get x.frames (s, f) ≡ Some frame
@@ -236,7 +237,7 @@ pub ended_over : {X E : Type 0} (v s f : Name) (old mid new : State) (r : Result
 ended_over v s f old mid new (Err e) c b x frame stands is there h k = tt
 ended_over v s f old mid new (Ok n) c b x frame stands is there h k = record {
   has = k.has;
-  for = subst (λ t. StandsFor t c (applied b (Rows s v (OfFrame f Drop)))) (sym (k.now ∙ ap (with_dropped (dropped_row v s f)) h.now)) (end_over (tables_of old) c b stands.for v s f x is frame there);
+  for = subst (λ t. StandsFor t c (applied b (Rows s v (OfFrame f Drop)))) (sym (k.now ∙ ap (with_dropped (dropped_row v s f)) h.now)) (record { heads = stands.for.heads; rows = end_over (tables_of old) c.params.cycles b stands.for.rows v s f x is frame there });
 }
 
 pub ended_alone : (v s f : Name) (old new : State) (c : Cluster) (b : Book) (x : Variant) (frame : Frame) → Stands old c b → IsOpen b v x → get x.frames (s, f) ≡ Some frame → IsStoredSo v false (tables_of old)
@@ -244,10 +245,15 @@ pub ended_alone : (v s f : Name) (old new : State) (c : Cluster) (b : Book) (x :
 ended_alone v s f old new c b x frame stands is there so h = record {
   has = h.has;
   for = subst (λ t. StandsFor t c (applied b (Rows s v (OfFrame f Drop)))) (sym h.now)
-      (end_alone (tables_of old) c b stands.for v s f x is frame there (stored_so (tables_of old) c b stands.for v false so));
+      (record { heads = stands.for.heads; rows = end_alone (tables_of old) c.params.cycles b stands.for.rows v s f x is frame there (stored_so (tables_of old) c.params.cycles b stands.for.rows v false so) });
 }
 
 -- the frame that a placement's edit finds
 pub place_fits : (there : Option Frame) (q : Placement) → FitsAt there (Place q) → (frame : Frame) × (there ≡ Some frame) × (contains frame.placements q ≡ false)
 place_fits None q h = absurd (true≢false (sym h))
 place_fits (Some frame) q h = (frame, refl, h)
+
+-- and the one that has a placement which ends
+pub unplace_fits : (there : Option Frame) (q : Placement) → FitsAt there (Unplace q) → (frame : Frame) × (there ≡ Some frame) × IsTrue (contains frame.placements q)
+unplace_fits None q h = absurd (true≢false (sym h))
+unplace_fits (Some frame) q h = (frame, refl, h)

@@ -1,13 +1,15 @@
 -- The rows of one frame, as the queries show them.
-use Rattle.std.proofs.Common.{◌≡◌, Bool, true, false, cond, ◌&&◌, Some, List, [], ◌∷◌, ◌++◌, map, filter, flat_map, reverse, refl, sym, ap, ap₂, ◌∙◌, subst, IsPermutation, bytes_eq, unwrap_or, true≢false}
+use Rattle.std.proofs.Common.{◌≡◌, ◌==◌, ℕ, is_some, arith, Bool, true, false, cond, ◌&&◌, Some, List, [], ◌∷◌, ◌++◌, map, filter, flat_map, reverse, refl, sym, ap, ap₂, ◌∙◌, subst, IsPermutation, bytes_eq, unwrap_or, true≢false}
 use Rattle.std.specs.Prelude.{⊤}
 use Rattle.std.specs.Ordering.{is_eq}
 use Rattle.std.specs.Cmp.{tied_itself}
+use Rattle.std.specs.List.{AllByRecursion}
+use Rattle.std.proofs.lemmas.Bool.Decides.{nat_tests}
 use Rattle.std.proofs.lemmas.Bool.{and_parts}
 use Rattle.std.proofs.lemmas.List.Elements.{filter-append}
 use Rattle.std.proofs.lemmas.Slice.Eq.{bytes_eq-Decides}
 use Rattle.sqlite.specs.Order.{Row}
-use Rattle.sqlite_keyed.proofs.ListLemmas.{map-map, filter-map, filter_all, all_of, IsPermutation-filter}
+use Rattle.sqlite_keyed.proofs.ListLemmas.{map-map, filter-map, filter_all, all_weaker, IsPermutation-filter}
 use Rattle.fr_base.specs.Tables.{Table, get, only, from_rows}
 use Rattle.fr_base.specs.Keys.{names, owned, placement_order}
 use Rattle.fr_base.specs.Channels.{channels_of_text, text_of_channels}
@@ -25,11 +27,11 @@ use Rattle.fr_tables.specs.Rows.{PlacementRow}
 use Rattle.fr_tables.specs.Tables.{Tables}
 use Rattle.fr_tables.specs.Changes.{AreListed}
 use Rattle.fr_tables.specs.Statements.{placement_row, is_placement_of, shows_placement, placements_cmp}
-use Rattle.fr_store.specs.StandsFor.{StandsFor, Stored, Entry, of_frames, placement_rows}
+use Rattle.fr_store.specs.StandsFor.{HoldsRows, IsFine, Stored, Entry, of_frames, placement_rows}
 use Rattle.fr_store.specs.Paging.{placement_shown}
 use Rattle.fr_store.proofs.HolderLemmas.{other_name}
 use Rattle.fr_store.proofs.SectionLemmas.{at, only_at}
-use Rattle.fr_store.proofs.TurnLemmas.{from_listed}
+use Rattle.fr_store.proofs.TurnLemmas.{each_found, from_listed}
 
 pub filter_flat_none : {A X : Type 0} (p : X → Bool) (f : A → List X) → ((a : A) → filter p (f a) ≡ []) → (xs : List A) → filter p (flat_map f xs) ≡ []
 filter_flat_none p f none [] = refl
@@ -96,26 +98,37 @@ module _ (v s f : Name) where
   abbrev placed : Placement × ⊤ → PlacementRow
   placed q = placement_row v s f q.0
 
-  placement_again : (q : Placement × ⊤) → (placement_shown (shows_placement (placed q)), tt) ≡ q
-  placement_again q i = (record { slot = q.0.slot; channels = channels_again q.0.channels i; cycles = q.0.cycles }, tt)
+  placement_again : (count : ℕ) (q : Placement × ⊤) → q.0.cycles.count ≡ count → (placement_shown count (shows_placement (placed q)), tt) ≡ q
+  placement_again count q same i = (record { slot = q.0.slot; channels = channels_again q.0.channels i; cycles = record { count = sym same i; base = q.0.cycles.base; repetition = q.0.cycles.repetition } }, tt)
 
-  all_only : (t : Table placement_order ⊤) → only (λ q u. true) t ≡ t
+  -- whether a placement is of so many cycles
+  abbrev has_count : ℕ → Placement × ⊤ → Bool
+  has_count count e = e.0.cycles.count == count
+
+  all_counted : (count : ℕ) (frame : Frame) → IsFine count frame → AllByRecursion (λ e. has_count count e ≡ true) frame.placements.rows
+  unfolding get
+  all_counted count frame fine =
+      all_weaker (λ e. has_count count e ≡ true) (λ e found. grind (arith, nat_tests, fine.counted e.0 (ap is_some found))) frame.placements.rows
+      (each_found placement_order frame.placements.rows frame.placements.sorted)
+
+  all_only : (count : ℕ) (frame : Frame) → IsFine count frame → only (λ q u. has_count count (q, u)) frame.placements ≡ frame.placements
   unfolding only
-  all_only t = same_rows _ t (filter_all (λ e. true) t.rows (all_of (λ e. true ≡ true) (λ e. refl) t.rows))
+  all_only count frame fine = same_rows _ frame.placements (filter_all (has_count count) frame.placements.rows (all_counted count frame fine))
 
-  module _ (t : Tables) (c : Cluster) (b : Book) (stands : StandsFor t c b) (x : Variant) (frame : Frame) (there : get b.variants v ≡ Some x) (own : get (stands.stored v).own (s, f) ≡ Some frame) where
-    same_placements : IsPermutation (map placed (filter (λ e. true) frame.placements.rows)) (filter (is_placement_of v s f) t.placements)
+  module _ (t : Tables) (count : ℕ) (b : Book) (stands : HoldsRows t count b) (x : Variant) (frame : Frame) (there : get b.variants v ≡ Some x) (own : get (stands.stored v).own (s, f) ≡ Some frame)
+      (fine : IsFine count frame) where
+    same_placements : IsPermutation (map placed (filter (has_count count) frame.placements.rows)) (filter (is_placement_of v s f) t.placements)
     same_placements =
         subst (λ xs. IsPermutation xs (filter (is_placement_of v s f) t.placements))
         (of_one placement_rows (is_placement_of v s f) placements_test stands.stored b.variants x frame there own
         ∙ map-map (placement_row v s f) (λ q. q.0) frame.placements.rows
-        ∙ ap (map placed) (sym (filter_all (λ e. true) frame.placements.rows (all_of (λ e. true ≡ true) (λ e. refl) frame.placements.rows))))
+        ∙ ap (map placed) (sym (filter_all (has_count count) frame.placements.rows (all_counted count frame fine))))
         (IsPermutation-filter (is_placement_of v s f) _ _ stands.placements)
 
     pub placements_told : (rows : List Row) (found : List Placement) → AreListed shows_placement (is_placement_of v s f) placements_cmp t.placements rows
-        → set_of placement_order (λ q. q) found ≡ set_of placement_order (λ q. q) (map placement_shown (reverse rows)) → set_of placement_order (λ q. q) found ≡ frame.placements
+        → set_of placement_order (λ q. q) found ≡ set_of placement_order (λ q. q) (map (placement_shown count) (reverse rows)) → set_of placement_order (λ q. q) found ≡ frame.placements
     unfolding set_of
     placements_told rows found listed read =
-        read ∙ ap from_rows (map-map (λ q. (q, tt)) placement_shown (reverse rows))
-        ∙ from_listed placement_order frame.placements (λ q u. true) placed shows_placement (is_placement_of v s f) placements_cmp t.placements (λ r. (placement_shown r, tt)) same_placements (λ q is. placement_again q) rows listed
-        ∙ all_only frame.placements
+        read ∙ ap from_rows (map-map (λ q. (q, tt)) (placement_shown count) (reverse rows))
+        ∙ from_listed placement_order frame.placements (λ q u. has_count count (q, u)) placed shows_placement (is_placement_of v s f) placements_cmp t.placements (λ r. (placement_shown count r, tt)) same_placements (λ q is. placement_again count q (grind (arith, nat_tests, is))) rows listed
+        ∙ all_only count frame fine

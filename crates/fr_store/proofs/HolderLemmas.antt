@@ -24,7 +24,7 @@ use Rattle.fr_tables.specs.Rows.{GrantRow}
 use Rattle.fr_tables.specs.Tables.{Tables}
 use Rattle.fr_tables.specs.Changes.{AreListed}
 use Rattle.fr_tables.specs.Statements.{is_grant_at, shows_holder, any_order}
-use Rattle.fr_store.specs.StandsFor.{StandsFor, grant_rows}
+use Rattle.fr_store.specs.StandsFor.{HoldsRows, grant_rows}
 use Rattle.fr_store.specs.Reading.{holder_shown, as_holder, held_in, holder_in}
 use Rattle.fr_store.specs.declared.slot_holder.Holder.{Holder}
 use Rattle.fr_store.proofs.OrderLemmas.{are_listed}
@@ -111,9 +111,9 @@ module _ (v : Name) (slot : ℕ) (channel : Channel) where
   map_twice None = refl
   map_twice (Some r) = refl
 
-  pub holder_told : (t : Tables) (c : Cluster) (b : Book) → StandsFor t c b → (rows : List Row) (found : Option Holder) → AreListed shows_holder passes any_order t.grants rows
+  pub holder_told : (t : Tables) (count : ℕ) (b : Book) → HoldsRows t count b → (rows : List Row) (found : Option Holder) → AreListed shows_holder passes any_order t.grants rows
       → found ≡ option_map holder_shown (slice_get rows 0) → option_map as_holder found ≡ holder_in b v (slot, channel)
-  holder_told t c b stands rows found listed read =
+  holder_told t count b stands rows found listed read =
       let section : filter passes (flat_map grant_rows b.variants.rows) ≡ shown_row (holder_in b v (slot, channel)) = only_at names grant_rows passes v other_variants b.variants ∙ in_variant (get b.variants v) in
       let is = are_listed shows_holder passes any_order any_order_total (flat_map grant_rows b.variants.rows) t.grants rows stands.grants
       (subst (IsAscending (λ x y. any_order x y ≡ Less)) (sym section) (one_rises (holder_in b v (slot, channel)))) listed in

@@ -13,7 +13,7 @@ use Rattle.fr_tables.specs.Rows.{ImportRow}
 use Rattle.fr_tables.specs.Tables.{Tables}
 use Rattle.fr_tables.specs.Changes.{Changes, Stays, tables_of}
 use Rattle.fr_tables.specs.Statements.{with_import}
-use Rattle.fr_store.specs.StandsFor.{StandsFor, import_row}
+use Rattle.fr_store.specs.StandsFor.{StandsFor, HoldsRows, import_row}
 use Rattle.fr_store.specs.Reading.{Stands}
 use Rattle.fr_store.proofs.EntryLemmas.{added_row}
 
@@ -27,11 +27,9 @@ module _ (s label v : Name) (body : List ℕ) (rows : ℕ) where
   abbrev keeping : Edit
   keeping = KeepImport s label v body rows
 
-  keep_import : (t : Tables) (c : Cluster) (b : Book) → StandsFor t c b → get b.imports (s, label) ≡ None → StandsFor (with_import row t) c (applied b keeping)
+  keep_import : (t : Tables) (count : ℕ) (b : Book) → HoldsRows t count b → get b.imports (s, label) ≡ None → HoldsRows (with_import row t) count (applied b keeping)
   unfolding applied
-  keep_import t c b h new = record {
-    register = h.register;
-    cluster = h.cluster;
+  keep_import t count b h new = record {
     suppliers = h.suppliers;
     nodes = h.nodes;
     imports = added_row owned b.imports (s, label) kept new import_row t.imports h.imports;
@@ -47,5 +45,5 @@ module _ (s label v : Name) (body : List ℕ) (rows : ℕ) where
 
   pub import_kept : {X E : Type 0} (old state : State) (r : Result X E) → MatchResult r (λ _. Changes (with_import row) old state) (λ _. Stays old state) → (c : Cluster) (b : Book) → Stands old c b → get b.imports (s, label) ≡ None
       → OnOk r (Stands state c (applied b keeping))
-  import_kept old state (Ok done) h c b stands new = record { has = h.has; for = subst (λ t. StandsFor t c (applied b keeping)) (sym h.now) (keep_import (tables_of old) c b stands.for new) }
+  import_kept old state (Ok done) h c b stands new = record { has = h.has; for = subst (λ t. StandsFor t c (applied b keeping)) (sym h.now) (record { heads = stands.for.heads; rows = keep_import (tables_of old) c.params.cycles b stands.for.rows new }) }
   import_kept old state (Err e) h c b stands new = tt

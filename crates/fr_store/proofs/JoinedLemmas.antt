@@ -18,7 +18,7 @@ changed-file : (c : Cluster) (b : Book) (v : Name) (change : Variant → Variant
 changed-file c b v change None = refl
 changed-file c b v change (Some x) = refl
 
-follows-one : (c : Cluster) (b : Book) (edit : Edit) → Fits b edit → file_of c (applied b edit) ≡ after_edit (file_of c b) edit
+follows-one : (c : Cluster) (b : Book) (edit : Edit) → Fits c.params b edit → file_of c (applied b edit) ≡ after_edit (file_of c b) edit
 unfolding applied
 follows-one c b (NewVariant v parent depth) fits = refl
 follows-one c b (SetReleased v) fits = changed-file c b v _ (get b.variants v)
@@ -27,7 +27,7 @@ follows-one c b (NewNode s n) fits = refl
 follows-one c b (Rows s v what) fits = changed-file c b v _ (get b.variants v)
 follows-one c b (KeepImport s label v body rows) fits = refl
 
-pub follows : (c : Cluster) (b : Book) (edits : List Edit) → AllFit b edits → file_of c (all_applied b edits) ≡ after_edits (file_of c b) edits
+pub follows : (c : Cluster) (b : Book) (edits : List Edit) → AllFit c.params b edits → file_of c (all_applied b edits) ≡ after_edits (file_of c b) edits
 follows c b [] fit = refl
 follows c b (edit ∷ edits) fit = follows c (applied b edit) edits fit.1 ∙ ap (λ f. after_edits f edits) (follows-one c b edit fit.0)
 

@@ -22,13 +22,13 @@ use Rattle.fr_tables.specs.Rows.{ImportRow}
 use Rattle.fr_tables.specs.Tables.{Tables}
 use Rattle.fr_tables.specs.Changes.{AreListed}
 use Rattle.fr_tables.specs.Statements.{is_import, is_import_of, shows_import, shows_label, labels_cmp, any_order}
-use Rattle.fr_store.specs.StandsFor.{StandsFor, import_row}
+use Rattle.fr_store.specs.StandsFor.{HoldsRows, import_row}
 use Rattle.fr_store.specs.Reading.{import_shown}
 use Rattle.fr_store.proofs.HolderLemmas.{any_order_total}
 use Rattle.fr_store.proofs.OrderLemmas.{are_listed}
 use Rattle.fr_store.proofs.SectionLemmas.{only_row, row_at}
 
-module _ (t : Tables) (c : Cluster) (b : Book) (stands : StandsFor t c b) (s : Name) where
+module _ (t : Tables) (count : ℕ) (b : Book) (stands : HoldsRows t count b) (s : Name) where
   abbrev Entry : Type 0
   Entry = (Name × Name) × book.Kept
 

@@ -42,5 +42,6 @@ pub mod CommitLemmas
 pub mod ChainLemmas
 pub mod ReadyLemmas
 pub mod StandsForWorked
+pub mod CountedLemmas
 pub mod StoredLaws
 pub mod JoinedLemmas

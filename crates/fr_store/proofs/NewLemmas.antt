@@ -16,8 +16,8 @@ use Rattle.fr_store.specs.Reading.{Stands}
 opening_stands : (f : ClusterFile) → IsTrue (is_cluster f.cluster.integrator f.suppliers) → StandsFor (with_config f no_rows) f.cluster (opening f)
 unfolding opening empty get of_frames
 opening_stands f fine = record {
-  register = refl;
-  cluster = refl;
+  heads = record { number = refl; none_before = refl; params = refl };
+  rows = record {
   suppliers = subst (λ (g : ClusterFile). IsPermutation (map supplier_row g.suppliers) (map supplier_row f.suppliers)) (sym (file_of-opening f fine)) (IsPermutation-refl _);
   nodes = IsPermutation-refl [];
   imports = IsPermutation-refl [];
@@ -29,6 +29,7 @@ opening_stands f fine = record {
   signals = IsPermutation-refl [];
   dropped = λ k d low. absurd (omega arith);
   each = λ v x there. absurd cc;
+  };
 }
 
 pub new_stands : (f : ClusterFile) (s : State) → IsTrue (is_cluster f.cluster.integrator f.suppliers) → IsNewOf f s.now → Stands s f.cluster (opening f)

@@ -23,7 +23,7 @@ use Rattle.fr_tables.specs.Rows.{VariantRow, GrantRow, DroppedRow, flag}
 use Rattle.fr_tables.specs.Tables.{Tables}
 use Rattle.fr_tables.specs.Changes.{Changes, Copies, Stays, tables_of}
 use Rattle.fr_tables.specs.Statements.{with_variant, with_grants, grant_for, grants_for, is_dropped}
-use Rattle.fr_store.specs.StandsFor.{StandsFor, Stored, Entry, HasItsParent, IsAsStored, own_or, of_parent, seen, is_hidden, of_frames, variant_row, grant_rows, frame_row, placement_rows, signal_rows}
+use Rattle.fr_store.specs.StandsFor.{StandsFor, HoldsRows, Stored, Entry, HasItsParent, IsAsStored, IsFine, own_or, of_parent, seen, is_hidden, of_frames, variant_row, grant_rows, frame_row, placement_rows, signal_rows}
 use Rattle.fr_store.specs.Reading.{Stands}
 use Rattle.fr_store.proofs.CopiedLemmas.{grants_copied}
 use Rattle.fr_store.proofs.EntryLemmas.{none_there, added_row, added_rows}
@@ -60,9 +60,9 @@ module _ (stored : Name → Stored) (v : Name) (new : Stored) where
 
 -- ---- a new variant without frames of its own
 
-module _ (t : Tables) (c : Cluster) (b : Book) (stands : StandsFor t c b) (v : Name) (y : Variant) (over : Bool) (none : get b.variants v ≡ None) (parent : HasItsParent b.variants y.parent y.depth)
+module _ (t : Tables) (count : ℕ) (b : Book) (stands : HoldsRows t count b) (v : Name) (y : Variant) (over : Bool) (none : get b.variants v ≡ None) (parent : HasItsParent b.variants y.parent y.depth)
     (shows : (k : Name × Name) → get y.frames k ≡ own_or None (is_hidden t.dropped v (bare over) k) (of_parent (insert b.variants v y) y.parent k))
-    (by_start : (k : Name × Name) (f : Frame) → get y.frames k ≡ Some f → IsSorted (on (λ s. s.start) nat_cmp) f.signals) where
+    (fine : (k : Name × Name) (f : Frame) → get y.frames k ≡ Some f → IsFine count f) where
   abbrev next : Table names Variant
   next = insert b.variants v y
 
@@ -75,22 +75,22 @@ module _ (t : Tables) (c : Cluster) (b : Book) (stands : StandsFor t c b) (v : N
   more : Extends b.variants next
   more = extends_new b.variants v y none
 
-  as_new : IsAsStored t.dropped next (bare over) v y
+  as_new : IsAsStored count t.dropped next (bare over) v y
   unfolding seen
   as_new = record {
     parent = parent_still t.dropped b.variants next more y.parent y.depth parent;
     frames = λ k. shows k ∙ ap (λ own. own_or own (is_hidden t.dropped v (bare over) k) (of_parent next y.parent k)) (sym (get-empty owned k));
-    by_start = by_start;
+    fine = fine;
   }
 
   apart : (w : Name) → (w ≡ v → ⊥) → is_eq (names.compare v w) ≡ false
   apart w other = elim (cases_Bool (is_eq (names.compare v w))) [ inl tie ↦ absurd (other (sym (names.exact v w (equal _ tie)))) | inr not ↦ not ]
 
-  each_stored : (w : Name) (z : Variant) → get next w ≡ Some z → IsAsStored t.dropped next (stored w) w z
+  each_stored : (w : Name) (z : Variant) → get next w ≡ Some z → IsAsStored count t.dropped next (stored w) w z
   each_stored w z at = elim (insert-cases b.variants v y w z at) [
-    | inl here ↦ subst (λ (e : Name × Variant). IsAsStored t.dropped next (stored e.0) e.0 e.1) (λ i. (sym here.0 i, here.1 i)) (subst (λ st. IsAsStored t.dropped next st v y) (sym (stored_here stands.stored v (bare over))) as_new)
-    | inr other ↦ subst (λ st. IsAsStored t.dropped next st w z) (sym (stored_there stands.stored v (bare over) w (apart w other.0)))
-        (stored_still t.dropped b.variants next more (stands.stored w) w z z (itself z) (stands.each w z other.1))
+    | inl here ↦ subst (λ (e : Name × Variant). IsAsStored count t.dropped next (stored e.0) e.0 e.1) (λ i. (sym here.0 i, here.1 i)) (subst (λ st. IsAsStored count t.dropped next st v y) (sym (stored_here stands.stored v (bare over))) as_new)
+    | inr other ↦ subst (λ st. IsAsStored count t.dropped next st w z) (sym (stored_there stands.stored v (bare over) w (apart w other.0)))
+        (stored_still t.dropped b.variants next more count (stands.stored w) w z z (itself z) (stands.each w z other.1))
   ]
 
   others : AllByRecursion (λ (e : Name × Variant). is_eq (names.compare v e.0) ≡ false) b.variants.rows
@@ -110,10 +110,8 @@ module _ (t : Tables) (c : Cluster) (b : Book) (stands : StandsFor t c b) (v : N
       subst (λ ys. IsPermutation (flat_map (of_variant stands.stored v (bare over) rows stored) next.rows) ys) (append-nil xs)
       (added_rows names b.variants v y none (of_variant stands.stored v (bare over) rows stored) xs [] before here)
 
-  new_stands : (gs : List GrantRow) → IsPermutation (grant_rows (v, y)) gs → StandsFor (with_grants gs (with_variant row t)) c (record b { variants = next })
+  new_stands : (gs : List GrantRow) → IsPermutation (grant_rows (v, y)) gs → HoldsRows (with_grants gs (with_variant row t)) count (record b { variants = next })
   new_stands gs grants = record {
-    register = stands.register;
-    cluster = stands.cluster;
     suppliers = stands.suppliers;
     nodes = stands.nodes;
     imports = stands.imports;
@@ -136,9 +134,9 @@ module _ (v : Name) (depth : ℕ) where
   abbrev pub opened_row : VariantRow
   opened_row = record { name = v; parent = None; depth = pos depth; released = pos 0; overlay = pos 0 }
 
-  no_frames : (k : Name × Name) (f : Frame) → get opened.frames k ≡ Some f → IsSorted (on (λ s. s.start) nat_cmp) f.signals
+  no_frames : (count : ℕ) (k : Name × Name) (f : Frame) → get opened.frames k ≡ Some f → IsFine count f
   unfolding empty_variant
-  no_frames k f at = let no : None ≡ Some f = sym (get-empty owned k) ∙ at in absurd cc
+  no_frames count k f at = let no : None ≡ Some f = sym (get-empty owned k) ∙ at in absurd cc
 
   none_shown : (t : Tables) (variants : Table names Variant) (k : Name × Name) → get opened.frames k ≡ own_or None (is_hidden t.dropped v (bare false) k) (of_parent variants None k)
   unfolding empty_variant
@@ -147,15 +145,15 @@ module _ (v : Name) (depth : ℕ) where
   no_rows_more : (t : Tables) → with_grants [] t ≡ t
   no_rows_more t i = record t { grants = append-nil t.grants i }
 
-  opened_empty : (t : Tables) (c : Cluster) (b : Book) → StandsFor t c b → get b.variants v ≡ None → StandsFor (with_variant opened_row t) c (applied b (NewVariant v None depth))
+  opened_empty : (t : Tables) (count : ℕ) (b : Book) → HoldsRows t count b → get b.variants v ≡ None → HoldsRows (with_variant opened_row t) count (applied b (NewVariant v None depth))
   unfolding applied empty_variant empty
-  opened_empty t c b stands none =
-      subst (λ u. StandsFor u c (applied b (NewVariant v None depth))) (no_rows_more (with_variant opened_row t))
-      (new_stands t c b stands v opened false none tt (none_shown t (insert b.variants v opened)) no_frames [] (IsPermutation-refl []))
+  opened_empty t count b stands none =
+      subst (λ u. HoldsRows u count (applied b (NewVariant v None depth))) (no_rows_more (with_variant opened_row t))
+      (new_stands t count b stands v opened false none tt (none_shown t (insert b.variants v opened)) (no_frames count) [] (IsPermutation-refl []))
 
   pub empty_opened : {X E : Type 0} (old state : State) (r : Result X E) → MatchResult r (λ _. Changes (with_variant opened_row) old state) (λ _. Stays old state) → (c : Cluster) (b : Book) → Stands old c b → get b.variants v ≡ None
       → OnOk r (Stands state c (applied b (NewVariant v None depth)))
-  empty_opened old state (Ok done) h c b stands none = record { has = h.has; for = subst (λ t. StandsFor t c (applied b (NewVariant v None depth))) (sym h.now) (opened_empty (tables_of old) c b stands.for none) }
+  empty_opened old state (Ok done) h c b stands none = record { has = h.has; for = subst (λ t. StandsFor t c (applied b (NewVariant v None depth))) (sym h.now) (record { heads = stands.for.heads; rows = opened_empty (tables_of old) c.params.cycles b stands.for.rows none }) }
   empty_opened old state (Err e) h c b stands none = tt
 
 -- ---- opened over a parent, with copies of its grants
@@ -184,22 +182,22 @@ module _ (v p : Name) (depth : ℕ) where
   parent_in variants x there k = rw there refl
 
   -- it shows its parent's frames
-  its_parents : (t : Tables) (c : Cluster) (b : Book) → StandsFor t c b → get b.variants v ≡ None → (x : Variant) → get b.variants p ≡ Some x → (k : Name × Name)
+  its_parents : (t : Tables) (count : ℕ) (b : Book) → HoldsRows t count b → get b.variants v ≡ None → (x : Variant) → get b.variants p ≡ Some x → (k : Name × Name)
       → get x.frames k ≡ own_or None (is_hidden t.dropped v (bare true) k) (of_parent (insert b.variants v (child x)) (Some p) k)
-  its_parents t c b stands none x at k =
+  its_parents t count b stands none x at k =
       let still = extends_new b.variants v (child x) none p x at in
       ap (λ frames. get frames k) (sym still.2.frames) ∙ sym (parent_in (insert b.variants v (child x)) still.0 still.1 k)
       ∙ ap (λ is. own_or None is (of_parent (insert b.variants v (child x)) (Some p) k)) (sym (none_dropped t b stands.dropped v none k))
 
-  opened_from : (t : Tables) (c : Cluster) (b : Book) → StandsFor t c b → get b.variants v ≡ None → IsOpenedFrom b.variants (Some p) depth → (gs : List GrantRow) → IsPermutation (grants_for p v t) gs
-      → StandsFor (with_grants gs (with_variant child_row t)) c (applied b (NewVariant v (Some p) depth))
+  opened_from : (t : Tables) (count : ℕ) (b : Book) → HoldsRows t count b → get b.variants v ≡ None → IsOpenedFrom b.variants (Some p) depth → (gs : List GrantRow) → IsPermutation (grants_for p v t) gs
+      → HoldsRows (with_grants gs (with_variant child_row t)) count (applied b (NewVariant v (Some p) depth))
   unfolding applied
-  opened_from t c b stands none from gs grants =
+  opened_from t count b stands none from gs grants =
       let x = from.0 in
       let at = from.1 in
-      let made : StandsFor (with_grants gs (with_variant child_row t)) c (record b { variants = insert b.variants v (child x) }) =
-      new_stands t c b stands v (child x) true none from (its_parents t c b stands none x at) (stands.each p x at).by_start gs
-      (subst (λ rs. IsPermutation rs gs) (turned_grants x) (grants_copied t c b stands p v x at gs grants)) in
+      let made : HoldsRows (with_grants gs (with_variant child_row t)) count (record b { variants = insert b.variants v (child x) }) =
+      new_stands t count b stands v (child x) true none from (its_parents t count b stands none x at) (stands.each p x at).fine gs
+      (subst (λ rs. IsPermutation rs gs) (turned_grants x) (grants_copied t count b stands p v x at gs grants)) in
       rw at made
 
   pub opened_with : {X E : Type 0} (old mid state : State) (r : Result X E) → Changes (with_variant child_row) old mid → MatchResult r (λ _. Copies (grants_for p v) with_grants mid state) (λ _. Stays mid state)
@@ -208,5 +206,5 @@ module _ (v p : Name) (depth : ℕ) where
   opened_with old mid state (Ok done) h copies c b stands none from = record {
     has = copies.added.has;
     for = subst (λ t. StandsFor t c (applied b (NewVariant v (Some p) depth))) (sym (copies.added.now ∙ ap (with_grants copies.copies) h.now))
-        (opened_from (tables_of old) c b stands.for none from copies.copies (subst (λ t. IsPermutation (grants_for p v t) copies.copies) h.now copies.same));
+        (record { heads = stands.for.heads; rows = opened_from (tables_of old) c.params.cycles b stands.for.rows none from copies.copies (subst (λ t. IsPermutation (grants_for p v t) copies.copies) h.now copies.same) });
   }

@@ -7,10 +7,10 @@ use Rattle.sqlite.specs.Effect.{Database}
 use Rattle.sqlite.proofs.Callers.{one_permutation}
 use Rattle.fr_base.specs.Cluster.{ClusterFile}
 use Rattle.fr_base.specs.declared.config.Supplier.{Supplier}
-use Rattle.fr_tables.specs.Rows.{ClusterRow, SupplierRow}
+use Rattle.fr_tables.specs.Rows.{Cluster2Row, SupplierRow}
 use Rattle.fr_tables.specs.Tables.{HasTables, tables_in}
 use Rattle.fr_tables.specs.Changes.{AreListed}
-use Rattle.fr_tables.specs.Statements.{cluster_row, shows_cluster, shows_supplier, shows_variant, every, any_order, suppliers_cmp, variants_cmp}
+use Rattle.fr_tables.specs.Statements.{cluster2_row, shows_cluster2, shows_supplier, shows_variant, every, any_order, suppliers_cmp, variants_cmp}
 use Rattle.fr_tables.specs.Filling.{supplier_row}
 use Rattle.fr_store.specs.Reading.{AreOpened, TellsOpened, variant_shown}
 use Rattle.fr_world.specs.declared.variants.VariantRow.{VariantRow}
@@ -22,7 +22,7 @@ all_pass : {X : Type 0} (xs : List X) → filter every xs ≡ xs
 all_pass [] = refl
 all_pass (x ∷ xs) = ap (λ ys. x ∷ ys) (all_pass xs)
 
-only_one : (found : List ClusterRow) (r : ClusterRow) → shows_cluster r ∷ [] ≡ map shows_cluster found → found ≡ r ∷ []
+only_one : (found : List Cluster2Row) (r : Cluster2Row) → shows_cluster2 r ∷ [] ≡ map shows_cluster2 found → found ≡ r ∷ []
 only_one [] r is = absurd cc
 only_one (x ∷ []) r is =
     let e0 : x.static_slots ≡ r.static_slots = cc in
@@ -34,16 +34,17 @@ only_one (x ∷ []) r is =
     let e6 : x.payload_words ≡ r.payload_words = cc in
     let e7 : x.channels ≡ r.channels = cc in
     let e8 : x.integrator ≡ r.integrator = cc in
-    λ i. record { static_slots = e0 i; slot_macroticks = e1 i; dynamic_macroticks = e2 i; symbol_macroticks = e3 i; idle_macroticks = e4 i; macroticks_per_cycle = e5 i; payload_words = e6 i; channels = e7 i; integrator = e8 i } ∷ []
+    let e9 : x.cycles ≡ r.cycles = cc in
+    λ i. record { static_slots = e0 i; slot_macroticks = e1 i; dynamic_macroticks = e2 i; symbol_macroticks = e3 i; idle_macroticks = e4 i; macroticks_per_cycle = e5 i; payload_words = e6 i; channels = e7 i; integrator = e8 i; cycles = e9 i } ∷ []
 only_one (x ∷ y ∷ found) r is = absurd cc
 
 -- the row that is read is the one row of the cluster
-pub one_cluster : (xs : List ClusterRow) (rows : List Row) (found : Option ClusterFile) → AreListed shows_cluster every any_order xs rows → IfSome found (λ c. rows ≡ shows_cluster (cluster_row c.cluster.params c.cluster.integrator) ∷ [])
-    → IfSome found (λ c. xs ≡ cluster_row c.cluster.params c.cluster.integrator ∷ [])
+pub one_cluster : (xs : List Cluster2Row) (rows : List Row) (found : Option ClusterFile) → AreListed shows_cluster2 every any_order xs rows → IfSome found (λ c. rows ≡ shows_cluster2 (cluster2_row c.cluster.params c.cluster.integrator) ∷ [])
+    → IfSome found (λ c. xs ≡ cluster2_row c.cluster.params c.cluster.integrator ∷ [])
 one_cluster xs rows None listed is = tt
 one_cluster xs rows (Some c) listed is =
-    let one = only_one listed.found (cluster_row c.cluster.params c.cluster.integrator) (sym is ∙ listed.shown) in
-    one_permutation (cluster_row c.cluster.params c.cluster.integrator) xs (IsPermutation-sym _ _ (rw (all_pass xs, one) at listed.same))
+    let one = only_one listed.found (cluster2_row c.cluster.params c.cluster.integrator) (sym is ∙ listed.shown) in
+    one_permutation (cluster2_row c.cluster.params c.cluster.integrator) xs (IsPermutation-sym _ _ (rw (all_pass xs, one) at listed.same))
 
 same_suppliers : (found : List SupplierRow) (list : List Supplier) → map shown_supplier list ≡ map shows_supplier found → found ≡ map supplier_row list
 same_suppliers [] [] is = refl
@@ -75,13 +76,13 @@ variants_found old new rows items (Some f) same has listed shown opened is =
 
 -- what was read in turn of tables that stayed
 pub register_found : (c : ClusterFile) (old mid new : Database) (n : ℤ) → mid ≡ old → new ≡ mid → n ≡ our_schema_number → HasTables new → (HasTables old → HasNumber old n)
-    → (HasTables mid → (tables_in mid.trees).cluster ≡ cluster_row c.cluster.params c.cluster.integrator ∷ []) → (HasTables mid → IsPermutation (map supplier_row c.suppliers) (tables_in mid.trees).suppliers) → IsRegisterOf c new
+    → (HasTables mid → (tables_in mid.trees).cluster2 ≡ cluster2_row c.cluster.params c.cluster.integrator ∷ []) → (HasTables mid → IsPermutation (map supplier_row c.suppliers) (tables_in mid.trees).suppliers) → IsRegisterOf c new
 register_found c old mid new n first second ours has number cluster suppliers =
     subst (IsRegisterOf c) (sym second) (record {
       has = has_mid;
       tells = record {
         register = its_number.number;
-        cluster = cluster has_mid;
+        cluster2 = cluster has_mid;
         suppliers = suppliers has_mid;
       };
     })

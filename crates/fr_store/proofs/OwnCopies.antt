@@ -21,7 +21,7 @@ use Rattle.fr_tables.specs.Changes.{tables_of}
 use Rattle.fr_store.specs.Reading.{Stands}
 use Rattle.fr_tables.specs.Rows.{FrameRow, PlacementRow, SignalRow}
 use Rattle.fr_tables.specs.Statements.{is_frame, is_placement_of, is_signal_of, frame_for, placement_for, signal_for, placement_row, signal_row, frame_copies, placement_copies, signal_copies}
-use Rattle.fr_store.specs.StandsFor.{StandsFor, Entry, of_frames, placement_rows, signal_rows, own_or, is_hidden, of_parent, seen}
+use Rattle.fr_store.specs.StandsFor.{StandsFor, HoldsRows, Entry, of_frames, placement_rows, signal_rows, own_or, is_hidden, of_parent, seen}
 use Rattle.fr_tables.specs.Tables.{Tables, tables_in}
 use Rattle.fr_store.proofs.AgainLemmas.{still_stands}
 use Rattle.fr_store.proofs.ApartLemmas.{get-settle, get-settle_other, remove-settle}
@@ -40,19 +40,19 @@ same_variants variants v x there = same_table (insert variants v x) variants (λ
     by_test q true tie = sym (ap (get variants) (names.exact q v (equal _ tie)) ∙ there)
     by_test q false apart = refl
 
-module _ (t : Tables) (c : Cluster) (b : Book) (stands : StandsFor t c b) (s f : Name) (frame : Frame) where
+module _ (t : Tables) (count : ℕ) (b : Book) (stands : HoldsRows t count b) (s f : Name) (frame : Frame) where
   abbrev entry : Entry
   entry = ((s, f), frame)
 
   module _ (v : Name) (x : Variant) (is : IsOpen b v x) (shown : get x.frames (s, f) ≡ Some frame) (not_own : is_own v s f t ≡ false) where
     own_none : get (stands.stored v).own (s, f) ≡ None
-    own_none = none_there _ (sym (own_is v s f t c b stands x is.there) ∙ not_own)
+    own_none = none_there _ (sym (own_is v s f t count b stands x is.there) ∙ not_own)
 
     -- with the frame among its own the variant shows the same
     abbrev with_own : Table owned Frame
     with_own = settle (stands.stored v).own (s, f) (Becomes frame)
 
-    shows_same : Shows t c b stands v s f x is with_own x.frames t.dropped
+    shows_same : Shows t count b stands v s f x is with_own x.frames t.dropped
     unfolding seen
     shows_same k = by_test (eq_by_cmp owned.compare (s, f) k) refl
       where
@@ -82,11 +82,11 @@ module _ (t : Tables) (c : Cluster) (b : Book) (stands : StandsFor t c b) (s f :
       had_none rows = ap (section rows v s f) own_none
 
       pub copied_stands : (fs : List FrameRow) (ps : List PlacementRow) (ss : List SignalRow) → IsPermutation (frame_copies w v s f t) fs → IsPermutation (placement_copies w v s f t) ps
-          → IsPermutation (signal_copies w v s f t) ss → StandsFor (with_frame_rows fs ps ss t) c b
+          → IsPermutation (signal_copies w v s f t) ss → HoldsRows (with_frame_rows fs ps ss t) count b
       copied_stands fs ps ss frames placements signals =
-          subst (StandsFor (with_frame_rows fs ps ss t) c) (ap (λ variants. record b { variants = variants }) (same_variants b.variants v x is.there))
-          (frame_changed t c b stands v s f x is with_own x.frames t.dropped (remove-settle owned (stands.stored v).own (s, f) (Becomes frame)) (as_dropped t c b stands v s f) shows_same
-          (stands.each v x is.there).by_start _ _ _
+          subst (HoldsRows (with_frame_rows fs ps ss t) count) (ap (λ variants. record b { variants = variants }) (same_variants b.variants v x is.there))
+          (frame_changed t count b stands v s f x is with_own x.frames t.dropped (remove-settle owned (stands.stored v).own (s, f) (Becomes frame)) (as_dropped t count b stands v s f) shows_same
+          (stands.each v x is.there).fine _ _ _
           (turns_new one_row (is_frame v s f) v s f _ _ t.frames fs (had_none one_row)
           (copies_are one_row (is_frame w s f) (λ u e. refl) (frame_for v) refl t.frames fs stands.frames frames))
           (turns_new placement_rows (is_placement_of v s f) v s f _ _ t.placements ps (had_none placement_rows)
@@ -118,9 +118,9 @@ module _ (w v s f : Name) where
       let owner = found.of c b stands x frame is.there shown in
       let same : tables_of mid ≡ tables_of old = ap (λ (d : Database). tables_in d.trees) found.now in
       let not_own : is_own v s f (tables_of old) ≡ false = false_from_ne_true _ (λ own. other (owner.nearest own)) in
-      let its_own : get (stands.for.stored w).own (s, f) ≡ Some frame = own_as_shown w s f (tables_of old) c b stands.for owner.variant owner.there frame owner.shown owner.own in
-      let for_old : StandsFor (with_frame_rows copies.frames copies.placements copies.signals (tables_of old)) c b =
-      copied_stands (tables_of old) c b stands.for s f frame v x is shown not_own w owner.variant owner.there its_own copies.frames copies.placements copies.signals
+      let its_own : get (stands.for.rows.stored w).own (s, f) ≡ Some frame = own_as_shown w s f (tables_of old) c.params.cycles b stands.for.rows owner.variant owner.there frame owner.shown owner.own in
+      let rows : HoldsRows (with_frame_rows copies.frames copies.placements copies.signals (tables_of old)) c.params.cycles b =
+      copied_stands (tables_of old) c.params.cycles b stands.for.rows s f frame v x is shown not_own w owner.variant owner.there its_own copies.frames copies.placements copies.signals
       (subst (λ t. IsPermutation (frame_copies w v s f t) copies.frames) same copies.same_frames)
       (subst (λ t. IsPermutation (placement_copies w v s f t) copies.placements) same copies.same_placements)
       (subst (λ t. IsPermutation (signal_copies w v s f t) copies.signals) same copies.same_signals) in
@@ -129,7 +129,7 @@ module _ (w v s f : Name) where
       let among : list_any (is_frame v s f) copies.frames ≡ true =
       sym (list_any-IsPermutation (is_frame v s f) _ _ (subst (λ t. IsPermutation (frame_copies w v s f t) copies.frames) same copies.same_frames))
       ∙ any_copied (tables_of old).frames ∙ owner.own in (
-        record { has = copies.added.has; for = subst (λ t. StandsFor t c b) (sym now) for_old },
+        record { has = copies.added.has; for = subst (λ t. StandsFor t c b) (sym now) (record { heads = stands.for.heads; rows = rows }) },
         ap (is_own v s f) now ∙ list_any-append (is_frame v s f) (tables_of old).frames copies.frames ∙ ap (λ is. list_any (is_frame v s f) (tables_of old).frames || is) among ∙ or_true _,
       )
 

@@ -27,7 +27,7 @@ use Rattle.fr_tables.specs.Rows.{FrameRow}
 use Rattle.fr_tables.specs.Tables.{Tables}
 use Rattle.fr_tables.specs.Changes.{AreListed}
 use Rattle.fr_tables.specs.Statements.{is_frame_of, shows_frame, frames_cmp}
-use Rattle.fr_store.specs.StandsFor.{StandsFor, Entry, of_frames, frame_row}
+use Rattle.fr_store.specs.StandsFor.{HoldsRows, Entry, of_frames, frame_row}
 use Rattle.fr_store.specs.Reading.{name_shown}
 use Rattle.fr_store.specs.Paging.{TellsFrame, TellsFrames, node_shown}
 use Rattle.fr_store.proofs.HolderLemmas.{other_name}
@@ -84,7 +84,7 @@ module _ (all : Table owned Frame) (s : Name) where
 
 -- ---- the rows of a query
 
-module _ (v s : Name) (t : Tables) (c : Cluster) (b : Book) (stands : StandsFor t c b) (x : Variant) (there : get b.variants v ≡ Some x) where
+module _ (v s : Name) (t : Tables) (count : ℕ) (b : Book) (stands : HoldsRows t count b) (x : Variant) (there : get b.variants v ≡ Some x) where
   abbrev stored : Table owned Frame
   stored = (stands.stored v).own
 
@@ -139,35 +139,35 @@ unfolding from_rows
 one_in s old new xs n f ordered is h =
     ap (table_of owned (λ n. (s, n)) frame_in) is ∙ table_of-insert_entry name_cmp owned (λ n. (s, n)) frame_in (own_alike s) old n f ordered ∙ ap (λ t. insert t (s, n) (frame_in f)) h
 
-module _ (t : Tables) (v s : Name) where
+module _ (p : Params) (t : Tables) (v s : Name) where
   -- the frames are those of which the rows tell
   abbrev pub AreLoaded : List Row → List (Name × PageFrame) → Type 0
   AreLoaded rows frames =
-      (c : Cluster) (b : Book) (stands : StandsFor t c b) (x : Variant) → get b.variants v ≡ Some x
+      (b : Book) (stands : HoldsRows t p.cycles b) (x : Variant) → get b.variants v ≡ Some x
       → table_of owned (λ n. (s, n)) frame_in frames ≡ from_rows (map (entry_shown (stands.stored v).own s) (reverse rows))
 
   pub none_yet : (rows : List Row) (frames : List (Name × PageFrame)) → rows ≡ [] → frames ≡ [] → AreLoaded rows frames
   unfolding table_of
-  none_yet rows frames none empty c b stands x there =
+  none_yet rows frames none empty b stands x there =
       ap (table_of owned (λ n. (s, n)) frame_in) empty ∙ ap (λ rs. from_rows (map (entry_shown (stands.stored v).own s) (reverse rs))) (sym none)
 
   module _ (rows : List Row) (listed : AreListed shows_frame (is_frame_of v s) frames_cmp t.frames rows) where
     -- one row more
-    pub one_more : (p : Params) (at : ℕ) (row : Row) (n node : Name) (f : PageFrame) (old new : List (Name × PageFrame))
+    pub one_more : (at : ℕ) (row : Row) (n node : Name) (f : PageFrame) (old new : List (Name × PageFrame))
         → at < length rows → get_or rows at row ≡ row → n ≡ name_shown row → node ≡ node_shown row
         → TellsFrame p v s n node t (frame_data f) → IsStrictlySortedBy name_cmp (keys_of old) → new ≡ insert_entry name_cmp old n f → AreLoaded (take at rows) old → AreLoaded (take (at + 1) rows) new
-    one_more p at row n node f old new low is name its_node tells ordered put so_far c b stands x there =
+    one_more at row n node f old new low is name its_node tells ordered put so_far b stands x there =
         let stored : Table owned Frame = (stands.stored v).own in
-        let here : IsOfFrame stored s row = subst (IsOfFrame stored s) is (frames_listed v s t c b stands x there rows listed at row low) in
+        let here : IsOfFrame stored s row = subst (IsOfFrame stored s) is (frames_listed v s t p.cycles b stands x there rows listed at row low) in
         let stands_here : get stored (s, n) ≡ Some here.0 = ap (λ m. get stored (s, m)) name ∙ here.1 in
-        let told : frame_in f ≡ here.0 = (tells c b stands x here.0 there stands_here (here.2 ∙ sym its_node)).0 in
+        let told : frame_in f ≡ here.0 = (tells b stands x here.0 there stands_here (here.2 ∙ sym its_node)).0 in
         let entry : entry_shown stored s row ≡ ((s, n), frame_in f) =
         ap (λ m. ((s, m), found (get stored (s, m)))) (sym name) ∙ ap (λ o. ((s, n), found o)) stands_here ∙ ap (λ g. ((s, n), g)) (sym told) in
-        one_in s old new (map (entry_shown stored s) (reverse (take at rows))) n f ordered put (so_far c b stands x there)
+        one_in s old new (map (entry_shown stored s) (reverse (take at rows))) n f ordered put (so_far b stands x there)
         ∙ ap from_rows (ap (λ e. e ∷ map (entry_shown stored s) (reverse (take at rows))) (sym entry) ∙ sym (ap (map (entry_shown stored s)) (turned rows at row low is)))
 
     -- all rows
-    pub frames_told : (frames : List (Name × PageFrame)) → AreLoaded rows frames → TellsFrames v s t (frames_data frames)
+    pub frames_told : (frames : List (Name × PageFrame)) → AreLoaded rows frames → TellsFrames p.cycles v s t (frames_data frames)
     unfolding table_of
-    frames_told frames loaded c b stands x there =
-        ap from_rows (map-map (λ e. ((s, e.0), frame_of e.1)) (λ e. (e.0, frame_data e.1)) frames) ∙ loaded c b stands x there ∙ all_listed v s t c b stands x there rows listed
+    frames_told frames loaded b stands x there =
+        ap from_rows (map-map (λ e. ((s, e.0), frame_of e.1)) (λ e. (e.0, frame_data e.1)) frames) ∙ loaded b stands x there ∙ all_listed v s t p.cycles b stands x there rows listed

@@ -22,14 +22,14 @@ use Rattle.fr_tables.specs.Rows.{GrantRow, words, number}
 use Rattle.fr_tables.specs.Tables.{Tables}
 use Rattle.fr_tables.specs.Changes.{AreListed}
 use Rattle.fr_tables.specs.Statements.{is_node_of, shows_node, nodes_cmp, is_grant_of, shows_grant, any_order}
-use Rattle.fr_store.specs.StandsFor.{StandsFor, node_row, grant_rows}
+use Rattle.fr_store.specs.StandsFor.{HoldsRows, node_row, grant_rows}
 use Rattle.fr_store.specs.Reading.{name_shown}
 use Rattle.fr_store.specs.Paging.{grant_shown}
 use Rattle.fr_store.proofs.HolderLemmas.{other_name}
 use Rattle.fr_store.proofs.SectionLemmas.{at, only_at}
 use Rattle.fr_store.proofs.TurnLemmas.{from_listed}
 
-module _ (t : Tables) (c : Cluster) (b : Book) (stands : StandsFor t c b) (s : Name) where
+module _ (t : Tables) (count : ℕ) (b : Book) (stands : HoldsRows t count b) (s : Name) where
   -- ---- nodes
 
   abbrev node_back : Row → (Name × Name) × ⊤

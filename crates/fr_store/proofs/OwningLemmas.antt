@@ -20,7 +20,7 @@ use Rattle.fr_tables.specs.Rows.{VariantRow, FrameRow, of_maybe, maybe_words, fl
 use Rattle.fr_tables.specs.Tables.{Tables}
 use Rattle.fr_tables.specs.Changes.{AreListed}
 use Rattle.fr_tables.specs.Statements.{is_variant, is_frame, shows_variant, shows_frame, any_order}
-use Rattle.fr_store.specs.StandsFor.{StandsFor, Stored, variant_row, own_or, of_parent, is_hidden, seen}
+use Rattle.fr_store.specs.StandsFor.{HoldsRows, Stored, variant_row, own_or, of_parent, is_hidden, seen}
 use Rattle.fr_store.specs.Owning.{says_over, IsStoredSo, TellsLevel, is_own}
 use Rattle.fr_store.specs.declared.applying.level.Level.{Level}
 use Rattle.fr_store.proofs.FrameChanges.{one_row, frame_apart}
@@ -80,9 +80,9 @@ module _ (v : Name) (t : Tables) (level : Level) (line : Row) (rest : List Row) 
   first_of [] is = absurd cc
   first_of (r ∷ more) is = (r, more, refl, cc)
 
-  its_parent : (found : List VariantRow) → IsPermutation (filter (is_variant v) t.variants) found → (c : Cluster) (b : Book) (stands : StandsFor t c b) (x : Variant) → get b.variants v ≡ Some x
+  its_parent : (found : List VariantRow) → IsPermutation (filter (is_variant v) t.variants) found → (count : ℕ) (b : Book) (stands : HoldsRows t count b) (x : Variant) → get b.variants v ≡ Some x
       → (r : VariantRow) (more : List VariantRow) → found ≡ r ∷ more → x.parent ≡ r.parent
-  its_parent found same c b stands x there r more is =
+  its_parent found same count b stands x there r more is =
       let row_of = variant_row stands.stored in
       let only : filter (is_variant v) (map row_of b.variants.rows) ≡ row_of (v, x) ∷ [] =
       filter-map (is_variant v) row_of b.variants.rows
@@ -100,7 +100,7 @@ module _ (v : Name) (t : Tables) (level : Level) (line : Row) (rest : List Row) 
         overlay =
             sym (any_among (is_variant v) ours t.variants) ∙ list_any-IsPermutation ours _ _ listed.same ∙ ap (list_any ours) first.2
             ∙ ap (λ n. int_eq n (flag level.overlay) || list_any ours first.1) (row_over r first.3) ∙ ap (λ b. b || list_any ours first.1) (flag_itself level.overlay);
-        parent = λ c b stands x there. its_parent listed.found listed.same c b stands x there r first.1 first.2 ∙ row_parent r first.3;
+        parent = λ count b stands x there. its_parent listed.found listed.same count b stands x there r first.1 first.2 ∙ row_parent r first.3;
       }
 
 pub level_told : (v : Name) (t : Tables) (rows : List Row) (line : Row) (level : Level) → slice_get rows 0 ≡ Some line → AreListed shows_variant (is_variant v) any_order t.variants rows
@@ -123,8 +123,8 @@ module _ (v : Name) (over : Bool) (stored : Name → Stored) where
           let here = and_parts _ _ is in
           subst (λ w. (stored w).overlay ≡ over) (same_text-is e.0 v here.0) (same_flag (stored e.0).overlay over here.1)
 
-pub stored_so : (t : Tables) (c : Cluster) (b : Book) (stands : StandsFor t c b) (v : Name) (over : Bool) → IsStoredSo v over t → (stands.stored v).overlay ≡ over
-stored_so t c b stands v over so = any_stored v over stands.stored b.variants.rows (list_any-IsPermutation (says_over v over) _ _ stands.variants ∙ so)
+pub stored_so : (t : Tables) (count : ℕ) (b : Book) (stands : HoldsRows t count b) (v : Name) (over : Bool) → IsStoredSo v over t → (stands.stored v).overlay ≡ over
+stored_so t count b stands v over so = any_stored v over stands.stored b.variants.rows (list_any-IsPermutation (says_over v over) _ _ stands.variants ∙ so)
 
 -- ---- whether a frame is the variant's own
 
@@ -143,7 +143,7 @@ module _ (v s f : Name) (t : Tables) where
   in_parent variants p g None is h = let no : None ≡ Some g = sym (rw is refl) ∙ h in absurd cc
   in_parent variants p g (Some y) is h = (y, is, sym (rw is refl) ∙ h)
 
-  module _ (c : Cluster) (b : Book) (stands : StandsFor t c b) (x : Variant) (there : get b.variants v ≡ Some x) where
+  module _ (count : ℕ) (b : Book) (stands : HoldsRows t count b) (x : Variant) (there : get b.variants v ≡ Some x) where
     abbrev own : Option Frame
     own = get (stands.stored v).own (s, f)
 

@@ -5,7 +5,6 @@ use Rattle.std.specs.List.Sorted.{IsStrictlySortedBy}
 use Rattle.std.proofs.lemmas.List.Elements.{recursion_from_All}
 use Rattle.sqlite_keyed.proofs.ListLemmas.{map-map}
 use Rattle.fr_base.specs.Keys.{names, owned, channel_slots, placement_order}
-use Rattle.fr_base.specs.Cluster.{Cluster}
 use Rattle.fr_base.specs.Book.{Book, Variant, Frame, Holder}
 use Rattle.fr_base.specs.Queries.{placements_in}
 use Rattle.fr_base.specs.Step.{own_rows, layout_of}
@@ -19,7 +18,7 @@ use Rattle.fr_world.specs.declared.page.ChannelSlot.{ChannelSlot}
 use Rattle.fr_world.proofs.KeyLaws.{own_alike}
 use Rattle.fr_world.proofs.MapLaws.{rows-set_of, rows-table_of}
 use Rattle.fr_tables.specs.Tables.{Tables}
-use Rattle.fr_store.specs.StandsFor.{StandsFor}
+use Rattle.fr_store.specs.StandsFor.{HoldsRows}
 use Rattle.fr_store.specs.Paging.{AreRowsIn, TellsNodes, TellsGrants, TellsRows, TellsView, page_of}
 use Rattle.fr_store.specs.declared.page.view.View.{View}
 
@@ -107,10 +106,10 @@ module _ (p : Params) (s v : Name) (t : Tables) (view : View) (nodes : List Name
   rows_read = record { params = p; supplier = s; variant = v; released = view.released; nodes = nodes; grants = grants; frames = frames_data view.frames.entries }
 
   -- are the supplier's rows
-  pub rows_told : TellsView v s t (Some view) → TellsNodes s t nodes → TellsGrants v s t grants → TellsRows p s v t (Some rows_read)
+  pub rows_told : TellsView p.cycles v s t (Some view) → TellsNodes s t nodes → TellsGrants v s t grants → TellsRows p s v t (Some rows_read)
   unfolding own_rows
-  rows_told is its_nodes its_grants c b stands =
-      let here = is c b stands in (
+  rows_told is its_nodes its_grants b stands =
+      let here = is b stands in (
         here.0,
         here.1,
         record {
@@ -121,8 +120,8 @@ module _ (p : Params) (s v : Name) (t : Tables) (view : View) (nodes : List Name
           stand_for = λ i. record {
             params = p;
             supplier = s;
-            nodes = its_nodes c b stands i;
-            grants = its_grants c b stands here.0 here.1 i;
+            nodes = its_nodes p.cycles b stands i;
+            grants = its_grants p.cycles b stands here.0 here.1 i;
             frames = here.3 i;
           };
         },
@@ -130,11 +129,11 @@ module _ (p : Params) (s v : Name) (t : Tables) (view : View) (nodes : List Name
 
 module _ (p : Params) (s v : Name) (t : Tables) where
   -- rows that a page has are the page
-  pub page_told : (rows page : PageData) → TellsRows p s v t (Some rows) → page ≡ rows → IsKept rows → (c : Cluster) (b : Book) → StandsFor t c b → Some page ≡ page_of p b s v
-  page_told rows page tells is kept c b stands =
-      let here = tells c b stands in
+  pub page_told : (rows page : PageData) → TellsRows p s v t (Some rows) → page ≡ rows → IsKept rows → (b : Book) → HoldsRows t p.cycles b → Some page ≡ page_of p b s v
+  page_told rows page tells is kept b stands =
+      let here = tells b stands in
       ap Some (is ∙ is_page p b s v here.0 rows here.2 kept) ∙ sym (ap (option_map (page_in p b s v)) here.1)
 
   -- without a variant there is none
-  pub none_told : TellsRows p s v t None → (c : Cluster) (b : Book) → StandsFor t c b → None ≡ page_of p b s v
-  none_told tells c b stands = sym (ap (option_map (page_in p b s v)) (tells c b stands))
+  pub none_told : TellsRows p s v t None → (b : Book) → HoldsRows t p.cycles b → None ≡ page_of p b s v
+  none_told tells b stands = sym (ap (option_map (page_in p b s v)) (tells b stands))

@@ -1,12 +1,14 @@
 -- The rows of a frame's placements, after one is added or ended.
 use Rattle.std.proofs.Common.{◌≡◌, ℕ, pos, Bool, true, false, not, None, Some, Option, List, ◌∷◌, map, filter, refl, sym, ap, ◌∙◌, bytes_eq, unwrap_or, nat_abs, is_some, IsPermutation, true≢false}
+use Rattle.std.specs.List.{AllByRecursion}
 use Rattle.std.specs.Ordering.{is_eq, eq_by_cmp, int_eq}
 use Rattle.std.specs.Cmp.{tied_itself, int_cmp_total}
 use Rattle.std.specs.FinMap.{int_cmp-IsAntisymmetric}
 use Rattle.std.proofs.lemmas.Bool.{and_parts, and_from}
 use Rattle.std.proofs.lemmas.List.Sorted.{IsPermutation-map}
 use Rattle.std.proofs.lemmas.Slice.Eq.{bytes_eq-Decides}
-use Rattle.sqlite_keyed.proofs.ListLemmas.{filter-map, filter_same}
+use Rattle.sqlite_keyed.proofs.ListLemmas.{filter-map}
+use Rattle.sqlite_trees.proofs.ListLemmas.{filter_same, all_weaker}
 use Rattle.fr_base.specs.Tables.{contains, insert, only, remove}
 use Rattle.fr_base.specs.Keys.{placement_order}
 use Rattle.fr_base.specs.Channels.{channels_of_text, text_of_channels}
@@ -55,8 +57,8 @@ module _ (v s f : Name) where
   abbrev row_of : Placement → PlacementRow
   row_of = placement_row v s f
 
-  row_to : (q r : Placement) → is_placement (row_of q) (row_of r) ≡ true → eq_by_cmp placement_order.compare q r ≡ true
-  row_to q r h =
+  row_to : (q r : Placement) → r.cycles.count ≡ q.cycles.count → is_placement (row_of q) (row_of r) ≡ true → eq_by_cmp placement_order.compare q r ≡ true
+  row_to q r count h =
       let one = and_parts (bytes_eq v v) _ h in
       let two = and_parts (bytes_eq s s) _ one.1 in
       let three = and_parts (bytes_eq f f) _ two.1 in
@@ -67,7 +69,7 @@ module _ (v s f : Name) where
       let channels = same_channels r.channels q.channels five.0 in
       let base = same_number r.cycles.base q.cycles.base six.0 in
       let repetition = same_number r.cycles.repetition q.cycles.repetition six.1 in
-      let same : r ≡ q = λ i. record { slot = slot i; channels = channels i; cycles = record { base = base i; repetition = repetition i } } in
+      let same : r ≡ q = λ i. record { slot = slot i; channels = channels i; cycles = record { count = count i; base = base i; repetition = repetition i } } in
       ap (λ p. is_eq (placement_order.compare q p)) same ∙ ap is_eq (tied_itself placement_order.total q)
 
   row_from : (q r : Placement) → eq_by_cmp placement_order.compare q r ≡ true → is_placement (row_of q) (row_of r) ≡ true
@@ -77,9 +79,9 @@ module _ (v s f : Name) where
       ∙ and_from _ _ (own_text v) (and_from _ _ (own_text s) (and_from _ _ (own_text f) (and_from _ _ (own_number q.slot) (and_from _ _ (own_text (text_of_channels q.channels))
       (and_from _ _ (own_number q.cycles.base) (own_number q.cycles.repetition))))))
 
-  -- a row is another's where the placement is
-  row_is : (q r : Placement) → is_placement (row_of q) (row_of r) ≡ eq_by_cmp placement_order.compare q r
-  row_is q r = same_tests _ _ (row_to q r) (row_from q r)
+  -- among placements of as many cycles a row is another's where the placement is
+  row_is : (q r : Placement) → r.cycles.count ≡ q.cycles.count → is_placement (row_of q) (row_of r) ≡ eq_by_cmp placement_order.compare q r
+  row_is q r count = same_tests _ _ (row_to q r count) (row_from q r)
 
   pub of_frame : (q r : PlacementRow) → q.variant ≡ v → q.supplier ≡ s → q.frame ≡ f → is_placement q r ≡ true → is_placement_of v s f r ≡ true
   of_frame q r variant supplier frame h =
@@ -93,10 +95,12 @@ module _ (v s f : Name) where
         → IsPermutation (row_of q ∷ section placement_rows v s f (Some frame)) (section placement_rows v s f (Some (record frame { placements = insert frame.placements q tt })))
     place_section new = IsPermutation-map row_of _ _ (IsPermutation-map (λ e. e.0) _ _ (insert_new placement_order frame.placements q tt (none_there _ new)))
 
-    pub unplace_section : filter (λ r. not (is_placement (row_of q) r)) (section placement_rows v s f (Some frame))
+    pub unplace_section : (count : ℕ) → q.cycles.count ≡ count → AllByRecursion (λ r. r.cycles.count ≡ count) (placements_in frame)
+        → filter (λ r. not (is_placement (row_of q) r)) (section placement_rows v s f (Some frame))
         ≡ section placement_rows v s f (Some (record frame { placements = remove frame.placements q }))
     unfolding remove only
-    unplace_section =
+    unplace_section count same all =
         filter-map (λ r. not (is_placement (row_of q) r)) row_of (placements_in frame)
-        ∙ ap (map row_of) (filter_same (λ r. not (is_placement (row_of q) (row_of r))) (λ r. not (eq_by_cmp placement_order.compare q r)) (λ r. ap not (row_is q r)) (placements_in frame)
+        ∙ ap (map row_of) (filter_same (λ r. not (is_placement (row_of q) (row_of r))) (λ r. not (eq_by_cmp placement_order.compare q r)) (placements_in frame)
+        (all_weaker (λ r. not (is_placement (row_of q) (row_of r)) ≡ not (eq_by_cmp placement_order.compare q r)) (λ r of. ap not (row_is q r (of ∙ sym same))) (placements_in frame) all)
         ∙ filter-map (λ r. not (eq_by_cmp placement_order.compare q r)) (λ e. e.0) frame.placements.rows)

@@ -22,7 +22,7 @@ use Rattle.fr_tables.specs.Tables.{Tables}
 use Rattle.sqlite.specs.State.{State, IsUnchanged}
 use Rattle.fr_tables.specs.Changes.{AreListed, Stays}
 use Rattle.fr_tables.specs.Statements.{is_node_of, shows_node, nodes_cmp, shows_variant, variants_cmp, every}
-use Rattle.fr_store.specs.StandsFor.{StandsFor, node_row, variant_row}
+use Rattle.fr_store.specs.StandsFor.{HoldsRows, node_row, variant_row}
 use Rattle.fr_store.specs.Reading.{name_shown, variant_shown}
 use Rattle.fr_store.proofs.OrderLemmas.{IsBefore, rises, rises_among, are_listed}
 
@@ -65,7 +65,7 @@ pub both_if : {X : Type 0} (P Q : X → Type 0) (r : Option X) → IfSome r P �
 both_if P Q None p q = tt
 both_if P Q (Some x) p q = (p, q)
 
-module _ (t : Tables) (c : Cluster) (b : Book) (stands : StandsFor t c b) where
+module _ (t : Tables) (count : ℕ) (b : Book) (stands : HoldsRows t count b) where
   -- ---- nodes
 
   module _ (s : Name) where

@@ -21,7 +21,7 @@ use Rattle.fr_base.proofs.SoundTables.{same_some}
 use Rattle.fr_tables.specs.Rows.{SupplierRow}
 use Rattle.fr_tables.specs.Tables.{Tables}
 use Rattle.fr_tables.specs.Filling.{supplier_row}
-use Rattle.fr_tables.specs.Statements.{cluster_row}
+use Rattle.fr_tables.specs.Statements.{cluster2_row}
 use Rattle.fr_store.specs.Store.{TellsOf}
 use Rattle.fr_store.specs.StandsFor.{StandsFor}
 use Rattle.fr_store.proofs.OrderLemmas.{rises}
@@ -69,7 +69,7 @@ read_back channels.B = refl
 same_channels : (a b : Channels) → text_of_channels a ≡ text_of_channels b → a ≡ b
 same_channels a b is = same_some a b (sym (read_back a) ∙ ap channels_of_text is ∙ read_back b)
 
-same_params : (p q : RawParams) (m n : Key) → cluster_row p m ≡ cluster_row q n → p ≡ q
+same_params : (p q : RawParams) (m n : Key) → cluster2_row p m ≡ cluster2_row q n → p ≡ q
 same_params p q m n is =
     let e0 : p.channels ≡ q.channels = same_channels p.channels q.channels (ap (λ r. r.channels) is) in
     let e1 : p.static_slots ≡ q.static_slots = cc (ap (λ r. r.static_slots) is) in
@@ -79,6 +79,7 @@ same_params p q m n is =
     let e5 : p.idle_macroticks ≡ q.idle_macroticks = cc (ap (λ r. r.idle_macroticks) is) in
     let e6 : p.macroticks_per_cycle ≡ q.macroticks_per_cycle = cc (ap (λ r. r.macroticks_per_cycle) is) in
     let e7 : p.payload_words ≡ q.payload_words = cc (ap (λ r. r.payload_words) is) in
+    let e8 : p.cycles ≡ q.cycles = cc (ap (λ r. r.cycles) is) in
     λ i. record {
       channels = e0 i;
       static_slots = e1 i;
@@ -88,13 +89,14 @@ same_params p q m n is =
       idle_macroticks = e5 i;
       macroticks_per_cycle = e6 i;
       payload_words = e7 i;
+      cycles = e8 i;
     }
 
 -- a cluster file of which the tables tell is that of the cluster and the book for which they stand
 pub same_file : (f : ClusterFile) (c : Cluster) (b : Book) (t : Tables) → IsWellFormed f → TellsOf f t → StandsFor t c b → f ≡ file_of c b
 same_file f c b t good tells stands =
-    let one : cluster_row f.cluster.params f.cluster.integrator ≡ cluster_row c.params c.integrator = cc (sym tells.cluster ∙ stands.cluster) in
+    let one : cluster2_row f.cluster.params f.cluster.integrator ≡ cluster2_row c.params c.integrator = cc (sym tells.cluster2 ∙ stands.heads.params) in
     let params = same_params f.cluster.params c.params f.cluster.integrator c.integrator one in
     let integrator : f.cluster.integrator ≡ c.integrator = ap (λ r. r.integrator) one in
-    let suppliers = same_suppliers f good b t.suppliers tells.suppliers stands.suppliers in
+    let suppliers = same_suppliers f good b t.suppliers tells.suppliers stands.rows.suppliers in
     λ i. record { cluster = record { params = params i; integrator = integrator i }; suppliers = suppliers i }

@@ -27,7 +27,7 @@ use Rattle.fr_base.specs.declared.signal.Order.TheVariants.{Little, Big}
 use Rattle.fr_tables.specs.Tables.{Tables}
 use Rattle.fr_tables.specs.Changes.{AreListed}
 use Rattle.fr_tables.specs.Statements.{signal_row, is_signal_of, shows_signal, signals_cmp, big_number}
-use Rattle.fr_store.specs.StandsFor.{StandsFor, Entry, signal_rows, seen, own_or, is_hidden, of_parent}
+use Rattle.fr_store.specs.StandsFor.{HoldsRows, Entry, signal_rows, seen, own_or, is_hidden, of_parent}
 use Rattle.fr_store.specs.Paging.{signal_shown}
 use Rattle.fr_store.proofs.FramePartLemmas.{is_it, all_or_none, of_one}
 
@@ -93,7 +93,7 @@ module _ (v s f : Name) where
   same_again [] = refl
   same_again (x ∷ xs) = λ i. signal_again x i ∷ same_again xs i
 
-  module _ (t : Tables) (c : Cluster) (b : Book) (stands : StandsFor t c b) (x : Variant) (frame : Frame) (there : get b.variants v ≡ Some x) (own : get (stands.stored v).own (s, f) ≡ Some frame) where
+  module _ (t : Tables) (count : ℕ) (b : Book) (stands : HoldsRows t count b) (x : Variant) (frame : Frame) (there : get b.variants v ≡ Some x) (own : get (stands.stored v).own (s, f) ≡ Some frame) where
     shown_rows : (rows : List Row) → AreListed shows_signal (is_signal_of v s f) signals_cmp t.signals rows → IsPermutation frame.signals (map signal_shown rows)
     shown_rows rows h =
         let stored : IsPermutation (map (signal_row v s f) frame.signals) h.found =
@@ -103,7 +103,7 @@ module _ (v s f : Name) where
         (subst (λ rs. IsPermutation (map signal_shown (map shows_signal (map (signal_row v s f) frame.signals))) (map signal_shown rs)) (sym h.shown)
         (IsPermutation-map signal_shown _ _ (IsPermutation-map shows_signal _ _ stored)))
 
-    is_frame : get x.frames (s, f) ≡ Some frame
+    pub is_frame : get x.frames (s, f) ≡ Some frame
     unfolding seen
     is_frame = (stands.each v x there).frames (s, f) ∙ ap (λ o. own_or o (is_hidden t.dropped v (stands.stored v) (s, f)) (of_parent b.variants x.parent (s, f))) own
 
@@ -111,5 +111,5 @@ module _ (v s f : Name) where
         → found.words ≡ p.payload_words → IsPermutation (map signal_shown rows) found.signals → IsLayout found → found ≡ layout_of p frame
     layout_told p rows found listed words signals sound =
         let same = sorted_unique (on (λ s. s.start) nat_cmp) (on_total (λ s. s.start) nat_cmp_total) found.signals frame.signals (starts_rise found.signals sound.rising)
-        (IsPermutation-sym _ _ (IsPermutation-trans _ _ _ (shown_rows rows listed) signals)) ((stands.each v x there).by_start (s, f) frame is_frame) in
+        (IsPermutation-sym _ _ (IsPermutation-trans _ _ _ (shown_rows rows listed) signals)) ((stands.each v x there).fine (s, f) frame is_frame).by_start in
         λ i. record { words = words i; signals = sym same i }

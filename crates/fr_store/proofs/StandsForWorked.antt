@@ -5,7 +5,6 @@ use Rattle.std.specs.List.{flat_map}
 use Rattle.fr_base.specs.Tables.{empty, get, insert, remove}
 use Rattle.fr_base.specs.Keys.{numbers, names, channel_order, channels_order, owned, channel_slots, placement_order}
 use Rattle.fr_base.specs.Book.{Book, Frame, empty_variant, opening, suppliers_of}
-use Rattle.fr_base.specs.Cycles.{cycle_count}
 use Rattle.fr_base.specs.Step.{changed, grants_after, frames_after, frame_after}
 use Rattle.fr_base.specs.Tables.{settle, from_rows, only}
 use Rattle.fr_base.specs.declared.channel.Channel.TheVariants as ch
@@ -21,7 +20,7 @@ use Rattle.fr_store.specs.StandsFor.{Stored, node_row, variant_row, grant_rows, 
 
 -- what the rows below unfold
 unfoldable pub rows_of_a_small_register : ⊤
-unfolding file opening suppliers_of applied empty get insert remove only from_rows settle numbers names channel_order channels_order owned channel_slots placement_order cycle_count empty_variant changed grants_after frames_after frame_after of_frames of_parent seen
+unfolding file opening suppliers_of applied empty get insert remove only from_rows settle numbers names channel_order channels_order owned channel_slots placement_order empty_variant changed grants_after frames_after frame_after of_frames of_parent seen
 rows_of_a_small_register = tt
 
 -- the register of the first script: a variant, a node, a grant to it, and a frame with a placement and a signal
@@ -31,7 +30,7 @@ register = all_applied (opening file) (
     ∷ NewNode (codes "s1") (codes "n1")
     ∷ Rows (codes "s1") (codes "v1") (Grant 1 ch.A (codes "n1"))
     ∷ Rows (codes "s1") (codes "v1") (OfFrame (codes "f1") (Add (codes "n1")))
-    ∷ Rows (codes "s1") (codes "v1") (OfFrame (codes "f1") (Place (record { slot = 1; channels = chs.A; cycles = record { base = 0; repetition = 64 } })))
+    ∷ Rows (codes "s1") (codes "v1") (OfFrame (codes "f1") (Place (record { slot = 1; channels = chs.A; cycles = record { count = 64; base = 0; repetition = 64 } })))
     ∷ Rows (codes "s1") (codes "v1") (OfFrame (codes "f1") (AddSignal (record { name = codes "x"; start = 4; length = 8; order = Little })))
     ∷ [])
 

@@ -68,7 +68,7 @@ stored_as_before old new kept found c b stored same before = record {
       (again.still_stands old new c b back.1 rows.0, back.2 ∙ rows.1 ∙ sym back.1);
 }
 
-module _ (old new : State) (kept found : ClusterFile) (edits : List Edit) (c : Cluster) (b : Book) (stored : StandsStored kept old c b) (fit : AllFit b edits) where
+module _ (old new : State) (kept found : ClusterFile) (edits : List Edit) (c : Cluster) (b : Book) (stored : StandsStored kept old c b) (fit : AllFit c.params b edits) where
   -- all edits were carried out, and the suppliers are those of the book after them; or none was
   pub edits_stored : {X : Type 0} (r : Result X StoreFault) (o : Result X Refusal) → Answers r o
       → OnOk r (Stands new c (all_applied b edits)) → OnOk r (new.committed ≡ new.now) → OnOk r (found ≡ after_edits kept edits)
@@ -111,6 +111,11 @@ module _ (found : ClusterFile) (s : State) (c : Cluster) (b : Book) (up : IsTrue
   -- files that keep it hold the book
   pub holds_book : (image : Image) → KeepsBook s.committed image → HoldsBook c b image
   holds_book image keeps = keeps c b committed_for
+
+-- what holds of the value under a premise that is met
+pub given : {X E : Type 0} (r : Result X E) (P : Type 0) (Q : X → Type 0) → P → IfOk r (λ x. P → Q x) → IfOk r Q
+given (Ok x) P Q p h = h p
+given (Err e) P Q p h = tt
 
 -- what follows from two facts of what was given
 pub if_both : {X E : Type 0} (P Q T : X → Type 0) (r : Result X E) → ((x : X) → P x → Q x → T x) → IfOk r P → IfOk r Q → IfOk r T

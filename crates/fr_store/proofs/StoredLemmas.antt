@@ -10,7 +10,7 @@ use Rattle.fr_base.proofs.SoundTables.{same_some, same_key}
 use Rattle.fr_base.proofs.TableLaws.{equal, get-insert, same_table}
 use Rattle.fr_tables.specs.Rows.{DroppedRow}
 use Rattle.fr_tables.specs.Tables.{Tables}
-use Rattle.fr_store.specs.StandsFor.{StandsFor, Stored, HasItsParent, IsAsStored, of_parent, own_or, is_hidden, seen}
+use Rattle.fr_store.specs.StandsFor.{HoldsRows, Stored, HasItsParent, IsAsStored, of_parent, own_or, is_hidden, seen}
 
 -- the variant is the same but for its grants and its release
 pub record IsStill (x y : Variant) : Type 0 where
@@ -71,21 +71,21 @@ module _ (dropped : List DroppedRow) (vs ws : Table names Variant) (more : Exten
       let it = more name h.0 h.1 in
       found_in ws name it.0 k it.1 ∙ ap (λ frames. get frames k) it.2.frames ∙ sym (found_in vs name h.0 k h.1)
 
-  pub stored_still : (stored : Stored) (v : Name) (x y : Variant) → IsStill x y → IsAsStored dropped vs stored v x → IsAsStored dropped ws stored v y
+  pub stored_still : (count : ℕ) (stored : Stored) (v : Name) (x y : Variant) → IsStill x y → IsAsStored count dropped vs stored v x → IsAsStored count dropped ws stored v y
   unfolding seen
-  stored_still stored v x y still h =
+  stored_still count stored v x y still h =
       let same : HasItsParent vs x.parent x.depth = h.parent in record {
         parent = subst (λ p. HasItsParent ws p y.depth) (sym still.parent) (subst (HasItsParent ws x.parent) (sym still.depth) (parent_still x.parent x.depth same));
         frames = λ k.
             ap (λ frames. get frames k) still.frames ∙ h.frames k
             ∙ sym (ap (λ p. own_or (get stored.own k) (is_hidden dropped v stored k) (of_parent ws p k)) still.parent
             ∙ ap (own_or (get stored.own k) (is_hidden dropped v stored k)) (of_parent_still x.parent x.depth same k));
-        by_start = λ k f there. h.by_start k f (ap (λ frames. get frames k) (sym still.frames) ∙ there);
+        fine = λ k f there. h.fine k f (ap (λ frames. get frames k) (sym still.frames) ∙ there);
       }
 
 -- ---- a variant that is not stored over its parent
 
-module _ (t : Tables) (c : Cluster) (b : Book) (stands : StandsFor t c b) (v : Name) (x : Variant) (there : get b.variants v ≡ Some x) (not_over : (stands.stored v).overlay ≡ false) where
+module _ (t : Tables) (count : ℕ) (b : Book) (stands : HoldsRows t count b) (v : Name) (x : Variant) (there : get b.variants v ≡ Some x) (not_over : (stands.stored v).overlay ≡ false) where
   own_alone : (o inherited : Option Frame) (hidden : Bool) → hidden ≡ true → own_or o hidden inherited ≡ o
   own_alone (Some f) inherited hidden h = refl
   own_alone None inherited hidden h = rw h refl

@@ -24,24 +24,22 @@ use Rattle.fr_tables.specs.Rows.{VariantRow, GrantRow}
 use Rattle.fr_tables.specs.Tables.{Tables}
 use Rattle.fr_tables.specs.Changes.{Changes, Stays, tables_of}
 use Rattle.fr_tables.specs.Statements.{with_grant, without_grant, with_released, is_grant_at, is_variant, released_row}
-use Rattle.fr_store.specs.StandsFor.{StandsFor, Stored, Entry, of_frames, IsAsStored, variant_row, grant_rows, frame_row, placement_rows, signal_rows}
+use Rattle.fr_store.specs.StandsFor.{StandsFor, HoldsRows, Stored, Entry, of_frames, IsAsStored, variant_row, grant_rows, frame_row, placement_rows, signal_rows}
 use Rattle.fr_store.specs.Reading.{Stands}
 use Rattle.fr_store.proofs.ApplyLemmas.{put_new}
 use Rattle.fr_store.proofs.EntryLemmas.{same_of, more_of, less_of, turned_of, same_row_of}
 use Rattle.fr_store.proofs.HolderLemmas.{other_name, other_slots, this_slot}
 use Rattle.fr_store.proofs.StoredLemmas.{IsStill, extends_changed, stored_still, itself}
 
-module _ (t : Tables) (c : Cluster) (b : Book) (stands : StandsFor t c b) (v : Name) (x y : Variant) (there : get b.variants v ≡ Some x) (still : IsStill x y) where
+module _ (t : Tables) (count : ℕ) (b : Book) (stands : HoldsRows t count b) (v : Name) (x y : Variant) (there : get b.variants v ≡ Some x) (still : IsStill x y) where
   frames_still : {X : Type 0} (rows : Name → Entry → List X) (xs : List X) → IsPermutation (of_frames rows stands.stored b.variants) xs
       → IsPermutation (of_frames rows stands.stored (insert b.variants v y)) xs
   unfolding of_frames
   frames_still rows xs all = same_of names b.variants v x y there (λ e. flat_map (rows e.0) (stands.stored e.0).own.rows) xs all refl
 
   pub changed_stands : (vs : List VariantRow) (gs : List GrantRow) → IsPermutation (map (variant_row stands.stored) (insert b.variants v y).rows) vs → IsPermutation (flat_map grant_rows (insert b.variants v y).rows) gs
-      → StandsFor (record t { variants = vs; grants = gs }) c (record b { variants = insert b.variants v y })
+      → HoldsRows (record t { variants = vs; grants = gs }) count (record b { variants = insert b.variants v y })
   changed_stands vs gs variants grants = record {
-    register = stands.register;
-    cluster = stands.cluster;
     suppliers = stands.suppliers;
     nodes = stands.nodes;
     imports = stands.imports;
@@ -53,9 +51,9 @@ module _ (t : Tables) (c : Cluster) (b : Book) (stands : StandsFor t c b) (v : N
     signals = frames_still signal_rows t.signals stands.signals;
     dropped = All-weaker _ _ (λ d h. contains-more b.variants v y d.variant h) t.dropped stands.dropped;
     each = λ w z at. elim (insert-cases b.variants v y w z at) [
-      | inl here ↦ subst (λ (e : Name × Variant). IsAsStored t.dropped (insert b.variants v y) (stands.stored e.0) e.0 e.1) (λ i. (sym here.0 i, here.1 i))
-          (stored_still t.dropped b.variants (insert b.variants v y) (extends_changed b.variants v y x there still) (stands.stored v) v x y still (stands.each v x there))
-      | inr other ↦ stored_still t.dropped b.variants (insert b.variants v y) (extends_changed b.variants v y x there still) (stands.stored w) w z z (itself z) (stands.each w z other.1)
+      | inl here ↦ subst (λ (e : Name × Variant). IsAsStored count t.dropped (insert b.variants v y) (stands.stored e.0) e.0 e.1) (λ i. (sym here.0 i, here.1 i))
+          (stored_still t.dropped b.variants (insert b.variants v y) (extends_changed b.variants v y x there still) count (stands.stored v) v x y still (stands.each v x there))
+      | inr other ↦ stored_still t.dropped b.variants (insert b.variants v y) (extends_changed b.variants v y x there still) count (stands.stored w) w z z (itself z) (stands.each w z other.1)
     ];
   }
 
@@ -86,19 +84,19 @@ module _ (s v n : Name) (slot : ℕ) (channel : Channel) where
   unfolding changed
   same_variant stored x = refl
 
-  put_grant : (t : Tables) (c : Cluster) (b : Book) → StandsFor t c b → (x : Variant) → get b.variants v ≡ Some x → get x.grants (slot, channel) ≡ None → StandsFor (with_grant granted_row t) c (applied b granting)
+  put_grant : (t : Tables) (count : ℕ) (b : Book) → HoldsRows t count b → (x : Variant) → get b.variants v ≡ Some x → get x.grants (slot, channel) ≡ None → HoldsRows (with_grant granted_row t) count (applied b granting)
   unfolding applied
-  put_grant t c b stands x there free =
+  put_grant t count b stands x there free =
       let y = changed s (change.Grant slot channel n) x in
-      let made : StandsFor (with_grant granted_row t) c (record b { variants = insert b.variants v y }) =
-      changed_stands t c b stands v x y there (still_granted x) t.variants (t.grants ++ granted_row ∷ [])
+      let made : HoldsRows (with_grant granted_row t) count (record b { variants = insert b.variants v y }) =
+      changed_stands t count b stands v x y there (still_granted x) t.variants (t.grants ++ granted_row ∷ [])
       (same_row_of names b.variants v x y there (variant_row stands.stored) t.variants stands.variants (same_variant stands.stored x))
       (more_of names b.variants v x y there grant_rows t.grants stands.grants granted_row (grant_more x free)) in
       rw there made
 
   pub granted : {X E : Type 0} (old state : State) (r : Result X E) → MatchResult r (λ _. Changes (with_grant granted_row) old state) (λ _. Stays old state) → (c : Cluster) (b : Book) → Stands old c b → (x : Variant) → get b.variants v ≡ Some x
       → get x.grants (slot, channel) ≡ None → OnOk r (Stands state c (applied b granting))
-  granted old state (Ok done) h c b stands x there free = record { has = h.has; for = subst (λ t. StandsFor t c (applied b granting)) (sym h.now) (put_grant (tables_of old) c b stands.for x there free) }
+  granted old state (Ok done) h c b stands x there free = record { has = h.has; for = subst (λ t. StandsFor t c (applied b granting)) (sym h.now) (record { heads = stands.for.heads; rows = put_grant (tables_of old) c.params.cycles b stands.for.rows x there free }) }
   granted old state (Err e) h c b stands x there free = tt
 
 -- ---- the end of a grant
@@ -137,19 +135,19 @@ module _ (s v : Name) (slot : ℕ) (channel : Channel) where
       filter_all stays (grant_rows e) (all_map (λ g. stays g ≡ true) (row_of e.0) e.1.grants.rows
       (all_of (λ g. stays (row_of e.0 g) ≡ true) (λ g. ap (λ is. not (is && (int_eq (pos g.0.0) (pos slot) && bytes_eq (text_of_channel g.0.1) (text_of_channel channel)))) (other_name v e.0 apart)) e.1.grants.rows))
 
-  end_grant : (t : Tables) (c : Cluster) (b : Book) → StandsFor t c b → (x : Variant) → get b.variants v ≡ Some x → StandsFor (without_grant v (pos slot) (text_of_channel channel) t) c (applied b revoking)
+  end_grant : (t : Tables) (count : ℕ) (b : Book) → HoldsRows t count b → (x : Variant) → get b.variants v ≡ Some x → HoldsRows (without_grant v (pos slot) (text_of_channel channel) t) count (applied b revoking)
   unfolding applied
-  end_grant t c b stands x there =
+  end_grant t count b stands x there =
       let y = changed s (change.Revoke slot channel) x in
-      let made : StandsFor (without_grant v (pos slot) (text_of_channel channel) t) c (record b { variants = insert b.variants v y }) =
-      changed_stands t c b stands v x y there (still_revoked x) t.variants (filter stays t.grants)
+      let made : HoldsRows (without_grant v (pos slot) (text_of_channel channel) t) count (record b { variants = insert b.variants v y }) =
+      changed_stands t count b stands v x y there (still_revoked x) t.variants (filter stays t.grants)
       (same_row_of names b.variants v x y there (variant_row stands.stored) t.variants stands.variants (same_revoked stands.stored x))
       (less_of names b.variants v x y there grant_rows t.grants stands.grants stays (grant_less x) others_stay) in
       rw there made
 
   pub revoked : {X E : Type 0} (old state : State) (r : Result X E) → MatchResult r (λ _. Changes (without_grant v (pos slot) (text_of_channel channel)) old state) (λ _. Stays old state) → (c : Cluster) (b : Book) → Stands old c b
       → (x : Variant) → get b.variants v ≡ Some x → OnOk r (Stands state c (applied b revoking))
-  revoked old state (Ok done) h c b stands x there = record { has = h.has; for = subst (λ t. StandsFor t c (applied b revoking)) (sym h.now) (end_grant (tables_of old) c b stands.for x there) }
+  revoked old state (Ok done) h c b stands x there = record { has = h.has; for = subst (λ t. StandsFor t c (applied b revoking)) (sym h.now) (record { heads = stands.for.heads; rows = end_grant (tables_of old) c.params.cycles b stands.for.rows x there }) }
   revoked old state (Err e) h c b stands x there = tt
 
 -- ---- the release
@@ -164,17 +162,17 @@ module _ (v : Name) where
   this_variant : (stored : Name → Stored) (x : Variant) → turn (variant_row stored (v, x)) ≡ variant_row stored (v, record x { released = true })
   this_variant stored x = ap (λ is. if is then released_row (variant_row stored (v, x)) else variant_row stored (v, x)) ((bytes_eq-Decides v v).1 refl)
 
-  set_released : (t : Tables) (c : Cluster) (b : Book) → StandsFor t c b → (x : Variant) → get b.variants v ≡ Some x → StandsFor (with_released v t) c (applied b (SetReleased v))
+  set_released : (t : Tables) (count : ℕ) (b : Book) → HoldsRows t count b → (x : Variant) → get b.variants v ≡ Some x → HoldsRows (with_released v t) count (applied b (SetReleased v))
   unfolding applied
-  set_released t c b stands x there =
+  set_released t count b stands x there =
       let y : Variant = record x { released = true } in
-      let made : StandsFor (with_released v t) c (record b { variants = insert b.variants v y }) =
-      changed_stands t c b stands v x y there (record { parent = refl; depth = refl; frames = refl; released = λ h. refl }) (map turn t.variants) t.grants
+      let made : HoldsRows (with_released v t) count (record b { variants = insert b.variants v y }) =
+      changed_stands t count b stands v x y there (record { parent = refl; depth = refl; frames = refl; released = λ h. refl }) (map turn t.variants) t.grants
       (turned_of names b.variants v x y there (variant_row stands.stored) t.variants stands.variants turn (this_variant stands.stored x) (other_variant stands.stored))
       (same_of names b.variants v x y there grant_rows t.grants stands.grants refl) in
       rw there made
 
   pub released : {X E : Type 0} (old state : State) (r : Result X E) → MatchResult r (λ _. Changes (with_released v) old state) (λ _. Stays old state) → (c : Cluster) (b : Book) → Stands old c b → (x : Variant)
       → get b.variants v ≡ Some x → OnOk r (Stands state c (applied b (SetReleased v)))
-  released old state (Ok done) h c b stands x there = record { has = h.has; for = subst (λ t. StandsFor t c (applied b (SetReleased v))) (sym h.now) (set_released (tables_of old) c b stands.for x there) }
+  released old state (Ok done) h c b stands x there = record { has = h.has; for = subst (λ t. StandsFor t c (applied b (SetReleased v))) (sym h.now) (record { heads = stands.for.heads; rows = set_released (tables_of old) c.params.cycles b stands.for.rows x there }) }
   released old state (Err e) h c b stands x there = tt

@@ -34,7 +34,7 @@ use Rattle.fr_tables.specs.Rows.{VariantRow, DroppedRow, maybe_words, of_maybe, 
 use Rattle.fr_tables.specs.Tables.{Tables}
 use Rattle.fr_tables.specs.Changes.{AreListed}
 use Rattle.fr_tables.specs.Statements.{any_order, is_variant, shows_variant, is_dropped, is_dropped_by, shows_dropped, dropped_cmp}
-use Rattle.fr_store.specs.StandsFor.{StandsFor, Stored, variant_row, seen, own_or, of_parent}
+use Rattle.fr_store.specs.StandsFor.{HoldsRows, Stored, variant_row, seen, own_or, of_parent}
 use Rattle.fr_store.specs.Reading.{name_shown}
 use Rattle.fr_store.specs.Paging.{TellsLevel, TellsOver, TellsView, TellsFrames, laid_over, level_shown}
 use Rattle.fr_store.specs.declared.page.view.Level.{Level}
@@ -46,7 +46,7 @@ use Rattle.fr_store.proofs.SectionLemmas.{only_row, row_at}
 
 -- ---- a variant's row
 
-module _ (t : Tables) (c : Cluster) (b : Book) (stands : StandsFor t c b) (v : Name) where
+module _ (t : Tables) (count : ℕ) (b : Book) (stands : HoldsRows t count b) (v : Name) where
   abbrev row_of : Name × Variant → VariantRow
   row_of = variant_row stands.stored
 
@@ -174,7 +174,7 @@ found_in s frames table are n = sym (get_frame s n frames) ∙ ap (λ t. get t (
 
 -- ---- what a variant shows
 
-module _ (t : Tables) (c : Cluster) (b : Book) (stands : StandsFor t c b) (v : Name) (x : Variant) (there : get b.variants v ≡ Some x) where
+module _ (t : Tables) (count : ℕ) (b : Book) (stands : HoldsRows t count b) (v : Name) (x : Variant) (there : get b.variants v ≡ Some x) where
   abbrev stored : Stored
   stored = stands.stored v
 
@@ -222,30 +222,30 @@ map_if : {X Y : Type 0} (f : X → Y) (b : Bool) (o : Option X) → option_map f
 map_if f true o = refl
 map_if f false o = refl
 
-module _ (t : Tables) (v s : Name) (inherited kept own all : List (Name × PageFrame)) (rows : List Row)
+module _ (count : ℕ) (t : Tables) (v s : Name) (inherited kept own all : List (Name × PageFrame)) (rows : List Row)
     (listed : AreListed shows_dropped (is_dropped_by v s) dropped_cmp t.dropped rows)
     (left : (n : Name) → frame_at n kept ≡ (if list_any (is_named n) rows then None else frame_at n inherited))
     (joined : (n : Name) → frame_at n all ≡ option_or (frame_at n own) (frame_at n kept))
-    (tells : TellsFrames v s t (frames_data own)) where
-  pub over_told : (parent : Name) → TellsOver v s parent (frames_data inherited) t (frames_data all)
-  over_told parent c b stands x y there laid parent_there are =
+    (tells : TellsFrames count v s t (frames_data own)) where
+  pub over_told : (parent : Name) → TellsOver count v s parent (frames_data inherited) t (frames_data all)
+  over_told parent b stands x y there laid parent_there are =
       same_frames s all x.frames (λ n.
       ap (option_map as_frame) (joined n) ∙ map_or as_frame (frame_at n own) (frame_at n kept)
-      ∙ ap₂ option_or (found_in s own (stands.stored v).own (tells c b stands x there) n)
+      ∙ ap₂ option_or (found_in s own (stands.stored v).own (tells b stands x there) n)
       (ap (option_map as_frame) (left n) ∙ map_if as_frame (list_any (is_named n) rows) (frame_at n inherited)
       ∙ ap₂ (λ h o. if h then None else o) (dropped_named t v s rows listed n) (found_in s inherited y.frames are n))
-      ∙ sym (frames_over t c b stands v x there parent y parent_there laid (s, n)))
+      ∙ sym (frames_over t count b stands v x there parent y parent_there laid (s, n)))
 
 -- ---- the view
 
-module _ (t : Tables) (v s : Name) (level : Level) (here : TellsLevel v t (Some level)) (view : View) (released : view.released ≡ level.released) where
-  pub alone_told : level.parent ≡ None → TellsFrames v s t (frames_data view.frames.entries) → TellsView v s t (Some view)
-  alone_told none tells c b stands =
-      let it = here c b stands in
-      (it.0, it.1, released ∙ it.2, tells c b stands it.0 it.1 ∙ ap (own s) (frames_alone t c b stands v it.0 it.1 (sym it.3 ∙ none)))
+module _ (count : ℕ) (t : Tables) (v s : Name) (level : Level) (here : TellsLevel v t (Some level)) (view : View) (released : view.released ≡ level.released) where
+  pub alone_told : level.parent ≡ None → TellsFrames count v s t (frames_data view.frames.entries) → TellsView count v s t (Some view)
+  alone_told none tells b stands =
+      let it = here count b stands in
+      (it.0, it.1, released ∙ it.2, tells b stands it.0 it.1 ∙ ap (own s) (frames_alone t count b stands v it.0 it.1 (sym it.3 ∙ none)))
 
-  pub laid_told : (parent : Name) (above : View) → level.parent ≡ Some parent → TellsView parent s t (Some above) → TellsOver v s parent (frames_data above.frames.entries) t (frames_data view.frames.entries) → TellsView v s t (Some view)
-  laid_told parent above laid tells over c b stands =
-      let it = here c b stands in
-      let its = tells c b stands in
-      (it.0, it.1, released ∙ it.2, over c b stands it.0 its.0 it.1 (sym it.3 ∙ laid) its.1 its.3)
+  pub laid_told : (parent : Name) (above : View) → level.parent ≡ Some parent → TellsView count parent s t (Some above) → TellsOver count v s parent (frames_data above.frames.entries) t (frames_data view.frames.entries) → TellsView count v s t (Some view)
+  laid_told parent above laid tells over b stands =
+      let it = here count b stands in
+      let its = tells b stands in
+      (it.0, it.1, released ∙ it.2, over b stands it.0 its.0 it.1 (sym it.3 ∙ laid) its.1 its.3)

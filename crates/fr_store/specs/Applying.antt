@@ -50,18 +50,18 @@ IsReady _ t = ⊤
 -- Statements inside a transaction make the tables ready for an edit that fits, and what they stand for stays; or one fails.
 abbrev pub MakesReady : {X E : Type 0} → Edit → Bool → State → State → Result X E → Type 0
 MakesReady edit over old new r =
-    HasCleanDisk new → IsTrue old.in_transaction → (c : Cluster) (b : Book) → Stands old c b → Fits b edit → IsStoredIfSome (framed_in edit) over (tables_of old)
+    HasCleanDisk new → IsTrue old.in_transaction → (c : Cluster) (b : Book) → Stands old c b → Fits c.params b edit → IsStoredIfSome (framed_in edit) over (tables_of old)
     → OnOk r (Stands new c b × IsReady edit (tables_of new))
 
 -- Statements inside a transaction carry out an edit that fits and for which the tables are ready, or one fails.
 abbrev pub CarriesOut : {X E : Type 0} → Edit → Bool → State → State → Result X E → Type 0
 CarriesOut edit over old new r =
-    HasCleanDisk new → IsTrue old.in_transaction → (c : Cluster) (b : Book) → Stands old c b → Fits b edit → IsStoredIfSome (framed_in edit) over (tables_of old)
+    HasCleanDisk new → IsTrue old.in_transaction → (c : Cluster) (b : Book) → Stands old c b → Fits c.params b edit → IsStoredIfSome (framed_in edit) over (tables_of old)
     → IsReady edit (tables_of old) → OnOk r (Stands new c (applied b edit))
 
 -- Statements inside a transaction carry out all edits, where each fits after those before it, or one fails.
 abbrev pub CarriesOutAll : {X E : Type 0} → List Edit → State → State → Result X E → Type 0
-CarriesOutAll edits old new r = HasCleanDisk new → IsTrue old.in_transaction → (c : Cluster) (b : Book) → Stands old c b → AllFit b edits → OnOk r (Stands new c (all_applied b edits))
+CarriesOutAll edits old new r = HasCleanDisk new → IsTrue old.in_transaction → (c : Cluster) (b : Book) → Stands old c b → AllFit c.params b edits → OnOk r (Stands new c (all_applied b edits))
 
 -- the variant that was seen, if there is one, is stored so
 abbrev pub IsSeen : Seen → Tables → Type 0
@@ -83,4 +83,4 @@ Sees known edit old new r =
 
 -- what a crash may leave, of edits that fit
 abbrev pub LeavesAll : List Edit → State → Trees → Type 0
-LeavesAll edits old db = (c : Cluster) (b : Book) → Stands old c b → AllFit b edits → IsRegisterFor c (all_applied b edits) (database_of db)
+LeavesAll edits old db = (c : Cluster) (b : Book) → Stands old c b → AllFit c.params b edits → IsRegisterFor c (all_applied b edits) (database_of db)

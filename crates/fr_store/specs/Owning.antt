@@ -1,5 +1,5 @@
 -- The frames that are a variant's own, and how a variant is stored.
-use Rattle.std.specs.Prelude.{◌≡◌, ◌++◌, ◌&&◌, Bool, List, Some, Result, MatchResult, OnOk, IfOk, IsTrue, IsPermutation}
+use Rattle.std.specs.Prelude.{◌≡◌, ◌++◌, ◌&&◌, ℕ, Bool, List, Some, Result, MatchResult, OnOk, IfOk, IsTrue, IsPermutation}
 use Rattle.std.specs.List.{list_any}
 use Rattle.std.specs.Ordering.{int_eq}
 use Rattle.sqlite.specs.State.{State, HasCleanDisk, KeepsCommit}
@@ -11,7 +11,7 @@ use Rattle.fr_world.specs.Fits.{IsOpen}
 use Rattle.fr_tables.specs.Changes.{Changes, tables_of}
 use Rattle.fr_store.specs.Reading.{Stands}
 use Rattle.fr_tables.specs.Rows.{VariantRow, FrameRow, PlacementRow, SignalRow, flag}
-use Rattle.fr_store.specs.StandsFor.{StandsFor}
+use Rattle.fr_store.specs.StandsFor.{HoldsRows}
 use Rattle.fr_tables.specs.Statements.{is_variant, is_frame, frame_copies, placement_copies, signal_copies}
 use Rattle.fr_tables.specs.Tables.{Tables, HasTables}
 use Rattle.fr_store.specs.declared.applying.level.Level.{Level}
@@ -29,7 +29,7 @@ IsStoredSo v over t = IsTrue (list_any (says_over v over) t.variants)
 -- this is how the variant is stored, and its parent
 pub record TellsLevel (v : Name) (t : Tables) (level : Level) : Type 0 where
   pub overlay : IsStoredSo v level.overlay t
-  pub parent : (c : Cluster) (b : Book) → StandsFor t c b → (x : Variant) → get b.variants v ≡ Some x → x.parent ≡ level.parent
+  pub parent : (count : ℕ) (b : Book) → HoldsRows t count b → (x : Variant) → get b.variants v ≡ Some x → x.parent ≡ level.parent
 
 -- ---- a variant's own frames
 

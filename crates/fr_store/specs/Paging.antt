@@ -1,12 +1,11 @@
 -- What is read of a supplier's rows in a variant.
-use Rattle.std.specs.Prelude.{◌≡◌, pos, List, option_map, Option, Some, None, Result, MatchResult, MatchOption, nat_abs, unwrap_or, if◌then◌else◌}
+use Rattle.std.specs.Prelude.{◌≡◌, ℕ, pos, List, option_map, Option, Some, None, Result, MatchResult, MatchOption, nat_abs, unwrap_or, if◌then◌else◌}
 use Rattle.std.specs.Ordering.{int_eq}
 use Rattle.sqlite.specs.Order.{Row, column}
 use Rattle.sqlite.specs.State.{State, HasCleanDisk, IsUnchanged}
 use Rattle.fr_base.specs.Tables.{get}
 use Rattle.fr_base.specs.Keys.{owned, channel_slots}
 use Rattle.fr_base.specs.Channels.{channel_of_text, channels_of_text}
-use Rattle.fr_base.specs.Cluster.{Cluster}
 use Rattle.fr_base.specs.Book.{Book, Variant, Frame, own, own_grants}
 use Rattle.fr_base.specs.declared.channel.Channel.TheVariants.{A}
 use Rattle.fr_base.specs.declared.channel.Channels.TheVariants.{AB}
@@ -23,7 +22,7 @@ use Rattle.fr_tables.specs.Rows.{words, maybe_words, number}
 use Rattle.fr_tables.specs.Tables.{Tables, HasTables}
 use Rattle.fr_tables.specs.Changes.{Stays, AreListed, tables_of}
 use Rattle.fr_tables.specs.Statements.{is_frame_of, shows_frame, frames_cmp, is_placed_by, shows_placement, placements_cmp, is_signalled_by, shows_signal, signals_cmp}
-use Rattle.fr_store.specs.StandsFor.{Stored, StandsFor}
+use Rattle.fr_store.specs.StandsFor.{Stored, HoldsRows}
 use Rattle.fr_store.specs.declared.page.frames.FrameRows.{FrameRows}
 use Rattle.fr_store.specs.declared.page.view.Level.{Level}
 use Rattle.fr_store.specs.declared.page.view.View.{View}
@@ -44,14 +43,14 @@ level_shown r = record { released = int_eq (number (column r 3)) (pos 1); parent
 -- whether the variant is released, and over which parent it is laid, if it is there
 abbrev pub TellsLevel : Name → Tables → Option Level → Type 0
 TellsLevel v t found =
-    (c : Cluster) (b : Book) (stands : StandsFor t c b)
+    (count : ℕ) (b : Book) (stands : HoldsRows t count b)
     → MatchOption found (get b.variants v ≡ None) (λ level. (x : Variant) × (get b.variants v ≡ Some x) × (level.released ≡ x.released) × (level.parent ≡ laid_over (stands.stored v) x))
 
 -- ---- nodes and grants
 
 -- these are the supplier's nodes
 abbrev pub TellsNodes : Name → Tables → List Name → Type 0
-TellsNodes s t nodes = (c : Cluster) (b : Book) → StandsFor t c b → set_of owned (λ n. (s, n)) nodes ≡ own s b.nodes
+TellsNodes s t nodes = (count : ℕ) (b : Book) → HoldsRows t count b → set_of owned (λ n. (s, n)) nodes ≡ own s b.nodes
 
 abbrev pub grant_shown : Row → ChannelSlot × Name
 grant_shown r = (record { slot = nat_abs (number (column r 0)); channel = unwrap_or (channel_of_text (words (column r 1))) A }, words (column r 2))
@@ -59,16 +58,17 @@ grant_shown r = (record { slot = nat_abs (number (column r 0)); channel = unwrap
 -- these are the supplier's grants in the variant
 abbrev pub TellsGrants : Name → Name → Tables → List (ChannelSlot × Name) → Type 0
 TellsGrants v s t grants =
-    (c : Cluster) (b : Book) → StandsFor t c b → (x : Variant) → get b.variants v ≡ Some x
+    (count : ℕ) (b : Book) → HoldsRows t count b → (x : Variant) → get b.variants v ≡ Some x
     → table_of channel_slots (λ k. (k.slot, k.channel)) (holder_of s) grants ≡ own_grants s x.grants
 
 -- ---- a frame's placements
 
-abbrev pub placement_shown : Row → Placement
-placement_shown r = record {
+-- of so many cycles
+abbrev pub placement_shown : ℕ → Row → Placement
+placement_shown count r = record {
   slot = nat_abs (number (column r 1));
   channels = unwrap_or (channels_of_text (words (column r 2))) AB;
-  cycles = record { base = nat_abs (number (column r 3)); repetition = nat_abs (number (column r 4)) };
+  cycles = record { count = count; base = nat_abs (number (column r 3)); repetition = nat_abs (number (column r 4)) };
 }
 
 -- ---- a frame's signals
@@ -84,7 +84,7 @@ signal_shown r = record {
 -- this is the variant's own frame under the supplier and the name
 abbrev pub TellsFrame : Params → Name → Name → Name → Name → Tables → FrameData → Type 0
 TellsFrame p v s f n t rows =
-    (c : Cluster) (b : Book) (stands : StandsFor t c b) (x : Variant) (frame : Frame) → get b.variants v ≡ Some x → get (stands.stored v).own (s, f) ≡ Some frame → frame.node ≡ n
+    (b : Book) (stands : HoldsRows t p.cycles b) (x : Variant) (frame : Frame) → get b.variants v ≡ Some x → get (stands.stored v).own (s, f) ≡ Some frame → frame.node ≡ n
     → (frame_of rows ≡ frame) × (rows.layout ≡ layout_of p frame)
 
 -- ---- the variant's own frames
@@ -98,10 +98,10 @@ pub record AreFrameRows (v s : Name) (t : Tables) (rows : FrameRows) : Type 0 wh
 abbrev pub node_shown : Row → Name
 node_shown r = words (column r 1)
 
--- these are the supplier's among the variant's own frames
-abbrev pub TellsFrames : Name → Name → Tables → List (Name × FrameData) → Type 0
-TellsFrames v s t frames =
-    (c : Cluster) (b : Book) (stands : StandsFor t c b) (x : Variant) → get b.variants v ≡ Some x → table_of owned (λ f. (s, f)) frame_of frames ≡ own s (stands.stored v).own
+-- these are the supplier's among the variant's own frames, with placements of so many cycles
+abbrev pub TellsFrames : ℕ → Name → Name → Tables → List (Name × FrameData) → Type 0
+TellsFrames count v s t frames =
+    (b : Book) (stands : HoldsRows t count b) (x : Variant) → get b.variants v ≡ Some x → table_of owned (λ f. (s, f)) frame_of frames ≡ own s (stands.stored v).own
 
 -- ---- the frames that a variant shows
 
@@ -110,15 +110,15 @@ abbrev pub AreFramesIn : Name → Variant → List (Name × FrameData) → Type 
 AreFramesIn s x frames = table_of owned (λ f. (s, f)) frame_of frames ≡ own s x.frames
 
 -- where the first are the supplier's frames in the parent over which the variant is laid, the others are those in the variant
-abbrev pub TellsOver : Name → Name → Name → List (Name × FrameData) → Tables → List (Name × FrameData) → Type 0
-TellsOver v s parent inherited t frames =
-    (c : Cluster) (b : Book) (stands : StandsFor t c b) (x y : Variant) → get b.variants v ≡ Some x → laid_over (stands.stored v) x ≡ Some parent → get b.variants parent ≡ Some y
+abbrev pub TellsOver : ℕ → Name → Name → Name → List (Name × FrameData) → Tables → List (Name × FrameData) → Type 0
+TellsOver count v s parent inherited t frames =
+    (b : Book) (stands : HoldsRows t count b) (x y : Variant) → get b.variants v ≡ Some x → laid_over (stands.stored v) x ≡ Some parent → get b.variants parent ≡ Some y
     → AreFramesIn s y inherited → AreFramesIn s x frames
 
 -- whether the variant is released, and these are the supplier's frames in it, if it is there
-abbrev pub TellsView : Name → Name → Tables → Option View → Type 0
-TellsView v s t found =
-    (c : Cluster) (b : Book) → StandsFor t c b
+abbrev pub TellsView : ℕ → Name → Name → Tables → Option View → Type 0
+TellsView count v s t found =
+    (b : Book) → HoldsRows t count b
     → MatchOption found (get b.variants v ≡ None) (λ view. (x : Variant) × (get b.variants v ≡ Some x) × (view.released ≡ x.released) × AreFramesIn s x (frames_data view.frames.entries))
 
 -- ---- the page
@@ -134,7 +134,7 @@ pub record AreRowsIn (p : Params) (b : Book) (s v : Name) (x : Variant) (rows : 
 -- these are the supplier's rows in the variant, if it is there
 abbrev pub TellsRows : Params → Name → Name → Tables → Option PageData → Type 0
 TellsRows p s v t found =
-    (c : Cluster) (b : Book) → StandsFor t c b → MatchOption found (get b.variants v ≡ None) (λ rows. (x : Variant) × (get b.variants v ≡ Some x) × AreRowsIn p b s v x rows)
+    (b : Book) → HoldsRows t p.cycles b → MatchOption found (get b.variants v ≡ None) (λ rows. (x : Variant) × (get b.variants v ≡ Some x) × AreRowsIn p b s v x rows)
 
 -- the supplier's page of the variant, if the variant is there
 abbrev pub page_of : Params → Book → Name → Name → Option PageData

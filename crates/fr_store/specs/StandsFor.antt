@@ -6,12 +6,13 @@ use Rattle.fr_base.specs.Tables.{Table, get, contains}
 use Rattle.fr_base.specs.Keys.{names, owned}
 use Rattle.fr_base.specs.Channels.{text_of_channel}
 use Rattle.fr_base.specs.Cluster.{Cluster}
-use Rattle.fr_base.specs.Book.{Frame, Variant, Kept, Book, file_of}
+use Rattle.fr_base.specs.Book.{Frame, Variant, Kept, Book, listed}
 use Rattle.fr_base.specs.Queries.{placements_in}
 use Rattle.fr_base.specs.declared.name.Name.{Name}
-use Rattle.fr_tables.specs.Rows.{flag, NodeRow, VariantRow, GrantRow, FrameRow, PlacementRow, SignalRow, ImportRow, DroppedRow}
+use Rattle.fr_base.specs.declared.placement.Placement.{Placement}
+use Rattle.fr_tables.specs.Rows.{flag, RegisterRow, ClusterRow, Cluster2Row, NodeRow, VariantRow, GrantRow, FrameRow, PlacementRow, SignalRow, ImportRow, DroppedRow}
 use Rattle.fr_tables.specs.Tables.{Tables}
-use Rattle.fr_tables.specs.Statements.{cluster_row, placement_row, signal_row, is_dropped}
+use Rattle.fr_tables.specs.Statements.{cluster2_row, placement_row, signal_row, is_dropped}
 use Rattle.fr_tables.specs.Filling.{supplier_row}
 use Rattle.fr_tables.specs.Asking.{numbered, our_schema_number}
 
@@ -86,18 +87,21 @@ HasItsParent variants None depth = ⊤
 HasItsParent variants (Some name) depth =
     (parent : Variant) × (get variants name ≡ Some parent) × IsTrue parent.released × (depth ≡ suc parent.depth)
 
--- the variant is as it is stored: its frames are those that it shows, with their signals by start
-pub record IsAsStored (dropped : List DroppedRow) (variants : Table names Variant) (stored : Stored) (v : Name) (x : Variant) : Type 0 where
+-- a frame's signals stand by their starts, and its placements are of so many cycles
+pub record IsFine (count : ℕ) (f : Frame) : Type 0 where
+  pub by_start : IsSorted (on (λ s. s.start) nat_cmp) f.signals
+  pub counted : (q : Placement) → IsTrue (contains f.placements q) → q.cycles.count ≡ count
+
+-- the variant is as it is stored: its frames are those that it shows, and each of them is fine
+pub record IsAsStored (count : ℕ) (dropped : List DroppedRow) (variants : Table names Variant) (stored : Stored) (v : Name) (x : Variant) : Type 0 where
   pub parent : HasItsParent variants x.parent x.depth
   pub frames : (k : Name × Name) → get x.frames k ≡ seen dropped variants v x.parent stored k
-  pub by_start : (k : Name × Name) (f : Frame) → get x.frames k ≡ Some f → IsSorted (on (λ s. s.start) nat_cmp) f.signals
+  pub fine : (k : Name × Name) (f : Frame) → get x.frames k ≡ Some f → IsFine count f
 
--- The register and the cluster have their one row; the other tables have one row for each entry of the book, in any order,
--- and no other. Only the frames' rows are those of the frames that are a variant's own.
-pub record StandsFor (t : Tables) (c : Cluster) (b : Book) : Type 0 where
-  pub register : t.register ≡ numbered our_schema_number ∷ []
-  pub cluster : t.cluster ≡ cluster_row c.params c.integrator ∷ []
-  pub suppliers : IsPermutation (map supplier_row (file_of c b).suppliers) t.suppliers
+-- The tables have one row for each entry of the book, in any order, and no other. Only the frames' rows are those of the frames that are
+-- a variant's own. A placement's row does not say of how many cycles it is: of so many as the register counts.
+pub record HoldsRows (t : Tables) (count : ℕ) (b : Book) : Type 0 where
+  pub suppliers : IsPermutation (map supplier_row (map listed b.suppliers.rows)) t.suppliers
   pub nodes : IsPermutation (map node_row b.nodes.rows) t.nodes
   pub imports : IsPermutation (map import_row b.imports.rows) t.imports
   pub stored : Name → Stored
@@ -107,4 +111,15 @@ pub record StandsFor (t : Tables) (c : Cluster) (b : Book) : Type 0 where
   pub placements : IsPermutation (of_frames placement_rows stored b.variants) t.placements
   pub signals : IsPermutation (of_frames signal_rows stored b.variants) t.signals
   pub dropped : All (λ d. IsTrue (contains b.variants d.variant)) t.dropped
-  pub each : (v : Name) (x : Variant) → get b.variants v ≡ Some x → IsAsStored t.dropped b.variants (stored v) v x
+  pub each : (v : Name) (x : Variant) → get b.variants v ≡ Some x → IsAsStored count t.dropped b.variants (stored v) v x
+
+-- the one row of the register and the one of the cluster
+pub record HasHeads (register : List RegisterRow) (cluster : List ClusterRow) (cluster2 : List Cluster2Row) (c : Cluster) : Type 0 where
+  pub number : register ≡ numbered our_schema_number ∷ []
+  pub none_before : cluster ≡ []
+  pub params : cluster2 ≡ cluster2_row c.params c.integrator ∷ []
+
+-- the tables stand for the cluster and the book
+pub record StandsFor (t : Tables) (c : Cluster) (b : Book) : Type 0 where
+  pub heads : HasHeads t.register t.cluster t.cluster2 c
+  pub rows : HoldsRows t c.params.cycles b

@@ -10,7 +10,7 @@ use Rattle.fr_base.specs.Cluster.{Cluster, ClusterFile}
 use Rattle.fr_base.specs.Book.{Book, file_of}
 use Rattle.fr_tables.specs.Schema.{all_tables}
 use Rattle.fr_tables.specs.Tables.{Tables, HasTables, tables_in}
-use Rattle.fr_tables.specs.Statements.{cluster_row}
+use Rattle.fr_tables.specs.Statements.{cluster2_row}
 use Rattle.fr_tables.specs.Filling.{supplier_row, with_config}
 use Rattle.fr_tables.specs.Making.{IsFresh, no_rows}
 use Rattle.fr_tables.specs.Asking.{numbered, our_schema_number}
@@ -24,7 +24,7 @@ use Rattle.fr_store.specs.declared.fault.StoreFault.TheVariants.{NotEmpty, NotAR
 -- the tables tell the number of this schema, and of this cluster and its suppliers
 pub record TellsOf (f : ClusterFile) (t : Tables) : Type 0 where
   pub register : t.register ≡ numbered our_schema_number ∷ []
-  pub cluster : t.cluster ≡ cluster_row f.cluster.params f.cluster.integrator ∷ []
+  pub cluster2 : t.cluster2 ≡ cluster2_row f.cluster.params f.cluster.integrator ∷ []
   pub suppliers : IsPermutation (map supplier_row f.suppliers) t.suppliers
 
 -- the database is a register of this cluster

@@ -45,7 +45,7 @@ fn all<S: Alter>(tx: &mut Transaction<'_, S>, edits: &[Edit]) -> Result<(), Stor
 /// Carries all edits out in one transaction.
 fn in_one<S: Alter>(conn: &mut Connection<S>, edits: &[Edit]) -> Result<(), StoreFault>
     requires { conn.old.in_transaction ≡ false }
-    ensures stands { HasCleanDisk (state S.Store conn.new) → (c : _) (b : _) → Stands (state S.Store conn.old) c b → AllFit b edits.now
+    ensures stands { HasCleanDisk (state S.Store conn.new) → (c : _) (b : _) → Stands (state S.Store conn.old) c b → AllFit c.params b edits.now
         → OnOk result (Stands (state S.Store conn.new) c (all_applied b edits.now)) }
     ensures committed { HasCleanDisk (state S.Store conn.new) → OnOk result ((state S.Store conn.new).committed ≡ (state S.Store conn.new).now) }
     ensures undone { HasCleanDisk (state S.Store conn.new) → HasTables (state S.Store conn.old).now → OnErr result (AreAsBefore (state S.Store conn.old) (state S.Store conn.new)) }
@@ -67,7 +67,7 @@ impl<S: Alter> Store<S> {
     /// suppliers that joined. The only refusal is `Unavailable`, also where the config does not admit a
     /// supplier; then the rows and the config are as they were.
     pub fn apply(&mut self, alloc: Global, edits: &[Edit]) -> Result<(), StoreFault>
-        ensures stands { HasCleanDisk (state S.Store self.new.conn) → (c : _) (b : _) → Stands (state S.Store self.old.conn) c b → AllFit b edits.now
+        ensures stands { HasCleanDisk (state S.Store self.new.conn) → (c : _) (b : _) → Stands (state S.Store self.old.conn) c b → AllFit c.params b edits.now
             → OnOk result (Stands (state S.Store self.new.conn) c (all_applied b edits.now)) }
         ensures committed { HasCleanDisk (state S.Store self.new.conn) → OnOk result ((state S.Store self.new.conn).committed ≡ (state S.Store self.new.conn).now) }
         ensures undone { HasCleanDisk (state S.Store self.new.conn) → HasTables (state S.Store self.old.conn).now

@@ -49,7 +49,7 @@ fn create<S: Alter>(conn: &mut Connection<S>, config: &Config) -> Result<(), Err
     tx.commit()
 }
 
-const NAMES: [&str; 11] = [
+const NAMES: [&str; 12] = [
     "register",
     "cluster",
     "suppliers",
@@ -61,6 +61,7 @@ const NAMES: [&str; 11] = [
     "signals",
     "imports",
     "dropped",
+    "cluster2",
 ];
 
 fn is_among(names: &[&str], name: &[u8]) -> bool

@@ -7,7 +7,7 @@ ghost use Rattle.sqlite.specs.Held.{state};
 ghost use Rattle.sqlite_trees.specs.View.{doubt};
 ghost use Rattle.fr_base.specs.Cluster.{IsWellFormed};
 ghost use Rattle.fr_tables.specs.Schema.{register_schema};
-ghost use Rattle.fr_tables.specs.Statements.{shows_register, cluster_row, shows_cluster, shows_supplier, shows_variant, every, any_order, suppliers_cmp, variants_cmp};
+ghost use Rattle.fr_tables.specs.Statements.{shows_register, cluster2_row, shows_cluster2, shows_supplier, shows_variant, every, any_order, suppliers_cmp, variants_cmp};
 ghost use Rattle.fr_tables.specs.Filling.{supplier_row};
 ghost use Rattle.fr_tables.specs.Tables.{HasTables, AreOrdered};
 ghost use Rattle.fr_tables.specs.Changes.{AreListed, tables_of};
@@ -81,7 +81,7 @@ fn has_opened_variants<S: Alter>(alloc: Global, conn: &mut Connection<S>) -> boo
 /// of memory.
 fn config<S: Alter>(alloc: Global, conn: &mut Connection<S>) -> Option<Config>
     requires { conn.old.in_transaction ≡ false }
-    ensures cluster { HasCleanDisk (state S.Store conn.new) → IsTrue (state S.Store conn.new).is_open → HasTables (state S.Store conn.old).now → IfSome result (λ c. (tables_of (state S.Store conn.old)).cluster ≡ cluster_row c.cluster.params c.cluster.integrator ∷ []) }
+    ensures cluster { HasCleanDisk (state S.Store conn.new) → IsTrue (state S.Store conn.new).is_open → HasTables (state S.Store conn.old).now → IfSome result (λ c. (tables_of (state S.Store conn.old)).cluster2 ≡ cluster2_row c.cluster.params c.cluster.integrator ∷ []) }
     ensures suppliers { HasCleanDisk (state S.Store conn.new) → IsTrue (state S.Store conn.new).is_open → HasTables (state S.Store conn.old).now → IfSome result (λ c. IsPermutation (map supplier_row c.suppliers) (tables_of (state S.Store conn.old)).suppliers) }
     ensures variants { HasCleanDisk (state S.Store conn.new) → IsTrue (state S.Store conn.new).is_open → HasTables (state S.Store conn.new).now → IfSome result (λ _. TellsOpened (tables_of (state S.Store conn.new))) }
     ensures formed { IfSome result IsWellFormed }
@@ -91,7 +91,7 @@ fn config<S: Alter>(alloc: Global, conn: &mut Connection<S>) -> Option<Config>
 {
     let Ok(cluster) = asked(
         conn,
-        "SELECT static_slots, slot_macroticks, dynamic_macroticks, symbol_macroticks, idle_macroticks, macroticks_per_cycle, payload_words, channels, integrator FROM cluster",
+        "SELECT static_slots, slot_macroticks, dynamic_macroticks, symbol_macroticks, idle_macroticks, macroticks_per_cycle, payload_words, channels, integrator, cycles FROM cluster2",
     ) else {
         return None;
     };
@@ -104,7 +104,7 @@ fn config<S: Alter>(alloc: Global, conn: &mut Connection<S>) -> Option<Config>
     cluster::read(alloc, cluster.as_slice(), suppliers.as_slice())
 }
 
-const NUMBER: i64 = 1;
+const NUMBER: i64 = 2;
 
 /// The cluster of the register that the tables are, or why they are not opened.
 fn recognized<S: Alter>(alloc: Global, conn: &mut Connection<S>) -> Result<Config, StoreFault>

@@ -36,14 +36,15 @@ impl<S: Alter> Store<S> {
         Ok(!rows.is_empty())
     }
 
-    /// The supplier's page of the variant, if the variant is there. The only refusal is `Unavailable`.
+    /// The supplier's page of the variant, if the variant is there, where the config has as many cycles as the cluster
+    /// for which the tables stand. The only refusal is `Unavailable`.
     pub fn page(
         &mut self,
         alloc: Global,
         supplier: &Name,
         variant: &Name,
     ) -> Result<Option<Page>, StoreFault>
-        ensures page { Tells (state S.Store self.old.conn) (state S.Store self.new.conn) result (λ c b found. found ≡ page_of self.old.config.cluster.params b supplier.now variant.now) }
+        ensures page { Tells (state S.Store self.old.conn) (state S.Store self.new.conn) result (λ c b found. c.params.cycles ≡ self.old.config.cluster.params.cycles → found ≡ page_of self.old.config.cluster.params b supplier.now variant.now) }
         ensures params { IfOk result (λ found. IfSome found (λ page. page.params ≡ self.old.config.cluster.params)) }
         ensures config { self.new.config ≡ self.old.config }
         ensures refused { IfErr result (λ fault. fault ≡ Unavailable) }

@@ -77,222 +77,96 @@ module _ (old new : State) where
     shown = shown;
   }
 
+  -- ---- only the table of one tree is written
+
+  -- the rows of a table then: of the one that is written those that were made, and of another those of before
+  abbrev pub Becomes : ℕ → ℕ → {X : Type 0} → (X → Row) → (Row → X) → List X → Type 0
+  Becomes tree at columns read values = MatchBool (at == tree) (AreMade columns read (next at) values) (values ≡ map read (old.now.trees at))
+
+  becomes : (tree at : ℕ) → {X : Type 0} (columns : X → Row) (read : Row → X) (values : List X) → Becomes tree at columns read values → (at ≢ tree → next at ≡ old.now.trees at)
+      → AreKept columns read (old.now.trees at) → AreMade columns read (next at) values
+  becomes tree at columns read values h stays kept = elim (cases_Bool (at == tree)) [
+    | inl is ↦ rw is at h
+    | inr other ↦ subst (AreMade columns read (next at)) (sym (rw other at h)) (same columns read (old.now.trees at) (next at) (stays (grind (arith, nat_tests))) kept)
+  ]
+
+  pub record BecomeAll (tree : ℕ) (after : Tables) : Type 0 where
+    pub register : Becomes tree 0 of_register register_in after.register
+    pub cluster : Becomes tree 1 of_cluster cluster_in after.cluster
+    pub suppliers : Becomes tree 2 of_supplier supplier_in after.suppliers
+    pub nodes : Becomes tree 5 of_node node_in after.nodes
+    pub variants : Becomes tree 7 of_variant variant_in after.variants
+    pub grants : Becomes tree 9 of_grant grant_in after.grants
+    pub frames : Becomes tree 11 of_frame frame_in after.frames
+    pub placements : Becomes tree 13 of_placement placement_in after.placements
+    pub signals : Becomes tree 15 of_signal signal_in after.signals
+    pub imports : Becomes tree 17 of_import import_in after.imports
+    pub dropped : Becomes tree 19 of_dropped dropped_in after.dropped
+    pub cluster2 : Becomes tree 22 of_cluster2 cluster2_in after.cluster2
+
   module _ (was : HasTables old.now) where
-    abbrev db : Trees
-    db = old.now.trees
+    -- a change of the rows in one tree is a change of the tables
+    pub written : (tree : ℕ) → WritesTo register_schema tree old new → (after : Tables) → BecomeAll tree after → (change : Tables → Tables) → after ≡ change (tables_of old) → Changes change old new
+    written tree w after b =
+        let k = w.others in
+        whole after w.schema_is w.shown
+        (becomes tree 0 of_register register_in after.register b.register k.0 was.register)
+        (becomes tree 1 of_cluster cluster_in after.cluster b.cluster k.1.0 was.cluster)
+        (becomes tree 2 of_supplier supplier_in after.suppliers b.suppliers k.1.1.0 was.suppliers)
+        (becomes tree 5 of_node node_in after.nodes b.nodes k.1.1.1.0 was.nodes)
+        (becomes tree 7 of_variant variant_in after.variants b.variants k.1.1.1.1.0 was.variants)
+        (becomes tree 9 of_grant grant_in after.grants b.grants k.1.1.1.1.1.0 was.grants)
+        (becomes tree 11 of_frame frame_in after.frames b.frames k.1.1.1.1.1.1.0 was.frames)
+        (becomes tree 13 of_placement placement_in after.placements b.placements k.1.1.1.1.1.1.1.0 was.placements)
+        (becomes tree 15 of_signal signal_in after.signals b.signals k.1.1.1.1.1.1.1.1.0 was.signals)
+        (becomes tree 17 of_import import_in after.imports b.imports k.1.1.1.1.1.1.1.1.1.0 was.imports)
+        (becomes tree 19 of_dropped dropped_in after.dropped b.dropped k.1.1.1.1.1.1.1.1.1.1.0 was.dropped)
+        (becomes tree 22 of_cluster2 cluster2_in after.cluster2 b.cluster2 k.1.1.1.1.1.1.1.1.1.1.1.0 was.cluster2)
 
-    pub register_made : (f : List RegisterRow → List RegisterRow) → WritesTo register_schema 0 old new → AreMade of_register register_in (next 0) (f (map register_in (db 0))) → Changes (λ t. record t { register = f t.register }) old new
-    register_made f w made =
-        let k = others 0 db next all_tables w.others in
-        whole (record (tables_of old) { register = f (tables_of old).register }) w.schema_is w.shown
-        made
-        (same of_cluster cluster_in (db 1) (next 1) k.1.0 was.cluster)
-        (same of_supplier supplier_in (db 2) (next 2) k.1.1.0 was.suppliers)
-        (same of_node node_in (db 5) (next 5) k.1.1.1.0 was.nodes)
-        (same of_variant variant_in (db 7) (next 7) k.1.1.1.1.0 was.variants)
-        (same of_grant grant_in (db 9) (next 9) k.1.1.1.1.1.0 was.grants)
-        (same of_frame frame_in (db 11) (next 11) k.1.1.1.1.1.1.0 was.frames)
-        (same of_placement placement_in (db 13) (next 13) k.1.1.1.1.1.1.1.0 was.placements)
-        (same of_signal signal_in (db 15) (next 15) k.1.1.1.1.1.1.1.1.0 was.signals)
-        (same of_import import_in (db 17) (next 17) k.1.1.1.1.1.1.1.1.1.0 was.imports)
-        (same of_dropped dropped_in (db 19) (next 19) k.1.1.1.1.1.1.1.1.1.1.0 was.dropped)
-        (same of_cluster2 cluster2_in (db 22) (next 22) k.1.1.1.1.1.1.1.1.1.1.1.0 was.cluster2)
-        (λ t. record t { register = f t.register }) refl
+    pub register_made : (f : List RegisterRow → List RegisterRow) → WritesTo register_schema 0 old new → AreMade of_register register_in (next 0) (f (map register_in (old.now.trees 0)))
+        → Changes (λ t. record t { register = f t.register }) old new
+    register_made f w made = written 0 w (record (tables_of old) { register = f (tables_of old).register }) (record { register = made; cluster = refl; suppliers = refl; nodes = refl; variants = refl; grants = refl; frames = refl; placements = refl; signals = refl; imports = refl; dropped = refl; cluster2 = refl }) (λ t. record t { register = f t.register }) refl
 
-    pub cluster_made : (f : List ClusterRow → List ClusterRow) → WritesTo register_schema 1 old new → AreMade of_cluster cluster_in (next 1) (f (map cluster_in (db 1))) → Changes (λ t. record t { cluster = f t.cluster }) old new
-    cluster_made f w made =
-        let k = others 1 db next all_tables w.others in
-        whole (record (tables_of old) { cluster = f (tables_of old).cluster }) w.schema_is w.shown
-        (same of_register register_in (db 0) (next 0) k.0 was.register)
-        made
-        (same of_supplier supplier_in (db 2) (next 2) k.1.1.0 was.suppliers)
-        (same of_node node_in (db 5) (next 5) k.1.1.1.0 was.nodes)
-        (same of_variant variant_in (db 7) (next 7) k.1.1.1.1.0 was.variants)
-        (same of_grant grant_in (db 9) (next 9) k.1.1.1.1.1.0 was.grants)
-        (same of_frame frame_in (db 11) (next 11) k.1.1.1.1.1.1.0 was.frames)
-        (same of_placement placement_in (db 13) (next 13) k.1.1.1.1.1.1.1.0 was.placements)
-        (same of_signal signal_in (db 15) (next 15) k.1.1.1.1.1.1.1.1.0 was.signals)
-        (same of_import import_in (db 17) (next 17) k.1.1.1.1.1.1.1.1.1.0 was.imports)
-        (same of_dropped dropped_in (db 19) (next 19) k.1.1.1.1.1.1.1.1.1.1.0 was.dropped)
-        (same of_cluster2 cluster2_in (db 22) (next 22) k.1.1.1.1.1.1.1.1.1.1.1.0 was.cluster2)
-        (λ t. record t { cluster = f t.cluster }) refl
+    pub cluster_made : (f : List ClusterRow → List ClusterRow) → WritesTo register_schema 1 old new → AreMade of_cluster cluster_in (next 1) (f (map cluster_in (old.now.trees 1)))
+        → Changes (λ t. record t { cluster = f t.cluster }) old new
+    cluster_made f w made = written 1 w (record (tables_of old) { cluster = f (tables_of old).cluster }) (record { register = refl; cluster = made; suppliers = refl; nodes = refl; variants = refl; grants = refl; frames = refl; placements = refl; signals = refl; imports = refl; dropped = refl; cluster2 = refl }) (λ t. record t { cluster = f t.cluster }) refl
 
-    pub suppliers_made : (f : List SupplierRow → List SupplierRow) → WritesTo register_schema 2 old new → AreMade of_supplier supplier_in (next 2) (f (map supplier_in (db 2))) → Changes (λ t. record t { suppliers = f t.suppliers }) old new
-    suppliers_made f w made =
-        let k = others 2 db next all_tables w.others in
-        whole (record (tables_of old) { suppliers = f (tables_of old).suppliers }) w.schema_is w.shown
-        (same of_register register_in (db 0) (next 0) k.0 was.register)
-        (same of_cluster cluster_in (db 1) (next 1) k.1.0 was.cluster)
-        made
-        (same of_node node_in (db 5) (next 5) k.1.1.1.0 was.nodes)
-        (same of_variant variant_in (db 7) (next 7) k.1.1.1.1.0 was.variants)
-        (same of_grant grant_in (db 9) (next 9) k.1.1.1.1.1.0 was.grants)
-        (same of_frame frame_in (db 11) (next 11) k.1.1.1.1.1.1.0 was.frames)
-        (same of_placement placement_in (db 13) (next 13) k.1.1.1.1.1.1.1.0 was.placements)
-        (same of_signal signal_in (db 15) (next 15) k.1.1.1.1.1.1.1.1.0 was.signals)
-        (same of_import import_in (db 17) (next 17) k.1.1.1.1.1.1.1.1.1.0 was.imports)
-        (same of_dropped dropped_in (db 19) (next 19) k.1.1.1.1.1.1.1.1.1.1.0 was.dropped)
-        (same of_cluster2 cluster2_in (db 22) (next 22) k.1.1.1.1.1.1.1.1.1.1.1.0 was.cluster2)
-        (λ t. record t { suppliers = f t.suppliers }) refl
+    pub suppliers_made : (f : List SupplierRow → List SupplierRow) → WritesTo register_schema 2 old new → AreMade of_supplier supplier_in (next 2) (f (map supplier_in (old.now.trees 2)))
+        → Changes (λ t. record t { suppliers = f t.suppliers }) old new
+    suppliers_made f w made = written 2 w (record (tables_of old) { suppliers = f (tables_of old).suppliers }) (record { register = refl; cluster = refl; suppliers = made; nodes = refl; variants = refl; grants = refl; frames = refl; placements = refl; signals = refl; imports = refl; dropped = refl; cluster2 = refl }) (λ t. record t { suppliers = f t.suppliers }) refl
 
-    pub nodes_made : (f : List NodeRow → List NodeRow) → WritesTo register_schema 5 old new → AreMade of_node node_in (next 5) (f (map node_in (db 5))) → Changes (λ t. record t { nodes = f t.nodes }) old new
-    nodes_made f w made =
-        let k = others 5 db next all_tables w.others in
-        whole (record (tables_of old) { nodes = f (tables_of old).nodes }) w.schema_is w.shown
-        (same of_register register_in (db 0) (next 0) k.0 was.register)
-        (same of_cluster cluster_in (db 1) (next 1) k.1.0 was.cluster)
-        (same of_supplier supplier_in (db 2) (next 2) k.1.1.0 was.suppliers)
-        made
-        (same of_variant variant_in (db 7) (next 7) k.1.1.1.1.0 was.variants)
-        (same of_grant grant_in (db 9) (next 9) k.1.1.1.1.1.0 was.grants)
-        (same of_frame frame_in (db 11) (next 11) k.1.1.1.1.1.1.0 was.frames)
-        (same of_placement placement_in (db 13) (next 13) k.1.1.1.1.1.1.1.0 was.placements)
-        (same of_signal signal_in (db 15) (next 15) k.1.1.1.1.1.1.1.1.0 was.signals)
-        (same of_import import_in (db 17) (next 17) k.1.1.1.1.1.1.1.1.1.0 was.imports)
-        (same of_dropped dropped_in (db 19) (next 19) k.1.1.1.1.1.1.1.1.1.1.0 was.dropped)
-        (same of_cluster2 cluster2_in (db 22) (next 22) k.1.1.1.1.1.1.1.1.1.1.1.0 was.cluster2)
-        (λ t. record t { nodes = f t.nodes }) refl
+    pub nodes_made : (f : List NodeRow → List NodeRow) → WritesTo register_schema 5 old new → AreMade of_node node_in (next 5) (f (map node_in (old.now.trees 5)))
+        → Changes (λ t. record t { nodes = f t.nodes }) old new
+    nodes_made f w made = written 5 w (record (tables_of old) { nodes = f (tables_of old).nodes }) (record { register = refl; cluster = refl; suppliers = refl; nodes = made; variants = refl; grants = refl; frames = refl; placements = refl; signals = refl; imports = refl; dropped = refl; cluster2 = refl }) (λ t. record t { nodes = f t.nodes }) refl
 
-    pub variants_made : (f : List VariantRow → List VariantRow) → WritesTo register_schema 7 old new → AreMade of_variant variant_in (next 7) (f (map variant_in (db 7))) → Changes (λ t. record t { variants = f t.variants }) old new
-    variants_made f w made =
-        let k = others 7 db next all_tables w.others in
-        whole (record (tables_of old) { variants = f (tables_of old).variants }) w.schema_is w.shown
-        (same of_register register_in (db 0) (next 0) k.0 was.register)
-        (same of_cluster cluster_in (db 1) (next 1) k.1.0 was.cluster)
-        (same of_supplier supplier_in (db 2) (next 2) k.1.1.0 was.suppliers)
-        (same of_node node_in (db 5) (next 5) k.1.1.1.0 was.nodes)
-        made
-        (same of_grant grant_in (db 9) (next 9) k.1.1.1.1.1.0 was.grants)
-        (same of_frame frame_in (db 11) (next 11) k.1.1.1.1.1.1.0 was.frames)
-        (same of_placement placement_in (db 13) (next 13) k.1.1.1.1.1.1.1.0 was.placements)
-        (same of_signal signal_in (db 15) (next 15) k.1.1.1.1.1.1.1.1.0 was.signals)
-        (same of_import import_in (db 17) (next 17) k.1.1.1.1.1.1.1.1.1.0 was.imports)
-        (same of_dropped dropped_in (db 19) (next 19) k.1.1.1.1.1.1.1.1.1.1.0 was.dropped)
-        (same of_cluster2 cluster2_in (db 22) (next 22) k.1.1.1.1.1.1.1.1.1.1.1.0 was.cluster2)
-        (λ t. record t { variants = f t.variants }) refl
+    pub variants_made : (f : List VariantRow → List VariantRow) → WritesTo register_schema 7 old new → AreMade of_variant variant_in (next 7) (f (map variant_in (old.now.trees 7)))
+        → Changes (λ t. record t { variants = f t.variants }) old new
+    variants_made f w made = written 7 w (record (tables_of old) { variants = f (tables_of old).variants }) (record { register = refl; cluster = refl; suppliers = refl; nodes = refl; variants = made; grants = refl; frames = refl; placements = refl; signals = refl; imports = refl; dropped = refl; cluster2 = refl }) (λ t. record t { variants = f t.variants }) refl
 
-    pub grants_made : (f : List GrantRow → List GrantRow) → WritesTo register_schema 9 old new → AreMade of_grant grant_in (next 9) (f (map grant_in (db 9))) → Changes (λ t. record t { grants = f t.grants }) old new
-    grants_made f w made =
-        let k = others 9 db next all_tables w.others in
-        whole (record (tables_of old) { grants = f (tables_of old).grants }) w.schema_is w.shown
-        (same of_register register_in (db 0) (next 0) k.0 was.register)
-        (same of_cluster cluster_in (db 1) (next 1) k.1.0 was.cluster)
-        (same of_supplier supplier_in (db 2) (next 2) k.1.1.0 was.suppliers)
-        (same of_node node_in (db 5) (next 5) k.1.1.1.0 was.nodes)
-        (same of_variant variant_in (db 7) (next 7) k.1.1.1.1.0 was.variants)
-        made
-        (same of_frame frame_in (db 11) (next 11) k.1.1.1.1.1.1.0 was.frames)
-        (same of_placement placement_in (db 13) (next 13) k.1.1.1.1.1.1.1.0 was.placements)
-        (same of_signal signal_in (db 15) (next 15) k.1.1.1.1.1.1.1.1.0 was.signals)
-        (same of_import import_in (db 17) (next 17) k.1.1.1.1.1.1.1.1.1.0 was.imports)
-        (same of_dropped dropped_in (db 19) (next 19) k.1.1.1.1.1.1.1.1.1.1.0 was.dropped)
-        (same of_cluster2 cluster2_in (db 22) (next 22) k.1.1.1.1.1.1.1.1.1.1.1.0 was.cluster2)
-        (λ t. record t { grants = f t.grants }) refl
+    pub grants_made : (f : List GrantRow → List GrantRow) → WritesTo register_schema 9 old new → AreMade of_grant grant_in (next 9) (f (map grant_in (old.now.trees 9)))
+        → Changes (λ t. record t { grants = f t.grants }) old new
+    grants_made f w made = written 9 w (record (tables_of old) { grants = f (tables_of old).grants }) (record { register = refl; cluster = refl; suppliers = refl; nodes = refl; variants = refl; grants = made; frames = refl; placements = refl; signals = refl; imports = refl; dropped = refl; cluster2 = refl }) (λ t. record t { grants = f t.grants }) refl
 
-    pub frames_made : (f : List FrameRow → List FrameRow) → WritesTo register_schema 11 old new → AreMade of_frame frame_in (next 11) (f (map frame_in (db 11))) → Changes (λ t. record t { frames = f t.frames }) old new
-    frames_made f w made =
-        let k = others 11 db next all_tables w.others in
-        whole (record (tables_of old) { frames = f (tables_of old).frames }) w.schema_is w.shown
-        (same of_register register_in (db 0) (next 0) k.0 was.register)
-        (same of_cluster cluster_in (db 1) (next 1) k.1.0 was.cluster)
-        (same of_supplier supplier_in (db 2) (next 2) k.1.1.0 was.suppliers)
-        (same of_node node_in (db 5) (next 5) k.1.1.1.0 was.nodes)
-        (same of_variant variant_in (db 7) (next 7) k.1.1.1.1.0 was.variants)
-        (same of_grant grant_in (db 9) (next 9) k.1.1.1.1.1.0 was.grants)
-        made
-        (same of_placement placement_in (db 13) (next 13) k.1.1.1.1.1.1.1.0 was.placements)
-        (same of_signal signal_in (db 15) (next 15) k.1.1.1.1.1.1.1.1.0 was.signals)
-        (same of_import import_in (db 17) (next 17) k.1.1.1.1.1.1.1.1.1.0 was.imports)
-        (same of_dropped dropped_in (db 19) (next 19) k.1.1.1.1.1.1.1.1.1.1.0 was.dropped)
-        (same of_cluster2 cluster2_in (db 22) (next 22) k.1.1.1.1.1.1.1.1.1.1.1.0 was.cluster2)
-        (λ t. record t { frames = f t.frames }) refl
+    pub frames_made : (f : List FrameRow → List FrameRow) → WritesTo register_schema 11 old new → AreMade of_frame frame_in (next 11) (f (map frame_in (old.now.trees 11)))
+        → Changes (λ t. record t { frames = f t.frames }) old new
+    frames_made f w made = written 11 w (record (tables_of old) { frames = f (tables_of old).frames }) (record { register = refl; cluster = refl; suppliers = refl; nodes = refl; variants = refl; grants = refl; frames = made; placements = refl; signals = refl; imports = refl; dropped = refl; cluster2 = refl }) (λ t. record t { frames = f t.frames }) refl
 
-    pub placements_made : (f : List PlacementRow → List PlacementRow) → WritesTo register_schema 13 old new → AreMade of_placement placement_in (next 13) (f (map placement_in (db 13))) → Changes (λ t. record t { placements = f t.placements }) old new
-    placements_made f w made =
-        let k = others 13 db next all_tables w.others in
-        whole (record (tables_of old) { placements = f (tables_of old).placements }) w.schema_is w.shown
-        (same of_register register_in (db 0) (next 0) k.0 was.register)
-        (same of_cluster cluster_in (db 1) (next 1) k.1.0 was.cluster)
-        (same of_supplier supplier_in (db 2) (next 2) k.1.1.0 was.suppliers)
-        (same of_node node_in (db 5) (next 5) k.1.1.1.0 was.nodes)
-        (same of_variant variant_in (db 7) (next 7) k.1.1.1.1.0 was.variants)
-        (same of_grant grant_in (db 9) (next 9) k.1.1.1.1.1.0 was.grants)
-        (same of_frame frame_in (db 11) (next 11) k.1.1.1.1.1.1.0 was.frames)
-        made
-        (same of_signal signal_in (db 15) (next 15) k.1.1.1.1.1.1.1.1.0 was.signals)
-        (same of_import import_in (db 17) (next 17) k.1.1.1.1.1.1.1.1.1.0 was.imports)
-        (same of_dropped dropped_in (db 19) (next 19) k.1.1.1.1.1.1.1.1.1.1.0 was.dropped)
-        (same of_cluster2 cluster2_in (db 22) (next 22) k.1.1.1.1.1.1.1.1.1.1.1.0 was.cluster2)
-        (λ t. record t { placements = f t.placements }) refl
+    pub placements_made : (f : List PlacementRow → List PlacementRow) → WritesTo register_schema 13 old new → AreMade of_placement placement_in (next 13) (f (map placement_in (old.now.trees 13)))
+        → Changes (λ t. record t { placements = f t.placements }) old new
+    placements_made f w made = written 13 w (record (tables_of old) { placements = f (tables_of old).placements }) (record { register = refl; cluster = refl; suppliers = refl; nodes = refl; variants = refl; grants = refl; frames = refl; placements = made; signals = refl; imports = refl; dropped = refl; cluster2 = refl }) (λ t. record t { placements = f t.placements }) refl
 
-    pub signals_made : (f : List SignalRow → List SignalRow) → WritesTo register_schema 15 old new → AreMade of_signal signal_in (next 15) (f (map signal_in (db 15))) → Changes (λ t. record t { signals = f t.signals }) old new
-    signals_made f w made =
-        let k = others 15 db next all_tables w.others in
-        whole (record (tables_of old) { signals = f (tables_of old).signals }) w.schema_is w.shown
-        (same of_register register_in (db 0) (next 0) k.0 was.register)
-        (same of_cluster cluster_in (db 1) (next 1) k.1.0 was.cluster)
-        (same of_supplier supplier_in (db 2) (next 2) k.1.1.0 was.suppliers)
-        (same of_node node_in (db 5) (next 5) k.1.1.1.0 was.nodes)
-        (same of_variant variant_in (db 7) (next 7) k.1.1.1.1.0 was.variants)
-        (same of_grant grant_in (db 9) (next 9) k.1.1.1.1.1.0 was.grants)
-        (same of_frame frame_in (db 11) (next 11) k.1.1.1.1.1.1.0 was.frames)
-        (same of_placement placement_in (db 13) (next 13) k.1.1.1.1.1.1.1.0 was.placements)
-        made
-        (same of_import import_in (db 17) (next 17) k.1.1.1.1.1.1.1.1.1.0 was.imports)
-        (same of_dropped dropped_in (db 19) (next 19) k.1.1.1.1.1.1.1.1.1.1.0 was.dropped)
-        (same of_cluster2 cluster2_in (db 22) (next 22) k.1.1.1.1.1.1.1.1.1.1.1.0 was.cluster2)
-        (λ t. record t { signals = f t.signals }) refl
+    pub signals_made : (f : List SignalRow → List SignalRow) → WritesTo register_schema 15 old new → AreMade of_signal signal_in (next 15) (f (map signal_in (old.now.trees 15)))
+        → Changes (λ t. record t { signals = f t.signals }) old new
+    signals_made f w made = written 15 w (record (tables_of old) { signals = f (tables_of old).signals }) (record { register = refl; cluster = refl; suppliers = refl; nodes = refl; variants = refl; grants = refl; frames = refl; placements = refl; signals = made; imports = refl; dropped = refl; cluster2 = refl }) (λ t. record t { signals = f t.signals }) refl
 
-    pub imports_made : (f : List ImportRow → List ImportRow) → WritesTo register_schema 17 old new → AreMade of_import import_in (next 17) (f (map import_in (db 17))) → Changes (λ t. record t { imports = f t.imports }) old new
-    imports_made f w made =
-        let k = others 17 db next all_tables w.others in
-        whole (record (tables_of old) { imports = f (tables_of old).imports }) w.schema_is w.shown
-        (same of_register register_in (db 0) (next 0) k.0 was.register)
-        (same of_cluster cluster_in (db 1) (next 1) k.1.0 was.cluster)
-        (same of_supplier supplier_in (db 2) (next 2) k.1.1.0 was.suppliers)
-        (same of_node node_in (db 5) (next 5) k.1.1.1.0 was.nodes)
-        (same of_variant variant_in (db 7) (next 7) k.1.1.1.1.0 was.variants)
-        (same of_grant grant_in (db 9) (next 9) k.1.1.1.1.1.0 was.grants)
-        (same of_frame frame_in (db 11) (next 11) k.1.1.1.1.1.1.0 was.frames)
-        (same of_placement placement_in (db 13) (next 13) k.1.1.1.1.1.1.1.0 was.placements)
-        (same of_signal signal_in (db 15) (next 15) k.1.1.1.1.1.1.1.1.0 was.signals)
-        made
-        (same of_dropped dropped_in (db 19) (next 19) k.1.1.1.1.1.1.1.1.1.1.0 was.dropped)
-        (same of_cluster2 cluster2_in (db 22) (next 22) k.1.1.1.1.1.1.1.1.1.1.1.0 was.cluster2)
-        (λ t. record t { imports = f t.imports }) refl
+    pub imports_made : (f : List ImportRow → List ImportRow) → WritesTo register_schema 17 old new → AreMade of_import import_in (next 17) (f (map import_in (old.now.trees 17)))
+        → Changes (λ t. record t { imports = f t.imports }) old new
+    imports_made f w made = written 17 w (record (tables_of old) { imports = f (tables_of old).imports }) (record { register = refl; cluster = refl; suppliers = refl; nodes = refl; variants = refl; grants = refl; frames = refl; placements = refl; signals = refl; imports = made; dropped = refl; cluster2 = refl }) (λ t. record t { imports = f t.imports }) refl
 
-    pub dropped_made : (f : List DroppedRow → List DroppedRow) → WritesTo register_schema 19 old new → AreMade of_dropped dropped_in (next 19) (f (map dropped_in (db 19))) → Changes (λ t. record t { dropped = f t.dropped }) old new
-    dropped_made f w made =
-        let k = others 19 db next all_tables w.others in
-        whole (record (tables_of old) { dropped = f (tables_of old).dropped }) w.schema_is w.shown
-        (same of_register register_in (db 0) (next 0) k.0 was.register)
-        (same of_cluster cluster_in (db 1) (next 1) k.1.0 was.cluster)
-        (same of_supplier supplier_in (db 2) (next 2) k.1.1.0 was.suppliers)
-        (same of_node node_in (db 5) (next 5) k.1.1.1.0 was.nodes)
-        (same of_variant variant_in (db 7) (next 7) k.1.1.1.1.0 was.variants)
-        (same of_grant grant_in (db 9) (next 9) k.1.1.1.1.1.0 was.grants)
-        (same of_frame frame_in (db 11) (next 11) k.1.1.1.1.1.1.0 was.frames)
-        (same of_placement placement_in (db 13) (next 13) k.1.1.1.1.1.1.1.0 was.placements)
-        (same of_signal signal_in (db 15) (next 15) k.1.1.1.1.1.1.1.1.0 was.signals)
-        (same of_import import_in (db 17) (next 17) k.1.1.1.1.1.1.1.1.1.0 was.imports)
-        made
-        (same of_cluster2 cluster2_in (db 22) (next 22) k.1.1.1.1.1.1.1.1.1.1.1.0 was.cluster2)
-        (λ t. record t { dropped = f t.dropped }) refl
+    pub dropped_made : (f : List DroppedRow → List DroppedRow) → WritesTo register_schema 19 old new → AreMade of_dropped dropped_in (next 19) (f (map dropped_in (old.now.trees 19)))
+        → Changes (λ t. record t { dropped = f t.dropped }) old new
+    dropped_made f w made = written 19 w (record (tables_of old) { dropped = f (tables_of old).dropped }) (record { register = refl; cluster = refl; suppliers = refl; nodes = refl; variants = refl; grants = refl; frames = refl; placements = refl; signals = refl; imports = refl; dropped = made; cluster2 = refl }) (λ t. record t { dropped = f t.dropped }) refl
 
-    pub cluster2_made : (f : List Cluster2Row → List Cluster2Row) → WritesTo register_schema 22 old new → AreMade of_cluster2 cluster2_in (next 22) (f (map cluster2_in (db 22))) → Changes (λ t. record t { cluster2 = f t.cluster2 }) old new
-    cluster2_made f w made =
-        let k = others 22 db next all_tables w.others in
-        whole (record (tables_of old) { cluster2 = f (tables_of old).cluster2 }) w.schema_is w.shown
-        (same of_register register_in (db 0) (next 0) k.0 was.register)
-        (same of_cluster cluster_in (db 1) (next 1) k.1.0 was.cluster)
-        (same of_supplier supplier_in (db 2) (next 2) k.1.1.0 was.suppliers)
-        (same of_node node_in (db 5) (next 5) k.1.1.1.0 was.nodes)
-        (same of_variant variant_in (db 7) (next 7) k.1.1.1.1.0 was.variants)
-        (same of_grant grant_in (db 9) (next 9) k.1.1.1.1.1.0 was.grants)
-        (same of_frame frame_in (db 11) (next 11) k.1.1.1.1.1.1.0 was.frames)
-        (same of_placement placement_in (db 13) (next 13) k.1.1.1.1.1.1.1.0 was.placements)
-        (same of_signal signal_in (db 15) (next 15) k.1.1.1.1.1.1.1.1.0 was.signals)
-        (same of_import import_in (db 17) (next 17) k.1.1.1.1.1.1.1.1.1.0 was.imports)
-        (same of_dropped dropped_in (db 19) (next 19) k.1.1.1.1.1.1.1.1.1.1.0 was.dropped)
-        made
-        (λ t. record t { cluster2 = f t.cluster2 }) refl
+    pub cluster2_made : (f : List Cluster2Row → List Cluster2Row) → WritesTo register_schema 22 old new → AreMade of_cluster2 cluster2_in (next 22) (f (map cluster2_in (old.now.trees 22)))
+        → Changes (λ t. record t { cluster2 = f t.cluster2 }) old new
+    cluster2_made f w made = written 22 w (record (tables_of old) { cluster2 = f (tables_of old).cluster2 }) (record { register = refl; cluster = refl; suppliers = refl; nodes = refl; variants = refl; grants = refl; frames = refl; placements = refl; signals = refl; imports = refl; dropped = refl; cluster2 = made }) (λ t. record t { cluster2 = f t.cluster2 }) refl

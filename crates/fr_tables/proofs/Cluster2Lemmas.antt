@@ -53,7 +53,7 @@ inserts c old new (Ok count) was h =
 abbrev pub select_text : List ℕ
 select_text = codes "SELECT static_slots, slot_macroticks, dynamic_macroticks, symbol_macroticks, idle_macroticks, macroticks_per_cycle, payload_words, channels, integrator, cycles FROM cluster2"
 
-pub its_row : Queries of_cluster2 shows_cluster2 (every) any_order 22 select_text ([])
+pub its_row : Queries register_schema of_cluster2 shows_cluster2 (every) any_order 22 select_text ([])
 unfolding understood everything
 its_row = record {
   tests = [];

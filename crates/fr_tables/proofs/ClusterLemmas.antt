@@ -42,7 +42,7 @@ deletes old new (Ok count) was h =
 abbrev pub select_text : List ℕ
 select_text = codes "SELECT static_slots, slot_macroticks, dynamic_macroticks, symbol_macroticks, idle_macroticks, macroticks_per_cycle, payload_words, channels, integrator FROM cluster"
 
-pub its_row : Queries of_cluster shows_cluster (every) any_order 1 select_text ([])
+pub its_row : Queries register_schema of_cluster shows_cluster (every) any_order 1 select_text ([])
 unfolding understood everything
 its_row = record {
   tests = [];

@@ -6,16 +6,21 @@ use Rattle.std.specs.Str.{bytes_eq}
 use Rattle.sqlite.specs.declared.types.Value.TheVariants.{Int, Text}
 use Rattle.fr_base.specs.declared.params.RawParams.{RawParams}
 use Rattle.fr_base.specs.Names.{same_text, is_key}
-use Rattle.fr_base.specs.Channels.{text_of_channels}
 use Rattle.fr_base.specs.Parameters.{check_params}
 use Rattle.fr_base.specs.Refusing.{◌>>◌, refuse◌when◌}
-use Rattle.fr_tables.specs.Statements.{cluster2_row, shows_cluster2}
+use Rattle.fr_tables.specs.Statements.{cluster_row, cluster2_row, shows_cluster, shows_cluster2}
 use Rattle.std.specs.Prelude.{⊤}
 use Rattle.std.proofs.lemmas.Bool.{and_from}
 use Rattle.sqlite.specs.Order.{Row, column}
 use Rattle.fr_base.specs.declared.config.Supplier.{Supplier}
 use Rattle.fr_base.specs.Cluster.{ClusterFile, IsWellFormed, keys_of, keys_differ, is_cluster}
-use Rattle.fr_tables.specs.ClusterRows.{AreFormed}
+use Rattle.fr_tables.specs.ClusterRows.{AreFormed, TellsParams}
+
+-- a row of nine columns is these
+nine : (r : Row) → length r ≡ 9
+    → r ≡ column r 0 ∷ column r 1 ∷ column r 2 ∷ column r 3 ∷ column r 4 ∷ column r 5 ∷ column r 6 ∷ column r 7 ∷ column r 8 ∷ []
+nine (a ∷ b ∷ c ∷ d ∷ e ∷ f ∷ g ∷ h ∷ i ∷ []) is = refl
+nine r is = absurd (omega arith)
 
 -- a row of ten columns is these
 ten : (r : Row) → length r ≡ 10
@@ -29,11 +34,22 @@ unfolding check_params ◌>>◌ refuse◌when◌
 kept_params raw p is = grind arith
 
 -- the row whose columns were read is that of the cluster
-pub its_row : (r : Row) (raw p : RawParams) (integrator : List ℕ) → length r ≡ 10 → check_params raw ≡ Ok p → column r 0 ≡ Int (pos raw.static_slots) → column r 1 ≡ Int (pos raw.slot_macroticks)
-    → column r 2 ≡ Int (pos raw.dynamic_macroticks) → column r 3 ≡ Int (pos raw.symbol_macroticks) → column r 4 ≡ Int (pos raw.idle_macroticks) → column r 5 ≡ Int (pos raw.macroticks_per_cycle)
-    → column r 6 ≡ Int (pos raw.payload_words) → column r 7 ≡ Text (text_of_channels raw.channels) → column r 8 ≡ Text integrator → column r 9 ≡ Int (pos raw.cycles) → r ≡ shows_cluster2 (cluster2_row p integrator)
-its_row r raw p integrator size checked c0 c1 c2 c3 c4 c5 c6 c7 c8 c9 =
-    ten r size ∙ (λ i. c0 i ∷ c1 i ∷ c2 i ∷ c3 i ∷ c4 i ∷ c5 i ∷ c6 i ∷ c7 i ∷ c8 i ∷ c9 i ∷ []) ∙ ap (λ q. shows_cluster2 (cluster2_row q integrator)) (sym (kept_params raw p checked))
+pub its_row : (r : Row) (raw p : RawParams) (integrator : List ℕ) → length r ≡ 10 → check_params raw ≡ Ok p → TellsParams r raw → column r 8 ≡ Text integrator → column r 9 ≡ Int (pos raw.cycles)
+    → r ≡ shows_cluster2 (cluster2_row p integrator)
+its_row r raw p integrator size checked t key cycles =
+    ten r size
+    ∙ (λ i. t.static_slots i ∷ t.slot_macroticks i ∷ t.dynamic_macroticks i ∷ t.symbol_macroticks i ∷ t.idle_macroticks i ∷ t.macroticks_per_cycle i ∷ t.payload_words i ∷ t.channels i ∷ key i ∷ cycles i ∷ [])
+    ∙ ap (λ q. shows_cluster2 (cluster2_row q integrator)) (sym (kept_params raw p checked))
+
+-- so in the schema before
+pub row_before : (r : Row) (raw p : RawParams) (integrator : List ℕ) → length r ≡ 9 → check_params raw ≡ Ok p → TellsParams r raw → column r 8 ≡ Text integrator → r ≡ shows_cluster (cluster_row p integrator)
+row_before r raw p integrator size checked t key =
+    nine r size
+    ∙ (λ i. t.static_slots i ∷ t.slot_macroticks i ∷ t.dynamic_macroticks i ∷ t.symbol_macroticks i ∷ t.idle_macroticks i ∷ t.macroticks_per_cycle i ∷ t.payload_words i ∷ t.channels i ∷ key i ∷ [])
+    ∙ ap (λ q. shows_cluster (cluster_row q integrator)) (sym (kept_params raw p checked))
+
+pub same_cycles : (raw p : RawParams) → check_params raw ≡ Ok p → p.cycles ≡ raw.cycles
+same_cycles raw p checked = ap (λ (q : RawParams). q.cycles) (kept_params raw p checked)
 
 has_key-keys : (key : List ℕ) (suppliers : List Supplier) → list_any (λ s. bytes_eq key s.key) suppliers ≡ list_any (same_text key) (map (λ s. s.key) suppliers)
 has_key-keys key [] = refl

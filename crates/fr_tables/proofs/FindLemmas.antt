@@ -6,6 +6,7 @@ use Rattle.std.specs.List.{list_all}
 use Rattle.sqlite.specs.declared.types.Value.{Value}
 use Rattle.sqlite.specs.declared.error.Error.{Error}
 use Rattle.sqlite.specs.Order.{Row}
+use Rattle.sqlite.specs.Schema.{Schema}
 use Rattle.sqlite.specs.Term.{Term, eval_all, holds}
 use Rattle.sqlite.specs.Query.{sort_cmp}
 use Rattle.sqlite.specs.State.{State, Shown, FailsToQuery, IsTooLate, IsUnchanged, Survives, CommitsShowing}
@@ -17,16 +18,16 @@ use Rattle.fr_tables.specs.Changes.{AreListed, Stays, Spares}
 use Rattle.fr_tables.proofs.ReadLemmas.{Reads, reads, stored_as, known, all_known, listed, shown_same, query_failed}
 
 -- the text is a query of the rows that pass, in that order
-pub record Queries {X : Type 0} (columns shows : X → Row) (passes : X → Bool) (cmp : X → X → Ordering) (tree : ℕ) (text : List ℕ) (params : Row) : Type 0 where
+pub record Queries (schema : Schema) {X : Type 0} (columns shows : X → Row) (passes : X → Bool) (cmp : X → X → Ordering) (tree : ℕ) (text : List ℕ) (params : Row) : Type 0 where
   pub tests : List Term
   pub order : List (Term × Key)
   pub project : List Term
-  pub is : Reads register_schema text tree tests order project
+  pub is : Reads schema text tree tests order project
   pub tested : (p : Value × X) → list_all (holds (params ∷ stored_as columns p ∷ [])) tests ≡ passes p.1
   pub compared : (a b : Value × X) → sort_cmp order (params ∷ stored_as columns a ∷ []) (params ∷ stored_as columns b ∷ []) ≡ cmp a.1 b.1
   pub projected : (p : Value × X) → eval_all project (params ∷ stored_as columns p ∷ []) ≡ shows p.1
 
-module _ {X : Type 0} (columns shows : X → Row) (read : Row → X) (passes : X → Bool) (cmp : X → X → Ordering) (tree : ℕ) (text : List ℕ) (params : Row) (q : Queries columns shows passes cmp tree text params)
+module _ {X : Type 0} (columns shows : X → Row) (read : Row → X) (passes : X → Bool) (cmp : X → X → Ordering) (tree : ℕ) (text : List ℕ) (params : Row) (q : Queries register_schema columns shows passes cmp tree text params)
     (old new : State) where
   pub finds : HasTables old.now → AreKept columns read (old.now.trees tree) → (r : Result (Vec Row Global) Error)
       → IfOk r (λ rows. Shown text params old new rows.items) → IfErr r (FailsToQuery text params old new)
@@ -51,7 +52,7 @@ module _ {X : Type 0} (columns shows : X → Row) (read : Row → X) (passes : X
 
 -- ---- a query inside a transaction
 
-module _ {X : Type 0} (columns shows : X → Row) (read : Row → X) (passes : X → Bool) (cmp : X → X → Ordering) (tree : ℕ) (text : List ℕ) (params : Row) (q : Queries columns shows passes cmp tree text params)
+module _ {X : Type 0} (columns shows : X → Row) (read : Row → X) (passes : X → Bool) (cmp : X → X → Ordering) (tree : ℕ) (text : List ℕ) (params : Row) (q : Queries register_schema columns shows passes cmp tree text params)
     (old new : State) where
   pub finds_inside : HasTables old.now → AreKept columns read (old.now.trees tree) → (r : Result (Vec Row Global) Error)
       → IfOk r (λ rows. Shown text params old new rows.items) → IfErr r (λ e. FailsToQuery text params old new e ⊎ IsTooLate text params old new e)

@@ -84,7 +84,7 @@ copies_one from to supplier name old new (Ok count) was h =
 abbrev pub select_text : List ℕ
 select_text = codes "SELECT name, node FROM frames WHERE variant = ?1 AND supplier = ?2 ORDER BY name"
 
-pub by_supplier : (variant : List ℕ) (supplier : List ℕ) → Queries of_frame shows_frame (is_frame_of variant supplier) frames_cmp 11 select_text (Text variant ∷ Text supplier ∷ [])
+pub by_supplier : (variant : List ℕ) (supplier : List ℕ) → Queries register_schema of_frame shows_frame (is_frame_of variant supplier) frames_cmp 11 select_text (Text variant ∷ Text supplier ∷ [])
 unfolding understood everything
 by_supplier variant supplier = record {
   tests = op2 (Compare Eq Binary) (col 1 1) (col 0 0) ∷ op2 (Compare Eq Binary) (col 1 2) (col 0 1) ∷ [];
@@ -99,7 +99,7 @@ by_supplier variant supplier = record {
 abbrev pub one_text : List ℕ
 one_text = codes "SELECT name, node FROM frames WHERE variant = ?1 AND supplier = ?2 AND name = ?3"
 
-pub by_key : (variant : List ℕ) (supplier : List ℕ) (name : List ℕ) → Queries of_frame shows_frame (is_frame variant supplier name) any_order 11 one_text (Text variant ∷ Text supplier ∷ Text name ∷ [])
+pub by_key : (variant : List ℕ) (supplier : List ℕ) (name : List ℕ) → Queries register_schema of_frame shows_frame (is_frame variant supplier name) any_order 11 one_text (Text variant ∷ Text supplier ∷ Text name ∷ [])
 unfolding understood everything
 by_key variant supplier name = record {
   tests = op2 (Compare Eq Binary) (col 1 1) (col 0 0) ∷ op2 (Compare Eq Binary) (col 1 2) (col 0 1) ∷ op2 (Compare Eq Binary) (col 1 3) (col 0 2) ∷ [];

@@ -111,7 +111,7 @@ copies parent child old new (Ok count) was h =
 abbrev pub select_text : List ℕ
 select_text = codes "SELECT slot, channel, node FROM grants WHERE variant = ?1 AND supplier = ?2"
 
-pub by_supplier : (variant supplier : List ℕ) → Queries of_grant shows_grant (is_grant_of variant supplier) any_order 9 select_text (Text variant ∷ Text supplier ∷ [])
+pub by_supplier : (variant supplier : List ℕ) → Queries register_schema of_grant shows_grant (is_grant_of variant supplier) any_order 9 select_text (Text variant ∷ Text supplier ∷ [])
 unfolding understood everything
 by_supplier variant supplier = record {
   tests = op2 (Compare Eq Binary) (col 1 1) (col 0 0) ∷ op2 (Compare Eq Binary) (col 1 4) (col 0 1) ∷ [];
@@ -127,7 +127,7 @@ abbrev pub holder_text : List ℕ
 holder_text = codes "SELECT supplier, node FROM grants WHERE variant = ?1 AND slot = ?2 AND channel = ?3"
 
 pub by_place : (variant : List ℕ) (slot : ℤ) (channel : List ℕ)
-    → Queries of_grant shows_holder (is_grant_at variant slot channel) any_order 9 holder_text (Text variant ∷ Int slot ∷ Text channel ∷ [])
+    → Queries register_schema of_grant shows_holder (is_grant_at variant slot channel) any_order 9 holder_text (Text variant ∷ Int slot ∷ Text channel ∷ [])
 unfolding understood everything
 by_place variant slot channel = record {
   tests = at_place;

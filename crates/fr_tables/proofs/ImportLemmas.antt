@@ -54,7 +54,7 @@ inserts i old new (Ok count) was h =
 abbrev pub select_text : List ℕ
 select_text = codes "SELECT variant, body, rows FROM imports WHERE supplier = ?1 AND label = ?2"
 
-pub by_label : (supplier : List ℕ) (label : List ℕ) → Queries of_import shows_import (is_import supplier label) any_order 17 select_text (Text supplier ∷ Text label ∷ [])
+pub by_label : (supplier : List ℕ) (label : List ℕ) → Queries register_schema of_import shows_import (is_import supplier label) any_order 17 select_text (Text supplier ∷ Text label ∷ [])
 unfolding understood everything
 by_label supplier label = record {
   tests = op2 (Compare Eq Binary) (col 1 1) (col 0 0) ∷ op2 (Compare Eq Binary) (col 1 2) (col 0 1) ∷ [];
@@ -69,7 +69,7 @@ by_label supplier label = record {
 abbrev pub labels_text : List ℕ
 labels_text = codes "SELECT label FROM imports WHERE supplier = ?1 ORDER BY label"
 
-pub by_supplier : (supplier : List ℕ) → Queries of_import shows_label (is_import_of supplier) labels_cmp 17 labels_text (Text supplier ∷ [])
+pub by_supplier : (supplier : List ℕ) → Queries register_schema of_import shows_label (is_import_of supplier) labels_cmp 17 labels_text (Text supplier ∷ [])
 unfolding understood everything
 by_supplier supplier = record {
   tests = op2 (Compare Eq Binary) (col 1 1) (col 0 0) ∷ [];

@@ -56,7 +56,7 @@ inserts n old new (Ok count) was h =
 abbrev pub select_text : List ℕ
 select_text = codes "SELECT name FROM nodes WHERE supplier = ?1 ORDER BY name"
 
-pub by_supplier : (supplier : List ℕ) → Queries of_node shows_node (is_node_of supplier) nodes_cmp 5 select_text (Text supplier ∷ [])
+pub by_supplier : (supplier : List ℕ) → Queries register_schema of_node shows_node (is_node_of supplier) nodes_cmp 5 select_text (Text supplier ∷ [])
 unfolding understood everything
 by_supplier supplier = record {
   tests = op2 (Compare Eq Binary) (col 1 1) (col 0 0) ∷ [];

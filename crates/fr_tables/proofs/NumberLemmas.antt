@@ -6,6 +6,7 @@ use Rattle.std.specs.declared.alloc.Global.{Global}
 use Rattle.std.specs.List.Sorted.{IsPermutation}
 use Rattle.std.proofs.lemmas.List.Sorted.{IsPermutation-map, IsPermutation-sym}
 use Rattle.sqlite.specs.Order.{Row}
+use Rattle.sqlite.specs.Schema.{Schema}
 use Rattle.sqlite_trees.specs.declared.error.StoreError.{StoreError}
 use Rattle.sqlite_trees.specs.declared.error.StoreError.TheVariants as cause
 use Rattle.sqlite_schema.specs.declared.command.Returning.{Returning}
@@ -19,14 +20,14 @@ use Rattle.sqlite.specs.State.{State, Shown, ShowsRows, FailsToQuery, FailsToSho
 use Rattle.sqlite.specs.declared.error.Error.{Error}
 use Rattle.sqlite.specs.declared.error.Error.TheVariants.{SqlInputError}
 use Rattle.sqlite.proofs.Callers.{IsPlain, one_permutation}
-use Rattle.fr_tables.specs.Schema.{register_schema}
+use Rattle.fr_tables.specs.Schema.{register_schema, old_schema}
 use Rattle.fr_tables.specs.Rows.{RegisterRow, of_register, register_in}
-use Rattle.fr_tables.specs.Tables.{HasTables, AreKept, tables_in}
+use Rattle.fr_tables.specs.Tables.{HasTables, HasSomeTables, AreKept, tables_in}
 use Rattle.fr_tables.specs.Changes.{AreListed}
 use Rattle.fr_tables.proofs.FindLemmas.{Queries}
-use Rattle.fr_tables.specs.Statements.{shows_register, every}
+use Rattle.fr_tables.specs.Statements.{shows_register, every, any_order}
 use Rattle.fr_tables.specs.Asking.{number_text, numbered, HasNumber}
-use Rattle.fr_tables.proofs.RegisterLemmas.{its_row}
+use Rattle.fr_tables.proofs.RegisterLemmas.{its_row, row_before}
 use Rattle.fr_tables.proofs.ReadLemmas.{reads, stored_as, known, all_known, listed}
 
 -- ---- whatever the text means, nothing is committed inside a transaction
@@ -77,12 +78,14 @@ all_pass : (xs : List RegisterRow) → filter every xs ≡ xs
 all_pass [] = refl
 all_pass (x ∷ xs) = ap (λ ys. x ∷ ys) (all_pass xs)
 
-pub numbers_shown : (old new : State) (rows : List Row) → HasTables old.now → Shown number_text [] old new rows → IsPermutation (map shows_register (tables_in old.now.trees).register) rows
-numbers_shown old new rows was h =
-    let q = its_row in
-    let scans = reads register_schema number_text 0 q.tests q.order q.project q.is [] old new rows was.schema h (stored_as of_register) (map (known register_in) (old.now.trees 0)) (all_known of_register register_in (old.now.trees 0) was.register.typed) in
-    let all = listed of_register shows_register register_in every _ (old.now.trees 0) [] q.tests q.order q.project rows q.tested q.compared q.projected scans in
-    subst (IsPermutation (map shows_register (tables_in old.now.trees).register)) (sym all.shown) (IsPermutation-map shows_register _ _ (rw all_pass at all.same))
+-- the register's rows, where the number's text is a query of them
+module _ (schema : Schema) (q : Queries schema of_register shows_register every any_order 0 number_text []) where
+  pub numbers_shown : (old new : State) (rows : List Row) → old.now.schema ≡ schema → AreKept of_register register_in (old.now.trees 0) → Shown number_text [] old new rows
+      → IsPermutation (map shows_register (tables_in old.now.trees).register) rows
+  numbers_shown old new rows has kept h =
+      let scans = reads schema number_text 0 q.tests q.order q.project q.is [] old new rows has h (stored_as of_register) (map (known register_in) (old.now.trees 0)) (all_known of_register register_in (old.now.trees 0) kept.typed) in
+      let all = listed of_register shows_register register_in every _ (old.now.trees 0) [] q.tests q.order q.project rows q.tested q.compared q.projected scans in
+      subst (IsPermutation (map shows_register (tables_in old.now.trees).register)) (sym all.shown) (IsPermutation-map shows_register _ _ (rw all_pass at all.same))
 
 no_text_fault : (kind : StoreError) (x : _) → store_error kind ≢ SqlInputError x
 no_text_fault cause.OutOfMemory x e = absurd cc
@@ -104,34 +107,43 @@ plain_not_err (Ok c) fault plain e = absurd cc
 plain_not_err (Err f) fault plain e = absurd plain
 
 -- the text is understood, so the error is another
-pub no_text_error : (old new : State) (e : Error) (x : _) → HasTables old.now → FailsToQuery number_text [] old new e ⊎ IsTooLate number_text [] old new e → e ≢ SqlInputError x
+pub no_text_error : (old new : State) (e : Error) (x : _) → IsPlain (understood old.now.schema number_text) → FailsToQuery number_text [] old new e ⊎ IsTooLate number_text [] old new e → e ≢ SqlInputError x
 unfolding FailsToQuery IsNotRun
-no_text_error old new e x was (inl (inl (inl h))) is = elim h.0 [
-  | inl bad ↦ absurd (plain_not_err _ bad.0 its_row.is.plain (sym (ap (λ s. understood s number_text) was.schema) ∙ bad.1))
+no_text_error old new e x plain (inl (inl (inl h))) is = elim h.0 [
+  | inl bad ↦ absurd (plain_not_err _ bad.0 plain bad.1)
   | inr other ↦ elim other.2 [ inl many ↦ absurd (let k = many.1 in cc) | inr rest ↦ elim rest [ inl few ↦ absurd (let k = few.1 in cc) | inr late ↦ absurd (let k = late.1 in cc) ] ]
 ]
-no_text_error old new e x was (inl (inl (inr h))) is = absurd (no_text_fault h.0 x (sym h.1 ∙ is))
-no_text_error old new e x was (inl (inr h)) is =
-    let plain : IsPlain (understood old.now.schema number_text) = rw was.schema its_row.is.plain in
+no_text_error old new e x plain (inl (inl (inr h))) is = absurd (no_text_fault h.0 x (sym h.1 ∙ is))
+no_text_error old new e x plain (inl (inr h)) is =
     let bare = subst IsPlain h.1.is plain in
     let refused = rw bare.0 at h.2 in
     absurd (read_is_no_text _ h.0.command refused.0 _ e x refused.2 is)
-no_text_error old new e x was (inr h) is = absurd (let k = h.4 in cc)
+no_text_error old new e x plain (inr h) is = absurd (let k = h.4 in cc)
 
-pub asked_shown : (sql : List ℕ) (old begun mid : State) (r : Result (Vec Row Global) Error) → sql ≡ number_text → begun.now ≡ old.now → HasTables old.now → IfOk r (λ rows. Shown sql [] begun mid rows.items)
+-- the number's text is a query of the register's rows in either schema
+some_shown : (old new : State) (rows : List Row) → HasSomeTables old.now → Shown number_text [] old new rows → IsPermutation (map shows_register (tables_in old.now.trees).register) rows
+some_shown old new rows (inl was) h = numbers_shown register_schema its_row old new rows was.schema was.register h
+some_shown old new rows (inr was) h = numbers_shown old_schema row_before old new rows was.schema was.register h
+
+some_plain : (db : Database) → HasSomeTables db → IsPlain (understood db.schema number_text)
+some_plain db (inl was) = rw was.schema its_row.is.plain
+some_plain db (inr was) = rw was.schema row_before.is.plain
+
+pub asked_shown : (sql : List ℕ) (old begun mid : State) (r : Result (Vec Row Global) Error) → sql ≡ number_text → begun.now ≡ old.now → HasSomeTables old.now → IfOk r (λ rows. Shown sql [] begun mid rows.items)
     → IfOk r (λ rows. IsPermutation (map shows_register (tables_in old.now.trees).register) rows.items)
 asked_shown sql old begun mid (Ok rows) text same was h =
     subst (λ (d : Database). IsPermutation (map shows_register (tables_in d.trees).register) rows.items) same
-    (numbers_shown begun mid rows.items (subst HasTables (sym same) was) (subst (λ t. Shown t [] begun mid rows.items) text h))
+    (some_shown begun mid rows.items (subst HasSomeTables (sym same) was) (subst (λ t. Shown t [] begun mid rows.items) text h))
 asked_shown sql old begun mid (Err e) text same was h = tt
 
-pub asked_told : (sql : List ℕ) (old begun mid : State) (r : Result (Vec Row Global) Error) → sql ≡ number_text → begun.now ≡ old.now → HasTables old.now
+pub asked_told : (sql : List ℕ) (old begun mid : State) (r : Result (Vec Row Global) Error) → sql ≡ number_text → begun.now ≡ old.now → HasSomeTables old.now
     → IfErr r (λ e. FailsToQuery sql [] begun mid e ⊎ IsTooLate sql [] begun mid e) → IfErr r (λ e. (x : CompileError) → e ≢ SqlInputError x)
 asked_told sql old begun mid (Ok rows) text same was h = tt
-asked_told sql old begun mid (Err e) text same was h = λ x. no_text_error begun mid e x (subst HasTables (sym same) was) (subst (λ t. FailsToQuery t [] begun mid e ⊎ IsTooLate t [] begun mid e) text h)
+asked_told sql old begun mid (Err e) text same was h =
+    λ x. no_text_error begun mid e x (some_plain begun.now (subst HasSomeTables (sym same) was)) (subst (λ t. FailsToQuery t [] begun mid e ⊎ IsTooLate t [] begun mid e) text h)
 
 -- what is asked of another table
-module _ {X : Type 0} (columns shows : X → Row) (read : Row → X) (passes : X → Bool) (cmp : X → X → Ordering) (tree : ℕ) (text : List ℕ) (q : Queries columns shows passes cmp tree text []) where
+module _ {X : Type 0} (columns shows : X → Row) (read : Row → X) (passes : X → Bool) (cmp : X → X → Ordering) (tree : ℕ) (text : List ℕ) (q : Queries register_schema columns shows passes cmp tree text []) where
   rows_listed : (begun mid : State) (rows : List Row) → HasTables begun.now → AreKept columns read (begun.now.trees tree) → Shown text [] begun mid rows → AreListed shows passes cmp (map read (begun.now.trees tree)) rows
   rows_listed begun mid rows was kept h =
       let scans = reads register_schema text tree q.tests q.order q.project q.is [] begun mid rows was.schema h (stored_as columns) (map (known read) (begun.now.trees tree)) (all_known columns read (begun.now.trees tree) kept.typed) in
@@ -150,14 +162,14 @@ one_number (x ∷ []) n e = let same : x.schema ≡ n = cc in ap (λ m. numbered
 one_number (x ∷ y ∷ xs) n e = absurd cc
 
 -- the rows are those of one number, and so is the register
-pub number_known : (db : Database) (n : ℤ) (rows : List Row) → rows ≡ shows_register (numbered n) ∷ [] → IsPermutation (map shows_register (tables_in db.trees).register) rows → HasTables db → HasNumber db n
+pub number_known : (db : Database) (n : ℤ) (rows : List Row) → rows ≡ shows_register (numbered n) ∷ [] → IsPermutation (map shows_register (tables_in db.trees).register) rows → HasSomeTables db → HasNumber db n
 number_known db n rows is same was =
     record { has = was; number = one_number (tables_in db.trees).register n (one_permutation (shows_register (numbered n)) _ (IsPermutation-sym _ _ (rw is at same))) }
 
 pub rows_known : (db : Database) (n : ℤ) (rows : List Row) → HasNumber db n → IsPermutation (map shows_register (tables_in db.trees).register) rows → rows ≡ shows_register (numbered n) ∷ []
 rows_known db n rows has same = one_permutation (shows_register (numbered n)) rows (rw has.number at same)
 
-pub number_some : (db : Database) (rows : List Row) (found : Option ℤ) → IfSome found (λ n. rows ≡ shows_register (numbered n) ∷ []) → (HasTables db → IsPermutation (map shows_register (tables_in db.trees).register) rows)
-    → IfSome found (λ n. HasTables db → HasNumber db n)
+pub number_some : (db : Database) (rows : List Row) (found : Option ℤ) → IfSome found (λ n. rows ≡ shows_register (numbered n) ∷ []) → (HasSomeTables db → IsPermutation (map shows_register (tables_in db.trees).register) rows)
+    → IfSome found (λ n. HasSomeTables db → HasNumber db n)
 number_some db rows None is same = tt
 number_some db rows (Some n) is same = λ was. number_known db n rows is (same was) was

@@ -103,7 +103,7 @@ copies_one from to supplier frame old new (Ok count) was h =
 abbrev pub select_text : List ℕ
 select_text = codes "SELECT frame, slot, channels, base, repetition FROM placements WHERE variant = ?1 AND supplier = ?2 ORDER BY frame, slot, channels, base, repetition"
 
-pub by_supplier : (variant : List ℕ) (supplier : List ℕ) → Queries of_placement shows_placement (is_placed_by variant supplier) placements_cmp 13 select_text (Text variant ∷ Text supplier ∷ [])
+pub by_supplier : (variant : List ℕ) (supplier : List ℕ) → Queries register_schema of_placement shows_placement (is_placed_by variant supplier) placements_cmp 13 select_text (Text variant ∷ Text supplier ∷ [])
 unfolding understood everything
 by_supplier variant supplier = record {
   tests = op2 (Compare Eq Binary) (col 1 1) (col 0 0) ∷ op2 (Compare Eq Binary) (col 1 2) (col 0 1) ∷ [];

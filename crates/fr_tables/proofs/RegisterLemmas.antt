@@ -10,7 +10,7 @@ use Rattle.std.proofs.lemmas.Bool.{cases_Bool}
 use Rattle.sqlite_rules.specs.Action.{works}
 use Rattle.sqlite_schema.specs.declared.schema.Keys.TheVariants.{Enforced}
 use Rattle.sqlite_tied.specs.Compute.{everything}
-use Rattle.fr_tables.specs.Schema.{register_schema, register}
+use Rattle.fr_tables.specs.Schema.{register_schema, old_schema, register}
 use Rattle.fr_tables.specs.Rows.{RegisterRow, of_register, register_in}
 use Rattle.fr_tables.specs.Tables.{HasTables}
 use Rattle.fr_tables.specs.Changes.{Changes, Stays}
@@ -85,9 +85,22 @@ updates n old new (Ok count) was h =
 abbrev pub select_text : List ℕ
 select_text = codes "SELECT schema FROM register"
 
-pub its_row : Queries of_register shows_register (every) any_order 0 select_text ([])
+pub its_row : Queries register_schema of_register shows_register (every) any_order 0 select_text ([])
 unfolding understood everything
 its_row = record {
+  tests = [];
+  order = [];
+  project = col 1 2 ∷ [];
+  is = record { names = codes "schema" ∷ []; is = refl; unlisted = refl; plain = (refl, refl); stored = λ db. refl };
+  tested = λ p. refl;
+  compared = λ a b. refl;
+  projected = λ p. refl;
+}
+
+-- so in the schema before
+pub row_before : Queries old_schema of_register shows_register (every) any_order 0 select_text ([])
+unfolding understood everything
+row_before = record {
   tests = [];
   order = [];
   project = col 1 2 ∷ [];

@@ -51,7 +51,7 @@ inserts s old new (Ok count) was h =
 abbrev pub select_text : List ℕ
 select_text = codes "SELECT name, key FROM suppliers ORDER BY name"
 
-pub by_name : Queries of_supplier shows_supplier (every) suppliers_cmp 2 select_text ([])
+pub by_name : Queries register_schema of_supplier shows_supplier (every) suppliers_cmp 2 select_text ([])
 unfolding understood everything
 by_name = record {
   tests = [];

@@ -9,6 +9,7 @@ use Rattle.sqlite.specs.Kind.{Kind}
 use Rattle.sqlite.specs.Kind.TheVariants as kind
 use Rattle.sqlite.specs.Tree.{Trees, IsTable, rowid}
 use Rattle.sqlite.specs.Table.{Table}
+use Rattle.sqlite.specs.Schema.{Schema}
 use Rattle.sqlite.specs.Effect.{Database}
 use Rattle.sqlite_sql.specs.Ops.{is_null}
 use Rattle.sqlite_trees.specs.View.{View, IsShaped, IsOrdered, is_int}
@@ -22,9 +23,9 @@ use Rattle.sqlite_schema.specs.declared.schema.Constraint.TheVariants.{Datatype,
 use Rattle.sqlite_schema.specs.Names.{is_key}
 use Rattle.sqlite_schema.specs.Rules.{are_typed, are_present, has_computed, is_of, suits}
 use Rattle.sqlite_catalog.specs.Listing.{IsSound}
-use Rattle.fr_tables.specs.Schema.{register_schema, all_tables, register, cluster, suppliers, nodes, variants, grants, frames, placements, signals, imports, dropped, cluster2}
+use Rattle.fr_tables.specs.Schema.{register_schema, old_schema, register, cluster, suppliers, nodes, variants, grants, frames, placements, signals, imports, dropped, cluster2}
 use Rattle.fr_tables.specs.Rows.{words, number, bytes, maybe_words, of_maybe, of_register, of_cluster, of_supplier, of_node, of_variant, of_grant, of_frame, of_placement, of_signal, of_import, of_dropped, register_in, cluster_in, supplier_in, node_in, variant_in, grant_in, frame_in, placement_in, signal_in, import_in, dropped_in, of_cluster2, cluster2_in}
-use Rattle.fr_tables.specs.Tables.{AreKept, HasTables, AreOrdered}
+use Rattle.fr_tables.specs.Tables.{AreKept, HasTables, HasOldTables, AreOrdered, AreOrderedBefore, AreRising}
 
 both : (a b : Bool) → (a && b) ≡ true → (a ≡ true) × (b ≡ true)
 both true b h = (refl, h)
@@ -165,6 +166,31 @@ module _ {X : Type 0} (columns : X → Row) (read : Row → X) (t : Table) (says
   kept : (rows : List Row) → IsTable rows × AllByRecursion (λ r. IsTrue (is_int (rowid r))) rows → AllByRecursion (AreTyped t) rows → AllByRecursion (ArePresent t) rows → AreKept columns read rows
   kept rows ordered typed present = record { rise = ordered.0; numbered = ordered.1; typed = all_typed rows ordered.1 typed present }
 
+-- trees that obey the schema before, in order, are its tables
+typed_before : (db : Trees) → IsSound old_schema db → AreOrderedBefore db → HasOldTables (record { schema = old_schema; trees = db })
+typed_before db sound o =
+    let t = sound.obeys.rules Datatype in
+    let p = sound.obeys.rules NotNull in
+    record {
+      schema = refl;
+      register = kept of_register register_in register (λ row. refl) refl refl (db 0) o.0 t.0 p.0;
+      cluster = kept of_cluster cluster_in cluster (λ row. refl) refl refl (db 1) o.1.0 t.1.0 p.1.0;
+      suppliers = kept of_supplier supplier_in suppliers (λ row. refl) refl refl (db 2) o.1.1.0 t.1.1.0 p.1.1.0;
+      nodes = kept of_node node_in nodes (λ row. refl) refl refl (db 5) o.1.1.1.0 t.1.1.1.0 p.1.1.1.0;
+      variants = kept of_variant variant_in variants (λ row. refl) refl refl (db 7) o.1.1.1.1.0 t.1.1.1.1.0 p.1.1.1.1.0;
+      grants = kept of_grant grant_in grants (λ row. refl) refl refl (db 9) o.1.1.1.1.1.0 t.1.1.1.1.1.0 p.1.1.1.1.1.0;
+      frames = kept of_frame frame_in frames (λ row. refl) refl refl (db 11) o.1.1.1.1.1.1.0 t.1.1.1.1.1.1.0 p.1.1.1.1.1.1.0;
+      placements = kept of_placement placement_in placements (λ row. refl) refl refl (db 13) o.1.1.1.1.1.1.1.0 t.1.1.1.1.1.1.1.0 p.1.1.1.1.1.1.1.0;
+      signals = kept of_signal signal_in signals (λ row. refl) refl refl (db 15) o.1.1.1.1.1.1.1.1.0 t.1.1.1.1.1.1.1.1.0 p.1.1.1.1.1.1.1.1.0;
+      imports = kept of_import import_in imports (λ row. refl) refl refl (db 17) o.1.1.1.1.1.1.1.1.1.0 t.1.1.1.1.1.1.1.1.1.0 p.1.1.1.1.1.1.1.1.1.0;
+      dropped = kept of_dropped dropped_in dropped (λ row. refl) refl refl (db 19) o.1.1.1.1.1.1.1.1.1.1.0 t.1.1.1.1.1.1.1.1.1.1.0 p.1.1.1.1.1.1.1.1.1.1.0;
+    }
+
+pub has_before : (db : Database) → IsSound db.schema db.trees → db.schema ≡ old_schema → AreOrderedBefore db.trees → HasOldTables db
+has_before db sound schema ordered =
+    let same : record { schema = old_schema; trees = db.trees } ≡ db = λ i. record { schema = sym schema i; trees = db.trees } in
+    subst HasOldTables same (typed_before db.trees (subst (λ s. IsSound s db.trees) schema sound) ordered)
+
 -- trees that obey the register's schema, in order, are its tables
 typed_tables : (db : Trees) → IsSound register_schema db → AreOrdered db → HasTables (record { schema = register_schema; trees = db })
 typed_tables db sound o =
@@ -195,11 +221,11 @@ has_tables db sound schema ordered =
 pub in_order : (db : Database) → HasTables db → AreOrdered db.trees
 in_order db h = ((h.register.rise, h.register.numbered), ((h.cluster.rise, h.cluster.numbered), ((h.suppliers.rise, h.suppliers.numbered), ((h.nodes.rise, h.nodes.numbered), ((h.variants.rise, h.variants.numbered), ((h.grants.rise, h.grants.numbered), ((h.frames.rise, h.frames.numbered), ((h.placements.rise, h.placements.numbered), ((h.signals.rise, h.signals.numbered), ((h.imports.rise, h.imports.numbered), ((h.dropped.rise, h.dropped.numbered), ((h.cluster2.rise, h.cluster2.numbered), tt))))))))))))
 
--- the tables of a sound store are in order
-pub ordered_in : (v : View) → IsOrdered v.shape v.trees → IsListed (v.trees catalog_tree) v.shape v.reals → IsSound register_schema v.trees → AreOrdered v.trees
-ordered_in v ordered listed sound =
+-- the tables of a sound store are in order, whatever its schema is
+pub ordered_in : (schema : Schema) (v : View) → IsOrdered v.shape v.trees → IsListed (v.trees catalog_tree) v.shape v.reals → IsSound schema v.trees → AreRising schema.tables v.trees
+ordered_in schema v ordered listed sound =
     let laid = laid_out listed (objects_rise v listed ordered) sound.lists.listed in
-    all_weaker (λ (t : Table). v.shape t.tree ≡ shape.Table) (λ t. IsShaped shape.Table (v.trees t.tree)) (λ t is. subst (λ s. IsShaped s (v.trees t.tree)) is (ordered t.tree)) all_tables laid.tables
+    all_weaker (λ (t : Table). v.shape t.tree ≡ shape.Table) (λ t. IsShaped shape.Table (v.trees t.tree)) (λ t is. subst (λ s. IsShaped s (v.trees t.tree)) is (ordered t.tree)) schema.tables laid.tables
 
 pub all_ok : {A E : Type 0} (r : Result A E) (P Q R T : A → Type 0) → ((a : A) → P a → Q a → R a → T a) → IfOk r P → IfOk r Q → IfOk r R → IfOk r T
 all_ok (Ok a) P Q R T f p q r = f a p q r

@@ -153,7 +153,7 @@ select_text = codes "SELECT name, parent, depth, released, overlay FROM variants
 abbrev names : List (List ℕ)
 names = codes "name" ∷ codes "parent" ∷ codes "depth" ∷ codes "released" ∷ codes "overlay" ∷ []
 
-pub by_order : Queries of_variant shows_variant every variants_cmp 7 select_text []
+pub by_order : Queries register_schema of_variant shows_variant every variants_cmp 7 select_text []
 unfolding understood everything
 by_order = record {
   tests = [];
@@ -168,7 +168,7 @@ by_order = record {
 abbrev pub one_text : List ℕ
 one_text = codes "SELECT name, parent, depth, released, overlay FROM variants WHERE name = ?1"
 
-pub by_name : (name : List ℕ) → Queries of_variant shows_variant (is_variant name) any_order 7 one_text (Text name ∷ [])
+pub by_name : (name : List ℕ) → Queries register_schema of_variant shows_variant (is_variant name) any_order 7 one_text (Text name ∷ [])
 unfolding understood everything
 by_name name = record {
   tests = named;

@@ -3,11 +3,15 @@ use Rattle.std.specs.Prelude.{◌≡◌, ℕ, ℤ, pos, List, [], ◌∷◌, cod
 use Rattle.sqlite.specs.Effect.{Database}
 use Rattle.sqlite.specs.State.{State}
 use Rattle.fr_tables.specs.Rows.{RegisterRow}
-use Rattle.fr_tables.specs.Tables.{HasTables, tables_in}
+use Rattle.fr_tables.specs.Tables.{HasSomeTables, tables_in}
 
 -- the schema that this version reads and writes
 abbrev pub our_schema_number : ℤ
 our_schema_number = pos 2
+
+-- the one before, from which a register is migrated
+abbrev pub old_schema_number : ℤ
+old_schema_number = pos 1
 
 abbrev pub number_text : List ℕ
 number_text = codes "SELECT schema FROM register"
@@ -28,7 +32,7 @@ numbered n = record { schema = n }
 abbrev pub AreAsBefore : State → State → Type 0
 AreAsBefore old new = IsTrue new.is_open → IsTrue old.is_open × (new.now ≡ old.now) × (new.committed ≡ old.committed)
 
--- the tables are those of this schema's number
+-- the tables say this number of their schema
 pub record HasNumber (db : Database) (n : ℤ) : Type 0 where
-  pub has : HasTables db
+  pub has : HasSomeTables db
   pub number : (tables_in db.trees).register ≡ numbered n ∷ []

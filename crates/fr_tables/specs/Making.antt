@@ -40,6 +40,10 @@ pub record IsOldMade (old new : State) : Type 0 where
 abbrev pub MakesOld : {X E : Type 0} → State → State → Result X E → Type 0
 MakesOld old new r = HasCleanDisk new → IsTrue old.in_transaction → IsFresh 11 10 old.now → MatchResult r (λ _. IsOldMade old new) (λ _. Stays old new)
 
+-- The statements inside a transaction make all tables of the schema before, or fail and commit nothing.
+abbrev pub MakesOldWhole : {X E : Type 0} → State → State → Result X E → Type 0
+MakesOldWhole old new r = HasCleanDisk new → IsTrue old.in_transaction → IsFresh 0 0 old.now → MatchResult r (λ _. IsOldMade old new) (λ _. KeepsCommit old new)
+
 -- the tables of the schema before are those of this one, `cluster2` with no row
 pub record IsRenewed (old new : State) : Type 0 where
   pub has : HasTables new.now

@@ -1,11 +1,12 @@
 -- The tables of a register as lists of rows, in the order in which the rows came.
-use Rattle.std.specs.Prelude.{◌≡◌, List, [], ◌∷◌, map, IsTrue}
+use Rattle.std.specs.Prelude.{◌≡◌, ◌⊎◌, List, [], ◌∷◌, map, IsTrue}
 use Rattle.std.specs.List.{AllByRecursion}
 use Rattle.sqlite.specs.Order.{Row}
+use Rattle.sqlite.specs.Table.{Table}
 use Rattle.sqlite.specs.Tree.{Trees, IsTable, rowid}
 use Rattle.sqlite_trees.specs.View.{is_int}
 use Rattle.sqlite.specs.Effect.{Database}
-use Rattle.fr_tables.specs.Schema.{register_schema, all_tables, old_schema}
+use Rattle.fr_tables.specs.Schema.{register_schema, all_tables, old_schema, old_tables}
 use Rattle.fr_tables.specs.Rows.{
   RegisterRow,
   ClusterRow,
@@ -116,6 +117,18 @@ pub record HasOldTables (db : Database) : Type 0 where
   pub imports : AreKept of_import import_in (db.trees 17)
   pub dropped : AreKept of_dropped dropped_in (db.trees 19)
 
--- the rows of each table have numbers that rise
+-- the tables are those of this schema, or of the one before
+abbrev pub HasSomeTables : Database → Type 0
+HasSomeTables db = HasTables db ⊎ HasOldTables db
+
+-- the rows of each of these tables have numbers that rise
+abbrev pub AreRising : List Table → Trees → Type 0
+AreRising ts db = AllByRecursion (λ t. IsTable (db t.tree) × AllByRecursion (λ r. IsTrue (is_int (rowid r))) (db t.tree)) ts
+
+-- so in each table of this schema
 abbrev pub AreOrdered : Trees → Type 0
-AreOrdered db = AllByRecursion (λ t. IsTable (db t.tree) × AllByRecursion (λ r. IsTrue (is_int (rowid r))) (db t.tree)) all_tables
+AreOrdered = AreRising all_tables
+
+-- and in each of the one before
+abbrev pub AreOrderedBefore : Trees → Type 0
+AreOrderedBefore = AreRising old_tables

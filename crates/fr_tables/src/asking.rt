@@ -5,7 +5,7 @@ ghost use Rattle.sqlite.specs.declared.error.Error.TheVariants.{SqlInputError};
 ghost use Rattle.sqlite.specs.State.{HasCleanDisk, Survives};
 ghost use Rattle.sqlite.specs.Held.{state};
 ghost use Rattle.fr_tables.specs.Statements.{shows_register, shows_cluster2, shows_supplier, shows_variant, every, any_order, suppliers_cmp, variants_cmp};
-ghost use Rattle.fr_tables.specs.Tables.{HasTables};
+ghost use Rattle.fr_tables.specs.Tables.{HasTables, HasSomeTables};
 ghost use Rattle.fr_tables.specs.Changes.{AreListed, tables_of};
 ghost use Rattle.fr_tables.specs.Asking.{AreAsBefore, HasNumber, numbered, number_text, cluster_text, suppliers_text, variants_text};
 
@@ -15,8 +15,8 @@ use sqlite_value::value::ValueRef;
 /// Asks in a transaction that is undone, so that whatever the text means there, the tables stay.
 pub fn asked<S: Alter>(conn: &mut Connection<S>, sql: &str) -> Result<Vec<Row>, Error>
     requires { conn.old.in_transaction ≡ false }
-    ensures number { HasCleanDisk (state S.Store conn.new) → sql.now ≡ number_text → HasTables (state S.Store conn.old).now → IfOk result (λ rows. IsPermutation (map shows_register (tables_of (state S.Store conn.old)).register) rows.items) }
-    ensures told { HasCleanDisk (state S.Store conn.new) → sql.now ≡ number_text → HasTables (state S.Store conn.old).now → IfErr result (λ e. (x : _) → e ≢ SqlInputError x) }
+    ensures number { HasCleanDisk (state S.Store conn.new) → sql.now ≡ number_text → HasSomeTables (state S.Store conn.old).now → IfOk result (λ rows. IsPermutation (map shows_register (tables_of (state S.Store conn.old)).register) rows.items) }
+    ensures told { HasCleanDisk (state S.Store conn.new) → sql.now ≡ number_text → HasSomeTables (state S.Store conn.old).now → IfErr result (λ e. (x : _) → e ≢ SqlInputError x) }
     ensures cluster { HasCleanDisk (state S.Store conn.new) → sql.now ≡ cluster_text → HasTables (state S.Store conn.old).now → IfOk result (λ rows. AreListed shows_cluster2 every any_order (tables_of (state S.Store conn.old)).cluster2 rows.items) }
     ensures suppliers { HasCleanDisk (state S.Store conn.new) → sql.now ≡ suppliers_text → HasTables (state S.Store conn.old).now → IfOk result (λ rows. AreListed shows_supplier every suppliers_cmp (tables_of (state S.Store conn.old)).suppliers rows.items) }
     ensures variants { HasCleanDisk (state S.Store conn.new) → sql.now ≡ variants_text → HasTables (state S.Store conn.old).now → IfOk result (λ rows. AreListed shows_variant every variants_cmp (tables_of (state S.Store conn.old)).variants rows.items) }
@@ -45,7 +45,7 @@ fn number_of(rows: &[Row]) -> Option<i64>
 /// The number of the schema, if there is just one.
 pub fn number<S: Alter>(conn: &mut Connection<S>) -> Result<Option<i64>, Error>
     requires { conn.old.in_transaction ≡ false }
-    ensures some { HasCleanDisk (state S.Store conn.new) → IfOk result (λ found. IfSome found (λ n. HasTables (state S.Store conn.old).now → HasNumber (state S.Store conn.old).now n)) }
+    ensures some { HasCleanDisk (state S.Store conn.new) → IfOk result (λ found. IfSome found (λ n. HasSomeTables (state S.Store conn.old).now → HasNumber (state S.Store conn.old).now n)) }
     ensures found { HasCleanDisk (state S.Store conn.new) → IfOk result (λ found. (n : ℤ) → HasNumber (state S.Store conn.old).now n → found ≡ Some n) }
     ensures same { HasCleanDisk (state S.Store conn.new) → AreAsBefore (state S.Store conn.old) (state S.Store conn.new) }
     ensures autocommit { conn.new.in_transaction ≡ false }

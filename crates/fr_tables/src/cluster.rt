@@ -9,9 +9,9 @@ ghost use Rattle.fr_base.specs.Names.{is_name, is_key};
 ghost use Rattle.fr_base.specs.Parameters.{check_params};
 ghost use Rattle.fr_base.specs.Channels.{text_of_channels};
 ghost use Rattle.fr_base.specs.Cluster.{IsWellFormed, names_rise, keys_of, keys_differ, is_cluster};
-ghost use Rattle.fr_tables.specs.Statements.{cluster2_row, shows_cluster2, shows_supplier};
+ghost use Rattle.fr_tables.specs.Statements.{cluster_row, cluster2_row, shows_cluster, shows_cluster2, shows_supplier};
 ghost use Rattle.fr_tables.specs.Filling.{supplier_row};
-ghost use Rattle.fr_tables.specs.ClusterRows.{AreFormed, shown_supplier};
+ghost use Rattle.fr_tables.specs.ClusterRows.{AreFormed, TellsParams, shown_supplier};
 
 use fr_base::{
     Channels, Config, Key, MAX_SUPPLIERS, Name, NoMemory, Params, RawParams, Supplier, Suppliers,
@@ -70,6 +70,24 @@ fn name(row: &Row, at: usize) -> Option<Name>
     Name::read(text(row, at)?)
 }
 
+// The parameters that the row's first columns say, with so many cycles.
+fn raw_params(row: &Row, cycles: u32) -> Option<RawParams>
+    ensures told { IfSome result (λ raw. TellsParams row.now raw) }
+    ensures cycles { IfSome result (λ raw. raw.cycles ≡ cycles) }
+{
+    Some(RawParams {
+        static_slots: number(row, 0)?,
+        slot_macroticks: number(row, 1)?,
+        dynamic_macroticks: number(row, 2)?,
+        symbol_macroticks: number(row, 3)?,
+        idle_macroticks: number(row, 4)?,
+        macroticks_per_cycle: number(row, 5)?,
+        payload_words: number(row, 6)?,
+        channels: channels(row, 7)?,
+        cycles,
+    })
+}
+
 /// The parameters and the integrator's key, if the row has their form.
 fn params_of(row: &Row) -> Option<(Params, Key)>
     ensures row { IfSome result (λ read. row.now ≡ shows_cluster2 (cluster2_row read.0 read.1)) }
@@ -79,19 +97,37 @@ fn params_of(row: &Row) -> Option<(Params, Key)>
     if row.column_count() != 10 {
         return None;
     }
-    let raw = RawParams {
-        static_slots: number(row, 0)?,
-        slot_macroticks: number(row, 1)?,
-        dynamic_macroticks: number(row, 2)?,
-        symbol_macroticks: number(row, 3)?,
-        idle_macroticks: number(row, 4)?,
-        macroticks_per_cycle: number(row, 5)?,
-        payload_words: number(row, 6)?,
-        channels: channels(row, 7)?,
-        cycles: number(row, 9)?,
-    };
+    let raw = raw_params(row, number(row, 9)?)?;
     let params = Params::check(raw).ok()?;
     Some((params, key(row, 8)?))
+}
+
+// How many cycles a cluster of the schema before has.
+const CYCLES_BEFORE: u32 = 64;
+
+// The same of a row of the schema before, which does not say the count of cycles.
+fn params_before(row: &Row) -> Option<(Params, Key)>
+    ensures row { IfSome result (λ read. row.now ≡ shows_cluster (cluster_row read.0 read.1)) }
+    ensures cycles { IfSome result (λ read. read.0.cycles ≡ 64) }
+{
+    if row.column_count() != 9 {
+        return None;
+    }
+    let raw = raw_params(row, CYCLES_BEFORE)?;
+    let params = Params::check(raw).ok()?;
+    Some((params, key(row, 8)?))
+}
+
+/// The parameters and the integrator's key of these rows of the schema before, in which each cluster has 64 cycles.
+/// None, if they make none.
+pub fn read_before(cluster: &[Row]) -> Option<(Params, Key)>
+    ensures cluster { IfSome result (λ read. cluster.now ≡ shows_cluster (cluster_row read.0 read.1) ∷ []) }
+    ensures cycles { IfSome result (λ read. read.0.cycles ≡ 64) }
+{
+    let [row] = cluster else {
+        return None;
+    };
+    params_before(row)
 }
 
 /// The supplier, if the row has its form.

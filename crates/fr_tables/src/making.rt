@@ -3,7 +3,7 @@
 ghost use Rattle.std.specs.Prelude.{◌≡◌};
 ghost use Rattle.sqlite.specs.State.{Survives};
 ghost use Rattle.sqlite.specs.Held.{state};
-ghost use Rattle.fr_tables.specs.Making.{MakesTable, MakesOld, Renews, Grows, MakesWhole};
+ghost use Rattle.fr_tables.specs.Making.{MakesTable, MakesOld, MakesOldWhole, Renews, Grows, MakesWhole};
 
 use sqlite::{Alter, Error, Transaction};
 
@@ -190,16 +190,26 @@ fn up_to_dropped<S: Alter>(tx: &mut Transaction<'_, S>) -> Result<(), Error>
     Ok(())
 }
 
-/// Makes all tables and the index, in a database with none.
-pub fn all<S: Alter>(tx: &mut Transaction<'_, S>) -> Result<(), Error>
+/// Makes the tables and the index of the schema before, in a database with none.
+pub fn before<S: Alter>(tx: &mut Transaction<'_, S>) -> Result<(), Error>
     ensures same_reference { tx.new.conn.ghost_name ≡ tx.old.conn.ghost_name }
-    ensures made { MakesWhole (state S.Store tx.old.conn.now) (state S.Store tx.new.conn.now) result }
+    ensures made { MakesOldWhole (state S.Store tx.old.conn.now) (state S.Store tx.new.conn.now) result }
     ensures survives { Survives (state S.Store tx.old.conn.now) (state S.Store tx.new.conn.now) (λ _. ⊥) }
 {
     up_to_nodes(tx)?;
     up_to_placements(tx)?;
     up_to_dropped(tx)?;
     grants_index(tx)?;
+    Ok(())
+}
+
+/// Makes all tables and the index, in a database with none.
+pub fn all<S: Alter>(tx: &mut Transaction<'_, S>) -> Result<(), Error>
+    ensures same_reference { tx.new.conn.ghost_name ≡ tx.old.conn.ghost_name }
+    ensures made { MakesWhole (state S.Store tx.old.conn.now) (state S.Store tx.new.conn.now) result }
+    ensures survives { Survives (state S.Store tx.old.conn.now) (state S.Store tx.new.conn.now) (λ _. ⊥) }
+{
+    before(tx)?;
     cluster2(tx)?;
     Ok(())
 }

@@ -1,9 +1,10 @@
 //! A supplier's frames among a variant's own, from their rows in the tables.
 
 ghost use Rattle.fr_base.specs.Layouts.{IsLayout};
-ghost use Rattle.std.specs.Prelude.{IsPermutation, IsSorted, ◌≤◌, ◌≡◌, bytes_eq, filter, map, reverse, IfErr, IfSome};
+ghost use Rattle.std.specs.Prelude.{IsPermutation, IsSorted, IsTrue, ◌≤◌, ◌≡◌, bytes_eq, filter, map, reverse, IfErr, IfSome};
 ghost use Rattle.std.specs.Ordering.{is_le, is_lt, on};
 ghost use Rattle.sqlite.specs.Held.{state};
+ghost use Rattle.fr_base.specs.Cycles.{is_cycle_count};
 ghost use Rattle.fr_base.specs.Keys.{placement_order};
 ghost use Rattle.fr_world.specs.Maps.{set_of};
 ghost use Rattle.fr_world.specs.Pages.{frame_data, frames_data};
@@ -34,7 +35,7 @@ pub(super) fn own_frames<S: Alter>(
     variant: &Name,
     supplier: &Name,
 ) -> Result<BTreeMap<Name, PageFrame>, StoreFault>
-    ensures told { Reads (λ t frames. TellsFrames variant.now supplier.now t (frames_data frames.entries)) (state S.Store conn.old) (state S.Store conn.new) result }
+    ensures told { Reads (λ t frames. TellsFrames params.now.cycles variant.now supplier.now t (frames_data frames.entries)) (state S.Store conn.old) (state S.Store conn.new) result }
     ensures refused { IfErr result (λ fault. fault ≡ Unavailable) }
     ensures spares { Spares (state S.Store conn.old) (state S.Store conn.new) }
 {
@@ -74,7 +75,7 @@ fn frame_rows<S: Alter>(
 // The frames in the rows. None where a row of one has not its form, the signals of one make no layout, or
 // memory is refused.
 fn frames_of(alloc: Global, params: &Params, rows: &FrameRows) -> Option<BTreeMap<Name, PageFrame>>
-    ensures { IfSome result (λ frames. (v s : Name) (t : Tables) → AreFrameRows v s t rows.now → TellsFrames v s t (frames_data frames.entries)) }
+    ensures { IfSome result (λ frames. (v s : Name) (t : Tables) → AreFrameRows v s t rows.now → TellsFrames params.now.cycles v s t (frames_data frames.entries)) }
 {
     let mut frames = BTreeMap::new(alloc);
     for row in rows.frames.as_slice() {
@@ -95,26 +96,28 @@ fn names_in(row: &Row) -> Option<(Name, Name)>
     Some((name_at(row, 0)?, name_at(row, 1)?))
 }
 
-// The placements in the rows. None where a row has not its form, or memory is refused.
-fn placements_of(alloc: Global, rows: &[Row]) -> Option<BTreeSet<Placement>>
-    ensures { IfSome result (λ placements. set_of placement_order (λ q. q) placements.keys ≡ set_of placement_order (λ q. q) (map placement_shown (reverse rows.now))) }
+// The placements in the rows, each of so many cycles. None where a row has not its form, or memory is refused.
+fn placements_of(alloc: Global, count: u32, rows: &[Row]) -> Option<BTreeSet<Placement>>
+    requires { IsTrue (is_cycle_count count) }
+    ensures { IfSome result (λ placements. set_of placement_order (λ q. q) placements.keys ≡ set_of placement_order (λ q. q) (map (placement_shown count) (reverse rows.now))) }
 {
     let mut placements = BTreeSet::new(alloc);
     for row in rows {
-        let Ok(_) = placements.insert(placement_of(row)?) else {
+        let Ok(_) = placements.insert(placement_of(count, row)?) else {
             return None;
         };
     }
     Some(placements)
 }
 
-fn placement_of(row: &Row) -> Option<Placement>
-    ensures { IfSome result (λ placement. placement ≡ placement_shown row.now) }
+fn placement_of(count: u32, row: &Row) -> Option<Placement>
+    requires { IsTrue (is_cycle_count count) }
+    ensures { IfSome result (λ placement. placement ≡ placement_shown count row.now) }
 {
     Some(Placement {
         slot: slot_at(row, 1)?,
         channels: channels_at(row, 2)?,
-        cycles: CycleSet::new(number_at(row, 3)?, number_at(row, 4)?).ok()?,
+        cycles: CycleSet::new(count, number_at(row, 3)?, number_at(row, 4)?).ok()?,
     })
 }
 
@@ -168,7 +171,7 @@ fn frame_of(
     let signals = rows_of(rows.signals.as_slice(), frame);
     Some(PageFrame {
         node,
-        placements: placements_of(alloc, placements)?,
+        placements: placements_of(alloc, params.cycles(), placements)?,
         layout: layout_of(alloc, params.payload_words(), signals)?,
     })
 }

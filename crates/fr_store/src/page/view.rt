@@ -40,7 +40,7 @@ pub(super) fn view_of<S: Alter>(
     supplier: &Name,
     levels: u32,
 ) -> Result<Option<View>, StoreFault>
-    ensures told { Reads (TellsView variant.now supplier.now) (state S.Store conn.old) (state S.Store conn.new) result }
+    ensures told { Reads (TellsView params.now.cycles variant.now supplier.now) (state S.Store conn.old) (state S.Store conn.new) result }
     ensures refused { IfErr result (λ fault. fault ≡ Unavailable) }
     ensures spares { Spares (state S.Store conn.old) (state S.Store conn.new) }
 {
@@ -106,7 +106,7 @@ fn lay_over<S: Alter>(
     supplier: &Name,
     inherited: BTreeMap<Name, PageFrame>,
 ) -> Result<BTreeMap<Name, PageFrame>, StoreFault>
-    ensures told { Reads (λ t frames. (parent : _) → TellsOver variant.now supplier.now parent (frames_data inherited.entries) t (frames_data frames.entries))
+    ensures told { Reads (λ t frames. (parent : _) → TellsOver params.now.cycles variant.now supplier.now parent (frames_data inherited.entries) t (frames_data frames.entries))
         (state S.Store conn.old) (state S.Store conn.new) result }
     ensures refused { IfErr result (λ fault. fault ≡ Unavailable) }
     ensures spares { Spares (state S.Store conn.old) (state S.Store conn.new) }

@@ -3,10 +3,10 @@
 ghost use Rattle.std.specs.Prelude.{◌≡◌};
 ghost use Rattle.sqlite.specs.State.{Survives};
 ghost use Rattle.sqlite.specs.Held.{state};
-ghost use Rattle.fr_tables.specs.Changes.{Makes, Finds, Spares};
+ghost use Rattle.fr_tables.specs.Changes.{Makes, Finds};
 ghost use Rattle.fr_tables.specs.Statements.{without_cluster, shows_cluster, every, any_order};
 
-use sqlite::{Alter, Connection, Error, Row, Transaction};
+use sqlite::{Alter, Error, Row, Transaction};
 
 /// Deletes the row.
 pub fn delete<S: Alter>(tx: &mut Transaction<'_, S>) -> Result<usize, Error>
@@ -17,12 +17,13 @@ pub fn delete<S: Alter>(tx: &mut Transaction<'_, S>) -> Result<usize, Error>
     tx.execute("DELETE FROM cluster", &[])
 }
 
-/// The cluster that it says.
-pub fn all<S: Alter>(conn: &mut Connection<S>) -> Result<Vec<Row>, Error>
-    ensures listed { Finds shows_cluster every any_order (λ t. t.cluster) (state S.Store conn.old) (state S.Store conn.new) result }
-    ensures spares { Spares (state S.Store conn.old) (state S.Store conn.new) }
+/// The cluster that it says, asked inside a transaction.
+pub fn all_inside<S: Alter>(tx: &mut Transaction<'_, S>) -> Result<Vec<Row>, Error>
+    ensures same_reference { tx.new.conn.ghost_name ≡ tx.old.conn.ghost_name }
+    ensures listed { Finds shows_cluster every any_order (λ t. t.cluster) (state S.Store tx.old.conn.now) (state S.Store tx.new.conn.now) result }
+    ensures survives { Survives (state S.Store tx.old.conn.now) (state S.Store tx.new.conn.now) (λ _. ⊥) }
 {
-    conn.query_all(
+    tx.query_all(
         "SELECT static_slots, slot_macroticks, dynamic_macroticks, symbol_macroticks, idle_macroticks, macroticks_per_cycle, payload_words, channels, integrator FROM cluster",
         &[],
     )

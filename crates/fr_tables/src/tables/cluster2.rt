@@ -3,11 +3,11 @@
 ghost use Rattle.std.specs.Prelude.{◌≡◌};
 ghost use Rattle.sqlite.specs.State.{Survives};
 ghost use Rattle.sqlite.specs.Held.{state};
-ghost use Rattle.fr_tables.specs.Changes.{Makes, Finds, Spares};
-ghost use Rattle.fr_tables.specs.Statements.{with_cluster2, cluster2_row, shows_cluster2, every, any_order};
+ghost use Rattle.fr_tables.specs.Changes.{Makes};
+ghost use Rattle.fr_tables.specs.Statements.{with_cluster2, cluster2_row};
 
 use fr_base::{Key, Params};
-use sqlite::{Alter, Connection, Error, Row, Transaction, params};
+use sqlite::{Alter, Error, Transaction, params};
 
 /// Adds the row of a cluster with none. It gets the number 1.
 pub fn insert<S: Alter>(
@@ -33,16 +33,5 @@ pub fn insert<S: Alter>(
             integrator.as_str(),
             of.cycles()
         ],
-    )
-}
-
-/// The cluster.
-pub fn all<S: Alter>(conn: &mut Connection<S>) -> Result<Vec<Row>, Error>
-    ensures listed { Finds shows_cluster2 every any_order (λ t. t.cluster2) (state S.Store conn.old) (state S.Store conn.new) result }
-    ensures spares { Spares (state S.Store conn.old) (state S.Store conn.new) }
-{
-    conn.query_all(
-        "SELECT static_slots, slot_macroticks, dynamic_macroticks, symbol_macroticks, idle_macroticks, macroticks_per_cycle, payload_words, channels, integrator, cycles FROM cluster2",
-        &[],
     )
 }

@@ -12,7 +12,7 @@ use Rattle.fr_store.proofs.opening.config.Goals as goal
 pub returns-clause-cluster : goal.returns-clause-cluster
 returns-clause-cluster g c clean up was =
     let before : HasCleanDisk (state g.S.Store c.asked.new.conn) = omega (arith, c.asked-2.ensures.survives.clean, c.has_opened_variants.ensures.survives.clean, clean) in
-    one_cluster (tables_of (state g.S.Store c.args.conn.now)).cluster c.in-Ok.cluster.items c.read.result (c.in-Ok.ensures.cluster before refl was) (rw c.as_slice.ensures.value at c.read.ensures.cluster)
+    one_cluster (tables_of (state g.S.Store c.args.conn.now)).cluster2 c.in-Ok.cluster.items c.read.result (c.in-Ok.ensures.cluster before refl was) (rw c.as_slice.ensures.value at c.read.ensures.cluster)
 
 pub returns-clause-suppliers : goal.returns-clause-suppliers
 returns-clause-suppliers g c clean up was =

@@ -10,7 +10,7 @@ use Rattle.fr_store.proofs.page.rows.Goals as goal
 
 pub returns-in_default-clause-told : goal.returns-in_default-clause-told
 returns-in_default-clause-told g c clean was =
-    let told = c.in_ok-released.ensures.told clean was in (subst (TellsView c.args.variant.now c.args.supplier.now (tables_of (state g.S.Store c.args.conn.now))) c.in_default.is told.0, told.1)
+    let told = c.in_ok-released.ensures.told clean was in (subst (TellsView c.args.params.now.cycles c.args.variant.now c.args.supplier.now (tables_of (state g.S.Store c.args.conn.now))) c.in_default.is told.0, told.1)
 
 pub returns-in_err-own_nodes-clause-spares : goal.returns-in_err-own_nodes-clause-spares
 returns-in_err-own_nodes-clause-spares g c =
@@ -42,7 +42,7 @@ returns-clause-told g c clean was =
     let second = quiet_then old _ (state g.S.Store c.own_nodes.new.conn) first c.own_nodes.ensures.spares its_nodes c.in_ok-own_nodes.ensures.told in
     let clean_second : HasCleanDisk (state g.S.Store c.own_nodes.new.conn) = omega (arith, c.own_grants.ensures.spares.clean, clean) in
     let clean_first : HasCleanDisk (state g.S.Store c.view_of.new.conn) = omega (arith, c.own_nodes.ensures.spares.clean, clean_second) in
-    let view = subst (TellsView c.args.variant.now c.args.supplier.now (tables_of old)) c.in-Some.is (c.in_ok-released.ensures.told clean_first was).0 in
+    let view = subst (TellsView c.args.params.now.cycles c.args.variant.now c.args.supplier.now (tables_of old)) c.in-Some.is (c.in_ok-released.ensures.told clean_first was).0 in
     let nodes = quiet_told old _ (state g.S.Store c.own_nodes.new.conn) first c.own_nodes.ensures.spares its_nodes c.in_ok-own_nodes.ensures.told clean_second was in
     let grants = quiet_told old _ (state g.S.Store c.own_grants.new.conn) second c.own_grants.ensures.spares its_grants c.in_ok-own_grants.ensures.told clean was in (
       rows_told c.args.params.now c.args.supplier.now c.args.variant.now (tables_of old) c.in-Some.field-0 c.in_ok-own_nodes.field-0.keys c.in_ok-own_grants.field-0.entries view nodes.0 grants.0,

@@ -9,7 +9,7 @@ use Rattle.fr_store.proofs.FrameEditLemmas.{ended_over, ended_alone}
 use Rattle.fr_store.proofs.applying.frames.end_frame.Goals as goal
 
 pub returns-then-overlay-clause-stands : goal.returns-then-overlay-clause-stands
-returns-then-overlay-clause-stands g c so clean inside cluster b x stands is fits ready =
+returns-then-overlay-clause-stands g c so clean inside cluster b x stands is fits same ready =
     let old = state g.S.Store c.args.tx.now.conn.now in
     let mid = state g.S.Store c.delete.new.tx.conn.now in
     let clean_mid : HasCleanDisk mid = omega (arith, c.insert.ensures.survives.clean, clean) in
@@ -19,7 +19,7 @@ returns-then-overlay-clause-stands g c so clean inside cluster b x stands is fit
     (c.insert.ensures.added clean (gone.shown.mode ∙ inside) gone.has)
 
 pub returns-clause-stands : goal.returns-clause-stands
-returns-clause-stands g c so clean inside cluster b x stands is fits ready =
+returns-clause-stands g c so clean inside cluster b x stands is fits same ready =
     let old = state g.S.Store c.args.tx.now.conn.now in
     let there = value_of (get x.frames (c.args.supplier.now, c.args.frame.now)) fits in
     ended_alone c.args.variant.now c.args.supplier.now c.args.frame.now old (state g.S.Store c.delete.new.tx.conn.now) cluster b x there.0 stands is there.1

@@ -10,5 +10,5 @@ loop-row-preserved c =
     let rows = c.args.rows.now in
     let at = c.loop-row.row-index in
     let more = turned rows at c.row-item.result (search rules) (search rules) in
-    placement_in c.loop-row.placements.keys c.insert.new.self.keys (map placement_shown (reverse (take at rows))) c.in_ok-placement_of.field-0 (search rules) c.loop-row.invariant
-    ∙ ap (set_of placement_order (λ q. q)) (ap (λ q. q ∷ map placement_shown (reverse (take at rows))) c.in_ok-placement_of.ensures ∙ sym (ap (map placement_shown) more))
+    placement_in c.loop-row.placements.keys c.insert.new.self.keys (map (placement_shown c.args.count) (reverse (take at rows))) c.in_ok-placement_of.field-0 (search rules) c.loop-row.invariant
+    ∙ ap (set_of placement_order (λ q. q)) (ap (λ q. q ∷ map (placement_shown c.args.count) (reverse (take at rows))) c.in_ok-placement_of.ensures ∙ sym (ap (map (placement_shown c.args.count)) more))

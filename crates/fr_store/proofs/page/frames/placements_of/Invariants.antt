@@ -5,4 +5,4 @@ use Rattle.fr_store.specs.Paging.{placement_shown}
 use Rattle.fr_store.proofs.page.frames.placements_of.Given as goal
 
 abbrev pub invariant-loop-row : goal.invariant-loop-row
-invariant-loop-row l = set_of placement_order (λ q. q) l.placements.keys ≡ set_of placement_order (λ q. q) (map placement_shown (reverse (take l.row-index l.rows)))
+invariant-loop-row l = set_of placement_order (λ q. q) l.placements.keys ≡ set_of placement_order (λ q. q) (map (placement_shown l.count) (reverse (take l.row-index l.rows)))

@@ -30,11 +30,11 @@ pub returns-in_default-parent-clause-told : goal.returns-in_default-parent-claus
 returns-in_default-parent-clause-told g t c clean was =
     let old : State = state g.S.Store c.args.conn.now in
     let first = quiet_first old (state g.S.Store c.level_of.new.conn) c.level_of.ensures.spares c.in_ok-released.ensures.told in
-    let its_own = λ (t : Tables). TellsFrames c.args.variant.now c.args.supplier.now t (frames_data c.in_ok-frames.frames.entries) in
+    let its_own = λ (t : Tables). TellsFrames c.args.params.now.cycles c.args.variant.now c.args.supplier.now t (frames_data c.in_ok-frames.frames.entries) in
     let clean_first : HasCleanDisk (state g.S.Store c.level_of.new.conn) = omega (arith, c.own_frames.ensures.spares.clean, clean) in
     let level = subst (TellsLevel c.args.variant.now (tables_of old)) c.in-Some.is (c.in_ok-released.ensures.told clean_first was).0 in
     let own = quiet_told old _ (state g.S.Store c.own_frames.new.conn) first c.own_frames.ensures.spares its_own c.in_ok-frames.ensures.told clean was in
-    (alone_told (tables_of old) c.args.variant.now c.args.supplier.now c.in-Some.field-0 level (record { released = c.in-Some.field-0.released; frames = c.in_ok-frames.frames }) refl c.in_default-parent.is own.0, own.1)
+    (alone_told c.args.params.now.cycles (tables_of old) c.args.variant.now c.args.supplier.now c.in-Some.field-0 level (record { released = c.in-Some.field-0.released; frames = c.in_ok-frames.frames }) refl c.in_default-parent.is own.0, own.1)
 
 -- ---- the variant is laid over its parent
 
@@ -52,7 +52,7 @@ pub returns-in_err-frames-2-clause-spares : goal.returns-in_err-frames-2-clause-
 returns-in_err-frames-2-clause-spares g t c =
     let old : State = state g.S.Store c.args.conn.now in
     let first = quiet_first old (state g.S.Store c.level_of.new.conn) c.level_of.ensures.spares c.in_ok-released.ensures.told in
-    let its_parents = λ (t : Tables). TellsView c.in-Some-parent.parent c.args.supplier.now t c.in_ok-inherited.field-0 in
+    let its_parents = λ (t : Tables). TellsView c.args.params.now.cycles c.in-Some-parent.parent c.args.supplier.now t c.in_ok-inherited.field-0 in
     let second = quiet_then old _ (state g.S.Store c.view_of.new.conn) first c.view_of.ensures.spares its_parents c.in_ok-inherited.ensures.told in
     quiet_spares old _ (state g.S.Store c.lay_over.new.conn) second c.lay_over.ensures.spares
 
@@ -60,7 +60,7 @@ pub returns-clause-spares : goal.returns-clause-spares
 returns-clause-spares g t c =
     let old : State = state g.S.Store c.args.conn.now in
     let first = quiet_first old (state g.S.Store c.level_of.new.conn) c.level_of.ensures.spares c.in_ok-released.ensures.told in
-    let its_parents = λ (t : Tables). TellsView c.in-Some-parent.parent c.args.supplier.now t c.in_ok-inherited.field-0 in
+    let its_parents = λ (t : Tables). TellsView c.args.params.now.cycles c.in-Some-parent.parent c.args.supplier.now t c.in_ok-inherited.field-0 in
     let second = quiet_then old _ (state g.S.Store c.view_of.new.conn) first c.view_of.ensures.spares its_parents c.in_ok-inherited.ensures.told in
     quiet_spares old _ (state g.S.Store c.lay_over.new.conn) second c.lay_over.ensures.spares
 
@@ -71,13 +71,13 @@ returns-clause-told g t c clean was =
     let s = c.args.supplier.now in
     let parent = c.in-Some-parent.parent in
     let first = quiet_first old (state g.S.Store c.level_of.new.conn) c.level_of.ensures.spares c.in_ok-released.ensures.told in
-    let its_parents = λ (t : Tables). TellsView parent s t c.in_ok-inherited.field-0 in
+    let its_parents = λ (t : Tables). TellsView c.args.params.now.cycles parent s t c.in_ok-inherited.field-0 in
     let second = quiet_then old _ (state g.S.Store c.view_of.new.conn) first c.view_of.ensures.spares its_parents c.in_ok-inherited.ensures.told in
-    let laid = λ (t : Tables). (p : Name) → TellsOver v s p (frames_data c.in-Some-2.inherited.frames.entries) t (frames_data c.in_ok-frames-2.frames.entries) in
+    let laid = λ (t : Tables). (p : Name) → TellsOver c.args.params.now.cycles v s p (frames_data c.in-Some-2.inherited.frames.entries) t (frames_data c.in_ok-frames-2.frames.entries) in
     let clean_second : HasCleanDisk (state g.S.Store c.view_of.new.conn) = omega (arith, c.lay_over.ensures.spares.clean, clean) in
     let clean_first : HasCleanDisk (state g.S.Store c.level_of.new.conn) = omega (arith, c.view_of.ensures.spares.clean, clean_second) in
     let level = subst (TellsLevel v (tables_of old)) c.in-Some.is (c.in_ok-released.ensures.told clean_first was).0 in
     let view = quiet_told old _ (state g.S.Store c.view_of.new.conn) first c.view_of.ensures.spares its_parents c.in_ok-inherited.ensures.told clean_second was in
-    let above = subst (TellsView parent s (tables_of old)) c.in-Some-2.is view.0 in
+    let above = subst (TellsView c.args.params.now.cycles parent s (tables_of old)) c.in-Some-2.is view.0 in
     let over = quiet_told old _ (state g.S.Store c.lay_over.new.conn) second c.lay_over.ensures.spares laid c.in_ok-frames-2.ensures.told clean was in
-    (laid_told (tables_of old) v s c.in-Some.field-0 level (record { released = c.in-Some.field-0.released; frames = c.in_ok-frames-2.frames }) refl parent c.in-Some-2.inherited c.in-Some-parent.is above (over.0 parent), over.1)
+    (laid_told c.args.params.now.cycles (tables_of old) v s c.in-Some.field-0 level (record { released = c.in-Some.field-0.released; frames = c.in_ok-frames-2.frames }) refl parent c.in-Some-2.inherited c.in-Some-parent.is above (over.0 parent), over.1)

@@ -8,6 +8,6 @@ use Rattle.fr_store.proofs.store.Store.import.Goals as goal
 
 pub returns-clause-import : goal.returns-clause-import
 returns-clause-import g c clean cluster b stands =
-    told_ok _ _ (λ found read. import_told (tables_of (state g.S.Store c.args.self.now.conn)) cluster b stands.for c.args.supplier.now c.args.label.now c.in_ok-rows.rows.items found
+    told_ok _ _ (λ found read. import_told (tables_of (state g.S.Store c.args.self.now.conn)) cluster.params.cycles b stands.for.rows c.args.supplier.now c.args.label.now c.in_ok-rows.rows.items found
     (c.in_ok-rows.ensures.listed clean stands.has).0 (read ∙ ap (λ rows. option_map import_shown (slice_get rows 0)) c.as_slice.ensures.value))
     c.first_import.result c.first_import.ensures.import

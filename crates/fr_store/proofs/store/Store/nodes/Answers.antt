@@ -7,6 +7,6 @@ use Rattle.fr_store.proofs.store.Store.nodes.Goals as goal
 
 pub returns-clause-nodes : goal.returns-clause-nodes
 returns-clause-nodes g c clean cluster b stands =
-    told_if _ _ (λ names read. nodes_told (tables_of (state g.S.Store c.args.self.now.conn)) cluster b stands.for c.args.supplier.now c.in_ok-rows.rows.items names.items
+    told_if _ _ (λ names read. nodes_told (tables_of (state g.S.Store c.args.self.now.conn)) cluster.params.cycles b stands.for.rows c.args.supplier.now c.in_ok-rows.rows.items names.items
     (c.in_ok-rows.ensures.listed clean stands.has).0 (read ∙ ap (map name_shown) c.as_slice.ensures.value))
     c.names_of.result _ c.ok_or.result c.ok_or.ensures.value c.names_of.ensures

@@ -1,10 +1,10 @@
-use Rattle.std.proofs.Common.{◌≡◌, ap, arith, subst, IfOk, IfSome}
+use Rattle.std.proofs.Common.{◌≡◌, refl, ap, arith, subst, IfOk, IfSome}
 use Rattle.sqlite.specs.Held.{state}
 use Rattle.sqlite.specs.State.{HasCleanDisk}
 use Rattle.fr_base.specs.Cluster.{ClusterFile}
 use Rattle.fr_base.specs.declared.params.Params.{Params}
 use Rattle.fr_records.specs.Held.{page_of}
-use Rattle.fr_store.proofs.StoredLaws.{answered, told}
+use Rattle.fr_store.proofs.StoredLaws.{answered, given, told}
 use Rattle.fr_store.proofs.store_records.StoreRecords.page.Goals as goal
 
 pub returns-clause-params : goal.returns-clause-params
@@ -21,4 +21,5 @@ returns-clause-page g c clean cluster b stored =
     let ready = c.in_ok-see_open.ensures.open clean_mid in
     told mid (state g.S.Store c.page.new.self.conn) c.see_open.new.store.config c.page.new.self.config c.page.ensures.config clean cluster b there
     (λ found. found ≡ page_of cluster.params b c.args.supplier c.args.variant) c.page.result c.answer.result c.answer.ensures ready c.page.ensures.stays
-    (subst (λ x. IfOk c.page.result (λ found. found ≡ page_of x.cluster.params b c.args.supplier c.args.variant)) there.config (c.page.ensures.page clean cluster b (there.rows ready).0))
+    (given c.page.result (cluster.params.cycles ≡ cluster.params.cycles) (λ found. found ≡ page_of cluster.params b c.args.supplier c.args.variant) refl
+    (subst (λ x. IfOk c.page.result (λ found. cluster.params.cycles ≡ x.cluster.params.cycles → found ≡ page_of x.cluster.params b c.args.supplier c.args.variant)) there.config (c.page.ensures.page clean cluster b (there.rows ready).0)))
