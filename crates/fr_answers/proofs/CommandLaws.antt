@@ -44,7 +44,7 @@ refused old mid does (Err f) e is known c b stood sound =
 
 module _ (old mid new : Standing) (does : Cluster → Book → Result Book Refusal) where
   -- the edits are made, or it is Unavailable
-  pub carried : (edits : List Edit) (r : Result ⊤ Refusal) → Known old mid (λ c b. AllFit b edits × (does c b ≡ Ok (all_applied b edits))) → Applies mid new r edits → Does old new r does
+  pub carried : (edits : List Edit) (r : Result ⊤ Refusal) → Known old mid (λ c b. AllFit c.params b edits × (does c b ≡ Ok (all_applied b edits))) → Applies mid new r edits → Does old new r does
   carried edits (Ok x) known made c b stood sound =
       let k = known c b stood sound in
       (all_applied b edits, k.1.1, made c b k.0 k.1.0)
@@ -62,7 +62,7 @@ module _ (old mid new : Standing) (does : Cluster → Book → Result Book Refus
       let k = is c b stood sound in
       (k.0, k.1 ∙ ap (λ d. d >>= λ edit. Ok (applied b edit)) stops))
 
-  edit_carried : (edit : Edit) (r : Result ⊤ Refusal) → decided ≡ Ok edit → Known old mid (λ c b. Fits b edit) → Applies mid new r (edit ∷ []) → Does old new r does
+  edit_carried : (edit : Edit) (r : Result ⊤ Refusal) → decided ≡ Ok edit → Known old mid (λ c b. Fits c.params b edit) → Applies mid new r (edit ∷ []) → Does old new r does
   unfolding ◌>>=◌
   edit_carried edit r allowed fits = carried old mid new does (edit ∷ []) r (λ c b stood sound.
       let k = is c b stood sound in
@@ -90,7 +90,7 @@ module _ (old new : Standing) (file : ClusterFile) (same : (c : Cluster) (b : Bo
   joining_told c b stood sound =
       (stood, joining-decides c b s key ∙ ap (λ f. new_supplier f s key >>= λ edit. Ok (applied b edit)) (sym (same c b stood)))
 
-  joining_fits : (edit : Edit) → new_supplier file s key ≡ Ok edit → Known old old (λ c b. Fits b edit)
+  joining_fits : (edit : Edit) → new_supplier file s key ≡ Ok edit → Known old old (λ c b. Fits c.params b edit)
   joining_fits edit allowed c b stood sound = (stood, joining-fits c b s key edit (ap (λ f. new_supplier f s key) (sym (same c b stood)) ∙ allowed))
 
   pub joining_refused : (r : Result ⊤ Refusal) (e : Refusal) → r ≡ Err e → new_supplier file s key ≡ Err e → Does old old r (λ c b. add_supplier c b s key)
@@ -120,10 +120,10 @@ module _ (old mid new : Standing) (s n : Name) where
         let r = read c b stood in
         (r.0, node-decides b s n (known c b stood) ∙ ap (λ ns. new_node s ns n >>= λ edit. Ok (applied b edit)) (sym r.1))
 
-    node_fits : (edit : Edit) → new_node s nodes n ≡ Ok edit → Known old mid (λ c b. Fits b edit)
+    node_fits : (edit : Edit) → new_node s nodes n ≡ Ok edit → Known old mid (λ c b. Fits c.params b edit)
     node_fits edit allowed c b stood sound =
         let r = read c b stood in
-        (r.0, node-fits b s n edit (known c b stood) (ap (λ ns. new_node s ns n) (sym r.1) ∙ allowed))
+        (r.0, node-fits c.params b s n edit (known c b stood) (ap (λ ns. new_node s ns n) (sym r.1) ∙ allowed))
 
     pub node_refused : (r : Result ⊤ Refusal) (e : Refusal) → r ≡ Err e → new_node s nodes n ≡ Err e → Does old mid r (λ c b. add_node b s n)
     node_refused = edit_refused old mid new (λ c b. add_node b s n) (new_node s nodes n) node_told
@@ -139,10 +139,10 @@ module _ (old mid new : Standing) (command : CommonCommand) (variants : List Var
       let r = read c b stood in
       (r.0, common-decides b command ∙ ap (λ vs. common_edit vs command >>= λ edit. Ok (applied b edit)) (sym r.1))
 
-  common_fits : (edit : Edit) → common_edit variants command ≡ Ok edit → Known old mid (λ c b. Fits b edit)
+  common_fits : (edit : Edit) → common_edit variants command ≡ Ok edit → Known old mid (λ c b. Fits c.params b edit)
   common_fits edit allowed c b stood sound =
       let r = read c b stood in
-      (r.0, common-fits b command edit (ap (λ vs. common_edit vs command) (sym r.1) ∙ allowed))
+      (r.0, common-fits c.params b command edit (ap (λ vs. common_edit vs command) (sym r.1) ∙ allowed))
 
   pub common_refused : (r : Result ⊤ Refusal) (e : Refusal) → r ≡ Err e → common_edit variants command ≡ Err e → Does old mid r (λ c b. common b command)
   common_refused = edit_refused old mid new (λ c b. common b command) (common_edit variants command) common_told

@@ -9,6 +9,7 @@ use Rattle.fr_base.specs.Keys.{owned}
 use Rattle.fr_base.specs.Names.{same_text}
 use Rattle.fr_base.specs.Tables.{Order, Table, get, insert, len}
 use Rattle.fr_base.specs.declared.name.Name.{Name}
+use Rattle.fr_base.specs.declared.params.Params.{Params}
 use Rattle.fr_base.proofs.AloneCells.{same_text-itself}
 use Rattle.fr_base.proofs.SoundRows.{same_text-is}
 use Rattle.fr_base.proofs.SoundTables.{get-passing, only-insert, only-insert_other}
@@ -72,7 +73,7 @@ others_counted b (NewNode s n) counts other counted = still_counted b (applied b
 others_counted b (Rows s v what) counts other counted = still_counted b (applied b (Rows s v what)) counts (changed-imports b v _ (get b.variants v)) counted
 others_counted b (KeepImport s label v body rows) counts other counted = absurd (other s label v body rows refl)
 
-module _ (b : Book) (s label v : Name) (body : List ℕ) (rows : ℕ) (fits : Fits b (KeepImport s label v body rows)) where
+module _ (p : Params) (b : Book) (s label v : Name) (body : List ℕ) (rows : ℕ) (fits : Fits p b (KeepImport s label v body rows)) where
   -- the counts of other suppliers
   pub without_counted : (counts : List ImportCount) → AreCounted b counts → AreCounted (applied b (KeepImport s label v body rows)) (counts_without s counts)
   unfolding applied
@@ -96,17 +97,17 @@ module _ (b : Book) (s label v : Name) (body : List ℕ) (rows : ℕ) (fits : Fi
   unfolding applied
   one_counted n more counted is = is ∙ ap (λ m. m + 1) counted ∙ sym (own-more b.imports s label (record { variant = v; body = body; rows = rows }) fits.2)
 
-module _ (b : Book) (edit : Edit) (s label v : Name) (body : List ℕ) (rows : ℕ) (is : edit ≡ KeepImport s label v body rows) (fits : Fits b edit) (counts : List ImportCount) (counted : AreCounted b counts) where
-  fits_here : Fits b (KeepImport s label v body rows)
-  fits_here = subst (Fits b) is fits
+module _ (p : Params) (b : Book) (edit : Edit) (s label v : Name) (body : List ℕ) (rows : ℕ) (is : edit ≡ KeepImport s label v body rows) (fits : Fits p b edit) (counts : List ImportCount) (counted : AreCounted b counts) where
+  fits_here : Fits p b (KeepImport s label v body rows)
+  fits_here = subst (Fits p b) is fits
 
   -- the edit keeps an import of the supplier, whose count is let go
   pub left_counted : (left : List ImportCount) → left ≡ counts_without s counts → AreCounted (applied b edit) left
   left_counted left taken =
       subst (λ e. AreCounted (applied b e) left) (sym is)
-      (subst (AreCounted (applied b (KeepImport s label v body rows))) (sym taken) (without_counted b s label v body rows fits_here counts counted))
+      (subst (AreCounted (applied b (KeepImport s label v body rows))) (sym taken) (without_counted p b s label v body rows fits_here counts counted))
 
   -- or is one more
   pub more_counted : (n more : ℕ) → count_of s counts ≡ Some n → more ≡ n + 1 → more ≡ len (own s (applied b edit).imports)
   more_counted n more known one =
-      subst (λ e. more ≡ len (own s (applied b e).imports)) (sym is) (one_counted b s label v body rows fits_here n more (counted_of b s counts n known counted) one)
+      subst (λ e. more ≡ len (own s (applied b e).imports)) (sym is) (one_counted p b s label v body rows fits_here n more (counted_of b s counts n known counted) one)

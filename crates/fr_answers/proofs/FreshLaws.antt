@@ -150,20 +150,20 @@ change_spares b s v x (Revoke slot channel) fits = own_held s (get x.grants (slo
 change_spares b s v x (Frame f what) fits = tt
 
 -- an edit that fits leaves other suppliers what they hold
-fit_spares : (b : Book) (edit : Edit) → Fits b edit → Spares b edit
-fit_spares b (NewVariant v parent depth) fits = tt
-fit_spares b (SetReleased v) fits = tt
-fit_spares b (NewSupplier s key) fits = tt
-fit_spares b (NewNode s n) fits = tt
-fit_spares b (Rows s v what) fits = λ x there.
-    change_spares b s v x what (subst (λ y. FitsVariant b.nodes s y what) (same_some fits.0 x (sym fits.1.there ∙ there)) fits.2)
-fit_spares b (KeepImport s label v body rows) fits = tt
+fit_spares : (p : Params) (b : Book) (edit : Edit) → Fits p b edit → Spares b edit
+fit_spares p b (NewVariant v parent depth) fits = tt
+fit_spares p b (SetReleased v) fits = tt
+fit_spares p b (NewSupplier s key) fits = tt
+fit_spares p b (NewNode s n) fits = tt
+fit_spares p b (Rows s v what) fits = λ x there.
+    change_spares b s v x what (subst (λ y. FitsVariant b.nodes s y what) (same_some fits.0 x (sym fits.1.there ∙ there)) fits.2.0)
+fit_spares p b (KeepImport s label v body rows) fits = tt
 
 -- pages that edits leave as they are
-pub all-untouched_by : (c : Cluster) (edits : List Edit) (b : Book) (kept : KeptData) → AllFit b edits → AreFresh c.params b kept →
+pub all-untouched_by : (c : Cluster) (edits : List Edit) (b : Book) (kept : KeptData) → AllFit c.params b edits → AreFresh c.params b kept →
     AreFresh c.params (all_applied b edits) (untouched_by edits kept)
 all-untouched_by c [] b kept fits fresh = fresh
 all-untouched_by c (edit ∷ edits) b kept fits fresh =
-    let spares = fit_spares b edit fits.0 in
+    let spares = fit_spares c.params b edit fits.0 in
     let left : KeptData = record { recent = untouched edit kept.recent; earlier = untouched edit kept.earlier } in
     all-untouched_by c edits (applied b edit) left fits.1 (all_untouched c b edit spares kept.recent fresh.0, all_untouched c b edit spares kept.earlier fresh.1)

@@ -126,7 +126,7 @@ module _ (i : Import) (page : PageData) (reads : List RowRead) (read : reads ≡
       abbrev kept_edits : List Edit
       kept_edits = edits ++ KeepImport i.supplier i.label i.variant i.body count ∷ []
 
-      all_fit : (c : Cluster) (b : Book) → IsSound c b → contains b.suppliers i.supplier ≡ true → get b.imports (i.supplier, i.label) ≡ None → open_page c.params b i.supplier i.variant ≡ Ok page → AllFit b kept_edits
+      all_fit : (c : Cluster) (b : Book) → IsSound c b → contains b.suppliers i.supplier ≡ true → get b.imports (i.supplier, i.label) ≡ None → open_page c.params b i.supplier i.variant ≡ Ok page → AllFit c.params b kept_edits
       all_fit c b sound known free opened =
           let t = opened-there c.params b i.supplier i.variant page opened in
           import-fits c b i.supplier i.variant i.label t.0 i.body (rows_of_body c.params i.body) edits count sound t.1 (ap (λ (q : PageData). q.released) t.2 ∙ unreleased) known free (rows-checked c.params i.body)
@@ -161,18 +161,18 @@ import_fresh c b page edits s label v body rows fresh =
 
 -- Edits were carried out, of which the last keeps an import,
 module _ (i : Import) (rows : ℕ) (page : PageData) (edits made : List Edit) (all : made ≡ edits ++ KeepImport i.supplier i.label i.variant i.body rows ∷ [])
-    (old mid : Standing) (applies : (c : Cluster) (b : Book) → old c b → AllFit b made → mid c (all_applied b made)) where
+    (old mid : Standing) (applies : (c : Cluster) (b : Book) → old c b → AllFit c.params b made → mid c (all_applied b made)) where
   abbrev also_kept : List Edit
   also_kept = edits ++ KeepImport i.supplier i.label i.variant i.body rows ∷ []
 
   -- and the page is let go,
-  pub left_out : (c : Cluster) (b : Book) → old c b → IsFresh c.params b page → AllFit b also_kept → mid c (all_applied b also_kept)
+  pub left_out : (c : Cluster) (b : Book) → old c b → IsFresh c.params b page → AllFit c.params b also_kept → mid c (all_applied b also_kept)
   left_out c b stood fresh fit =
-      subst (λ es. mid c (all_applied b es)) all (applies c b stood (subst (AllFit b) (sym all) fit))
+      subst (λ es. mid c (all_applied b es)) all (applies c b stood (subst (AllFit c.params b) (sym all) fit))
 
   -- or given back as they leave it.
   pub given_back : (after : PageData) → ((c : Cluster) (b : Book) → IsFresh c.params b page → IsFresh c.params (all_applied b edits) after) → (new : Standing) → Keeps mid new after →
-      (c : Cluster) (b : Book) → old c b → IsFresh c.params b page → AllFit b also_kept → new c (all_applied b also_kept)
+      (c : Cluster) (b : Book) → old c b → IsFresh c.params b page → AllFit c.params b also_kept → new c (all_applied b also_kept)
   given_back after still new keeps c b stood fresh fit =
       keeps c (all_applied b also_kept) (left_out c b stood fresh fit) (import_fresh c b after edits i.supplier i.label i.variant i.body rows (still c b fresh))
 

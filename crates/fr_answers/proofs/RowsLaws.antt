@@ -243,7 +243,7 @@ module _ (old mid : Standing) (s v : Name) (change : Change) where
         let passed = both_passed (decision page change) (is_taken b page.variant change) edits.items a.1 in
         let variant : v ≡ page.variant = ap (λ (q : PageData). q.variant) o.2 in
         let of_cluster : IsChecked c.params change = subst (λ (q : PageData). IsChecked q.params change) (sym o.2) checked in
-        let fits : AllFit b edits.items =
+        let fits : AllFit c.params b edits.items =
         decision-fits c b s v o.0 change edits.items sound o.1 of_cluster (unheld b v o.0 change o.1 (ap (λ w. is_taken b w change) variant ∙ passed.1))
         (ap (λ q. decision q change) o.2 ∙ passed.0) in
         let does_so : does c b ≡ Ok (all_applied b edits.items) = k.1.1 ∙ ap (λ d. d >>= λ edits. Ok (all_applied b edits)) a.1 in

@@ -167,12 +167,12 @@ module _ {R : Type 0} (stands : R → Standing) (inside warm : WarmData R) (is :
 
   -- edits were carried out
   pub warm_applied : (new : Standing) (edits : List Edit) (left : KeptData) → left ≡ untouched_by edits inside.pages →
-      (counts : List ImportCount) → ((b : Book) → AllFit b edits → AreCounted b inside.counts → AreCounted (all_applied b edits) counts) →
+      (counts : List ImportCount) → ((p : Params) (b : Book) → AllFit p b edits → AreCounted b inside.counts → AreCounted (all_applied b edits) counts) →
       (r : Result ⊤ Refusal) → r ≡ Ok tt → Applies (stands inside.records) new r edits →
-      (c : Cluster) (b : Book) → StandsWarm stands warm c b → AllFit b edits → Beside new left counts c (all_applied b edits)
+      (c : Cluster) (b : Book) → StandsWarm stands warm c b → AllFit c.params b edits → Beside new left counts c (all_applied b edits)
   warm_applied new edits left spared counts followed (Ok x) made applies c b stood fits =
       let here = stood-inside c b stood in
-      (applies c b here.0 fits, subst (AreFresh c.params (all_applied b edits)) (sym spared) (all-untouched_by c edits b inside.pages fits here.1), followed b fits here.2)
+      (applies c b here.0 fits, subst (AreFresh c.params (all_applied b edits)) (sym spared) (all-untouched_by c edits b inside.pages fits here.1), followed c.params b fits here.2)
   warm_applied new edits left spared counts followed (Err e) made applies c b stood fits = cc
 
   -- they were not

@@ -36,7 +36,7 @@ Allows old new r page change = (c : Cluster) (b : Book) → old c b → new c b 
 -- The edits were carried out, where they fit and the page on which they were decided is the book's; or the answer is Unavailable, and the
 -- records stand for the same book as before.
 abbrev pub Makes : {X : Type 0} → Standing → Standing → Result X Refusal → PageData → List Edit → Type 0
-Makes old new r page edits = (c : Cluster) (b : Book) → old c b → IsFresh c.params b page → AllFit b edits →
+Makes old new r page edits = (c : Cluster) (b : Book) → old c b → IsFresh c.params b page → AllFit c.params b edits →
     MatchResult r (λ _. new c (all_applied b edits)) (λ e. (e ≡ Unavailable) × new c b)
 
 -- So with a command, which is answered Done where it was carried out.

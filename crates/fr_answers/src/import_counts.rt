@@ -2,6 +2,7 @@
 ghost use Rattle.std.specs.Prelude.{◌≡◌, [], not};
 ghost use Rattle.fr_base.specs.Book.{Book, own};
 ghost use Rattle.fr_base.specs.Tables.{len};
+ghost use Rattle.fr_base.specs.declared.params.Params.{Params};
 ghost use Rattle.fr_answers.specs.ImportCounts.{AreCounted, count_of, counts_without, is_count_of};
 ghost use Rattle.fr_world.specs.BookEdits.{all_applied, applied};
 ghost use Rattle.fr_world.specs.Fits.{AllFit, Fits};
@@ -60,7 +61,7 @@ impl ImportCounts {
 
     /// Goes on to the book after edits, each of which fits.
     pub(crate) fn follow(&mut self, edits: &[Edit])
-        ensures { (b : Book) → AllFit b edits.now → AreCounted b self.old → AreCounted (all_applied b edits.now) self.new }
+        ensures { (p : Params) (b : Book) → AllFit p b edits.now → AreCounted b self.old → AreCounted (all_applied b edits.now) self.new }
     {
         for edit in edits {
             self.follow_one(edit);
@@ -69,7 +70,7 @@ impl ImportCounts {
 
     // Counts one more where the edit keeps an import.
     fn follow_one(&mut self, edit: &Edit)
-        ensures { (b : Book) → Fits b edit.now → AreCounted b self.old → AreCounted (applied b edit.now) self.new }
+        ensures { (p : Params) (b : Book) → Fits p b edit.now → AreCounted b self.old → AreCounted (applied b edit.now) self.new }
     {
         let Edit::KeepImport { supplier, .. } = edit else {
             return;

@@ -11,7 +11,7 @@ loop-edit-preserved c =
     let edit = c.edit-item.result in
     let left : drop i edits ≡ edit ∷ drop (i + 1) edits =
     drop-cons edits i edit c.loop-edit-test.true ∙ ap (λ n. get_or edits i edit ∷ drop n edits) (sym (add-one i)) ∙ ap (λ e. e ∷ drop (i + 1) edits) (sym c.edit-item.is) in
-    λ b fits counted.
-    let now = c.loop-edit.invariant b fits counted in
-    let fit = subst (AllFit now.0) left now.1 in
-    (applied now.0 edit, fit.1, c.follow_one.ensures now.0 fit.0 now.2, sym (ap (all_applied now.0) left) ∙ now.3)
+    λ p b fits counted.
+    let now = c.loop-edit.invariant p b fits counted in
+    let fit = subst (AllFit p now.0) left now.1 in
+    (applied now.0 edit, fit.1, c.follow_one.ensures p now.0 fit.0 now.2, sym (ap (all_applied now.0) left) ∙ now.3)
