@@ -31,6 +31,9 @@ run = new_app (codes "run")
 abbrev pub create : App
 create = with_rule (with_rule (new_app (codes "create")) (word (codes "DB"))) (word (codes "CONFIG"))
 
+abbrev pub migrate : App
+migrate = with_rule (new_app (codes "migrate")) (word (codes "DB"))
+
 abbrev pub serve : App
 serve = with_rule (with_rule (with_rule (new_app (codes "serve")) (word (codes "DB"))) port) count
 
@@ -51,8 +54,8 @@ unasked name = record {
 
 -- the program, with one subcommand for each job
 abbrev pub slotplan : App
-slotplan = with_subcommand (with_subcommand (with_subcommand (with_subcommand (with_subcommand (with_subcommand
-    (unasked (codes "slotplan")) run.top) create.top) serve.top) (report (codes "schedule")).top) (report (codes "gaps")).top) import_words.top
+slotplan = with_subcommand (with_subcommand (with_subcommand (with_subcommand (with_subcommand (with_subcommand (with_subcommand
+    (unasked (codes "slotplan")) run.top) create.top) migrate.top) serve.top) (report (codes "schedule")).top) (report (codes "gaps")).top) import_words.top
 
 -- The command is read so, and has no argument that its subcommands have too.
 abbrev pub IsReadAs : App → Command → Type 0

@@ -43,6 +43,11 @@ IsNotMade CannotOpen = ⊤
 IsNotMade NoMemory = ⊤
 IsNotMade _ = ⊥
 
+-- For this a register's file is not migrated: it is no register, or one of another schema than 1, or migrating it failed.
+abbrev pub IsNotMigrated : Fault → Type 0
+IsNotMigrated (Register fault) = fault ≢ store.NotEmpty
+IsNotMigrated _ = ⊥
+
 -- For this a register's file is not opened.
 abbrev pub IsNotOpened : Fault → Type 0
 IsNotOpened (Register fault) = fault ≢ store.NotEmpty

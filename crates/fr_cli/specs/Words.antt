@@ -4,7 +4,7 @@ use Rattle.clap.specs.Walk.{Row, Text, first_of}
 use Rattle.clap.specs.Words.{subcommand_of}
 use Rattle.fr_cli.specs.Commands.{slotplan}
 use Rattle.fr_cli.specs.declared.words.Job.{Job}
-use Rattle.fr_cli.specs.declared.words.Job.TheVariants.{Run, Create, Serve, Schedule, Gaps, Import}
+use Rattle.fr_cli.specs.declared.words.Job.TheVariants.{Run, Create, Migrate, Serve, Schedule, Gaps, Import}
 
 -- The word at this place is this text.
 abbrev pub Has : Text → List Row → Text → Type 0
@@ -14,6 +14,7 @@ Has name rows text = first_of name rows ≡ Some text
 abbrev pub IsJobOf : Job → Text → List Row → Type 0
 IsJobOf Run name rows = name ≡ codes "run"
 IsJobOf (Create db config) name rows = (name ≡ codes "create") × Has (codes "DB") rows db.now × Has (codes "CONFIG") rows config.now
+IsJobOf (Migrate db) name rows = (name ≡ codes "migrate") × Has (codes "DB") rows db.now
 IsJobOf (Serve db port count) name rows = (name ≡ codes "serve") × Has (codes "DB") rows db.now
     × (1 ≤ port) × (port ≤ 65535) × (1 ≤ count) × (count ≤ 1000000)
 IsJobOf (Schedule db variant) name rows = (name ≡ codes "schedule") × Has (codes "DB") rows db.now × Has (codes "VARIANT") rows variant.now

@@ -17,6 +17,7 @@ pub fn program<'a>(alloc: Global) -> Result<Command<'a>, Error>
     let program = settings(Command::new(alloc, "slotplan").bin_name("slotplan")?)
         .subcommand(run(alloc))?
         .subcommand(create(alloc)?)?
+        .subcommand(migrate(alloc)?)?
         .subcommand(serve(alloc)?)?
         .subcommand(report(alloc, "schedule", SCHEDULE_ABOUT, SCHEDULE_HELP)?)?
         .subcommand(report(alloc, "gaps", GAPS_ABOUT, GAPS_HELP)?)?
@@ -56,6 +57,16 @@ fn create<'a>(alloc: Global) -> Result<Command<'a>, Error>
             "CONFIG",
             "The cluster file (TOML), at most 1,048,576 bytes",
         ))?;
+    Ok(command)
+}
+
+fn migrate<'a>(alloc: Global) -> Result<Command<'a>, Error>
+    ensures { IfOk result (IsReadAs app.migrate) }
+{
+    let command = Command::new(alloc, "migrate")
+        .about("Brings a register file of schema 1 to schema 2, with all that it holds")
+        .after_help(MIGRATE_HELP)
+        .arg(db(alloc))?;
     Ok(command)
 }
 
@@ -180,6 +191,14 @@ Example:
 const CREATE_HELP: &str = "\
 Example:
   slotplan create car.db cluster.toml";
+
+const MIGRATE_HELP: &str = "\
+End the server of the file first, and keep a copy of the file. A file of schema 2 is left as it
+is: WrongSchema.
+
+Example:
+  cp car.db car.backup.db
+  slotplan migrate car.db";
 
 const SERVE_HELP: &str = "\
 Example:

@@ -5,7 +5,7 @@ ghost use Rattle.std.specs.Global.{Vec};
 ghost use Rattle.std.specs.Io.KnownBytes.{Appends, Keeps};
 ghost use Rattle.fr_cli.specs.Asking.{line_of, report_of};
 ghost use Rattle.fr_cli.specs.Endings.{AppendsFront, IsPrinted, IsTold, Tells, status_of};
-ghost use Rattle.fr_cli.specs.Faults.{IsNotImported, IsNotMade, IsNotReported};
+ghost use Rattle.fr_cli.specs.Faults.{IsNotImported, IsNotMade, IsNotMigrated, IsNotReported};
 ghost use Rattle.fr_cli.specs.Performing.{Says, listening, of_script};
 ghost use Rattle.fr_cli.specs.Runs.{IsRunOf};
 ghost use Rattle.fr_cli.specs.declared.asking.Report.TheVariants as report;
@@ -45,6 +45,9 @@ pub fn perform<R: Read, O: Write, E: Write>(
     ensures create { (db config : Bor (List ℕ)) → job.now ≡ Job.Create db config → (done : Result ⊤ Word) × (result ≡ status_of done)
         × IfErr done IsNotMade
         × Keeps (O.contents out.old) (O.contents out.new) × Tells (E.contents err.old) (E.contents err.new) done }
+    ensures migrate { (db : Bor (List ℕ)) → job.now ≡ Job.Migrate db → (done : Result ⊤ Word) × (result ≡ status_of done)
+        × IfErr done IsNotMigrated
+        × Keeps (O.contents out.old) (O.contents out.new) × Tells (E.contents err.old) (E.contents err.new) done }
     ensures schedule { (db variant : Bor (List ℕ)) → job.now ≡ Job.Schedule db variant → (done : Result (Vec ℕ) Ended) × Says IsNotReported (report_of report.Schedule) done
         × IsTold done (O.contents out.old) (O.contents out.new) (E.contents err.old) (E.contents err.new) result }
     ensures gaps { (db variant : Bor (List ℕ)) → job.now ≡ Job.Gaps db variant → (done : Result (Vec ℕ) Ended) × Says IsNotReported (report_of report.Gaps) done
@@ -57,6 +60,7 @@ pub fn perform<R: Read, O: Write, E: Write>(
     match *job {
         Job::Run => end_script(rt.alloc(), input, out, &mut err),
         Job::Create { db, config } => end(create(rt, db, config), &mut err),
+        Job::Migrate { db } => end(migrate_file(rt, db), &mut err),
         Job::Serve { db, port, count } => end(serve(rt, db, port, count, out, &mut err), &mut err),
         Job::Schedule { db, variant } => {
             tell(
@@ -122,6 +126,13 @@ fn end_script<R: Read, O: Write, E: Write>(
         Ok(()) => end(Ok(()), err),
         Err(fault) => end(Err(Fault::Script(fault)), err),
     }
+}
+
+// Migrates the register in a file.
+fn migrate_file(rt: &HostRuntime, db: &str) -> Result<(), Fault>
+    ensures { IfErr result IsNotMigrated }
+{
+    Ok(FileDesk::migrate(rt, db)?)
 }
 
 // The report of a variant of the register in a file.

@@ -19,6 +19,10 @@ pub enum Job<'a> {
         db: &'a str,
         config: &'a str,
     },
+    /// Bring a register file of the schema before this one to this one.
+    Migrate {
+        db: &'a str,
+    },
     /// Serve a register file on this port, 1 to 65,535, for so many connections, 1 to 1,000,000.
     Serve {
         db: &'a str,
@@ -92,6 +96,7 @@ fn named_job<'a>(name: &str, found: &ArgMatches<'a>) -> Option<Job<'a>>
     match name {
         "run" => Some(Job::Run),
         "create" => create_job(found),
+        "migrate" => migrate_job(found),
         "serve" => serve_job(found),
         "schedule" => schedule_job(found),
         "gaps" => gaps_job(found),
@@ -106,6 +111,14 @@ fn create_job<'a>(found: &ArgMatches<'a>) -> Option<Job<'a>>
     Some(Job::Create {
         db: word(found, "DB")?,
         config: word(found, "CONFIG")?,
+    })
+}
+
+fn migrate_job<'a>(found: &ArgMatches<'a>) -> Option<Job<'a>>
+    ensures { IfSome result (λ job. IsJobOf job (codes "migrate") (rows_of (found_of found.now))) }
+{
+    Some(Job::Migrate {
+        db: word(found, "DB")?,
     })
 }
 

@@ -4,7 +4,7 @@ ghost use Rattle.fr_store.specs.declared.fault.StoreFault.TheVariants.{NotEmpty,
 
 use fr_base::{Actor, Answer, Ask, Config, Desk};
 use fr_office::Office;
-use fr_store::{Store, StoreFault};
+use fr_store::{Store, StoreFault, migrate_at};
 use sqlite::{FileFrom, FileStore, Unknown};
 use std::alloc::Global;
 use std::fs;
@@ -47,6 +47,17 @@ impl FileDesk {
             }
             Err((fault, _)) => Err(fault),
         }
+    }
+
+    /// Migrates the register in the file at a path from schema 1 to schema 2, with all that it holds. Where
+    /// there is no file there is no register, and none is made.
+    pub fn migrate(rt: &HostRuntime, path: &str) -> Result<(), StoreFault>
+        ensures { IfErr result (λ e. e ≢ NotEmpty) }
+    {
+        if let Ok(false) = fs::exists(rt, path) {
+            return Err(StoreFault::NotARegister);
+        }
+        migrate_at(rt, path)
     }
 
     /// The desk of the register in the file at a path. Where there is no file there is no register, and

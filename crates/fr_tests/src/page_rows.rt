@@ -29,7 +29,7 @@ pub(crate) fn placement(
     Ok(Placement {
         slot: slot(number)?,
         channels,
-        cycles: CycleSet::new(base, repetition)?,
+        cycles: CycleSet::new(64, base, repetition)?,
     })
 }
 
@@ -49,6 +49,7 @@ fn params() -> Result<Params, Fail> {
         idle_macroticks: 655,
         macroticks_per_cycle: 16000,
         payload_words: 127,
+        cycles: 64,
     })
     .map_err(|fault| fault.word())?)
 }
@@ -59,7 +60,9 @@ pub(crate) fn fits(params: &Params, placement: &Placement) -> bool
 {
     // Gives the proof that the cycles are a set of cycles.
     let _repetition = placement.cycles.repetition();
-    params.channels() == Channels::AB && placement.slot.get() <= params.static_slots()
+    params.channels() == Channels::AB
+        && placement.slot.get() <= params.static_slots()
+        && u32::from(placement.cycles.cycles()) == params.cycles()
 }
 
 /// No nodes, grants and frames.

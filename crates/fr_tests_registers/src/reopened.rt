@@ -52,7 +52,7 @@ fn has_first_frame(page: &Page) -> Result<bool, Fail> {
     let placed = Placement {
         slot,
         channels: Channels::A,
-        cycles: CycleSet::new(0, 64)?,
+        cycles: CycleSet::new(64, 0, 64)?,
     };
     let is_placed = frame.placements.len() == 1 && frame.placements.contains(&placed);
     Ok(
