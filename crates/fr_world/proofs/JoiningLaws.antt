@@ -28,17 +28,17 @@ joining-decides c b s key = add_supplier-listed c b s key ∙ alike (admits_supp
 same_edit : (one two : Edit) → ◌≡◌ {A = Result Edit Refusal} (Ok one) (Ok two) → one ≡ two
 same_edit one two e = cc
 
-pub joining-fits : (c : Cluster) (b : Book) (s : Name) (key : Key) (edit : Edit) → new_supplier (file_of c b) s key ≡ Ok edit → Fits b edit
+pub joining-fits : (c : Cluster) (b : Book) (s : Name) (key : Key) (edit : Edit) → new_supplier (file_of c b) s key ≡ Ok edit → Fits c.params b edit
 unfolding new_supplier ◌>>◌
 joining-fits c b s key edit made = fits (admits_supplier (file_of c b) s key) refl made
   where
-    fits : (r : Result ⊤ Refusal) → admits_supplier (file_of c b) s key ≡ r → (r >> Ok (NewSupplier s key)) ≡ Ok edit → Fits b edit
-    fits (Ok x) admitted is = subst (Fits b) (same_edit (NewSupplier s key) edit is) (listed_is_free c b s key admitted)
+    fits : (r : Result ⊤ Refusal) → admits_supplier (file_of c b) s key ≡ r → (r >> Ok (NewSupplier s key)) ≡ Ok edit → Fits c.params b edit
+    fits (Ok x) admitted is = subst (Fits c.params b) (same_edit (NewSupplier s key) edit is) (listed_is_free c b s key admitted)
     fits (Err e) admitted is = cc
 
 free_of : {A : Type 0} (o : Option A) → o ≡ None → is_some o ≡ false
 free_of o e = ap is_some e
 
-pub joining-is_listed : (c : Cluster) (b : Book) (s : Name) (key : Key) → Fits b (NewSupplier s key) → file_of c (applied b (NewSupplier s key)) ≡ joined (file_of c b) s key
+pub joining-is_listed : (c : Cluster) (b : Book) (s : Name) (key : Key) → Fits c.params b (NewSupplier s key) → file_of c (applied b (NewSupplier s key)) ≡ joined (file_of c b) s key
 unfolding applied
 joining-is_listed c b s key free = file_of-joined c b s key (free_of (get b.suppliers s) free)

@@ -98,11 +98,11 @@ JoiningDecides = (c : Cluster) (b : Book) (s : Name) (key : Key) → add_supplie
 
 -- What is decided so fits.
 abbrev pub JoiningFits : Type 0
-JoiningFits = (c : Cluster) (b : Book) (s : Name) (key : Key) (edit : Edit) → new_supplier (file_of c b) s key ≡ Ok edit → Fits b edit
+JoiningFits = (c : Cluster) (b : Book) (s : Name) (key : Key) (edit : Edit) → new_supplier (file_of c b) s key ≡ Ok edit → Fits c.params b edit
 
 -- And a supplier of a new name joins the book as it joins the list.
 abbrev pub JoiningIsListed : Type 0
-JoiningIsListed = (c : Cluster) (b : Book) (s : Name) (key : Key) → Fits b (NewSupplier s key) → file_of c (applied b (NewSupplier s key)) ≡ joined (file_of c b) s key
+JoiningIsListed = (c : Cluster) (b : Book) (s : Name) (key : Key) → Fits c.params b (NewSupplier s key) → file_of c (applied b (NewSupplier s key)) ≡ joined (file_of c b) s key
 
 -- In any book a new node for a supplier that is there is decided by the supplier's nodes.
 abbrev pub NodeDecides : Type 0
