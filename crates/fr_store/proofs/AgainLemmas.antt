@@ -1,5 +1,5 @@
 -- Tables that stood for a cluster and a book, opened again.
-use Rattle.std.proofs.Common.{◌≡◌, ◌∙◌, refl, sym, ap, subst}
+use Rattle.std.proofs.Common.{◌≡◌, ◌∙◌, inl, refl, sym, ap, subst}
 use Rattle.std.proofs.Math.Logic.{∥∥₁_elim}
 use Rattle.sqlite.specs.Effect.{Database, IsDatabase}
 use Rattle.sqlite.specs.Files.{HoldsDatabase}
@@ -37,9 +37,9 @@ found_again old new found same good is c b stood =
 -- a register is refused for no other reason
 pub only_unavailable : (c : ClusterFile) (db : Database) (e : StoreFault) → IsRegisterOf c db → Explains db e → e ≡ Unavailable
 only_unavailable c db NotEmpty is h = absurd h
-only_unavailable c db NotARegister is h = absurd (h our_schema_number (record { has = is.has; number = is.tells.register }))
+only_unavailable c db NotARegister is h = absurd (h our_schema_number (record { has = inl is.has; number = is.tells.register }))
 only_unavailable c db WrongSchema is h =
-    let it = h is.has in
+    let it = h (inl is.has) in
     let same : numbered it.0 ≡ numbered our_schema_number = cc (sym it.2.number ∙ is.tells.register) in
     absurd (it.1 (ap (λ (r : RegisterRow). r.schema) same))
 only_unavailable c db Unavailable is h = refl
@@ -50,7 +50,7 @@ pub only_unavailable_files : (image : Image) (c : ClusterFile) (db : Trees) (e :
 only_unavailable_files image c db Unavailable h told = refl
 only_unavailable_files image c db NotEmpty h told = absurd (∥∥₁_elim h.held.holds (hlevel) (λ held. told (database_of db) h.held.sound held))
 only_unavailable_files image c db NotARegister h told =
-    absurd (∥∥₁_elim h.held.holds (hlevel) (λ held. told (database_of db) h.held.sound held our_schema_number (record { has = h.is.has; number = h.is.tells.register })))
+    absurd (∥∥₁_elim h.held.holds (hlevel) (λ held. told (database_of db) h.held.sound held our_schema_number (record { has = inl h.is.has; number = h.is.tells.register })))
 only_unavailable_files image c db WrongSchema h told =
     absurd (∥∥₁_elim h.held.holds (hlevel) (λ held. let is = only_unavailable c (database_of db) WrongSchema h.is (told (database_of db) h.held.sound held) in cc))
 

@@ -1,5 +1,5 @@
 -- What is known of a register whose rows were asked for.
-use Rattle.std.proofs.Common.{◌≡◌, ◌∙◌, ℤ, List, [], ◌∷◌, map, filter, Option, Some, None, is_some, IfSome, IsTrue, refl, sym, ap, subst}
+use Rattle.std.proofs.Common.{◌≡◌, ◌∙◌, inl, ℤ, List, [], ◌∷◌, map, filter, Option, Some, None, is_some, IfSome, IsTrue, refl, sym, ap, subst}
 use Rattle.std.specs.List.Sorted.{IsPermutation}
 use Rattle.std.proofs.lemmas.List.Sorted.{IsPermutation-sym}
 use Rattle.sqlite.specs.Order.{Row}
@@ -8,7 +8,7 @@ use Rattle.sqlite.proofs.Callers.{one_permutation}
 use Rattle.fr_base.specs.Cluster.{ClusterFile}
 use Rattle.fr_base.specs.declared.config.Supplier.{Supplier}
 use Rattle.fr_tables.specs.Rows.{Cluster2Row, SupplierRow}
-use Rattle.fr_tables.specs.Tables.{HasTables, tables_in}
+use Rattle.fr_tables.specs.Tables.{HasTables, HasSomeTables, tables_in}
 use Rattle.fr_tables.specs.Changes.{AreListed}
 use Rattle.fr_tables.specs.Statements.{cluster2_row, shows_cluster2, shows_supplier, shows_variant, every, any_order, suppliers_cmp, variants_cmp}
 use Rattle.fr_tables.specs.Filling.{supplier_row}
@@ -75,7 +75,7 @@ variants_found old new rows items (Some f) same has listed shown opened is =
     (rows, subst (λ (d : Database). AreListed shows_variant every variants_cmp (tables_in d.trees).variants rows) (sym same) (listed (subst HasTables same has)), subst AreOpened shown opened)
 
 -- what was read in turn of tables that stayed
-pub register_found : (c : ClusterFile) (old mid new : Database) (n : ℤ) → mid ≡ old → new ≡ mid → n ≡ our_schema_number → HasTables new → (HasTables old → HasNumber old n)
+pub register_found : (c : ClusterFile) (old mid new : Database) (n : ℤ) → mid ≡ old → new ≡ mid → n ≡ our_schema_number → HasTables new → (HasSomeTables old → HasNumber old n)
     → (HasTables mid → (tables_in mid.trees).cluster2 ≡ cluster2_row c.cluster.params c.cluster.integrator ∷ []) → (HasTables mid → IsPermutation (map supplier_row c.suppliers) (tables_in mid.trees).suppliers) → IsRegisterOf c new
 register_found c old mid new n first second ours has number cluster suppliers =
     subst (IsRegisterOf c) (sym second) (record {
@@ -91,4 +91,4 @@ register_found c old mid new n first second ours has number cluster suppliers =
     has_mid = subst HasTables second has
 
     its_number : HasNumber mid our_schema_number
-    its_number = subst (λ (p : Database × ℤ). HasNumber p.0 p.1) (λ i. (sym first i, ours i)) (number (subst HasTables first has_mid))
+    its_number = subst (λ (p : Database × ℤ). HasNumber p.0 p.1) (λ i. (sym first i, ours i)) (number (inl (subst HasTables first has_mid)))

@@ -1,0 +1,72 @@
+-- A register of the schema before this one, and what a migration makes of it.
+use Rattle.std.specs.Prelude.{◌≡◌, ◌++◌, pos, List, [], ◌∷◌, Result, OnOk, IsTrue}
+use Rattle.sqlite.specs.Effect.{Database}
+use Rattle.sqlite.specs.State.{State, HasCleanDisk, KeepsCommit}
+use Rattle.sqlite.specs.Tree.{Trees}
+use Rattle.sqlite_wal.specs.Recovery.{Image}
+use Rattle.fr_base.specs.Cluster.{Cluster}
+use Rattle.fr_base.specs.Book.{Book}
+use Rattle.fr_base.specs.declared.key.Key.{Key}
+use Rattle.fr_base.specs.declared.params.RawParams.{RawParams}
+use Rattle.fr_tables.specs.Schema.{old_schema}
+use Rattle.fr_tables.specs.Rows.{RegisterRow, ClusterRow}
+use Rattle.fr_tables.specs.Tables.{Tables, HasTables, HasOldTables, tables_in}
+use Rattle.fr_tables.specs.Changes.{tables_of}
+use Rattle.fr_tables.specs.Statements.{cluster_row, cluster2_row}
+use Rattle.fr_tables.specs.Asking.{numbered, old_schema_number}
+use Rattle.fr_store.specs.StandsFor.{HoldsRows}
+use Rattle.fr_store.specs.Reading.{Stands}
+use Rattle.fr_store.specs.Store.{IsRegisterFor}
+use Rattle.fr_store.specs.StoreFiles.{IsHeld, database_of}
+
+-- ---- what tables of the schema before stand for
+
+-- the one row of the register and the one of the cluster, which has 64 cycles
+pub record HadHeads (register : List RegisterRow) (cluster : List ClusterRow) (c : Cluster) : Type 0 where
+  pub number : register ≡ numbered old_schema_number ∷ []
+  pub params : cluster ≡ cluster_row c.params c.integrator ∷ []
+  pub cycles : c.params.cycles ≡ 64
+
+-- the tables stand for the cluster and the book; all rows but those of the heads are the ones of this schema
+pub record StoodFor (t : Tables) (c : Cluster) (b : Book) : Type 0 where
+  pub heads : HadHeads t.register t.cluster c
+  pub rows : HoldsRows t c.params.cycles b
+
+-- the tables that the connection sees are those of the schema before, and stand for a cluster and a book
+pub record StandsBefore (s : State) (c : Cluster) (b : Book) : Type 0 where
+  pub has : HasOldTables s.now
+  pub for : StoodFor (tables_of s) c b
+
+abbrev pub database_before : Trees → Database
+database_before db = record { schema = old_schema; trees = db }
+
+-- the files hold a register of the schema before, whose tables stand for this cluster and this book
+pub record HoldsBookBefore (c : Cluster) (b : Book) (image : Image) : Type 0 where
+  pub trees : Trees
+  pub held : IsHeld image (database_before trees)
+  pub has : HasOldTables (database_before trees)
+  pub for : StoodFor (tables_in trees) c b
+
+-- ---- the migration
+
+-- the cluster's row is in its new table
+abbrev pub moved : RawParams → Key → Tables → Tables
+moved p integrator t = record t { cluster = []; cluster2 = t.cluster2 ++ cluster2_row p integrator ∷ [] }
+
+-- Statements inside a transaction move the row of a cluster with 64 cycles, or one fails.
+abbrev pub MovesCluster : {X E : Type 0} → State → State → Result X E → Type 0
+MovesCluster old new r =
+    HasCleanDisk new → IsTrue old.in_transaction → HasTables old.now → (p : RawParams) (integrator : Key) → (tables_of old).cluster ≡ cluster_row p integrator ∷ [] → p.cycles ≡ 64
+    → OnOk r (tables_of new ≡ moved p integrator (tables_of old))
+
+-- Statements inside a transaction make tables of the schema before those of this one, for the same cluster and book, or one fails.
+abbrev pub Migrates : {X E : Type 0} → State → State → Result X E → Type 0
+Migrates old new r = HasCleanDisk new → IsTrue old.in_transaction → (c : Cluster) (b : Book) → StandsBefore old c b → OnOk r (Stands new c b)
+
+-- what a crash may leave of it, if not the register of before
+abbrev pub LeavesMigrated : State → Trees → Type 0
+LeavesMigrated old db = (c : Cluster) (b : Book) → StandsBefore old c b → IsRegisterFor c b (database_of db)
+
+-- where the database has the schema before, its tables are such as that schema's version writes
+abbrev pub HasOldIfBefore : Database → Type 0
+HasOldIfBefore db = db.schema ≡ old_schema → HasOldTables db
