@@ -33,6 +33,7 @@ Usage: slotplan <COMMAND>
 Commands:
   run       Answers a script on standard input, over a register in memory
   create    Makes a register file of a cluster file
+  migrate   Brings a register file of an earlier version up to this one
   serve     Serves a register file over HTTP
   schedule  Prints a variant's schedule: what is sent in which cycle, slot and channel
   gaps      Prints the greatest gap between two sendings of each frame of a variant, in macroticks
