@@ -82,7 +82,7 @@ fn fits(params: &Params, placement: &Placement) -> bool
     let _repetition = placement.cycles.repetition();
     params.channels() == Channels::AB
         && placement.slot.get() <= params.static_slots()
-        && placement.cycles.cycles() == params.cycles()
+        && u32::from(placement.cycles.cycles()) == params.cycles()
 }
 
 /// Reads or decides the file on standard input, on a page that is built anew each time.

@@ -225,7 +225,7 @@ fn fits(params: &Params, placement: &Placement) -> bool
     let _repetition = placement.cycles.repetition();
     params.channels() == Channels::AB
         && placement.slot.get() <= params.static_slots()
-        && placement.cycles.cycles() == params.cycles()
+        && u32::from(placement.cycles.cycles()) == params.cycles()
 }
 
 fn placement(base: u32) -> Result<Placement, Error> {

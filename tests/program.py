@@ -24,6 +24,7 @@ OPEN = 'integrator1 {"do":"open_variant","variant":"v1"}'
 FIRST = (TOP / "examples/first.script").read_bytes()
 FIRST_ANSWERS = (TOP / "examples/first.answers").read_bytes()
 
+# TODO-CHECK: the line of `migrate`.
 HELP = b"""\
 Plans the static segment of a FlexRay bus: a register in which an integrator grants
 slots, and each supplier places frames and packs signals of its own
