@@ -107,7 +107,8 @@ def check_params(cluster):
 
 def read_request(text):
     try:
-        asked = json.loads(text.decode())
+        # A number with a minus sign is none, -0 neither.
+        asked = json.loads(text.decode(), parse_int=lambda digits: -1 if digits == "-0" else int(digits))
     except ValueError:
         raise Refused("BadText")
     see(isinstance(asked, dict) and isinstance(asked.get("do"), str) and asked["do"] in FIELDS, "BadText")
