@@ -24,7 +24,6 @@ OPEN = 'integrator1 {"do":"open_variant","variant":"v1"}'
 FIRST = (TOP / "examples/first.script").read_bytes()
 FIRST_ANSWERS = (TOP / "examples/first.answers").read_bytes()
 
-# TODO-CHECK: the line of `migrate`.
 HELP = b"""\
 Plans the static segment of a FlexRay bus: a register in which an integrator grants
 slots, and each supplier places frames and packs signals of its own
@@ -34,7 +33,7 @@ Usage: slotplan <COMMAND>
 Commands:
   run       Answers a script on standard input, over a register in memory
   create    Makes a register file of a cluster file
-  migrate   Brings a register file of an earlier version up to this one
+  migrate   Brings a register file of schema 1 to schema 2, with all that it holds
   serve     Serves a register file over HTTP
   schedule  Prints a variant's schedule: what is sent in which cycle, slot and channel
   gaps      Prints the greatest gap between two sendings of each frame of a variant, in macroticks
