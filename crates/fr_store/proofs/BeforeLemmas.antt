@@ -1,5 +1,5 @@
 -- What a migration makes of a register of the schema before.
-use Rattle.std.proofs.Common.{◌≡◌, ◌∙◌, pos, Bool, OnOk, List, [], ◌∷◌, map, filter, inl, inr, Result, Ok, Err, MatchResult, IsTrue, refl, sym, ap, subst}
+use Rattle.std.proofs.Common.{◌≡◌, ◌∙◌, pos, List, [], ◌∷◌, map, filter, inl, inr, IsTrue, refl, sym, ap, subst}
 use Rattle.sqlite.specs.Order.{Row}
 use Rattle.sqlite.specs.Effect.{Database, IsDatabase}
 use Rattle.sqlite.specs.Files.{HoldsDatabase}
@@ -29,7 +29,7 @@ use Rattle.fr_store.specs.declared.fault.StoreFault.{StoreFault}
 use Rattle.fr_store.specs.declared.fault.StoreFault.TheVariants.{Unavailable}
 use Rattle.fr_store.proofs.AgainLemmas.{holds_book, refused_alone, refused_alone_files}
 use Rattle.fr_store.proofs.FileLemmas.{found_database}
-use Rattle.fr_store.proofs.InsideLemmas.{keeps_stay, keeps_then}
+use Rattle.fr_store.proofs.InsideLemmas.{LeavesStored, keeps_change, keeps_stay, keeps_then, goes_change, goes_then}
 use Rattle.fr_store.proofs.ChainLemmas.{same_tables}
 
 -- ---- the cluster's row
@@ -117,17 +117,17 @@ migrated old a b new c k stands made move number = record {
 pub renewed_keeps : (old new : State) → IsRenewed old new → KeepsCommit old new
 renewed_keeps old new h = record { was_open = λ up. h.shown.was_open; committed = λ up. h.shown.committed_is }
 
--- what stays after statements that follow a query stays after both
-pub goes_after : {X E : Type 0} (old read new : State) (r : Result X E) → IsUnchanged old read → KeepsCommit read new × OnOk r (GoesOn read new) → KeepsCommit old new × OnOk r (GoesOn old new)
-goes_after old read new (Err e) same h = (keeps_then old read new (keeps_stay old read (inl same)) h.0, tt)
-goes_after old read new (Ok x) same h = (
-  keeps_then old read new (keeps_stay old read (inl same)) h.0,
-  record {
-    inside = h.1.inside;
-    has = h.1.has;
-    stored = λ v over so. h.1.stored v over (subst (IsStoredSo v over) (sym (same_tables old read same)) so);
-  },
-)
+-- what stays after two statements that follow a query
+pub both_stay : (first second : Tables → Tables) (old read put new : State) → LeavesStored first → LeavesStored second → IsTrue old.in_transaction → IsUnchanged old read → Changes first read put → Changes second put new
+    → KeepsCommit old new × GoesOn old new
+both_stay first second old read put new leaves also inside same step gone =
+    let within = same.0.mode ∙ inside in
+    let begun = goes_change first read put leaves within step in
+    let goes = goes_then read put new begun (goes_change second put new also begun.inside gone) in
+    let keeps = keeps_then read put new (keeps_change first read put within step) (keeps_change second put new begun.inside gone) in (
+      keeps_then old read new (keeps_stay old read (inl same)) keeps,
+      record { inside = goes.inside; has = goes.has; stored = λ v over so. goes.stored v over (subst (IsStoredSo v over) (sym (same_tables old read same)) so) },
+    )
 
 -- the same tables stand for the same book
 pub still_before : (old new : State) (c : Cluster) (b : Book) → new.now ≡ old.now → StandsBefore old c b → StandsBefore new c b

@@ -1,11 +1,10 @@
-use Rattle.std.proofs.Common.{◌∙◌, arith, sym}
+use Rattle.std.proofs.Common.{◌∙◌, arith}
 use Rattle.sqlite.specs.State.{HasCleanDisk}
 use Rattle.sqlite.specs.Held.{state}
 use Rattle.fr_tables.specs.Changes.{Changes}
-use Rattle.fr_tables.specs.Statements.{cluster2_row, with_cluster2, without_cluster}
-use Rattle.fr_store.proofs.BeforeLemmas.{moves, goes_after}
+use Rattle.fr_tables.specs.Statements.{without_cluster}
+use Rattle.fr_store.proofs.BeforeLemmas.{moves, both_stay}
 use Rattle.fr_store.proofs.ChainLemmas.{has_still, same_tables}
-use Rattle.fr_store.proofs.InsideLemmas.{keeps_stay, keeps_then, two_stay}
 use Rattle.fr_store.proofs.migrating.move_cluster.Goals as goal
 
 pub returns-clause-moved : goal.returns-clause-moved
@@ -17,10 +16,10 @@ returns-clause-moved g c clean inside has p integrator is counted =
     let clean_put : HasCleanDisk put = omega (arith, c.delete.ensures.survives.clean, clean) in
     let clean_read : HasCleanDisk read = omega (arith, c.insert.ensures.survives.clean, clean_put) in
     let listed = c.in_ok-rows.ensures.listed clean_read has in
-    let step : Changes (with_cluster2 (cluster2_row c.in-Some.params c.in-Some.integrator)) read put =
+    let step =
     c.in_ok-insert.ensures.added clean_put (listed.1.0.mode ∙ inside) (has_still old read listed.1 has) in
     let gone : Changes without_cluster put new = c.in_ok-delete.ensures.ended clean (step.shown.mode ∙ listed.1.0.mode ∙ inside) step.has in
-    moves old read put new p c.in-Some.params integrator c.in-Some.integrator c.in_ok-rows.rows.items listed.0 (same_tables old read listed.1)
+    moves old read put new p _ integrator _ c.in_ok-rows.rows.items listed.0 (same_tables old read listed.1)
     (rw c.as_slice.ensures.value at c.in-Some.ensures.cluster) c.in-Some.ensures.cycles step gone is counted
 
 pub returns-clause-stays : goal.returns-clause-stays
@@ -32,8 +31,5 @@ returns-clause-stays g c clean inside has =
     let clean_put : HasCleanDisk put = omega (arith, c.delete.ensures.survives.clean, clean) in
     let clean_read : HasCleanDisk read = omega (arith, c.insert.ensures.survives.clean, clean_put) in
     let listed = c.in_ok-rows.ensures.listed clean_read has in
-    let row = with_cluster2 (cluster2_row c.in-Some.params c.in-Some.integrator) in
-    let step : Changes row read put = c.in_ok-insert.ensures.added clean_put (listed.1.0.mode ∙ inside) (has_still old read listed.1 has) in
-    let both = two_stay row without_cluster read put new c.delete.result (λ t v over so. so) (λ t v over so. so) (listed.1.0.mode ∙ inside) step
-    (c.delete.ensures.ended clean (step.shown.mode ∙ listed.1.0.mode ∙ inside) step.has) in
-    goes_after old read new c.delete.result listed.1 both
+    let step = c.in_ok-insert.ensures.added clean_put (listed.1.0.mode ∙ inside) (has_still old read listed.1 has) in
+    both_stay _ without_cluster old read put new (λ t v over so. so) (λ t v over so. so) inside listed.1 step (c.in_ok-delete.ensures.ended clean (step.shown.mode ∙ listed.1.0.mode ∙ inside) step.has)
