@@ -1,10 +1,11 @@
 -- What a migration makes of a register of the schema before.
-use Rattle.std.proofs.Common.{◌≡◌, ◌∙◌, pos, List, [], ◌∷◌, map, filter, inl, inr, IsTrue, refl, sym, ap, subst}
+use Rattle.std.proofs.Common.{◌≡◌, ◌∙◌, pos, List, [], ◌∷◌, map, filter, inl, inr, arith, Result, Ok, Err, OnErr, IfErr, IsTrue, refl, sym, ap, subst}
 use Rattle.sqlite.specs.Order.{Row}
 use Rattle.sqlite.specs.Effect.{Database, IsDatabase}
 use Rattle.sqlite.specs.Files.{HoldsDatabase}
-use Rattle.sqlite.specs.State.{State, KeepsCommit, IsUnchanged}
+use Rattle.sqlite.specs.State.{State, HasCleanDisk, KeepsCommit, IsUnchanged, Survives}
 use Rattle.sqlite.proofs.Callers.{one_permutation}
+use Rattle.sqlite.proofs.StateLemmas.{survives_then}
 use Rattle.sqlite_wal.specs.Recovery.{Image}
 use Rattle.fr_base.specs.Cluster.{Cluster}
 use Rattle.fr_base.specs.Book.{Book}
@@ -19,7 +20,7 @@ use Rattle.fr_tables.specs.Asking.{AreAsBefore, HasNumber, numbered, our_schema_
 use Rattle.fr_tables.specs.Making.{IsRenewed}
 use Rattle.fr_store.specs.Applying.{GoesOn}
 use Rattle.fr_store.specs.Owning.{IsStoredSo}
-use Rattle.fr_store.specs.Before.{StoodFor, StandsBefore, HoldsBookBefore, database_before, moved}
+use Rattle.fr_store.specs.Before.{StoodFor, StandsBefore, HoldsBookBefore, LeavesMigrated, database_before, moved}
 use Rattle.fr_store.specs.Opening.{Refuses}
 use Rattle.fr_store.specs.Reading.{Stands}
 use Rattle.fr_store.specs.StandsFor.{StandsFor}
@@ -147,6 +148,29 @@ as_before_then a b c h k up =
     let late = k up in
     let first = h late.0 in
     (first.0, late.1 ∙ first.1, late.2 ∙ first.2)
+
+-- after a call that leaves the tables, and one that sees that the connection is open
+pub same_after : (old mid late : State) → AreAsBefore old mid → IsUnchanged mid late → late.now ≡ old.now
+same_after old mid late first second = second.0.now_is ∙ (first second.0.was_open).1
+
+pub on_error : {X E P : Type 0} (r : Result X E) → P → OnErr r P
+on_error (Ok x) h = tt
+on_error (Err e) h = h
+
+-- the fault that is handed on
+pub same_fault : {X : Type 0} (r : Result X StoreFault) (e : StoreFault) → r ≡ Err e → e ≡ Unavailable → IfErr r (λ f. f ≡ Unavailable)
+same_fault r e is h = subst (λ r. IfErr r (λ f. f ≡ Unavailable)) (sym is) h
+
+pub undone_then : {X E : Type 0} (old late new : State) (r : Result X E) → AreAsBefore old late → OnErr r (AreAsBefore late new) → OnErr r (AreAsBefore old new)
+undone_then old late new (Ok x) first h = tt
+undone_then old late new (Err e) first h = as_before_then old late new first h
+
+-- a crash leaves what was there before, or a register of this schema
+pub migration_survives : (old mid late new : State) → Survives old mid (λ _. ⊥) → Survives mid late (λ _. ⊥) → (HasCleanDisk late → late.now ≡ old.now) → Survives late new (LeavesMigrated late) → Survives old new (LeavesMigrated old)
+migration_survives old mid late new first second same third =
+    survives_then old late new (λ _. ⊥) (LeavesMigrated late) (LeavesMigrated old) (λ clean db none. absurd none)
+    (λ clean db left c b stands. let clean_late : HasCleanDisk late = omega (arith, third.clean, clean) in left c b (still_before old late c b (same clean_late) stands))
+    (survives_then old mid late (λ _. ⊥) (λ _. ⊥) (λ _. ⊥) (λ clean db none. none) (λ clean db none. none) first second) third
 
 -- ---- why it is refused
 

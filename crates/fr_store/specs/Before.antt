@@ -71,6 +71,6 @@ LeavesMigrated old db = (c : Cluster) (b : Book) → StandsBefore old c b → Is
 abbrev pub HasOldIfBefore : Database → Type 0
 HasOldIfBefore db = db.schema ≡ old_schema → HasOldTables db
 
--- Statements inside a transaction over tables of the schema before commit nothing.
-abbrev pub KeepsBefore : State → State → Type 0
-KeepsBefore old new = HasCleanDisk new → IsTrue old.in_transaction → HasOldTables old.now → KeepsCommit old new
+-- Statements inside a transaction over tables of the schema before commit nothing, and where none fails the transaction goes on.
+abbrev pub KeepsBefore : {X E : Type 0} → State → State → Result X E → Type 0
+KeepsBefore old new r = HasCleanDisk new → IsTrue old.in_transaction → HasOldTables old.now → KeepsCommit old new × OnOk r (IsTrue new.in_transaction)

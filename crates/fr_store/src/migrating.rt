@@ -46,7 +46,7 @@ const NUMBER: u32 = 2;
 fn renew<S: Alter>(tx: &mut Transaction<'_, S>) -> Result<(), StoreFault>
     ensures same_reference { tx.new.conn.ghost_name ≡ tx.old.conn.ghost_name }
     ensures migrated { Migrates (state S.Store tx.old.conn.now) (state S.Store tx.new.conn.now) result }
-    ensures stays { KeepsBefore (state S.Store tx.old.conn.now) (state S.Store tx.new.conn.now) }
+    ensures stays { KeepsBefore (state S.Store tx.old.conn.now) (state S.Store tx.new.conn.now) result }
     ensures refused { IfErr result (λ e. e ≡ fault.Unavailable) }
     ensures survives { Survives (state S.Store tx.old.conn.now) (state S.Store tx.new.conn.now) (λ _. ⊥) }
 {
