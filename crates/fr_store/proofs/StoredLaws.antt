@@ -24,7 +24,6 @@ use Rattle.fr_store.proofs.AgainLemmas as again
 use Rattle.fr_store.proofs.ChainLemmas.{still_stands}
 use Rattle.fr_store.proofs.JoinedLemmas.{follows, cluster_after}
 use Rattle.fr_records.specs.Held.{held_in}
-use Rattle.fr_tables.specs.Changes.{Stays}
 use Rattle.fr_store.specs.Stored.{StandsStored}
 
 -- what the store tells is answered so
@@ -67,20 +66,6 @@ stored_as_before old new kept found c b stored same before = record {
       let back = before up in
       let rows = stored.rows back.0 in
       (again.still_stands old new c b back.1 rows.0, back.2 ∙ rows.1 ∙ sym back.1);
-}
-
--- and where they stay, or a transaction that there was not is undone
-pub stored_stays : (old new : State) (kept found : ClusterFile) (c : Cluster) (b : Book) → StandsStored kept old c b → found ≡ kept → Stays old new → StandsStored found new c b
-stored_stays old new kept found c b stored same (inl h) = record {
-  config = same ∙ stored.config;
-  rows = λ up. let rows = stored.rows h.0.was_open in (again.still_stands old new c b h.0.now_is rows.0, h.0.committed_is ∙ rows.1 ∙ sym h.0.now_is);
-}
-stored_stays old new kept found c b stored same (inr back) = record {
-  config = same ∙ stored.config;
-  rows = λ up.
-      let undone = back.undone up in
-      let rows = stored.rows (back.was_open up) in
-      (again.still_stands old new c b (undone.0 ∙ rows.1) rows.0, undone.1 ∙ sym undone.0);
 }
 
 module _ (old new : State) (kept found : ClusterFile) (edits : List Edit) (c : Cluster) (b : Book) (stored : StandsStored kept old c b) (fit : AllFit c.params b edits) where
