@@ -1,5 +1,5 @@
 -- A variant's rows among all rows, and their copies for another variant.
-use Rattle.std.proofs.Common.{◌≡◌, true, false, Some, List, [], map, filter, flat_map, refl, ap, ◌∙◌, subst, IsPermutation, bytes_eq}
+use Rattle.std.proofs.Common.{◌≡◌, ℕ, true, false, Some, List, [], map, filter, flat_map, refl, ap, ◌∙◌, subst, IsPermutation, bytes_eq}
 use Rattle.std.specs.List.{AllByRecursion}
 use Rattle.std.specs.Ordering.{is_eq}
 use Rattle.std.proofs.lemmas.List.Sorted.{IsPermutation-trans, IsPermutation-map}

@@ -45,4 +45,4 @@ module _ (count : ℕ) where
     unfolding get
     each_counted =
         all_map (λ q. q.cycles.count ≡ count) (λ e. e.0) frame.placements.rows
-        (all_weaker (λ e. e.0.cycles.count ≡ count) (λ e found. fine.counted e.0 (ap is_some found)) frame.placements.rows (each_found placement_order frame.placements.rows frame.placements.sorted))
+        (all_weaker _ (λ e. e.0.cycles.count ≡ count) (λ e found. fine.counted e.0 (ap is_some found)) frame.placements.rows (each_found placement_order frame.placements.rows frame.placements.sorted))

@@ -1,5 +1,5 @@
 -- The imports that are kept, as the queries show them.
-use Rattle.std.proofs.Common.{◌≡◌, Bool, true, false, ◌&&◌, None, Some, Option, List, map, filter, length, Less, refl, sym, ap, ap₂, ◌∙◌, subst, option_map, slice_get, true≢false, bytes_eq}
+use Rattle.std.proofs.Common.{◌≡◌, ℕ, Bool, true, false, ◌&&◌, None, Some, Option, List, map, filter, length, Less, refl, sym, ap, ap₂, ◌∙◌, subst, option_map, slice_get, true≢false, bytes_eq}
 use Rattle.std.specs.Ordering.{is_eq}
 use Rattle.std.specs.Cmp.{tied_itself}
 use Rattle.std.proofs.lemmas.Bool.{and_parts}
