@@ -11,7 +11,6 @@ use Rattle.sqlite_wal.specs.Recovery.{Image}
 use Rattle.fr_base.specs.Cluster.{Cluster}
 use Rattle.fr_base.specs.Book.{Book}
 use Rattle.fr_base.specs.declared.key.Key.{Key}
-use Rattle.fr_base.specs.declared.name.Name.{Name}
 use Rattle.fr_base.specs.declared.params.RawParams.{RawParams}
 use Rattle.fr_tables.specs.Rows.{RegisterRow, ClusterRow}
 use Rattle.fr_tables.specs.Tables.{Tables, HasOldTables, AreOrderedBefore, tables_in}

@@ -1,9 +1,8 @@
 -- That a frame's placements are of so many cycles, and its signals stand by their starts, when it is added or changed.
-use Rattle.std.proofs.Common.{◌≡◌, ◌==◌, ℕ, Bool, true, false, cond, None, Some, List, [], ◌∷◌, map, filter, IsTrue, is_some, inl, inr, arith, ap, sym, ◌∙◌, true≢false}
+use Rattle.std.proofs.Common.{◌≡◌, ℕ, [], is_some, inl, inr, arith, ap, sym, ◌∙◌, true≢false}
 use Rattle.std.specs.List.{AllByRecursion}
-use Rattle.std.proofs.lemmas.Bool.Decides.{nat_tests}
 use Rattle.sqlite_keyed.proofs.ListLemmas.{all_map, all_weaker}
-use Rattle.fr_base.specs.Tables.{empty, get, contains, insert, remove}
+use Rattle.fr_base.specs.Tables.{empty, get, insert, remove}
 use Rattle.fr_base.specs.Keys.{placement_order}
 use Rattle.fr_base.specs.Book.{Frame}
 use Rattle.fr_base.specs.Layouts.{with_signal, without_signal}

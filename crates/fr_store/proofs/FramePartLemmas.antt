@@ -13,7 +13,6 @@ use Rattle.sqlite_keyed.proofs.ListLemmas.{map-map, filter-map, filter_all, all_
 use Rattle.fr_base.specs.Tables.{Table, get, only, from_rows}
 use Rattle.fr_base.specs.Keys.{names, owned, placement_order}
 use Rattle.fr_base.specs.Channels.{channels_of_text, text_of_channels}
-use Rattle.fr_base.specs.Cluster.{Cluster}
 use Rattle.fr_base.specs.Book.{Book, Variant, Frame}
 use Rattle.fr_base.specs.Queries.{placements_in}
 use Rattle.fr_base.specs.declared.channel.Channels.{Channels}

@@ -11,7 +11,6 @@ use Rattle.sqlite_trees.specs.Tree.{IsAscending}
 use Rattle.sqlite_keyed.proofs.ListLemmas.{filter-map, IsPermutation-filter}
 use Rattle.fr_base.specs.Tables.{get, len, only}
 use Rattle.fr_base.specs.Keys.{owned}
-use Rattle.fr_base.specs.Cluster.{Cluster}
 use Rattle.fr_base.specs.Book as book
 use Rattle.fr_base.specs.Book.{Book, own}
 use Rattle.fr_base.specs.declared.name.Name.{Name}
