@@ -177,6 +177,23 @@ def interrupt(server):
         server.send_signal(signal.SIGCONT)
 
 
+def limited(seconds):
+    """The words for a server whose connections last so long."""
+    return [] if seconds == LIMIT else ["--seconds", str(seconds)]
+
+
+def waited(begun, seconds):
+    """Whether it was waited so long since then, and not much longer."""
+    passed = time.monotonic() - begun
+    return seconds - 0.1 <= passed <= seconds + LATE or passed
+
+
+def waited_for_none(begun):
+    """Whether clients that were each in the way of the next did not hold it."""
+    passed = time.monotonic() - begun
+    return passed <= HOLDERS / 2 or passed
+
+
 def ends(server, said=b""):
     see("the server ends", 0, server.wait(SECONDS))
     see("what it said", said, server.stderr.read())
@@ -250,7 +267,7 @@ def reads_again_when_interrupted(program, folder):
 
 def writes_again_when_interrupted(program, folder):
     """A long reply is written whole to a client that reads late, and however often that is interrupted."""
-    with served(program, folder, "--count", "1", "--seconds", str(SECONDS)) as (server, port):
+    with served(program, folder, "--count", "1", *limited(SECONDS)) as (server, port):
         with narrow(port) as stream:
             stream.sendall(SCHEDULE)
             stream.recv(1, socket.MSG_PEEK)  # the reply has begun
@@ -261,7 +278,7 @@ def writes_again_when_interrupted(program, folder):
 
 def reads_what_follows(program, folder):
     """What a client sent behind its request, before it read the reply, does not take the reply away."""
-    with served(program, folder, "--count", "1", "--seconds", str(SECONDS)) as (server, port):
+    with served(program, folder, "--count", "1", *limited(SECONDS)) as (server, port):
         with narrow(port) as stream:
             stream.sendall(SCHEDULE + b"x" * 6_000)
             see("all of it is there", True, has_arrived(stream))
@@ -272,7 +289,7 @@ def reads_what_follows(program, folder):
 def lasts_as_long_as_it_is_told(program, folder):
     """A connection may last longer than those of a server that is told nothing."""
     whole = command("supplier01", ADD)
-    with served(program, folder, "--count", "1", "--seconds", "3600") as (server, port):
+    with served(program, folder, "--count", "1", *limited(3_600)) as (server, port):
         with connected(port) as stream:
             stream.sendall(whole[:20])
             time.sleep(LIMIT + 1)
@@ -315,17 +332,6 @@ def sends_its_body_on(program, folder):
 
 
 # ---- clients that hold a server
-
-
-def limited(seconds):
-    """The words for a server whose connections last so long."""
-    return [] if seconds == LIMIT else ["--seconds", str(seconds)]
-
-
-def waited(begun, seconds):
-    """Whether it was waited so long since then, and not much longer."""
-    passed = time.monotonic() - begun
-    return seconds - 0.1 <= passed <= seconds + LATE or passed
 
 
 def sends_nothing_more(program, folder, cut, seconds):
@@ -403,11 +409,6 @@ def asks_late_and_reads_nothing(program, folder):
         ends(server, b"slotplan: WriteFailed\n")
 
 
-def waited_for_none(begun):
-    passed = time.monotonic() - begun
-    return passed <= HOLDERS / 2 or passed
-
-
 def stay_connected(program, folder):
     """Clients that have their reply and do not close are not waited for."""
     with served(program, folder, "--count", str(HOLDERS + 1)) as (server, port), ExitStack() as held:
@@ -457,13 +458,14 @@ def takes_files_alone(program, folder):
     (folder / "to_pipe").symlink_to("unwritten")
     (folder / "to_file").symlink_to("cluster.toml")
     before = files_in(folder)
+    paths = "unwritten", "written", "to_pipe", "inside", ".", "/dev/zero"
     with open(os.open(folder / "written", os.O_RDWR), "wb", buffering=0) as writer:
         writer.write(CLUSTER)
-        for path in "unwritten", "written", "to_pipe", "inside", ".", "/dev/zero":
-            for words in ["create", "new.db", path], ["import", "car.db", "supplier01", "v1", "a", path]:
-                begun = time.monotonic()
-                fault(program, words, folder, "CannotOpen")
-                see(f"{program} {words} within a second", True, time.monotonic() - begun <= 1)
+        begun = time.monotonic()
+        for path in paths:
+            fault(program, ["create", "new.db", path], folder, "CannotOpen")
+            fault(program, ["import", "car.db", "supplier01", "v1", "a", path], folder, "CannotOpen")
+        see(f"{program} waits for none", True, time.monotonic() - begun <= len(paths))
     see("nothing is made or changed", before, files_in(folder))
     tell(program, ["create", "new.db", "to_file"], folder)
 
