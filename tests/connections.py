@@ -34,7 +34,7 @@ HERE = "127.0.0.1"
 SECONDS = 60
 # How many seconds a connection lasts where the server is told of none, how many most servers here are told, and how much later
 # its end may be seen on a slow machine.
-LIMIT, SHORT, LATE = 10, 2, 4
+LIMIT, SHORT, LATE = 10, 2, 7
 # For how many seconds the server reads what is still sent where it has replied before it read the whole request.
 REST = 1
 # How many clients are each in the way of the next. A server that waits a second for each takes twice the time that is allowed.
