@@ -16,6 +16,7 @@ from threading import Lock
 
 import overlays
 import schema1
+from preload import with_more
 
 TOP = Path(__file__).resolve().parent.parent
 CLUSTER, REQUESTS = (TOP / "examples/first.script").read_bytes().split(b"---\n")
@@ -46,18 +47,18 @@ def refused(number, name):
 # ---- commands
 
 
-def tell(program, words, folder, written=b"", said=b"", status=0):
-    """Starts the program with these words in the folder."""
-    got = subprocess.run([program, *words], cwd=folder, stdin=subprocess.DEVNULL, capture_output=True, timeout=SECONDS)
+def tell(program, words, folder, written=b"", said=b"", status=0, more=None):
+    """Starts the program with these words in the folder, and with this more in its environment."""
+    got = subprocess.run([program, *words], cwd=folder, env=with_more(more), stdin=subprocess.DEVNULL, capture_output=True, timeout=SECONDS)
     see(f"{program} {words}", (status, written, said), (got.returncode, got.stdout, got.stderr))
 
 
-def fault(program, words, folder, word):
-    tell(program, words, folder, said=f"slotplan: {word}\n".encode(), status=1)
+def fault(program, words, folder, word, more=None):
+    tell(program, words, folder, said=f"slotplan: {word}\n".encode(), status=1, more=more)
 
 
-def turned_down(program, words, folder, answer):
-    tell(program, words, folder, said=answer + b"\n", status=1)
+def turned_down(program, words, folder, answer, more=None):
+    tell(program, words, folder, said=answer + b"\n", status=1, more=more)
 
 
 def creating(program, folder):

@@ -1,10 +1,10 @@
 #!/usr/bin/env python3
-"""Tries what no contract says of the built program: where its server listens, how long it waits for a client, what it reads and
-writes in which order, and how many connections it serves; and how files are read that come in pieces: connections.py PROGRAM..
+"""Tries what no contract says of the built program: where its server listens, how long a connection lasts, what it reads and
+writes in which order, and how many connections it serves; and what is read as a file, in how many reads: connections.py PROGRAM..
 
-Each part has a copy of a register for itself, and waits of ten seconds pass beside each other. What is wanted was typed by
+Each part has a copy of a register for itself, and waits of seconds pass beside each other. What is wanted was typed by
 hand from docs/HTTP.md, docs/FORMATS.md and docs/DECISIONS.md, or is made by their rules; none of it is the program's own output.
-The last line is 'N passed, M failed'."""
+Where there is no C compiler cc, files that come in pieces are left out. The last line is 'N passed, M failed'."""
 import fcntl
 import os
 import shutil
@@ -15,22 +15,30 @@ import struct
 import subprocess
 import sys
 import tempfile
+import termios
 import time
 from concurrent.futures import ThreadPoolExecutor
-from contextlib import closing, contextmanager
+from contextlib import ExitStack, closing, contextmanager, suppress
 from functools import partial
 from itertools import chain, product
 from pathlib import Path
-from threading import Thread
+from threading import Event, Thread
 
 import made
+import preload
 from commands import CLUSTER, DONE, command, counted, engine, fault, first_requests, head, in_turn, json, post, refused, see
 from commands import sent, served, tell, text, turned_down
+from preload import Pieces
 
 HERE = "127.0.0.1"
 SECONDS = 60
-# How long a client that neither sends nor reads is waited for, and how much later that may be seen on a slow machine.
-WAIT, LATE = 10, 12
+# How many seconds a connection lasts where the server is told of none, how many most servers here are told, and how much later
+# its end may be seen on a slow machine.
+LIMIT, SHORT, LATE = 10, 2, 7
+# For how many seconds the server reads what is still sent where it has replied before it read the whole request.
+REST = 1
+# How many clients are each in the way of the next. A server that waits a second for each takes twice the time that is allowed.
+HOLDERS = 8
 CONNECTIONS = 2_000
 FILE_READS = 100_000
 IMPORT_BYTES = 65_536
@@ -38,6 +46,10 @@ IMPORT_BYTES = 65_536
 CONTINUE = b"HTTP/1.1 100 Continue\r\n\r\n"
 ADD = b'{"do":"add_frame","variant":"v1","frame":"f7","node":"n1"}'
 FRAMES = head("GET", "/v1/variants/v1/frames", "supplier01"), text(b"FRAME f1 n1\nAT 0001 A 00 64\n")
+SCHEDULE = head("GET", "/v1/variants/v1/schedule", "integrator1")
+NOTHING = head("GET", "/v1/nothing"), engine("404 Not Found")
+LONG_BODY = b"x" * 200_000
+TOO_LONG = head("POST", "/v1/commands", "supplier01", f"Content-Length: {len(LONG_BODY)}"), engine("413 Payload Too Large")
 
 
 # ---- registers
@@ -106,6 +118,49 @@ def received(stream, count=None):
     return got
 
 
+def has_arrived(stream):
+    """Whether all that was sent comes to lie at the server, read or not."""
+    until = time.monotonic() + SECONDS
+    while unread := struct.unpack("i", fcntl.ioctl(stream, termios.TIOCOUTQ, bytes(4)))[0]:
+        if time.monotonic() > until:
+            return unread
+        time.sleep(0.01)
+    return True
+
+
+@contextmanager
+def meanwhile(act, pause):
+    """Does this again and again, with so many seconds between, until it fails or the block is left."""
+    left = Event()
+
+    def repeated():
+        with suppress(OSError):
+            while not left.wait(pause):
+                act()
+
+    worker = Thread(target=repeated, daemon=True)
+    worker.start()
+    try:
+        yield
+    finally:
+        left.set()
+        worker.join(SECONDS)
+
+
+def trickled(stream, data):
+    """Sends these bytes, one each half second, until the server replies or ends the connection; gives what it replies."""
+    stream.settimeout(0.5)
+    for at in range(len(data)):
+        try:
+            stream.sendall(data[at : at + 1])
+            return received(stream)
+        except socket.timeout:
+            continue
+        except ConnectionError:
+            break
+    return b""
+
+
 def reset(stream):
     """Ends the connection at once, as a client does that breaks down."""
     stream.setsockopt(socket.SOL_SOCKET, socket.SO_LINGER, struct.pack("ii", 1, 0))
@@ -120,6 +175,23 @@ def interrupt(server):
         server.send_signal(signal.SIGSTOP)
         time.sleep(0.05)
         server.send_signal(signal.SIGCONT)
+
+
+def limited(seconds):
+    """The words for a server whose connections last so long."""
+    return [] if seconds == LIMIT else ["--seconds", str(seconds)]
+
+
+def waited(begun, seconds):
+    """Whether it was waited so long since then, and not much longer."""
+    passed = time.monotonic() - begun
+    return seconds - 0.1 <= passed <= seconds + LATE or passed
+
+
+def waited_for_none(begun):
+    """Whether clients that were each in the way of the next did not hold it."""
+    passed = time.monotonic() - begun
+    return passed <= HOLDERS / 2 or passed
 
 
 def ends(server, said=b""):
@@ -195,9 +267,9 @@ def reads_again_when_interrupted(program, folder):
 
 def writes_again_when_interrupted(program, folder):
     """A long reply is written whole to a client that reads late, and however often that is interrupted."""
-    with served(program, folder, "--count", "1") as (server, port):
+    with served(program, folder, "--count", "1", *limited(SECONDS)) as (server, port):
         with narrow(port) as stream:
-            stream.sendall(head("GET", "/v1/variants/v1/schedule", "integrator1"))
+            stream.sendall(SCHEDULE)
             stream.recv(1, socket.MSG_PEEK)  # the reply has begun
             interrupt(server)
             see(f"{program}: a long reply", text(long_schedule()), received(stream))
@@ -205,100 +277,222 @@ def writes_again_when_interrupted(program, folder):
 
 
 def reads_what_follows(program, folder):
-    """A client that still sends behind its request, more than a connection holds, can send it, and has the reply."""
+    """What a client sent behind its request, before it read the reply, does not take the reply away."""
+    with served(program, folder, "--count", "1", *limited(SECONDS)) as (server, port):
+        with narrow(port) as stream:
+            stream.sendall(SCHEDULE + b"x" * 6_000)
+            see("all of it is there", True, has_arrived(stream))
+            see(f"{program}: a long reply before what follows", text(long_schedule()), received(stream))
+        ends(server)
+
+
+def lasts_as_long_as_it_is_told(program, folder):
+    """A connection may last longer than those of a server that is told nothing."""
+    whole = command("supplier01", ADD)
+    with served(program, folder, "--count", "1", *limited(3_600)) as (server, port):
+        with connected(port) as stream:
+            stream.sendall(whole[:20])
+            time.sleep(LIMIT + 1)
+            stream.sendall(whole[20:])
+            see(f"{program} to a request that takes its time", json(DONE), received(stream))
+        ends(server)
+
+
+# ---- requests that are refused before they are read
+
+
+def can_send_its_body(program, folder, size, pause):
+    """A client whose body is too long can still send it, for a second, at once or in pieces, and has the reply whole."""
     with served(program, folder, "--count", "1") as (server, port):
         with connected(port) as stream:
             stream.setsockopt(socket.SOL_SOCKET, socket.SO_SNDBUF, 4096)
-            stream.sendall(FRAMES[0] + b"x" * 200_000)
-            see(f"{program}: before what follows", FRAMES[1], received(stream))
+            begun = time.monotonic()
+            stream.sendall(TOO_LONG[0])
+            try:
+                for at in range(0, len(LONG_BODY), size):
+                    time.sleep(pause)
+                    stream.sendall(LONG_BODY[at : at + size])
+            except ConnectionError as error:
+                see(f"{program} takes what is sent within a second", True, time.monotonic() - begun > REST or error)
+            see(f"{program} to a body that is too long", TOO_LONG[1], received(stream))
+        ends(server)
+
+
+def sends_its_body_on(program, folder):
+    """A client whose body is too long, and that goes on sending it, is let go after a second, and has the reply whole."""
+    with served(program, folder, "--count", "2") as (server, port):
+        begun = time.monotonic()
+        with connected(port) as stream:
+            stream.sendall(TOO_LONG[0])
+            with meanwhile(partial(stream.sendall, b"x" * 1_000), 0.2):
+                see("the next one is served", FRAMES[1], sent(port, FRAMES[0]))
+                see(f"{program} reads on for a second", True, waited(begun, REST))
+            see("the reply", TOO_LONG[1], received(stream))
         ends(server)
 
 
 # ---- clients that hold a server
 
 
-def waited_since(begun, times=1):
-    """Whether it was waited as long as is said since then, or up to so many times."""
-    return WAIT - 0.5 <= time.monotonic() - begun <= times * WAIT + LATE
-
-
-def sends_nothing_more(program, folder, cut):
-    """A client that is silent within its request is let go after ten seconds."""
-    with served(program, folder, "--count", "2") as (server, port):
+def sends_nothing_more(program, folder, cut, seconds):
+    """A client that is silent within its request is let go."""
+    with served(program, folder, "--count", "2", *limited(seconds)) as (server, port):
+        begun = time.monotonic()
         with connected(port) as stream:
-            begun = time.monotonic()
             stream.sendall(command("supplier01", ADD)[:cut])
             see("a silent client is sent nothing", b"", received(stream))
-            see(f"{program} waits ten seconds for what it sends", True, waited_since(begun))
+            see(f"{program} lets it go after {seconds} seconds", True, waited(begun, seconds))
         see("the next one is served", FRAMES[1], sent(port, FRAMES[0]))
         ends(server, b"slotplan: ReadFailed\n")
 
 
+def sends_slowly(program, folder, cut):
+    """A client that sends a byte each half second within its request is let go at the same time."""
+    whole = command("supplier01", ADD)
+    with served(program, folder, "--count", "2", *limited(SHORT)) as (server, port):
+        begun = time.monotonic()
+        with connected(port) as stream:
+            stream.sendall(whole[:cut])
+            see("a slow client is sent nothing", b"", trickled(stream, whole[cut:]))
+            see(f"{program} lets it go after {SHORT} seconds", True, waited(begun, SHORT))
+        see("the next one is served", FRAMES[1], sent(port, FRAMES[0]))
+        ends(server, b"slotplan: ReadFailed\n")
+
+
+def are_silent_at_once(program, folder):
+    """Clients that are silent hold the next one for as long as each of their connections lasts."""
+    whole = command("supplier01", ADD)
+    cuts = 0, 1, 20, len(whole) - len(ADD), len(whole) - 1
+    with served(program, folder, "--count", str(len(cuts) + 1), *limited(1)) as (server, port), ExitStack() as held:
+        begun = time.monotonic()
+        for cut in cuts:
+            held.enter_context(connected(port)).sendall(whole[:cut])
+        see("the next one is served", FRAMES[1], sent(port, FRAMES[0]))
+        see(f"{program} lets each go after a second", True, waited(begun, len(cuts)))
+        ends(server, b"slotplan: ReadFailed\n" * len(cuts))
+
+
 def reads_nothing(program, folder):
-    """A client that takes nothing of its reply is let go after ten seconds: after as many again for each part of it that the
-    connection holds, of which there is one or two."""
-    with served(program, folder, "--count", "2") as (server, port):
+    """A client that takes nothing of its reply is let go."""
+    with served(program, folder, "--count", "2", *limited(SHORT)) as (server, port):
+        begun = time.monotonic()
         with narrow(port) as stream:
-            begun = time.monotonic()
-            stream.sendall(head("GET", "/v1/variants/v1/schedule", "integrator1"))
-            see("the next one is served", engine("404 Not Found"), sent(port, head("GET", "/v1/nothing")))
-            see(f"{program} waits ten seconds until it reads", True, waited_since(begun, times=3))
+            stream.sendall(SCHEDULE)
+            see("the next one is served", NOTHING[1], sent(port, NOTHING[0]))
+            see(f"{program} lets it go after {SHORT} seconds", True, waited(begun, SHORT))
         ends(server, b"slotplan: WriteFailed\n")
 
 
-def stays_connected(program, folder):
-    """A client that has its reply and does not close is let go after a second."""
-    with served(program, folder, "--count", "2") as (server, port):
-        with connected(port) as stream:
+def reads_slowly(program, folder):
+    """A client that takes a little of its reply now and then is let go at the same time."""
+    with served(program, folder, "--count", "2", *limited(SHORT)) as (server, port):
+        begun = time.monotonic()
+        with narrow(port) as stream:
+            stream.sendall(SCHEDULE)
+            with meanwhile(partial(received, stream, 5_000), 0.25):
+                see("the next one is served", NOTHING[1], sent(port, NOTHING[0]))
+                see(f"{program} lets it go after {SHORT} seconds", True, waited(begun, SHORT))
+        ends(server, b"slotplan: WriteFailed\n")
+
+
+def asks_late_and_reads_nothing(program, folder):
+    """A connection's time is that of its request and its reply together."""
+    seconds = LATE + 2
+    with served(program, folder, "--count", "2", *limited(seconds)) as (server, port):
+        begun = time.monotonic()
+        with narrow(port) as stream:
+            stream.sendall(SCHEDULE[:-1])
+            time.sleep(seconds - 1)
+            stream.sendall(SCHEDULE[-1:])
+            see("the next one is served", NOTHING[1], sent(port, NOTHING[0]))
+            see(f"{program} lets it go after {seconds} seconds", True, waited(begun, seconds))
+        ends(server, b"slotplan: WriteFailed\n")
+
+
+def stay_connected(program, folder):
+    """Clients that have their reply and do not close are not waited for."""
+    with served(program, folder, "--count", str(HOLDERS + 1)) as (server, port), ExitStack() as held:
+        begun = time.monotonic()
+        for _ in range(HOLDERS):
+            stream = held.enter_context(connected(port))
             stream.sendall(FRAMES[0])
             see("the reply", FRAMES[1], received(stream))
-            begun = time.monotonic()
-            see("the next one is served", FRAMES[1], sent(port, FRAMES[0]))
-            see(f"{program} serves it soon", True, time.monotonic() - begun <= WAIT / 2)
+        see("the next one is served", FRAMES[1], sent(port, FRAMES[0]))
+        see(f"{program} waits for none", True, waited_for_none(begun))
+        ends(server)
+
+
+def send_behind(program, folder, piece, pause):
+    """Clients that go on sending behind their request are not waited for."""
+    with served(program, folder, "--count", str(HOLDERS + 1)) as (server, port), ExitStack() as held:
+        begun = time.monotonic()
+        for _ in range(HOLDERS):
+            stream = held.enter_context(connected(port))
+            stream.sendall(FRAMES[0])
+            held.enter_context(meanwhile(partial(stream.sendall, piece), pause))
+        see("the next one is served", FRAMES[1], sent(port, FRAMES[0]))
+        see(f"{program} waits for none", True, waited_for_none(begun))
         ends(server)
 
 
 def serves_as_many_as_it_is_told(program, folder):
     with served(program, folder, "--count", str(CONNECTIONS)) as (server, port):
-        replies = {sent(port, head("GET", "/v1/nothing")) for _ in range(CONNECTIONS)}
-        see(f"{program} to each of {CONNECTIONS}", {engine("404 Not Found")}, replies)
+        replies = {sent(port, NOTHING[0]) for _ in range(CONNECTIONS)}
+        see(f"{program} to each of {CONNECTIONS}", {NOTHING[1]}, replies)
         ends(server)
 
 
 # ---- files
 
 
-@contextmanager
-def in_pieces(path, data):
-    """At this path a program reads these bytes, one in each read."""
+def files_in(folder):
+    return {path.name: path.read_bytes() for path in folder.iterdir() if path.is_file()}
 
-    def write():
-        with open(path, "wb", buffering=0) as pipe:
-            fcntl.fcntl(pipe, fcntl.F_SETFL, os.O_DIRECT)
-            try:
-                for at in range(len(data)):
-                    pipe.write(data[at : at + 1])
-            except BrokenPipeError:
-                pass
 
-    os.mkfifo(path)
-    writer = Thread(target=write, daemon=True)
-    writer.start()
-    yield
-    writer.join(SECONDS)
-    path.unlink()
+def takes_files_alone(program, folder):
+    """A pipe, a folder or a device is no file. That is told at once, whether somebody writes into the pipe or not, and nothing is
+    made or changed. A link to a file is one."""
+    (folder / "inside").mkdir()
+    for pipe in "unwritten", "written":
+        os.mkfifo(folder / pipe)
+    (folder / "to_pipe").symlink_to("unwritten")
+    (folder / "to_file").symlink_to("cluster.toml")
+    before = files_in(folder)
+    paths = "unwritten", "written", "to_pipe", "inside", ".", "/dev/zero"
+    with open(os.open(folder / "written", os.O_RDWR), "wb", buffering=0) as writer:
+        writer.write(CLUSTER)
+        begun = time.monotonic()
+        for path in paths:
+            fault(program, ["create", "new.db", path], folder, "CannotOpen")
+            fault(program, ["import", "car.db", "supplier01", "v1", "a", path], folder, "CannotOpen")
+        passed = time.monotonic() - begun
+        see(f"{program} tells it at once", True, passed <= len(paths) or passed)
+    see("nothing is made or changed", before, files_in(folder))
+    tell(program, ["create", "new.db", "to_file"], folder)
 
 
 def reads_files_in_pieces(program, folder):
     """A file is read in as many reads as are allowed, of which the last finds its end, and in none more."""
-    path = folder / "pieces"
+    if not preload.can_compile():
+        print("there is no C compiler cc: files that come in pieces are left out", flush=True)
+        return
+    pieces, path = Pieces(folder), folder / "pieces"
+    more = pieces.of(path)
     whole = CLUSTER + b"#" * (FILE_READS - 1 - len(CLUSTER))
-    with in_pieces(path, whole):
-        tell(program, ["create", "new.db", "pieces"], folder)
-    with in_pieces(path, whole + b"#"):
-        fault(program, ["create", "none.db", "pieces"], folder, "CannotOpen")
-    with in_pieces(path, import_of(IMPORT_BYTES)):
-        tell(program, ["import", "car.db", "supplier01", "v1", "a", "pieces"], folder, b'{"ok":"imported","rows":1}\n')
+    path.write_bytes(whole)
+    tell(program, ["create", "new.db", "pieces"], folder, more=more)
+    see("reads of CONFIG", FILE_READS, pieces.reads())
+    path.write_bytes(whole + b"#")
+    fault(program, ["create", "none.db", "pieces"], folder, "CannotOpen", more)
+    see("reads of a CONFIG that takes too many", FILE_READS, pieces.reads())
+    see("no register is made of it", False, (folder / "none.db").exists())
+    words = ["import", "car.db", "supplier01", "v1", "a", "pieces"]
+    path.write_bytes(import_of(IMPORT_BYTES + 1))
+    turned_down(program, words, folder, refused(23, "Limit"), more)
+    see("reads of a FILE that is too long", IMPORT_BYTES + 1, pieces.reads())
+    path.write_bytes(import_of(IMPORT_BYTES))
+    tell(program, words, folder, b'{"ok":"imported","rows":1}\n', more=more)
+    see("reads of FILE", IMPORT_BYTES + 1, pieces.reads())
 
 
 def import_of(count):
@@ -313,27 +507,38 @@ def imports_no_longer_file(program, folder):
     for count in IMPORT_BYTES + 1, IMPORT_BYTES + 2, 20 * IMPORT_BYTES:
         (folder / "long.csv").write_bytes(import_of(count))
         turned_down(program, [*words, "a", "long.csv"], folder, refused(23, "Limit"))
-    turned_down(program, [*words, "a", "/dev/zero"], folder, refused(23, "Limit"))
     (folder / "longest.csv").write_bytes(import_of(IMPORT_BYTES))
     tell(program, [*words, "a", "longest.csv"], folder, b'{"ok":"imported","rows":1}\n')
     again = post("/v1/variants/v1/imports/a", "supplier01", import_of(IMPORT_BYTES))
     in_turn(program, folder, "car.db", [(again, json(b'{"ok":"imported","rows":1}'))])
 
 
-# What is tried of which register; what waits comes first.
+# What is tried of which register; what waits long comes first.
 PARTS = [
-    (planned_long, reads_nothing),
-    (planned, partial(sends_nothing_more, cut=20)),
-    (planned, partial(sends_nothing_more, cut=-1)),
+    (planned, lasts_as_long_as_it_is_told),
+    (planned, partial(sends_nothing_more, cut=20, seconds=LIMIT)),
+    (planned_long, asks_late_and_reads_nothing),
+    (planned, are_silent_at_once),
     (planned, serves_as_many_as_it_is_told),
     (planned, reads_files_in_pieces),
-    (planned, stays_connected),
+    (planned, partial(sends_nothing_more, cut=-1, seconds=SHORT)),
+    (planned, partial(sends_slowly, cut=0)),
+    (planned, partial(sends_slowly, cut=-len(ADD))),
+    (planned_long, reads_nothing),
+    (planned_long, reads_slowly),
+    (planned, sends_its_body_on),
+    (planned, partial(can_send_its_body, size=len(LONG_BODY), pause=0)),
+    (planned, partial(can_send_its_body, size=20_000, pause=0.05)),
+    (planned, stay_connected),
+    (planned, partial(send_behind, piece=b"x", pause=0.5)),
+    (planned, partial(send_behind, piece=LONG_BODY, pause=0)),
     (planned, listens_here_alone),
     (planned, invites_before_it_reads),
     (planned, ends_and_failures),
     (planned, reads_again_when_interrupted),
     (planned_long, writes_again_when_interrupted),
-    (planned, reads_what_follows),
+    (planned_long, reads_what_follows),
+    (planned, takes_files_alone),
     (planned, imports_no_longer_file),
 ]
 

@@ -1,5 +1,5 @@
-"""Small C libraries, made by cc and loaded before the C library: they refuse a program's memory, stop its calls on files, or let
-its connections fail."""
+"""Small C libraries, made by cc and loaded before the C library: they refuse a program's memory, stop its calls on files, let its
+connections fail, or give it a file in pieces."""
 import os
 import shutil
 import subprocess
@@ -201,6 +201,31 @@ ssize_t read(int fd, void *bytes, size_t n) {
 }
 """
 
+# Has each read of the file at PIECES_PATH give one byte. PIECES_MARK is the path of a file that gets a byte for each of them.
+PIECES = r"""
+#define _GNU_SOURCE
+#include <dlfcn.h>
+#include <fcntl.h>
+#include <stdlib.h>
+#include <sys/stat.h>
+#include <unistd.h>
+static void count(void) {
+    static int mark = -1;
+    if (mark < 0) mark = open(getenv("PIECES_MARK"), O_CREAT | O_WRONLY, 0600);
+    if (write(mark, "x", 1) != 1) abort();
+}
+static int is_meant(int fd) {
+    struct stat meant, found;
+    return stat(getenv("PIECES_PATH"), &meant) == 0 && fstat(fd, &found) == 0 && meant.st_dev == found.st_dev && meant.st_ino == found.st_ino;
+}
+ssize_t read(int fd, void *bytes, size_t n) {
+    ssize_t (*real)(int, void *, size_t) = dlsym(RTLD_NEXT, "read");
+    if (!n || !is_meant(fd)) return real(fd, bytes, n);
+    count();
+    return real(fd, bytes, 1);
+}
+"""
+
 
 def can_compile():
     return shutil.which("cc") is not None
@@ -247,6 +272,21 @@ class Links(Library):
     def ending(self, **how):
         """What a program's environment has more, so that its first connection or its input ends so."""
         return {"LD_PRELOAD": str(self.path), "LINK_MARK": str(self.mark), **{name: str(value) for name, value in how.items()}}
+
+
+class Pieces(Library):
+    def __init__(self, room):
+        super().__init__(room, "pieces", PIECES)
+
+    def of(self, path):
+        """What a program's environment has more, so that each read of this file gives one byte."""
+        return {"LD_PRELOAD": str(self.path), "PIECES_PATH": str(path), "PIECES_MARK": str(self.mark)}
+
+    def reads(self):
+        """In how many reads the last run read the file."""
+        count = self.mark.stat().st_size if self.mark.exists() else 0
+        self.mark.unlink(missing_ok=True)
+        return count
 
 
 def folder_in_memory():

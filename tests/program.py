@@ -67,6 +67,25 @@ Example:
   slotplan run < first.script
 """
 
+SERVE_HELP = b"""\
+Serves a register file over HTTP
+
+Usage: slotplan serve [OPTIONS] <DB> <PORT>
+
+Arguments:
+  <DB>    The register file (an SQLite database)
+  <PORT>  The TCP port on 127.0.0.1
+
+Options:
+      --count <N>    Ends after so many connections [default: 1000000]
+      --seconds <N>  Ends a connection after so many seconds [default: 10]
+  -h, --help         Print help
+
+Example:
+  slotplan serve car.db 8080
+  curl -H 'X-Office-Key: supplier01' http://127.0.0.1:8080/v1/variants/v1/schedule
+"""
+
 NOT_UTF8 = b"""\
 error: a word is not UTF-8 text
 
@@ -128,8 +147,9 @@ def usage(said, *end):
 def words():
     for given in ("--help",), ("-h",), ("help",):
         yield Case(f"the words {given}", written=HELP, words=given)
-    for given in ("run", "--help"), ("run", "-h"), ("help", "run"):
-        yield Case(f"the words {given}", written=RUN_HELP, words=given)
+    for name, text in ("run", RUN_HELP), ("serve", SERVE_HELP):
+        for given in (name, "--help"), (name, "-h"), ("help", name):
+            yield Case(f"the words {given}", written=text, words=given)
     yield Case("no words", said=HELP, status=2, words=())
     called = ("Usage: slotplan <COMMAND>", "")
     for word in "walk", "Run", "run ":
@@ -141,9 +161,11 @@ def words():
     for port in "0", "65536":
         said = usage(f"invalid value '{port}' for '<PORT>': {port} is not in 1..=65535")
         yield Case(f"the port {port}", said=said, status=2, words=("serve", "d", port))
-    for count in "0", "1000001":
-        said = usage(f"invalid value '{count}' for '--count <N>': {count} is not in 1..=1000000")
-        yield Case(f"the count {count}", said=said, status=2, words=("serve", "d", "1", "--count", count))
+    for option, most in ("--count", 1_000_000), ("--seconds", 3_600):
+        for given in "0", str(most + 1), "x":
+            why = f"{given} is not in 1..={most}" if given.isdigit() else "invalid digit found in string"
+            said = usage(f"invalid value '{given}' for '{option} <N>': {why}")
+            yield Case(f"the words {option} {given}", said=said, status=2, words=("serve", "d", "1", option, given))
     for given in (b"\xff",), (b"run\xff",), (b"\xffrun",), (b"run", b"\xff"), (b"--help", b"\xff"), (b"r\xc0\xb5n",):
         yield Case(f"the words {given}", FIRST, said=NOT_UTF8, status=2, words=given)
 
