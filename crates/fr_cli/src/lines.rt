@@ -90,6 +90,14 @@ impl<'a> Iterator for RequestLines<'a> {
     }
 }
 
+/// The first line with its line feed, and all after it. `None` where no line feed is.
+pub fn ended_line(bytes: &[u8]) -> Option<(&[u8], &[u8])>
+    ensures { option_map (λ x. (x.0.now, x.1.now)) result ≡ option_map (λ parts. (parts.0 ++ 10 ∷ [], parts.1)) (parts_around 10 bytes.now) }
+{
+    let (line, after) = split_once(bytes, b'\n')?;
+    Some((&bytes[..=line.len()], after))
+}
+
 /// The key and the text of a request's line: all before its first space, and all after it. `None`
 /// where the line has no space.
 pub fn key_and_text(line: &[u8]) -> Option<(&[u8], &[u8])>

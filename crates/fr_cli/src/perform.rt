@@ -3,22 +3,26 @@ ghost use Rattle.std.specs.Prelude.{◌≡◌, ◌⊎◌, Result, IfErr, ⊤, Li
 ghost use Rattle.std.specs.Borrow.{Bor};
 ghost use Rattle.std.specs.Global.{Vec};
 ghost use Rattle.std.specs.Io.KnownBytes.{Appends, Keeps};
-ghost use Rattle.fr_cli.specs.Asking.{line_of, report_of};
+ghost use Rattle.fr_cli.specs.Asking.{line_of};
 ghost use Rattle.fr_cli.specs.Endings.{AppendsFront, IsPrinted, IsTold, Tells, status_of};
 ghost use Rattle.fr_cli.specs.Faults.{IsNotImported, IsNotMade, IsNotReported};
+ghost use Rattle.fr_cli.specs.Incoming.{IsAsked};
 ghost use Rattle.fr_cli.specs.Performing.{Says, listening, of_script};
+ghost use Rattle.fr_cli.specs.Queries.{report_of};
 ghost use Rattle.fr_cli.specs.Runs.{IsRunOf};
-ghost use Rattle.fr_cli.specs.declared.asking.Report.TheVariants as report;
 ghost use Rattle.fr_cli.specs.declared.failure.Failure.{Failure as Ended};
 ghost use Rattle.fr_cli.specs.declared.fault.Fault.{Fault as Word};
+ghost use Rattle.fr_cli.specs.declared.query.Query.{Query};
 ghost use Rattle.fr_cli.specs.declared.script_fault.ScriptFault.{ScriptFault};
 
-use crate::asking::{ImportWords, Report, import, report_on};
+use crate::asking::{ImportWords, import, report_on};
 use crate::creating::create;
 use crate::failure::Failure;
 use crate::fault::Fault;
 use crate::files::read_front;
+use crate::incoming::answer_input;
 use crate::printing::{end, print, print_all, tell};
+use crate::query::Query;
 use crate::script::run_script;
 use crate::serving::serve;
 use crate::words::{Job, WordFault};
@@ -45,9 +49,10 @@ pub fn perform<R: Read, O: Write, E: Write>(
     ensures create { (db config : Bor (List ℕ)) → job.now ≡ Job.Create db config → (done : Result ⊤ Word) × (result ≡ status_of done)
         × IfErr done IsNotMade
         × Keeps (O.contents out.old) (O.contents out.new) × Tells (E.contents err.old) (E.contents err.new) done }
-    ensures schedule { (db variant : Bor (List ℕ)) → job.now ≡ Job.Schedule db variant → (done : Result (Vec ℕ) Ended) × Says IsNotReported (report_of report.Schedule) done
-        × IsTold done (O.contents out.old) (O.contents out.new) (E.contents err.old) (E.contents err.new) result }
-    ensures gaps { (db variant : Bor (List ℕ)) → job.now ≡ Job.Gaps db variant → (done : Result (Vec ℕ) Ended) × Says IsNotReported (report_of report.Gaps) done
+    ensures ask { (db : Bor (List ℕ)) → job.now ≡ Job.Ask db → (done : Result ⊤ Word) × (result ≡ status_of done)
+        × Tells (E.contents err.old) (E.contents err.new) done
+        × IsAsked (R.remaining input.old) (R.remaining input.new) (O.contents out.old) (O.contents out.new) done }
+    ensures report { (db : Bor (List ℕ)) (query : Query) → job.now ≡ Job.Report db query → (done : Result (Vec ℕ) Ended) × Says IsNotReported (report_of query.report) done
         × IsTold done (O.contents out.old) (O.contents out.new) (E.contents err.old) (E.contents err.new) result }
     ensures import { (db key variant label file : Bor (List ℕ)) → job.now ≡ Job.Import db key variant label file → (done : Result (Vec ℕ) Ended) × Says IsNotImported line_of done
         × IsTold done (O.contents out.old) (O.contents out.new) (E.contents err.old) (E.contents err.new) result }
@@ -58,18 +63,8 @@ pub fn perform<R: Read, O: Write, E: Write>(
         Job::Run => end_script(rt.alloc(), input, out, &mut err),
         Job::Create { db, config } => end(create(rt, db, config), &mut err),
         Job::Serve { db, port, count } => end(serve(rt, db, port, count, out, &mut err), &mut err),
-        Job::Schedule { db, variant } => {
-            tell(
-                report_file(rt, db, Report::Schedule, variant),
-                out,
-                &mut err,
-            )
-        }
-        Job::Gaps { db, variant } => tell(
-            report_file(rt, db, Report::Gaps, variant),
-            out,
-            &mut err,
-        ),
+        Job::Ask { db } => end(ask_file(rt, db, input, out), &mut err),
+        Job::Report { db, query } => tell(report_file(rt, db, query), out, &mut err),
         Job::Import {
             db,
             key,
@@ -124,18 +119,32 @@ fn end_script<R: Read, O: Write, E: Write>(
     }
 }
 
+// Answers the requests on standard input over the register in a file.
+fn ask_file<R: Read, O: Write>(
+    rt: &HostRuntime,
+    db: &str,
+    input: &mut R,
+    out: &mut O,
+) -> Result<(), Fault>
+    ensures { IsAsked (R.remaining input.old) (R.remaining input.new) (O.contents out.old) (O.contents out.new) result }
+{
+    let mut desk = FileDesk::open(rt, db)?;
+    let done = answer_input(rt.alloc(), &mut desk, input, out);
+    desk.close();
+    Ok(done?)
+}
+
 // The report of a variant of the register in a file.
 #[tactic(auto, using(crate::proofs::AskingLaws::prints_says))]
 fn report_file(
     rt: &HostRuntime,
     db: &str,
-    report: Report,
-    variant: &str,
+    query: Query<'_>,
 ) -> Result<Vec<u8>, Failure>
-    ensures { Says IsNotReported (report_of report) result }
+    ensures { Says IsNotReported (report_of query.report) result }
 {
     match FileDesk::open(rt, db) {
-        Ok(mut desk) => report_on(rt.alloc(), &mut desk, report, variant),
+        Ok(mut desk) => report_on(rt.alloc(), &mut desk, query),
         Err(fault) => Err(Failure::Fault(Fault::Register(fault))),
     }
 }
