@@ -1,11 +1,15 @@
 -- Requests that come in piece by piece: which lines of the input they are.
-use Rattle.std.proofs.Common.{◌≡◌, ℕ, ◌+◌, ◌-◌, ◌<◌, ◌≤◌, List, [], ◌∷◌, ◌++◌, length, Option, Some, None, IfSome, refl, sym, ap, ◌∙◌, subst, append_assoc, append-nil, arith, length-append}
+use Rattle.std.proofs.Common.{◌≡◌, ℕ, ◌+◌, ◌-◌, ◌<◌, ◌≤◌, List, [], ◌∷◌, ◌++◌, length, Option, Some, None, IfSome, Result, Ok, Err, refl, sym, ap, ◌∙◌, subst, append_assoc, append-nil, arith, length-append, inl, inr}
+use Rattle.std.specs.Prelude.{OnOk, ⊤}
 use Rattle.std.specs.Io.KnownBytes.{Consumes, IsAtEnd}
 use Rattle.fr_records.specs.Held.{Standing}
 use Rattle.fr_cli.specs.Answering.{AnswersLines}
-use Rattle.fr_cli.specs.Incoming.{AreFirstOf, AreFirstOfAll, EndsLines}
+use Rattle.fr_cli.specs.Incoming.{AreFirstOf, AreFirstOfAll, EndsLines, HasAnswered, IsAsked}
+use Rattle.fr_cli.specs.Performing.{of_script}
+use Rattle.fr_cli.specs.declared.fault.Fault.{Fault}
+use Rattle.fr_cli.specs.declared.script_fault.ScriptFault.{ScriptFault}
 use Rattle.fr_cli.specs.Script.{request_lines}
-use Rattle.fr_cli.proofs.AnsweringLaws.{lines_then}
+use Rattle.fr_cli.proofs.AnsweringLaws.{cut_said, lines_said, lines_then}
 use Rattle.fr_cli.proofs.EndedLines.{requests-append}
 use Rattle.fr_cli.proofs.LineLemmas.{request_lines-none}
 
@@ -72,3 +76,33 @@ pub heard_more : (clean first : Type 0) (old mid new : Standing) (front chunk w 
     → AnswersLines clean old new (request_lines (front ++ chunk)) (w ++ v)
 heard_more clean first old mid new front chunk w v falls ends p q =
     subst (λ l. AnswersLines clean old new l (w ++ v)) (sym (ends chunk)) (lines_then clean first old mid new (request_lines front) (request_lines chunk) w v falls p q)
+
+-- ---- over a file
+
+-- Of a register in a file nothing is supposed.
+pub asked_file : (clean : Type 0) (old new : Standing) (input left a b : Option (List ℕ)) (asked : Result ⊤ ScriptFault) (done : Result ⊤ Fault) → done ≡ of_script asked
+    → OnOk asked (IsAtEnd left) → HasAnswered clean old new input a b asked → IsAsked input left a b done
+asked_file clean old new input left a b (Ok x) done is end has =
+    let (lines, written, all, appended, answered) = has.all in
+    inr (
+      Ok x,
+      is,
+      end,
+      record {
+        all = (lines, written, all, appended, lines_said clean old new lines written answered);
+        early = tt;
+        too_long = λ e. absurd cc;
+        faults = tt;
+      },
+    )
+asked_file clean old new input left a b (Err fault) done is end has = inr (
+  Err fault,
+  is,
+  end,
+  record {
+    all = tt;
+    early = cut_said clean old new _ _ a b fault has.early;
+    too_long = has.too_long;
+    faults = has.faults;
+  },
+)

@@ -78,8 +78,12 @@ pub run_of : (clean : Type 0) (old new : Standing) (script left a b : Option (Li
 run_of clean old new script left a b bytes requests f (Ok x) is whole end has stands w = record {
   output =
       let (written, appended, answered) = w.all in
-      on_script _ script bytes whole (written, appended, output_to bytes requests f [] written has
-          (answered_to clean old new f (request_lines requests) (request_lines requests) [] written is has.formed stands (sym (append-nil (request_lines requests))) answered));
+      on_script _ script bytes whole (
+        written,
+        appended,
+        output_to bytes requests f [] written has
+            (answered_to clean old new f (request_lines requests) (request_lines requests) [] written is has.formed stands (sym (append-nil (request_lines requests))) answered),
+      );
   whole_script = end;
   too_long = λ e. absurd cc;
   too_many_reads = λ e. absurd cc;
@@ -98,12 +102,28 @@ run_of clean old new script left a b bytes requests f (Err fault) is whole end h
         | inr so ↦
             let (line, rest, split) = so.1 in
             subst (λ e. IsRunOf script left a b (Err e)) (sym lacks)
-            (lacked script left a b (on_script _ script bytes whole (c.written, c.appended, (line, rest, output_to bytes requests f (line ∷ rest) c.written has
-            (answered_to clean old Anything f (request_lines requests) so.0 (line ∷ rest) c.written is has.formed stands split so.2)))))
+            (lacked script left a b (on_script _ script bytes whole (
+              c.written,
+              c.appended,
+              (
+                line,
+                rest,
+                output_to bytes requests f (line ∷ rest) c.written has
+                    (answered_to clean old Anything f (request_lines requests) so.0 (line ∷ rest) c.written is has.formed stands split so.2),
+              ),
+            )))
       ]
       | inr fails ↦
           let (rest, split) = c.done in
           subst (λ e. IsRunOf script left a b (Err e)) (sym fails)
-          (failed script left a b (on_script _ script bytes whole (c.written, c.appended, (rest, c.missing, output_to bytes requests f rest (c.written ++ c.missing) has
-          (answered_to clean old new f (request_lines requests) c.lines rest (c.written ++ c.missing) is has.formed stands split c.answered)))))
+          (failed script left a b (on_script _ script bytes whole (
+            c.written,
+            c.appended,
+            (
+              rest,
+              c.missing,
+              output_to bytes requests f rest (c.written ++ c.missing) has
+                  (answered_to clean old new f (request_lines requests) c.lines rest (c.written ++ c.missing) is has.formed stands split c.answered),
+            ),
+          )))
     ]

@@ -126,8 +126,11 @@ fn report<'a>(
 fn layout<'a>(alloc: Global) -> Result<Command<'a>, Error>
     ensures { IfOk result (IsReadAs app.layout) }
 {
-    let command = report(alloc, "layout", LAYOUT_ABOUT, LAYOUT_HELP)?
-        .arg(word(alloc, "FRAME", "The frame's name"))?;
+    let command = report(alloc, "layout", LAYOUT_ABOUT, LAYOUT_HELP)?.arg(word(
+        alloc,
+        "FRAME",
+        "The frame's name",
+    ))?;
     Ok(command)
 }
 

@@ -13,7 +13,7 @@ ghost use Rattle.fr_cli.specs.Runs.{IsRunOf};
 ghost use Rattle.fr_cli.specs.declared.failure.Failure.{Failure as Ended};
 ghost use Rattle.fr_cli.specs.declared.fault.Fault.{Fault as Word};
 ghost use Rattle.fr_cli.specs.declared.query.Query.{Query};
-ghost use Rattle.fr_cli.specs.declared.script_fault.ScriptFault.{ScriptFault};
+ghost use Rattle.fr_cli.specs.declared.script_fault.ScriptFault.{ScriptFault as Early};
 
 use crate::asking::{ImportWords, import, report_on};
 use crate::creating::create;
@@ -24,6 +24,7 @@ use crate::incoming::answer_input;
 use crate::printing::{end, print, print_all, tell};
 use crate::query::Query;
 use crate::script::run_script;
+use crate::script_fault::ScriptFault;
 use crate::serving::serve;
 use crate::words::{Job, WordFault};
 use fr_desks::FileDesk;
@@ -43,7 +44,7 @@ pub fn perform<R: Read, O: Write, E: Write>(
     out: &mut O,
     err: &mut E,
 ) -> u8
-    ensures run { job.now ≡ Job.Run → (done : Result ⊤ ScriptFault) × (result ≡ status_of (of_script done))
+    ensures run { job.now ≡ Job.Run → (done : Result ⊤ Early) × (result ≡ status_of (of_script done))
         × Tells (E.contents err.old) (E.contents err.new) (of_script done)
         × IsRunOf (R.remaining input.old) (R.remaining input.new) (O.contents out.old) (O.contents out.new) done }
     ensures create { (db config : Bor (List ℕ)) → job.now ≡ Job.Create db config → (done : Result ⊤ Word) × (result ≡ status_of done)
@@ -108,15 +109,12 @@ fn end_script<R: Read, O: Write, E: Write>(
     out: &mut O,
     err: &mut Output<'_, E>,
 ) -> u8
-    ensures run { (done : Result ⊤ ScriptFault) × (result ≡ status_of (of_script done))
+    ensures run { (done : Result ⊤ Early) × (result ≡ status_of (of_script done))
         × Tells (E.contents err.old.writer.now) (E.contents err.new.writer.now) (of_script done)
         × IsRunOf (R.remaining input.old) (R.remaining input.new) (O.contents out.old) (O.contents out.new) done }
     ensures same { err.new.writer.ghost_name ≡ err.old.writer.ghost_name }
 {
-    match run_script(alloc, input, out) {
-        Ok(()) => end(Ok(()), err),
-        Err(fault) => end(Err(Fault::Script(fault)), err),
-    }
+    end(of_script(run_script(alloc, input, out)), err)
 }
 
 // Answers the requests on standard input over the register in a file.
@@ -128,19 +126,29 @@ fn ask_file<R: Read, O: Write>(
 ) -> Result<(), Fault>
     ensures { IsAsked (R.remaining input.old) (R.remaining input.new) (O.contents out.old) (O.contents out.new) result }
 {
-    let mut desk = FileDesk::open(rt, db)?;
-    let done = answer_input(rt.alloc(), &mut desk, input, out);
-    desk.close();
-    Ok(done?)
+    match FileDesk::open(rt, db) {
+        Ok(mut desk) => {
+            let asked = answer_input(rt.alloc(), &mut desk, input, out);
+            desk.close();
+            of_script(asked)
+        }
+        Err(fault) => Err(Fault::Register(fault)),
+    }
+}
+
+// How the run of a script's lines ends, as a job.
+fn of_script(done: Result<(), ScriptFault>) -> Result<(), Fault>
+    ensures { result ≡ of_script done }
+{
+    match done {
+        Ok(()) => Ok(()),
+        Err(fault) => Err(Fault::Script(fault)),
+    }
 }
 
 // The report of a variant of the register in a file.
 #[tactic(auto, using(crate::proofs::AskingLaws::prints_says))]
-fn report_file(
-    rt: &HostRuntime,
-    db: &str,
-    query: Query<'_>,
-) -> Result<Vec<u8>, Failure>
+fn report_file(rt: &HostRuntime, db: &str, query: Query<'_>) -> Result<Vec<u8>, Failure>
     ensures { Says IsNotReported (report_of query.report) result }
 {
     match FileDesk::open(rt, db) {

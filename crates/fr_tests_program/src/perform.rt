@@ -1,8 +1,8 @@
 //! What the check would let pass: a job that ends in a fault, or never sees what the jobs before it did, though
 //! nothing fails.
 use crate::fixture::{CLUSTER, PLAN, carried_out};
-use fr_cli::{Job, Query, Report};
 use fr_cli::perform::perform;
+use fr_cli::{Job, Query, Report};
 use fr_desks::FileDesk;
 use std::fs;
 use std::net::{Ipv4Addr, TcpListener};
@@ -66,7 +66,13 @@ fn each_command_finds_what_the_others_did(rt: HostRuntime) -> Result<(), Fail> {
         file,
     };
     assert!(rt; prints(&rt, &import, "{\"ok\":\"imported\",\"rows\":1}\n"));
-    assert!(rt; prints(&rt, &report_of(db, Report::Schedule), "00 0001 A f1 n1 s1\n"));
+    assert!(rt;
+        prints(
+            &rt,
+            &report_of(db, Report::Schedule),
+            "00 0001 A f1 n1 s1\n"
+        )
+    );
     assert!(rt; prints(&rt, &gaps, "GAP    6400 f1 s1\n"));
     for path in [db, config, file] {
         fs::remove_file(&rt, path)?;
