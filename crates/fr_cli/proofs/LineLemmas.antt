@@ -9,7 +9,7 @@ use Rattle.std.specs.Str.Lines.{lines, lines_of_parts, strip_carriage_return}
 use Rattle.std.proofs.lemmas.List.Splits.{slice_split_at, slice_split_none, length-slice_split}
 use Rattle.std.proofs.lemmas.List.Elements.{All-from_recursion}
 use Rattle.std.specs.Prelude.{nat_lt, ◌==◌, codes}
-use Rattle.fr_cli.specs.Script.{onto_first_line, ended_lines, is_separator, parts_of, request_lines, parts_around}
+use Rattle.fr_cli.specs.Script.{onto_first_line, ended_lines, is_separator, parts_of, request_lines, parts_around, with_feed}
 
 -- no byte of the list is c
 abbrev pub HasNo : ℕ → List ℕ → Type 0
@@ -234,7 +234,7 @@ pub ruleset request_taken = (request_lines-none, request_lines-some, request_lin
 
 -- ---- a line with its end
 
-ended_of : (bytes end after : List ℕ) (parts : Option (List ℕ × List ℕ)) → Around 10 bytes parts → Some (end, after) ≡ option_map (λ parts. (parts.0 ++ 10 ∷ [], parts.1)) parts
+ended_of : (bytes end after : List ℕ) (parts : Option (List ℕ × List ℕ)) → Around 10 bytes parts → Some (end, after) ≡ option_map with_feed parts
     → (line : List ℕ) × (end ≡ line ++ 10 ∷ []) × (bytes ≡ end ++ after)
 ended_of bytes end after None found e = absurd cc
 ended_of bytes end after (Some parts) found e =
@@ -243,7 +243,7 @@ ended_of bytes end after (Some parts) found e =
     (parts.0, first, found.0 ∙ sym (append_assoc parts.0 (10 ∷ []) parts.1) ∙ ap₂ (λ (x y : List ℕ). x ++ y) (sym first) (sym second))
 
 -- a line feed ends it, and what follows it is left
-pub ended_by : (bytes end after : List ℕ) → Some (end, after) ≡ option_map (λ parts. (parts.0 ++ 10 ∷ [], parts.1)) (parts_around 10 bytes)
+pub ended_by : (bytes end after : List ℕ) → Some (end, after) ≡ option_map with_feed (parts_around 10 bytes)
     → (line : List ℕ) × (end ≡ line ++ 10 ∷ []) × (bytes ≡ end ++ after)
 ended_by bytes end after e = ended_of bytes end after (parts_around 10 bytes) (around 10 bytes) e
 

@@ -15,7 +15,7 @@ use std::alloc::Global;
 /// The report of a variant, as who asks reads it.
 pub fn report_on<D: Desk>(alloc: Global, desk: &mut D, query: Query<'_>) -> Result<Vec<u8>, Failure>
     ensures falls { D.clean desk.new → D.clean desk.old }
-    ensures prints { Prints (IsAnswer (D.clean desk.new) (D.stands desk.old) (D.stands desk.new) (query_of query)) (report_of query.report) result }
+    ensures prints { Prints (IsAnswer (D.clean desk.new) (D.stands desk.old) (D.stands desk.new) (query_of query.entry)) (report_of query.entry.report) result }
 {
     let request = query.request(alloc)?;
     let answer = ask_as(alloc, desk, query.reader(), request);

@@ -1,7 +1,7 @@
 //! Requests that come in on a reader, each answered before the next one is awaited.
-ghost use Rattle.std.specs.Prelude.{◌≡◌, ◌⊎◌, IfErr, OnOk};
+ghost use Rattle.std.specs.Prelude.{◌≡◌, ◌⊎◌, ◌++◌, IfErr, OnOk};
 ghost use Rattle.std.specs.Io.KnownBytes.{IsAtEnd};
-ghost use Rattle.fr_cli.specs.Incoming.{EndsEarly, HasAnswered, HasHeard};
+ghost use Rattle.fr_cli.specs.Incoming.{HasAnswered, HasHeard};
 ghost use Rattle.fr_cli.specs.ScriptFault.{script_fault_of};
 ghost use Rattle.fr_cli.specs.declared.input.InputFault.{InputFault};
 

@@ -4,7 +4,7 @@ ghost use Rattle.std.specs.Option.{option_map};
 ghost use Rattle.std.specs.Str.{bytes_eq};
 ghost use Rattle.std.specs.Str.Lines.{lines, strip_carriage_return};
 ghost use Rattle.std.specs.Iterator.{YieldsFirstRef, item_count};
-ghost use Rattle.fr_cli.specs.Script.{ended_lines, is_separator, key_and_text, parts_around, parts_of, request_lines};
+ghost use Rattle.fr_cli.specs.Script.{ended_lines, is_separator, key_and_text, parts_around, parts_of, request_lines, with_feed};
 
 /// The line between a script's cluster file and its requests.
 const SEPARATOR: &[u8] = b"---";
@@ -92,7 +92,7 @@ impl<'a> Iterator for RequestLines<'a> {
 
 /// The first line with its line feed, and all after it. `None` where no line feed is.
 pub fn ended_line(bytes: &[u8]) -> Option<(&[u8], &[u8])>
-    ensures { option_map (λ x. (x.0.now, x.1.now)) result ≡ option_map (λ parts. (parts.0 ++ 10 ∷ [], parts.1)) (parts_around 10 bytes.now) }
+    ensures { option_map (λ x. (x.0.now, x.1.now)) result ≡ option_map with_feed (parts_around 10 bytes.now) }
 {
     let (line, after) = split_once(bytes, b'\n')?;
     Some((&bytes[..=line.len()], after))

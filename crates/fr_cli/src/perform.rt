@@ -149,7 +149,7 @@ fn of_script(done: Result<(), ScriptFault>) -> Result<(), Fault>
 // The report of a variant of the register in a file.
 #[tactic(auto, using(crate::proofs::AskingLaws::prints_says))]
 fn report_file(rt: &HostRuntime, db: &str, query: Query<'_>) -> Result<Vec<u8>, Failure>
-    ensures { Says IsNotReported (report_of query.report) result }
+    ensures { Says IsNotReported (report_of query.entry.report) result }
 {
     match FileDesk::open(rt, db) {
         Ok(mut desk) => report_on(rt.alloc(), &mut desk, query),

@@ -133,7 +133,7 @@ fn ask_job<'a>(found: &ArgMatches<'a>) -> Option<Job<'a>>
 }
 
 fn report_job<'a>(found: &ArgMatches<'a>, report: Report<'a>) -> Option<Job<'a>>
-    ensures { IfSome result (λ job. HasFrame report (rows_of (found_of found.now)) → IsJobOf job (name_of report) (rows_of (found_of found.now))) }
+    ensures { IfSome result (λ job. HasFrame report.entry (rows_of (found_of found.now)) → IsJobOf job (name_of report.entry) (rows_of (found_of found.now))) }
 {
     let db = word(found, "DB")?;
     let query = Query {
