@@ -1,5 +1,5 @@
 -- How a script's bytes fall into lines.
-use Rattle.std.proofs.Common.{◌≡◌, ℕ, suc, ◌+◌, ◌-◌, ◌<◌, Bool, true, false, ◌||◌, cond, List, [], ◌∷◌, ◌++◌, length, take, drop, refl, sym, ap, ap₂, ◌∙◌, arith, Option, Some, None, one-add, add-one, append_assoc, append-nil, inl, inr, length-append}
+use Rattle.std.proofs.Common.{◌≡◌, ℕ, suc, ◌+◌, ◌-◌, ◌<◌, Bool, true, false, ◌||◌, cond, List, [], ◌∷◌, ◌++◌, length, take, drop, refl, sym, ap, ◌∙◌, arith, subst, Option, Some, None, one-add, add-one, append_assoc, append-nil, inl, inr, length-append}
 use Rattle.std.proofs.Math.Seq.{take-append_seam}
 use Rattle.std.proofs.lemmas.Bool.{cases_Bool, eqb-true, lt-ltb, ltb-true, ltb-false, le-ltb, ne_eqb}
 use Rattle.std.specs.List.{AllByRecursion, list_any, concat, before_first, after_first, slice_split, position, position_or_len, filter}
@@ -9,7 +9,7 @@ use Rattle.std.specs.Str.Lines.{lines, lines_of_parts, strip_carriage_return}
 use Rattle.std.proofs.lemmas.List.Splits.{slice_split_at, slice_split_none, length-slice_split}
 use Rattle.std.proofs.lemmas.List.Elements.{All-from_recursion}
 use Rattle.std.specs.Prelude.{nat_lt, ◌==◌, codes}
-use Rattle.fr_cli.specs.Script.{onto_first_line, ended_lines, is_separator, parts_of, request_lines, parts_around, with_feed}
+use Rattle.fr_cli.specs.Script.{onto_first_line, ended_lines, is_separator, parts_of, request_lines, parts_around}
 
 -- no byte of the list is c
 abbrev pub HasNo : ℕ → List ℕ → Type 0
@@ -234,19 +234,9 @@ pub ruleset request_taken = (request_lines-none, request_lines-some, request_lin
 
 -- ---- a line with its end
 
-ended_of : (bytes end after : List ℕ) (parts : Option (List ℕ × List ℕ)) → Around 10 bytes parts → Some (end, after) ≡ option_map with_feed parts
-    → (line : List ℕ) × (end ≡ line ++ 10 ∷ []) × (bytes ≡ end ++ after)
-ended_of bytes end after None found e = absurd cc
-ended_of bytes end after (Some parts) found e =
-    let first : end ≡ parts.0 ++ 10 ∷ [] = cc in
-    let second : after ≡ parts.1 = cc in
-    (parts.0, first, found.0 ∙ sym (append_assoc parts.0 (10 ∷ []) parts.1) ∙ ap₂ (λ (x y : List ℕ). x ++ y) (sym first) (sym second))
+split_of : (bytes line after : List ℕ) (parts : Option (List ℕ × List ℕ)) → Around 10 bytes parts → Some (line, after) ≡ parts → bytes ≡ line ++ 10 ∷ after
+split_of bytes line after parts found e = (subst (Around 10 bytes) (sym e) found).0
 
 -- a line feed ends it, and what follows it is left
-pub ended_by : (bytes end after : List ℕ) → Some (end, after) ≡ option_map with_feed (parts_around 10 bytes)
-    → (line : List ℕ) × (end ≡ line ++ 10 ∷ []) × (bytes ≡ end ++ after)
-ended_by bytes end after e = ended_of bytes end after (parts_around 10 bytes) (around 10 bytes) e
-
--- less is left
-pub ended-shorter : (line end after : List ℕ) → end ≡ line ++ 10 ∷ [] → length after < length (end ++ after)
-ended-shorter line end after e = omega (arith, length-append end after, ap length e, length-append line (10 ∷ []))
+pub split_by : (bytes line after : List ℕ) → Some (line, after) ≡ parts_around 10 bytes → bytes ≡ line ++ 10 ∷ after
+split_by bytes line after e = split_of bytes line after (parts_around 10 bytes) (around 10 bytes) e

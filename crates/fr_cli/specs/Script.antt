@@ -1,5 +1,5 @@
 -- A script: the cluster file, the line `---`, and a line for each request.
-use Rattle.std.specs.Prelude.{ℕ, ◌==◌, nat_lt, Bool, if◌then◌else◌, Option, Some, None, List, [], ◌∷◌, ◌++◌, length, filter, codes}
+use Rattle.std.specs.Prelude.{ℕ, ◌==◌, nat_lt, Bool, if◌then◌else◌, Option, Some, None, List, [], ◌∷◌, length, filter, codes}
 use Rattle.std.specs.List.{list_any, concat, before_first, after_first}
 use Rattle.std.specs.Str.{bytes_eq}
 use Rattle.std.specs.Str.Lines.{lines}
@@ -36,10 +36,6 @@ request_lines bytes = filter (λ line. nat_lt 0 (length line)) (lines bytes)
 abbrev pub parts_around : ℕ → List ℕ → Option (List ℕ × List ℕ)
 parts_around byte bytes =
     if list_any (λ b. b == byte) bytes then Some (before_first (λ b. b == byte) bytes, after_first (λ b. b == byte) bytes) else None
-
--- a line gets its line feed back
-abbrev pub with_feed : List ℕ × List ℕ → List ℕ × List ℕ
-with_feed parts = (parts.0 ++ 10 ∷ [], parts.1)
 
 -- the key is all before the first space of a request's line, and the request's text all after it
 unfoldable pub key_and_text : List ℕ → Option (List ℕ × List ℕ)

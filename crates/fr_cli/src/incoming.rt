@@ -7,7 +7,7 @@ ghost use Rattle.fr_cli.specs.declared.input.InputFault.{InputFault};
 
 use crate::answering::write_answers;
 use crate::input::{PIECE_BYTES, SCRIPT_BYTES, SCRIPT_READS, try_again};
-use crate::lines::ended_line;
+use crate::lines::split_once;
 use crate::script_fault::ScriptFault;
 use fr_base::Desk;
 use fr_http::Output;
@@ -77,8 +77,9 @@ fn answer_piece<D: Desk, W: Write>(
     ensures same { output.new.writer.ghost_name ≡ output.old.writer.ghost_name }
 {
     let mut rest = piece;
-    while let Some((end, after)) = ended_line(rest) {
-        begun.extend_from_slice(end)?;
+    while let Some((line, after)) = split_once(rest, b'\n') {
+        begun.extend_from_slice(line)?;
+        begun.push(b'\n')?;
         write_answers(alloc, desk, begun, output)?;
         begun.clear();
         rest = after;

@@ -4,7 +4,7 @@ ghost use Rattle.std.specs.Option.{option_map};
 ghost use Rattle.std.specs.Str.{bytes_eq};
 ghost use Rattle.std.specs.Str.Lines.{lines, strip_carriage_return};
 ghost use Rattle.std.specs.Iterator.{YieldsFirstRef, item_count};
-ghost use Rattle.fr_cli.specs.Script.{ended_lines, is_separator, key_and_text, parts_around, parts_of, request_lines, with_feed};
+ghost use Rattle.fr_cli.specs.Script.{ended_lines, is_separator, key_and_text, parts_around, parts_of, request_lines};
 
 /// The line between a script's cluster file and its requests.
 const SEPARATOR: &[u8] = b"---";
@@ -90,14 +90,6 @@ impl<'a> Iterator for RequestLines<'a> {
     }
 }
 
-/// The first line with its line feed, and all after it. `None` where no line feed is.
-pub fn ended_line(bytes: &[u8]) -> Option<(&[u8], &[u8])>
-    ensures { option_map (λ x. (x.0.now, x.1.now)) result ≡ option_map with_feed (parts_around 10 bytes.now) }
-{
-    let (line, after) = split_once(bytes, b'\n')?;
-    Some((&bytes[..=line.len()], after))
-}
-
 /// The key and the text of a request's line: all before its first space, and all after it. `None`
 /// where the line has no space.
 pub fn key_and_text(line: &[u8]) -> Option<(&[u8], &[u8])>
@@ -107,7 +99,7 @@ pub fn key_and_text(line: &[u8]) -> Option<(&[u8], &[u8])>
 }
 
 /// What stands before the first such byte, and what stands after it. `None` where there is none.
-fn split_once(bytes: &[u8], byte: u8) -> Option<(&[u8], &[u8])>
+pub fn split_once(bytes: &[u8], byte: u8) -> Option<(&[u8], &[u8])>
     ensures { option_map (λ x. (x.0.now, x.1.now)) result ≡ parts_around byte bytes.now }
 {
     let at = index_of(bytes, byte)?;

@@ -1,9 +1,10 @@
-use Rattle.std.proofs.Common.{◌≡◌, ◌++◌, ◌∷◌, [], ℕ, List, refl, sym, ap, ◌∙◌, subst, append_assoc, append-nil, take, drop, take-append-drop, rules, inl, inr}
+use Rattle.std.proofs.Common.{◌≡◌, ◌++◌, ◌∷◌, [], ℕ, List, Err, refl, sym, ap, ◌∙◌, subst, append_assoc, append-nil, take, drop, take-append-drop, rules, inl, inr}
 use Rattle.std.proofs.KnownBytes.{Appends-nil, Appends-trans, Appends-kept}
 use Rattle.fr_base.specs.declared.answer.Answer.TheVariants.{Done}
-use Rattle.fr_cli.specs.Answering.{AnswersLines}
+use Rattle.fr_cli.specs.Answering.{AnswersLines, HasWritten}
 use Rattle.fr_cli.specs.Asking.{line_of}
 use Rattle.fr_cli.specs.Script.{request_lines}
+use Rattle.fr_cli.specs.declared.script_fault.ScriptFault.TheVariants.{NoMemory, WriteFailed}
 use Rattle.fr_cli.proofs.AnsweringLaws.{cut_here, lines_falls, lines_kept, lines_then, no_lines, one_line}
 use Rattle.fr_cli.proofs.answering.write_answers.Goals as goal
 
@@ -30,11 +31,12 @@ returns-in_err-answer-clause-written g c =
     let lines : request_lines c.args.requests.now ≡ l.front ++ line ∷ left = l.lines ∙ ap (λ left. l.front ++ left) c.in-Some.ensures.steps in
     let answered : AnswersLines (clean c.answer_line.new.desk) (stands c.args.desk.now) (stands c.answer_line.new.desk) l.front l.written =
     subst (λ d. AnswersLines (clean d) (stands c.args.desk.now) (stands d) l.front l.written) (sym c.in_err-answer.ensures.fault.1) l.answered in
-    record {
+    let is : c.from_residual.result ≡ Err NoMemory = search rules in
+    subst (HasWritten _ _ _ _ _ _) (sym is) (record {
       all = tt;
       early = cut_here _ _ _ _ _ _ _ _ _ l.front l.written (λ is. is) answered l.appended (line ∷ left, lines) (line, left, lines);
-      faults = inl c.in_err-answer.ensures.fault.0;
-    }
+      faults = inl refl;
+    })
 
 pub returns-in_err-text-clause-written : goal.returns-in_err-text-clause-written
 returns-in_err-text-clause-written g c =
@@ -45,7 +47,8 @@ returns-in_err-text-clause-written g c =
     let left = request_lines c.next.new.self.rest.now in
     let answer = c.in_ok-answer.answer in
     let lines : request_lines c.args.requests.now ≡ l.front ++ line ∷ left = l.lines ∙ ap (λ left. l.front ++ left) c.in-Some.ensures.steps in
-    record {
+    let is : c.from_residual-in_err-text.result ≡ Err NoMemory = search rules in
+    subst (HasWritten _ _ _ _ _ _) (sym is) (record {
       all = tt;
       early = record {
         lines = l.front ++ line ∷ [];
@@ -59,7 +62,7 @@ returns-in_err-text-clause-written g c =
         whole = inr (l.front, (line, left, lines), lines_kept _ _ _ _ l.front l.written c.answer_line.ensures.falls l.answered);
       };
       faults = inl refl;
-    }
+    })
 
 pub returns-in_err-write_all-clause-written : goal.returns-in_err-write_all-clause-written
 returns-in_err-write_all-clause-written g c =
@@ -71,7 +74,8 @@ returns-in_err-write_all-clause-written g c =
     let left = request_lines c.next.new.self.rest.now in
     let answer = c.in_ok-answer.answer in
     let is : text ≡ line_of answer = c.deref.ensures.value ∙ c.in_ok-text.ensures in
-    record {
+    let fails : c.from_residual-in_err-write_all.result ≡ Err WriteFailed = search rules in
+    subst (HasWritten _ _ _ _ _ _) (sym fails) (record {
       all = tt;
       early = record {
         lines = l.front ++ line ∷ [];
@@ -87,7 +91,7 @@ returns-in_err-write_all-clause-written g c =
         whole = inl refl;
       };
       faults = inr refl;
-    }
+    })
 
 pub loop-line-preserved : goal.loop-line-preserved
 loop-line-preserved g c =
@@ -112,7 +116,8 @@ loop-line-preserved g c =
 pub returns-in_err-flush-clause-written : goal.returns-in_err-flush-clause-written
 returns-in_err-flush-clause-written g c =
     let l = c.loop-line.invariant in
-    record {
+    let fails : c.from_residual-in_err-flush.result ≡ Err WriteFailed = search rules in
+    subst (HasWritten _ _ _ _ _ _) (sym fails) (record {
       all = tt;
       early = record {
         lines = l.front;
@@ -125,14 +130,14 @@ returns-in_err-flush-clause-written g c =
         whole = inl refl;
       };
       faults = inr refl;
-    }
+    })
 
 pub returns-clause-written : goal.returns-clause-written
 returns-clause-written g c =
     let l = c.loop-line.invariant in
     let all : request_lines c.args.requests.now ≡ l.front = l.lines ∙ ap (λ left. l.front ++ left) c.in-None.ensures.steps.0 ∙ append-nil l.front in
     record {
-      all = (l.written, Appends-kept _ _ _ l.written l.appended c.flush.ensures.holds, subst (λ lines. AnswersLines _ _ _ lines l.written) (sym all) l.answered);
+      all = (l.written, Appends-kept _ _ _ l.written l.appended c.flush.ensures.holds, subst (λ lines. AnswersLines (g.D.Desk.clean c.loop-line.desk) (g.D.Desk.stands c.args.desk.now) (g.D.Desk.stands c.loop-line.desk) lines l.written) (sym all) l.answered);
       early = tt;
       faults = tt;
     }

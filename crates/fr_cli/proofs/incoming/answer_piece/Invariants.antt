@@ -6,8 +6,8 @@ use Rattle.fr_cli.specs.Incoming.{EndsLines}
 use Rattle.fr_cli.specs.Script.{request_lines}
 use Rattle.fr_cli.proofs.incoming.answer_piece.Given as goal
 
-abbrev pub invariant-loop-end : goal.invariant-loop-end
-invariant-loop-end g l = record {
+abbrev pub invariant-loop-line : goal.invariant-loop-line
+invariant-loop-line g l = record {
   same : l.output.writer.ghost_name ≡ l.fn.output.writer.ghost_name;
   falls : g.D.Desk.clean l.desk → g.D.Desk.clean l.fn.desk;
   front : List ℕ;
@@ -18,5 +18,5 @@ invariant-loop-end g l = record {
   answered : AnswersLines (g.D.Desk.clean l.desk) (g.D.Desk.stands l.fn.desk) (g.D.Desk.stands l.desk) (request_lines front) written;
 }
 
-abbrev pub decreases-loop-end : goal.decreases-loop-end
-decreases-loop-end g l = length l.rest
+abbrev pub decreases-loop-line : goal.decreases-loop-line
+decreases-loop-line g l = length l.rest
