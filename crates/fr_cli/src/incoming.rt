@@ -79,7 +79,7 @@ fn answer_piece<D: Desk, W: Write>(
     let mut rest = piece;
     while let Some((line, after)) = split_once(rest, b'\n') {
         begun.extend_from_slice(line)?;
-        begun.push(b'\n')?;
+        begun.extend_from_slice(b"\n")?;
         write_answers(alloc, desk, begun, output)?;
         begun.clear();
         rest = after;

@@ -33,13 +33,13 @@ returns-in_err-extend_from_slice-clause-heard g c =
     subst (HasHeard _ _ _ bytes _ _ _) (sym is)
     (record { heard = tt; early = cut_here _ _ _ _ _ _ _ _ _ (request_lines l.front) l.written (λ is. is) l.answered l.appended first first })
 
-pub returns-in_err-push-clause-heard : goal.returns-in_err-push-clause-heard
-returns-in_err-push-clause-heard g c =
+pub returns-in_err-extend_from_slice-2-clause-heard : goal.returns-in_err-extend_from_slice-2-clause-heard
+returns-in_err-extend_from_slice-2-clause-heard g c =
     let l = c.loop-line.invariant in
     let bytes = c.args.begun.now.items ++ c.args.piece.now in
     let first : AreFirstOfAll bytes (request_lines l.front) =
     subst (λ all. AreFirstOfAll all (request_lines l.front)) (sym l.split) (first_whole l.front _ l.ends) in
-    let is : c.from_residual-in_err-push.result ≡ Err NoMemory = search rules in
+    let is : c.from_residual-in_err-extend_from_slice-2.result ≡ Err NoMemory = search rules in
     subst (HasHeard _ _ _ bytes _ _ _) (sym is)
     (record { heard = tt; early = cut_here _ _ _ _ _ _ _ _ _ (request_lines l.front) l.written (λ is. is) l.answered l.appended first first })
 
@@ -91,18 +91,18 @@ loop-line-preserved g c =
       answered = heard_more _ _ _ _ _ l.front chunk l.written written c.write_answers.ensures.falls l.ends l.answered answered;
     }
 
-pub returns-in_err-extend_from_slice-2-clause-heard : goal.returns-in_err-extend_from_slice-2-clause-heard
-returns-in_err-extend_from_slice-2-clause-heard g c =
+pub returns-in_err-extend_from_slice-3-clause-heard : goal.returns-in_err-extend_from_slice-3-clause-heard
+returns-in_err-extend_from_slice-3-clause-heard g c =
     let l = c.loop-line.invariant in
     let bytes = c.args.begun.now.items ++ c.args.piece.now in
     let first : AreFirstOfAll bytes (request_lines l.front) =
     subst (λ all. AreFirstOfAll all (request_lines l.front)) (sym l.split) (first_whole l.front _ l.ends) in
-    let is : c.from_residual-in_err-extend_from_slice-2.result ≡ Err NoMemory = search rules in
+    let is : c.from_residual-in_err-extend_from_slice-3.result ≡ Err NoMemory = search rules in
     subst (HasHeard _ _ _ bytes _ _ _) (sym is)
     (record { heard = tt; early = cut_here _ _ _ _ _ _ _ _ _ (request_lines l.front) l.written (λ is. is) l.answered l.appended first first })
 
 pub returns-clause-heard : goal.returns-clause-heard
 returns-clause-heard g c =
     let l = c.loop-line.invariant in
-    let more : c.extend_from_slice-2.new.self.items ≡ c.loop-line.begun.items ++ c.loop-line.rest.now = search rules in
+    let more : c.extend_from_slice-3.new.self.items ≡ c.loop-line.begun.items ++ c.loop-line.rest.now = search rules in
     record { heard = (l.front, l.written, l.split ∙ ap (λ r. l.front ++ r) (sym more), l.ends, l.appended, l.answered); early = tt }
