@@ -56,14 +56,15 @@ returns-in_err-write_answers-clause-heard g c =
     let same : begun ++ c.loop-line.rest.now ≡ chunk ++ after =
     ap (λ r. begun ++ r) rest ∙ sym (append_assoc begun line (10 ∷ after)) ∙ sym (append_assoc (begun ++ line) (10 ∷ []) after) in
     let split : bytes ≡ l.front ++ (chunk ++ after) = l.split ∙ ap (λ r. l.front ++ r) same in
+    let whole : c.deref.result.now ≡ chunk = search rules in
     let is : c.from_residual-in_err-write_answers.result ≡ Err _ = search rules in
     subst (HasHeard _ _ _ bytes _ _ _) (sym is)
     (record {
       heard = tt;
       early = cut_after _ _ _ _ _ _ _ _ _ _ _ _ _ (request_lines l.front) l.written c.write_answers.ensures.falls l.answered l.appended
-          (λ k so. subst (λ all. AreFirstOfAll all (request_lines l.front ++ k)) (sym split) (first_then l.front (chunk ++ after) k l.ends (first_begin chunk after k so.0 ends so.1)))
+          (λ k so. subst (λ all. AreFirstOfAll all (request_lines l.front ++ k)) (sym split) (first_then l.front (chunk ++ after) k l.ends (first_begin chunk after k so.0 ends (ap request_lines (sym whole) ∙ so.1))))
           (λ k so. subst (λ all. AreFirstOfAll all (request_lines l.front ++ k)) (sym split)
-          (first_then l.front (chunk ++ after) k l.ends (first_begin chunk after k (so.0 ∷ so.1) ends so.2)))
+          (first_then l.front (chunk ++ after) k l.ends (first_begin chunk after k (so.0 ∷ so.1) ends (ap request_lines (sym whole) ∙ so.2))))
           c.in_err-write_answers.ensures.written.early;
     })
 
@@ -78,7 +79,9 @@ loop-line-preserved g c =
     let ends : EndsLines chunk = requests-append (begun ++ line) in
     let same : begun ++ c.loop-line.rest.now ≡ chunk ++ after =
     ap (λ r. begun ++ r) rest ∙ sym (append_assoc begun line (10 ∷ after)) ∙ sym (append_assoc (begun ++ line) (10 ∷ []) after) in
-    let (written, appended, answered) = c.in_ok-write_answers.ensures.written.all in
+    let (written, appended, answers) = c.in_ok-write_answers.ensures.written.all in
+    let whole : c.deref.result.now ≡ chunk = search rules in
+    let answered = subst (λ b. AnswersLines (g.D.Desk.clean c.write_answers.new.desk) (g.D.Desk.stands c.loop-line.desk) (g.D.Desk.stands c.write_answers.new.desk) (request_lines b) written) whole answers in
     let none : c.clear.new.self.items ≡ [] = search rules in
     record {
       same = c.write_answers.ensures.same ∙ l.same;
@@ -104,5 +107,5 @@ returns-in_err-extend_from_slice-3-clause-heard g c =
 pub returns-clause-heard : goal.returns-clause-heard
 returns-clause-heard g c =
     let l = c.loop-line.invariant in
-    let more : c.extend_from_slice-3.new.self.items ≡ c.loop-line.begun.items ++ c.loop-line.rest.now = search rules in
+    let more : c.extend_from_slice-2.new.self.items ≡ c.loop-line.begun.items ++ c.loop-line.rest.now = search rules in
     record { heard = (l.front, l.written, l.split ∙ ap (λ r. l.front ++ r) (sym more), l.ends, l.appended, l.answered); early = tt }
