@@ -1,1 +1,2 @@
 pub mod EachWord
+mod TopicLemmas

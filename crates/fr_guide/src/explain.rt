@@ -3,7 +3,7 @@ ghost use Rattle.std.specs.Prelude.{◌≡◌, ◌++◌, IfOk, OnOk, filter, opt
 ghost use Rattle.std.specs.List.{find};
 ghost use Rattle.std.specs.Str.{bytes_eq};
 ghost use Rattle.fr_guide.specs.Explaining.{Explains, ListsAll};
-ghost use Rattle.fr_guide.specs.Topics.{line_of};
+ghost use Rattle.fr_guide.specs.Topics.{line_of, lines_of};
 
 use crate::topic::Topic;
 use crate::topics::topics;
@@ -28,11 +28,8 @@ pub fn explanation(alloc: Global, word: &str) -> Result<Option<Vec<u8>>, NoMemor
 pub fn overview(alloc: Global) -> Result<Vec<u8>, NoMemory>
     ensures { IfOk result (λ text. ListsAll text.items) }
 {
-    let topics = topics(alloc)?;
     let mut text = Vec::new(alloc);
-    for topic in topics.as_slice() {
-        append_line(&mut text, topic)?;
-    }
+    append_lines(&mut text, &topics(alloc)?)?;
     Ok(text)
 }
 
@@ -64,6 +61,19 @@ fn page(alloc: Global, topic: &Topic) -> Result<Vec<u8>, NoMemory>
     append_line(&mut text, topic)?;
     text.extend_from_slice(topic.help.as_bytes())?;
     Ok(text)
+}
+
+// Adds the lines of topics.
+fn append_lines(text: &mut Vec<u8>, topics: &[Topic]) -> Result<(), NoMemory>
+    ensures { OnOk result (text.new.items ≡ text.old.items ++ lines_of topics.now) }
+{
+    match topics {
+        [] => Ok(()),
+        [topic, rest @ ..] => {
+            append_line(text, topic)?;
+            append_lines(text, rest)
+        }
+    }
 }
 
 // Adds the line of a topic.

@@ -1,5 +1,5 @@
 //! The words that are explained, in the order of the table of refusals, then faults by what they are of.
-ghost use Rattle.std.specs.Prelude.{◌≡◌, IfOk};
+ghost use Rattle.std.specs.Prelude.{◌≡◌, ◌++◌, IfOk, OnOk};
 ghost use Rattle.fr_guide.specs.Topics.{explained, words_of};
 
 mod clusters;
@@ -24,17 +24,24 @@ pub fn topics(alloc: Global) -> Result<Vec<Topic>, NoMemory>
     ensures { IfOk result (λ all. words_of all.items ≡ explained) }
 {
     let mut all = Vec::new(alloc);
-    all.extend_from_slice(&senders::topics())?;
-    all.extend_from_slice(&fields::topics())?;
-    all.extend_from_slice(&variants::topics())?;
-    all.extend_from_slice(&missing::topics())?;
-    all.extend_from_slice(&grants::topics())?;
-    all.extend_from_slice(&edits::topics())?;
-    all.extend_from_slice(&signals::topics())?;
-    all.extend_from_slice(&imports::topics())?;
-    all.extend_from_slice(&clusters::topics())?;
-    all.extend_from_slice(&segments::topics())?;
-    all.extend_from_slice(&inputs::topics())?;
-    all.extend_from_slice(&files::topics())?;
+    add(&mut all, &senders::topics())?;
+    add(&mut all, &fields::topics())?;
+    add(&mut all, &variants::topics())?;
+    add(&mut all, &missing::topics())?;
+    add(&mut all, &grants::topics())?;
+    add(&mut all, &edits::topics())?;
+    add(&mut all, &signals::topics())?;
+    add(&mut all, &imports::topics())?;
+    add(&mut all, &clusters::topics())?;
+    add(&mut all, &segments::topics())?;
+    add(&mut all, &inputs::topics())?;
+    add(&mut all, &files::topics())?;
     Ok(all)
+}
+
+// Adds topics.
+fn add(all: &mut Vec<Topic>, more: &[Topic]) -> Result<(), NoMemory>
+    ensures { OnOk result (words_of all.new.items ≡ words_of all.old.items ++ words_of more.now) }
+{
+    Ok(all.extend_from_slice(more)?)
 }
