@@ -1,0 +1,298 @@
+//! A register of the schema before, migrated. What the check would let pass: a migration that is always `Unavailable`, though
+//! nothing fails; and tables of the schema before that are not as they were made.
+use crate::asks::{DONE, FIRST, Line, carry_out, config};
+use crate::fused::{Deed, Fused, Fusible, Image, Left, USUAL, files_of, opened, stops};
+use crate::looking::{BEFORE, book_of, seen};
+use fr_base::Config;
+use fr_office::Office;
+use fr_store::{Store, StoreFault, migrate_on};
+use sqlite::{Connection, FileStore, params};
+use std::alloc::Global;
+use std::test::Fail;
+
+/// An import without rows.
+const IMPORT: Line = (
+    "supplier01",
+    r#"{"do":"import","variant":"v1","label":"a","body":"frame,node,slot,channels,base,repetition\n"}"#,
+    r#"{"ok":"imported","rows":0}"#,
+);
+
+/// After the first four requests: the frame is placed and has a signal, and a variant is opened from its.
+const PARENT: [Line; 5] = [
+    (
+        "supplier01",
+        r#"{"do":"place","variant":"v1","frame":"f1","slot":1,"channels":"A","base":0,"repetition":2}"#,
+        DONE,
+    ),
+    (
+        "supplier01",
+        r#"{"do":"add_signal","variant":"v1","frame":"f1","signal":"x","start":0,"length":8,"order":"little"}"#,
+        DONE,
+    ),
+    IMPORT,
+    ("integrator1", r#"{"do":"release","variant":"v1"}"#, DONE),
+    (
+        "integrator1",
+        r#"{"do":"open_variant","variant":"v2","from":"v1"}"#,
+        DONE,
+    ),
+];
+
+/// There the frame changes, and a third variant is opened.
+const CHILD: [Line; 3] = [
+    (
+        "supplier01",
+        r#"{"do":"place","variant":"v2","frame":"f1","slot":1,"channels":"A","base":1,"repetition":2}"#,
+        DONE,
+    ),
+    ("integrator1", r#"{"do":"release","variant":"v2"}"#, DONE),
+    (
+        "integrator1",
+        r#"{"do":"open_variant","variant":"v3","from":"v2"}"#,
+        DONE,
+    ),
+];
+
+/// There it is dropped, added and dropped again.
+const GRANDCHILD: [Line; 3] = [
+    (
+        "supplier01",
+        r#"{"do":"drop_frame","variant":"v3","frame":"f1"}"#,
+        DONE,
+    ),
+    (
+        "supplier01",
+        r#"{"do":"add_frame","variant":"v3","frame":"f1","node":"n1"}"#,
+        DONE,
+    ),
+    (
+        "supplier01",
+        r#"{"do":"drop_frame","variant":"v3","frame":"f1"}"#,
+        DONE,
+    ),
+];
+
+/// What there is then.
+const LOOKS: [Line; 4] = [
+    (
+        "supplier01",
+        r#"{"do":"gaps","variant":"v1"}"#,
+        r#"{"lines":["GAP     200 f1"],"ok":"gaps"}"#,
+    ),
+    (
+        "integrator1",
+        r#"{"do":"frames","variant":"v2"}"#,
+        r#"{"lines":["FRAME f1 n1 s1","AT 0001 A 00 02","AT 0001 A 01 02"],"ok":"frames"}"#,
+    ),
+    (
+        "supplier01",
+        r#"{"do":"layout","variant":"v2","frame":"f1"}"#,
+        r#"{"lines":["0000 08 little x"],"ok":"layout"}"#,
+    ),
+    (
+        "supplier01",
+        r#"{"do":"frames","variant":"v3"}"#,
+        r#"{"lines":[],"ok":"frames"}"#,
+    ),
+];
+
+/// How a variant that was just opened has all of its parent's frames copied.
+const COPIES: [&str; 4] = [
+    "UPDATE variants SET overlay = 0 WHERE name = ?2 AND parent = ?1",
+    "INSERT INTO frames (variant, supplier, name, node) SELECT ?2, supplier, name, node FROM frames WHERE variant = ?1",
+    "INSERT INTO placements (variant, supplier, frame, slot, channels, base, repetition) SELECT ?2, supplier, frame, slot, channels, base, repetition FROM placements WHERE variant = ?1",
+    "INSERT INTO signals (variant, supplier, frame, name, start, length, big) SELECT ?2, supplier, frame, name, start, length, big FROM signals WHERE variant = ?1",
+];
+
+/// How a register goes back to the schema before.
+const BACK: [&str; 3] = [
+    "INSERT INTO cluster (id, static_slots, slot_macroticks, dynamic_macroticks, symbol_macroticks, idle_macroticks, macroticks_per_cycle, payload_words, channels, integrator) SELECT id, static_slots, slot_macroticks, dynamic_macroticks, symbol_macroticks, idle_macroticks, macroticks_per_cycle, payload_words, channels, integrator FROM cluster2",
+    "DROP TABLE cluster2",
+    "UPDATE register SET schema = 1",
+];
+
+type Register = Store<FileStore<Fused>>;
+
+fn created(alloc: Global) -> Result<Register, Fail> {
+    let config = config(alloc)?;
+    match Store::create_on(alloc, opened(alloc, &Image::empty(alloc))?, &config) {
+        Ok(store) => Ok(store),
+        Err((fault, _)) => Err(Fail::from(fault)),
+    }
+}
+
+fn found(alloc: Global, conn: Connection<FileStore<Fused>>) -> Result<Register, Fail> {
+    match Store::open_on(alloc, conn) {
+        Ok(store) => Ok(store),
+        Err((fault, _)) => Err(Fail::from(fault)),
+    }
+}
+
+// The register once the lines were asked of it.
+fn after(alloc: Global, store: Register, lines: &[Line]) -> Result<Register, Fail> {
+    let mut office = Office::new(alloc, store);
+    carry_out(alloc, &mut office, lines)?;
+    Ok(office.into_store())
+}
+
+/// How a variant that is opened from another keeps the frames that it shares with it.
+#[derive(Clone, Copy)]
+enum Kept {
+    Overlaid,
+    Copied,
+}
+
+impl Kept {
+    // The register where a variant was just opened.
+    fn written(
+        self,
+        alloc: Global,
+        store: Register,
+        parent: &str,
+        variant: &str,
+    ) -> Result<Register, Fail> {
+        match self {
+            Kept::Overlaid => Ok(store),
+            Kept::Copied => {
+                let mut conn = store.into_connection();
+                for sql in COPIES {
+                    conn.execute(sql, params![parent, variant])?;
+                }
+                found(alloc, conn)
+            }
+        }
+    }
+
+    // A register of this version.
+    fn register(self, alloc: Global) -> Result<Register, Fail> {
+        let store = after(alloc, created(alloc)?, FIRST.split_at(4).0)?;
+        let store = after(alloc, store, &PARENT)?;
+        let store = self.written(alloc, store, "v1", "v2")?;
+        let store = after(alloc, store, &CHILD)?;
+        let store = self.written(alloc, store, "v2", "v3")?;
+        after(alloc, store, &GRANDCHILD)
+    }
+}
+
+// The files of the register in the schema before.
+fn taken_back(alloc: Global, store: Register) -> Result<Image, Fail> {
+    let mut conn = store.into_connection();
+    for sql in BACK {
+        conn.execute(sql, &[])?;
+    }
+    Image::of(alloc, &files_of(conn))
+}
+
+/// A register of the schema before is migrated.
+#[derive(Drop)]
+struct Migrating {
+    start: Image,
+    states: Vec<Vec<u8>>,
+}
+
+impl Migrating {
+    fn new(alloc: Global, kept: Kept) -> Result<Migrating, Fail> {
+        let start = taken_back(alloc, kept.register(alloc)?)?;
+        let book = book_of(alloc, kept.register(alloc)?)?;
+        let mut before = Vec::new(alloc);
+        before.extend_from_slice(BEFORE)?;
+        before.extend_from_slice(book.as_slice())?;
+        let states = vec![in alloc; before, book]?;
+        Ok(Migrating { start, states })
+    }
+}
+
+impl Deed for Migrating {
+    fn start(&self) -> &Image {
+        &self.start
+    }
+
+    fn states(&self) -> &[Vec<u8>] {
+        self.states.as_slice()
+    }
+
+    fn done(&self, _alloc: Global, mut conn: Connection<FileStore<Fused>>) -> Result<Left, Fail> {
+        let least = match migrate_on(&mut conn) {
+            Ok(()) => 1,
+            Err(_) => 0,
+        };
+        Ok(Left {
+            files: files_of(conn),
+            least,
+            most: 1,
+        })
+    }
+}
+
+// The files of the register that is migrated in these.
+fn migrated(alloc: Global, image: &Image) -> Result<Result<Image, StoreFault>, Fail> {
+    let mut conn = opened(alloc, image)?;
+    match migrate_on(&mut conn) {
+        Ok(()) => Ok(Ok(Image::of(alloc, &files_of(conn))?)),
+        Err(fault) => Ok(Err(fault)),
+    }
+}
+
+// Why the files are not opened, if they are not.
+fn fault_of(alloc: Global, image: &Image) -> Result<Option<StoreFault>, Fail> {
+    match Store::open_on(alloc, opened(alloc, image)?) {
+        Ok(_) => Ok(None),
+        Err((fault, _)) => Ok(Some(fault)),
+    }
+}
+
+// Whether this is what the cluster file says, with the cycles that each cluster had before.
+fn is_as_made(alloc: Global, found: &Config) -> Result<bool, Fail> {
+    let made = config(alloc)?;
+    Ok(
+        found.params().cycles() == 64
+            && found.params() == made.params()
+            && found.integrator() == made.integrator()
+            && found.suppliers() == made.suppliers(),
+    )
+}
+
+// Whether the register of the cluster file is in the files, and answers as it did, the import too.
+fn goes_on(alloc: Global, image: &Image) -> Result<bool, Fail> {
+    let store = found(alloc, opened(alloc, image)?)?;
+    let is_as_made = is_as_made(alloc, store.config())?;
+    let store = after(alloc, store, &LOOKS)?;
+    after(alloc, store, &[IMPORT])?;
+    Ok(is_as_made)
+}
+
+/// Each query of all that may ask is answered as before.
+#[test]
+fn a_register_of_the_schema_before_goes_on(rt: HostRuntime) -> Result<(), Fail> {
+    for kept in [Kept::Overlaid, Kept::Copied] {
+        let alloc = rt.alloc();
+        let old = taken_back(alloc, kept.register(alloc)?)?;
+        assert!(rt; fault_of(alloc, &old)? == Some(StoreFault::WrongSchema));
+        let new = migrated(alloc, &old)??;
+        assert!(rt; goes_on(alloc, &new)?);
+        let book = book_of(alloc, Kept::Overlaid.register(alloc)?)?;
+        assert!(rt; seen(alloc, opened(alloc, &new)?)? == book);
+        assert!(rt; migrated(alloc, &new)?.err() == Some(StoreFault::WrongSchema));
+    }
+    Ok(())
+}
+
+#[test]
+fn nothing_is_migrated_in_empty_files(rt: HostRuntime) -> Result<(), Fail> {
+    let done = migrated(rt.alloc(), &Image::empty(rt.alloc()))?;
+    assert!(rt; done.err() == Some(StoreFault::NotARegister));
+    Ok(())
+}
+
+#[test]
+fn a_stop_leaves_a_register_that_goes_on_or_can_be_migrated(rt: HostRuntime) -> Result<(), Fail> {
+    for kept in [Kept::Overlaid, Kept::Copied] {
+        let migrating = Migrating::new(rt.alloc(), kept)?;
+        for checkpoint in [USUAL, 8] {
+            let log = stops(rt.alloc(), &migrating, Fusible::Log, checkpoint)?;
+            let db = stops(rt.alloc(), &migrating, Fusible::Database, checkpoint)?;
+            assert_eq!(rt; (log, db), (0, 0));
+        }
+    }
+    Ok(())
+}
