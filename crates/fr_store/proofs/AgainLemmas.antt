@@ -1,5 +1,5 @@
 -- Tables that stood for a cluster and a book, opened again.
-use Rattle.std.proofs.Common.{◌≡◌, ◌∙◌, inl, refl, sym, ap, subst}
+use Rattle.std.proofs.Common.{◌≡◌, ◌∙◌, ℤ, inl, refl, sym, ap, subst}
 use Rattle.std.proofs.Math.Logic.{∥∥₁_elim}
 use Rattle.sqlite.specs.Effect.{Database, IsDatabase}
 use Rattle.sqlite.specs.Files.{HoldsDatabase}
@@ -14,8 +14,8 @@ use Rattle.fr_store.specs.StandsFor.{StandsFor}
 use Rattle.fr_store.specs.Reading.{Stands}
 use Rattle.fr_store.specs.Store.{TellsOf, IsRegisterOf, IsRegisterFor, FindsAgain}
 use Rattle.fr_store.specs.StoreFiles.{IsHeld, HoldsRegister, HoldsBook, database_of}
-use Rattle.fr_store.specs.Opening.{Explains}
-use Rattle.fr_tables.specs.Asking.{numbered, our_schema_number}
+use Rattle.fr_store.specs.Opening.{Refuses, Explains}
+use Rattle.fr_tables.specs.Asking.{numbered, our_schema_number, HasNumber}
 use Rattle.fr_store.specs.declared.fault.StoreFault.{StoreFault}
 use Rattle.fr_store.specs.declared.fault.StoreFault.TheVariants.{NotEmpty, NotARegister, WrongSchema, Unavailable}
 use Rattle.fr_tables.proofs.TypedLemmas.{in_order}
@@ -34,25 +34,31 @@ found_again old new found same good is c b stood =
     let stands = still_stands old new c b same stood in
     (same_file found c b (tables_in new.now.trees) good (is (in_order old.now stood.has)).tells stands.for, stands)
 
--- a register is refused for no other reason
-pub only_unavailable : (c : ClusterFile) (db : Database) (e : StoreFault) → IsRegisterOf c db → Explains db e → e ≡ Unavailable
-only_unavailable c db NotEmpty is h = absurd h
-only_unavailable c db NotARegister is h = absurd (h our_schema_number (record { has = inl is.has; number = is.tells.register }))
-only_unavailable c db WrongSchema is h =
-    let it = h (inl is.has) in
-    let same : numbered it.0 ≡ numbered our_schema_number = cc (sym it.2.number ∙ is.tells.register) in
+-- tables that say the number that is wanted are refused for no other reason
+pub refused_alone : (wanted : ℤ) (db : Database) (e : StoreFault) → HasNumber db wanted → Refuses wanted db e → e ≡ Unavailable
+refused_alone wanted db NotEmpty is h = absurd h
+refused_alone wanted db NotARegister is h = absurd (h wanted is)
+refused_alone wanted db WrongSchema is h =
+    let it = h is.has in
+    let same : numbered it.0 ≡ numbered wanted = cc (sym it.2.number ∙ is.number) in
     absurd (it.1 (ap (λ (r : RegisterRow). r.schema) same))
-only_unavailable c db Unavailable is h = refl
+refused_alone wanted db Unavailable is h = refl
 
--- nor are files that hold one
+-- nor are files that hold them
+pub refused_alone_files : (wanted : ℤ) (image : Image) (db : Database) (e : StoreFault) → IsHeld image db → HasNumber db wanted → ((d : Database) → IsDatabase d → HoldsDatabase image d.trees → Refuses wanted d e) → e ≡ Unavailable
+refused_alone_files wanted image db Unavailable held is told = refl
+refused_alone_files wanted image db NotEmpty held is told = absurd (∥∥₁_elim held.holds (hlevel) (λ there. told db held.sound there))
+refused_alone_files wanted image db NotARegister held is told = absurd (∥∥₁_elim held.holds (hlevel) (λ there. told db held.sound there wanted is))
+refused_alone_files wanted image db WrongSchema held is told =
+    absurd (∥∥₁_elim held.holds (hlevel) (λ there. let same = refused_alone wanted db WrongSchema is (told db held.sound there) in cc))
+
+-- so with a register of this schema
+pub only_unavailable : (c : ClusterFile) (db : Database) (e : StoreFault) → IsRegisterOf c db → Explains db e → e ≡ Unavailable
+only_unavailable c db e is h = refused_alone our_schema_number db e (record { has = inl is.has; number = is.tells.register }) h
+
 pub only_unavailable_files : (image : Image) (c : ClusterFile) (db : Trees) (e : StoreFault) → HoldsRegister c image db
     → ((d : Database) → IsDatabase d → HoldsDatabase image d.trees → Explains d e) → e ≡ Unavailable
-only_unavailable_files image c db Unavailable h told = refl
-only_unavailable_files image c db NotEmpty h told = absurd (∥∥₁_elim h.held.holds (hlevel) (λ held. told (database_of db) h.held.sound held))
-only_unavailable_files image c db NotARegister h told =
-    absurd (∥∥₁_elim h.held.holds (hlevel) (λ held. told (database_of db) h.held.sound held our_schema_number (record { has = inl h.is.has; number = h.is.tells.register })))
-only_unavailable_files image c db WrongSchema h told =
-    absurd (∥∥₁_elim h.held.holds (hlevel) (λ held. let is = only_unavailable c (database_of db) WrongSchema h.is (told (database_of db) h.held.sound held) in cc))
+only_unavailable_files image c db e h told = refused_alone_files our_schema_number image (database_of db) e h.held (record { has = inl h.is.has; number = h.is.tells.register }) told
 
 -- what files hold, as a connection sees it
 pub held_stands : (image : Image) (s : State) (c : Cluster) (b : Book) (h : HoldsBook c b image) → s.now ≡ database_of h.trees → Stands s c b

@@ -20,7 +20,7 @@ use Rattle.fr_tables.specs.Tables.{HasTables, tables_in}
 use Rattle.fr_store.proofs.AgainLemmas.{still_stands}
 
 -- the trees of tables that stand for a book
-is_left : (s : State) (c : Cluster) (b : Book) (db : Trees) → db ≡ s.now.trees → Stands s c b → IsRegisterFor c b (database_of db)
+pub is_left : (s : State) (c : Cluster) (b : Book) (db : Trees) → db ≡ s.now.trees → Stands s c b → IsRegisterFor c b (database_of db)
 is_left s c b db is stands = record {
   has = subst HasTables (λ i. let d : Database = record { schema = stands.has.schema i; trees = sym is i } in d) stands.has;
   for = subst (λ trees. StandsFor (tables_in trees) c b) (sym is) stands.for;
@@ -38,10 +38,15 @@ module _ {S : Type 0} (g : Ghosts S) (held begun : Held S) (is : begun ≡ recor
   survives_begun mid s = record { clean = s.clean; shield = s.shield; counts = s.counts; limit = s.limit; closes = s.closes; crash = s.crash }
 
   -- what a crash leaves is from before, or what is committed
+  pub leaves : (Commits : Trees → Type 0) (mid end : State) → (HasCleanDisk mid → (db : Trees) → db ≡ mid.now.trees → Commits db)
+      → Survives (state g begun) mid (λ _. ⊥) → Survives mid end (λ db. db ≡ mid.now.trees) → Survives (state g held) end Commits
+  leaves Commits mid end committed before commits =
+      survives_then (state g held) mid end (λ _. ⊥) (λ db. db ≡ mid.now.trees) Commits (λ clean db none. absurd none)
+      (λ clean db is. let late : HasCleanDisk mid = omega (arith, commits.clean, clean) in committed late db is)
+      (survives_begun mid (subst (λ h. Survives (state g h) mid (λ _. ⊥)) is before)) commits
+
+  -- of edits that were carried out
   pub crash_leaves : (edits : List Edit) (mid end : State) → (HasCleanDisk mid → (c : Cluster) (b : Book) → Stands (state g begun) c b → AllFit c.params b edits → Stands mid c (all_applied b edits))
       → Survives (state g begun) mid (λ _. ⊥) → Survives mid end (λ db. db ≡ mid.now.trees) → Survives (state g held) end (LeavesAll edits (state g held))
-  crash_leaves edits mid end carried before commits =
-      survives_then (state g held) mid end (λ _. ⊥) (λ db. db ≡ mid.now.trees) (LeavesAll edits (state g held)) (λ clean db none. absurd none)
-      (λ clean db is c b stands fit.
-      let late : HasCleanDisk mid = omega (arith, commits.clean, clean) in is_left mid c (all_applied b edits) db is (carried late c b (begun_stands c b stands) fit))
-      (survives_begun mid (subst (λ h. Survives (state g h) mid (λ _. ⊥)) is before)) commits
+  crash_leaves edits mid end carried =
+      leaves (LeavesAll edits (state g held)) mid end (λ clean db is c b stands fit. is_left mid c (all_applied b edits) db is (carried clean c b (begun_stands c b stands) fit))

@@ -43,5 +43,6 @@ pub mod ChainLemmas
 pub mod ReadyLemmas
 pub mod StandsForWorked
 pub mod CountedLemmas
+pub mod BeforeLemmas
 pub mod StoredLaws
 pub mod JoinedLemmas

@@ -70,3 +70,7 @@ LeavesMigrated old db = (c : Cluster) (b : Book) → StandsBefore old c b → Is
 -- where the database has the schema before, its tables are such as that schema's version writes
 abbrev pub HasOldIfBefore : Database → Type 0
 HasOldIfBefore db = db.schema ≡ old_schema → HasOldTables db
+
+-- Statements inside a transaction over tables of the schema before commit nothing, and where none fails the transaction goes on.
+abbrev pub KeepsBefore : {X E : Type 0} → State → State → Result X E → Type 0
+KeepsBefore old new r = HasCleanDisk new → IsTrue old.in_transaction → HasOldTables old.now → KeepsCommit old new × OnOk r (IsTrue new.in_transaction)

@@ -1,4 +1,5 @@
 pub mod Opening
+pub mod Before
 pub mod Store
 pub mod StoreFiles
 pub mod StandsFor

@@ -7,13 +7,13 @@ ghost use Rattle.sqlite.specs.Effect.{IsDatabase};
 ghost use Rattle.sqlite.specs.State.{HasCleanDisk, Opens, IsLive};
 ghost use Rattle.sqlite.specs.Files.{file_state, image_of, HoldsDatabase};
 ghost use Rattle.fr_base.specs.Book.{opening};
-ghost use Rattle.fr_tables.specs.Schema.{register_schema};
+ghost use Rattle.fr_tables.specs.Schema.{register_schema, old_schema};
 ghost use Rattle.fr_tables.specs.Filling.{with_config};
 ghost use Rattle.fr_tables.specs.Making.{no_rows};
 ghost use Rattle.fr_store.specs.Opening.{Explains};
 ghost use Rattle.fr_tables.specs.Changes.{tables_of};
 ghost use Rattle.fr_store.specs.Reading.{Stands, TellsOpened};
-ghost use Rattle.fr_tables.specs.Tables.{AreOrdered, tables_in};
+ghost use Rattle.fr_tables.specs.Tables.{AreOrdered, AreOrderedBefore, tables_in};
 ghost use Rattle.fr_store.specs.Store.{IsNewOf, IsRegisterOf, MayForbid};
 ghost use Rattle.fr_store.specs.StoreFiles.{HoldsRegister, KeepsBook, FindsBook, IsHeld, SurvivesSince, database_of};
 ghost use Rattle.fr_store.specs.declared.fault.StoreFault.TheVariants as fault;
@@ -44,7 +44,7 @@ pub(crate) fn closed<D: Disk + Drop>(conn: Connection<FileStore<D>>) -> Option<F
 }
 
 /// The database that the files hold, or an empty one where they are empty.
-fn connected<D: Disk + Drop>(
+pub(crate) fn connected<D: Disk + Drop>(
     alloc: Global,
     files: Files<D>,
     options: Options,
@@ -53,6 +53,7 @@ fn connected<D: Disk + Drop>(
     requires db { IsTrue (D.Disk.is_usable files.db) }
     ensures opens { IfOk result (λ c. HasCleanDisk (file_state c) → Opens (file_state c) × IsLive (file_state c)) }
     ensures ordered { IfOk result (λ c. HasCleanDisk (file_state c) → (file_state c).now.schema ≡ register_schema → AreOrdered (file_state c).now.trees) }
+    ensures ordered_before { IfOk result (λ c. HasCleanDisk (file_state c) → (file_state c).now.schema ≡ old_schema → AreOrderedBefore (file_state c).now.trees) }
     ensures found { IfOk result (λ c. HasCleanDisk (file_state c) → (db : _) → HoldsDatabase (image_of D.Disk files) db → (file_state c).now.trees ≡ db) }
     ensures honest { IfOk result (λ c. HasCleanDisk (file_state c) → AreClean D.Disk files.log files.db) }
     ensures told { IfErr result (λ e. AreClean D.Disk e.1.log e.1.db → (db : _) → HoldsDatabase (image_of D.Disk files) db → e.0 ≡ fault.Unavailable) }

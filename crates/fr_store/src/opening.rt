@@ -1,10 +1,8 @@
 //! Opens a register that was made before.
 
 ghost use Rattle.std.specs.Prelude.{◌≡◌, ◌≢◌, ◌≤◌, ℤ, IsTrue, IfOk, IfErr, IfSome, OnOk, IsPermutation, map, [], ◌∷◌, false, Some};
-ghost use Rattle.sqlite.specs.declared.error.Error.TheVariants.{SqlInputError};
 ghost use Rattle.sqlite.specs.State.{HasCleanDisk, Survives};
 ghost use Rattle.sqlite.specs.Held.{state};
-ghost use Rattle.sqlite_trees.specs.View.{doubt};
 ghost use Rattle.fr_base.specs.Cluster.{IsWellFormed};
 ghost use Rattle.fr_tables.specs.Schema.{register_schema};
 ghost use Rattle.fr_tables.specs.Statements.{shows_register, cluster2_row, shows_cluster2, shows_supplier, shows_variant, every, any_order, suppliers_cmp, variants_cmp};
@@ -13,51 +11,19 @@ ghost use Rattle.fr_tables.specs.Tables.{HasTables, AreOrdered};
 ghost use Rattle.fr_tables.specs.Changes.{AreListed, tables_of};
 ghost use Rattle.fr_store.specs.Reading.{TellsOpened};
 ghost use Rattle.fr_store.specs.Store.{IsRegisterOf, FindsAgain};
-ghost use Rattle.fr_tables.specs.Making.{IsFresh};
 ghost use Rattle.fr_tables.specs.Asking.{AreAsBefore, HasNumber, numbered, number_text, cluster_text, suppliers_text, variants_text};
 ghost use Rattle.fr_store.specs.Opening.{Explains};
 ghost use Rattle.fr_store.specs.declared.fault.StoreFault.TheVariants as fault;
 
 use crate::fault::StoreFault;
 use crate::reading::opened_variants;
+use crate::schemas::{expect_number, is_ours};
 use crate::store::Store;
 use fr_base::Config;
-use fr_tables::asking::{asked, number};
-use fr_tables::schema::same_schema;
-use fr_tables::{cluster, making};
-use sqlite::{Alter, Connection, Error};
-use sqlite_schema::schema::Schema;
+use fr_tables::asking::asked;
+use fr_tables::cluster;
+use sqlite::{Alter, Connection};
 use std::alloc::Global;
-
-/// Makes the tables, in a database with none.
-fn make<S: Alter>(conn: &mut Connection<S>) -> Result<(), Error>
-    requires { conn.old.in_transaction ≡ false }
-    ensures made { HasCleanDisk (state S.Store conn.new) → IsFresh 0 0 (state S.Store conn.old).now → OnOk result (HasTables (state S.Store conn.new).now) }
-    ensures clean { doubt (state S.Store conn.old).is_clean ≤ doubt (state S.Store conn.new).is_clean }
-{
-    let mut tx = conn.transaction();
-    making::all(&mut tx)?;
-    tx.commit()
-}
-
-/// The schema that this version makes.
-fn our_schema(alloc: Global) -> Result<Schema, Error>
-    ensures { IfOk result (λ schema. schema ≡ register_schema) }
-{
-    let mut conn = Connection::open_in_memory(alloc)?;
-    make(&mut conn)?;
-    Ok(conn.schema().copy(alloc)?)
-}
-
-/// Want of memory is told as false.
-fn is_ours(alloc: Global, schema: &Schema) -> bool
-    ensures { IsTrue result → schema.now ≡ register_schema }
-{
-    match our_schema(alloc) {
-        Ok(ours) => same_schema(schema, &ours),
-        Err(_) => false,
-    }
-}
 
 /// Whether the variants of which the tables tell are such as were opened one from the other. Want of memory is
 /// told as false.
@@ -119,12 +85,7 @@ fn recognized<S: Alter>(alloc: Global, conn: &mut Connection<S>) -> Result<Confi
     ensures autocommit { conn.new.in_transaction ≡ false }
     ensures survives { Survives (state S.Store conn.old) (state S.Store conn.new) (λ _. ⊥) }
 {
-    match number(conn) {
-        Ok(Some(n)) if n == NUMBER => {}
-        Ok(Some(_)) => return Err(StoreFault::WrongSchema),
-        Ok(None) => return Err(StoreFault::NotARegister),
-        Err(_) => return Err(StoreFault::Unavailable),
-    }
+    expect_number(conn, NUMBER)?;
     let Some(config) = config(alloc, conn) else {
         return Err(StoreFault::Unavailable);
     };

@@ -11,8 +11,8 @@ ghost use Rattle.fr_tables.specs.Making.{no_rows};
 ghost use Rattle.fr_store.specs.Opening.{Explains};
 ghost use Rattle.fr_tables.specs.Changes.{tables_of};
 ghost use Rattle.fr_store.specs.Reading.{Stands, TellsOpened};
-ghost use Rattle.fr_tables.specs.Schema.{register_schema};
-ghost use Rattle.fr_tables.specs.Tables.{AreOrdered, tables_in};
+ghost use Rattle.fr_tables.specs.Schema.{register_schema, old_schema};
+ghost use Rattle.fr_tables.specs.Tables.{AreOrdered, AreOrderedBefore, tables_in};
 ghost use Rattle.fr_store.specs.Store.{IsNewOf, IsRegisterOf, MayForbid};
 ghost use Rattle.fr_store.specs.StoreFiles.{HoldsRegister, FindsBook, IsHeld, SurvivesSince, database_of, image_left};
 ghost use Rattle.fr_store.specs.declared.fault.StoreFault.TheVariants as fault;
@@ -26,13 +26,14 @@ use sqlite::{Connection, Error, ErrorCode, FileFrom, FileStore, Leftover, Start}
 use std::rt::HostRuntime;
 
 /// The database in the file at a path, or an empty one where there is none.
-fn connected<S: Start>(
+pub(crate) fn connected_at<S: Start>(
     rt: &HostRuntime,
     path: &str,
     start: S,
 ) -> Result<Connection<FileStore<FileFrom<S>>>, (StoreFault, Option<Leftover<FileFrom<S>>>)>
     ensures opens { IfOk result (λ c. HasCleanDisk (file_state c) → Opens (file_state c) × IsLive (file_state c)) }
     ensures ordered { IfOk result (λ c. HasCleanDisk (file_state c) → (file_state c).now.schema ≡ register_schema → AreOrdered (file_state c).now.trees) }
+    ensures ordered_before { IfOk result (λ c. HasCleanDisk (file_state c) → (file_state c).now.schema ≡ old_schema → AreOrderedBefore (file_state c).now.trees) }
     ensures found { IfOk result (λ c. HasCleanDisk (file_state c) → (db : _) → HoldsDatabase (image_at S.Start) db → (file_state c).now.trees ≡ db) }
     ensures told { IfErr result (λ e. IfSome e.1 (λ left. IsCleanLeft left → (db : _) → HoldsDatabase (image_at S.Start) db → e.0 ≡ fault.Unavailable)) }
     ensures not_made { IfErr result (λ e. e.0 ≢ fault.NotEmpty) }
@@ -106,7 +107,7 @@ impl<S: Start> Store<FileStore<FileFrom<S>>> {
         ensures known { IfErr result (λ e. IfSome e.1 (λ left. IsCleanLeft left → (c : _) (db : _) → HoldsRegister c (image_at S.Start) db → e.0 ≡ fault.Unavailable)) }
         ensures lost { IfErr result (λ e. e.1 ≡ None → e.0 ≡ fault.Unavailable) }
     {
-        let conn = match connected(rt, path, start) {
+        let conn = match connected_at(rt, path, start) {
             Ok(conn) => conn,
             Err((fault, left)) => return Err((fault, left)),
         };

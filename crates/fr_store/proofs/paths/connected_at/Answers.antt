@@ -1,7 +1,7 @@
 use Rattle.std.proofs.Common.{◌∙◌, arith}
 use Rattle.sqlite.specs.State.{HasCleanDisk}
 use Rattle.sqlite.specs.Files.{file_state}
-use Rattle.fr_store.proofs.paths.connected.Goals as goal
+use Rattle.fr_store.proofs.paths.connected_at.Goals as goal
 
 pub returns-in-Ok-settle-clause-found : goal.returns-in-Ok-settle-clause-found
 returns-in-Ok-settle-clause-found g c clean db held =

@@ -1,0 +1,53 @@
+use Rattle.std.proofs.Common.{rules, ◌≡◌, Err, arith, sym, subst}
+use Rattle.sqlite.specs.State.{HasCleanDisk}
+use Rattle.sqlite.specs.Held.{state}
+use Rattle.fr_tables.specs.Schema.{old_schema}
+use Rattle.fr_tables.specs.Tables.{HasOldTables}
+use Rattle.fr_store.proofs.BeforeLemmas.{still_before, same_after, migration_survives, as_before_then, undone_then, on_error, same_fault, only_unavailable_before}
+use Rattle.fr_store.proofs.migrating.migrate_on.Goals as goal
+
+pub returns-clause-survives : goal.returns-clause-survives
+returns-clause-survives g c =
+    let old = state g.S.Store c.args.conn.now in
+    let mid = state g.S.Store c.expect_number.new.conn in
+    let late = state g.S.Store c.see_open.new.conn in
+    migration_survives old mid late (state g.S.Store c.in_one.new.conn) c.expect_number.ensures.survives c.see_open.ensures.survives
+    (λ clean. let clean_mid : HasCleanDisk mid = omega (arith, c.see_open.ensures.survives.clean, clean) in
+    same_after old mid late (c.expect_number.ensures.same clean_mid) (c.in_ok-see_open.ensures.open clean)) c.in_one.ensures.survives
+
+pub returns-clause-migrated : goal.returns-clause-migrated
+returns-clause-migrated g c clean cluster b stands =
+    let old = state g.S.Store c.args.conn.now in
+    let mid = state g.S.Store c.expect_number.new.conn in
+    let late = state g.S.Store c.see_open.new.conn in
+    let clean_late : HasCleanDisk late = omega (arith, c.in_one.ensures.survives.clean, clean) in
+    let clean_mid : HasCleanDisk mid = omega (arith, c.see_open.ensures.survives.clean, clean_late) in
+    let same = same_after old mid late (c.expect_number.ensures.same clean_mid) (c.in_ok-see_open.ensures.open clean_late) in
+    c.in_one.ensures.migrated clean cluster b (still_before old late cluster b same stands)
+
+pub returns-clause-unharmed : goal.returns-clause-unharmed
+returns-clause-unharmed g c clean has =
+    let old = state g.S.Store c.args.conn.now in
+    let mid = state g.S.Store c.expect_number.new.conn in
+    let late = state g.S.Store c.see_open.new.conn in
+    let clean_late : HasCleanDisk late = omega (arith, c.in_one.ensures.survives.clean, clean) in
+    let clean_mid : HasCleanDisk mid = omega (arith, c.see_open.ensures.survives.clean, clean_late) in
+    let first = c.expect_number.ensures.same clean_mid in
+    let same = same_after old mid late first (c.in_ok-see_open.ensures.open clean_late) in
+    let schema : old.now.schema ≡ old_schema = search rules in
+    undone_then old late (state g.S.Store c.in_one.new.conn) c.in_one.result (as_before_then old mid late first (c.see_open.ensures.same clean_late))
+    (c.in_one.ensures.undone clean (subst HasOldTables (sym same) (has schema)))
+
+pub returns-in_err-see_open-clause-unharmed : goal.returns-in_err-see_open-clause-unharmed
+returns-in_err-see_open-clause-unharmed g c clean has =
+    let old = state g.S.Store c.args.conn.now in
+    let mid = state g.S.Store c.expect_number.new.conn in
+    let late = state g.S.Store c.see_open.new.conn in
+    let clean_mid : HasCleanDisk mid = omega (arith, c.see_open.ensures.survives.clean, clean) in
+    on_error c.from_residual-in_err-see_open.result (as_before_then old mid late (c.expect_number.ensures.same clean_mid) (c.see_open.ensures.same clean))
+
+pub returns-in_err-expect_number-clause-known : goal.returns-in_err-expect_number-clause-known
+returns-in_err-expect_number-clause-known g c clean cluster b stands =
+    let is : c.from_residual.result ≡ Err c.in_err-expect_number.field-0.0 = search rules in
+    same_fault c.from_residual.result c.in_err-expect_number.field-0.0 is
+    (only_unavailable_before (state g.S.Store c.args.conn.now) cluster b c.in_err-expect_number.field-0.0 stands (c.in_err-expect_number.ensures.told clean))

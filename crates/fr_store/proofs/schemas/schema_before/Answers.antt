@@ -1,0 +1,6 @@
+use Rattle.std.proofs.Common.{◌∙◌}
+use Rattle.sqlite.proofs.Callers.{memory_is_clean}
+use Rattle.fr_store.proofs.schemas.schema_before.Goals as goal
+
+pub returns : goal.returns
+returns c = c.in_ok-copy.ensures ∙ c.schema.ensures.value ∙ (c.in_ok-make_before.ensures.made (memory_is_clean c.make_before.new.conn) (record { schema = c.in_ok-conn.ensures.empty.2; empty = tt })).schema

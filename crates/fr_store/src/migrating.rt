@@ -1,0 +1,118 @@
+//! Makes a register of the schema before one of this schema.
+
+ghost use Rattle.std.specs.Prelude.{◌≡◌, ◌≢◌, IfErr, OnErr, OnOk, false};
+ghost use Rattle.sqlite.specs.State.{HasCleanDisk, IsUnchanged, Survives};
+ghost use Rattle.sqlite.specs.Held.{state};
+ghost use Rattle.fr_tables.specs.Asking.{AreAsBefore, old_schema_number};
+ghost use Rattle.fr_tables.specs.Schema.{old_schema};
+ghost use Rattle.fr_tables.specs.Tables.{HasOldTables};
+ghost use Rattle.fr_store.specs.Applying.{StaysInside};
+ghost use Rattle.fr_store.specs.Before.{StandsBefore, MovesCluster, Migrates, KeepsBefore, LeavesMigrated, HasOldIfBefore};
+ghost use Rattle.fr_store.specs.Opening.{Refuses};
+ghost use Rattle.fr_store.specs.Reading.{Stands};
+ghost use Rattle.fr_store.specs.declared.fault.StoreFault.TheVariants as fault;
+
+mod files;
+
+pub use files::{migrate, migrate_at};
+
+use crate::fault::StoreFault;
+use crate::schemas::{expect_number, is_before};
+use fr_tables::cluster::read_before;
+use fr_tables::{making, tables};
+use sqlite::{Alter, Connection, Transaction};
+use std::alloc::Global;
+
+/// Moves the cluster's row into its new table, with the count of cycles that each cluster had before.
+fn move_cluster<S: Alter>(tx: &mut Transaction<'_, S>) -> Result<(), StoreFault>
+    ensures same_reference { tx.new.conn.ghost_name ≡ tx.old.conn.ghost_name }
+    ensures moved { MovesCluster (state S.Store tx.old.conn.now) (state S.Store tx.new.conn.now) result }
+    ensures stays { StaysInside (state S.Store tx.old.conn.now) (state S.Store tx.new.conn.now) result }
+    ensures refused { IfErr result (λ e. e ≡ fault.Unavailable) }
+    ensures survives { Survives (state S.Store tx.old.conn.now) (state S.Store tx.new.conn.now) (λ _. ⊥) }
+{
+    let rows = tables::cluster::all_inside(tx)?;
+    let Some((params, integrator)) = read_before(rows.as_slice()) else {
+        return Err(StoreFault::Unavailable);
+    };
+    tables::cluster2::insert(tx, &params, &integrator)?;
+    tables::cluster::delete(tx)?;
+    Ok(())
+}
+
+const NUMBER: u32 = 2;
+
+/// Makes the cluster's new table, moves its row, and then gives the register its new number.
+fn renew<S: Alter>(tx: &mut Transaction<'_, S>) -> Result<(), StoreFault>
+    ensures same_reference { tx.new.conn.ghost_name ≡ tx.old.conn.ghost_name }
+    ensures migrated { Migrates (state S.Store tx.old.conn.now) (state S.Store tx.new.conn.now) result }
+    ensures stays { KeepsBefore (state S.Store tx.old.conn.now) (state S.Store tx.new.conn.now) result }
+    ensures refused { IfErr result (λ e. e ≡ fault.Unavailable) }
+    ensures survives { Survives (state S.Store tx.old.conn.now) (state S.Store tx.new.conn.now) (λ _. ⊥) }
+{
+    making::cluster2(tx)?;
+    move_cluster(tx)?;
+    tables::register::update(tx, NUMBER)?;
+    Ok(())
+}
+
+/// All of that in one transaction, or nothing.
+fn in_one<S: Alter>(conn: &mut Connection<S>) -> Result<(), StoreFault>
+    requires { conn.old.in_transaction ≡ false }
+    ensures migrated { HasCleanDisk (state S.Store conn.new) → (c : _) (b : _) → StandsBefore (state S.Store conn.old) c b → OnOk result (Stands (state S.Store conn.new) c b) }
+    ensures committed { HasCleanDisk (state S.Store conn.new) → OnOk result ((state S.Store conn.new).committed ≡ (state S.Store conn.new).now) }
+    ensures undone { HasCleanDisk (state S.Store conn.new) → HasOldTables (state S.Store conn.old).now → OnErr result (AreAsBefore (state S.Store conn.old) (state S.Store conn.new)) }
+    ensures refused { IfErr result (λ e. e ≡ fault.Unavailable) }
+    ensures autocommit { conn.new.in_transaction ≡ false }
+    ensures survives { Survives (state S.Store conn.old) (state S.Store conn.new) (LeavesMigrated (state S.Store conn.old)) }
+{
+    let _settled = conn.is_autocommit();
+    let mut tx = conn.transaction();
+    renew(&mut tx)?;
+    tx.commit()?;
+    Ok(())
+}
+
+/// That the connection is open, with its tables as they are.
+fn see_open<S: Alter>(conn: &mut Connection<S>) -> Result<(), StoreFault>
+    requires { conn.old.in_transaction ≡ false }
+    ensures open { HasCleanDisk (state S.Store conn.new) → OnOk result (IsUnchanged (state S.Store conn.old) (state S.Store conn.new)) }
+    ensures same { HasCleanDisk (state S.Store conn.new) → AreAsBefore (state S.Store conn.old) (state S.Store conn.new) }
+    ensures refused { IfErr result (λ e. e ≡ fault.Unavailable) }
+    ensures autocommit { conn.new.in_transaction ≡ false }
+    ensures survives { Survives (state S.Store conn.old) (state S.Store conn.new) (λ _. ⊥) }
+{
+    let _settled = conn.is_autocommit();
+    match conn.prepare("SELECT schema FROM register") {
+        Ok(_) => Ok(()),
+        Err(_) => Err(StoreFault::Unavailable),
+    }
+}
+
+const NUMBER_BEFORE: i64 = 1;
+
+/// Makes a register of the schema before one of this schema: all of it, or nothing. Its clusters had 64 cycles, and
+/// so has this one then; all else stays. It is NotARegister where the tables say no number, WrongSchema where they
+/// say another one, this schema's too, and else Unavailable; then the tables are as they were.
+pub fn migrate_on<S: Alter>(alloc: Global, conn: &mut Connection<S>) -> Result<(), StoreFault>
+    ensures migrated { HasCleanDisk (state S.Store conn.new) → (c : _) (b : _) → StandsBefore (state S.Store conn.old) c b → OnOk result (Stands (state S.Store conn.new) c b) }
+    ensures committed { HasCleanDisk (state S.Store conn.new) → OnOk result ((state S.Store conn.new).committed ≡ (state S.Store conn.new).now) }
+    ensures before { OnOk result ((state S.Store conn.old).now.schema ≡ old_schema) }
+    ensures told { HasCleanDisk (state S.Store conn.new) → IfErr result (Refuses old_schema_number (state S.Store conn.old).now) }
+    ensures known { HasCleanDisk (state S.Store conn.new) → (c : _) (b : _) → StandsBefore (state S.Store conn.old) c b → IfErr result (λ e. e ≡ fault.Unavailable) }
+    ensures not_made { IfErr result (λ e. e ≢ fault.NotEmpty) }
+    ensures unharmed { HasCleanDisk (state S.Store conn.new) → HasOldIfBefore (state S.Store conn.old).now → OnErr result (AreAsBefore (state S.Store conn.old) (state S.Store conn.new)) }
+    ensures outside { conn.old.in_transaction ≡ false → conn.new.in_transaction ≡ false }
+    ensures survives { Survives (state S.Store conn.old) (state S.Store conn.new) (LeavesMigrated (state S.Store conn.old)) }
+{
+    if !conn.is_autocommit() {
+        return Err(StoreFault::Unavailable);
+    }
+    let is_known = is_before(alloc, conn.schema());
+    expect_number(conn, NUMBER_BEFORE)?;
+    if !is_known {
+        return Err(StoreFault::Unavailable);
+    }
+    see_open(conn)?;
+    in_one(conn)
+}
