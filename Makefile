@@ -3,8 +3,8 @@
 #               built program tried
 # make edits    asks the prover of every wrong body, also of those that the gate leaves out; CRATES='fr_base ..' names some.
 #               Run it when a contract has changed; no part of the gate
-# make try      tries the built program alone, as the gate does: rows, examples, faults, limits, register files, the server,
-#               the commands of docs/TUTORIAL.md, and docs/openapi.yaml
+# make try      tries the built program alone, as the gate does: rows, examples, faults, limits, counts of cycles, register files and
+#               their migration, the server, the commands of docs/TUTORIAL.md, and docs/openapi.yaml
 # make hostile  stops the built program at each of its calls on files, gives it files cut and changed at many places, and
 #               connections that fail at each byte; the gate does every so many of these. It needs a C compiler, cc
 # make refuse   refuses the built program each allocation in turn, of which the gate refuses every so many; and so to a register's calls
@@ -46,7 +46,9 @@ edits: toolchain
 
 try: build
 	@python3 tests/program.py $(program)
+	@python3 tests/counts.py $(program)
 	@python3 tests/commands.py $(program)
+	@python3 tests/migrated.py $(program)
 	@python3 tests/connections.py $(program)
 	@python3 tests/tutorial.py $(program)
 	@python3 tests/openapi.py $(program)

@@ -80,7 +80,9 @@ fn fits(params: &Params, placement: &Placement) -> bool
 {
     // Gives the proof that the cycles are a set of cycles.
     let _repetition = placement.cycles.repetition();
-    params.channels() == Channels::AB && placement.slot.get() <= params.static_slots()
+    params.channels() == Channels::AB
+        && placement.slot.get() <= params.static_slots()
+        && u32::from(placement.cycles.cycles()) == params.cycles()
 }
 
 /// Reads or decides the file on standard input, on a page that is built anew each time.
@@ -141,6 +143,7 @@ fn params() -> Result<Params, Error> {
         idle_macroticks: 10,
         macroticks_per_cycle: 650,
         payload_words: 16,
+        cycles: 64,
     });
     let Ok(params) = params else {
         bail!("no parameters");
@@ -167,7 +170,7 @@ fn placement(frame: u32, index: u32, each: u32) -> Result<Placement, Error> {
     Ok(Placement {
         slot: slot(frame % slots + 1)?,
         channels: Channels::A,
-        cycles: match CycleSet::new(frame / slots % 16 * turn + index % 8, 64) {
+        cycles: match CycleSet::new(64, frame / slots % 16 * turn + index % 8, 64) {
             Ok(cycles) => cycles,
             Err(_bad) => bail!("no cycles"),
         },

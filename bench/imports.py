@@ -59,6 +59,7 @@ fn rows(alloc: Global, body: &[u8]) -> Result<usize, Error> {
         idle_macroticks: 10,
         macroticks_per_cycle: 650,
         payload_words: 16,
+        cycles: 64,
     });
     let Ok(params) = params else {
         bail!("no parameters");

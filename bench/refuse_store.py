@@ -223,11 +223,13 @@ fn fits(params: &Params, placement: &Placement) -> bool
 {
     // Gives the proof that the cycles are a set of cycles.
     let _repetition = placement.cycles.repetition();
-    params.channels() == Channels::AB && placement.slot.get() <= params.static_slots()
+    params.channels() == Channels::AB
+        && placement.slot.get() <= params.static_slots()
+        && u32::from(placement.cycles.cycles()) == params.cycles()
 }
 
 fn placement(base: u32) -> Result<Placement, Error> {
-    let Ok(cycles) = CycleSet::new(base, 64) else {
+    let Ok(cycles) = CycleSet::new(64, base, 64) else {
         bail!("no cycles");
     };
     Ok(Placement { slot: slot(1)?, channels: Channels::A, cycles })

@@ -1,5 +1,5 @@
 #!/usr/bin/env python3
-"""Prints a script of many requests, the same one for the same arguments: scripts.py MIX [--lines N] [--suppliers S] [--seed X]
+"""Prints a script of many requests, the same one for the same arguments: scripts.py MIX [--lines N] [--suppliers S] [--seed X] [--cycles C]
 
 MIX is one of
   plan      each command but add_supplier, as integrator and suppliers plan; few are refused
@@ -25,7 +25,8 @@ PAYLOAD_BITS = 16 * 16
 QUERIES = ("grants", "frames", "schedule", "gaps", "layout")
 
 
-def cluster_file(suppliers):
+def cluster_file(suppliers, cycles=None):
+    """That of the suppliers; without a count of cycles it has 64."""
     lines = [
         'channels = "AB"',
         f"static_slots = {SLOTS}",
@@ -36,6 +37,7 @@ def cluster_file(suppliers):
         f"macroticks_per_cycle = {SLOTS * 10 + 3050}",
         "payload_words = 16",
         'integrator = "integrator1"',
+        *([f"cycles = {cycles}"] if cycles else []),
         "",
         "[suppliers]",
     ]
@@ -49,8 +51,11 @@ def key_of(supplier):
 class Plan:
     """What was asked so far, so that most requests fit what stands. No answer is foreseen."""
 
-    def __init__(self, suppliers, seed):
+    def __init__(self, suppliers, seed, cycles):
         self.suppliers = suppliers
+        self.cycles = cycles
+        # A placement is in a quarter of all cycles at most, one that a row asks for in two or one.
+        self.repetitions = [it for it in range(1, cycles + 1) if cycles % it == 0 and 4 * it >= cycles]
         self.dice = random.Random(seed)
         self.named = {}  # of a variant and a supplier, how many frames so far, those dropped too
         self.variants = []  # those that are open
@@ -114,7 +119,7 @@ class Plan:
     def place(self, variant, supplier):
         frame, node = self.dice.choice(self.frames[variant, supplier])
         slot, channel = self.dice.choice(self.held[variant, supplier, node])
-        repetition = self.dice.choice((16, 32, 64))
+        repetition = self.dice.choice(self.repetitions)
         base = self.dice.randrange(repetition)
         fields = dict(frame=frame, slot=slot, channels=channel, base=base, repetition=repetition)
         self.placed.setdefault((variant, supplier), []).append(fields)
@@ -133,7 +138,7 @@ class Plan:
         frame = f"frame{self.dice.randrange(FRAMES)}"
         node = dict(self.frames[variant, supplier]).get(frame, self.dice.randrange(NODES))
         slot, channel = self.dice.choice(self.held[variant, supplier, node])
-        repetition = self.dice.choice((32, 64))
+        repetition = self.dice.choice((self.cycles // 2, self.cycles))
         return f"{frame},node{node},{slot},{channel},{self.dice.randrange(repetition)},{repetition}"
 
     def signal_row(self, variant, supplier):
@@ -223,7 +228,7 @@ class Plan:
 
     def refused(self):
         supplier, variant = self.dice.choice(self.suppliers), self.variants[0]
-        place = dict(variant=variant, frame="frame0", slot=1, channels="A", base=0, repetition=64)
+        place = dict(variant=variant, frame="frame0", slot=1, channels="A", base=0, repetition=self.cycles)
         grant = dict(variant=variant, slot=1, channel="A", supplier=supplier, node="node0")
         signal = dict(variant=variant, frame="frame0", signal="signal0", start=PAYLOAD_BITS, length=1, order="little")
         return self.dice.choice((
@@ -236,7 +241,7 @@ class Plan:
             lambda: self.line(supplier, "open_variant", variant="other"),
             lambda: self.line(None, "place", **place),
             lambda: self.line(supplier, "place", **{**place, "variant": "1v"}),
-            lambda: self.line(supplier, "place", **{**place, "base": 64}),
+            lambda: self.line(supplier, "place", **{**place, "base": self.cycles}),
             lambda: self.line(supplier, "place", **{**place, "slot": SLOTS + 1}),
             lambda: self.line(supplier, "place", **{**place, "channels": "BA"}),
             lambda: self.line(supplier, "place", **{**place, "variant": "nowhere"}),
@@ -250,7 +255,7 @@ class Plan:
             lambda: self.line(None, "grant", **{**grant, "node": "node3"}),
             lambda: self.line(None, "open_variant", **{"variant": "other", "from": variant}),
             lambda: self.line(None, "revoke", variant=variant, slot=SLOTS, channel="B", supplier=supplier),
-            lambda: self.line(supplier, "unplace", **{**place, "base": 63}),
+            lambda: self.line(supplier, "unplace", **{**place, "base": self.cycles - 1}),
             lambda: self.line(supplier, "drop_frame", variant=variant, frame="nothing"),
             lambda: self.line(supplier, "add_signal", **signal),
             lambda: self.line(supplier, "add_signal", **{**signal, "length": 65}),
@@ -265,9 +270,9 @@ class Plan:
         return self.line(actor, query, variant=self.variants[0], **fields)
 
 
-def script(mix, lines, suppliers, seed):
+def script(mix, lines, suppliers, seed, cycles=None):
     names = [f"s{n}" for n in range(suppliers)]
-    plan = Plan(list(names), seed)
+    plan = Plan(list(names), seed, cycles or 64)
     variants, frames = {"plan": (4, 4), "place": (1, 60), "joining": (4, 4), "all": (4, 4)}.get(mix, (1, 4))
     opening = list(plan.opening(variants, frames))
     if mix == "queries":
@@ -282,7 +287,7 @@ def script(mix, lines, suppliers, seed):
         "all": [plan.plan, plan.plan, plan.plan, plan.refused, plan.query, plan.some_import],
     }[mix]
     more = (plan.dice.choice(kinds)() for _ in range(max(0, lines - len(opening))))
-    return cluster_file(names) + opening[:lines] + list(more)
+    return cluster_file(names, cycles) + opening[:lines] + list(more)
 
 
 def main():
@@ -291,8 +296,9 @@ def main():
     words.add_argument("--lines", type=int, default=10_000)
     words.add_argument("--suppliers", type=int, default=8, choices=range(1, 65), metavar="1..64")
     words.add_argument("--seed", type=int, default=1)
+    words.add_argument("--cycles", type=int, choices=range(8, 65, 2), metavar="8..64")
     given = words.parse_args()
-    sys.stdout.write("\n".join(script(given.mix, given.lines, given.suppliers, given.seed)) + "\n")
+    sys.stdout.write("\n".join(script(given.mix, given.lines, given.suppliers, given.seed, given.cycles)) + "\n")
 
 
 if __name__ == "__main__":

@@ -164,7 +164,7 @@ fn edit(alloc: Global, at: u32, is_put: bool) -> Result<Edit, Error> {
 }
 
 fn placement(at: u32) -> Result<Placement, Error> {
-    let Ok(cycles) = CycleSet::new(at % 64, 64) else {
+    let Ok(cycles) = CycleSet::new(64, at % 64, 64) else {
         bail!("no cycles");
     };
     Ok(Placement {

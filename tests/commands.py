@@ -15,6 +15,7 @@ from pathlib import Path
 from threading import Lock
 
 import overlays
+import schema1
 
 TOP = Path(__file__).resolve().parent.parent
 CLUSTER, REQUESTS = (TOP / "examples/first.script").read_bytes().split(b"---\n")
@@ -66,9 +67,11 @@ def creating(program, folder):
     see("a register that is there stays", made, (folder / "car.db").read_bytes())
 
     (folder / "no.toml").write_bytes(b"x\n")
+    (folder / "odd.toml").write_bytes(b"cycles = 9\n" + CLUSTER)
     (folder / "long.toml").write_bytes(CLUSTER + b"#" * (1_048_577 - len(CLUSTER)))
     (folder / "longest.toml").write_bytes(CLUSTER + b"#" * (1_048_576 - len(CLUSTER)))
     fault(program, ["create", "new.db", "no.toml"], folder, "BadToml")
+    fault(program, ["create", "new.db", "odd.toml"], folder, "BadCycleCount")
     fault(program, ["create", "new.db", "none.toml"], folder, "CannotOpen")
     fault(program, ["create", "new.db", "long.toml"], folder, "CannotOpen")
     fault(program, ["create", "new.db", "."], folder, "CannotOpen")
@@ -95,7 +98,8 @@ def opening(program, folder):
     tell(program, ["create", "orphan.db", "cluster.toml"], folder)
     with closing(sqlite3.connect(folder / "orphan.db")) as orphan, orphan:
         orphan.execute("INSERT INTO variants VALUES ('v2', 'v1', 2, 0, 0)")
-    faults = {"empty": "NotARegister", "text": "NotARegister", "other": "NotARegister", "newer": "WrongSchema", "orphan": "Unavailable"}
+    schema1.filled(folder / "older.db", {})
+    faults = {"empty": "NotARegister", "text": "NotARegister", "other": "NotARegister", "newer": "WrongSchema", "older": "WrongSchema", "orphan": "Unavailable"}
     for file, word in ((f"{name}.db", word) for name, word in faults.items()):
         for words in ["schedule", file, "v1"], ["gaps", file, "v1"], ["serve", file, "1024"], ["import", file, "supplier01", "v1", "a", "cluster.toml"]:
             fault(program, words, folder, word)
@@ -509,13 +513,39 @@ def joined(program, folder):
     sound(folder, "joined.db")
 
 
+def counted_cycles(program, folder):
+    """A cluster of 10 cycles keeps their count in its file."""
+    (folder / "ten.toml").write_bytes(b"cycles = 10\n" + CLUSTER)
+    tell(program, ["create", "ten.db", "ten.toml"], folder)
+    see("cycles in the file", [(10,)], rows_of(folder, "SELECT cycles FROM cluster2", "ten.db"))
+    place = b'{"do":"place","variant":"v1","frame":"f1","slot":1,"channels":"A","base":%d,"repetition":%d}'
+    bad_cycles = json(refused(5, "BadCycles"), "422 Unprocessable Entity")
+    *planned, _, _ = first_requests()
+    in_turn(program, folder, "ten.db", [*planned, (command("supplier01", place % (0, 64)), bad_cycles)])
+    in_turn(program, folder, "ten.db", [
+        (command("supplier01", place % (0, 4)), bad_cycles),
+        *done("supplier01", place % (1, 5)),
+        read("v1/schedule", in_cycles([1, 6])),
+        read("v1/gaps", b"GAP     500 f1\n"),
+    ])
+    see("placements in the file", [("v1", "s1", "f1", 1, "A", 1, 5)], rows_of(folder, "SELECT * FROM placements", "ten.db"))
+    (folder / "ten.csv").write_bytes(b"frame,node,slot,channels,base,repetition\nf2,n1,1,A,9,10\nf3,n1,1,A,0,4\n")
+    row = b'{"line":3,"no":29,"refused":"BadRow","row":' + refused(5, "BadCycles") + b"}"
+    turned_down(program, ["import", "ten.db", "supplier01", "v1", "a", "ten.csv"], folder, row)
+    (folder / "ten.csv").write_bytes(b"frame,node,slot,channels,base,repetition\nf2,n1,1,A,9,10\n")
+    tell(program, ["import", "ten.db", "supplier01", "v1", "a", "ten.csv"], folder, b'{"ok":"imported","rows":1}\n')
+    tell(program, ["schedule", "ten.db", "v1"], folder, b"01 0001 A f1 n1 s1\n06 0001 A f1 n1 s1\n09 0001 A f2 n1 s1\n")
+    tell(program, ["gaps", "ten.db", "v1"], folder, b"GAP     500 f1 s1\nGAP    1000 f2 s1\n")
+    sound(folder, "ten.db")
+
+
 def main(programs):
     there = [os.path.abspath(program) for program in programs if os.access(program, os.X_OK)]
     counted[False] += len(programs) - len(there)
     for program in there:
         with tempfile.TemporaryDirectory() as folder:
             (Path(folder) / "cluster.toml").write_bytes(CLUSTER)
-            for part in creating, opening, serving, cutting, killing, reports, differences, overlaid, made_whole, opened_again, joined:
+            for part in creating, opening, serving, cutting, killing, reports, differences, overlaid, made_whole, opened_again, joined, counted_cycles:
                 part(program, Path(folder))
     print(f"{counted[True]} passed, {counted[False]} failed")
     return 1 if counted[False] else 0

@@ -3,7 +3,7 @@
 
 Files that hold no register, registers whose rows have not their form, the files of a register cut at each multiple of 512
 bytes, and 2,000 files in each of which one byte was changed, at places and to values drawn with a fixed seed; so with the log
-too. Each command ends within ten seconds, never by a signal, with an answer or a word, and what it answers as done is in the
+too, and, for the command that migrates, with a register of schema 1. Each command ends within ten seconds, never by a signal, with an answer or a word, and what it answers as done is in the
 file afterwards. With --step N every Nth cut and change is tried. The last line is 'N passed, M failed'."""
 import argparse
 import json
@@ -15,13 +15,14 @@ import sys
 from contextlib import closing
 from pathlib import Path
 
+import schema1
 import stops
 from commands import CLUSTER, command, counted, head, refused, see
 from preload import folder_in_memory
 from stops import BODY, NOTHING, bases, copied, count_in, performed, replied, server_of
 
 SEED = 20_240_229
-CHANGES = 2_000
+CHANGES, OLD_CHANGES = 2_000, 500
 PIECE = 512
 
 SCHEDULE, GAPS = ["schedule", "car.db", "v1"], ["gaps", "car.db", "v1"]
@@ -29,6 +30,7 @@ IMPORT = ["import", "car.db", "supplier01", "v1", "a", "signals.csv"]
 OTHER_IMPORT = ["import", "car.db", "supplier01", "v1", "a", "other.csv"]
 SERVE, CREATE = ["serve", "car.db", "1024"], ["create", "car.db", "cluster.toml"]
 OPENING = SCHEDULE, GAPS, IMPORT, SERVE
+MIGRATE = stops.MIGRATE
 FILES = "car.db", "car.db-wal"
 WORDS = {f"slotplan: {word}\n".encode() for word in ("NotARegister", "WrongSchema", "Unavailable")}
 
@@ -45,6 +47,8 @@ def said_of(what, program, files, word):
     before = (files / "car.db").read_bytes()
     for words in OPENING:
         see(f"{words} of {what}", fault(word), performed(program, words, files))
+    # What is a register by its number is not of the schema that is migrated.
+    see(f"{MIGRATE} of {what}", fault("NotARegister" if word == "NotARegister" else "WrongSchema"), performed(program, MIGRATE, files))
     if before:
         see(f"{what} stays", before, (files / "car.db").read_bytes())
     else:
@@ -81,7 +85,7 @@ def without_register(program, room):
     }
     for name, make in makers.items():
         make()
-        for words in OPENING:
+        for words in *OPENING, MIGRATE:
             ended = performed(program, words, files)
             see(f"{words} of {name}", True, ended in (fault("NotARegister"), fault("Unavailable")) or ended)
         file.rmdir() if name == "a folder" else file.unlink()
@@ -89,14 +93,15 @@ def without_register(program, room):
 
 # Changes after which the rows of the cluster or of the suppliers have not their form.
 CLUSTERS = {
-    "no row of the cluster": "DELETE FROM {cluster}",
-    "a channel that is none": "UPDATE {cluster} SET channels = 'C'",
-    "one static slot": "UPDATE {cluster} SET static_slots = 1",
-    "a negative number": "UPDATE {cluster} SET payload_words = -1",
-    "a wrong sum": "UPDATE {cluster} SET macroticks_per_cycle = 101",
-    "a number past 2 ^ 32": "UPDATE {cluster} SET static_slots = 4294967300",
-    "a short key": "UPDATE {cluster} SET integrator = 'short'",
-    "the integrator's key twice": "UPDATE {cluster} SET integrator = 'supplier01'",
+    "no row of the cluster": "DELETE FROM cluster2",
+    "a channel that is none": "UPDATE cluster2 SET channels = 'C'",
+    "one static slot": "UPDATE cluster2 SET static_slots = 1",
+    "a negative number": "UPDATE cluster2 SET payload_words = -1",
+    "a wrong sum": "UPDATE cluster2 SET macroticks_per_cycle = 101",
+    "an odd number of cycles": "UPDATE cluster2 SET cycles = 63",
+    "a number past 2 ^ 32": "UPDATE cluster2 SET static_slots = 4294967300",
+    "a short key": "UPDATE cluster2 SET integrator = 'short'",
+    "the integrator's key twice": "UPDATE cluster2 SET integrator = 'supplier01'",
     "a supplier without a name": "UPDATE suppliers SET name = '' WHERE name = 's2'",
     "a supplier with no name": "UPDATE suppliers SET name = '2s' WHERE name = 's2'",
     "a supplier with a short key": "UPDATE suppliers SET key = 'short' WHERE name = 's2'",
@@ -109,24 +114,33 @@ CLUSTERS = {
 def with_rows(program, room, base):
     """A register of this schema whose cluster or suppliers have not their form, and one of another schema."""
     files = copied(base, room / "run")
-    with closing(sqlite3.connect(files / "car.db")) as file:
-        tables = {name for (name,) in file.execute("SELECT name FROM sqlite_schema WHERE type = 'table'")}
-    cluster = "cluster2" if "cluster2" in tables else "cluster"
     for name, change in CLUSTERS.items():
         copied(base, files)
         with closing(sqlite3.connect(files / "car.db")) as file, file:
-            file.execute(change.format(cluster=cluster))
+            file.execute(change)
         said_of(name, program, files, "Unavailable")
         see(f"create over {name}", fault("NotEmpty"), performed(program, CREATE, files))
     copied(base, files)
     with closing(sqlite3.connect(files / "car.db")) as file, file:
         file.execute("UPDATE register SET schema = 7")
     said_of("another schema", program, files, "WrongSchema")
+    suppliers_of_schema_1(program, room)
     for change in "DROP TABLE dropped", "CREATE TABLE more (x)", "CREATE INDEX named ON frames (name)", "ALTER TABLE nodes ADD COLUMN more TEXT":
         copied(base, files)
         with closing(sqlite3.connect(files / "car.db")) as file, file:
             file.execute(change)
         see(f"after {change}", True, all(performed(program, words, files) in (fault("Unavailable"), fault("NotARegister")) for words in OPENING))
+
+
+def suppliers_of_schema_1(program, room):
+    """A register of schema 1 whose suppliers have not their form is migrated, or not; in neither case it is opened then."""
+    for name, change in CLUSTERS.items():
+        if "suppliers" in change:
+            files = copied(room / "none", room / "run")
+            schema1.filled(files / "car.db", stops.BOOKS[stops.ALL], more=[change])
+            ended = performed(program, MIGRATE, files)
+            see(f"a migration with {name}", True, ended in (fault("Unavailable"), (0, b"", b"")) or ended)
+            see(f"a register with {name}", fault("Unavailable" if ended[0] == 0 else "WrongSchema"), performed(program, SCHEDULE, files))
 
 
 # ---- a register's files cut and changed
@@ -190,6 +204,28 @@ def cuts(base):
             yield base, f"{name} cut behind {end} bytes", name, data[:end]
 
 
+def of_schema_1(old, chance):
+    """The file of a register of schema 1, cut, or with one byte changed."""
+    data = (old / "car.db").read_bytes()
+    for end in range(0, len(data), PIECE):
+        yield old, f"car.db of schema 1 cut behind {end} bytes", "car.db", data[:end]
+    used = [at for at, byte in enumerate(data) if byte]
+    for turn in range(OLD_CHANGES):
+        at, by = chance.choice(used) if turn % 2 else chance.randrange(len(data)), chance.randrange(1, 256)
+        yield old, f"car.db of schema 1 with byte {at} changed by {by}", "car.db", data[:at] + bytes([data[at] ^ by]) + data[at + 1 :]
+
+
+def asked_to_migrate(what, program, files):
+    """The file is migrated or gets a word, and is then answered or gets a word."""
+    ended = performed(program, MIGRATE, files)
+    see(f"{what}: migrate", True, ended == (0, b"", b"") or (is_answered(ended) and ended[1] == b"") or ended)
+    shown = performed(program, SCHEDULE, files)
+    see(f"{what}: the schedule once it was to be migrated", True, is_answered(shown) or shown)
+    if ended[0] == 0:
+        see(f"{what}: migrated again", fault("WrongSchema"), performed(program, MIGRATE, files))
+    return int(ended[0] == 0)
+
+
 def changes(closed, logged, chance):
     """The register's files, of which one has one byte changed: the file that was closed, the one that has a log, and the log, in
     turn; anywhere, or where it is not zero, as most bytes are that are not in use."""
@@ -201,6 +237,17 @@ def changes(closed, logged, chance):
         at = chance.choice(used) if turn // 3 % 2 else chance.randrange(len(data))
         by = chance.randrange(1, 256)
         yield base, f"{name} of {base.name} with byte {at} changed by {by}", name, data[:at] + bytes([data[at] ^ by]) + data[at + 1 :]
+
+
+def migrated(program, room, old, step, turn):
+    files, done, tried = room / "run", 0, 0
+    for number, (base, what, name, data) in enumerate(of_schema_1(old, random.Random(SEED))):
+        if number % step == turn % step:
+            copied(base, files)
+            (files / name).write_bytes(data)
+            done, tried = done + asked_to_migrate(what, program, files), tried + 1
+    print(f"{tried} files of schema 1 tried, {done} migrated", flush=True)
+    see("files of schema 1 were tried", True, tried > 0)
 
 
 def harmed(program, room, cases, step, turn):
@@ -234,6 +281,7 @@ def main():
             with_rows(program, room, closed)
             for cases in cuts(closed), cuts(logged), changes(closed, logged, random.Random(SEED)):
                 harmed(program, room, cases, given.step, turn)
+            migrated(program, room, made[stops.migrating], given.step, turn)
     print(f"{counted[True]} passed, {counted[False]} failed")
     return 1 if counted[False] else 0
 

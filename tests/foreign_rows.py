@@ -117,7 +117,14 @@ BROKEN = [
     "DELETE FROM frames WHERE supplier = 's1'",
     "INSERT INTO placements VALUES ('v1', 's1', 'f9', 1, 'A', 1, 64)",
     "INSERT INTO signals VALUES ('v1', 's1', 'f9', 'x', 0, 1, 0)",
+    "UPDATE cluster2 SET cycles = 6",
+    "UPDATE cluster2 SET cycles = 66",
 ]
+
+# Counts of cycles that the repetition of the placements, 64, does not divide: then pages with a placement are Unavailable.
+COUNTS = (8, 32, 62)
+PLACED = ["page s1 v1", "page s2 v1"]
+
 
 def changed(path, statements):
     """A register that `sqlite3` makes and then changes, with no rule of its tables at work."""
@@ -176,6 +183,10 @@ def foreign(tried, room):
             for question, edits in ("page s1 v1", ""), ("page s1 v2", ""), ("variants", ""), ("nodes s1", "node s1 n2\n"):
                 is_refused(tried, statements, path, question, edits, fault)
             tried.equal(f"{statements}: the file stays", content(path) == before, True)
+    for count in COUNTS:
+        path = changed(room / f"counted_{count}.db", f"UPDATE cluster2 SET cycles = {count}")
+        for question in TOLD:
+            (is_refused if question in PLACED else is_answered)(tried, f"{count} cycles", path, question)
     wrong_kind(tried, room / "kind.db")
 
 

@@ -18,7 +18,9 @@ os.environ.setdefault("RT_JOBS", str(min(4, len(os.sched_getaffinity(0)))))
 # the cases that `make hostile` and `make refuse` try.
 TRIALS = {
     "the built program": ["tests/program.py"],
+    "its counts of cycles": ["tests/counts.py"],
     "its commands": ["tests/commands.py"],
+    "its registers migrated": ["tests/migrated.py"],
     "its connections": ["tests/connections.py"],
     "its connections cut": ["tests/links.py"],
     "its tutorial": ["tests/tutorial.py"],

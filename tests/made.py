@@ -2,6 +2,7 @@
 
 The rules are those of docs/FORMATS.md, written once more here; no answer is the program's own."""
 import json
+import re
 
 CYCLES = 64
 SLOTS = 1023
@@ -29,6 +30,8 @@ CLUSTER = {
     "suppliers": '{s1 = "supplier01", s2 = "supplier02"}',
 }
 
+NUMBERS = ("static_slots", "slot_macroticks", "dynamic_macroticks", "symbol_macroticks", "idle_macroticks", "macroticks_per_cycle", "payload_words")
+
 LARGE = {
     **CLUSTER,
     "static_slots": str(SLOTS),
@@ -50,6 +53,16 @@ def cluster_file(keys):
 def suppliers(count):
     """A table of so many suppliers, each with a key of its own."""
     return "{" + ", ".join(f's{n} = "supplier{n:02}"' for n in range(1, count + 1)) + "}"
+
+
+def suppliers_of(cluster):
+    """The suppliers' names with their keys."""
+    return re.findall(r'(\w+) = "(\w+)"', cluster["suppliers"])
+
+
+def cluster_numbers(cluster):
+    """Those that each schema keeps, in the order of their columns."""
+    return [int(cluster[key]) for key in NUMBERS]
 
 
 def script(cluster, pairs):

@@ -2,8 +2,8 @@
 """Answers a script from standard input as `slotplan run` does, by python3's tomllib, json, csv and sqlite3 alone: naive.py < SCRIPT
 
 It does the same work in the plainest way: the register's tables in memory, for each request what it asks by SELECT, and its
-changes by INSERT and DELETE. It was written from docs/FORMATS.md, and nothing of it is the program's own: `tests/program.py`
-compares the answers of both, and `bench/run.py` their time."""
+changes by INSERT and DELETE. It was written from docs/FORMATS.md, and nothing of it is the program's own: `tests/program.py`,
+`tests/counts.py` and `tests/migrated.py` compare the answers of both, and `bench/run.py` their time."""
 import csv
 import io
 import json
@@ -13,7 +13,7 @@ import sys
 import tomllib
 from bisect import insort
 
-CYCLES = 64
+CYCLES = 64  # where the cluster file says nothing else
 NAME = re.compile(r"[A-Za-z][A-Za-z0-9_]{0,31}", re.ASCII)
 KEY = re.compile(r"[A-Za-z0-9]{8,64}", re.ASCII)
 WHOLE = re.compile(rb"[0-9]{1,10}")
@@ -35,9 +35,12 @@ NUMBER_OF = {
     "NoFrame": 16, "NoSignal": 17, "NoPlacement": 18, "Exists": 19, "NodeDiffers": 20, "NotGranted": 21, "InUse": 22,
     "Limit": 23, "Taken": 24, "CellTaken": 25, "OutOfPayload": 26, "BitTaken": 27, "BadRow": 29, "BadKey": 30, "KeyTaken": 31,
 }
+LENGTHS = ("slot_macroticks", "dynamic_macroticks", "symbol_macroticks", "idle_macroticks", "macroticks_per_cycle")
+COUNTS = {"static_slots", "payload_words", *LENGTHS}
+KEYS = COUNTS | {"channels", "integrator", "suppliers"}
 TABLES = """
 CREATE TABLE nodes (supplier TEXT, name TEXT, PRIMARY KEY (supplier, name));
-CREATE TABLE variants (name TEXT PRIMARY KEY, depth INTEGER, released INTEGER);
+CREATE TABLE variants (name TEXT PRIMARY KEY, parent TEXT, depth INTEGER, released INTEGER);
 CREATE TABLE grants (variant TEXT, slot INTEGER, channel TEXT, supplier TEXT, node TEXT, PRIMARY KEY (variant, slot, channel));
 CREATE INDEX grants_by_supplier ON grants (variant, supplier);
 CREATE TABLE frames (variant TEXT, supplier TEXT, name TEXT, node TEXT, PRIMARY KEY (variant, supplier, name));
@@ -59,9 +62,53 @@ def see(true, name):
         raise Refused(name)
 
 
+class Fault(Exception):
+    """Why a cluster file is none; its word."""
+
+
+def must(true, word):
+    if not true:
+        raise Fault(word)
+
+
+def is_number(value):
+    return type(value) is int and 0 <= value < 1 << 32
+
+
+def read_cluster(text):
+    """What a cluster file says, its faults sought in their order."""
+    try:
+        cluster = tomllib.loads(text.decode())
+    except ValueError:
+        raise Fault("BadToml")
+    must(set(cluster) - {"cycles"} == KEYS, "BadField")
+    cluster.setdefault("cycles", CYCLES)
+    must(all(is_number(cluster[key]) for key in (*COUNTS, "cycles")), "BadField")
+    must(cluster["channels"] in ("A", "B", "AB") and isinstance(cluster["integrator"], str), "BadField")
+    suppliers = cluster["suppliers"]
+    must(isinstance(suppliers, dict) and all(isinstance(key, str) for key in suppliers.values()), "BadField")
+    check_params(cluster)
+    keys = [cluster["integrator"], *suppliers.values()]
+    must(len(suppliers) <= 64, "Limit")
+    must(all(map(NAME.fullmatch, suppliers)), "BadName")
+    must(all(map(KEY.fullmatch, keys)), "BadKey")
+    must(len(set(keys)) == len(keys), "KeyTwice")
+    return cluster
+
+
+def check_params(cluster):
+    slot, dynamic, symbol, idle, cycle = (cluster[key] for key in LENGTHS)
+    must(2 <= cluster["static_slots"] <= 1023, "BadSlots")
+    must(cluster["payload_words"] <= 127, "BadPayload")
+    must(slot > 0 and idle > 0 and cycle <= 16000, "BadMacroticks")
+    must(cluster["static_slots"] * slot + dynamic + symbol + idle == cycle, "BadSum")
+    must(8 <= cluster["cycles"] <= 64 and cluster["cycles"] % 2 == 0, "BadCycleCount")
+
+
 def read_request(text):
     try:
-        asked = json.loads(text.decode())
+        # A number with a minus sign is none, -0 neither.
+        asked = json.loads(text.decode(), parse_int=lambda digits: -1 if digits == "-0" else int(digits))
     except ValueError:
         raise Refused("BadText")
     see(isinstance(asked, dict) and isinstance(asked.get("do"), str) and asked["do"] in FIELDS, "BadText")
@@ -71,7 +118,7 @@ def read_request(text):
     see(set(asked) == set(FIELDS[do]), "BadText")
     for field, value in asked.items():
         if field in NUMBERS:
-            see(type(value) is int and 0 <= value < 1 << 32, "BadText")
+            see(is_number(value), "BadText")
         else:
             see(isinstance(value, str) or field == "from" and value is None, "BadText")
     return do, asked
@@ -86,14 +133,15 @@ def bits_of(start, length, big):
     return bits
 
 
-def first_common(one, other):
-    """The least cycle of two pairs of a base and a repetition, or None."""
-    return next((c for c in range(CYCLES) if c % one[1] == one[0] and c % other[1] == other[0]), None)
+def first_common(count, one, other):
+    """The least of so many cycles that two pairs of a base and a repetition select both, or None."""
+    return next((c for c in range(count) if c % one[1] == one[0] and c % other[1] == other[0]), None)
 
 
 class Register:
     def __init__(self, cluster):
         self.cluster = cluster
+        self.cycles = cluster["cycles"]
         self.suppliers = sorted(cluster["suppliers"])
         self.keys = {key: name for name, key in cluster["suppliers"].items()}
         self.db = sqlite3.connect(":memory:", isolation_level=None)
@@ -119,7 +167,7 @@ class Register:
 
     def check_place(self, asked):
         if "base" in asked:
-            see(asked["repetition"] in (1, 2, 4, 8, 16, 32, 64) and asked["base"] < asked["repetition"], "BadCycles")
+            see(0 < asked["repetition"] and self.cycles % asked["repetition"] == 0 and asked["base"] < asked["repetition"], "BadCycles")
         if "slot" in asked:
             see(1 <= asked["slot"] <= self.cluster["static_slots"], "BadSlot")
             channels = asked.get("channels", asked.get("channel"))
@@ -147,7 +195,7 @@ class Register:
             depth = row[0] + 1
         see(not self.one("SELECT 1 FROM variants WHERE name = ?", variant), "Exists")
         see(self.count("variants", "1") < 64, "Limit")
-        self.rows("INSERT INTO variants VALUES (?, ?, 0)", variant, depth)
+        self.rows("INSERT INTO variants VALUES (?, ?, ?, 0)", variant, parent, depth)
         if parent is not None:
             for table, columns in (
                 ("grants", "slot, channel, supplier, node"), ("frames", "supplier, name, node"),
@@ -237,7 +285,7 @@ class Register:
         others = self.rows("SELECT frame, channels, base, repetition FROM placements WHERE variant = ? AND supplier = ? AND slot = ?", variant, supplier, slot)
         taken = []
         for other, on, *cycles in others:
-            cycle = first_common((base, repetition), cycles)
+            cycle = first_common(self.cycles, (base, repetition), cycles)
             if cycle is not None:
                 taken += [(cycle, channel, other) for channel in channels if channel in on]
         if taken:
@@ -373,17 +421,17 @@ class Register:
                 "SELECT p.frame, f.node, p.slot, p.channels, p.base, p.repetition FROM placements p JOIN frames f"
                 " ON f.variant = p.variant AND f.supplier = p.supplier AND f.name = p.frame WHERE p.variant = ? AND p.supplier = ?", variant, supplier)
             for frame, node, slot, channels, base, repetition in placed:
-                lines += [(cycle, slot, channel, f"{frame} {node}{end}") for cycle in range(base, CYCLES, repetition) for channel in channels]
+                lines += [(cycle, slot, channel, f"{frame} {node}{end}") for cycle in range(base, self.cycles, repetition) for channel in channels]
         return [f"{cycle:02} {slot:04} {channel} {rest}" for cycle, slot, channel, rest in sorted(lines)]
 
     def gaps(self, actor, variant):
-        ring = CYCLES * self.cluster["macroticks_per_cycle"]
+        ring = self.cycles * self.cluster["macroticks_per_cycle"]
         for supplier, end in self.of(actor):
             for frame, in self.rows("SELECT name FROM frames WHERE variant = ? AND supplier = ? ORDER BY name", variant, supplier):
                 moments = sorted({
                     cycle * self.cluster["macroticks_per_cycle"] + (slot - 1) * self.cluster["slot_macroticks"]
                     for slot, _, base, repetition in self.placements(variant, supplier, frame)
-                    for cycle in range(base, CYCLES, repetition)
+                    for cycle in range(base, self.cycles, repetition)
                 })
                 gap = max((after - moment for moment, after in zip(moments, moments[1:] + [moments[0] + ring])), default="never") if moments else "never"
                 yield f"GAP {gap:>7} {frame}{end}"
@@ -416,6 +464,14 @@ class Register:
         getattr(self, do)(actor, asked)
         return {"ok": "done"}
 
+    def told(self, line):
+        """The text of its answer."""
+        try:
+            answer = self.answer(line)
+        except Refused as refused:
+            answer = refused.answer
+        return json.dumps(answer, separators=(",", ":"), sort_keys=True)
+
 
 FIELDS_OF_ROW = {
     "placements": ("frame", "node", "slot", "channels", "base", "repetition"),
@@ -423,16 +479,21 @@ FIELDS_OF_ROW = {
 }
 
 
-def main():
-    lines = [line.removesuffix(b"\r") for line in sys.stdin.buffer.read().split(b"\n")]
+def register_of(script):
+    """A register of the script's cluster file, and the lines that it is asked."""
+    lines = [line.removesuffix(b"\r") for line in script.split(b"\n")]
+    must(b"---" in lines, "NoSeparator")
     end = lines.index(b"---")
-    register = Register(tomllib.loads(b"\n".join(lines[:end]).decode()))
-    for line in filter(None, lines[end + 1:]):
-        try:
-            answer = register.answer(line)
-        except Refused as refused:
-            answer = refused.answer
-        sys.stdout.write(json.dumps(answer, separators=(",", ":"), sort_keys=True) + "\n")
+    return Register(read_cluster(b"\n".join(lines[:end]))), list(filter(None, lines[end + 1:]))
+
+
+def main():
+    try:
+        register, lines = register_of(sys.stdin.buffer.read())
+    except Fault as fault:
+        sys.exit(f"slotplan: {fault}")
+    for line in lines:
+        sys.stdout.write(register.told(line) + "\n")
 
 
 if __name__ == "__main__":

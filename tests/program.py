@@ -33,6 +33,7 @@ Usage: slotplan <COMMAND>
 Commands:
   run       Answers a script on standard input, over a register in memory
   create    Makes a register file of a cluster file
+  migrate   Brings a register file of schema 1 to schema 2, with all that it holds
   serve     Serves a register file over HTTP
   schedule  Prints a variant's schedule: what is sent in which cycle, slot and channel
   gaps      Prints the greatest gap between two sendings of each frame of a variant, in macroticks
@@ -153,7 +154,8 @@ def by_fault():
     yield from (("BadField", {key: value}) for key in list(CLUSTER)[1:8] for value in ('"4"', "4.0", "true", "-4", "4294967296"))
     yield from (("BadField", dict(channels=value)) for value in ('"BA"', '"a"', '""', "1", '["A"]'))
     yield from (("BadField", dict(suppliers=value)) for value in ('"s1"', "[]", "{s1 = 1}", "{s1 = {key = 1}}", '{s1 = ["supplier01"]}'))
-    yield from (("BadField", changes) for changes in (dict(integrator="1"), dict(cycles="64"), dict(static_slots="1", payload_words="-1")))
+    yield from (("BadField", dict(cycles=value)) for value in ('"64"', "64.0", "true", "-8", "4294967296"))
+    yield from (("BadField", changes) for changes in (dict(integrator="1"), dict(cycle="64"), dict(static_slots="1", payload_words="-1")))
 
     yield from (("BadToml", dict(payload_words=value)) for value in ("99999999999999999999", "", "'1", "1\npayload_words = 1"))
     yield from (("BadSlots", dict(static_slots=value, payload_words="128")) for value in ("0", "1", "1024", "4294967295"))
@@ -166,6 +168,8 @@ def by_fault():
     yield "BadSum", dict(macroticks_per_cycle="99")
     yield "BadSum", dict(slot_macroticks="1073741824", dynamic_macroticks="80")
     yield "BadSum", dict(dynamic_macroticks="4294967295", symbol_macroticks="51")
+    yield "BadSum", dict(macroticks_per_cycle="101", cycles="7")
+    yield from (("BadCycleCount", dict(cycles=value, suppliers=suppliers(65))) for value in ("0", "6", "7", "9", "63", "65", "66", "4294967295"))
 
     yield "Limit", dict(suppliers=suppliers(65))
     yield "Limit", dict(suppliers=suppliers(64)[:-1] + ', 1s = ""}')
@@ -183,6 +187,7 @@ def without_fault():
     yield dict(dynamic_macroticks="15940", macroticks_per_cycle="16000")
     yield from (dict(payload_words=value) for value in ("0", "127", "0x1", "+1", "1_2"))
     yield from (dict(channels=value) for value in ("'A'", '"B"', '"AB"'))
+    yield from (dict(cycles=value) for value in ("8", "10", "62", "64"))
     yield from (dict(suppliers=value) for value in ("{}", suppliers(64), f'{{{"s" * 32} = "{"k" * 64}", S_1 = "8letters"}}'))
 
 
@@ -333,13 +338,14 @@ def differences(program, case):
     return [*ended, *difference("standard output", case.written, written), *difference("standard error", case.said, said)]
 
 
-def main(programs):
+def tried(programs, *parts):
+    """Tries each program in each case of these parts; says what is wrong, counts, and gives the status with which to end."""
     passed = failed = 0
     there = [program for program in programs if os.access(program, os.X_OK)]
     for program in set(programs) - set(there):
         failed += 1
         print(f"{program} is not there")
-    for part in files, made_scripts, another_registers, words, cluster_files, separators, lines, texts, import_files, sizes, streams:
+    for part in parts:
         for case, program in product(part(), there):
             wrong = differences(program, case)
             passed, failed = passed + (not wrong), failed + bool(wrong)
@@ -352,4 +358,4 @@ def main(programs):
 if __name__ == "__main__":
     if len(sys.argv) < 2:
         sys.exit(__doc__)
-    sys.exit(main(sys.argv[1:]))
+    sys.exit(tried(sys.argv[1:], files, made_scripts, another_registers, words, cluster_files, separators, lines, texts, import_files, sizes, streams))

@@ -2,8 +2,8 @@
 """Refuses memory to the built program: refused.py [--step N] [--only WORD] PROGRAM..
 
 A small library that cc makes, loaded before the C library, refuses one allocation of a run: the first, the second, .. until none
-is refused. So it is done with scripts, with one request of each kind that a server gets, and with the commands that open or make
-a register's file.
+is refused. So it is done with scripts, with one request of each kind that a server gets, and with the commands that open, make or
+migrate a register's file.
 
 A script's run answers Unavailable where that request found no memory, but never in place of a refusal by its text, and each other
 line as the register without that request does; or it ends with NoMemory after whole and right lines, or with Unavailable and
@@ -28,6 +28,8 @@ from pathlib import Path
 
 import commands
 import preload
+import schema1
+import stops
 from commands import CLUSTER, DONE, UNKNOWN, command, counted, engine, free_port, head, post, refused, see, sent, text
 from preload import Refuser, calls_from, folder_in_memory, with_more
 
@@ -272,6 +274,27 @@ def perform_each(registers, refuser, calls, words, right, makes):
             look_made(registers, ended)
 
 
+def migrate_each(registers, refuser, calls):
+    """Refuses the allocations of a migration: whatever it ends with, the register has its rows, in schema 1 or in schema 2."""
+    old = schema1.filled(registers.folder.parent / "old.db", stops.BOOKS[stops.ALL])
+    before = rows_in(old)
+    done, lacks, fails = (0, b"", b""), (1, b"", NO_MEMORY), (1, b"", NOT_MADE)
+    may_be = (done, 2), (lacks, 1), (lacks, 2), (fails, 1)
+    failed = 0
+    for tried, call in enumerate(calls):
+        registers.anew()
+        shutil.copy(old, registers.folder / "car.db")
+        ended = registers.ended(stops.MIGRATE, refuser.refusing(call))
+        got = ended, stops.schema_in(registers.folder)
+        see(f"migrate, allocation {call} refused", True, got in may_be or got)
+        see(f"migrate, allocation {call} refused: the rows", before, rows_in(registers.folder / "car.db"))
+        if not refuser.has_acted():
+            see("migrate is refused memory", (True, done), (tried > 0, ended))
+            print(f"migrate: {tried} allocations refused, {failed} runs ended for want of one", flush=True)
+            return
+        failed += ended != done
+
+
 def look_made(registers, ended):
     """A file that was to be made is the register without rows, or none of ours."""
     if ended[0] == 0:
@@ -298,6 +321,8 @@ def refuse_each(program, room, step, turn, only):
     for words, right, makes in COMMANDS:
         if only in words[0]:
             perform_each(registers, refuser, calls(), words, right, makes)
+    if only in "migrate":
+        migrate_each(registers, refuser, calls())
 
 
 def main():

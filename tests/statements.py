@@ -15,7 +15,9 @@ from overlays import queried
 TOP = Path(__file__).resolve().parent.parent
 SOURCES = [TOP / "crates" / crate / "src" for crate in ("fr_tables", "fr_store")]
 
-READ_WHOLE = {"register", "cluster", "suppliers", "variants"}
+READ_WHOLE = {"register", "cluster", "cluster2", "suppliers", "variants"}
+# Registers of an earlier schema have its row; now none is added.
+LEFT_EMPTY = {"cluster"}
 # `asked` in asking.rt is given its text by its callers.
 PASSED_ON = [("asking.rt", "sql")]
 
@@ -92,7 +94,7 @@ def wanted(statement):
     _, where, test = statement.partition(" WHERE ")
     if where:
         return [(table, *sorted(re.findall(r"(\w+) = \?\d", test)))]
-    if statement.startswith("INSERT") and " SELECT " not in statement:
+    if statement.startswith("INSERT") and " SELECT " not in statement or statement.startswith("DELETE") and table in LEFT_EMPTY:
         return []
     return [f"reads {table} whole" if table in READ_WHOLE else f"seeks rows of {table}"]
 
@@ -123,7 +125,7 @@ def main():
         conn.execute(statement)
     tables = [table for table, in conn.execute("SELECT name FROM sqlite_schema WHERE type = 'table' ORDER BY rowid")]
     added = {table_of(text) for _, text in carried_out if text.startswith("INSERT")}
-    tried.equal("the tables that rows are added to", added, set(tables))
+    tried.equal("the tables that rows are added to", added, set(tables) - LEFT_EMPTY)
 
     with_it = {table: [] for table in tables}
     for parent, statement in cascades(conn, tables):

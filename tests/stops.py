@@ -3,9 +3,10 @@
 
 A small library that cc makes, loaded before the C library, ends the program in place of the Nth call that writes, syncs, cuts
 or renames a file, or half-way through it, or lets it fail with EIO or ENOSPC, or has it write a part; N is 1, 2, .. until
-nothing is left to stop. So it is done with a register that is made, one that is opened, with an import, and with requests to a
-server, of which each is asked once more where it is answered Unavailable. Every request that was answered otherwise is then in
-the file, and the one that was under way is there whole or not at all; the program and the SQLite of python3 read the same.
+nothing is left to stop. So it is done with a register that is made, one that is opened, one that is migrated, with an import, and
+with requests to a server, of which each is asked once more where it is answered Unavailable. Every request that was answered otherwise
+is then in the file, and the one that was under way is there whole or not at all; the program and the SQLite of python3 read the same.
+A register whose migration was stopped is of schema 1 or of schema 2, with the same rows, and of schema 1 it can be migrated.
 Further a disk is full, on a small file system where root can mount one, and another process holds the file.
 
 The rows that are wanted were typed by hand from docs/FORMATS.md. With --step N only every Nth call is stopped, others in each
@@ -22,7 +23,9 @@ from pathlib import Path
 from typing import NamedTuple
 
 import preload
+import schema1
 from commands import CLUSTER, DONE, command, counted, free_port, head, json, post, refused, see, text
+from made import CLUSTER as KEYS
 from preload import Stopper, calls_from, folder_in_memory, with_more
 
 SECONDS = 10
@@ -147,6 +150,21 @@ def count_in(files):
     return "not sound" if wrong else BOOKS.index(rows) if rows in BOOKS else rows
 
 
+# The rows of `register`, `cluster` and `cluster2`, the last of which schema 1 has not.
+HEADS = {
+    1: ([(1, 1)], [schema1.cluster_row(KEYS)], None),
+    2: ([(1, 2)], [], [(*schema1.cluster_row(KEYS), 64)]),
+}
+
+
+def schema_in(files):
+    """The schema by those rows, in a copy of the files, or the rows."""
+    with folder_in_memory() as room, closing(sqlite3.connect(copied(files, Path(room)) / "car.db")) as file:
+        there = {name for (name,) in file.execute("SELECT name FROM sqlite_schema")}
+        heads = tuple(file.execute(f"SELECT * FROM {table}").fetchall() if table in there else None for table in ("register", "cluster", "cluster2"))
+    return next((schema for schema, rows in HEADS.items() if rows == heads), heads)
+
+
 def performed(program, words, files, more=None):
     """How a command ends: its status, what it writes, and what it says."""
     try:
@@ -251,6 +269,12 @@ def reading(program, files, more):
     return ended, {PLACED}
 
 
+def migrating(program, files, more):
+    """A register of schema 1 with every request is migrated. After a stop it is of schema 1 or 2; then it is migrated once more."""
+    ended = performed(program, MIGRATE, files, more)
+    return ended, {ALL}
+
+
 def importing(program, files, more):
     """A file is imported into a register with five requests."""
     ended = performed(program, ["import", "car.db", "supplier01", "v1", "a", "signals.csv"], files, more)
@@ -266,16 +290,21 @@ def serving(program, files, more):
 
 late = dict.fromkeys(WAYS, 0)
 
+MIGRATE = ["migrate", "car.db"]
+WRONG_SCHEMA = (1, b"", b"slotplan: WrongSchema\n")
+
 # How each command may end where a call failed: well, or with a word. A server ends well, whatever failed behind its start.
 WORD = (1, b"", b"slotplan: Unavailable\n")
 WELL = {
     making: [(0, b"", b"")],
     reading: [(0, b"00 0001 A f1 n1 s1\n", b"")],
+    migrating: [(0, b"", b"")],
     importing: [(0, b'{"ok":"imported","rows":1}\n', b"")],
     serving: [(0, b"")],
 }
 FAILED = {
     making: [WORD],
+    migrating: [WORD],
     reading: [WORD, (1, b"", refused(28, "Unavailable") + b"\n")],
     importing: [WORD, (1, b"", refused(28, "Unavailable") + b"\n")],
     serving: [(1, b"slotplan: Unavailable\n")],
@@ -298,6 +327,8 @@ def stop_each(program, part, base, stopper, way, calls, room):
             see(f"{what}, behind the last", [True, True], [ended in WELL[part] or ended, counts in ({0}, {PLACED}, {PLACED + 1}, {ALL}) or counts])
             return stopped
         see(f"{what}: the end", True, ended in may_end(part, way) or ended)
+        if part is migrating:
+            migrated_again(what, program, files, ended)
         found = looked_at(what, program, files, counts)
         if part is making and found in counts:
             again = (0, b"", b"") if found == NOTHING else (1, b"", b"slotplan: NotEmpty\n")
@@ -305,14 +336,27 @@ def stop_each(program, part, base, stopper, way, calls, room):
             looked_at(f"{what}: made again", program, files, {0})
 
 
+def migrated_again(what, program, files, ended):
+    """After a migration that ended so the register is of one schema, whole. Of schema 1 it is told so, and can be migrated."""
+    schema = schema_in(files)
+    see(f"{what}: the schema", True, schema == 2 or (schema == 1 and ended[0] != 0) or schema)
+    see(f"{what}: its rows", ALL, count_in(files))
+    if schema == 1:
+        see(f"{what}: the schedule before it is migrated", WRONG_SCHEMA, performed(program, ["schedule", "car.db", "v1"], files))
+    see(f"{what}: migrated again", (0, b"", b"") if schema == 1 else WRONG_SCHEMA, performed(program, MIGRATE, files))
+    see(f"{what}: the schema then", 2, schema_in(files))
+
+
 def bases(program, room):
-    """What each part begins with: no file, a new register, one with five requests in its file alone, and one with some of them in its log."""
-    none, new, placed, logged = (room / name for name in ("none", "new", "placed", "logged"))
-    for folder in none, new, room / "run":
+    """What each part begins with: no file, a new register, one of schema 1, one with five requests in its file alone, and one with some
+    of them in its log."""
+    none, new, old, placed, logged = (room / name for name in ("none", "new", "old", "placed", "logged"))
+    for folder in none, new, old, room / "run":
         folder.mkdir()
         (folder / "cluster.toml").write_bytes(CLUSTER)
     (room / "run" / "signals.csv").write_bytes(BODY)
     see("a register is made", (0, b"", b""), performed(program, ["create", "car.db", "cluster.toml"], new))
+    schema1.filled(old / "car.db", BOOKS[ALL])
     copied(new, placed)
     copied(new, logged)
     with server_of(program, placed, PLACED) as (server, port), server_of(program, logged, PLACED + 1) as (other, its):
@@ -320,7 +364,7 @@ def bases(program, room):
             see("the base", [request.right] * 2, [replied(port, request.data), replied(its, request.data)])
         see("the base is closed", 0, server.wait(SECONDS))
     see("what the log has of the file that was closed, and of the one that was not", [False, True], [has_frames(folder) for folder in (placed, logged)])
-    return {making: none, reading: logged, importing: placed, serving: new}
+    return {making: none, reading: logged, migrating: old, importing: placed, serving: new}
 
 
 def stops(program, room, step, turn):
@@ -394,6 +438,7 @@ def full_disk(program, room, base):
             print("no file system may be mounted: a disk that is full in earnest is left out", flush=True)
             return
         copied(base, disk)
+        schema1.filled(disk / "old.db", BOOKS[ALL], pragmas=("page_size = 512",))
         ballast = disk / "ballast"
         ballast.write_bytes(b"x" * BALLAST)
         filled(program, disk, ballast.unlink)
@@ -413,12 +458,15 @@ def performed_when_full(program, disk, ballast):
     signals = str(disk.parent / "run" / "signals.csv")
     cluster = str(disk.parent / "run" / "cluster.toml")
     see("a register on a full disk", WORD, performed(program, ["create", "new.db", cluster], disk))
+    see("a migration on a full disk", WORD, performed(program, ["migrate", "old.db"], disk))
     ended = performed(program, ["import", "car.db", "supplier01", "v1", "b", signals], disk)
     see("an import on a full disk", True, ended in [WORD, *FAILED[importing]] or ended)
     ballast.unlink()
     see("the register is as it was", before, frames_in(disk))
     see("the import once there is room", WELL[importing][0], performed(program, ["import", "car.db", "supplier01", "v1", "b", signals], disk))
     see("the register once there is room", (0, b"", b""), performed(program, ["create", "new.db", cluster], disk))
+    see("the migration once there is room", (0, b"", b""), performed(program, ["migrate", "old.db"], disk))
+    see("the schedule then", ended_after(ALL), performed(program, ["schedule", "old.db", "v1"], disk))
 
 
 def full_by_library(program, room, base):
@@ -438,6 +486,7 @@ def held(program, room, base):
         ["import", "car.db", "supplier01", "v1", "a", "signals.csv"],
         ["serve", "car.db", "1024"],
         ["create", "car.db", "cluster.toml"],
+        MIGRATE,
     ]
     with closing(sqlite3.connect(files / "car.db", isolation_level=None)) as other:
         other.execute("PRAGMA locking_mode = EXCLUSIVE")

@@ -18,7 +18,8 @@ import tempfile
 from contextlib import closing
 from pathlib import Path
 
-from made import CLUSTER, LARGE, cluster_file, suppliers
+import schema1
+from made import CLUSTER, LARGE, cluster_file, cluster_numbers, suppliers, suppliers_of
 
 TOP = Path(__file__).resolve().parent.parent
 SECONDS = 120
@@ -103,6 +104,7 @@ fn read(rt: &HostRuntime) -> Result<Vec<u8>, Error> {
 
 fn print(rt: &HostRuntime, config: &Config) -> Result<(), Error> {
     let params = config.params();
+    println!(rt; "cycles = {}", params.cycles())?;
     println!(rt; "channels = \"{}\"", params.channels().as_str())?;
     println!(rt; "static_slots = {}", params.static_slots())?;
     println!(rt; "slot_macroticks = {}", params.slot_macroticks())?;
@@ -133,7 +135,12 @@ PLANNED = {
 
 # What no register is to take, since its tables' rules forbid it.
 FORBIDDEN = [
-    "INSERT INTO register (id, schema) VALUES (2, 1)",
+    "INSERT INTO register (id, schema) VALUES (2, 2)",
+    "INSERT INTO cluster2 SELECT 2, static_slots, slot_macroticks, dynamic_macroticks, symbol_macroticks, idle_macroticks,"
+    " macroticks_per_cycle, payload_words, channels, integrator, cycles FROM cluster2",
+    "UPDATE cluster2 SET cycles = 7",
+    "UPDATE cluster2 SET cycles = 65",
+    "UPDATE cluster2 SET cycles = NULL",
     "INSERT INTO suppliers VALUES ('s3', 'supplier01')",
     "INSERT INTO nodes VALUES ('s3', 'n1')",
     "INSERT INTO variants VALUES ('v3', NULL, 17, 0, 0)",
@@ -168,18 +175,13 @@ class Tried:
 
 
 def printed(cluster):
-    """The cluster file as the program prints it: a line for each key, then one for each supplier."""
-    lines = cluster_file({key: value for key, value in cluster.items() if key != "suppliers"})
+    """The cluster file as the program prints it: a line for each key, `cycles` first, then one for each supplier."""
+    lines = cluster_file({key: value for key, value in ({"cycles": "64"} | cluster).items() if key != "suppliers"})
     return lines + "".join(f'{name} = "{key}"\n' for name, key in sorted(suppliers_of(cluster)))
 
 
-def suppliers_of(cluster):
-    return re.findall(r'(\w+) = "(\w+)"', cluster["suppliers"])
-
-
 def cluster_row(cluster):
-    numbers = ["static_slots", "slot_macroticks", "dynamic_macroticks", "symbol_macroticks", "idle_macroticks", "macroticks_per_cycle", "payload_words"]
-    return (1, *(int(cluster[key]) for key in numbers), cluster["channels"].strip('"'), cluster["integrator"].strip('"'))
+    return (1, *cluster_numbers(cluster), cluster["channels"].strip('"'), cluster["integrator"].strip('"'), int(cluster.get("cycles", "64")))
 
 
 def plain(statement):
@@ -203,7 +205,7 @@ def connected(path):
     return conn
 
 
-def filled(path, cluster=CLUSTER, schema=1, pragmas=(), more=()):
+def filled(path, cluster=CLUSTER, schema=2, pragmas=(), more=()):
     """A register that `sqlite3` makes of the cluster, its suppliers in falling order; then these statements."""
     with closing(connected(path)) as conn:
         for pragma in pragmas:
@@ -211,7 +213,7 @@ def filled(path, cluster=CLUSTER, schema=1, pragmas=(), more=()):
         for statement in statements():
             conn.execute(statement)
         conn.execute("INSERT INTO register (schema) VALUES (?)", (schema,))
-        conn.execute(f"INSERT INTO cluster VALUES ({','.join('?' * 10)})", cluster_row(cluster))
+        conn.execute(f"INSERT INTO cluster2 VALUES ({','.join('?' * 11)})", cluster_row(cluster))
         conn.executemany("INSERT INTO suppliers VALUES (?, ?)", sorted(suppliers_of(cluster), reverse=True))
         for statement in more:
             conn.execute(statement)
@@ -232,7 +234,7 @@ def rows(conn):
 
 def of_cluster(cluster):
     """The rows of a new register."""
-    return {table: [] for table in tables()} | {"register": [(1, 1)], "cluster": [cluster_row(cluster)], "suppliers": sorted(suppliers_of(cluster))}
+    return {table: [] for table in tables()} | {"register": [(1, 2)], "cluster2": [cluster_row(cluster)], "suppliers": sorted(suppliers_of(cluster))}
 
 
 def look(tried, name, path, wanted):
@@ -273,6 +275,7 @@ def made_here(tried, room):
     """What the program makes, `sqlite3` reads; both where the files were closed and where they were left."""
     other = {**LARGE, "channels": '"B"', "suppliers": suppliers(64)}
     clusters = {"two suppliers": CLUSTER, "64 suppliers": other, "no supplier": {**CLUSTER, "suppliers": "{}"}}
+    clusters |= {f"{count} cycles": {**CLUSTER, "cycles": count} for count in ("8", "10", "62", "64")}
     for number, (kind, cluster) in enumerate(clusters.items()):
         for end in "close", "leave":
             name, path = f"{kind}, {end}", room / f"made_{number}_{end}.db"
@@ -292,7 +295,7 @@ def made_there(tried, room):
     large = {**LARGE, "channels": '"A"', "suppliers": suppliers(64)}
     long = {**CLUSTER, "suppliers": f'{{{"s" * 32} = "{"k" * 64}", S_1 = "8letters"}}'}
     pages = [("page_size = 512",), ("page_size = 65536",), ("journal_mode = WAL",), ("journal_mode = TRUNCATE", "user_version = 7")]
-    cases = [(CLUSTER, ()), (large, ()), (long, ()), *((CLUSTER, pragmas) for pragmas in pages)]
+    cases = [(CLUSTER, ()), (large, ()), (long, ()), *((CLUSTER, pragmas) for pragmas in pages), *(({**CLUSTER, "cycles": count}, ()) for count in ("8", "12", "62"))]
     for number, (cluster, pragmas) in enumerate(cases):
         name, path = f"made by sqlite3, {number} {pragmas}", filled(room / f"there_{number}.db", cluster, pragmas=pragmas)
         tried.says(name, printed(cluster), "open", path)
@@ -303,15 +306,17 @@ def made_there(tried, room):
 def no_cluster(tried, room):
     """Registers by their number and schema, whose rows make no cluster."""
     wrong = [
-        "DELETE FROM cluster",
-        "UPDATE cluster SET channels = 'BA'",
-        "UPDATE cluster SET static_slots = 1",
-        "UPDATE cluster SET static_slots = -4",
-        "UPDATE cluster SET static_slots = 4294967300",
-        "UPDATE cluster SET payload_words = 128",
-        "UPDATE cluster SET idle_macroticks = 11",
-        "UPDATE cluster SET integrator = 'short07'",
-        "UPDATE cluster SET integrator = 'supplier01'",
+        "DELETE FROM cluster2",
+        "UPDATE cluster2 SET channels = 'BA'",
+        "UPDATE cluster2 SET static_slots = 1",
+        "UPDATE cluster2 SET static_slots = -4",
+        "UPDATE cluster2 SET static_slots = 4294967300",
+        "UPDATE cluster2 SET payload_words = 128",
+        "UPDATE cluster2 SET idle_macroticks = 11",
+        "UPDATE cluster2 SET cycles = 9",
+        "UPDATE cluster2 SET cycles = 63",
+        "UPDATE cluster2 SET integrator = 'short07'",
+        "UPDATE cluster2 SET integrator = 'supplier01'",
         "UPDATE suppliers SET name = '1s' WHERE name = 's1'",
         "UPDATE suppliers SET key = 'supplier_1' WHERE name = 's1'",
         "INSERT INTO suppliers SELECT 't' || value, 'keyof' || (100 + value) FROM (" + " UNION ALL ".join(f"SELECT {n} AS value" for n in range(63)) + ")",
@@ -322,17 +327,25 @@ def no_cluster(tried, room):
 
 def other_schemas(tried, room):
     """Registers by their number alone."""
-    more = ["CREATE TABLE other (x INTEGER) STRICT", "CREATE INDEX other ON nodes (name)", "CREATE VIEW other AS SELECT name FROM nodes", "DROP INDEX grants_by_supplier", "DROP TABLE dropped"]
+    more = ["CREATE TABLE other (x INTEGER) STRICT", "CREATE INDEX other ON nodes (name)", "CREATE VIEW other AS SELECT name FROM nodes", "DROP INDEX grants_by_supplier", "DROP TABLE dropped", "DROP TABLE cluster2"]
     for number, statement in enumerate(more):
         tried.says(statement, "Unavailable\n", "open", filled(room / f"schema_{number}.db", more=[statement]))
-    alone = made_by(room / "alone.db", statements()[0], "INSERT INTO register VALUES (1, 1)")
+    alone = made_by(room / "alone.db", statements()[0], "INSERT INTO register VALUES (1, 2)")
     tried.says("the table register alone", "Unavailable\n", "open", alone)
+    older = schema1.filled(room / "older.db", {}, more=["UPDATE register SET schema = 2"])
+    tried.says("the tables of schema 1", "Unavailable\n", "open", older)
 
 
 def not_opened(tried, room):
-    for schema in 0, 2, 7, -1:
+    for schema in 0, 1, 3, 7, -1:
         tried.says(f"schema {schema}", "WrongSchema\n", "open", filled(room / f"number_{schema}.db", schema=schema))
-    tried.says("schema 2, no other table", "WrongSchema\n", "open", made_by(room / "two.db", statements()[0], "INSERT INTO register VALUES (1, 2)"))
+    for schema in 1, 3:
+        alone = made_by(room / f"alone_{schema}.db", statements()[0], f"INSERT INTO register VALUES (1, {schema})")
+        tried.says(f"schema {schema}, no other table", "WrongSchema\n", "open", alone)
+    older = schema1.filled(room / "older.db", PLANNED)
+    before = older.read_bytes()
+    tried.says("a register of schema 1", "WrongSchema\n", "open", older)
+    tried.equal("a register of schema 1: its bytes", older.read_bytes(), before)
 
     none = {"no file": None, "an empty file": b"", "a hundred bytes x": b"x" * 100, "two pages of zeros": bytes(8192)}
     for number, (name, content) in enumerate(none.items()):
@@ -357,7 +370,8 @@ def not_opened(tried, room):
 
 def not_made(tried, room):
     given = cluster_file(CLUSTER)
-    there = {"a register": filled(room / "there.db"), "a table Nodes": made_by(room / "nodes.db", "CREATE TABLE Nodes (x INTEGER)")}
+    there = {"a register": filled(room / "there.db"), "a register of schema 1": schema1.filled(room / "older.db", PLANNED), "a table Nodes": made_by(room / "nodes.db", "CREATE TABLE Nodes (x INTEGER)")}
+    there["a table CLUSTER2"] = made_by(room / "cluster2.db", "CREATE TABLE CLUSTER2 (x INTEGER)")
     for name, path in there.items():
         before = path.read_bytes()
         tried.says(f"make: {name}", "NotEmpty\n", "make", path, given)

@@ -44,6 +44,9 @@ use std::io::Read;
 
 type Register = Store<FileStore<FileFrom<Unknown>>>;
 
+/// How many cycles the clusters have in which frames are placed here.
+const CYCLES: u32 = 48;
+
 /// The first word is `make`, `open` or `nothing`, the second the file's path. Standard input has the cluster file,
 /// the edits, and what is asked: three parts, with a line `---` between them. An empty line stands between two
 /// batches of edits.
@@ -148,7 +151,7 @@ fn channel(fields: &[&str], at: usize) -> Result<Channel, Error> {
 }
 
 fn placement(fields: &[&str]) -> Result<Placement, Error> {
-    let Ok(cycles) = CycleSet::new(number(fields, 6)?, number(fields, 7)?) else {
+    let Ok(cycles) = CycleSet::new(CYCLES, number(fields, 6)?, number(fields, 7)?) else {
         bail!("no cycles");
     };
     Ok(Placement {
@@ -414,7 +417,7 @@ fn tell_import(rt: &HostRuntime, store: &mut Register, fields: &[&str]) -> Resul
 }
 """
 
-CLUSTER = {**LARGE, "suppliers": suppliers(64)}
+CLUSTER = {**LARGE, "cycles": "48", "suppliers": suppliers(64)}
 # The bytes of an import are not read where it is kept.
 BODY = "frame,node,slot,channels,base,repetition;" * 1_000
 BATCH = 512

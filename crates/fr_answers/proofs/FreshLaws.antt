@@ -156,7 +156,7 @@ fit_spares p b (SetReleased v) fits = tt
 fit_spares p b (NewSupplier s key) fits = tt
 fit_spares p b (NewNode s n) fits = tt
 fit_spares p b (Rows s v what) fits = λ x there.
-    change_spares b s v x what (subst (λ y. FitsVariant b.nodes s y what) (same_some fits.0 x (sym fits.1.there ∙ there)) fits.2.0)
+    change_spares b s v x what (subst (λ y. FitsVariant b.nodes s y what) (same_some fits.0 x (sym fits.1.there ∙ there)) fits.2)
 fit_spares p b (KeepImport s label v body rows) fits = tt
 
 -- pages that edits leave as they are

@@ -25,6 +25,16 @@ count = record (new_rule (codes "count")) {
   parser = Some (Signed (pos 1) (pos 1000000));
 }
 
+-- how many seconds a connection lasts
+abbrev pub seconds : Rule
+seconds = record (new_rule (codes "seconds")) {
+  long = Some (codes "seconds");
+  action = Some Set;
+  value_names = 1;
+  defaults = codes "10" ∷ [];
+  parser = Some (Signed (pos 1) (pos 3600));
+}
+
 abbrev pub run : App
 run = new_app (codes "run")
 
@@ -35,7 +45,7 @@ abbrev pub migrate : App
 migrate = with_rule (new_app (codes "migrate")) (word (codes "DB"))
 
 abbrev pub serve : App
-serve = with_rule (with_rule (with_rule (new_app (codes "serve")) (word (codes "DB"))) port) count
+serve = with_rule (with_rule (with_rule (with_rule (new_app (codes "serve")) (word (codes "DB"))) port) count) seconds
 
 -- `schedule` and `gaps`
 abbrev pub report : Text → App

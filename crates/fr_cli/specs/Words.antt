@@ -15,8 +15,8 @@ abbrev pub IsJobOf : Job → Text → List Row → Type 0
 IsJobOf Run name rows = name ≡ codes "run"
 IsJobOf (Create db config) name rows = (name ≡ codes "create") × Has (codes "DB") rows db.now × Has (codes "CONFIG") rows config.now
 IsJobOf (Migrate db) name rows = (name ≡ codes "migrate") × Has (codes "DB") rows db.now
-IsJobOf (Serve db port count) name rows = (name ≡ codes "serve") × Has (codes "DB") rows db.now
-    × (1 ≤ port) × (port ≤ 65535) × (1 ≤ count) × (count ≤ 1000000)
+IsJobOf (Serve db port count seconds) name rows = (name ≡ codes "serve") × Has (codes "DB") rows db.now
+    × (1 ≤ port) × (port ≤ 65535) × (1 ≤ count) × (count ≤ 1000000) × (1 ≤ seconds) × (seconds ≤ 3600)
 IsJobOf (Schedule db variant) name rows = (name ≡ codes "schedule") × Has (codes "DB") rows db.now × Has (codes "VARIANT") rows variant.now
 IsJobOf (Gaps db variant) name rows = (name ≡ codes "gaps") × Has (codes "DB") rows db.now × Has (codes "VARIANT") rows variant.now
 IsJobOf (Import db key variant label file) name rows = (name ≡ codes "import") × Has (codes "DB") rows db.now × Has (codes "KEY") rows key.now

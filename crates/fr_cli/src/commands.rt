@@ -10,6 +10,9 @@ use std::alloc::Global;
 /// How many connections are served at most, and where no number is given.
 pub const MAX_CONNECTIONS: u32 = 1_000_000;
 
+/// How many seconds a connection may be allowed at most.
+pub const MAX_SECONDS: u32 = 3_600;
+
 /// The program's command line: a subcommand for each thing that it does.
 pub fn program<'a>(alloc: Global) -> Result<Command<'a>, Error>
     ensures { IfOk result (IsReadAs app.slotplan) }
@@ -78,7 +81,8 @@ fn serve<'a>(alloc: Global) -> Result<Command<'a>, Error>
         .after_help(SERVE_HELP)
         .arg(db(alloc))?
         .arg(port(alloc))?
-        .arg(count(alloc))?;
+        .arg(count(alloc))?
+        .arg(seconds(alloc))?;
     Ok(command)
 }
 
@@ -100,6 +104,19 @@ fn count<'a>(alloc: Global) -> Arg<'a>
         .action(ArgAction::Set)
         .default_value("1000000")
         .value_parser(value_parser!(u32).range(1..=1_000_000))
+}
+
+// How many seconds a connection lasts at most, 1 to [`MAX_SECONDS`].
+fn seconds<'a>(alloc: Global) -> Arg<'a>
+    ensures { (rule_of result ≡ app.seconds) × (result.global ≡ false) }
+{
+    Arg::new(alloc, "seconds")
+        .long("seconds")
+        .value_name("N")
+        .help("Ends a connection after so many seconds")
+        .action(ArgAction::Set)
+        .default_value("10")
+        .value_parser(value_parser!(u32).range(1..=3_600))
 }
 
 fn report<'a>(

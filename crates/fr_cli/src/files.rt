@@ -3,7 +3,7 @@ ghost use Rattle.std.specs.Prelude.{◌≡◌, ◌⊎◌, ◌≤◌, vec_len, If
 
 use crate::fault::Fault;
 use crate::input::{InputFault, ReadBounds, read_within};
-use std::fs::File;
+use std::fs::{self, File};
 use std::io::Read;
 
 /// In how many reads a file is read at most, interrupted ones included.
@@ -14,7 +14,7 @@ pub fn read_file(rt: &HostRuntime, path: &str, bytes: usize) -> Result<Vec<u8>, 
     ensures bound { IfOk result (λ text. vec_len text ≤ bytes) }
     ensures fault { IfErr result (λ fault. (fault ≡ Fault.CannotOpen) ⊎ (fault ≡ Fault.NoMemory)) }
 {
-    let mut file = File::open(rt, path).map_err(|_| Fault::CannotOpen)?;
+    let mut file = open(rt, path)?;
     read_whole(rt, &mut file, bytes)
 }
 
@@ -23,8 +23,18 @@ pub fn read_front(rt: &HostRuntime, path: &str, bytes: usize) -> Result<Vec<u8>,
     ensures bound { IfOk result (λ text. vec_len text ≤ bytes) }
     ensures fault { IfErr result (λ fault. (fault ≡ Fault.CannotOpen) ⊎ (fault ≡ Fault.NoMemory)) }
 {
-    let file = File::open(rt, path).map_err(|_| Fault::CannotOpen)?;
+    let file = open(rt, path)?;
     read_whole(rt, &mut file.take(bytes as u64), bytes)
+}
+
+// Opens a file. A folder or a pipe is none: the end of a pipe may never come.
+fn open(rt: &HostRuntime, path: &str) -> Result<File, Fault>
+    ensures { IfErr result (λ fault. fault ≡ Fault.CannotOpen) }
+{
+    match fs::metadata(rt, path) {
+        Ok(found) if found.is_file() => File::open(rt, path).map_err(|_| Fault::CannotOpen),
+        _ => Err(Fault::CannotOpen),
+    }
 }
 
 // Reads a reader to its end, within bounds.

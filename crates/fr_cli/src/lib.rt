@@ -16,6 +16,7 @@ mod printing;
 mod script;
 mod script_fault;
 mod serving;
+mod timed_stream;
 mod words;
 
 pub use script::run_script;

@@ -20,7 +20,7 @@ use crate::fault::Fault;
 use crate::files::read_front;
 use crate::printing::{end, print, print_all, tell};
 use crate::script::run_script;
-use crate::serving::serve;
+use crate::serving::{Service, serve};
 use crate::words::{Job, WordFault};
 use fr_desks::FileDesk;
 use fr_http::Output;
@@ -54,14 +54,26 @@ pub fn perform<R: Read, O: Write, E: Write>(
         × IsTold done (O.contents out.old) (O.contents out.new) (E.contents err.old) (E.contents err.new) result }
     ensures import { (db key variant label file : Bor (List ℕ)) → job.now ≡ Job.Import db key variant label file → (done : Result (Vec ℕ) Ended) × Says IsNotImported line_of done
         × IsTold done (O.contents out.old) (O.contents out.new) (E.contents err.old) (E.contents err.new) result }
-    ensures serve { (db : Bor (List ℕ)) (port count : ℕ) → job.now ≡ Job.Serve db port count → AppendsFront (O.contents out.old) (O.contents out.new) (listening port) }
+    ensures serve { (db : Bor (List ℕ)) (port count seconds : ℕ) → job.now ≡ Job.Serve db port count seconds → AppendsFront (O.contents out.old) (O.contents out.new) (listening port) }
 {
     let mut err = Output::new(err);
     match *job {
         Job::Run => end_script(rt.alloc(), input, out, &mut err),
         Job::Create { db, config } => end(create(rt, db, config), &mut err),
         Job::Migrate { db } => end(migrate_file(rt, db), &mut err),
-        Job::Serve { db, port, count } => end(serve(rt, db, port, count, out, &mut err), &mut err),
+        Job::Serve {
+            db,
+            port,
+            count,
+            seconds,
+        } => {
+            let service = Service {
+                port,
+                count,
+                seconds,
+            };
+            end(serve(rt, db, service, out, &mut err), &mut err)
+        }
         Job::Schedule { db, variant } => {
             tell(
                 report_file(rt, db, Report::Schedule, variant),

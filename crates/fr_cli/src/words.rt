@@ -4,7 +4,7 @@ ghost use Rattle.clap.specs.Walk.{Row, Text, rows_of};
 ghost use Rattle.clap.specs.Words.{found_of, subcommand_rows_of};
 ghost use Rattle.fr_cli.specs.Words.{AskFor, Has, IsJobOf};
 
-use crate::commands::{MAX_CONNECTIONS, program};
+use crate::commands::{MAX_CONNECTIONS, MAX_SECONDS, program};
 use clap::error::ErrorKind;
 use clap::{ArgMatches, Error};
 use std::alloc::Global;
@@ -23,11 +23,13 @@ pub enum Job<'a> {
     Migrate {
         db: &'a str,
     },
-    /// Serve a register file on this port, 1 to 65,535, for so many connections, 1 to 1,000,000.
+    /// Serve a register file on this port, 1 to 65,535, for so many connections, 1 to 1,000,000, each of
+    /// which lasts so many seconds at most, 1 to 3,600.
     Serve {
         db: &'a str,
         port: u16,
         count: u32,
+        seconds: u32,
     },
     /// Print a variant's schedule.
     Schedule {
@@ -130,7 +132,15 @@ fn serve_job<'a>(found: &ArgMatches<'a>) -> Option<Job<'a>>
     let count = found
         .get_one::<u32>("count")
         .filter(|count| (1..=MAX_CONNECTIONS).contains(count))?;
-    Some(Job::Serve { db, port, count })
+    let seconds = found
+        .get_one::<u32>("seconds")
+        .filter(|seconds| (1..=MAX_SECONDS).contains(seconds))?;
+    Some(Job::Serve {
+        db,
+        port,
+        count,
+        seconds,
+    })
 }
 
 fn schedule_job<'a>(found: &ArgMatches<'a>) -> Option<Job<'a>>

@@ -18,17 +18,17 @@ unfolding opening empty get of_frames
 opening_stands f fine = record {
   heads = record { number = refl; none_before = refl; params = refl };
   rows = record {
-  suppliers = subst (λ (g : ClusterFile). IsPermutation (map supplier_row g.suppliers) (map supplier_row f.suppliers)) (sym (file_of-opening f fine)) (IsPermutation-refl _);
-  nodes = IsPermutation-refl [];
-  imports = IsPermutation-refl [];
-  stored = λ v. record { overlay = false; own = empty };
-  variants = IsPermutation-refl [];
-  grants = IsPermutation-refl [];
-  frames = IsPermutation-refl [];
-  placements = IsPermutation-refl [];
-  signals = IsPermutation-refl [];
-  dropped = λ k d low. absurd (omega arith);
-  each = λ v x there. absurd cc;
+    suppliers = subst (λ (g : ClusterFile). IsPermutation (map supplier_row g.suppliers) (map supplier_row f.suppliers)) (sym (file_of-opening f fine)) (IsPermutation-refl _);
+    nodes = IsPermutation-refl [];
+    imports = IsPermutation-refl [];
+    stored = λ v. record { overlay = false; own = empty };
+    variants = IsPermutation-refl [];
+    grants = IsPermutation-refl [];
+    frames = IsPermutation-refl [];
+    placements = IsPermutation-refl [];
+    signals = IsPermutation-refl [];
+    dropped = λ k d low. absurd (omega arith);
+    each = λ v x there. absurd cc;
   };
 }
 

@@ -24,7 +24,7 @@ fn a_client_reads_its_schedule(rt: HostRuntime) -> Result<(), Fail> {
     client.write_all(REQUEST)?;
     client.shutdown(Shutdown::Write)?;
     let (stream, _) = listener.accept()?;
-    assert!(rt; serve_stream(rt.alloc(), &stream, &mut desk).is_ok());
+    assert!(rt; serve_stream(&rt, &stream, 10, &mut desk).is_ok());
     drop(stream);
     let mut reply = Vec::new(rt.alloc());
     let _ = client.read_to_end(&mut reply)?;
