@@ -1,12 +1,10 @@
 //! Files that stop at some call, what is done in them until then, and what is found in them afterwards.
 use crate::looking::seen;
+use crate::reopened::SALT;
 use sqlite::{Connection, FileStore, Files, Options};
 use sqlite_disk::{Crash, Disk, Fuse, Memory};
 use std::alloc::Global;
 use std::test::Fail;
-
-/// With what the logs are salted.
-const SALT: u64 = 7;
 
 /// How long a log grows before it is copied into the database's file, where nothing else is asked for.
 pub(crate) const USUAL: usize = 1_000;
@@ -51,8 +49,8 @@ pub(crate) struct Calls {
     db: u64,
 }
 
-/// Calls that no test counts to.
-const EACH: Calls = Calls {
+/// Each call.
+pub(crate) const EACH: Calls = Calls {
     log: u64::MAX,
     db: u64::MAX,
 };
@@ -82,6 +80,25 @@ fn file_of(alloc: Global, bytes: &[u8], calls: u64) -> Result<Fused, Fail> {
     Ok(Fuse::new(file, calls))
 }
 
+/// Files of these bytes.
+pub(crate) fn files_of(alloc: Global, image: &Image, calls: Calls) -> Result<Files<Fused>, Fail> {
+    Ok(Files {
+        log: file_of(alloc, image.log.as_slice(), calls.log)?,
+        db: file_of(alloc, image.db.as_slice(), calls.db)?,
+    })
+}
+
+/// How many pages that were read are kept in memory.
+const PAGES: usize = 64;
+
+/// How a connection keeps files, with a log that grows so long before it is copied into the database's file.
+pub(crate) fn options(checkpoint: usize) -> Options {
+    let mut options = Options::new(SALT);
+    options.cache_pages = PAGES;
+    options.checkpoint_frames = checkpoint;
+    options
+}
+
 /// The connection to files of these bytes, or the files where it was stopped.
 type Attempt = Result<Connection<FileStore<Fused>>, Files<Fused>>;
 
@@ -91,19 +108,16 @@ fn connected(
     calls: Calls,
     checkpoint: usize,
 ) -> Result<Attempt, Fail> {
-    let files = Files {
-        log: file_of(alloc, image.log.as_slice(), calls.log)?,
-        db: file_of(alloc, image.db.as_slice(), calls.db)?,
-    };
+    let files = files_of(alloc, image, calls)?;
     if !files.may_be_used() {
         return Err(Fail::from("no files"));
     }
-    let mut options = Options::new(SALT);
-    options.checkpoint_frames = checkpoint;
-    Ok(match Connection::open_files(alloc, files, options) {
-        Ok(conn) => Ok(conn),
-        Err((_, left)) => Err(left.into_files()),
-    })
+    Ok(
+        match Connection::open_files(alloc, files, options(checkpoint)) {
+            Ok(conn) => Ok(conn),
+            Err((_, left)) => Err(left.into_files()),
+        },
+    )
 }
 
 /// The connection to files of these bytes, which nothing stops.
@@ -115,7 +129,7 @@ pub(crate) fn opened(alloc: Global, image: &Image) -> Result<Connection<FileStor
 }
 
 /// The connection's files, with the log as it is.
-pub(crate) fn files_of(conn: Connection<FileStore<Fused>>) -> Files<Fused> {
+pub(crate) fn files_left(conn: Connection<FileStore<Fused>>) -> Files<Fused> {
     conn.into_store().close()
 }
 
@@ -165,17 +179,46 @@ impl Looked {
         Ok(Looked { image, text })
     }
 
-    // Looks at the files, unless they are as they were.
-    fn look(&mut self, alloc: Global, files: &Files<Fused>) -> Result<(), Fail> {
-        if !self.image.is_of(files) {
-            *self = Looked::new(alloc, Image::of(alloc, files)?)?;
+    // Looks at what is left, unless the files are as they were. It is an error where neither state of the deed is seen.
+    fn look<D: Deed>(&mut self, alloc: Global, deed: &D, left: &Left) -> Result<(), Fail> {
+        if !self.image.is_of(&left.files) {
+            *self = Looked::new(alloc, Image::of(alloc, &left.files)?)?;
         }
-        Ok(())
+        if self.is_at(deed.states(), left.least) || self.is_at(deed.states(), left.most) {
+            return Ok(());
+        }
+        Err(Fail::from("another state"))
     }
 
-    // Whether one of these states is seen.
-    fn is_among(&self, states: &[Vec<u8>], least: usize, most: usize) -> bool {
-        [least, most].iter().any(|at| states.get(*at).is_some_and(|state| self.text == *state))
+    fn is_at(&self, states: &[Vec<u8>], at: usize) -> bool {
+        match states.get(at) {
+            Some(state) => self.text.as_slice() == state.as_slice(),
+            None => false,
+        }
+    }
+}
+
+/// What a process that ends leaves, and what a machine that stops.
+#[derive(Drop)]
+struct Remains {
+    ended: Looked,
+    crashed: Looked,
+}
+
+impl Remains {
+    fn new(alloc: Global) -> Result<Remains, Fail> {
+        Ok(Remains {
+            ended: Looked::new(alloc, Image::empty(alloc))?,
+            crashed: Looked::new(alloc, Image::empty(alloc))?,
+        })
+    }
+
+    // Looks at what is left of a deed, and then at what a crash leaves of that.
+    fn look<D: Deed>(&mut self, alloc: Global, deed: &D, mut left: Left) -> Result<(), Fail> {
+        self.ended.look(alloc, deed, &left)?;
+        left.files.log.crash();
+        left.files.db.crash();
+        self.crashed.look(alloc, deed, &left)
     }
 }
 
@@ -184,37 +227,28 @@ fn passes(file: &mut Fused) -> bool {
     file.may_be_used() && file.len().is_ok()
 }
 
-/// A thousand times as many calls as any deed here makes.
+/// More calls than any deed here makes.
 const MANY: u64 = 1_000_000;
 
-/// How many stops there are until a deed meets none. What a stop leaves is the state after the steps that were done, or after
-/// the one that was stopped: where the process ends, and where the machine does. A step is refused only where there is a stop.
+/// How many stops of a file there are until a deed meets none. Each leaves the state after the steps that were done, or after
+/// the one that was stopped, and no step is left undone without a stop; else it is an error.
 pub(crate) fn stops<D: Deed>(
     alloc: Global,
     deed: &D,
     fusible: Fusible,
     checkpoint: usize,
 ) -> Result<u64, Fail> {
-    let mut looked = Looked::new(alloc, Image::empty(alloc))?;
+    let mut remains = Remains::new(alloc)?;
     for calls in 0..MANY {
         let mut left = done(alloc, deed, fusible.after(calls), checkpoint)?;
         let is_whole = passes(&mut left.files.log) && passes(&mut left.files.db);
-        let last = deed.states().len().saturating_sub(1);
-        if is_whole && left.least != last {
-            return Err(Fail::from("refused without a stop"));
-        }
-        looked.look(alloc, &left.files)?;
-        if !looked.is_among(deed.states(), left.least, left.most) {
-            return Err(Fail::from("another state where the process ends"));
-        }
-        left.files.log.crash();
-        left.files.db.crash();
-        looked.look(alloc, &left.files)?;
-        if !looked.is_among(deed.states(), left.least, left.most) {
-            return Err(Fail::from("another state where the machine stops"));
+        let is_last = left.least == deed.states().len().saturating_sub(1);
+        remains.look(alloc, deed, left)?;
+        if is_whole && is_last {
+            return Ok(calls);
         }
         if is_whole {
-            return Ok(calls);
+            return Err(Fail::from("undone without a stop"));
         }
     }
     Err(Fail::from("no end of stops"))

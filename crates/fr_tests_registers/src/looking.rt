@@ -116,7 +116,7 @@ pub(crate) fn book_of<S: Alter + Drop>(
 
 // What is told once the register is migrated.
 fn migrated<S: Alter + Drop>(alloc: Global, mut conn: Connection<S>) -> Result<Vec<u8>, Fail> {
-    migrate_on(&mut conn)?;
+    migrate_on(alloc, &mut conn)?;
     let mut text = Vec::new(alloc);
     text.extend_from_slice(BEFORE)?;
     match Store::open_on(alloc, conn) {

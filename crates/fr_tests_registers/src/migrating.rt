@@ -1,11 +1,13 @@
 //! A register of the schema before, migrated. What the check would let pass: a migration that is always `Unavailable`, though
 //! nothing fails; and tables of the schema before that are not as they were made.
 use crate::asks::{DONE, FIRST, Line, carry_out, config};
-use crate::fused::{Deed, Fused, Fusible, Image, Left, USUAL, files_of, opened, stops};
+use crate::fused::{
+    Deed, EACH, Fused, Fusible, Image, Left, USUAL, files_left, files_of, opened, options, stops,
+};
 use crate::looking::{BEFORE, book_of, seen};
 use fr_base::Config;
 use fr_office::Office;
-use fr_store::{Store, StoreFault, migrate_on};
+use fr_store::{Store, StoreFault, migrate, migrate_on};
 use sqlite::{Connection, FileStore, params};
 use std::alloc::Global;
 use std::test::Fail;
@@ -180,7 +182,7 @@ fn taken_back(alloc: Global, store: Register) -> Result<Image, Fail> {
     for sql in BACK {
         conn.execute(sql, &[])?;
     }
-    Image::of(alloc, &files_of(conn))
+    Image::of(alloc, &files_left(conn))
 }
 
 /// A register of the schema before is migrated.
@@ -211,13 +213,13 @@ impl Deed for Migrating {
         self.states.as_slice()
     }
 
-    fn done(&self, _alloc: Global, mut conn: Connection<FileStore<Fused>>) -> Result<Left, Fail> {
-        let least = match migrate_on(&mut conn) {
+    fn done(&self, alloc: Global, mut conn: Connection<FileStore<Fused>>) -> Result<Left, Fail> {
+        let least = match migrate_on(alloc, &mut conn) {
             Ok(()) => 1,
             Err(_) => 0,
         };
         Ok(Left {
-            files: files_of(conn),
+            files: files_left(conn),
             least,
             most: 1,
         })
@@ -226,10 +228,13 @@ impl Deed for Migrating {
 
 // The files of the register that is migrated in these.
 fn migrated(alloc: Global, image: &Image) -> Result<Result<Image, StoreFault>, Fail> {
-    let mut conn = opened(alloc, image)?;
-    match migrate_on(&mut conn) {
-        Ok(()) => Ok(Ok(Image::of(alloc, &files_of(conn))?)),
-        Err(fault) => Ok(Err(fault)),
+    let files = files_of(alloc, image, EACH)?;
+    if !files.may_be_used() {
+        return Err(Fail::from("no files"));
+    }
+    match migrate(alloc, files, options(USUAL)) {
+        Ok(files) => Ok(Ok(Image::of(alloc, &files)?)),
+        Err((fault, _)) => Ok(Err(fault)),
     }
 }
 

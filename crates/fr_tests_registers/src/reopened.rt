@@ -13,7 +13,7 @@ use std::alloc::Global;
 use std::test::Fail;
 
 /// With what the logs are salted.
-const SALT: u64 = 7;
+pub(crate) const SALT: u64 = 7;
 
 fn empty_files(alloc: Global) -> Files<MemoryFile> {
     Files {

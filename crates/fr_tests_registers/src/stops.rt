@@ -1,7 +1,7 @@
 //! A stop at each call of a register's files, as it is made and as it is asked. No contract says yet what a crash leaves of
 //! it, and none that a register which a crash left can be opened again.
 use crate::asks::{DONE, FIRST, Line, carry_out, config, told};
-use crate::fused::{Deed, Fused, Fusible, Image, Left, USUAL, files_of, opened, stops};
+use crate::fused::{Deed, Fused, Fusible, Image, Left, USUAL, files_left, opened, stops};
 use crate::looking::{NOTHING, book_of, seen};
 use fr_base::{Config, Desk};
 use fr_office::Office;
@@ -75,12 +75,12 @@ impl Deed for Making {
     fn done(&self, alloc: Global, conn: Connection<FileStore<Fused>>) -> Result<Left, Fail> {
         Ok(match Store::create_on(alloc, conn, &self.config) {
             Ok(store) => Left {
-                files: files_of(store.into_connection()),
+                files: files_left(store.into_connection()),
                 least: 1,
                 most: 1,
             },
             Err((_, conn)) => Left {
-                files: files_of(conn),
+                files: files_left(conn),
                 least: 0,
                 most: 1,
             },
@@ -93,7 +93,7 @@ fn made(alloc: Global) -> Result<Image, Fail> {
     let config = config(alloc)?;
     let conn = opened(alloc, &Image::empty(alloc))?;
     match Store::create_on(alloc, conn, &config) {
-        Ok(store) => Image::of(alloc, &files_of(store.into_connection())),
+        Ok(store) => Image::of(alloc, &files_left(store.into_connection())),
         Err((fault, _)) => Err(Fail::from(fault)),
     }
 }
@@ -150,7 +150,7 @@ impl Deed for Asking {
         match Store::open_on(alloc, conn) {
             Ok(store) => asked(alloc, store, self.lines.as_slice()),
             Err((_, conn)) => Ok(Left {
-                files: files_of(conn),
+                files: files_left(conn),
                 least: 0,
                 most: 0,
             }),
@@ -163,7 +163,7 @@ fn asked(alloc: Global, store: Store<FileStore<Fused>>, lines: &[Line]) -> Resul
     let least = count_done(alloc, &mut office, lines)?;
     carry_out(alloc, &mut office, &NOT_YOURS)?;
     Ok(Left {
-        files: files_of(office.into_store().into_connection()),
+        files: files_left(office.into_store().into_connection()),
         least,
         most: least.saturating_add(1),
     })
