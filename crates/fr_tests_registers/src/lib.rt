@@ -6,6 +6,8 @@
 #[cfg(test)]
 mod asks;
 #[cfg(test)]
+mod deeds;
+#[cfg(test)]
 mod fused;
 #[cfg(test)]
 mod joining;
@@ -21,5 +23,7 @@ mod reopened;
 mod running;
 #[cfg(test)]
 mod stops;
+#[cfg(test)]
+mod stores;
 #[cfg(test)]
 mod warm;

@@ -1,5 +1,6 @@
 //! All that a register tells, as one text.
 use crate::asks::{name, told};
+use crate::stores::found;
 use fr_base::{BodyRef, Desk};
 use fr_office::Office;
 use fr_store::{Store, StoreFault, migrate_on};
@@ -119,10 +120,8 @@ fn migrated<S: Alter + Drop>(alloc: Global, mut conn: Connection<S>) -> Result<V
     migrate_on(alloc, &mut conn)?;
     let mut text = Vec::new(alloc);
     text.extend_from_slice(BEFORE)?;
-    match Store::open_on(alloc, conn) {
-        Ok(store) => text.extend_from_slice(book_of(alloc, store)?.as_slice())?,
-        Err((fault, _)) => return Err(Fail::from(fault)),
-    }
+    let book = book_of(alloc, found(alloc, conn)?)?;
+    text.extend_from_slice(book.as_slice())?;
     Ok(text)
 }
 

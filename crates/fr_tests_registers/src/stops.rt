@@ -1,8 +1,10 @@
 //! A stop at each call of a register's files, as it is made and as it is asked. No contract says yet what a crash leaves of
 //! it, and none that a register which a crash left can be opened again.
 use crate::asks::{DONE, FIRST, Line, carry_out, config, told};
-use crate::fused::{Deed, Fused, Fusible, Image, Left, USUAL, files_left, opened, stops};
+use crate::deeds::{Course, Deed, Left, stops};
+use crate::fused::{Fused, Fusible, Image, USUAL, files_left, opened};
 use crate::looking::{NOTHING, book_of, seen};
+use crate::stores::{after, created, found};
 use fr_base::{Config, Desk};
 use fr_office::Office;
 use fr_store::Store;
@@ -43,8 +45,7 @@ const NOT_YOURS: [Line; 1] = [(
 #[derive(Drop)]
 struct Making {
     config: Config,
-    start: Image,
-    states: Vec<Vec<u8>>,
+    course: Course,
 }
 
 impl Making {
@@ -55,21 +56,17 @@ impl Making {
         let mut states = Vec::new(alloc);
         states.push(nothing)?;
         states.push(seen(alloc, opened(alloc, &made(alloc)?)?)?)?;
+        let start = Image::empty(alloc);
         Ok(Making {
             config,
-            start: Image::empty(alloc),
-            states,
+            course: Course { start, states },
         })
     }
 }
 
 impl Deed for Making {
-    fn start(&self) -> &Image {
-        &self.start
-    }
-
-    fn states(&self) -> &[Vec<u8>] {
-        self.states.as_slice()
+    fn course(&self) -> &Course {
+        &self.course
     }
 
     fn done(&self, alloc: Global, conn: Connection<FileStore<Fused>>) -> Result<Left, Fail> {
@@ -90,20 +87,15 @@ impl Deed for Making {
 
 // The files of a new register.
 fn made(alloc: Global) -> Result<Image, Fail> {
-    let config = config(alloc)?;
-    let conn = opened(alloc, &Image::empty(alloc))?;
-    match Store::create_on(alloc, conn, &config) {
-        Ok(store) => Image::of(alloc, &files_left(store.into_connection())),
-        Err((fault, _)) => Err(Fail::from(fault)),
-    }
+    let store = created(alloc, opened(alloc, &Image::empty(alloc))?)?;
+    Image::of(alloc, &files_left(store.into_connection()))
 }
 
 /// Requests are asked of a register.
 #[derive(Drop)]
 struct Asking {
     lines: Vec<Line>,
-    start: Image,
-    states: Vec<Vec<u8>>,
+    course: Course,
 }
 
 impl Asking {
@@ -118,32 +110,20 @@ impl Asking {
         }
         Ok(Asking {
             lines,
-            start,
-            states,
+            course: Course { start, states },
         })
     }
 }
 
-// What is seen once the requests were asked of the register in the files.
+// What is told once the requests were asked of the register in the files.
 fn book_after(alloc: Global, start: &Image, lines: &[Line]) -> Result<Vec<u8>, Fail> {
-    let conn = opened(alloc, start)?;
-    match Store::open_on(alloc, conn) {
-        Ok(store) => {
-            let mut office = Office::new(alloc, store);
-            carry_out(alloc, &mut office, lines)?;
-            book_of(alloc, office.into_store())
-        }
-        Err((fault, _)) => Err(Fail::from(fault)),
-    }
+    let store = found(alloc, opened(alloc, start)?)?;
+    book_of(alloc, after(alloc, store, lines)?)
 }
 
 impl Deed for Asking {
-    fn start(&self) -> &Image {
-        &self.start
-    }
-
-    fn states(&self) -> &[Vec<u8>] {
-        self.states.as_slice()
+    fn course(&self) -> &Course {
+        &self.course
     }
 
     fn done(&self, alloc: Global, conn: Connection<FileStore<Fused>>) -> Result<Left, Fail> {
