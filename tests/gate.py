@@ -1,6 +1,6 @@
 #!/usr/bin/env python3
-"""The gate: `rt ci`, how another SQLite finds the rows of each statement, and then the program that was built, tried as each
-compiler made it, also where its files, connections and memory fail. The last line counts all."""
+"""The gate: `rt ci`, whether the pages name each file, how another SQLite finds the rows of each statement, and then the program
+that was built, tried as each compiler made it, also where its files, connections and memory fail. The last line counts all."""
 import os
 import re
 import resource
@@ -71,7 +71,9 @@ def counted(name, words):
 
 
 def main():
-    counts = [counted("rt ci", ["rt", "ci"]), counted("the statements", [sys.executable, "tests/statements.py"])]
+    counts = [counted("rt ci", ["rt", "ci"])]
+    for name, script in ("the pages", "tests/tables.py"), ("the statements", "tests/statements.py"):
+        counts.append(counted(name, [sys.executable, script]))
     for name, words in TRIALS.items():
         counts.append(counted(name, [sys.executable, *words, PROGRAM, f"{PROGRAM}.by-rattle"]))
     for line in (line for count in counts for line in count.told):

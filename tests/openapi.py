@@ -2,7 +2,7 @@
 """Compares docs/openapi.yaml with the other pages and with a running server: openapi.py PROGRAM..
 
 Every route of docs/HTTP.md and every request, field and refusal of docs/FORMATS.md has to stand there; each refusal's status is
-that of the code. Every example is sent to a server of each program, in the order of the file, and answered as it says. Where python
+that of FORMATS and of the code. Every example is sent to a server of each program, in the order of the file, and answered as it says. Where python
 has openapi_spec_validator, the file is validated. The last line is 'N passed, M failed'."""
 import http.client
 import json
@@ -18,6 +18,7 @@ FORMATS = (TOP / "docs/FORMATS.md").read_text()
 HTTP = (TOP / "docs/HTTP.md").read_text()
 REFUSALS = (TOP / "crates/fr_base/src/refusal.rt").read_text()
 CLUSTER = (TOP / "examples/first.script").read_bytes().split(b"---\n")[0]
+REFUSED = "| No. | Name | HTTP | Where |"
 SECONDS = 60
 
 counted = {True: 0, False: 0}
@@ -63,12 +64,13 @@ def met():
 def import_refusals():
     """Those of an import, from the table behind its answers: and a refused row."""
     behind = FORMATS[FORMATS.index("## Imports"):]
-    return [int(cells[0]) for cells in table(behind, "| No. | Name | Where |")] + [29]
+    return [int(cells[0]) for cells in table(behind, REFUSED)] + [29]
 
 
 def refusals():
-    for cells in table(FORMATS, "| No. | Name | Where |"):
-        yield int(cells[0]), words(cells[1])[0]
+    """Number, name and status of each refusal, as FORMATS has them."""
+    for cells in table(FORMATS, REFUSED):
+        yield int(cells[0]), words(cells[1])[0], int(cells[2])
 
 
 def statuses():
@@ -96,9 +98,11 @@ def compare_refusals(schemas):
     listed = {it["$ref"].rsplit("/", 1)[1] for it in schemas["Refused"]["oneOf"]}
     told = statuses()
     told["BadRow"] = (29, 422)
-    for number, name in refusals():
+    for number, name, status in refusals():
+        schema = schemas.get(name, {})
         see(f"{name} is listed", True, name in listed)
-        see(f"{name}: number", number, schemas.get(name, {}).get("properties", {}).get("no", {}).get("const"))
+        see(f"{name}: number", number, schema.get("properties", {}).get("no", {}).get("const"))
+        see(f"{name}: status in FORMATS", status, schema.get("x-status"))
     for name in sorted(listed):
         schema = schemas[name]
         see(f"{name}: number and status", told.get(name), (schema["properties"]["no"]["const"], schema["x-status"]))

@@ -57,7 +57,10 @@ impl FileDesk {
         if let Ok(false) = fs::exists(rt, path) {
             return Err(StoreFault::NotARegister);
         }
-        migrate_at(rt, path)
+        match migrate_at(rt, path, Unknown) {
+            Ok(_) => Ok(()),
+            Err((fault, _)) => Err(fault),
+        }
     }
 
     /// The desk of the register in the file at a path. Where there is no file there is no register, and

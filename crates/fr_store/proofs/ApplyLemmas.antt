@@ -1,5 +1,5 @@
 -- What the tables stand for after an edit.
-use Rattle.std.proofs.Common.{◌≡◌, None, Some, List, [], ◌∷◌, ◌++◌, map, cond, Ordering, Less, Equal, Greater, Result, Ok, Err, OnOk, MatchResult, sym, subst, IsPermutation}
+use Rattle.std.proofs.Common.{◌≡◌, ℕ, None, Some, List, [], ◌∷◌, ◌++◌, map, cond, Ordering, Less, Equal, Greater, Result, Ok, Err, OnOk, MatchResult, sym, subst, IsPermutation}
 use Rattle.std.specs.Ordering.{nat_cmp, is_eq}
 use Rattle.std.specs.Cmp.Lexicographic.{slice_cmp}
 use Rattle.std.specs.FinMap.Entries.{put, find, by_order}

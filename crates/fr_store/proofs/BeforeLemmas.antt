@@ -3,6 +3,7 @@ use Rattle.std.proofs.Common.{◌≡◌, ◌∙◌, pos, List, [], ◌∷◌, ma
 use Rattle.sqlite.specs.Order.{Row}
 use Rattle.sqlite.specs.Effect.{Database, IsDatabase}
 use Rattle.sqlite.specs.Files.{HoldsDatabase}
+use Rattle.sqlite.specs.Tree.{Trees}
 use Rattle.sqlite.specs.State.{State, HasCleanDisk, KeepsCommit, IsUnchanged, Survives}
 use Rattle.sqlite.proofs.Callers.{one_permutation}
 use Rattle.sqlite.proofs.StateLemmas.{survives_then}
@@ -10,17 +11,18 @@ use Rattle.sqlite_wal.specs.Recovery.{Image}
 use Rattle.fr_base.specs.Cluster.{Cluster}
 use Rattle.fr_base.specs.Book.{Book}
 use Rattle.fr_base.specs.declared.key.Key.{Key}
-use Rattle.fr_base.specs.declared.name.Name.{Name}
 use Rattle.fr_base.specs.declared.params.RawParams.{RawParams}
 use Rattle.fr_tables.specs.Rows.{RegisterRow, ClusterRow}
-use Rattle.fr_tables.specs.Tables.{Tables, HasOldTables, tables_in}
+use Rattle.fr_tables.specs.Tables.{Tables, HasOldTables, AreOrderedBefore, tables_in}
+use Rattle.fr_tables.specs.Schema.{old_schema}
+use Rattle.fr_tables.proofs.TypedLemmas.{has_before}
 use Rattle.fr_tables.specs.Changes.{Changes, Stays, AreListed, tables_of}
 use Rattle.fr_tables.specs.Statements.{cluster_row, cluster2_row, shows_cluster, every, any_order, with_cluster2, without_cluster, with_number}
 use Rattle.fr_tables.specs.Asking.{AreAsBefore, HasNumber, numbered, our_schema_number, old_schema_number}
 use Rattle.fr_tables.specs.Making.{IsRenewed}
 use Rattle.fr_store.specs.Applying.{GoesOn}
 use Rattle.fr_store.specs.Owning.{IsStoredSo}
-use Rattle.fr_store.specs.Before.{StoodFor, StandsBefore, HoldsBookBefore, LeavesMigrated, database_before, moved}
+use Rattle.fr_store.specs.Before.{StoodFor, StandsBefore, HoldsBookBefore, LeavesMigrated, HasOldIfBefore, database_before, moved}
 use Rattle.fr_store.specs.Opening.{Refuses}
 use Rattle.fr_store.specs.Reading.{Stands}
 use Rattle.fr_store.specs.StandsFor.{StandsFor}
@@ -195,3 +197,11 @@ pub committed_held : (image : Image) (s : State) (c : Cluster) (b : Book) → St
 committed_held image s c b stands settled held =
     let is : IsRegisterFor c b s.committed = subst (IsRegisterFor c b) (sym settled) (record { has = stands.has; for = stands.for }) in
     holds_book image s.committed c b is held
+
+-- a connection that has opened files that hold a book of the schema before sees it
+pub found_before : (image : Image) (s : State) (c : Cluster) (b : Book) → IsDatabase s.now → ((t : Trees) → HoldsDatabase image t → s.now.trees ≡ t) → HoldsBookBefore c b image → StandsBefore s c b
+found_before image s c b sound holds h = held_before image s c b h (found_database image s.now (database_before h.trees) sound holds h.held)
+
+-- tables in order, of the schema before, are such as its version writes
+pub old_if_before : (s : State) → IsDatabase s.now → (s.now.schema ≡ old_schema → AreOrderedBefore s.now.trees) → HasOldIfBefore s.now
+old_if_before s sound ordered schema = has_before s.now sound schema (ordered schema)

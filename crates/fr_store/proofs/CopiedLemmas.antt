@@ -1,5 +1,5 @@
 -- A variant's rows among all rows, and their copies for another variant.
-use Rattle.std.proofs.Common.{◌≡◌, true, false, Some, List, [], map, filter, flat_map, refl, ap, ◌∙◌, subst, IsPermutation, bytes_eq}
+use Rattle.std.proofs.Common.{◌≡◌, ℕ, true, false, Some, List, [], map, filter, flat_map, refl, ap, ◌∙◌, subst, IsPermutation, bytes_eq}
 use Rattle.std.specs.List.{AllByRecursion}
 use Rattle.std.specs.Ordering.{is_eq}
 use Rattle.std.proofs.lemmas.List.Sorted.{IsPermutation-trans, IsPermutation-map}
@@ -7,7 +7,6 @@ use Rattle.std.proofs.lemmas.Slice.Eq.{bytes_eq-Decides}
 use Rattle.sqlite_keyed.proofs.ListLemmas.{filter_all, filter_none, all_of, all_weaker, all_map, IsPermutation-filter}
 use Rattle.fr_base.specs.Tables.{Table, get}
 use Rattle.fr_base.specs.Keys.{names}
-use Rattle.fr_base.specs.Cluster.{Cluster}
 use Rattle.fr_base.specs.Book.{Variant, Book}
 use Rattle.fr_base.specs.declared.name.Name.{Name}
 use Rattle.fr_tables.specs.Rows.{GrantRow}

@@ -1,9 +1,8 @@
 -- That a frame's placements are of so many cycles, and its signals stand by their starts, when it is added or changed.
-use Rattle.std.proofs.Common.{◌≡◌, ◌==◌, ℕ, Bool, true, false, cond, None, Some, List, [], ◌∷◌, map, filter, IsTrue, is_some, inl, inr, arith, ap, sym, ◌∙◌, true≢false}
+use Rattle.std.proofs.Common.{◌≡◌, ℕ, [], is_some, inl, inr, arith, ap, sym, ◌∙◌, true≢false}
 use Rattle.std.specs.List.{AllByRecursion}
-use Rattle.std.proofs.lemmas.Bool.Decides.{nat_tests}
 use Rattle.sqlite_keyed.proofs.ListLemmas.{all_map, all_weaker}
-use Rattle.fr_base.specs.Tables.{empty, get, contains, insert, remove}
+use Rattle.fr_base.specs.Tables.{empty, get, insert, remove}
 use Rattle.fr_base.specs.Keys.{placement_order}
 use Rattle.fr_base.specs.Book.{Frame}
 use Rattle.fr_base.specs.Layouts.{with_signal, without_signal}
@@ -45,4 +44,4 @@ module _ (count : ℕ) where
     unfolding get
     each_counted =
         all_map (λ q. q.cycles.count ≡ count) (λ e. e.0) frame.placements.rows
-        (all_weaker (λ e. e.0.cycles.count ≡ count) (λ e found. fine.counted e.0 (ap is_some found)) frame.placements.rows (each_found placement_order frame.placements.rows frame.placements.sorted))
+        (all_weaker _ (λ e. e.0.cycles.count ≡ count) (λ e found. fine.counted e.0 (ap is_some found)) frame.placements.rows (each_found placement_order frame.placements.rows frame.placements.sorted))

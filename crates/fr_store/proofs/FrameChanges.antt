@@ -1,13 +1,12 @@
 -- What the tables stand for after one frame of a variant is another.
-use Rattle.std.proofs.Common.{◌≡◌, ◌≢◌, ℕ, Bool, true, false, not, cond, ◌||◌, None, Some, Option, List, [], ◌∷◌, ◌++◌, map, filter, flat_map, refl, sym, ap, ap₂, ◌∙◌, subst, subst₂, inl, inr, IsPermutation, IsSorted, IsTrue, true≢false}
-use Rattle.std.specs.Ordering.{is_eq, on, nat_cmp}
+use Rattle.std.proofs.Common.{◌≡◌, ◌≢◌, ℕ, Bool, true, false, not, cond, ◌||◌, None, Some, Option, List, [], ◌∷◌, ◌++◌, map, filter, flat_map, refl, sym, ap, ap₂, ◌∙◌, subst, subst₂, inl, inr, IsPermutation, IsTrue, true≢false}
+use Rattle.std.specs.Ordering.{is_eq}
 use Rattle.std.specs.List.{All, list_any}
 use Rattle.std.proofs.lemmas.Bool.{false_from_ne_true}
 use Rattle.std.proofs.lemmas.List.Sorted.{IsPermutation-sym, IsPermutation-trans, IsPermutation-map}
 use Rattle.sqlite_keyed.proofs.ListLemmas.{IsPermutation-flat_map, map_same, filter-map}
 use Rattle.fr_base.specs.Tables.{Table, get, contains, insert, remove}
 use Rattle.fr_base.specs.Keys.{names, owned}
-use Rattle.fr_base.specs.Cluster.{Cluster}
 use Rattle.fr_base.specs.Book.{Frame, Variant, Book}
 use Rattle.fr_base.specs.Queries.{placements_in}
 use Rattle.fr_base.specs.Step.{with_variant}

@@ -1,5 +1,5 @@
 -- What the tables stand for after an edit of a frame.
-use Rattle.std.proofs.Common.{◌≡◌, Bool, true, false, not, ◌||◌, cond, None, Some, Option, List, [], map, filter, Result, Ok, Err, OnOk, MatchResult, refl, sym, ap, ap₂, ◌∙◌, subst, subst₂, inl, inr, arith, is_some, IsTrue, true≢false}
+use Rattle.std.proofs.Common.{◌≡◌, ℕ, Bool, true, false, not, ◌||◌, cond, None, Some, Option, List, [], map, filter, Result, Ok, Err, OnOk, MatchResult, refl, sym, ap, ap₂, ◌∙◌, subst, subst₂, inl, inr, is_some, IsTrue, true≢false}
 use Rattle.std.specs.List.{list_any}
 use Rattle.std.specs.Ordering.{eq_by_cmp}
 use Rattle.std.proofs.lemmas.Bool.{and_from}

@@ -13,7 +13,6 @@ use Rattle.sqlite_keyed.proofs.ListLemmas.{map-map, filter-map, filter_all, all_
 use Rattle.fr_base.specs.Tables.{Table, get, only, from_rows}
 use Rattle.fr_base.specs.Keys.{names, owned, placement_order}
 use Rattle.fr_base.specs.Channels.{channels_of_text, text_of_channels}
-use Rattle.fr_base.specs.Cluster.{Cluster}
 use Rattle.fr_base.specs.Book.{Book, Variant, Frame}
 use Rattle.fr_base.specs.Queries.{placements_in}
 use Rattle.fr_base.specs.declared.channel.Channels.{Channels}
@@ -108,7 +107,7 @@ module _ (v s f : Name) where
   all_counted : (count : ℕ) (frame : Frame) → IsFine count frame → AllByRecursion (λ e. has_count count e ≡ true) frame.placements.rows
   unfolding get
   all_counted count frame fine =
-      all_weaker (λ e. has_count count e ≡ true) (λ e found. grind (arith, nat_tests, fine.counted e.0 (ap is_some found))) frame.placements.rows
+      all_weaker _ (λ e. has_count count e ≡ true) (λ e found. grind (arith, nat_tests, fine.counted e.0 (ap is_some found))) frame.placements.rows
       (each_found placement_order frame.placements.rows frame.placements.sorted)
 
   all_only : (count : ℕ) (frame : Frame) → IsFine count frame → only (λ q u. has_count count (q, u)) frame.placements ≡ frame.placements

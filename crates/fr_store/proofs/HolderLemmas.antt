@@ -8,7 +8,6 @@ use Rattle.sqlite_keyed.proofs.ListLemmas.{filter-map, filter_none, all_of}
 use Rattle.fr_base.specs.Tables.{get}
 use Rattle.fr_base.specs.Keys.{names, channel_slots}
 use Rattle.fr_base.specs.Channels.{text_of_channel}
-use Rattle.fr_base.specs.Cluster.{Cluster}
 use Rattle.fr_base.specs.Book as book
 use Rattle.fr_base.specs.Book.{Book, Variant}
 use Rattle.fr_base.specs.declared.channel.Channel.{Channel}

@@ -1,5 +1,5 @@
 -- The imports that are kept, as the queries show them.
-use Rattle.std.proofs.Common.{◌≡◌, Bool, true, false, ◌&&◌, None, Some, Option, List, map, filter, length, Less, refl, sym, ap, ap₂, ◌∙◌, subst, option_map, slice_get, true≢false, bytes_eq}
+use Rattle.std.proofs.Common.{◌≡◌, ℕ, Bool, true, false, ◌&&◌, None, Some, Option, List, map, filter, length, Less, refl, sym, ap, ap₂, ◌∙◌, subst, option_map, slice_get, true≢false, bytes_eq}
 use Rattle.std.specs.Ordering.{is_eq}
 use Rattle.std.specs.Cmp.{tied_itself}
 use Rattle.std.proofs.lemmas.Bool.{and_parts}
@@ -11,7 +11,6 @@ use Rattle.sqlite_trees.specs.Tree.{IsAscending}
 use Rattle.sqlite_keyed.proofs.ListLemmas.{filter-map, IsPermutation-filter}
 use Rattle.fr_base.specs.Tables.{get, len, only}
 use Rattle.fr_base.specs.Keys.{owned}
-use Rattle.fr_base.specs.Cluster.{Cluster}
 use Rattle.fr_base.specs.Book as book
 use Rattle.fr_base.specs.Book.{Book, own}
 use Rattle.fr_base.specs.declared.name.Name.{Name}

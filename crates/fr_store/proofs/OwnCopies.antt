@@ -1,5 +1,5 @@
 -- What the tables stand for after a frame that is only a parent's is copied to the variant.
-use Rattle.std.proofs.Common.{◌≡◌, ◌≢◌, Bool, true, false, ◌||◌, cond, None, Some, List, [], ◌∷◌, map, filter, refl, sym, ap, ◌∙◌, subst, IsPermutation, IsTrue}
+use Rattle.std.proofs.Common.{◌≡◌, ℕ, ◌≢◌, Bool, true, false, ◌||◌, cond, None, Some, List, [], ◌∷◌, map, filter, refl, sym, ap, ◌∙◌, subst, IsPermutation, IsTrue}
 use Rattle.std.specs.List.{list_any}
 use Rattle.std.specs.Ordering.{eq_by_cmp}
 use Rattle.std.proofs.lemmas.Bool.{and_parts, and_from, false_from_ne_true}

@@ -13,7 +13,6 @@ use Rattle.sqlite.specs.Order.{Row}
 use Rattle.sqlite_keyed.proofs.ListLemmas.{map-map, filter-map, filter_same, IsPermutation-filter}
 use Rattle.fr_base.specs.Tables.{Table, get, insert, only, from_rows, empty}
 use Rattle.fr_base.specs.Keys.{names, owned}
-use Rattle.fr_base.specs.Cluster.{Cluster}
 use Rattle.fr_base.specs.Book.{Book, Variant, Frame, is_of, own}
 use Rattle.fr_base.specs.declared.name.Name.{Name}
 use Rattle.fr_base.specs.declared.params.Params.{Params}

@@ -8,7 +8,6 @@ use Rattle.sqlite_keyed.proofs.ListLemmas.{map-map, filter-map, filter_none, fil
 use Rattle.fr_base.specs.Tables.{get, from_rows}
 use Rattle.fr_base.specs.Keys.{names, owned, channel_slots}
 use Rattle.fr_base.specs.Channels.{channel_of_text, text_of_channel}
-use Rattle.fr_base.specs.Cluster.{Cluster}
 use Rattle.fr_base.specs.Book as book
 use Rattle.fr_base.specs.Book.{Book, Variant, is_of, held_by, own}
 use Rattle.fr_base.specs.declared.channel.Channel.{Channel}

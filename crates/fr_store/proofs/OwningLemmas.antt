@@ -12,7 +12,6 @@ use Rattle.sqlite.specs.Order.{Row, column}
 use Rattle.sqlite_keyed.proofs.ListLemmas.{filter-map, IsPermutation-filter}
 use Rattle.fr_base.specs.Tables.{Table, get}
 use Rattle.fr_base.specs.Keys.{names}
-use Rattle.fr_base.specs.Cluster.{Cluster}
 use Rattle.fr_base.specs.Book.{Frame, Variant, Book}
 use Rattle.fr_base.specs.declared.name.Name.{Name}
 use Rattle.fr_base.proofs.SoundRows.{same_text-is}

@@ -102,5 +102,5 @@ module _ (v s f : Name) where
     unplace_section count same all =
         filter-map (λ r. not (is_placement (row_of q) r)) row_of (placements_in frame)
         ∙ ap (map row_of) (filter_same (λ r. not (is_placement (row_of q) (row_of r))) (λ r. not (eq_by_cmp placement_order.compare q r)) (placements_in frame)
-        (all_weaker (λ r. not (is_placement (row_of q) (row_of r)) ≡ not (eq_by_cmp placement_order.compare q r)) (λ r of. ap not (row_is q r (of ∙ sym same))) (placements_in frame) all)
+        (all_weaker (λ r. r.cycles.count ≡ count) (λ r. not (is_placement (row_of q) (row_of r)) ≡ not (eq_by_cmp placement_order.compare q r)) (λ r of. ap not (row_is q r (of ∙ sym same))) (placements_in frame) all)
         ∙ filter-map (λ r. not (eq_by_cmp placement_order.compare q r)) (λ e. e.0) frame.placements.rows)

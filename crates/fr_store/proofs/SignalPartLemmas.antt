@@ -14,7 +14,6 @@ use Rattle.sqlite_keyed.proofs.ListLemmas.{map-map, filter-map, IsPermutation-fi
 use Rattle.sqlite_keyed.proofs.SortLemmas.{sorted_unique}
 use Rattle.fr_base.specs.Refusing.{◌>>◌}
 use Rattle.fr_base.specs.Tables.{get}
-use Rattle.fr_base.specs.Cluster.{Cluster}
 use Rattle.fr_base.specs.Book.{Book, Variant, Frame}
 use Rattle.fr_base.specs.Layouts.{LayoutData, IsLayout, with_signal, admits_signal, add_signal}
 use Rattle.fr_base.specs.Signals.{SignalData}

@@ -4,7 +4,6 @@ use Rattle.std.specs.Ordering.{eq_by_cmp}
 use Rattle.fr_base.specs.Tables.{Table, get, insert}
 use Rattle.fr_base.specs.Keys.{names}
 use Rattle.fr_base.specs.Book.{Frame, Variant, Book}
-use Rattle.fr_base.specs.Cluster.{Cluster}
 use Rattle.fr_base.specs.declared.name.Name.{Name}
 use Rattle.fr_base.proofs.SoundTables.{same_some, same_key}
 use Rattle.fr_base.proofs.TableLaws.{equal, get-insert, same_table}

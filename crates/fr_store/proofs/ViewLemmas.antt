@@ -17,7 +17,6 @@ use Rattle.sqlite_trees.specs.Tree.{IsAscending}
 use Rattle.sqlite_keyed.proofs.ListLemmas.{filter-map}
 use Rattle.fr_base.specs.Tables.{Table, get, contains}
 use Rattle.fr_base.specs.Keys.{names, owned}
-use Rattle.fr_base.specs.Cluster.{Cluster}
 use Rattle.fr_base.specs.Book.{Book, Variant, Frame, is_of, own}
 use Rattle.fr_base.specs.declared.name.Name.{Name}
 use Rattle.fr_base.proofs.SoundRows.{same_text-is}

@@ -1,5 +1,5 @@
 -- A register of the schema before this one, and what a migration makes of it.
-use Rattle.std.specs.Prelude.{◌≡◌, ◌++◌, pos, List, [], ◌∷◌, Result, OnOk, IsTrue}
+use Rattle.std.specs.Prelude.{◌≡◌, ◌++◌, List, [], ◌∷◌, Result, OnOk, IsTrue}
 use Rattle.sqlite.specs.Effect.{Database}
 use Rattle.sqlite.specs.State.{State, HasCleanDisk, KeepsCommit}
 use Rattle.sqlite.specs.Tree.{Trees}

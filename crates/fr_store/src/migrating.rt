@@ -14,10 +14,9 @@ ghost use Rattle.fr_store.specs.declared.fault.StoreFault.TheVariants as fault;
 
 mod files;
 
-pub use files::{migrate, migrate_at};
-
 use crate::fault::StoreFault;
 use crate::schemas::{expect_number, is_before};
+pub use files::{migrate, migrate_at};
 use fr_tables::cluster::read_before;
 use fr_tables::{making, tables};
 use sqlite::{Alter, Connection, Transaction};

@@ -8,7 +8,7 @@ use Rattle.sqlite.specs.Order.{Row}
 use Rattle.sqlite.specs.Table.{Table}
 use Rattle.sqlite.specs.Tree.{Trees}
 use Rattle.sqlite.specs.State.{State, Shows}
-use Rattle.fr_tables.specs.Schema.{register_schema, all_tables}
+use Rattle.fr_tables.specs.Schema.{register_schema}
 use Rattle.fr_tables.specs.Rows.{RegisterRow, ClusterRow, SupplierRow, NodeRow, VariantRow, GrantRow, FrameRow, PlacementRow, SignalRow, ImportRow, DroppedRow, Cluster2Row, of_register, of_cluster, of_supplier, of_node, of_variant, of_grant, of_frame, of_placement, of_signal, of_import, of_dropped, of_cluster2, register_in, cluster_in, supplier_in, node_in, variant_in, grant_in, frame_in, placement_in, signal_in, import_in, dropped_in, cluster2_in}
 use Rattle.fr_tables.specs.Tables.{Tables, HasTables, AreKept}
 use Rattle.fr_tables.specs.Changes.{Changes, tables_of}

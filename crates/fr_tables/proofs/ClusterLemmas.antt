@@ -1,9 +1,7 @@
 -- What the statements on the cluster's row do.
 use Rattle.std.proofs.Common.{ℕ, List, [], ◌∷◌, codes, map, filter, not, subst, ◌≡◌, Ok, Err, Result, MatchResult, refl}
-use Rattle.sqlite.specs.declared.types.Value.TheVariants.{Null, Int, Text}
 use Rattle.sqlite.specs.declared.error.Error.{Error}
-use Rattle.sqlite.specs.Order.{Row}
-use Rattle.sqlite.specs.Term.{lit, col}
+use Rattle.sqlite.specs.Term.{col}
 use Rattle.sqlite.specs.Listing.{understood}
 use Rattle.sqlite.specs.State.{State, ExecutesInside}
 use Rattle.sqlite_tied.specs.Compute.{everything}

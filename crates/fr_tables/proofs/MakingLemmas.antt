@@ -15,14 +15,14 @@ use Rattle.sqlite.specs.declared.error.Error.{Error}
 use Rattle.sqlite.proofs.Callers.{IsPlain, command_of, statement_of, runs_as}
 use Rattle.sqlite_tied.specs.Compute.{everything}
 use Rattle.sqlite_trees.proofs.ListLemmas.{all-append}
-use Rattle.fr_tables.specs.Schema.{schema_of, all_tables, register_schema, grants, grants_index, register_at, cluster_at, suppliers_at, nodes_at, variants_at, grants_at, frames_at, placements_at, signals_at, imports_at, dropped_at, cluster2_at, cluster2, old_tables, old_schema}
+use Rattle.fr_tables.specs.Schema.{schema_of, all_tables, register_schema, grants, grants_index, register_at, cluster_at, suppliers_at, nodes_at, variants_at, grants_at, frames_at, placements_at, signals_at, imports_at, dropped_at, cluster2_at, old_tables, old_schema}
 use Rattle.fr_tables.specs.SchemaText.{index_text, register_text, cluster_text, suppliers_text, nodes_text, variants_text, grants_text, frames_text, placements_text, signals_text, imports_text, dropped_text, cluster2_text}
 use Rattle.sqlite_schema.specs.declared.schema.Index.{Index}
 use Rattle.sqlite.specs.Order.{Row}
-use Rattle.fr_tables.specs.Tables.{HasTables, HasOldTables, AreKept, tables_in, old_tables_in}
+use Rattle.fr_tables.specs.Tables.{HasOldTables, AreKept, old_tables_in}
 use Rattle.fr_tables.specs.Rows.{of_register, of_cluster, of_supplier, of_node, of_variant, of_grant, of_frame, of_placement, of_signal, of_import, of_dropped, of_cluster2, register_in, cluster_in, supplier_in, node_in, variant_in, grant_in, frame_in, placement_in, signal_in, import_in, dropped_in, cluster2_in}
 use Rattle.fr_tables.specs.Changes.{Stays}
-use Rattle.fr_tables.specs.Making.{IsFresh, Enlarges, IsMade, IsOldMade, IsRenewed, no_rows}
+use Rattle.fr_tables.specs.Making.{IsFresh, Enlarges, IsOldMade, IsRenewed, no_rows}
 use Rattle.fr_tables.proofs.Steps.{went, same_value}
 use Rattle.fr_tables.proofs.RunLemmas.{stays_inside}
 

@@ -1,4 +1,4 @@
-use Rattle.std.proofs.Common.{rules, refl}
+use Rattle.std.proofs.Common.{refl}
 use Rattle.sqlite.specs.Held.{state}
 use Rattle.fr_store.proofs.BeforeLemmas.{stays_before}
 use Rattle.fr_store.proofs.ReadyLemmas.{prepared}

@@ -1,5 +1,4 @@
 use Rattle.std.proofs.Common.{rules, ◌≡◌, ◌∙◌, Ok, length, pos, ap, sym}
-use Rattle.sqlite.specs.Order.{column}
 use Rattle.sqlite.specs.declared.types.Value.TheVariants.{Int}
 use Rattle.fr_base.specs.Parameters.{check_params}
 use Rattle.fr_tables.proofs.ConfigLemmas.{its_row}

@@ -12,7 +12,7 @@ use Rattle.fr_store.proofs.page.view.+view_of.Goals as goal
 
 pub returns-in_default-clause-told : goal.returns-in_default-clause-told
 returns-in_default-clause-told g t c clean was =
-    let told = c.in_ok-released.ensures.told clean was in (subst (TellsLevel c.args.variant.now (tables_of (state g.S.Store c.args.conn.now))) c.in_default.is told.0, told.1)
+    let told = c.in_ok-released.ensures.told clean was in (subst (TellsLevel c.args.variant.now (tables_of (state g.S.Store c.args.conn.now))) c.in_default.is told.0 c.args.params.now.cycles, told.1)
 
 -- ---- the variant is laid over none
 
