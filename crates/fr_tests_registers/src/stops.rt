@@ -174,7 +174,7 @@ fn a_stop_as_a_register_is_made_leaves_it_or_none(rt: HostRuntime) -> Result<(),
     let making = Making::new(rt.alloc())?;
     let log = stops(rt.alloc(), &making, Fusible::Log, USUAL)?;
     let db = stops(rt.alloc(), &making, Fusible::Database, USUAL)?;
-    assert_eq!(rt; (log, db), (0, 0));
+    assert!(rt; 0 < log && 0 < db);
     Ok(())
 }
 
@@ -183,7 +183,7 @@ fn a_stop_leaves_what_was_done(rt: HostRuntime) -> Result<(), Fail> {
     let asking = Asking::new(rt.alloc())?;
     let log = stops(rt.alloc(), &asking, Fusible::Log, USUAL)?;
     let db = stops(rt.alloc(), &asking, Fusible::Database, USUAL)?;
-    assert_eq!(rt; (log, db), (0, 0));
+    assert!(rt; 0 < log && 0 < db);
     Ok(())
 }
 
@@ -192,6 +192,6 @@ fn so_it_does_where_the_log_is_copied(rt: HostRuntime) -> Result<(), Fail> {
     let asking = Asking::new(rt.alloc())?;
     let log = stops(rt.alloc(), &asking, Fusible::Log, 8)?;
     let db = stops(rt.alloc(), &asking, Fusible::Database, 8)?;
-    assert_eq!(rt; (log, db), (0, 0));
+    assert!(rt; 0 < log && 0 < db);
     Ok(())
 }
