@@ -42,7 +42,7 @@ pub fn serve<O: Write, E: Write>(
     out: &mut O,
     err: &mut Output<'_, E>,
 ) -> Result<(), Fault>
-    ensures front { AppendsFront (O.contents out.old) (O.contents out.new) (listening service.now.port) }
+    ensures front { AppendsFront (O.contents out.old) (O.contents out.new) (listening service.port) }
     ensures same { err.new.writer.ghost_name ≡ err.old.writer.ghost_name }
 {
     let mut desk = FileDesk::open(rt, db)?;

@@ -1,4 +1,4 @@
--- The rows of suppliers that have their form.
+-- The rows of a cluster and of its suppliers that have their form.
 use Rattle.std.specs.Prelude.{◌≡◌, pos, List, IsTrue}
 use Rattle.std.specs.List.{list_all}
 use Rattle.sqlite.specs.Order.{Row, column}
@@ -11,15 +11,15 @@ use Rattle.fr_tables.specs.Statements.{shows_supplier}
 use Rattle.fr_tables.specs.Filling.{supplier_row}
 
 -- the first eight columns say these parameters, but for the count of cycles
-pub record TellsParams (row : Row) (p : RawParams) : Type 0 where
-  pub static_slots : column row 0 ≡ Int (pos p.static_slots)
-  pub slot_macroticks : column row 1 ≡ Int (pos p.slot_macroticks)
-  pub dynamic_macroticks : column row 2 ≡ Int (pos p.dynamic_macroticks)
-  pub symbol_macroticks : column row 3 ≡ Int (pos p.symbol_macroticks)
-  pub idle_macroticks : column row 4 ≡ Int (pos p.idle_macroticks)
-  pub macroticks_per_cycle : column row 5 ≡ Int (pos p.macroticks_per_cycle)
-  pub payload_words : column row 6 ≡ Int (pos p.payload_words)
-  pub channels : column row 7 ≡ Text (text_of_channels p.channels)
+pub record TellsParams (r : Row) (p : RawParams) : Type 0 where
+  pub static_slots : column r 0 ≡ Int (pos p.static_slots)
+  pub slot_macroticks : column r 1 ≡ Int (pos p.slot_macroticks)
+  pub dynamic_macroticks : column r 2 ≡ Int (pos p.dynamic_macroticks)
+  pub symbol_macroticks : column r 3 ≡ Int (pos p.symbol_macroticks)
+  pub idle_macroticks : column r 4 ≡ Int (pos p.idle_macroticks)
+  pub macroticks_per_cycle : column r 5 ≡ Int (pos p.macroticks_per_cycle)
+  pub payload_words : column r 6 ≡ Int (pos p.payload_words)
+  pub channels : column r 7 ≡ Text (text_of_channels p.channels)
 
 abbrev pub shown_supplier : Supplier → Row
 shown_supplier s = shows_supplier (supplier_row s)
