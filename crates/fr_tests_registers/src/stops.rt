@@ -166,7 +166,7 @@ fn count_done<D: Desk>(alloc: Global, desk: &mut D, lines: &[Line]) -> Result<us
 
 // Whether the answer is that of a request that was stopped, or of one after it.
 fn is_refused(answer: &[u8], is_first: bool) -> bool {
-    answer == UNAVAILABLE.as_bytes() || !is_first && answer.starts_with(b"{\"no\":")
+    answer == UNAVAILABLE.as_bytes() || !is_first && !answer.starts_with(b"{\"ok\":")
 }
 
 #[test]
