@@ -80,7 +80,12 @@ fn a_fault_is_told_by_its_word(rt: HostRuntime) -> Result<(), Fail> {
     assert!(rt; prints(&rt, &create, ""));
     let listener = TcpListener::bind(&rt, (Ipv4Addr::LOCALHOST, 0))?;
     let port = listener.local_addr()?.port();
-    let serve = Job::Serve { db, port, count: 1 };
+    let serve = Job::Serve {
+        db,
+        port,
+        count: 1,
+        seconds: 10,
+    };
     assert!(rt; fails(&rt, &serve, "slotplan: CannotListen\n"));
     for path in [db, config, text] {
         fs::remove_file(&rt, path)?;
