@@ -39,6 +39,7 @@ pub mod ClimbLemmas
 pub mod OwnCopies
 pub mod EditSteps
 pub mod CommitLemmas
+pub mod CrashLemmas
 pub mod ChainLemmas
 pub mod ReadyLemmas
 pub mod StandsForWorked

@@ -2,6 +2,7 @@ pub mod Opening
 pub mod Before
 pub mod Store
 pub mod StoreFiles
+pub mod Crashes
 pub mod StandsFor
 pub mod Owning
 pub mod Applying

@@ -1,12 +1,13 @@
 //! Edits of the register's rows, all carried out in one transaction, or none.
 
-ghost use Rattle.std.specs.Prelude.{◌≡◌, false, IfErr, OnErr, OnOk};
+ghost use Rattle.std.specs.Prelude.{◌≡◌, false, [], ◌∷◌, IfErr, OnErr, OnOk, IsTrue};
 ghost use Rattle.sqlite.specs.State.{HasCleanDisk, Survives};
 ghost use Rattle.sqlite.specs.Held.{state};
 ghost use Rattle.fr_world.specs.BookEdits.{all_applied};
 ghost use Rattle.fr_world.specs.Fits.{AllFit};
 ghost use Rattle.fr_store.specs.Joined.{after_edits};
 ghost use Rattle.fr_store.specs.Applying.{CarriesOutAll, LeavesAll, StaysInside};
+ghost use Rattle.fr_store.specs.Crashes.{LeavesOnly};
 ghost use Rattle.fr_tables.specs.Asking.{AreAsBefore};
 ghost use Rattle.fr_store.specs.Reading.{Stands};
 ghost use Rattle.fr_tables.specs.Tables.{HasTables};
@@ -48,6 +49,7 @@ fn in_one<S: Alter>(conn: &mut Connection<S>, edits: &[Edit]) -> Result<(), Stor
     ensures stands { HasCleanDisk (state S.Store conn.new) → (c : _) (b : _) → Stands (state S.Store conn.old) c b → AllFit c.params b edits.now
         → OnOk result (Stands (state S.Store conn.new) c (all_applied b edits.now)) }
     ensures committed { HasCleanDisk (state S.Store conn.new) → OnOk result ((state S.Store conn.new).committed ≡ (state S.Store conn.new).now) }
+    ensures open { HasCleanDisk (state S.Store conn.new) → OnOk result (IsTrue (state S.Store conn.new).is_open) }
     ensures undone { HasCleanDisk (state S.Store conn.new) → HasTables (state S.Store conn.old).now → OnErr result (AreAsBefore (state S.Store conn.old) (state S.Store conn.new)) }
     ensures refused { IfErr result (λ fault. fault ≡ Unavailable) }
     ensures autocommit { conn.new.in_transaction ≡ false }
@@ -65,11 +67,13 @@ impl<S: Alter> Store<S> {
     /// fit the rows that those before it left: what it adds is not there, what it names or takes out is
     /// there, a variant that changes is open, and a parent is released. The config then lists the
     /// suppliers that joined. The only refusal is `Unavailable`, also where the config does not admit a
-    /// supplier; then the rows and the config are as they were.
+    /// supplier; then the rows and the config are as they were, but a crash may leave the rows after the
+    /// edits. Where they were carried out, a crash leaves no others.
     pub fn apply(&mut self, alloc: Global, edits: &[Edit]) -> Result<(), StoreFault>
         ensures stands { HasCleanDisk (state S.Store self.new.conn) → (c : _) (b : _) → Stands (state S.Store self.old.conn) c b → AllFit c.params b edits.now
             → OnOk result (Stands (state S.Store self.new.conn) c (all_applied b edits.now)) }
         ensures committed { HasCleanDisk (state S.Store self.new.conn) → OnOk result ((state S.Store self.new.conn).committed ≡ (state S.Store self.new.conn).now) }
+        ensures open { HasCleanDisk (state S.Store self.new.conn) → OnOk result (IsTrue (state S.Store self.new.conn).is_open) }
         ensures undone { HasCleanDisk (state S.Store self.new.conn) → HasTables (state S.Store self.old.conn).now
             → OnErr result (AreAsBefore (state S.Store self.old.conn) (state S.Store self.new.conn)) }
         ensures refused { IfErr result (λ fault. fault ≡ Unavailable) }
@@ -77,6 +81,10 @@ impl<S: Alter> Store<S> {
         ensures config { OnOk result (self.new.config ≡ after_edits self.old.config edits.now) }
         ensures same { OnErr result (self.new.config ≡ self.old.config) }
         ensures survives { Survives (state S.Store self.old.conn) (state S.Store self.new.conn) (LeavesAll edits.now (state S.Store self.old.conn)) }
+        ensures leaves { HasCleanDisk (state S.Store self.new.conn) → (c : _) (b : _) (books : _) → Stands (state S.Store self.old.conn) c b → AllFit c.params b edits.now
+            → LeavesOnly (state S.Store self.old.conn) c books → LeavesOnly (state S.Store self.new.conn) c (all_applied b edits.now ∷ books) }
+        ensures durable { HasCleanDisk (state S.Store self.new.conn) → (c : _) (b : _) → Stands (state S.Store self.old.conn) c b → AllFit c.params b edits.now
+            → OnOk result (LeavesOnly (state S.Store self.new.conn) c (all_applied b edits.now ∷ [])) }
     {
         if !self.conn.is_autocommit() {
             return Err(StoreFault::Unavailable);

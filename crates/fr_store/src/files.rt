@@ -132,11 +132,12 @@ impl<D: Disk + Drop> Store<FileStore<D>> {
     ) -> Result<Store<FileStore<D>>, (StoreFault, Option<Files<D>>)>
         requires log { IsTrue (D.Disk.is_usable files.log) }
         requires db { IsTrue (D.Disk.is_usable files.db) }
-        ensures stands { IfOk result (λ s. HasCleanDisk (file_state s.conn) → IsTrue (file_state s.conn).is_open → IsRegisterOf s.config (file_state s.conn).now) }
-        ensures opened { IfOk result (λ s. HasCleanDisk (file_state s.conn) → IsTrue (file_state s.conn).is_open → (c : _) (db : _) → HoldsRegister c (image_of D.Disk files) db
+        ensures open { IfOk result (λ s. HasCleanDisk (file_state s.conn) → IsTrue (file_state s.conn).is_open) }
+        ensures stands { IfOk result (λ s. HasCleanDisk (file_state s.conn) → IsRegisterOf s.config (file_state s.conn).now) }
+        ensures opened { IfOk result (λ s. HasCleanDisk (file_state s.conn) → (c : _) (db : _) → HoldsRegister c (image_of D.Disk files) db
             → ((file_state s.conn).now ≡ database_of db) × ((file_state s.conn).committed ≡ database_of db)) }
-        ensures variants { IfOk result (λ s. HasCleanDisk (file_state s.conn) → IsTrue (file_state s.conn).is_open → TellsOpened (tables_of (file_state s.conn))) }
-        ensures again { IfOk result (λ s. HasCleanDisk (file_state s.conn) → IsTrue (file_state s.conn).is_open → FindsBook (image_of D.Disk files) (file_state s.conn) s.config) }
+        ensures variants { IfOk result (λ s. HasCleanDisk (file_state s.conn) → TellsOpened (tables_of (file_state s.conn))) }
+        ensures again { IfOk result (λ s. HasCleanDisk (file_state s.conn) → FindsBook (image_of D.Disk files) (file_state s.conn) s.config) }
         ensures honest { IfOk result (λ s. HasCleanDisk (file_state s.conn) → AreClean D.Disk files.log files.db) }
         ensures outside { IfOk result (λ s. s.conn.in_transaction ≡ false) }
         ensures survives { IfOk result (λ s. SurvivesSince (image_of D.Disk files) s.conn (λ _. ⊥)) }

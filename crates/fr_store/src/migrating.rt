@@ -73,7 +73,7 @@ fn in_one<S: Alter>(conn: &mut Connection<S>) -> Result<(), StoreFault>
 }
 
 /// That the connection is open, with its tables as they are.
-fn see_open<S: Alter>(conn: &mut Connection<S>) -> Result<(), StoreFault>
+pub(crate) fn see_open<S: Alter>(conn: &mut Connection<S>) -> Result<(), StoreFault>
     requires { conn.old.in_transaction ≡ false }
     ensures open { HasCleanDisk (state S.Store conn.new) → OnOk result (IsUnchanged (state S.Store conn.old) (state S.Store conn.new)) }
     ensures same { HasCleanDisk (state S.Store conn.new) → AreAsBefore (state S.Store conn.old) (state S.Store conn.new) }

@@ -16,6 +16,7 @@ ghost use Rattle.fr_store.specs.Opening.{Explains};
 ghost use Rattle.fr_store.specs.declared.fault.StoreFault.TheVariants as fault;
 
 use crate::fault::StoreFault;
+use crate::migrating::see_open;
 use crate::reading::opened_variants;
 use crate::schemas::{expect_number, is_ours};
 use crate::store::Store;
@@ -77,8 +78,9 @@ fn recognized<S: Alter>(alloc: Global, conn: &mut Connection<S>) -> Result<Confi
     requires { conn.old.in_transaction ≡ false }
     ensures formed { IfOk result IsWellFormed }
     ensures ours { OnOk result ((state S.Store conn.new).now.schema ≡ register_schema) }
-    ensures stands { HasCleanDisk (state S.Store conn.new) → IsTrue (state S.Store conn.new).is_open → AreOrdered (state S.Store conn.old).now.trees → IfOk result (λ c. IsRegisterOf c (state S.Store conn.new).now) }
-    ensures variants { HasCleanDisk (state S.Store conn.new) → IsTrue (state S.Store conn.new).is_open → HasTables (state S.Store conn.new).now → OnOk result (TellsOpened (tables_of (state S.Store conn.new))) }
+    ensures stands { HasCleanDisk (state S.Store conn.new) → AreOrdered (state S.Store conn.old).now.trees → IfOk result (λ c. IsRegisterOf c (state S.Store conn.new).now) }
+    ensures variants { HasCleanDisk (state S.Store conn.new) → HasTables (state S.Store conn.new).now → OnOk result (TellsOpened (tables_of (state S.Store conn.new))) }
+    ensures open { HasCleanDisk (state S.Store conn.new) → OnOk result (IsTrue (state S.Store conn.new).is_open) }
     ensures told { HasCleanDisk (state S.Store conn.new) → IfErr result (Explains (state S.Store conn.old).now) }
     ensures not_made { IfErr result (λ e. e ≢ fault.NotEmpty) }
     ensures same { HasCleanDisk (state S.Store conn.new) → AreAsBefore (state S.Store conn.old) (state S.Store conn.new) }
@@ -89,6 +91,7 @@ fn recognized<S: Alter>(alloc: Global, conn: &mut Connection<S>) -> Result<Confi
     let Some(config) = config(alloc, conn) else {
         return Err(StoreFault::Unavailable);
     };
+    see_open(conn)?;
     if is_ours(alloc, conn.schema()) {
         Ok(config)
     } else {
@@ -97,16 +100,18 @@ fn recognized<S: Alter>(alloc: Global, conn: &mut Connection<S>) -> Result<Confi
 }
 
 impl<S: Alter + Drop> Store<S> {
-    /// The register that the tables are. A refusal hands the connection back, its tables as they were.
+    /// The register that the tables are; its connection is open. A refusal hands the connection back, its
+    /// tables as they were.
     pub fn open_on(
         alloc: Global,
         mut conn: Connection<S>,
     ) -> Result<Store<S>, (StoreFault, Connection<S>)>
-        ensures opened { IfOk result (λ s. HasCleanDisk (state S.Store s.conn) → AreAsBefore (state S.Store conn) (state S.Store s.conn)) }
+        ensures open { IfOk result (λ s. HasCleanDisk (state S.Store s.conn) → IsTrue (state S.Store conn).is_open × IsTrue (state S.Store s.conn).is_open) }
+        ensures opened { IfOk result (λ s. HasCleanDisk (state S.Store s.conn) → ((state S.Store s.conn).now ≡ (state S.Store conn).now) × ((state S.Store s.conn).committed ≡ (state S.Store conn).committed)) }
         ensures ours { IfOk result (λ s. (state S.Store s.conn).now.schema ≡ register_schema) }
-        ensures stands { IfOk result (λ s. HasCleanDisk (state S.Store s.conn) → IsTrue (state S.Store s.conn).is_open → AreOrdered (state S.Store conn).now.trees → IsRegisterOf s.config (state S.Store s.conn).now) }
-        ensures variants { IfOk result (λ s. HasCleanDisk (state S.Store s.conn) → IsTrue (state S.Store s.conn).is_open → HasTables (state S.Store s.conn).now → TellsOpened (tables_of (state S.Store s.conn))) }
-        ensures again { IfOk result (λ s. HasCleanDisk (state S.Store s.conn) → IsTrue (state S.Store s.conn).is_open → FindsAgain (state S.Store conn) (state S.Store s.conn) s.config) }
+        ensures stands { IfOk result (λ s. HasCleanDisk (state S.Store s.conn) → AreOrdered (state S.Store conn).now.trees → IsRegisterOf s.config (state S.Store s.conn).now) }
+        ensures variants { IfOk result (λ s. HasCleanDisk (state S.Store s.conn) → HasTables (state S.Store s.conn).now → TellsOpened (tables_of (state S.Store s.conn))) }
+        ensures again { IfOk result (λ s. HasCleanDisk (state S.Store s.conn) → FindsAgain (state S.Store conn) (state S.Store s.conn) s.config) }
         ensures outside { IfOk result (λ s. s.conn.in_transaction ≡ false) }
         ensures survives { IfOk result (λ s. Survives (state S.Store conn) (state S.Store s.conn) (λ _. ⊥)) }
         ensures told { IfErr result (λ e. HasCleanDisk (state S.Store e.1) → Explains (state S.Store conn).now e.0) }

@@ -95,11 +95,12 @@ impl<S: Start> Store<FileStore<FileFrom<S>>> {
         path: &str,
         start: S,
     ) -> Result<Store<FileStore<FileFrom<S>>>, (StoreFault, Option<Leftover<FileFrom<S>>>)>
-        ensures stands { IfOk result (λ s. HasCleanDisk (file_state s.conn) → IsTrue (file_state s.conn).is_open → IsRegisterOf s.config (file_state s.conn).now) }
-        ensures opened { IfOk result (λ s. HasCleanDisk (file_state s.conn) → IsTrue (file_state s.conn).is_open → (c : _) (db : _) → HoldsRegister c (image_at S.Start) db
+        ensures open { IfOk result (λ s. HasCleanDisk (file_state s.conn) → IsTrue (file_state s.conn).is_open) }
+        ensures stands { IfOk result (λ s. HasCleanDisk (file_state s.conn) → IsRegisterOf s.config (file_state s.conn).now) }
+        ensures opened { IfOk result (λ s. HasCleanDisk (file_state s.conn) → (c : _) (db : _) → HoldsRegister c (image_at S.Start) db
             → ((file_state s.conn).now ≡ database_of db) × ((file_state s.conn).committed ≡ database_of db)) }
-        ensures variants { IfOk result (λ s. HasCleanDisk (file_state s.conn) → IsTrue (file_state s.conn).is_open → TellsOpened (tables_of (file_state s.conn))) }
-        ensures again { IfOk result (λ s. HasCleanDisk (file_state s.conn) → IsTrue (file_state s.conn).is_open → FindsBook (image_at S.Start) (file_state s.conn) s.config) }
+        ensures variants { IfOk result (λ s. HasCleanDisk (file_state s.conn) → TellsOpened (tables_of (file_state s.conn))) }
+        ensures again { IfOk result (λ s. HasCleanDisk (file_state s.conn) → FindsBook (image_at S.Start) (file_state s.conn) s.config) }
         ensures survives { IfOk result (λ s. SurvivesSince (image_at S.Start) s.conn (λ _. ⊥)) }
         ensures outside { IfOk result (λ s. s.conn.in_transaction ≡ false) }
         ensures told { IfErr result (λ e. IfSome e.1 (λ left. IsCleanLeft left → (d : _) → IsDatabase d → HoldsDatabase (image_at S.Start) d.trees → Explains d e.0)) }

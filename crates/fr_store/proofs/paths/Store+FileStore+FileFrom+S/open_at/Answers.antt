@@ -21,27 +21,27 @@ returns-in-Err-clause-known g c =
     only_unavailable_files (image_at g.S.Start) k db c.in-Err.fault holds (λ d is held. subst (Explains d) (sym (told clean d.trees held)) tt))
 
 pub returns-in-Ok-open_on-clause-stands : goal.returns-in-Ok-open_on-clause-stands
-returns-in-Ok-open_on-clause-stands g c clean up =
+returns-in-Ok-open_on-clause-stands g c clean =
     let before : HasCleanDisk (file_state c.in-Ok.conn) = omega (arith, c.in-Ok-open_on.ensures.survives.clean, clean) in
-    let same = c.in-Ok-open_on.ensures.opened clean up in
-    let schema : (file_state c.in-Ok.conn).now.schema ≡ register_schema = ap (λ (d : Database). d.schema) (sym same.1) ∙ c.in-Ok-open_on.ensures.ours in
-    c.in-Ok-open_on.ensures.stands clean up (c.in-Ok.ensures.ordered before schema)
+    let same = c.in-Ok-open_on.ensures.opened clean in
+    let schema : (file_state c.in-Ok.conn).now.schema ≡ register_schema = ap (λ (d : Database). d.schema) (sym same.0) ∙ c.in-Ok-open_on.ensures.ours in
+    c.in-Ok-open_on.ensures.stands clean (c.in-Ok.ensures.ordered before schema)
 
 pub returns-in-Ok-open_on-clause-opened : goal.returns-in-Ok-open_on-clause-opened
-returns-in-Ok-open_on-clause-opened g c clean up k db holds =
+returns-in-Ok-open_on-clause-opened g c clean k db holds =
     let before : HasCleanDisk (file_state c.in-Ok.conn) = omega (arith, c.in-Ok-open_on.ensures.survives.clean, clean) in
-    let same = c.in-Ok-open_on.ensures.opened clean up in
+    let same = c.in-Ok-open_on.ensures.opened clean in
     let is = c.in-Ok.ensures.opens before in
     let found = found_database (image_at g.S.Start) (file_state c.in-Ok.conn).now (database_of db) (is.1 is.0.is_open).0 (c.in-Ok.ensures.found before) holds.held in
-    (same.1 ∙ found, same.2 ∙ sym is.0.clean ∙ found)
+    (same.0 ∙ found, same.1 ∙ sym is.0.clean ∙ found)
 
 pub returns-in-Ok-open_on-clause-again : goal.returns-in-Ok-open_on-clause-again
-returns-in-Ok-open_on-clause-again g c clean up k b holds =
+returns-in-Ok-open_on-clause-again g c clean k b holds =
     let before : HasCleanDisk (file_state c.in-Ok.conn) = omega (arith, c.in-Ok-open_on.ensures.survives.clean, clean) in
     let is = c.in-Ok.ensures.opens before in
     let image = image_at g.S.Start in
     let found = found_database image (file_state c.in-Ok.conn).now (database_of holds.trees) (is.1 is.0.is_open).0 (c.in-Ok.ensures.found before) holds.register.held in
-    c.in-Ok-open_on.ensures.again clean up k b (held_stands image (file_state c.in-Ok.conn) k b holds found)
+    c.in-Ok-open_on.ensures.again clean k b (held_stands image (file_state c.in-Ok.conn) k b holds found)
 
 pub returns-in-Some-clause-told : goal.returns-in-Some-clause-told
 returns-in-Some-clause-told g c clean d is held =
@@ -59,4 +59,4 @@ pub returns-in-Ok-open_on-clause-survives : goal.returns-in-Ok-open_on-clause-su
 returns-in-Ok-open_on-clause-survives g c = (c.in-Ok.conn, record { opens = c.in-Ok.ensures.opens; found = c.in-Ok.ensures.found }, c.in-Ok-open_on.ensures.survives)
 
 pub returns-in-Ok-open_on-clause-variants : goal.returns-in-Ok-open_on-clause-variants
-returns-in-Ok-open_on-clause-variants g c clean up = c.in-Ok-open_on.ensures.variants clean up (returns-in-Ok-open_on-clause-stands g c clean up).has
+returns-in-Ok-open_on-clause-variants g c clean = c.in-Ok-open_on.ensures.variants clean (returns-in-Ok-open_on-clause-stands g c clean).has
