@@ -17,3 +17,4 @@ pub mod StepLaws
 pub mod GatherLaws
 pub mod GrantLaws
 pub mod AllReplies
+pub mod CrashLaws

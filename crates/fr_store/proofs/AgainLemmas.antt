@@ -9,6 +9,7 @@ use Rattle.sqlite_wal.specs.Recovery.{Image}
 use Rattle.fr_base.specs.Cluster.{Cluster, ClusterFile, IsWellFormed}
 use Rattle.fr_base.specs.Book.{Book, file_of}
 use Rattle.fr_tables.specs.Rows.{RegisterRow}
+use Rattle.fr_tables.specs.Schema.{register_schema}
 use Rattle.fr_tables.specs.Tables.{Tables, HasTables, tables_in, AreOrdered}
 use Rattle.fr_store.specs.StandsFor.{StandsFor}
 use Rattle.fr_store.specs.Reading.{Stands}
@@ -64,6 +65,12 @@ only_unavailable_files image c db e h told = refused_alone_files our_schema_numb
 pub held_stands : (image : Image) (s : State) (c : Cluster) (b : Book) (h : HoldsBook c b image) → s.now ≡ database_of h.trees → Stands s c b
 held_stands image s c b h is =
     record { has = subst HasTables (sym is) h.register.is.has; for = subst (λ (d : Database). StandsFor (tables_in d.trees) c b) (sym is) h.for }
+
+-- what was found of it, whose schema is this one's
+pub left_stands : (s : State) (c : Cluster) (b : Book) (db : Trees) → IsRegisterFor c b (database_of db) → s.now.schema ≡ register_schema → s.now.trees ≡ db → Stands s c b
+left_stands s c b db is schema trees =
+    let same : s.now ≡ database_of db = λ i. record { schema = schema i; trees = trees i } in
+    record { has = subst HasTables (sym same) is.has; for = subst (λ (d : Database). StandsFor (tables_in d.trees) c b) (sym same) is.for }
 
 -- a register whose tables stand for a book, in files
 pub holds_book : (image : Image) (db : Database) (c : Cluster) (b : Book) → IsRegisterFor c b db → IsHeld image db → HoldsBook c b image

@@ -1,7 +1,9 @@
 -- What a crash leaves of a register.
 use Rattle.std.specs.Prelude.{◌≡◌, ◌⊎◌, List, [], ◌∷◌, IsTrue}
+use Rattle.sqlite.specs.Files.{HoldsDatabase}
 use Rattle.sqlite.specs.State.{State}
 use Rattle.sqlite.specs.Tree.{Trees}
+use Rattle.sqlite_wal.specs.Recovery.{Image}
 use Rattle.fr_base.specs.Book.{Book}
 use Rattle.fr_base.specs.Cluster.{Cluster}
 use Rattle.fr_store.specs.Store.{IsRegisterFor}
@@ -21,3 +23,7 @@ LeavesOnly s c books = (db : Trees) → s.may_leave db → IsForOne c books db
 pub record StoredLeaves (s : State) (c : Cluster) (books : List Book) : Type 0 where
   pub rows : IsTrue s.is_open → HasTables s.now × (s.committed ≡ s.now)
   pub left : LeavesOnly s c books
+
+-- the files hold a register of this cluster, whose tables stand for one of these books
+abbrev pub HoldsOne : Cluster → List Book → Image → Type 0
+HoldsOne c books image = (db : Trees) × HoldsDatabase image db × IsForOne c books db

@@ -46,6 +46,10 @@ KeepsBook db image = (c : Cluster) (b : Book) → IsRegisterFor c b db → Holds
 abbrev pub FindsBook : Image → State → ClusterFile → Type 0
 FindsBook image s found = (c : Cluster) (b : Book) → HoldsBook c b image → (found ≡ file_of c b) × Stands s c b
 
+-- so where all that is known of what they held is that its tables stood for the book
+abbrev pub FindsLeft : Image → State → ClusterFile → Type 0
+FindsLeft image s found = (c : Cluster) (b : Book) (db : Trees) → HoldsDatabase image db → IsRegisterFor c b (database_of db) → (found ≡ file_of c b) × Stands s c b
+
 module _ {D : Type 0} {g : Ghosts D} where
   -- what is left of two files
   abbrev pub image_left : Leftover D g → Image

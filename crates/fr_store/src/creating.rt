@@ -1,6 +1,6 @@
 //! Makes a register.
 
-ghost use Rattle.std.specs.Prelude.{◌≡◌, IsTrue, IfOk, IfErr, OnOk, OnErr, false};
+ghost use Rattle.std.specs.Prelude.{◌≡◌, [], ◌∷◌, IsTrue, IfOk, IfErr, OnOk, OnErr, false};
 ghost use Rattle.std.specs.List.{list_any};
 ghost use Rattle.sqlite_schema.specs.Names.{same_name};
 ghost use Rattle.sqlite.specs.State.{HasCleanDisk, Survives};
@@ -9,6 +9,7 @@ ghost use Rattle.fr_base.specs.Book.{opening};
 ghost use Rattle.fr_tables.specs.Filling.{with_config};
 ghost use Rattle.fr_tables.specs.Making.{IsFresh, no_rows};
 ghost use Rattle.fr_tables.specs.Asking.{AreAsBefore};
+ghost use Rattle.fr_store.specs.Crashes.{LeavesOnly};
 ghost use Rattle.fr_store.specs.Reading.{Stands};
 ghost use Rattle.fr_tables.specs.Schema.{schema_of};
 ghost use Rattle.fr_store.specs.Store.{IsNewOf, MakesNew, Forbids, is_ours, has_table};
@@ -39,6 +40,7 @@ fn create<S: Alter>(conn: &mut Connection<S>, config: &Config) -> Result<(), Err
     requires { conn.old.in_transaction ≡ false }
     ensures made { HasCleanDisk (state S.Store conn.new) → IsFresh 0 0 (state S.Store conn.old).now → OnOk result (IsNewOf config.now (state S.Store conn.new).now) }
     ensures committed { HasCleanDisk (state S.Store conn.new) → OnOk result ((state S.Store conn.new).committed ≡ (state S.Store conn.new).now) }
+    ensures open { HasCleanDisk (state S.Store conn.new) → OnOk result (IsTrue (state S.Store conn.new).is_open) }
     ensures undone { HasCleanDisk (state S.Store conn.new) → IsFresh 0 0 (state S.Store conn.old).now → OnErr result (AreAsBefore (state S.Store conn.old) (state S.Store conn.new)) }
     ensures autocommit { conn.new.in_transaction ≡ false }
     ensures survives { IsFresh 0 0 (state S.Store conn.old).now → Survives (state S.Store conn.old) (state S.Store conn.new) (λ db. tables_in db ≡ with_config config.now no_rows) }
@@ -93,8 +95,8 @@ fn is_bare(schema: &Schema) -> bool
 }
 
 impl<S: Alter + Drop> Store<S> {
-    /// Makes a register of this cluster, where no table is. It is NotEmpty where one of a register's
-    /// tables is there already. A refusal hands the connection back, its tables as they were.
+    /// Makes a register of this cluster, where no table is. What a crash then leaves is this register. It is
+    /// NotEmpty where one of a register's tables is there already. A refusal hands the connection back, its tables as they were.
     pub fn create_on(
         alloc: Global,
         mut conn: Connection<S>,
@@ -103,6 +105,8 @@ impl<S: Alter + Drop> Store<S> {
         ensures made { IfOk result (λ s. HasCleanDisk (state S.Store s.conn) → IsNewOf config.now (state S.Store s.conn).now) }
         ensures stands { IfOk result (λ s. HasCleanDisk (state S.Store s.conn) → Stands (state S.Store s.conn) config.now.cluster (opening config.now)) }
         ensures committed { IfOk result (λ s. HasCleanDisk (state S.Store s.conn) → (state S.Store s.conn).committed ≡ (state S.Store s.conn).now) }
+        ensures open { IfOk result (λ s. HasCleanDisk (state S.Store s.conn) → IsTrue (state S.Store s.conn).is_open) }
+        ensures durable { IfOk result (λ s. HasCleanDisk (state S.Store s.conn) → LeavesOnly (state S.Store s.conn) config.now.cluster (opening config.now ∷ [])) }
         ensures config { IfOk result (λ s. s.config ≡ config.now) }
         ensures outside { IfOk result (λ s. s.conn.in_transaction ≡ false) }
         ensures survives { IfOk result (λ s. Survives (state S.Store conn) (state S.Store s.conn) (λ db. tables_in db ≡ with_config config.now no_rows)) }

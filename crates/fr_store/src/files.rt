@@ -1,6 +1,6 @@
 //! A register in a database file and its log.
 
-ghost use Rattle.std.specs.Prelude.{◌≡◌, ◌≢◌, IsTrue, IfOk, IfErr, IfSome, None, false};
+ghost use Rattle.std.specs.Prelude.{◌≡◌, ◌≢◌, [], ◌∷◌, IsTrue, IfOk, IfErr, IfSome, None, false};
 ghost use Rattle.sqlite_wal.specs.Files.{outcomes};
 ghost use Rattle.sqlite_wal.specs.Reads.{AreClean};
 ghost use Rattle.sqlite.specs.Effect.{IsDatabase};
@@ -15,7 +15,8 @@ ghost use Rattle.fr_tables.specs.Changes.{tables_of};
 ghost use Rattle.fr_store.specs.Reading.{Stands, TellsOpened};
 ghost use Rattle.fr_tables.specs.Tables.{AreOrdered, AreOrderedBefore, tables_in};
 ghost use Rattle.fr_store.specs.Store.{IsNewOf, IsRegisterOf, MayForbid};
-ghost use Rattle.fr_store.specs.StoreFiles.{HoldsRegister, KeepsBook, FindsBook, IsHeld, SurvivesSince, database_of};
+ghost use Rattle.fr_store.specs.Crashes.{HoldsOne, LeavesOnly};
+ghost use Rattle.fr_store.specs.StoreFiles.{HoldsRegister, KeepsBook, FindsBook, FindsLeft, IsHeld, SurvivesSince, database_of};
 ghost use Rattle.fr_store.specs.declared.fault.StoreFault.TheVariants as fault;
 
 use crate::fault::StoreFault;
@@ -89,6 +90,15 @@ impl<D: Disk + Drop> Store<FileStore<D>> {
         }
     }
 
+    /// Gives the files back as they are, with nothing written. What a crash leaves of them holds a register that it
+    /// might have left before.
+    pub fn give_up(self) -> Files<D>
+        ensures left { AreClean D.Disk result.log result.db → (image : _) → outcomes D.Disk result.log result.db image → (c : _) (books : _)
+            → LeavesOnly (file_state self.conn) c books → ∥ HoldsOne c books image ∥₁ }
+    {
+        self.into_connection().into_store().close()
+    }
+
     /// Makes a register of this cluster in files that hold no table: all of it, or nothing. It is NotEmpty
     /// where they hold one of a register's tables already, and then they hold what they held. A refusal
     /// gives the files back, unless they fail to close.
@@ -103,6 +113,8 @@ impl<D: Disk + Drop> Store<FileStore<D>> {
         ensures made { IfOk result (λ s. HasCleanDisk (file_state s.conn) → IsNewOf config.now (file_state s.conn).now) }
         ensures stands { IfOk result (λ s. HasCleanDisk (file_state s.conn) → Stands (file_state s.conn) config.now.cluster (opening config.now)) }
         ensures committed { IfOk result (λ s. HasCleanDisk (file_state s.conn) → (file_state s.conn).committed ≡ (file_state s.conn).now) }
+        ensures open { IfOk result (λ s. HasCleanDisk (file_state s.conn) → IsTrue (file_state s.conn).is_open) }
+        ensures durable { IfOk result (λ s. HasCleanDisk (file_state s.conn) → LeavesOnly (file_state s.conn) config.now.cluster (opening config.now ∷ [])) }
         ensures config { IfOk result (λ s. s.config ≡ config.now) }
         ensures honest { IfOk result (λ s. HasCleanDisk (file_state s.conn) → AreClean D.Disk files.log files.db) }
         ensures outside { IfOk result (λ s. s.conn.in_transaction ≡ false) }
@@ -138,6 +150,7 @@ impl<D: Disk + Drop> Store<FileStore<D>> {
             → ((file_state s.conn).now ≡ database_of db) × ((file_state s.conn).committed ≡ database_of db)) }
         ensures variants { IfOk result (λ s. HasCleanDisk (file_state s.conn) → TellsOpened (tables_of (file_state s.conn))) }
         ensures again { IfOk result (λ s. HasCleanDisk (file_state s.conn) → FindsBook (image_of D.Disk files) (file_state s.conn) s.config) }
+        ensures left { IfOk result (λ s. HasCleanDisk (file_state s.conn) → FindsLeft (image_of D.Disk files) (file_state s.conn) s.config) }
         ensures honest { IfOk result (λ s. HasCleanDisk (file_state s.conn) → AreClean D.Disk files.log files.db) }
         ensures outside { IfOk result (λ s. s.conn.in_transaction ≡ false) }
         ensures survives { IfOk result (λ s. SurvivesSince (image_of D.Disk files) s.conn (λ _. ⊥)) }

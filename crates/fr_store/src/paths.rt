@@ -1,6 +1,6 @@
 //! A register in the database file at a path.
 
-ghost use Rattle.std.specs.Prelude.{◌≡◌, ◌≢◌, IsTrue, IfOk, IfErr, IfSome, None, false};
+ghost use Rattle.std.specs.Prelude.{◌≡◌, ◌≢◌, [], ◌∷◌, IsTrue, IfOk, IfErr, IfSome, None, false};
 ghost use Rattle.sqlite_wal.specs.Files.{image_at};
 ghost use Rattle.sqlite.specs.State.{HasCleanDisk, Opens, IsLive};
 ghost use Rattle.sqlite.specs.Effect.{IsDatabase};
@@ -8,13 +8,14 @@ ghost use Rattle.sqlite.specs.Files.{file_state, HoldsDatabase, IsCleanLeft};
 ghost use Rattle.fr_base.specs.Book.{opening};
 ghost use Rattle.fr_tables.specs.Filling.{with_config};
 ghost use Rattle.fr_tables.specs.Making.{no_rows};
+ghost use Rattle.fr_store.specs.Crashes.{LeavesOnly};
 ghost use Rattle.fr_store.specs.Opening.{Explains};
 ghost use Rattle.fr_tables.specs.Changes.{tables_of};
 ghost use Rattle.fr_store.specs.Reading.{Stands, TellsOpened};
 ghost use Rattle.fr_tables.specs.Schema.{register_schema, old_schema};
 ghost use Rattle.fr_tables.specs.Tables.{AreOrdered, AreOrderedBefore, tables_in};
 ghost use Rattle.fr_store.specs.Store.{IsNewOf, IsRegisterOf, MayForbid};
-ghost use Rattle.fr_store.specs.StoreFiles.{HoldsRegister, FindsBook, IsHeld, SurvivesSince, database_of, image_left};
+ghost use Rattle.fr_store.specs.StoreFiles.{HoldsRegister, FindsBook, FindsLeft, IsHeld, SurvivesSince, database_of, image_left};
 ghost use Rattle.fr_store.specs.declared.fault.StoreFault.TheVariants as fault;
 
 use crate::fault::StoreFault;
@@ -65,6 +66,8 @@ impl<S: Start> Store<FileStore<FileFrom<S>>> {
         ensures made { IfOk result (λ s. HasCleanDisk (file_state s.conn) → IsNewOf config.now (file_state s.conn).now) }
         ensures stands { IfOk result (λ s. HasCleanDisk (file_state s.conn) → Stands (file_state s.conn) config.now.cluster (opening config.now)) }
         ensures committed { IfOk result (λ s. HasCleanDisk (file_state s.conn) → (file_state s.conn).committed ≡ (file_state s.conn).now) }
+        ensures open { IfOk result (λ s. HasCleanDisk (file_state s.conn) → IsTrue (file_state s.conn).is_open) }
+        ensures durable { IfOk result (λ s. HasCleanDisk (file_state s.conn) → LeavesOnly (file_state s.conn) config.now.cluster (opening config.now ∷ [])) }
         ensures config { IfOk result (λ s. s.config ≡ config.now) }
         ensures survives { IfOk result (λ s. SurvivesSince (image_at S.Start) s.conn (λ db. tables_in db ≡ with_config config.now no_rows)) }
         ensures outside { IfOk result (λ s. s.conn.in_transaction ≡ false) }
@@ -101,6 +104,7 @@ impl<S: Start> Store<FileStore<FileFrom<S>>> {
             → ((file_state s.conn).now ≡ database_of db) × ((file_state s.conn).committed ≡ database_of db)) }
         ensures variants { IfOk result (λ s. HasCleanDisk (file_state s.conn) → TellsOpened (tables_of (file_state s.conn))) }
         ensures again { IfOk result (λ s. HasCleanDisk (file_state s.conn) → FindsBook (image_at S.Start) (file_state s.conn) s.config) }
+        ensures left { IfOk result (λ s. HasCleanDisk (file_state s.conn) → FindsLeft (image_at S.Start) (file_state s.conn) s.config) }
         ensures survives { IfOk result (λ s. SurvivesSince (image_at S.Start) s.conn (λ _. ⊥)) }
         ensures outside { IfOk result (λ s. s.conn.in_transaction ≡ false) }
         ensures told { IfErr result (λ e. IfSome e.1 (λ left. IsCleanLeft left → (d : _) → IsDatabase d → HoldsDatabase (image_at S.Start) d.trees → Explains d e.0)) }

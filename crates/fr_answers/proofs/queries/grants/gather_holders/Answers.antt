@@ -8,6 +8,9 @@ pub loop-supplier-init : goal.loop-supplier-init
 loop-supplier-init g c =
     record {
       falls = λ now. now;
+      leaves = λ now cl books left.
+          let read = c.keep.ensures.falls now in
+          c.keep.ensures.leaves now cl books (c.find_page.ensures.leaves read cl books (c.loop-supplier.invariant.leaves (c.find_page.ensures.falls read) cl books left));
       gathered = λ now. held-none (g.R.Records.stands c.args.records.now) c.args.variant c.new-held.result.entries c.new-held.ensures.empty;
     }
 

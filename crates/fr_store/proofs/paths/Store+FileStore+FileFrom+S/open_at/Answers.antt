@@ -8,7 +8,7 @@ use Rattle.fr_tables.specs.Schema.{register_schema}
 use Rattle.fr_store.specs.Opening.{Explains}
 use Rattle.fr_store.specs.StoreFiles.{database_of}
 use Rattle.fr_store.proofs.FileLemmas.{same_database, found_database}
-use Rattle.fr_store.proofs.AgainLemmas.{held_stands, only_unavailable_files}
+use Rattle.fr_store.proofs.AgainLemmas.{held_stands, left_stands, only_unavailable_files}
 use Rattle.fr_store.proofs.paths.Store+FileStore+FileFrom+S.open_at.Goals as goal
 
 pub returns-in-Err-clause-told : goal.returns-in-Err-clause-told
@@ -60,3 +60,10 @@ returns-in-Ok-open_on-clause-survives g c = (c.in-Ok.conn, record { opens = c.in
 
 pub returns-in-Ok-open_on-clause-variants : goal.returns-in-Ok-open_on-clause-variants
 returns-in-Ok-open_on-clause-variants g c clean = c.in-Ok-open_on.ensures.variants clean (returns-in-Ok-open_on-clause-stands g c clean).has
+
+pub returns-in-Ok-open_on-clause-left : goal.returns-in-Ok-open_on-clause-left
+returns-in-Ok-open_on-clause-left g c clean k b db held is =
+    let before : HasCleanDisk (file_state c.in-Ok.conn) = omega (arith, c.in-Ok-open_on.ensures.survives.clean, clean) in
+    let same = c.in-Ok-open_on.ensures.opened clean in
+    let schema : (file_state c.in-Ok.conn).now.schema ≡ register_schema = ap (λ (d : Database). d.schema) (sym same.0) ∙ c.in-Ok-open_on.ensures.ours in
+    c.in-Ok-open_on.ensures.again clean k b (left_stands (file_state c.in-Ok.conn) k b db is schema (c.in-Ok.ensures.found before db held))
