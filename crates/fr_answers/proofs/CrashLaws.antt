@@ -33,14 +33,14 @@ may_stay stands old new does same c b books stood sound left = inl (same c books
 pub may_do : (stands : Standing) (old mid new : Leaving) (does : Cluster → Book → Result Book Refusal) → LeavesNoMore old mid
     → ((books : List Book) → Does stands (AddsTo books mid new) (Ok tt) does) → MayLeave stands old new does
 may_do stands old mid new does same did c b books stood sound left =
-    let d = did books c b stood sound in elim d.2 (same c books left) [
+    let d = did books c b stood sound in elim (d.2 (same c books left)) [
       | inl stays ↦ inl stays
       | inr more ↦ inr (d.0, d.1, more)
     ]
 
 -- edits that were carried out, and then something was only read
 pub edited_then : (stands : Standing) (old mid new : Leaving) (edits : List Edit) → LeavesEdited stands old mid edits → LeavesNoMore mid new → LeavesEdited stands old new edits
-edited_then stands old mid new edits edited same c b books stood fit left = elim edited c b books stood fit left [
+edited_then stands old mid new edits edited same c b books stood fit left = elim (edited c b books stood fit left) [
   | inl stays ↦ inl (same c books stays)
   | inr more ↦ inr (same c (all_applied b edits ∷ books) more)
 ]
@@ -52,7 +52,7 @@ edited_not stands old new edits same c b books stood fit left = inl (same c book
 -- a command's outcome
 pub may_perform : (stands : Standing) (old new : Leaving) (does : Cluster → Book → Result Book Refusal) → MayLeave stands old new does → LeavesDone stands old new (λ c b. done (does c b))
 unfolding done ◌>>=◌
-may_perform stands old new does may c b books stood sound left = elim may c b books stood sound left [
+may_perform stands old new does may c b books stood sound left = elim (may c b books stood sound left) [
   | inl same ↦ inl same
   | inr made ↦ inr (record { book = made.0; answer = Done }, ap (λ r. r >>= λ after. Ok (record { book = after; answer = Done })) made.1, made.2)
 ]

@@ -18,3 +18,4 @@ pub mod GatherLaws
 pub mod GrantLaws
 pub mod AllReplies
 pub mod CrashLaws
+pub mod FrontLaws

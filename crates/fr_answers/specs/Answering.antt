@@ -10,7 +10,7 @@ use Rattle.fr_base.specs.Step.{Outcome, act, knows, step}
 use Rattle.fr_base.specs.declared.actor.Actor.{Actor}
 use Rattle.fr_base.specs.declared.actor.Actor.TheVariants.{Integrator, Supplier}
 use Rattle.fr_base.specs.declared.answer.Answer.{Answer}
-use Rattle.fr_base.specs.declared.answer.Answer.TheVariants.{Refused}
+use Rattle.fr_base.specs.declared.answer.Answer.TheVariants.{Done, Refused}
 use Rattle.fr_base.specs.declared.params.Params.{Params}
 use Rattle.fr_base.specs.declared.refusal.Refusal.{Refusal}
 use Rattle.fr_base.specs.declared.request.Ask.{Ask}
@@ -56,3 +56,7 @@ LeavesAct stands old new actor valid = (c : Cluster) (b : Book) (books : List Bo
 abbrev pub LeavesStep : Standing → Leaving → Leaving → Ask → Type 0
 LeavesStep stands old new ask = (c : Cluster) (b : Book) (books : List Book) → stands c b → IsSound c b → old c books
     → new c books ⊎ new c ((step c b ask.actor ask.request).book ∷ books)
+
+-- What was answered Done is kept: a crash leaves the register after the step, and no other.
+abbrev pub KeepsDone : Standing → Leaving → Ask → Answer → Type 0
+KeepsDone stands new ask answer = (c : Cluster) (b : Book) → stands c b → IsSound c b → answer ≡ Done → new c ((step c b ask.actor ask.request).book ∷ [])

@@ -1,12 +1,10 @@
 //! The office of a register.
-ghost use Rattle.std.specs.Prelude.{◌≡◌, ◌<◌, [], ◌∷◌, length, take, IfOk, IfErr, MatchResult};
+ghost use Rattle.std.specs.Prelude.{◌≡◌, ◌<◌, [], length, take, IfOk, IfErr, MatchResult};
 ghost use Rattle.fr_base.specs.Actors.{actor_of};
 ghost use Rattle.fr_base.specs.Book.{Book};
 ghost use Rattle.fr_base.specs.Cluster.{Cluster};
 ghost use Rattle.fr_base.specs.Sound.{IsSound};
-ghost use Rattle.fr_base.specs.Step.{step};
-ghost use Rattle.fr_base.specs.declared.answer.Answer.TheVariants.{Done};
-ghost use Rattle.fr_answers.specs.Answering.{Answers, LeavesStep};
+ghost use Rattle.fr_answers.specs.Answering.{Answers, KeepsDone, LeavesStep};
 ghost use Rattle.fr_answers.specs.Headline.{WereAnswered};
 ghost use Rattle.fr_answers.specs.KeptPages.{StandsWarm};
 
@@ -89,8 +87,7 @@ impl<R: Records> Office<R> {
         ensures falls { R.clean self.new.records → R.clean self.old.records }
         ensures answers { R.clean self.new.records → Answers (StandsWarm R.stands self.old) (StandsWarm R.stands self.new) ask.now result }
         ensures leaves { R.clean self.new.records → LeavesStep (StandsWarm R.stands self.old) (R.leaves self.old.records) (R.leaves self.new.records) ask.now }
-        ensures durable { R.clean self.new.records → (c : Cluster) (b : Book) → StandsWarm R.stands self.old c b → IsSound c b → result ≡ Done
-            → R.leaves self.new.records c ((step c b ask.now.actor ask.now.request).book ∷ []) }
+        ensures durable { R.clean self.new.records → KeepsDone (StandsWarm R.stands self.old) (R.leaves self.new.records) ask.now result }
     {
         answer(alloc, &mut self.warm, ask)
     }

@@ -1,6 +1,5 @@
 -- What a transaction of edits commits, and what a crash leaves of it.
-use Rattle.std.proofs.Common.{◌≡◌, true, List, IsTrue, sym, ap, arith, subst}
-use Rattle.sqlite.specs.Effect.{Database}
+use Rattle.std.proofs.Common.{◌≡◌, true, List, IsTrue, ap, arith, subst}
 use Rattle.sqlite.specs.Held.{Held, state}
 use Rattle.sqlite.specs.State.{State, HasCleanDisk, Survives}
 use Rattle.sqlite.specs.Tree.{Trees}
@@ -13,18 +12,8 @@ use Rattle.fr_world.specs.Fits.{AllFit}
 use Rattle.fr_world.specs.declared.edit.Edit.{Edit}
 use Rattle.fr_store.specs.Applying.{LeavesAll}
 use Rattle.fr_store.specs.Reading.{Stands}
-use Rattle.fr_store.specs.StandsFor.{StandsFor}
-use Rattle.fr_store.specs.Store.{IsRegisterFor}
-use Rattle.fr_store.specs.StoreFiles.{database_of}
-use Rattle.fr_tables.specs.Tables.{HasTables, tables_in}
+use Rattle.fr_store.specs.Settled.{is_left}
 use Rattle.fr_store.proofs.AgainLemmas.{still_stands}
-
--- the trees of tables that stand for a book
-pub is_left : (s : State) (c : Cluster) (b : Book) (db : Trees) → db ≡ s.now.trees → Stands s c b → IsRegisterFor c b (database_of db)
-is_left s c b db is stands = record {
-  has = subst HasTables (λ i. let d : Database = record { schema = stands.has.schema i; trees = sym is i } in d) stands.has;
-  for = subst (λ trees. StandsFor (tables_in trees) c b) (sym is) stands.for;
-}
 
 -- a transaction that begins writes nothing
 module _ {S : Type 0} (g : Ghosts S) (held begun : Held S) (is : begun ≡ record held { in_transaction = true }) where

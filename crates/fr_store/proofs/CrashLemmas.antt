@@ -16,7 +16,6 @@ use Rattle.fr_store.specs.declared.fault.StoreFault.{StoreFault}
 use Rattle.fr_tables.specs.Asking.{AreAsBefore}
 use Rattle.fr_tables.specs.Changes.{Spares, Stays}
 use Rattle.fr_tables.specs.Tables.{HasTables}
-use Rattle.fr_store.proofs.CommitLemmas.{is_left}
 
 -- one more book may be left
 pub one_more : (s : State) (c : Cluster) (x : Book) (books : List Book) → LeavesOnly s c books → LeavesOnly s c (x ∷ books)
@@ -38,17 +37,6 @@ adds_edited old new edits survives clean c b books stands fit left db may = from
     from : old.may_leave db ⊎ LeavesAll edits old db → IsForOne c (all_applied b edits ∷ books) db
     from (inl before) = inr (left db before)
     from (inr after) = inl (after c b stands fit)
-
--- of what is committed a crash leaves the book for which its tables stand, and no other
-pub leaves_committed : (s : State) → ((db : Trees) → s.may_leave db → db ≡ s.committed.trees) → s.committed ≡ s.now → (c : Cluster) (b : Book) → Stands s c b → LeavesOnly s c (b ∷ [])
-leaves_committed s settled same c b stands db may = inl (is_left s c b db (settled db may ∙ ap (λ (d : Database). d.trees) same) stands)
-
--- while a store is open, what a crash leaves is the book for which it stands
-pub stored_settled : (s : State) (found : ClusterFile) (c : Cluster) (b : Book) → ((db : Trees) → IsTrue s.is_open → s.may_leave db → db ≡ s.committed.trees) → IsTrue s.is_open → StandsStored found s c b
-    → StoredLeaves s c (b ∷ [])
-stored_settled s found c b settled up stands =
-    let rows = stands.rows up in
-    record { rows = λ _. (rows.0.has, rows.1); left = leaves_committed s (λ db may. settled db up may) rows.1 c b rows.0 }
 
 -- where nothing was changed, or a transaction was undone of which nothing was committed
 pub stays_left : (old new : State) → Survives old new (λ _. ⊥) → HasCleanDisk new → Stays old new → (c : Cluster) (books : List Book) → StoredLeaves old c books → StoredLeaves new c books

@@ -10,4 +10,5 @@ pub mod Reading
 pub mod FrameEdits
 pub mod Paging
 pub mod Stored
+pub mod Settled
 pub mod Joined

@@ -5,7 +5,7 @@ ghost use Rattle.sqlite.specs.State.{HasCleanDisk};
 ghost use Rattle.fr_base.specs.declared.refusal.Refusal.TheVariants.{Unavailable};
 ghost use Rattle.fr_store.specs.Crashes.{StoredLeaves};
 ghost use Rattle.fr_store.specs.Stored.{StandsStored};
-ghost use Rattle.fr_store.proofs.CrashLemmas.{stored_settled};
+ghost use Rattle.fr_store.specs.Settled.{stored_settled};
 
 use crate::fault::StoreFault;
 use crate::store::Store;

@@ -39,7 +39,7 @@ returns-in-Err-clause-leaves g c = λ clean cl b books stood sound left. inl lef
 pub returns-in-Ok-act-clause-leaves : goal.returns-in-Ok-act-clause-leaves
 returns-in-Ok-act-clause-leaves g c = λ clean cl b books stood sound left.
     let so = acts_so (g.R.Records.stands c.args.records.now) c.config-config.result.now c.config-config.ensures.config c.args.ask.now (search rules) c.in-Ok.valid (search rules) cl b stood in
-    elim c.act.ensures.leaves clean cl b books stood sound so.0 left [
+    elim (c.act.ensures.leaves clean cl b books stood sound so.0 left) [
       | inl stays ↦ inl stays
       | inr more ↦ inr (subst (λ (after : Outcome). g.R.Records.leaves c.act.new.records cl (after.book ∷ books)) (sym (so.1 more.0 more.1)) more.2)
     ]
@@ -47,7 +47,7 @@ returns-in-Ok-act-clause-leaves g c = λ clean cl b books stood sound left.
 pub returns-in-Err-act-clause-leaves : goal.returns-in-Err-act-clause-leaves
 returns-in-Err-act-clause-leaves g c = λ clean cl b books stood sound left.
     let so = acts_so (g.R.Records.stands c.args.records.now) c.config-config.result.now c.config-config.ensures.config c.args.ask.now (search rules) c.in-Ok.valid (search rules) cl b stood in
-    elim c.act.ensures.leaves clean cl b books stood sound so.0 left [
+    elim (c.act.ensures.leaves clean cl b books stood sound so.0 left) [
       | inl stays ↦ inl stays
       | inr more ↦ inr (subst (λ (after : Outcome). g.R.Records.leaves c.act.new.records cl (after.book ∷ books)) (sym (so.1 more.0 more.1)) more.2)
     ]

@@ -93,7 +93,7 @@ returns-clause-leaves g c = λ clean cl b books stood sound known left.
     let new : IsNew old mid i = label_free i old mid c.in_ok-rows.field-0 (search rules) (c.in_ok-rows.ensures.label clean_mid) in
     let so = rows_left i old mid new next c.in_ok-page.page (c.in_ok-page.ensures.page clean_next) last c.in_ok-count.count (c.in_ok-count.ensures.imports clean_last) (search rules) cl b stood sound known in
     let before = c.imports.ensures.leaves clean_last cl books (c.open_page.ensures.leaves clean_next cl books (c.rows_kept.ensures.leaves clean_mid cl books left)) in
-    elim c.import_rows.ensures.leaves clean cl b books so.0 sound known so.1 so.2 before [
+    elim (c.import_rows.ensures.leaves clean cl b books so.0 sound known so.1 so.2 before) [
       | inl stays ↦ inl stays
       | inr more ↦ inr (_, so.3, more)
     ]

@@ -5,7 +5,8 @@ use Rattle.fr_store.specs.Before.{LeavesMigrated}
 use Rattle.fr_store.specs.Reading.{Stands}
 use Rattle.fr_store.proofs.AgainLemmas.{still_stands}
 use Rattle.fr_store.proofs.BeforeLemmas.{still_before}
-use Rattle.fr_store.proofs.CommitLemmas.{begun_inside, is_left, leaves}
+use Rattle.fr_store.specs.Settled.{is_left}
+use Rattle.fr_store.proofs.CommitLemmas.{begun_inside, leaves}
 use Rattle.fr_store.proofs.migrating.in_one.Goals as goal
 
 pub returns-in_err-commit-clause-survives : goal.returns-in_err-commit-clause-survives

@@ -2,7 +2,7 @@ use Rattle.std.proofs.Common.{rules, ◌≡◌, IsTrue}
 use Rattle.sqlite.specs.Held.{state}
 use Rattle.fr_store.specs.Store.{IsNewOf}
 use Rattle.fr_base.specs.Book.{opening}
-use Rattle.fr_store.proofs.CrashLemmas.{leaves_committed}
+use Rattle.fr_store.specs.Settled.{leaves_committed}
 use Rattle.fr_store.proofs.NewLemmas.{new_stands}
 use Rattle.fr_store.proofs.store.Store.create_on.Goals as goal
 

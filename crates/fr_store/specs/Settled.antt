@@ -1,0 +1,32 @@
+-- A law of stores: while one is open, what a crash leaves of it is the book for which it stands.
+use Rattle.std.proofs.Common.{◌≡◌, ◌∙◌, inl, [], ◌∷◌, IsTrue, ap, sym, subst}
+use Rattle.sqlite.specs.Effect.{Database}
+use Rattle.sqlite.specs.State.{State}
+use Rattle.sqlite.specs.Tree.{Trees}
+use Rattle.fr_base.specs.Book.{Book}
+use Rattle.fr_base.specs.Cluster.{Cluster, ClusterFile}
+use Rattle.fr_store.specs.Crashes.{LeavesOnly, StoredLeaves}
+use Rattle.fr_store.specs.Reading.{Stands}
+use Rattle.fr_store.specs.StandsFor.{StandsFor}
+use Rattle.fr_store.specs.Store.{IsRegisterFor}
+use Rattle.fr_store.specs.Stored.{StandsStored}
+use Rattle.fr_store.specs.StoreFiles.{database_of}
+use Rattle.fr_tables.specs.Tables.{HasTables, tables_in}
+
+-- the trees of tables that stand for a book
+pub is_left : (s : State) (c : Cluster) (b : Book) (db : Trees) → db ≡ s.now.trees → Stands s c b → IsRegisterFor c b (database_of db)
+is_left s c b db is stands = record {
+  has = subst HasTables (λ i. let d : Database = record { schema = stands.has.schema i; trees = sym is i } in d) stands.has;
+  for = subst (λ trees. StandsFor (tables_in trees) c b) (sym is) stands.for;
+}
+
+-- of what is committed a crash leaves the book for which its tables stand, and no other
+pub leaves_committed : (s : State) → ((db : Trees) → s.may_leave db → db ≡ s.committed.trees) → s.committed ≡ s.now → (c : Cluster) (b : Book) → Stands s c b → LeavesOnly s c (b ∷ [])
+leaves_committed s settled same c b stands db may = inl (is_left s c b db (settled db may ∙ ap (λ (d : Database). d.trees) same) stands)
+
+-- while a store is open, what a crash leaves is the book for which it stands
+pub stored_settled : (s : State) (found : ClusterFile) (c : Cluster) (b : Book) → ((db : Trees) → IsTrue s.is_open → s.may_leave db → db ≡ s.committed.trees) → IsTrue s.is_open → StandsStored found s c b
+    → StoredLeaves s c (b ∷ [])
+stored_settled s found c b settled up stands =
+    let rows = stands.rows up in
+    record { rows = λ _. (rows.0.has, rows.1); left = leaves_committed s (λ db may. settled db up may) rows.1 c b rows.0 }
