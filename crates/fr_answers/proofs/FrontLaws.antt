@@ -36,13 +36,13 @@ run_from c b mid x ask answer asks answers (inr done) run = inr (done.0, subst (
 module _ {R : Type 0} (c : Cluster) where
   -- the step of the first request alone
   first_step : (b x : Book) (turn : Turn R) (turns : List (Turn R)) → x ≡ (step c b turn.ask.actor turn.ask.request).book → NoneDone turns → IsAfterFront c b (turn ∷ turns) x
-  first_step b x turn turns is none = record { length = 1; answers = (step c b turn.ask.actor turn.ask.request).answer ∷ []; run = inr (refl, is); others = none }
+  first_step b x turn turns is none = record { count = 1; answers = (step c b turn.ask.actor turn.ask.request).answer ∷ []; run = inr (refl, is); others = none }
 
   one_longer : (b mid x : Book) (turn : Turn R) (turns : List (Turn R)) → IsRun c b (turn.ask ∷ []) (turn.answer ∷ []) mid → IsAfterFront c mid turns x → IsAfterFront c b (turn ∷ turns) x
   one_longer b mid x turn turns first front = record {
-    length = suc front.length;
+    count = suc front.count;
     answers = turn.answer ∷ front.answers;
-    run = run_from c b mid x turn.ask turn.answer (map (λ (turn : Turn R). turn.ask) (take front.length turns)) front.answers first front.run;
+    run = run_from c b mid x turn.ask turn.answer (map (λ (turn : Turn R). turn.ask) (take front.count turns)) front.answers first front.run;
     others = front.others;
   }
 
@@ -59,25 +59,34 @@ module _ {R : Type 0} (c : Cluster) where
         let next = run-sound c b a.0 _ _ sound a.2 in
         elim (done_or_not turn.answer) [
           | inl done ↦
-              let rest = left_by (λ x. x ≡ after) a.0 turn.after turns (after ∷ []) asked.1 a.1 next (asked.0.keeps c b stood sound done) (refl, tt) in
-              (rest.0, rest.1, each_so (Left (λ x. x ≡ after) a.0 turns) (Left P b (turn ∷ turns)) rest.0 (λ x h. elim h [
-                | inl here ↦ inr (first_step b x turn turns here.0 here.1)
-                | inr front ↦ inr (one_longer b a.0 x turn turns a.2 front)
-              ]) rest.2)
+              let rest = left_by (λ x. x ≡ after) a.0 turn.after turns (after ∷ []) asked.1 a.1 next (asked.0.keeps c b stood sound done) (refl, tt) in (
+                rest.0,
+                rest.1,
+                each_so (Left (λ x. x ≡ after) a.0 turns) (Left P b (turn ∷ turns)) rest.0 (λ x h. elim h [
+                  | inl here ↦ inr (first_step b x turn turns here.0 here.1)
+                  | inr front ↦ inr (one_longer b a.0 x turn turns a.2 front)
+                ]) rest.2,
+              )
           | inr not_done ↦ elim (asked.0.leaves c b books stood sound left) [
-              | inl stays ↦
-                  let rest = left_by P a.0 turn.after turns books asked.1 a.1 next stays each in
-                  (rest.0, rest.1, each_so (Left P a.0 turns) (Left P b (turn ∷ turns)) rest.0 (λ x h. elim h [
+            | inl stays ↦
+                let rest = left_by P a.0 turn.after turns books asked.1 a.1 next stays each in (
+                  rest.0,
+                  rest.1,
+                  each_so (Left P a.0 turns) (Left P b (turn ∷ turns)) rest.0 (λ x h. elim h [
                     | inl here ↦ inl (here.0, (not_done, here.1))
                     | inr front ↦ inr (one_longer b a.0 x turn turns a.2 front)
-                  ]) rest.2)
-              | inr more ↦
-                  let rest = left_by (λ x. P x ⊎ (x ≡ after)) a.0 turn.after turns (after ∷ books) asked.1 a.1 next more (inr refl, each_so P (λ x. P x ⊎ (x ≡ after)) books (λ x p. inl p) each) in
-                  (rest.0, rest.1, each_so (Left (λ x. P x ⊎ (x ≡ after)) a.0 turns) (Left P b (turn ∷ turns)) rest.0 (λ x h. elim h [
+                  ]) rest.2,
+                )
+            | inr more ↦
+                let rest = left_by (λ x. P x ⊎ (x ≡ after)) a.0 turn.after turns (after ∷ books) asked.1 a.1 next more (inr refl, each_so P (λ x. P x ⊎ (x ≡ after)) books (λ x p. inl p) each) in (
+                  rest.0,
+                  rest.1,
+                  each_so (Left (λ x. P x ⊎ (x ≡ after)) a.0 turns) (Left P b (turn ∷ turns)) rest.0 (λ x h. elim h [
                     | inl here ↦ elim here.0 [ inl was ↦ inl (was, (not_done, here.1)) | inr is ↦ inr (first_step b x turn turns is here.1) ]
                     | inr front ↦ inr (one_longer b a.0 x turn turns a.2 front)
-                  ]) rest.2)
-            ]
+                  ]) rest.2,
+                )
+          ]
         ]
       where
         after : Book
@@ -85,8 +94,11 @@ module _ {R : Type 0} (c : Cluster) where
 
 pub leaves_fronts : {R : Type 0} (stands : R → Standing) (leaves : R → Leaving) → LeavesFronts stands leaves
 leaves_fronts stands leaves c b records turns asked stood sound left =
-    let rest = left_by c stands leaves (λ x. x ≡ b) b records turns (b ∷ []) asked stood sound left (refl, tt) in
-    (rest.0, rest.1, each_so (Left c stands leaves (λ x. x ≡ b) b turns) (IsAfterFront c b turns) rest.0 (λ x h. elim h [
-      | inl here ↦ record { length = 0; answers = []; run = here.0; others = here.1 }
-      | inr front ↦ front
-    ]) rest.2)
+    let rest = left_by c stands leaves (λ x. x ≡ b) b records turns (b ∷ []) asked stood sound left (refl, tt) in (
+      rest.0,
+      rest.1,
+      each_so (Left c stands leaves (λ x. x ≡ b) b turns) (IsAfterFront c b turns) rest.0 (λ x h. elim h [
+        | inl here ↦ record { count = 0; answers = []; run = here.0; others = here.1 }
+        | inr front ↦ front
+      ]) rest.2,
+    )

@@ -18,10 +18,10 @@ pub record Turn (R : Type 0) : Type 0 where
 
 -- It is one step or Unavailable; until it was answered a crash left no more than before, or the register after the step; and what was
 -- answered Done is kept.
-pub record IsTurn {R : Type 0} (stands : R → Standing) (leaves : R → Leaving) (records : R) (turn : Turn R) : Type 0 where
+pub record IsTurn {R : Type 0} (stands : R → Standing) (left : R → Leaving) (records : R) (turn : Turn R) : Type 0 where
   pub answers : Answers (stands records) (stands turn.after) turn.ask turn.answer
-  pub leaves : LeavesStep (stands records) (leaves records) (leaves turn.after) turn.ask
-  pub keeps : KeepsDone (stands records) (leaves turn.after) turn.ask turn.answer
+  pub leaves : LeavesStep (stands records) (left records) (left turn.after) turn.ask
+  pub keeps : KeepsDone (stands records) (left turn.after) turn.ask turn.answer
 
 -- The records were asked these requests, one after another.
 abbrev pub WereAsked : {R : Type 0} → (R → Standing) → (R → Leaving) → R → List (Turn R) → Type 0
@@ -40,10 +40,10 @@ NoneDone (turn ∷ turns) = (turn.answer ≢ Done) × NoneDone turns
 
 -- The book is the one after a front of the requests, which has each that was answered Done.
 pub record IsAfterFront {R : Type 0} (c : Cluster) (b : Book) (turns : List (Turn R)) (book : Book) : Type 0 where
-  pub length : ℕ
+  pub count : ℕ
   pub answers : List Answer
-  pub run : IsRun c b (map (λ (turn : Turn R). turn.ask) (take length turns)) answers book
-  pub others : NoneDone (drop length turns)
+  pub run : IsRun c b (map (λ (turn : Turn R). turn.ask) (take count turns)) answers book
+  pub others : NoneDone (drop count turns)
 
 abbrev pub EachBook : (Book → Type 0) → List Book → Type 0
 EachBook P [] = ⊤

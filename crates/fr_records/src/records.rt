@@ -30,7 +30,7 @@ pub trait Records {
     /// What a crash leaves of them stands for one of these books, in a cluster.
     ghost leaves: { Self → Cluster → List Book → Type 0 };
 
-    /// What a crash leaves of open records stands for their book.
+    /// While they can be read and changed, what a crash leaves of them stands for their book.
     ghost settled: { (records : Self) (c : Cluster) (b : Book) → clean records → serves records → stands records c b → leaves records c (b ∷ []) };
 
     /// The cluster's parameters, which stay.
