@@ -1,5 +1,5 @@
 -- What a crash leaves of a request that is under way.
-use Rattle.std.proofs.Common.{◌≡◌, ◌⊎◌, ◌∙◌, inl, inr, List, ◌∷◌, Result, Ok, Err, IsTrue, ⊤, ap, sym, subst}
+use Rattle.std.proofs.Common.{◌≡◌, ◌⊎◌, ◌∙◌, inl, inr, List, ◌∷◌, Result, Ok, Err, IsTrue, ap, sym, subst}
 use Rattle.fr_base.specs.Book.{Book}
 use Rattle.fr_base.specs.Cluster.{Cluster}
 use Rattle.fr_base.specs.Refusing.{◌>>=◌}
@@ -44,10 +44,6 @@ edited_then stands old mid new edits edited same c b books stood fit left = elim
   | inl stays ↦ inl (same c books stays)
   | inr more ↦ inr (same c (all_applied b edits ∷ books) more)
 ]
-
--- edits of which none was carried out
-pub edited_not : (stands : Standing) (old new : Leaving) (edits : List Edit) → LeavesNoMore old new → LeavesEdited stands old new edits
-edited_not stands old new edits same c b books stood fit left = inl (same c books left)
 
 -- a command's outcome
 pub may_perform : (stands : Standing) (old new : Leaving) (does : Cluster → Book → Result Book Refusal) → MayLeave stands old new does → LeavesDone stands old new (λ c b. done (does c b))

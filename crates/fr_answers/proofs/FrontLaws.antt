@@ -56,7 +56,7 @@ module _ {R : Type 0} (c : Cluster) where
     left_by P b records [] books asked stood sound left each = (books, left, each_so P (Left P b []) books (λ x p. inl (p, tt)) each)
     left_by P b records (turn ∷ turns) books asked stood sound left each =
         let a = asked.0.answers c b stood sound in
-        let next = run-sound c b a.0 _ _ sound a.2 in
+        let next = run-sound c b a.0 (turn.ask ∷ []) (turn.answer ∷ []) sound a.2 in
         elim (done_or_not turn.answer) [
           | inl done ↦
               let rest = left_by (λ x. x ≡ after) a.0 turn.after turns (after ∷ []) asked.1 a.1 next (asked.0.keeps c b stood sound done) (refl, tt) in (
