@@ -19,6 +19,11 @@ IsForOne c (b ∷ books) db = IsRegisterFor c b (database_of db) ⊎ IsForOne c 
 abbrev pub LeavesOnly : State → Cluster → List Book → Type 0
 LeavesOnly s c books = (db : Trees) → s.may_leave db → IsForOne c books db
 
+-- The connection is open, and what a crash leaves is what was committed.
+pub record Serves (s : State) : Type 0 where
+  pub up : IsTrue s.is_open
+  pub settled : (db : Trees) → s.may_leave db → db ≡ s.committed.trees
+
 -- So with a store: and while its connection is open it has a register's tables, and all is committed.
 pub record StoredLeaves (s : State) (c : Cluster) (books : List Book) : Type 0 where
   pub rows : IsTrue s.is_open → HasTables s.now × (s.committed ≡ s.now)

@@ -5,7 +5,7 @@ use Rattle.sqlite.specs.State.{State}
 use Rattle.sqlite.specs.Tree.{Trees}
 use Rattle.fr_base.specs.Book.{Book}
 use Rattle.fr_base.specs.Cluster.{Cluster, ClusterFile}
-use Rattle.fr_store.specs.Crashes.{LeavesOnly, StoredLeaves}
+use Rattle.fr_store.specs.Crashes.{LeavesOnly, Serves, StoredLeaves}
 use Rattle.fr_store.specs.Reading.{Stands}
 use Rattle.fr_store.specs.StandsFor.{StandsFor}
 use Rattle.fr_store.specs.Store.{IsRegisterFor}
@@ -25,8 +25,7 @@ pub leaves_committed : (s : State) → ((db : Trees) → s.may_leave db → db �
 leaves_committed s settled same c b stands db may = inl (is_left s c b db (settled db may ∙ ap (λ (d : Database). d.trees) same) stands)
 
 -- while a store is open, what a crash leaves is the book for which it stands
-pub stored_settled : (s : State) (found : ClusterFile) (c : Cluster) (b : Book) → ((db : Trees) → IsTrue s.is_open → s.may_leave db → db ≡ s.committed.trees) → IsTrue s.is_open → StandsStored found s c b
-    → StoredLeaves s c (b ∷ [])
-stored_settled s found c b settled up stands =
-    let rows = stands.rows up in
-    record { rows = λ _. (rows.0.has, rows.1); left = leaves_committed s (λ db may. settled db up may) rows.1 c b rows.0 }
+pub stored_settled : (s : State) (found : ClusterFile) (c : Cluster) (b : Book) → Serves s → StandsStored found s c b → StoredLeaves s c (b ∷ [])
+stored_settled s found c b serves stands =
+    let rows = stands.rows serves.up in
+    record { rows = λ _. (rows.0.has, rows.1); left = leaves_committed s serves.settled rows.1 c b rows.0 }

@@ -3,7 +3,7 @@ ghost use Rattle.std.specs.Prelude.{◌≡◌, Ok, Err, IfErr, IsTrue, MatchResu
 ghost use Rattle.sqlite.specs.Held.{state};
 ghost use Rattle.sqlite.specs.State.{HasCleanDisk};
 ghost use Rattle.fr_base.specs.declared.refusal.Refusal.TheVariants.{Unavailable};
-ghost use Rattle.fr_store.specs.Crashes.{StoredLeaves};
+ghost use Rattle.fr_store.specs.Crashes.{Serves, StoredLeaves};
 ghost use Rattle.fr_store.specs.Stored.{StandsStored};
 ghost use Rattle.fr_store.specs.Settled.{stored_settled};
 
@@ -20,11 +20,11 @@ impl<S: Alter> Records for Store<S> {
 
     ghost clean = { λ s. HasCleanDisk (state S.Store s.conn) };
 
-    ghost serves = { λ s. IsTrue (state S.Store s.conn).is_open };
+    ghost serves = { λ s. Serves (state S.Store s.conn) };
 
     ghost leaves = { λ s c books. StoredLeaves (state S.Store s.conn) c books };
 
-    ghost settled = { λ s c b _ up stands. stored_settled (state S.Store s.conn) s.config c b (S.Store.settled s.conn.store) up stands };
+    ghost settled = { λ s c b _ serves stands. stored_settled (state S.Store s.conn) s.config c b serves stands };
 
     ghost params = { λ s. s.config.cluster.params };
 

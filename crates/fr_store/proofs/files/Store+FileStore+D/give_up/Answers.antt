@@ -11,8 +11,8 @@ use Rattle.sqlite.specs.Files.{file_state}
 use Rattle.fr_store.specs.Crashes.{LeavesOnly}
 use Rattle.fr_store.proofs.files.Store+FileStore+D.give_up.Goals as goal
 
-pub returns-clause-left : goal.returns-clause-left
-returns-clause-left g c honest image may k books left =
+pub returns : goal.returns
+returns g c honest image may k books left =
     let it = c.into_store.result in
     let sure = subst (λ p. AreClean g.D.Disk p.0 p.1) c.close.ensures honest in
     let clean : IsClean (view it) = no_doubt _ (clean_is it.pool ∙ sure) in

@@ -3,7 +3,8 @@ use Rattle.sqlite.specs.Held.{state}
 use Rattle.sqlite.specs.State.{HasCleanDisk}
 use Rattle.fr_base.specs.Cluster.{ClusterFile}
 use Rattle.fr_store.proofs.StoredLaws.{cluster_stays, edits_stored, opened}
-use Rattle.std.proofs.Common.{inl, inr}
+use Rattle.std.proofs.Common.{inl, inr, IsTrue}
+use Rattle.fr_store.specs.Crashes.{Serves}
 use Rattle.fr_store.proofs.CrashLemmas.{edited_left}
 use Rattle.fr_store.proofs.store_records.StoreRecords.apply.Goals as goal
 
@@ -34,4 +35,6 @@ returns-clause-leaves g c clean cluster b books stored fit left =
     (c.apply.ensures.stands clean cluster b rows.0 fit) (c.apply.ensures.committed clean) (c.apply.ensures.undone clean rows.0.has) (c.see_open.ensures.leaves clean_mid cluster books left))
 
 pub returns-clause-open : goal.returns-clause-open
-returns-clause-open g c clean = opened c.apply.result c.answer.result c.answer.ensures (c.apply.ensures.open clean)
+returns-clause-open g c clean =
+    let new = state g.S.Store c.apply.new.self.conn in
+    opened (IsTrue new.is_open) (Serves new) (λ up. record { up = up; settled = λ db may. g.met.S.Store.settled c.apply.new.self.conn.store db up may }) c.apply.result c.answer.result c.answer.ensures (c.apply.ensures.open clean)
