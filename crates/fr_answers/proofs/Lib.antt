@@ -17,5 +17,3 @@ pub mod StepLaws
 pub mod GatherLaws
 pub mod GrantLaws
 pub mod AllReplies
-pub mod CrashLaws
-pub mod FrontLaws

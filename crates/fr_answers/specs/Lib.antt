@@ -8,4 +8,3 @@ pub mod KeptPages
 pub mod Shared
 pub mod Shelves
 pub mod Shown
-pub mod Fronts
