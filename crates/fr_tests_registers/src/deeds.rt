@@ -16,6 +16,16 @@ pub(crate) struct Course {
 }
 
 impl Course {
+    // How many steps there are. It is an error where one of them shows nothing.
+    fn steps(&self) -> Result<usize, Fail> {
+        let (_, after) = self.states.split_first().ok_or("no state")?;
+        let mut steps = self.states.iter().zip(after);
+        if steps.any(|(before, after)| before.as_slice() == after.as_slice()) {
+            return Err(Fail::from("a step that shows nothing"));
+        }
+        Ok(after.len())
+    }
+
     fn is_at(&self, at: usize, text: &[u8]) -> bool {
         match self.states.get(at) {
             Some(state) => state.as_slice() == text,
@@ -37,9 +47,22 @@ pub(crate) trait Deed {
 pub(crate) struct Left {
     pub(crate) files: Files<Fused>,
     /// How many steps were done.
-    pub(crate) least: usize,
-    /// The same, and one more where a step was stopped.
-    pub(crate) most: usize,
+    pub(crate) done: usize,
+    /// Whether the step after these was stopped.
+    pub(crate) is_stopped: bool,
+}
+
+impl Left {
+    // Whether it leaves this, which the course has after the steps that were done, or after the one that was stopped too.
+    fn may_be(&self, course: &Course, text: &[u8]) -> bool {
+        course.is_at(self.done, text)
+            || self.is_stopped && course.is_at(self.done.saturating_add(1), text)
+    }
+
+    // Whether no call was stopped, neither of these files up to now.
+    fn is_whole(&mut self) -> bool {
+        passes(&mut self.files.log) && passes(&mut self.files.db)
+    }
 }
 
 fn done<D: Deed>(alloc: Global, deed: &D, calls: Calls, checkpoint: usize) -> Result<Left, Fail> {
@@ -47,8 +70,8 @@ fn done<D: Deed>(alloc: Global, deed: &D, calls: Calls, checkpoint: usize) -> Re
         Ok(conn) => deed.done(alloc, conn),
         Err(files) => Ok(Left {
             files,
-            least: 0,
-            most: 0,
+            done: 0,
+            is_stopped: false,
         }),
     }
 }
@@ -71,11 +94,10 @@ impl Looked {
         if !self.image.is_of(&left.files) {
             *self = Looked::new(alloc, Image::of(alloc, &left.files)?)?;
         }
-        let (course, text) = (deed.course(), self.text.as_slice());
-        if course.is_at(left.least, text) || course.is_at(left.most, text) {
-            return Ok(());
+        if !left.may_be(deed.course(), self.text.as_slice()) {
+            return Err(Fail::from("another state"));
         }
-        Err(Fail::from("another state"))
+        Ok(())
     }
 }
 
@@ -106,22 +128,26 @@ impl Remains {
 /// More calls than any deed here makes.
 const MANY: u64 = 1_000_000;
 
-/// How many stops of a file there are until a deed meets none. Each leaves the state after the steps that were done, or after
-/// the one that was stopped, and no step is left undone without a stop; else it is an error.
+/// Stops a file at each of its calls in turn, until a deed meets no stop: how often each step was stopped. What is left is as
+/// after the steps that were done, or after the one that was stopped too, and no step is left undone without a stop; else it
+/// is an error.
 pub(crate) fn stops<D: Deed>(
     alloc: Global,
     deed: &D,
     fusible: Fusible,
     checkpoint: usize,
-) -> Result<u64, Fail> {
+) -> Result<Vec<u64>, Fail> {
+    let mut stopped = vec![in alloc; 0u64; deed.course().steps()?]?;
     let mut remains = Remains::new(alloc)?;
     for calls in 0..MANY {
         let mut left = done(alloc, deed, fusible.after(calls), checkpoint)?;
-        let is_whole = passes(&mut left.files.log) && passes(&mut left.files.db);
-        let is_last = left.least == deed.course().states.len().saturating_sub(1);
+        let (is_whole, is_last) = (left.is_whole(), left.done == stopped.len());
+        if let (true, Some(count)) = (left.is_stopped, stopped.get_mut(left.done)) {
+            *count = count.saturating_add(1);
+        }
         remains.look(alloc, deed, left)?;
         if is_whole && is_last {
-            return Ok(calls);
+            return Ok(stopped);
         }
         if is_whole {
             return Err(Fail::from("undone without a stop"));

@@ -1,4 +1,4 @@
-//! All that a register tells, as one text.
+//! What a register tells, as one text: its rows, or the answers to all that may be asked.
 use crate::asks::{name, told};
 use crate::stores::found;
 use fr_base::{BodyRef, Desk};
@@ -14,14 +14,15 @@ const KEYS: [&str; 3] = ["integrator1", "supplier01", "supplier02"];
 /// Variants that there may be.
 const VARIANTS: [&str; 3] = ["v1", "v2", "v3"];
 
-/// What there is to ask of a variant.
-const QUERIES: [&str; 5] = [
+/// By what a variant's rows are told.
+const ROWS: [&str; 3] = [
     r#""do":"grants""#,
     r#""do":"frames""#,
-    r#""do":"schedule""#,
-    r#""do":"gaps""#,
     r#""do":"layout","frame":"f1""#,
 ];
+
+/// What is worked out of them.
+const REPORTS: [&str; 2] = [r#""do":"schedule""#, r#""do":"gaps""#];
 
 /// What is seen of a database that is no register.
 pub(crate) const NOTHING: &[u8] = b"no register";
@@ -81,22 +82,24 @@ fn push_import<S: Alter>(
     Ok(())
 }
 
-// The answers to each query of a variant.
+// The answers to these queries of each variant.
 fn push_answers<D: Desk>(
     alloc: Global,
     text: &mut Vec<u8>,
     desk: &mut D,
     key: &str,
-    variant: &str,
+    queries: &[&str],
 ) -> Result<(), Fail> {
-    for query in QUERIES {
-        let asked = format!(in alloc; r#"{{{query},"variant":"{variant}"}}"#)?;
-        push_line(text, told(alloc, desk, key, &asked)?.as_slice())?;
+    for variant in VARIANTS {
+        for query in queries {
+            let asked = format!(in alloc; r#"{{{query},"variant":"{variant}"}}"#)?;
+            push_line(text, told(alloc, desk, key, &asked)?.as_slice())?;
+        }
     }
     Ok(())
 }
 
-/// The register's variants, nodes and import, and the answers to each query of all that may ask.
+/// The register's variants, nodes and import, and the rows of all suppliers.
 pub(crate) fn book_of<S: Alter + Drop>(
     alloc: Global,
     mut store: Store<S>,
@@ -107,15 +110,22 @@ pub(crate) fn book_of<S: Alter + Drop>(
     push_nodes(alloc, &mut text, &mut store, "s2")?;
     push_import(alloc, &mut text, &mut store)?;
     let mut office = Office::new(alloc, store);
+    push_answers(alloc, &mut text, &mut office, "integrator1", &ROWS)?;
+    Ok(text)
+}
+
+/// The answers to each query of all that may ask.
+pub(crate) fn answers_of<S: Alter + Drop>(alloc: Global, store: Store<S>) -> Result<Vec<u8>, Fail> {
+    let mut text = Vec::new(alloc);
+    let mut office = Office::new(alloc, store);
     for key in KEYS {
-        for variant in VARIANTS {
-            push_answers(alloc, &mut text, &mut office, key, variant)?;
-        }
+        push_answers(alloc, &mut text, &mut office, key, &ROWS)?;
+        push_answers(alloc, &mut text, &mut office, key, &REPORTS)?;
     }
     Ok(text)
 }
 
-// What is told once the register is migrated.
+// The rows of the register once it is migrated.
 fn migrated<S: Alter + Drop>(alloc: Global, mut conn: Connection<S>) -> Result<Vec<u8>, Fail> {
     migrate_on(alloc, &mut conn)?;
     let mut text = Vec::new(alloc);
@@ -125,7 +135,7 @@ fn migrated<S: Alter + Drop>(alloc: Global, mut conn: Connection<S>) -> Result<V
     Ok(text)
 }
 
-/// What is told of the database: by the register that it is, by the one that it is once it is migrated, or that it is none.
+/// The rows of the register that the database is, those of the one that it is once it is migrated, or that it is none.
 pub(crate) fn seen<S: Alter + Drop>(alloc: Global, conn: Connection<S>) -> Result<Vec<u8>, Fail> {
     match Store::open_on(alloc, conn) {
         Ok(store) => book_of(alloc, store),

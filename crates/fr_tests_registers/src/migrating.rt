@@ -3,7 +3,7 @@
 use crate::asks::{DONE, FIRST, Line, config};
 use crate::deeds::{Course, Deed, Left, stops};
 use crate::fused::{EACH, Fused, Fusible, Image, USUAL, files_left, files_of, opened, options};
-use crate::looking::{BEFORE, book_of, seen};
+use crate::looking::{BEFORE, answers_of, book_of};
 use crate::stores::{after, created, found};
 use fr_base::Config;
 use fr_store::{Store, StoreFault, migrate, migrate_on};
@@ -151,17 +151,17 @@ impl Kept {
         after(alloc, store, &GRANDCHILD)
     }
 
-    // What is told of such a register.
-    fn book(self, alloc: Global) -> Result<Vec<u8>, Fail> {
-        let conn = opened(alloc, &Image::empty(alloc))?;
-        book_of(alloc, self.register(alloc, conn)?)
+    // Such a register in files of its own.
+    fn made(self, alloc: Global) -> Result<Store<FileStore<Fused>>, Fail> {
+        self.register(alloc, opened(alloc, &Image::empty(alloc))?)
     }
 
     // The files of such a register in the schema before.
     fn before(self, alloc: Global) -> Result<Image, Fail> {
-        let conn = opened(alloc, &Image::empty(alloc))?;
-        let conn = taken_back(self.register(alloc, conn)?)?;
-        Image::of(alloc, &files_left(conn))
+        match taken_back(self.made(alloc)?)?.close_files() {
+            Ok(files) => Image::of(alloc, &files),
+            Err((error, _)) => Err(Fail::from(error)),
+        }
     }
 }
 
@@ -182,7 +182,7 @@ struct Migrating {
 
 impl Migrating {
     fn new(alloc: Global, kept: Kept) -> Result<Migrating, Fail> {
-        let book = kept.book(alloc)?;
+        let book = book_of(alloc, kept.made(alloc)?)?;
         let mut before = Vec::new(alloc);
         before.extend_from_slice(BEFORE)?;
         before.extend_from_slice(book.as_slice())?;
@@ -200,14 +200,11 @@ impl Deed for Migrating {
     }
 
     fn done(&self, alloc: Global, mut conn: Connection<FileStore<Fused>>) -> Result<Left, Fail> {
-        let least = match migrate_on(alloc, &mut conn) {
-            Ok(()) => 1,
-            Err(_) => 0,
-        };
+        let is_stopped = migrate_on(alloc, &mut conn).is_err();
         Ok(Left {
             files: files_left(conn),
-            least,
-            most: 1,
+            done: if is_stopped { 0 } else { 1 },
+            is_stopped,
         })
     }
 }
@@ -255,13 +252,14 @@ fn goes_on(alloc: Global, image: &Image) -> Result<bool, Fail> {
 /// Each query of all that may ask is answered as before, whichever way the variants were written.
 #[test]
 fn a_register_of_the_schema_before_goes_on(rt: HostRuntime) -> Result<(), Fail> {
-    let book = Kept::Overlaid.book(rt.alloc())?;
+    let answers = answers_of(rt.alloc(), Kept::Overlaid.made(rt.alloc())?)?;
     for kept in [Kept::Overlaid, Kept::Copied] {
         let before = kept.before(rt.alloc())?;
         assert!(rt; fault_of(rt.alloc(), &before)? == Some(StoreFault::WrongSchema));
         let now = migrated(rt.alloc(), &before)??;
         assert!(rt; goes_on(rt.alloc(), &now)?);
-        assert!(rt; seen(rt.alloc(), opened(rt.alloc(), &now)?)? == book);
+        let store = found(rt.alloc(), opened(rt.alloc(), &now)?)?;
+        assert!(rt; answers_of(rt.alloc(), store)? == answers);
         assert!(rt; migrated(rt.alloc(), &now)?.err() == Some(StoreFault::WrongSchema));
     }
     Ok(())
@@ -274,17 +272,25 @@ fn nothing_is_migrated_in_empty_files(rt: HostRuntime) -> Result<(), Fail> {
     Ok(())
 }
 
-// Each of the files is stopped, and where the log is copied at once too.
+/// Here the log is copied behind each commit.
+const AT_ONCE: usize = 1;
+
+// Whether calls of both files are stopped within the migration.
 fn is_stopped(alloc: Global, kept: Kept) -> Result<bool, Fail> {
     let migrating = Migrating::new(alloc, kept)?;
     let log = stops(alloc, &migrating, Fusible::Log, USUAL)?;
-    let db = stops(alloc, &migrating, Fusible::Database, 8)?;
-    Ok(0 < log && 0 < db)
+    let db = stops(alloc, &migrating, Fusible::Database, AT_ONCE)?;
+    Ok(log.iter().chain(&db).all(|times| 0 < *times))
 }
 
 #[test]
 fn a_stop_leaves_a_register_that_goes_on_or_can_be_migrated(rt: HostRuntime) -> Result<(), Fail> {
     assert!(rt; is_stopped(rt.alloc(), Kept::Overlaid)?);
+    Ok(())
+}
+
+#[test]
+fn so_does_one_where_all_rows_were_copied(rt: HostRuntime) -> Result<(), Fail> {
     assert!(rt; is_stopped(rt.alloc(), Kept::Copied)?);
     Ok(())
 }

@@ -1,10 +1,10 @@
-//! A stop at each call of a register's files, as it is made and as it is asked. No contract says yet what a crash leaves of
-//! it, and none that a register which a crash left can be opened again.
+//! A stop at each call of a register's files, as it is made and as it is asked. What the check would let pass: an office whose
+//! requests were answered and are gone after a stop, or there in part; and files that a stop left, of which none is a register.
 use crate::asks::{DONE, FIRST, Line, carry_out, config, told};
 use crate::deeds::{Course, Deed, Left, stops};
 use crate::fused::{Fused, Fusible, Image, USUAL, files_left, opened};
-use crate::looking::{NOTHING, book_of, seen};
-use crate::stores::{after, created, found};
+use crate::looking::{NOTHING, book_of};
+use crate::stores::{after, created};
 use fr_base::{Config, Desk};
 use fr_office::Office;
 use fr_store::Store;
@@ -41,59 +41,10 @@ const NOT_YOURS: [Line; 1] = [(
     r#"{"no":3,"refused":"NotYours"}"#,
 )];
 
-/// A register is made.
-#[derive(Drop)]
-struct Making {
-    config: Config,
-    course: Course,
-}
-
-impl Making {
-    fn new(alloc: Global) -> Result<Making, Fail> {
-        let config = config(alloc)?;
-        let mut nothing = Vec::new(alloc);
-        nothing.extend_from_slice(NOTHING)?;
-        let mut states = Vec::new(alloc);
-        states.push(nothing)?;
-        states.push(seen(alloc, opened(alloc, &made(alloc)?)?)?)?;
-        let start = Image::empty(alloc);
-        Ok(Making {
-            config,
-            course: Course { start, states },
-        })
-    }
-}
-
-impl Deed for Making {
-    fn course(&self) -> &Course {
-        &self.course
-    }
-
-    fn done(&self, alloc: Global, conn: Connection<FileStore<Fused>>) -> Result<Left, Fail> {
-        Ok(match Store::create_on(alloc, conn, &self.config) {
-            Ok(store) => Left {
-                files: files_left(store.into_connection()),
-                least: 1,
-                most: 1,
-            },
-            Err((_, conn)) => Left {
-                files: files_left(conn),
-                least: 0,
-                most: 1,
-            },
-        })
-    }
-}
-
-// The files of a new register.
-fn made(alloc: Global) -> Result<Image, Fail> {
-    let store = created(alloc, opened(alloc, &Image::empty(alloc))?)?;
-    Image::of(alloc, &files_left(store.into_connection()))
-}
-
-/// Requests are asked of a register.
+/// A register is made, and requests are asked of it.
 #[derive(Drop)]
 struct Asking {
+    config: Config,
     lines: Vec<Line>,
     course: Course,
 }
@@ -103,21 +54,24 @@ impl Asking {
         let mut lines = Vec::new(alloc);
         lines.extend_from_slice(FIRST.split_at(5).0)?;
         lines.extend_from_slice(&MORE)?;
-        let start = made(alloc)?;
-        let mut states = Vec::new(alloc);
+        let mut nothing = Vec::new(alloc);
+        nothing.extend_from_slice(NOTHING)?;
+        let mut states = vec![in alloc; nothing]?;
         for count in 0..=lines.len() {
-            states.push(book_after(alloc, &start, lines.split_at(count).0)?)?;
+            states.push(book_after(alloc, lines.split_at(count).0)?)?;
         }
+        let start = Image::empty(alloc);
         Ok(Asking {
+            config: config(alloc)?,
             lines,
             course: Course { start, states },
         })
     }
 }
 
-// What is told once the requests were asked of the register in the files.
-fn book_after(alloc: Global, start: &Image, lines: &[Line]) -> Result<Vec<u8>, Fail> {
-    let store = found(alloc, opened(alloc, start)?)?;
+// What is told of a new register once the requests were asked of it.
+fn book_after(alloc: Global, lines: &[Line]) -> Result<Vec<u8>, Fail> {
+    let store = created(alloc, opened(alloc, &Image::empty(alloc))?)?;
     book_of(alloc, after(alloc, store, lines)?)
 }
 
@@ -127,25 +81,26 @@ impl Deed for Asking {
     }
 
     fn done(&self, alloc: Global, conn: Connection<FileStore<Fused>>) -> Result<Left, Fail> {
-        match Store::open_on(alloc, conn) {
+        match Store::create_on(alloc, conn, &self.config) {
             Ok(store) => asked(alloc, store, self.lines.as_slice()),
             Err((_, conn)) => Ok(Left {
                 files: files_left(conn),
-                least: 0,
-                most: 0,
+                done: 0,
+                is_stopped: true,
             }),
         }
     }
 }
 
+// What is left of a new register of which the requests are asked.
 fn asked(alloc: Global, store: Store<FileStore<Fused>>, lines: &[Line]) -> Result<Left, Fail> {
     let mut office = Office::new(alloc, store);
-    let least = count_done(alloc, &mut office, lines)?;
+    let count = count_done(alloc, &mut office, lines)?;
     carry_out(alloc, &mut office, &NOT_YOURS)?;
     Ok(Left {
         files: files_left(office.into_store().into_connection()),
-        least,
-        most: least.saturating_add(1),
+        done: count.saturating_add(1),
+        is_stopped: count < lines.len(),
     })
 }
 
@@ -169,29 +124,29 @@ fn is_refused(answer: &[u8], is_first: bool) -> bool {
     answer == UNAVAILABLE.as_bytes() || !is_first && !answer.starts_with(b"{\"ok\":")
 }
 
-#[test]
-fn a_stop_as_a_register_is_made_leaves_it_or_none(rt: HostRuntime) -> Result<(), Fail> {
-    let making = Making::new(rt.alloc())?;
-    let log = stops(rt.alloc(), &making, Fusible::Log, USUAL)?;
-    let db = stops(rt.alloc(), &making, Fusible::Database, USUAL)?;
-    assert!(rt; 0 < log && 0 < db);
-    Ok(())
-}
+/// How long a log grows where it is copied into the database's file. Where it is not, that file meets no call.
+const SHORT: usize = 8;
 
 #[test]
 fn a_stop_leaves_what_was_done(rt: HostRuntime) -> Result<(), Fail> {
     let asking = Asking::new(rt.alloc())?;
-    let log = stops(rt.alloc(), &asking, Fusible::Log, USUAL)?;
-    let db = stops(rt.alloc(), &asking, Fusible::Database, USUAL)?;
-    assert!(rt; 0 < log && 0 < db);
+    let stopped = stops(rt.alloc(), &asking, Fusible::Log, USUAL)?;
+    assert!(rt; stopped.iter().all(|times| 0 < *times));
     Ok(())
 }
 
 #[test]
-fn so_it_does_where_the_log_is_copied(rt: HostRuntime) -> Result<(), Fail> {
+fn so_does_one_where_the_log_is_copied(rt: HostRuntime) -> Result<(), Fail> {
     let asking = Asking::new(rt.alloc())?;
-    let log = stops(rt.alloc(), &asking, Fusible::Log, 8)?;
-    let db = stops(rt.alloc(), &asking, Fusible::Database, 8)?;
-    assert!(rt; 0 < log && 0 < db);
+    let stopped = stops(rt.alloc(), &asking, Fusible::Log, SHORT)?;
+    assert!(rt; stopped.iter().all(|times| 0 < *times));
+    Ok(())
+}
+
+#[test]
+fn so_does_one_of_the_file_to_which_it_is_copied(rt: HostRuntime) -> Result<(), Fail> {
+    let asking = Asking::new(rt.alloc())?;
+    let stopped = stops(rt.alloc(), &asking, Fusible::Database, SHORT)?;
+    assert!(rt; stopped.iter().any(|times| 0 < *times));
     Ok(())
 }
