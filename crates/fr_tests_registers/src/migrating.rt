@@ -156,12 +156,11 @@ impl Kept {
         self.register(alloc, opened(alloc, &Image::empty(alloc))?)
     }
 
-    // The files of such a register in the schema before.
+    // The files of such a register in the schema before. Their log has what brought it there.
     fn before(self, alloc: Global) -> Result<Image, Fail> {
-        match taken_back(self.made(alloc)?)?.close_files() {
-            Ok(files) => Image::of(alloc, &files),
-            Err((error, _)) => Err(Fail::from(error)),
-        }
+        let now = Image::of(alloc, &self.made(alloc)?.close()?)?;
+        let conn = taken_back(found(alloc, opened(alloc, &now)?)?)?;
+        Image::of(alloc, &files_left(conn))
     }
 }
 
@@ -272,7 +271,7 @@ fn nothing_is_migrated_in_empty_files(rt: HostRuntime) -> Result<(), Fail> {
     Ok(())
 }
 
-/// Here the log is copied behind each commit.
+/// Here the log is copied before anything is written.
 const AT_ONCE: usize = 1;
 
 // Whether calls of both files are stopped within the migration.
