@@ -3,7 +3,7 @@
 
 `rt test` has to have built the tests, crates/CRATE/out/CRATE_tests. A test passes all the same, or fails by a word for want
 of memory; any other end is a fault. A test that calls again where memory was refused has `again` in its name, and is to
-pass. It is no test of the gate."""
+pass. The tests of `migrating.rt` and `stops.rt` are left out: each makes too many allocations. It is no test of the gate."""
 import argparse
 import os
 import subprocess
@@ -17,6 +17,7 @@ from preload import Refuser
 
 CRATES = TOP / "crates"
 WORDS = (b"AllocError", b"NoMemory", b"Unavailable", b'error: "memory"', b'error: "no memory"', b"AllocFailed")
+LEFT_OUT = ("migrating::", "stops::")
 
 
 def listed(tests):
@@ -49,7 +50,7 @@ def main():
     with tempfile.TemporaryDirectory() as room:
         refuser = Refuser(room)
         for name in listed(tests):
-            if given.only in name:
+            if given.only in name and not name.startswith(LEFT_OUT):
                 calls, failed = refuse_each(tests, name, refuser)
                 of_all = [of_all[0] + calls, of_all[1] + failed]
                 print(f"{name}: {calls} allocations refused in turn, {failed} runs failed for want of one", flush=True)

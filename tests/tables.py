@@ -3,7 +3,7 @@
 
 Each file of a crate's src/ is named once in MAP, in the part on that crate, and each file of its specs/ in DEFINITIONS; but
 `lib.rt` and `Lib.antt`, which are lists of modules. Where MAP says `in FOLDER/`, that stands for the files of the folder which it
-does not name. And each file that a page or the README names is there; the end of its path is enough, as `specs/Book.antt`, and in
+does not name. And each file that a page or a README names is there; the end of its path is enough, as `specs/Book.antt`, and in
 a part on a crate it is a file of that crate. It needs nothing built. The last line is 'N passed, M failed'."""
 import re
 import sys
@@ -12,7 +12,7 @@ from pathlib import Path
 
 TOP = Path(__file__).resolve().parent.parent
 CRATES = sorted(path.name for path in (TOP / "crates").iterdir() if path.is_dir())
-PAGES = [TOP / "README.md", *sorted((TOP / "docs").glob("*.md"))]
+PAGES = [TOP / "README.md", TOP / "tests/README.md", *sorted((TOP / "docs").glob("*.md"))]
 LISTS = ("MAP.md", "src", ".rt"), ("DEFINITIONS.md", "specs", ".antt")
 PLACES = [*(f"crates/*/{folder}" for folder in ("src", "specs", "proofs", "must-fail", "wrong-bodies")), "tests", "bench"]
 # In DEVELOPING this is any file of a reader's own.

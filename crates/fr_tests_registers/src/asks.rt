@@ -1,6 +1,6 @@
 //! Requests for tests, as texts with the keys of those who ask.
-use fr_base::{Answer, Ask, Desk};
-use fr_text::{read_command, write_answer};
+use fr_base::{Answer, Ask, Config, Desk, Name};
+use fr_text::{read_command, read_config, write_answer};
 use std::alloc::Global;
 use std::test::Fail;
 
@@ -60,6 +60,14 @@ pub(crate) const FIRST: [Line; 6] = [
     ),
 ];
 
+pub(crate) fn config(alloc: Global) -> Result<Config, Fail> {
+    Ok(read_config(alloc, CLUSTER.as_bytes())?)
+}
+
+pub(crate) fn name(text: &str) -> Result<Name, Fail> {
+    Ok(Name::read(text).ok_or("name")?)
+}
+
 /// What the text asks of the desk, and who with this key.
 pub(crate) fn ask<D: Desk>(alloc: Global, desk: &D, key: &str, text: &str) -> Result<Ask, Fail> {
     let actor = desk.actor_of(key).ok_or("nobody's key")?;
@@ -98,4 +106,26 @@ pub(crate) fn are_answers(alloc: Global, answers: &[Answer], lines: &[Line]) -> 
         }
     }
     Ok(answers.len() == lines.len())
+}
+
+/// The text with which the desk answers.
+pub(crate) fn told<D: Desk>(
+    alloc: Global,
+    desk: &mut D,
+    key: &str,
+    text: &str,
+) -> Result<Vec<u8>, Fail> {
+    let ask = ask(alloc, desk, key, text)?;
+    let answer = desk.ask(alloc, &ask);
+    Ok(write_answer(alloc, &answer)?)
+}
+
+/// Asks the lines one after another; the first that is answered otherwise is an error.
+pub(crate) fn carry_out<D: Desk>(alloc: Global, desk: &mut D, lines: &[Line]) -> Result<(), Fail> {
+    for (key, text, wanted) in lines {
+        if told(alloc, desk, key, text)?.as_slice() != wanted.as_bytes() {
+            return Err(Fail::from(*text));
+        }
+    }
+    Ok(())
 }

@@ -6,12 +6,24 @@
 #[cfg(test)]
 mod asks;
 #[cfg(test)]
+mod deeds;
+#[cfg(test)]
+mod fused;
+#[cfg(test)]
 mod joining;
+#[cfg(test)]
+mod looking;
+#[cfg(test)]
+mod migrating;
 #[cfg(test)]
 mod registers;
 #[cfg(test)]
 mod reopened;
 #[cfg(test)]
 mod running;
+#[cfg(test)]
+mod stops;
+#[cfg(test)]
+mod stores;
 #[cfg(test)]
 mod warm;

@@ -1,12 +1,11 @@
 //! What the check would let pass: files of a caller's own that are always `Unavailable`, though memory is there.
 ghost use Rattle.std.specs.Prelude.{◌≡◌, IsTrue, IfOk};
 
-use crate::asks::{CLUSTER, FIRST, are_answers, push_lines};
-use fr_base::{Channel, Channels, Config, CycleSet, Name, Placement, Slot};
+use crate::asks::{FIRST, are_answers, config, name, push_lines};
+use fr_base::{Channel, Channels, CycleSet, Placement, Slot};
 use fr_office::Office;
 use fr_records::Records;
 use fr_store::{Holder, MemoryFile, Store, StoreFault};
-use fr_text::read_config;
 use fr_world::{ChannelSlot, Page, VariantRow};
 use sqlite::{Alter, FileStore, Files, Options};
 use sqlite_disk::Disk;
@@ -14,17 +13,13 @@ use std::alloc::Global;
 use std::test::Fail;
 
 /// With what the logs are salted.
-const SALT: u64 = 7;
+pub(crate) const SALT: u64 = 7;
 
 fn empty_files(alloc: Global) -> Files<MemoryFile> {
     Files {
         log: MemoryFile::new(alloc),
         db: MemoryFile::new(alloc),
     }
-}
-
-fn config(alloc: Global) -> Result<Config, Fail> {
-    Ok(read_config(alloc, CLUSTER.as_bytes())?)
 }
 
 // Whether the first requests, asked as one list, are answered as they say.
@@ -35,10 +30,6 @@ fn are_answered<R: Records>(alloc: Global, office: &mut Office<R>) -> Result<boo
         Ok(answers) => are_answers(alloc, &answers, &FIRST),
         Err(_) => Err(Fail::from("no memory")),
     }
-}
-
-fn name(text: &str) -> Result<Name, Fail> {
-    Ok(Name::read(text).ok_or("name")?)
 }
 
 fn first_slot() -> Result<Slot, Fail> {
