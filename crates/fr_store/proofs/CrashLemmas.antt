@@ -1,7 +1,6 @@
 -- What a crash leaves of a register, after a call.
 use Rattle.std.proofs.Common.{◌⊎◌, inl, inr, List, ◌∷◌}
 use Rattle.sqlite.specs.State.{State, HasCleanDisk, Survives}
-use Rattle.sqlite.specs.Tree.{Trees}
 use Rattle.fr_base.specs.Book.{Book}
 use Rattle.fr_base.specs.Cluster.{Cluster}
 use Rattle.fr_world.specs.BookEdits.{all_applied}

@@ -12,11 +12,13 @@ use Rattle.fr_store.specs.Crashes.{LeavesOnly}
 use Rattle.fr_store.proofs.files.Store+FileStore+D.give_up.Goals as goal
 
 pub returns : goal.returns
-returns g c = record { left = λ honest image may k books left.
-    let it = c.into_store.result in
-    let sure = subst (λ p. AreClean g.D.Disk p.0 p.1) c.close.ensures honest in
-    let clean : IsClean (view it) = no_doubt _ (clean_is it.pool ∙ sure) in
-    let allowed = may_leave_is it.pool image sure (subst (λ p. outcomes g.D.Disk p.0 p.1 image) c.close.ensures may) in
-    let only : LeavesOnly (file_state c.into_connection.result) k books = subst (λ h. LeavesOnly (file_state h) k books) (sym c.into_connection.ensures) left in
-    ∥∥₁_map (opens_again it (c.into_store.ensures.numbered clean) (c.into_store.ensures.sound clean) image allowed)
-    (λ found. (found.0, found.2, only found.0 (c.into_store.ensures.quiet.outcomes found.0 found.1))) }
+returns g c = record {
+  left = λ honest image may k books left.
+      let it = c.into_store.result in
+      let sure = subst (λ p. AreClean g.D.Disk p.0 p.1) c.close.ensures honest in
+      let clean : IsClean (view it) = no_doubt _ (clean_is it.pool ∙ sure) in
+      let allowed = may_leave_is it.pool image sure (subst (λ p. outcomes g.D.Disk p.0 p.1 image) c.close.ensures may) in
+      let only : LeavesOnly (file_state c.into_connection.result) k books = subst (λ h. LeavesOnly (file_state h) k books) (sym c.into_connection.ensures) left in
+      ∥∥₁_map (opens_again it (c.into_store.ensures.numbered clean) (c.into_store.ensures.sound clean) image allowed)
+      (λ found. (found.0, found.2, only found.0 (c.into_store.ensures.quiet.outcomes found.0 found.1)));
+}
