@@ -4,6 +4,8 @@
 What is wanted was typed by hand from docs/FORMATS.md and docs/HTTP.md; none of it is the program's own output. The files are
 read by the SQLite of python3 too. The last line is 'N passed, M failed'."""
 import os
+import re
+import shutil
 import signal
 import socket
 import sqlite3
@@ -129,6 +131,109 @@ def reports(program, folder):
     fault(program, [*words, "b", "none.csv"], folder, "CannotOpen")
     fault(program, ["import", "none.db", "supplier01", "v1", "b", "none.csv"], folder, "CannotOpen")
     tell(program, ["gaps", "car.db", "v1"], folder, b"GAP    6400 f1 s1\nGAP     200 f2 s1\nGAP    6400 f3 s1\n")
+
+
+# What stands in place of a line of the first script's cluster file, and what `check` says of the file then.
+WRONG = [
+    (b"payload_words = 1\n", b"", b"BadField: payload_words is missing"),
+    (b"payload_words = 1\n", b'payload_words = "1"\n', b'BadField: payload_words is the text "1", it may be 0 to 127'),
+    (b"payload_words = 1\n", b"payload_words = 1.0\n", b"BadField: payload_words is a number with a point, it may be 0 to 127"),
+    (b"payload_words = 1\n", b"payload_words = -1\n", b"BadField: payload_words is -1, it may be 0 to 127"),
+    (b"payload_words = 1\n", b"payload_words = 128\n", b"BadPayload: payload_words is 128, it may be 0 to 127"),
+    (b"payload_words = 1\n", b"payload_words = 1\npayload = 1\n", b'BadField: "payload" is no key of a cluster file'),
+    (b"payload_words = 1\n", b'payload_words = 1\n"a\\nb" = 1\n', b'BadField: "a?b" is no key of a cluster file'),
+    (b"payload_words = 1\n", b"payload_words = 1\npayload_words = 1\n", b"BadToml: line 9: duplicate key"),
+    (b"payload_words = 1\n", b"payload_words 1\n", b"BadToml: line 8: key with no value, expected `=`"),
+    (b"payload_words = 1\n", b"payload_words = 1 # \xff\n", b"BadToml: line 8: invalid UTF-8"),
+    (b'channels = "AB"', b'channels = "ab"', b'BadField: channels is the text "ab", it may be "A", "B" or "AB"'),
+    (b'channels = "AB"', b"channels = true", b'BadField: channels is true or false, it may be "A", "B" or "AB"'),
+    (b"static_slots = 4", b"static_slots = 1", b"BadSlots: static_slots is 1, it may be 2 to 1023"),
+    (b"static_slots = 4", b"static_slots = 1024", b"BadSlots: static_slots is 1024, it may be 2 to 1023"),
+    (b"slot_macroticks = 10", b"slot_macroticks = 0", b"BadMacroticks: slot_macroticks is 0, it may be 1 or more"),
+    (b"idle_macroticks = 10", b"idle_macroticks = 0", b"BadMacroticks: idle_macroticks is 0, it may be 1 or more"),
+    (b"macroticks_per_cycle = 100", b"macroticks_per_cycle = 16001", b"BadMacroticks: macroticks_per_cycle is 16001, it may be at most 16000"),
+    (b"idle_macroticks = 10", b"idle_macroticks = 11", b"BadSum: the segments take 101 macroticks, macroticks_per_cycle is 100"),
+    (b'integrator = "integrator1"', b"integrator = 12345678", b"BadField: integrator is a whole number, it may be a text of 8 to 64 ASCII letters and digits"),
+    (b'integrator = "integrator1"', b'integrator = "short"', b"BadKey: the key of the integrator is not 8 to 64 ASCII letters and digits"),
+    (b'integrator = "integrator1"', b'integrator = "supplier02"', b"KeyTwice: the integrator and s2 have the same key"),
+    (b's1 = "supplier01"', b"s1 = 12345678", b"BadField: suppliers: the key of s1 is a whole number, it may be a text"),
+    (b's1 = "supplier01"', b's1 = "supplier-1"', b"BadKey: the key of s1 is not 8 to 64 ASCII letters and digits"),
+    (b's1 = "supplier01"', b's1 = "supplier02"', b"KeyTwice: s1 and s2 have the same key"),
+    (b's1 = "supplier01"', b's-1 = "supplier01"', b'BadName: the supplier\'s name "s-1" is not 1 to 32 ASCII letters, digits and underscores, a letter first'),
+    (b"[suppliers]\n", b"[suppliers]\n" + b"".join(b't%d = "another0%d"\n' % (n, n) for n in range(63)), b"Limit: there are 65 suppliers, at most 64 may be there"),
+]
+
+FIGURES = b"channels AB, 4 static slots of 10 macroticks, cycle of 100 macroticks, payload of 2 bytes, suppliers: 2\n"
+
+
+def checking(program, folder):
+    """What is wrong with a cluster file, and where; `create` gives the same word."""
+    tell(program, ["check", "cluster.toml"], folder, FIGURES)
+    for old, new, said in WRONG:
+        see(f"{old} stands there once", 1, CLUSTER.count(old))
+        (folder / "wrong.toml").write_bytes(CLUSTER.replace(old, new))
+        fault(program, ["check", "wrong.toml"], folder, said.decode())
+        fault(program, ["create", "wrong.db", "wrong.toml"], folder, said.decode().partition(":")[0])
+    see("no register is made", False, (folder / "wrong.db").exists())
+    for path in "none.toml", ".", "long.toml":
+        fault(program, ["check", path], folder, "CannotOpen")
+    tell(program, ["check", "longest.toml"], folder, FIGURES)
+
+
+# ---- words
+
+
+def listed_words():
+    """The refusals' names and the fault words that docs/FORMATS.md and docs/HTTP.md list."""
+    formats = (TOP / "docs/FORMATS.md").read_text()
+    names = re.findall(r"^\| \d+ \| `(\w+)` \|", formats, re.M) + re.findall(r'"no":29,"refused":"(\w+)"', formats)
+    faults = []
+    for table in re.findall(r"^\| Fault \|.*\n\|[-|]+\n((?:\|.*\n)+)", formats, re.M):
+        faults += re.findall(r"^\| `(\w+)` \|", table, re.M)
+    return set(names), set(faults)
+
+
+# Of connections, which docs/HTTP.md tells of.
+LINK_FAULTS = {"Truncated", "ReadFailed", "TooManyReads", "WriteFailed", "NoMemory"}
+
+
+def explaining(program, folder):
+    """Each refusal and each fault is explained, and nothing else."""
+    names, faults = listed_words()
+    see("refusals that are listed", 31, len(names))
+    see("each kind of fault is listed", True, {"BadSum", "NoSeparator", "NotEmpty", "CannotListen"} <= faults)
+    words = names | faults | LINK_FAULTS
+    everything = subprocess.run([program, "explain"], cwd=folder, capture_output=True, timeout=SECONDS)
+    lines = everything.stdout.decode().splitlines()
+    see("all are listed", (0, b"", sorted(words)), (everything.returncode, everything.stderr, sorted(line.partition(": ")[0] for line in lines)))
+    for line in lines:
+        word = line.partition(": ")[0]
+        got = subprocess.run([program, "explain", word], cwd=folder, capture_output=True, timeout=SECONDS)
+        text = got.stdout.decode().splitlines()
+        see(f"{word} is explained", (0, b"", [line], True), (got.returncode, got.stderr, text[:1], 3 <= len(text) <= 6))
+        see(f"lines of {word} that fit a screen", [], [line for line in text if len(line) > 120])
+    for number, name in re.findall(r"^\| (\d+) \| `(\w+)` \|", (TOP / "docs/FORMATS.md").read_text(), re.M):
+        see(f"the number of {name}", True, any(line.startswith(f"{name}: refusal {number}") for line in lines))
+
+    def alike(word, *begin):
+        found = "".join(f"{line}\n" for line in lines if line.startswith(begin)) if begin else ""
+        rest = f"These begin alike:\n{found}" if found else "`slotplan explain` lists all.\n"
+        fault(program, ["explain", word], folder, f"no refusal and no fault has this name. {rest}"[:-1])
+
+    alike("CellTakn", "CellTaken")
+    alike("celltaken", "CellTaken")
+    alike("BitTake", "BitTaken")
+    alike("NOT", "NotYours", "NotReleased", "NotGranted", "NotEmpty", "NotARegister")
+    alike("xyz")
+    alike("Bed")
+
+
+def version(program, folder):
+    """The toolchain is the one that proves the program."""
+    if shutil.which("rt"):
+        line = subprocess.run(["rt", "version"], capture_output=True, timeout=SECONDS, check=True).stdout
+        tell(program, ["--version"], folder, b"slotplan 1.0\n" + line)
+        see("the README names it too", True, line.strip() in (TOP / "README.md").read_bytes())
 
 
 # ---- the server
@@ -546,7 +651,7 @@ def main(programs):
     for program in there:
         with tempfile.TemporaryDirectory() as folder:
             (Path(folder) / "cluster.toml").write_bytes(CLUSTER)
-            for part in creating, opening, serving, cutting, killing, reports, differences, overlaid, made_whole, opened_again, joined, counted_cycles:
+            for part in creating, checking, explaining, version, opening, serving, cutting, killing, reports, differences, overlaid, made_whole, opened_again, joined, counted_cycles:
                 part(program, Path(folder))
     print(f"{counted[True]} passed, {counted[False]} failed")
     return 1 if counted[False] else 0

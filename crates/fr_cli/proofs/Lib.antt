@@ -6,3 +6,4 @@ pub mod OutputLaws
 pub mod RunLaws
 pub mod EndingLaws
 pub mod AskingLaws
+mod EachFault

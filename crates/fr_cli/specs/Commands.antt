@@ -35,6 +35,10 @@ seconds = record (new_rule (codes "seconds")) {
   parser = Some (Signed (pos 1) (pos 3600));
 }
 
+-- a word that may stand at its place
+abbrev pub free_word : Text → Rule
+free_word name = record (new_rule name) { action = Some Set }
+
 abbrev pub run : App
 run = new_app (codes "run")
 
@@ -55,17 +59,23 @@ abbrev pub import_words : App
 import_words = with_rule (with_rule (with_rule (with_rule (with_rule (new_app (codes "import")) (word (codes "DB"))) (word (codes "KEY")))
     (word (codes "VARIANT"))) (word (codes "LABEL"))) (word (codes "FILE"))
 
+abbrev pub check : App
+check = with_rule (new_app (codes "check")) (word (codes "CONFIG"))
+
+abbrev pub explain : App
+explain = with_rule (new_app (codes "explain")) (free_word (codes "WORD"))
+
 -- the program's own word is left out; a subcommand is wanted, and without a word the help is shown
 abbrev pub unasked : Text → App
 unasked name = record {
-  top = record (new_shape name) { no_binary_name = true; subcommand_required = true; arg_required_else_help = true };
+  top = record (new_shape name) { no_binary_name = true; has_version = true; subcommand_required = true; arg_required_else_help = true };
   subs = [];
 }
 
 -- the program, with one subcommand for each job
 abbrev pub slotplan : App
-slotplan = with_subcommand (with_subcommand (with_subcommand (with_subcommand (with_subcommand (with_subcommand (with_subcommand
-    (unasked (codes "slotplan")) run.top) create.top) migrate.top) serve.top) (report (codes "schedule")).top) (report (codes "gaps")).top) import_words.top
+slotplan = with_subcommand (with_subcommand (with_subcommand (with_subcommand (with_subcommand (with_subcommand (with_subcommand (with_subcommand (with_subcommand
+    (unasked (codes "slotplan")) run.top) create.top) migrate.top) serve.top) (report (codes "schedule")).top) (report (codes "gaps")).top) import_words.top) check.top) explain.top
 
 -- The command is read so, and has no argument that its subcommands have too.
 abbrev pub IsReadAs : App → Command → Type 0

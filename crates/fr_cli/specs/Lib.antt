@@ -12,3 +12,5 @@ pub mod Asking
 pub mod Endings
 pub mod Performing
 pub mod Runs
+pub mod Checking
+pub mod Explaining

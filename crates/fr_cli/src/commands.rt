@@ -24,7 +24,9 @@ pub fn program<'a>(alloc: Global) -> Result<Command<'a>, Error>
         .subcommand(serve(alloc)?)?
         .subcommand(report(alloc, "schedule", SCHEDULE_ABOUT, SCHEDULE_HELP)?)?
         .subcommand(report(alloc, "gaps", GAPS_ABOUT, GAPS_HELP)?)?
-        .subcommand(import(alloc)?)?;
+        .subcommand(import(alloc)?)?
+        .subcommand(check(alloc)?)?
+        .subcommand(explain(alloc)?)?;
     Ok(program)
 }
 
@@ -35,6 +37,7 @@ fn settings<'a>(command: Command<'a>) -> Command<'a>
     command
         .about(PROGRAM_ABOUT)
         .after_help(PROGRAM_HELP)
+        .version(VERSION)
         .no_binary_name(true)
         .subcommand_required(true)
         .arg_required_else_help(true)
@@ -155,6 +158,34 @@ fn import<'a>(alloc: Global) -> Result<Command<'a>, Error>
     Ok(command)
 }
 
+fn check<'a>(alloc: Global) -> Result<Command<'a>, Error>
+    ensures { IfOk result (IsReadAs app.check) }
+{
+    let command = Command::new(alloc, "check")
+        .about("Says what is wrong with a cluster file and where, or prints its figures")
+        .after_help(CHECK_HELP)
+        .arg(word(
+            alloc,
+            "CONFIG",
+            "The cluster file (TOML), at most 1,048,576 bytes",
+        ))?;
+    Ok(command)
+}
+
+fn explain<'a>(alloc: Global) -> Result<Command<'a>, Error>
+    ensures { IfOk result (IsReadAs app.explain) }
+{
+    let command = Command::new(alloc, "explain")
+        .about("Says what a refusal or a fault means, when it comes and what to do")
+        .after_help(EXPLAIN_HELP)
+        .arg(free_word(
+            alloc,
+            "WORD",
+            "The refusal's name or the fault's word; without it all are listed",
+        ))?;
+    Ok(command)
+}
+
 // The register file.
 fn db<'a>(alloc: Global) -> Arg<'a>
     ensures { (rule_of result ≡ app.word (codes "DB")) × (result.global ≡ false) }
@@ -178,6 +209,16 @@ fn word<'a>(alloc: Global, name: &'a str, help: &'a str) -> Arg<'a>
         .required(true)
         .action(ArgAction::Set)
 }
+
+// A word that may stand at its place.
+fn free_word<'a>(alloc: Global, name: &'a str, help: &'a str) -> Arg<'a>
+    ensures { (rule_of result ≡ app.free_word name.entry.now) × (result.global ≡ false) }
+{
+    Arg::new(alloc, name).help(help).action(ArgAction::Set)
+}
+
+/// The program's version, and the line of the toolchain that it is proved with.
+const VERSION: &str = "1.0\nrattle-kit-13f logic dac8208d650f15bf";
 
 const PROGRAM_ABOUT: &str = "\
 Plans the static segment of a FlexRay bus: a register in which an integrator grants
@@ -237,3 +278,11 @@ Example:
 const IMPORT_HELP: &str = "\
 Example:
   slotplan import car.db supplier01 v1 week47 placements.csv";
+
+const CHECK_HELP: &str = "\
+Example:
+  slotplan check cluster.toml";
+
+const EXPLAIN_HELP: &str = "\
+Example:
+  slotplan explain CellTaken";

@@ -2,8 +2,10 @@
 #![tactic(auto)]
 
 mod asking;
+mod checking;
 mod commands;
 mod creating;
+mod explaining;
 mod failure;
 mod fault;
 mod files;

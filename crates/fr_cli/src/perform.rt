@@ -1,10 +1,12 @@
 //! Does a job, and says how it ended.
-ghost use Rattle.std.specs.Prelude.{◌≡◌, ◌⊎◌, Result, IfErr, ⊤, List, ℕ};
+ghost use Rattle.std.specs.Prelude.{◌≡◌, ◌⊎◌, Option, Result, IfErr, ⊤, List, ℕ};
 ghost use Rattle.std.specs.Borrow.{Bor};
 ghost use Rattle.std.specs.Global.{Vec};
 ghost use Rattle.std.specs.Io.KnownBytes.{Appends, Keeps};
 ghost use Rattle.fr_cli.specs.Asking.{line_of, report_of};
+ghost use Rattle.fr_cli.specs.Checking.{IsCheckedFile};
 ghost use Rattle.fr_cli.specs.Endings.{AppendsFront, IsPrinted, IsTold, Tells, status_of};
+ghost use Rattle.fr_cli.specs.Explaining.{IsExplained};
 ghost use Rattle.fr_cli.specs.Faults.{IsNotImported, IsNotMade, IsNotMigrated, IsNotReported};
 ghost use Rattle.fr_cli.specs.Performing.{Says, listening, of_script};
 ghost use Rattle.fr_cli.specs.Runs.{IsRunOf};
@@ -14,7 +16,9 @@ ghost use Rattle.fr_cli.specs.declared.fault.Fault.{Fault as Word};
 ghost use Rattle.fr_cli.specs.declared.script_fault.ScriptFault.{ScriptFault};
 
 use crate::asking::{ImportWords, Report, import, report_on};
+use crate::checking::check;
 use crate::creating::create;
+use crate::explaining::explain_word;
 use crate::failure::Failure;
 use crate::fault::Fault;
 use crate::files::read_front;
@@ -53,6 +57,10 @@ pub fn perform<R: Read, O: Write, E: Write>(
     ensures gaps { (db variant : Bor (List ℕ)) → job.now ≡ Job.Gaps db variant → (done : Result (Vec ℕ) Ended) × Says IsNotReported (report_of report.Gaps) done
         × IsTold done (O.contents out.old) (O.contents out.new) (E.contents err.old) (E.contents err.new) result }
     ensures import { (db key variant label file : Bor (List ℕ)) → job.now ≡ Job.Import db key variant label file → (done : Result (Vec ℕ) Ended) × Says IsNotImported line_of done
+        × IsTold done (O.contents out.old) (O.contents out.new) (E.contents err.old) (E.contents err.new) result }
+    ensures check { (config : Bor (List ℕ)) → job.now ≡ Job.Check config → (done : Result (Vec ℕ) Ended) × IsCheckedFile done
+        × IsTold done (O.contents out.old) (O.contents out.new) (E.contents err.old) (E.contents err.new) result }
+    ensures explain { (word : Option (Bor (List ℕ))) → job.now ≡ Job.Explain word → (done : Result (Vec ℕ) Ended) × IsExplained word done
         × IsTold done (O.contents out.old) (O.contents out.new) (E.contents err.old) (E.contents err.new) result }
     ensures serve { (db : Bor (List ℕ)) (port count seconds : ℕ) → job.now ≡ Job.Serve db port count seconds → AppendsFront (O.contents out.old) (O.contents out.new) (listening port) }
 {
@@ -100,10 +108,12 @@ pub fn perform<R: Read, O: Write, E: Write>(
             };
             tell(import_file(rt, db, words, file), out, &mut err)
         }
+        Job::Check { config } => tell(check(rt, config), out, &mut err),
+        Job::Explain { word } => tell(explain_word(rt.alloc(), word), out, &mut err),
     }
 }
 
-/// Says why words name no job, and gives the status: 0 where help was asked for, 1 where there was no
+/// Says why words name no job, and gives the status: 0 where help or the version was asked for, 1 where there was no
 /// memory, 2 where the program was called otherwise.
 pub fn explain<O: Write, E: Write>(fault: &WordFault, out: &mut O, err: &mut E) -> u8
     ensures help { (text : _) → fault.now ≡ WordFault.Help text

@@ -1,6 +1,6 @@
 //! The words of the command line, and the job for which they ask.
-ghost use Rattle.std.specs.Prelude.{◌≡◌, ◌≤◌, codes, map, string_bytes, IfOk, IfSome, List, Some};
-ghost use Rattle.clap.specs.Walk.{Row, Text, rows_of};
+ghost use Rattle.std.specs.Prelude.{◌≡◌, ◌≤◌, codes, map, string_bytes, IfOk, IfSome, List, None, Some};
+ghost use Rattle.clap.specs.Walk.{Row, Text, first_of, rows_of};
 ghost use Rattle.clap.specs.Words.{found_of, subcommand_rows_of};
 ghost use Rattle.fr_cli.specs.Words.{AskFor, Has, IsJobOf};
 
@@ -49,12 +49,20 @@ pub enum Job<'a> {
         label: &'a str,
         file: &'a str,
     },
+    /// Say what is wrong with a cluster file, and where; or its figures.
+    Check {
+        config: &'a str,
+    },
+    /// Say what a refusal's name or a fault's word means, or list all of them.
+    Explain {
+        word: Option<&'a str>,
+    },
 }
 
 /// Why words name no job.
 #[derive(Debug, Drop)]
 pub enum WordFault {
-    /// They ask for help, which is this text.
+    /// They ask for help or for the version, which is this text.
     Help { text: String },
     /// They are not as the program is called: this text says how it is.
     Usage { text: String },
@@ -103,6 +111,8 @@ fn named_job<'a>(name: &str, found: &ArgMatches<'a>) -> Option<Job<'a>>
         "schedule" => schedule_job(found),
         "gaps" => gaps_job(found),
         "import" => import_job(found),
+        "check" => check_job(found),
+        "explain" => Some(explain_job(found)),
         _ => None,
     }
 }
@@ -173,9 +183,26 @@ fn import_job<'a>(found: &ArgMatches<'a>) -> Option<Job<'a>>
     })
 }
 
+fn check_job<'a>(found: &ArgMatches<'a>) -> Option<Job<'a>>
+    ensures { IfSome result (λ job. IsJobOf job (codes "check") (rows_of (found_of found.now))) }
+{
+    Some(Job::Check {
+        config: word(found, "CONFIG")?,
+    })
+}
+
+fn explain_job<'a>(found: &ArgMatches<'a>) -> Job<'a>
+    ensures { IsJobOf result (codes "explain") (rows_of (found_of found.now)) }
+{
+    Job::Explain {
+        word: word(found, "WORD"),
+    }
+}
+
 // The word at this place.
 fn word<'a>(found: &ArgMatches<'a>, name: &str) -> Option<&'a str>
-    ensures { IfSome result (λ text. Has name.now (rows_of (found_of found.now)) text.now) }
+    ensures some { IfSome result (λ text. Has name.now (rows_of (found_of found.now)) text.now) }
+    ensures none { result ≡ None → first_of name.now (rows_of (found_of found.now)) ≡ None }
 {
     found.get_str(name)
 }
@@ -184,7 +211,7 @@ fn word<'a>(found: &ArgMatches<'a>, name: &str) -> Option<&'a str>
 fn fault_of(alloc: Global, error: &Error) -> WordFault {
     match (error.kind(), error.to_string(alloc)) {
         (ErrorKind::OutOfMemory, _) | (_, Err(_)) => WordFault::NoMemory,
-        (ErrorKind::DisplayHelp, Ok(text)) => WordFault::Help { text },
+        (ErrorKind::DisplayHelp | ErrorKind::DisplayVersion, Ok(text)) => WordFault::Help { text },
         (_, Ok(text)) => WordFault::Usage { text },
     }
 }
