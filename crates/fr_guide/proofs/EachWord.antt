@@ -3,7 +3,7 @@ use Rattle.std.proofs.Common.{◌≡◌, true, refl}
 use Rattle.std.specs.Prelude.{codes}
 use Rattle.fr_base.specs.Refusals.{name_of}
 use Rattle.fr_base.specs.declared.params.ParamFault.{ParamFault}
-use Rattle.fr_base.specs.declared.params.ParamFault.TheVariants.{BadSlots, BadPayload, BadMacroticks, BadSum}
+use Rattle.fr_base.specs.declared.params.ParamFault.TheVariants.{BadSlots, BadPayload, BadMacroticks, BadSum, BadCycleCount}
 use Rattle.fr_base.specs.declared.refusal.Refusal.{Refusal}
 use Rattle.fr_base.specs.declared.refusal.Refusal.TheVariants as refusal
 use Rattle.fr_text.specs.ClusterFile.{config_fault_word}
@@ -56,6 +56,7 @@ faults (fault.Params BadSlots) = refl
 faults (fault.Params BadPayload) = refl
 faults (fault.Params BadMacroticks) = refl
 faults (fault.Params BadSum) = refl
+faults (fault.Params BadCycleCount) = refl
 faults fault.Limit = refl
 faults fault.BadName = refl
 faults fault.BadKey = refl

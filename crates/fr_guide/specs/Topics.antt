@@ -1,7 +1,7 @@
 -- The words that are explained, and what is said of them.
-use Rattle.std.specs.Prelude.{ℕ, Bool, List, [], ◌∷◌, ◌++◌, map, codes}
-use Rattle.std.specs.List.{concat, list_any}
-use Rattle.std.specs.Str.{bytes_eq}
+use Rattle.std.specs.Prelude.{ℕ, Bool, List, [], ◌∷◌, ◌++◌, map, min, take, length, codes}
+use Rattle.std.specs.List.{flat_map, list_any}
+use Rattle.std.specs.Str.{bytes_eq, str_eq_ignore_ascii_case}
 use Rattle.fr_guide.specs.declared.topic.Topic.{Topic}
 
 -- refusals of who asks, and of what is no request
@@ -38,7 +38,7 @@ imports = codes "LabelUsed" ∷ codes "BadRow" ∷ []
 
 -- faults of a cluster file: its text, its keys and its bounds
 abbrev pub clusters : List (List ℕ)
-clusters = codes "BadToml" ∷ codes "BadField" ∷ codes "BadSlots" ∷ codes "BadPayload" ∷ []
+clusters = codes "BadToml" ∷ codes "BadField" ∷ codes "BadSlots" ∷ codes "BadPayload" ∷ codes "BadCycleCount" ∷ []
 
 -- the lengths of its cycle, and its keys
 abbrev pub segments : List (List ℕ)
@@ -65,10 +65,22 @@ is_explained word = list_any (λ w. bytes_eq w word) explained
 abbrev pub words_of : List Topic → List (List ℕ)
 words_of topics = map (λ t. t.word.now) topics
 
+-- how many letters words have in common at their front that begin alike, unless one of them has fewer
+abbrev pub alike_letters : ℕ → ℕ → ℕ
+alike_letters one other = min (min 3 one) other
+
+-- whether two words begin alike, small and capital letters being the same
+abbrev pub begin_alike : List ℕ → List ℕ → Bool
+begin_alike one other = let n = alike_letters (length one) (length other) in str_eq_ignore_ascii_case (take n one) (take n other)
+
 -- the line of a topic
 abbrev pub line_of : Topic → List ℕ
 line_of topic = topic.word.now ++ codes ": " ++ topic.about.now ++ codes "\n"
 
+-- all that is said of a topic
+abbrev pub page_of : Topic → List ℕ
+page_of topic = line_of topic ++ topic.help.now
+
 -- the lines of topics
 abbrev pub lines_of : List Topic → List ℕ
-lines_of topics = concat (map line_of topics)
+lines_of topics = flat_map line_of topics

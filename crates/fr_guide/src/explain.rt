@@ -1,9 +1,9 @@
 //! What is said of a word.
-ghost use Rattle.std.specs.Prelude.{◌≡◌, ◌++◌, IfOk, OnOk, filter, option_copied};
+ghost use Rattle.std.specs.Prelude.{◌≡◌, ◌++◌, IfOk, OnOk, option_copied};
 ghost use Rattle.std.specs.List.{find};
 ghost use Rattle.std.specs.Str.{bytes_eq};
-ghost use Rattle.fr_guide.specs.Explaining.{Explains, ListsAll};
-ghost use Rattle.fr_guide.specs.Topics.{line_of, lines_of};
+ghost use Rattle.fr_guide.specs.Explaining.{Explains, ListsAlike, ListsAll};
+ghost use Rattle.fr_guide.specs.Topics.{begin_alike, line_of, lines_of, page_of};
 
 use crate::topic::Topic;
 use crate::topics::topics;
@@ -28,22 +28,17 @@ pub fn explanation(alloc: Global, word: &str) -> Result<Option<Vec<u8>>, NoMemor
 pub fn overview(alloc: Global) -> Result<Vec<u8>, NoMemory>
     ensures { IfOk result (λ text. ListsAll text.items) }
 {
-    let mut text = Vec::new(alloc);
-    append_lines(&mut text, &topics(alloc)?)?;
-    Ok(text)
+    lines(alloc, &topics(alloc)?)
 }
 
 /// The lines of those words that begin like this one: the first three letters are the same, or all where one
 /// of the two has fewer. Small and capital letters are alike.
-pub fn alike(alloc: Global, word: &str) -> Result<Vec<u8>, NoMemory> {
-    let topics = topics(alloc)?;
-    let mut text = Vec::new(alloc);
-    for topic in topics.as_slice() {
-        if begin_alike(topic.word, word) {
-            append_line(&mut text, topic)?;
-        }
-    }
-    Ok(text)
+pub fn alike(alloc: Global, word: &str) -> Result<Vec<u8>, NoMemory>
+    ensures { IfOk result (λ text. ListsAlike word.now text.items) }
+{
+    let mut topics = topics(alloc)?;
+    topics.retain(|topic| begin_alike(topic.word, word));
+    lines(alloc, &topics)
 }
 
 // The topic of this word.
@@ -55,7 +50,7 @@ fn find<'a>(topics: &'a [Topic], word: &str) -> Option<&'a Topic>
 
 // All that is said of a topic.
 fn page(alloc: Global, topic: &Topic) -> Result<Vec<u8>, NoMemory>
-    ensures { IfOk result (λ text. text.items ≡ line_of topic.now ++ topic.now.help.now) }
+    ensures { IfOk result (λ text. text.items ≡ page_of topic.now) }
 {
     let mut text = Vec::new(alloc);
     append_line(&mut text, topic)?;
@@ -63,17 +58,15 @@ fn page(alloc: Global, topic: &Topic) -> Result<Vec<u8>, NoMemory>
     Ok(text)
 }
 
-// Adds the lines of topics.
-fn append_lines(text: &mut Vec<u8>, topics: &[Topic]) -> Result<(), NoMemory>
-    ensures { OnOk result (text.new.items ≡ text.old.items ++ lines_of topics.now) }
+// The lines of topics.
+fn lines(alloc: Global, topics: &[Topic]) -> Result<Vec<u8>, NoMemory>
+    ensures { IfOk result (λ text. text.items ≡ lines_of topics.now) }
 {
-    match topics {
-        [] => Ok(()),
-        [topic, rest @ ..] => {
-            append_line(text, topic)?;
-            append_lines(text, rest)
-        }
+    let mut text = Vec::new(alloc);
+    for topic in topics {
+        append_line(&mut text, topic)?;
     }
+    Ok(text)
 }
 
 // Adds the line of a topic.
@@ -88,9 +81,10 @@ fn append_line(text: &mut Vec<u8>, topic: &Topic) -> Result<(), NoMemory>
 }
 
 // Whether two words begin alike.
-fn begin_alike(one: &str, other: &str) -> bool {
-    let pairs = one.as_bytes().iter().zip(other.as_bytes());
-    pairs
-        .take(ALIKE_LETTERS)
-        .all(|(a, b)| a.eq_ignore_ascii_case(b))
+fn begin_alike(one: &str, other: &str) -> bool
+    ensures { result ≡ begin_alike one.now other.now }
+{
+    let letters = ALIKE_LETTERS.min(one.len()).min(other.len());
+    let (one, other) = (one.as_bytes(), other.as_bytes());
+    one[..letters].eq_ignore_ascii_case(&other[..letters])
 }

@@ -49,9 +49,10 @@ fn figures(alloc: Global, config: &Config) -> Result<Vec<u8>, NoMemory> {
     let params = config.params();
     let (channels, slots) = (params.channels().as_str(), params.static_slots());
     let (length, cycle) = (params.slot_macroticks(), params.macroticks_per_cycle());
+    let cycles = params.cycles();
     let (payload, suppliers) = (2 * params.payload_words(), config.suppliers().len());
     let text = format!(in alloc;
-        "channels {channels}, {slots} static slots of {length} macroticks, cycle of {cycle} macroticks, payload of {payload} bytes, suppliers: {suppliers}"
+        "channels {channels}, {slots} static slots of {length} macroticks, {cycles} cycles of {cycle} macroticks, payload of {payload} bytes, suppliers: {suppliers}"
     )?;
     Ok(text.into_bytes())
 }

@@ -5,7 +5,7 @@ use std::alloc::Global;
 use toml::{Table, Value};
 
 /// The keys of a cluster file, in the order in which they are read.
-const KEYS: [&str; 10] = [
+const KEYS: [&str; 11] = [
     "channels",
     "static_slots",
     "slot_macroticks",
@@ -14,6 +14,7 @@ const KEYS: [&str; 10] = [
     "idle_macroticks",
     "macroticks_per_cycle",
     "payload_words",
+    "cycles",
     "integrator",
     "suppliers",
 ];
@@ -25,11 +26,11 @@ pub fn bad_field(alloc: Global, file: &Table) -> Result<String, NoMemory> {
         return format!(in alloc; "\"{key}\" is no key of a cluster file");
     }
     for key in KEYS {
-        let Some(value) = file.get(key) else {
-            return format!(in alloc; "{key} is missing");
-        };
-        if !is_allowed(key, value) {
-            return not_allowed(alloc, key, value);
+        match file.get(key) {
+            None if key == "cycles" => {}
+            None => return format!(in alloc; "{key} is missing"),
+            Some(value) if is_allowed(key, value) => {}
+            Some(value) => return not_allowed(alloc, key, value),
         }
     }
     bad_supplier(alloc, file)
@@ -74,6 +75,7 @@ pub fn range(key: &str) -> &'static str {
         "dynamic_macroticks" | "symbol_macroticks" => "0 or more",
         "macroticks_per_cycle" => "at most 16000",
         "payload_words" => "0 to 127",
+        "cycles" => "an even number from 8 to 64",
         "integrator" => "a text of 8 to 64 ASCII letters and digits",
         _ => "a table from each supplier's name to its key",
     }

@@ -15,6 +15,7 @@ pub fn bad_figure(alloc: Global, fault: ParamFault, file: &Table) -> Result<Stri
         ParamFault::BadMacroticks if number(file, "idle_macroticks") == 0 => "idle_macroticks",
         ParamFault::BadMacroticks => "macroticks_per_cycle",
         ParamFault::BadSum => return bad_sum(alloc, file),
+        ParamFault::BadCycleCount => "cycles",
     };
     let (number, range) = (number(file, key), range(key));
     format!(in alloc; "{key} is {number}, it may be {range}")

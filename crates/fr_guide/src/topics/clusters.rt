@@ -5,10 +5,16 @@ ghost use Rattle.fr_guide.specs.Topics.{clusters, words_of};
 use crate::topic::Topic;
 
 /// The words explained here.
-pub fn topics() -> [Topic; 4]
+pub fn topics() -> [Topic; 5]
     ensures { words_of result ≡ clusters }
 {
-    [BAD_TOML, BAD_FIELD, BAD_SLOTS, BAD_PAYLOAD]
+    [
+        BAD_TOML,
+        BAD_FIELD,
+        BAD_SLOTS,
+        BAD_PAYLOAD,
+        BAD_CYCLE_COUNT,
+    ]
 }
 
 const BAD_TOML: Topic = Topic {
@@ -25,8 +31,8 @@ const BAD_FIELD: Topic = Topic {
     word: "BadField",
     about: "a fault of a cluster file. A key is missing or unknown, or its value is of another kind.",
     help: "\
-The ten keys are `channels`, `static_slots`, `slot_macroticks`, `dynamic_macroticks`, `symbol_macroticks`,
-`idle_macroticks`, `macroticks_per_cycle`, `payload_words`, `integrator` and `suppliers`.
+The keys are `channels`, `static_slots`, `slot_macroticks`, `dynamic_macroticks`, `symbol_macroticks`,
+`idle_macroticks`, `macroticks_per_cycle`, `payload_words`, `integrator`, `suppliers`, and `cycles` if you like.
 A number is whole, of 0 to 4294967295. `channels` is \"A\", \"B\" or \"AB\".
 A key that stands below `[suppliers]` is a supplier's, so put `[suppliers]` last.
 `slotplan check` says which key it is, and what it may be.
@@ -48,5 +54,15 @@ const BAD_PAYLOAD: Topic = Topic {
     help: "\
 All static frames have the same payload. It is counted in words of two bytes, and 127 words are 254 bytes.
 If you have the number of bytes, write half of it.
+",
+};
+
+const BAD_CYCLE_COUNT: Topic = Topic {
+    word: "BadCycleCount",
+    about: "a fault of a cluster file. `cycles` is not an even number from 8 to 64.",
+    help: "\
+The cycle counter runs from 0 to the number before `cycles`, and then starts at 0 again.
+Most clusters have 64 cycles, and the key may be left out for these.
+Mend `cycles`, or leave it out.
 ",
 };

@@ -15,9 +15,10 @@ const BAD_CYCLES: Topic = Topic {
     word: "BadCycles",
     about: "refusal 5. Base and repetition select no cycles.",
     help: "\
-A repetition is 1, 2, 4, 8, 16, 32 or 64. A base is 0 or more, and less than its repetition.
-They select the cycles of 0 to 63 whose remainder by the repetition is the base.
-Base 1 and repetition 4 select the cycles 1, 5, 9, and so on, up to 61.
+A repetition divides the cluster's `cycles`: in a cluster of 64 it is 1, 2, 4, 8, 16, 32 or 64.
+A base is 0 or more, and less than its repetition.
+They select the cycles whose remainder by the repetition is the base.
+Of 64 cycles base 1 and repetition 4 select 1, 5, 9, and so on, up to 61.
 It comes for `place`, for `unplace`, and for a row of an import. Choose another base or repetition.
 ",
 };

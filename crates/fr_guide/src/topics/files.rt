@@ -51,9 +51,10 @@ const WRONG_SCHEMA: Topic = Topic {
     word: "WrongSchema",
     about: "a fault of the commands on DB. The register is of another version of the program.",
     help: "\
-The number `schema` in its table `register` is not the one that this program reads.
-Nothing in the file has changed.
-Use the version of the program that made the file. `slotplan --version` says which one this is.
+The number `schema` in its table `register` is not 2. Nothing in the file has changed.
+Where it is 1, an earlier `slotplan` made the file: `slotplan migrate DB` brings it to 2.
+Of `migrate` itself the number is not 1. Where it is 2, there is nothing to migrate.
+With another number use the version of the program that made the file.
 ",
 };
 
@@ -80,7 +81,7 @@ const WRITE_FAILED: Topic = Topic {
     word: "WriteFailed",
     about: "a fault of any job or of a connection. The answer could not be written.",
     help: "\
-Often the one who reads ended before all was written, or the disk is full.
+Often the one who reads ended before all was written, the disk is full, or a connection's seconds were over.
 A command may have been carried out although its answer was not written.
 On a register file ask for a report before you send it again.
 ",

@@ -43,7 +43,7 @@ const READ_FAILED: Topic = Topic {
     help: "\
 Of a script nothing was answered. Read it from a file: slotplan run < FILE
 Of a connection its request was not asked, and the server goes on with the next connection.
-A client that sends nothing for some seconds is cut off so.
+A connection ends so too where its seconds are over; `serve --seconds N` allows more of them.
 ",
 };
 

@@ -1,4 +1,4 @@
-use Rattle.std.proofs.Common.{◌≡◌, ◌∙◌, ◌++◌, Some, None, is_some, sym, ap, append_assoc, codes}
+use Rattle.std.proofs.Common.{◌≡◌, ◌∙◌, Some, None, is_some, sym, ap}
 use Rattle.std.specs.Prelude.{find}
 use Rattle.std.specs.List.{list_any}
 use Rattle.std.specs.Str.{bytes_eq}
@@ -13,11 +13,11 @@ returns-in-Some c =
     let topic = c.in-Some.topic.now in
     let words : words_of topics ≡ explained = ap (λ l. words_of l) c.deref.ensures.value ∙ c.in_ok-topics.ensures in
     let found : find (λ t. bytes_eq t.word.now word) topics ≡ Some topic = sym c.in-Some.ensures in
-    let rest = topic.about.now ++ codes "\n" in (
+    (
       ap (λ l. list_any (λ w. bytes_eq w word) l) (sym words) ∙ is_found word topics ∙ ap (λ o. is_some o) found,
-      rest ++ topic.help.now,
-      c.in_ok-page-in-Some.ensures ∙ append_assoc topic.word.now (codes ": " ++ rest) topic.help.now
-          ∙ ap (λ l. l ++ codes ": " ++ rest ++ topic.help.now) (found-word word topics topic found),
+      topic,
+      found-word word topics topic found,
+      c.in_ok-page-in-Some.ensures,
     )
 
 pub returns : goal.returns
