@@ -19,30 +19,32 @@ pub fn topics() -> [Topic; 5]
 
 const TOO_LONG: Topic = Topic {
     word: "TooLong",
-    about: "a fault of a script. It has more than 16777216 bytes.",
+    about: "a fault of `run` and `ask`. Standard input has more than 16777216 bytes.",
     help: "\
-Nothing of it was answered.
+`run` has answered nothing. `ask` has answered the lines before, and what they did is in the file.
 A script's register ends with the script, so a second script would begin anew.
-Plan in a register file: `slotplan create` makes one, and `slotplan serve` answers requests on it.
+For many requests make a register file by `slotplan create`, and `ask` them in several parts.
 ",
 };
 
 const TOO_MANY_READS: Topic = Topic {
     word: "TooManyReads",
-    about: "a fault of a script or a connection. Its end was not met in the reads that are allowed.",
+    about: "a fault of `run`, `ask` or a connection. It did not end in the reads that are allowed.",
     help: "\
-A script is read in 20000000 reads at most, and what a connection sends in 100000.
-The input came in very small pieces.
-Send it in larger ones: a script from a file, a request in one piece.
+Standard input is read in 20000000 reads at most, and what a connection sends in 100000.
+The input came in very small pieces. `run` has answered nothing, and a connection's request was not asked.
+`ask` has answered the lines before, and what they did is in the file.
+Send the input in larger pieces: a script from a file, a request as one piece.
 ",
 };
 
 const READ_FAILED: Topic = Topic {
     word: "ReadFailed",
-    about: "a fault of a script or a connection. A read failed.",
+    about: "a fault of `run`, `ask` or a connection. A read failed.",
     help: "\
-Of a script nothing was answered. Read it from a file: slotplan run < FILE
-Of a connection its request was not asked, and the server goes on with the next connection.
+`run` has answered nothing. `ask` has answered the lines before, and what they did is in the file.
+Read standard input from a file: slotplan run < FILE
+A connection's request was not asked, and the server goes on with the next connection.
 A connection ends so too where its seconds are over; `serve --seconds N` allows more of them.
 ",
 };

@@ -28,6 +28,7 @@ const UNKNOWN_KEY: Topic = Topic {
     help: "\
 Neither the integrator nor a supplier has the key when the request's turn comes.
 Over HTTP it also comes where the field X-Office-Key is missing or stands more than once.
+For a report with `--supplier NAME` there is no supplier of that name.
 Use a key of the cluster file, or let the integrator add the supplier by `add_supplier`.
 ",
 };
