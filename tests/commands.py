@@ -152,6 +152,11 @@ WRONG = [
     (b"payload_words = 1\n", b"payload_words = 1\npayload_words = 1\n", b"BadToml: line 9: duplicate key"),
     (b"payload_words = 1\n", b"payload_words 1\n", b"BadToml: line 8: key with no value, expected `=`"),
     (b"payload_words = 1\n", b"payload_words = 1 # \xff\n", b"BadToml: line 8: invalid UTF-8"),
+    (b"payload_words = 1\n", b"payload_words = 1\ncycles = 9\n", b"BadCycleCount: cycles is 9, it may be an even number from 8 to 64"),
+    (b"payload_words = 1\n", b"payload_words = 1\ncycles = 6\n", b"BadCycleCount: cycles is 6, it may be an even number from 8 to 64"),
+    (b"payload_words = 1\n", b"payload_words = 1\ncycles = 66\n", b"BadCycleCount: cycles is 66, it may be an even number from 8 to 64"),
+    (b"payload_words = 1\n", b"payload_words = 1\ncycles = -8\n", b"BadField: cycles is -8, it may be an even number from 8 to 64"),
+    (b"payload_words = 1\n", b'payload_words = 1\ncycles = "8"\n', b'BadField: cycles is the text "8", it may be an even number from 8 to 64'),
     (b'channels = "AB"', b'channels = "ab"', b'BadField: channels is the text "ab", it may be "A", "B" or "AB"'),
     (b'channels = "AB"', b"channels = true", b'BadField: channels is true or false, it may be "A", "B" or "AB"'),
     (b"static_slots = 4", b"static_slots = 1", b"BadSlots: static_slots is 1, it may be 2 to 1023"),
@@ -163,6 +168,11 @@ WRONG = [
     (b'integrator = "integrator1"', b"integrator = 12345678", b"BadField: integrator is a whole number, it may be a text of 8 to 64 ASCII letters and digits"),
     (b'integrator = "integrator1"', b'integrator = "short"', b"BadKey: the key of the integrator is not 8 to 64 ASCII letters and digits"),
     (b'integrator = "integrator1"', b'integrator = "supplier02"', b"KeyTwice: the integrator and s2 have the same key"),
+    (
+        b'[suppliers]\ns1 = "supplier01"\ns2 = "supplier02"\n',
+        b'suppliers = "supplier01"\n',
+        b"BadField: suppliers is a text, it may be a table from each supplier's name to its key",
+    ),
     (b's1 = "supplier01"', b"s1 = 12345678", b"BadField: suppliers: the key of s1 is a whole number, it may be a text"),
     (b's1 = "supplier01"', b's1 = "supplier-1"', b"BadKey: the key of s1 is not 8 to 64 ASCII letters and digits"),
     (b's1 = "supplier01"', b's1 = "supplier02"', b"KeyTwice: s1 and s2 have the same key"),
@@ -176,6 +186,8 @@ FIGURES = b"channels AB, 4 static slots of 10 macroticks, 64 cycles of 100 macro
 def checking(program, folder):
     """What is wrong with a cluster file, and where; `create` gives the same word."""
     tell(program, ["check", "cluster.toml"], folder, FIGURES)
+    (folder / "ten.toml").write_bytes(CLUSTER.replace(b"payload_words = 1\n", b"payload_words = 1\ncycles = 10\n"))
+    tell(program, ["check", "ten.toml"], folder, FIGURES.replace(b"64 cycles", b"10 cycles"))
     for old, new, said in WRONG:
         see(f"{old} stands there once", 1, CLUSTER.count(old))
         (folder / "wrong.toml").write_bytes(CLUSTER.replace(old, new))

@@ -52,10 +52,10 @@ fn is_allowed(key: &str, value: &Value) -> bool {
 fn not_allowed(alloc: Global, key: &str, value: &Value) -> Result<String, NoMemory> {
     let range = range(key);
     match value {
-        Value::Integer(number) if key != "integrator" => format!(in alloc;
+        Value::Integer(number) if is_open(key) => format!(in alloc;
             "{key} is {number}, it may be {range}"
         ),
-        Value::String(text) => {
+        Value::String(text) if is_open(key) => {
             let text = shown(alloc, text.as_str())?;
             format!(in alloc; "{key} is the text \"{text}\", it may be {range}")
         }
@@ -64,6 +64,11 @@ fn not_allowed(alloc: Global, key: &str, value: &Value) -> Result<String, NoMemo
             format!(in alloc; "{key} is {kind}, it may be {range}")
         }
     }
+}
+
+// Whether the value may be shown: it is no key of the integrator or a supplier.
+fn is_open(key: &str) -> bool {
+    !matches!(key, "integrator" | "suppliers")
 }
 
 /// What a key of a cluster file may be.

@@ -8,13 +8,7 @@ use crate::topic::Topic;
 pub fn topics() -> [Topic; 5]
     ensures { words_of result ≡ clusters }
 {
-    [
-        BAD_TOML,
-        BAD_FIELD,
-        BAD_SLOTS,
-        BAD_PAYLOAD,
-        BAD_CYCLE_COUNT,
-    ]
+    [BAD_TOML, BAD_FIELD, BAD_SLOTS, BAD_PAYLOAD, BAD_CYCLE_COUNT]
 }
 
 const BAD_TOML: Topic = Topic {

@@ -12,8 +12,7 @@ returns-in-Some c =
     let topics = c.deref.result.now in
     let topic = c.in-Some.topic.now in
     let words : words_of topics ≡ explained = ap (λ l. words_of l) c.deref.ensures.value ∙ c.in_ok-topics.ensures in
-    let found : find (λ t. bytes_eq t.word.now word) topics ≡ Some topic = sym c.in-Some.ensures in
-    (
+    let found : find (λ t. bytes_eq t.word.now word) topics ≡ Some topic = sym c.in-Some.ensures in (
       ap (λ l. list_any (λ w. bytes_eq w word) l) (sym words) ∙ is_found word topics ∙ ap (λ o. is_some o) found,
       topic,
       found-word word topics topic found,
