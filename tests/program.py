@@ -42,10 +42,13 @@ Commands:
   gaps      Prints the greatest gap between two sendings of each frame of a variant, in macroticks
   layout    Prints a frame's layout: the signals in its payload
   import    Carries out a supplier's import: a CSV file of placements or signals, all rows or none
+  check     Says what is wrong with a cluster file and where, or prints its figures
+  explain   Says what a refusal or a fault means, when it comes and what to do
   help      Print this message or the help of the given subcommand(s)
 
 Options:
-  -h, --help  Print help
+  -h, --help     Print help
+  -V, --version  Print version
 
 Status 0: done. Status 1: refused, or a fault; standard error says which.
 Status 2: the words name no job.
@@ -150,6 +153,36 @@ Example:
   slotplan layout car.db v1 f1 --supplier s1
 """
 
+CHECK_HELP = b"""\
+Says what is wrong with a cluster file and where, or prints its figures
+
+Usage: slotplan check <CONFIG>
+
+Arguments:
+  <CONFIG>  The cluster file (TOML), at most 1,048,576 bytes
+
+Options:
+  -h, --help  Print help
+
+Example:
+  slotplan check cluster.toml
+"""
+
+EXPLAIN_HELP = b"""\
+Says what a refusal or a fault means, when it comes and what to do
+
+Usage: slotplan explain [WORD]
+
+Arguments:
+  [WORD]  The refusal's name or the fault's word; without it all are listed
+
+Options:
+  -h, --help  Print help
+
+Example:
+  slotplan explain CellTaken
+"""
+
 NOT_UTF8 = b"""\
 error: a word is not UTF-8 text
 
@@ -214,7 +247,8 @@ def words():
     for name, text in ("run", RUN_HELP), ("serve", SERVE_HELP):
         for given in (name, "--help"), (name, "-h"), ("help", name):
             yield Case(f"the words {given}", written=text, words=given)
-    for name, text in ("ask", ASK_HELP), ("grants", GRANTS_HELP), ("layout", LAYOUT_HELP):
+    by_name = ("ask", ASK_HELP), ("grants", GRANTS_HELP), ("layout", LAYOUT_HELP), ("check", CHECK_HELP), ("explain", EXPLAIN_HELP)
+    for name, text in by_name:
         yield Case(f"the help of {name}", written=text, words=(name, "--help"))
     yield Case("no words", said=HELP, status=2, words=())
     called = ("Usage: slotplan <COMMAND>", "")

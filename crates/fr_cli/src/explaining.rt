@@ -1,5 +1,6 @@
 //! What a word of the program means.
-ghost use Rattle.fr_cli.specs.Explaining.{IsExplained};
+ghost use Rattle.std.specs.Prelude.{◌≡◌, IfOk};
+ghost use Rattle.fr_cli.specs.Explaining.{IsExplained, IsUnknown, hint};
 
 use crate::failure::Failure;
 use fr_base::NoMemory;
@@ -23,15 +24,24 @@ pub fn explain_word(alloc: Global, word: Option<&str>) -> Result<Vec<u8>, Failur
 }
 
 // What is said of a word that is not explained.
-fn unknown(alloc: Global, word: &str) -> Result<Vec<u8>, NoMemory> {
+fn unknown(alloc: Global, word: &str) -> Result<Vec<u8>, NoMemory>
+    ensures { IfOk result (λ text. IsUnknown word.now text.items) }
+{
     let alike = alike(alloc, word)?;
     let mut text = Vec::new(alloc);
     text.extend_from_slice(b"slotplan: no refusal and no fault has this name. ")?;
-    text.extend_from_slice(if alike.is_empty() { LISTED } else { ALIKE })?;
+    text.extend_from_slice(hint(&alike))?;
     text.extend_from_slice(&alike)?;
     Ok(text)
 }
 
-const LISTED: &[u8] = b"`slotplan explain` lists all.\n";
-
-const ALIKE: &[u8] = b"These begin alike:\n";
+// What stands before the lines of words that begin alike, or in place of them.
+fn hint(alike: &[u8]) -> &'static [u8]
+    ensures { result.now ≡ hint alike.now }
+{
+    if alike.is_empty() {
+        b"`slotplan explain` lists all.\n"
+    } else {
+        b"These begin alike:\n"
+    }
+}
