@@ -46,11 +46,12 @@ Choose a base and a repetition that share no cycle with that frame's, or another
 
 const UNAVAILABLE: Topic = Topic {
     word: "Unavailable",
-    about: "refusal 28, and a fault of a register. Memory or the register's file failed.",
+    about: "refusal 28, and a fault of a register. Memory or its file failed, or another program has the file.",
     help: "\
-As a refusal: there was no memory, the file failed, or a row in it has not its form.
-Nothing has changed, but for one case: where a disk fails, a change to a file may be kept.
-As a fault: memory, the disk or the rows did not give a register.
-See that there is memory and room on the disk. Ask for a report before you send a command again.
+As a fault: another program, as a server, has the file open; or memory, the disk or the rows give no register.
+For `slotplan create` the file DB may also be no database, or have another table.
+As a refusal: there was no memory, the file failed, or a row in it has not its form. Nothing has changed,
+but for one case: a disk that failed may have kept the change all the same.
+End the other program, see to memory and disk, and ask for a report before you send a command again.
 ",
 };

@@ -44,6 +44,7 @@ const NOT_A_REGISTER: Topic = Topic {
     help: "\
 There is no file DB, it is no SQLite database, or it has not a register's tables.
 Look at the path. `slotplan create` makes a register file.
+A file that was damaged is no register either: put a backup in its place.
 ",
 };
 
@@ -71,7 +72,7 @@ const NO_MEMORY: Topic = Topic {
     word: "NoMemory",
     about: "a fault of any job. There was no memory for it.",
     help: "\
-It may come at any point. What was answered before it was carried out.
+It may come at any point. What was answered before stays.
 Give the program more memory, or end other programs.
 On a register file ask for a report before you send a command again.
 ",
