@@ -252,8 +252,8 @@ def words():
         yield Case(f"the help of {name}", written=text, words=(name, "--help"))
     yield Case("no words", said=HELP, status=2, words=())
     called = ("Usage: slotplan <COMMAND>", "")
-    for word in "walk", "Run", "run ":
-        tip = () if word == "walk" else ("  tip: a similar subcommand exists: 'run'", "")
+    for word in "jump", "Run", "run ":
+        tip = () if word == "jump" else ("  tip: a similar subcommand exists: 'run'", "")
         yield Case(f"the word {word!r}", FIRST, said=usage(f"unrecognized subcommand '{word}'", *tip, *called), status=2, words=(word,))
     for given in ("run", "run"), ("run", "x"):
         said = usage(f"unexpected argument '{given[1]}' found", "Usage: slotplan run", "")
@@ -425,9 +425,9 @@ def streams():
         for end, is_said in (">&-", True), ("> /dev/full", True), (">&- 2>&-", False), ("> /dev/full 2> /dev/full", False):
             said = b"slotplan: WriteFailed\n" if is_said else b""
             yield Case(f"{named} {end}", FIRST, said=said, status=1, words=given, start=f'exec "$@" {end}')
-    yield Case("usage 2> /dev/full", status=2, words=("walk",), start='exec "$@" 2> /dev/full')
-    yield Case("usage 2>&-", status=2, words=("walk",), start='exec "$@" 2>&-')
-    yield Case("usage >&-", said=usage("unrecognized subcommand 'walk'", "Usage: slotplan <COMMAND>", ""), status=2, words=("walk",), start='exec "$@" >&-')
+    yield Case("usage 2> /dev/full", status=2, words=("jump",), start='exec "$@" 2> /dev/full')
+    yield Case("usage 2>&-", status=2, words=("jump",), start='exec "$@" 2>&-')
+    yield Case("usage >&-", said=usage("unrecognized subcommand 'jump'", "Usage: slotplan <COMMAND>", ""), status=2, words=("jump",), start='exec "$@" >&-')
     yield Case("no separator 2> /dev/full", b"x\n", status=1, start='exec "$@" 2> /dev/full')
 
 
