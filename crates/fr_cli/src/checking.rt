@@ -32,7 +32,7 @@ fn check_text(alloc: Global, text: &[u8]) -> Result<Vec<u8>, Failure>
 
 // The text with a line's end.
 fn ended(mut text: Vec<u8>) -> Result<Vec<u8>, NoMemory>
-    ensures { IfOk result (λ line. line.items ≡ text.entry.items ++ codes "\n") }
+    ensures { IfOk result (λ line. line.items ≡ text.items ++ codes "\n") }
 {
     text.push(b'\n')?;
     Ok(text)

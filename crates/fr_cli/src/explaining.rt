@@ -10,7 +10,7 @@ use std::alloc::Global;
 /// What the word means, or where none is given, each word with a line. A word that is not explained is refused,
 /// with the lines of those that begin alike.
 pub fn explain_word(alloc: Global, word: Option<&str>) -> Result<Vec<u8>, Failure>
-    ensures { IsExplained word result }
+    ensures { IsExplained word.entry result }
 {
     let Some(word) = word else {
         return Ok(overview(alloc)?);
