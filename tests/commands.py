@@ -86,9 +86,16 @@ def creating(program, folder):
     tell(program, ["create", "long.db", "longest.toml"], folder)
 
 
+def over(db):
+    """The commands that ask a register file and change nothing where they have no input."""
+    yield from ([report, db, "v1"] for report in ("grants", "frames", "schedule", "gaps"))
+    yield from (["layout", db, "v1", "f1"], ["schedule", db, "v1", "--supplier", "s1"], ["ask", db])
+
+
 def opening(program, folder):
-    fault(program, ["schedule", "none.db", "v1"], folder, "NotARegister")
-    see("no file is made where none is", False, (folder / "none.db").exists())
+    for words in over("none.db"):
+        fault(program, words, folder, "NotARegister")
+        see("no file is made where none is", False, (folder / "none.db").exists())
     (folder / "empty.db").write_bytes(b"")
     (folder / "text.db").write_bytes(b"x" * 100)
     with closing(sqlite3.connect(folder / "other.db")) as other:
@@ -102,7 +109,7 @@ def opening(program, folder):
     schema1.filled(folder / "older.db", {})
     faults = {"empty": "NotARegister", "text": "NotARegister", "other": "NotARegister", "newer": "WrongSchema", "older": "WrongSchema", "orphan": "Unavailable"}
     for file, word in ((f"{name}.db", word) for name, word in faults.items()):
-        for words in ["schedule", file, "v1"], ["gaps", file, "v1"], ["serve", file, "1024"], ["import", file, "supplier01", "v1", "a", "cluster.toml"]:
+        for words in *over(file), ["serve", file, "1024"], ["import", file, "supplier01", "v1", "a", "cluster.toml"]:
             fault(program, words, folder, word)
 
 
@@ -129,6 +136,123 @@ def reports(program, folder):
     fault(program, [*words, "b", "none.csv"], folder, "CannotOpen")
     fault(program, ["import", "none.db", "supplier01", "v1", "b", "none.csv"], folder, "CannotOpen")
     tell(program, ["gaps", "car.db", "v1"], folder, b"GAP    6400 f1 s1\nGAP     200 f2 s1\nGAP    6400 f3 s1\n")
+
+
+# ---- requests on standard input
+
+# What is asked of a new register, with the answer to each.
+ASKED = [
+    (b'integrator1 {"do":"open_variant","variant":"v1"}', DONE),
+    (b'integrator1 {"do":"add_supplier","supplier":"s3","key":"supplier03"}', DONE),
+    *((b'integrator1 {"do":"add_node","supplier":"%s","node":"n1"}' % supplier, DONE) for supplier in (b"s1", b"s3")),
+    (b'integrator1 {"do":"grant","variant":"v1","slot":1,"channel":"A","supplier":"s1","node":"n1"}', DONE),
+    (b'integrator1 {"do":"grant","variant":"v1","slot":1,"channel":"B","supplier":"s3","node":"n1"}', DONE),
+    (b'integrator1 {"do":"grant","variant":"v1","slot":1,"channel":"A","supplier":"s3","node":"n1"}', refused(24, "Taken")),
+    *((b'%s {"do":"add_frame","variant":"v1","frame":"f1","node":"n1"}' % key, DONE) for key in (b"supplier01", b"supplier03")),
+    (b'supplier01 {"do":"place","variant":"v1","frame":"f1","slot":1,"channels":"A","base":0,"repetition":32}', DONE),
+    (b'supplier03 {"do":"place","variant":"v1","frame":"f1","slot":1,"channels":"B","base":1,"repetition":64}', DONE),
+    (b'supplier01 {"do":"add_signal","variant":"v1","frame":"f1","signal":"x","start":0,"length":8,"order":"little"}', DONE),
+    (b'supplier03 {"do":"add_signal","variant":"v1","frame":"f1","signal":"y","start":7,"length":8,"order":"big"}', DONE),
+    (b'supplier03 {"do":"schedule","variant":"v1"}', b'{"lines":["01 0001 B f1 n1"],"ok":"schedule"}'),
+    (b"supplier01", refused(1, "BadText")),
+    (b"nobody123 {}", refused(1, "BadText")),
+    (b'nobody123 {"do":"gaps","variant":"v1"}', refused(2, "UnknownKey")),
+    (b'supplier01 {"do":"release","variant":"v1"}', refused(3, "NotYours")),
+    (b' {"do":"gaps","variant":"v1"}', refused(2, "UnknownKey")),
+]
+
+# What the reports of it are: to the integrator, and to each supplier.
+REPORTS = {
+    ("grants", "v1"): {None: b"0001 A n1 s1\n0001 B n1 s3\n", "s1": b"0001 A n1\n", "s2": b"", "s3": b"0001 B n1\n"},
+    ("frames", "v1"): {
+        None: b"FRAME f1 n1 s1\nAT 0001 A 00 32\nFRAME f1 n1 s3\nAT 0001 B 01 64\n",
+        "s1": b"FRAME f1 n1\nAT 0001 A 00 32\n",
+        "s2": b"",
+        "s3": b"FRAME f1 n1\nAT 0001 B 01 64\n",
+    },
+    ("schedule", "v1"): {
+        None: b"00 0001 A f1 n1 s1\n01 0001 B f1 n1 s3\n32 0001 A f1 n1 s1\n",
+        "s1": b"00 0001 A f1 n1\n32 0001 A f1 n1\n",
+        "s2": b"",
+        "s3": b"01 0001 B f1 n1\n",
+    },
+    ("gaps", "v1"): {None: b"GAP    3200 f1 s1\nGAP    6400 f1 s3\n", "s1": b"GAP    3200 f1\n", "s2": b"", "s3": b"GAP    6400 f1\n"},
+    ("layout", "v1", "f1"): {None: b"0000 08 little x s1\n0007 08 big y s3\n", "s1": b"0000 08 little x\n", "s3": b"0007 08 big y\n"},
+}
+
+
+def asked(program, folder, given, written=b"", said=b"", status=0, db="asked.db"):
+    """Asks these bytes of the register in the file."""
+    got = subprocess.run([program, "ask", db], cwd=folder, input=given, capture_output=True, timeout=SECONDS)
+    see(f"{program} ask {given[:200]!r}", (status, written, said), (got.returncode, got.stdout, got.stderr))
+
+
+def asking(program, folder):
+    """Requests on standard input are answered as those of a script, and what they did is in the file."""
+    tell(program, ["create", "asked.db", "cluster.toml"], folder)
+    asked(program, folder, b"")
+    asked(program, folder, b"\n\r\n\n")
+    lines, answers = zip(*ASKED)
+    asked(program, folder, b"\n" + b"\r\n\n".join(lines), b"".join(answer + b"\n" for answer in answers))
+    (folder / "alone.db").write_bytes((folder / "asked.db").read_bytes())
+    see("the database file alone has all", [("s1", "f1"), ("s3", "f1")], rows_of(folder, "SELECT supplier, name FROM frames ORDER BY supplier", "alone.db"))
+    sound(folder, "asked.db")
+    for (name, *words), by_reader in REPORTS.items():
+        for supplier, wanted in by_reader.items():
+            more = [] if supplier is None else ["--supplier", supplier]
+            tell(program, [name, "asked.db", *words, *more], folder, wanted)
+            tell(program, [name, *more, "asked.db", *words], folder, wanted)
+    for words in ["grants", "v9"], ["frames", "v9", "--supplier", "s1"], ["layout", "v9", "f1"]:
+        turned_down(program, [words[0], "asked.db", *words[1:]], folder, refused(10, "NoVariant"))
+    for words in ["layout", "v1", "f9"], ["layout", "v1", "f1", "--supplier", "s2"]:
+        turned_down(program, [words[0], "asked.db", *words[1:]], folder, refused(16, "NoFrame"))
+    for words in ["grants", "1v"], ["layout", "v1", "f 1"], ["gaps", "1v", "--supplier", "s1"]:
+        turned_down(program, [words[0], "asked.db", *words[1:]], folder, refused(4, "BadName"))
+    for supplier in "s4", "S1", "s 1", "":
+        turned_down(program, ["schedule", "asked.db", "v1", "--supplier", supplier], folder, refused(2, "UnknownKey"))
+    with served(program, folder, db="asked.db"):
+        for words in over("asked.db"):
+            fault(program, words, folder, "Unavailable")
+
+
+LINE = b'supplier01 {"do":"add_frame","variant":"v1","frame":"%s","node":"n1"}'
+
+
+def asking_ends(program, folder):
+    """Faults come when what stood before them was answered, and that stays."""
+    longest = b" " * (16_777_216 - len(LINE % b"g1") - 1)
+    for frame, more in (b"g1", longest + b" "), (b"g2", longest + b"\n"):
+        asked(program, folder, LINE % frame + b"\n" + more, DONE + b"\n", b"slotplan: TooLong\n", 1)
+    asked(program, folder, LINE % b"g3" + b"\n" + longest, DONE + b"\n" + refused(1, "BadText") + b"\n")
+    got = subprocess.run(["sh", "-c", '"$1" ask asked.db < /', "sh", program], cwd=folder, capture_output=True, timeout=SECONDS)
+    see("a folder as input", (1, b"", b"slotplan: ReadFailed\n"), (got.returncode, got.stdout, got.stderr))
+    for end in "> /dev/full", ">&-":
+        got = subprocess.run(["sh", "-c", f'"$1" ask asked.db {end}', "sh", program], cwd=folder, input=LINE % b"g4" + b"\n", capture_output=True, timeout=SECONDS)
+        see(f"output {end}", (1, b"slotplan: WriteFailed\n"), (got.returncode, got.stderr))
+        tell(program, ["gaps", "asked.db", "v1", "--supplier", "s1"], folder, b"GAP    3200 f1\nGAP   never g1\nGAP   never g2\nGAP   never g3\nGAP   never g4\n")
+        asked(program, folder, b'supplier01 {"do":"drop_frame","variant":"v1","frame":"g4"}', DONE + b"\n")
+    sound(folder, "asked.db")
+
+
+def asking_killed(program, folder):
+    """It is ended by a signal, between lines and within them: each line that was answered is in the file, and each was answered
+    before the next one was sent."""
+    answered = set()
+    for turn in range(KILLS):
+        words = [program, "ask", "asked.db"]
+        with subprocess.Popen(words, cwd=folder, stdin=subprocess.PIPE, stdout=subprocess.PIPE, bufsize=0) as asks:
+            for frame in [f"k{turn}a", f"k{turn}b"][: 1 + turn % 2]:
+                asks.stdin.write(LINE % frame.encode() + b"\n")
+                see("a frame is added", DONE + b"\n", asks.stdout.readline())
+                answered.add(frame)
+            drop = b'supplier01 {"do":"drop_frame","variant":"v1","frame":"k%da"}' % turn
+            asks.stdin.write(drop[: len(drop) * (turn % 5) // 4])
+            asks.send_signal((signal.SIGKILL, signal.SIGTERM)[turn % 2])
+            asks.wait(SECONDS)
+            see("a line without an end is not answered", b"", asks.stdout.read())
+    names = {name for (name,) in rows_of(folder, "SELECT name FROM frames WHERE name LIKE 'k%'", "asked.db")}
+    see("frames in the file", answered, names)
+    sound(folder, "asked.db")
 
 
 # ---- the server
@@ -546,7 +670,7 @@ def main(programs):
     for program in there:
         with tempfile.TemporaryDirectory() as folder:
             (Path(folder) / "cluster.toml").write_bytes(CLUSTER)
-            for part in creating, opening, serving, cutting, killing, reports, differences, overlaid, made_whole, opened_again, joined, counted_cycles:
+            for part in creating, opening, serving, cutting, killing, reports, asking, asking_ends, asking_killed, differences, overlaid, made_whole, opened_again, joined, counted_cycles:
                 part(program, Path(folder))
     print(f"{counted[True]} passed, {counted[False]} failed")
     return 1 if counted[False] else 0

@@ -35,8 +35,12 @@ Commands:
   create    Makes a register file of a cluster file
   migrate   Brings a register file of schema 1 to schema 2, with all that it holds
   serve     Serves a register file over HTTP
+  ask       Answers requests on standard input, a line each, over a register file
+  grants    Prints a variant's grants: which node holds which slot and channel
+  frames    Prints a variant's frames, with their nodes and placements
   schedule  Prints a variant's schedule: what is sent in which cycle, slot and channel
   gaps      Prints the greatest gap between two sendings of each frame of a variant, in macroticks
+  layout    Prints a frame's layout: the signals in its payload
   import    Carries out a supplier's import: a CSV file of placements or signals, all rows or none
   help      Print this message or the help of the given subcommand(s)
 
@@ -84,6 +88,66 @@ Options:
 Example:
   slotplan serve car.db 8080
   curl -H 'X-Office-Key: supplier01' http://127.0.0.1:8080/v1/variants/v1/schedule
+"""
+
+ASK_HELP = b"""\
+Answers requests on standard input, a line each, over a register file
+
+Usage: slotplan ask <DB>
+
+Arguments:
+  <DB>  The register file (an SQLite database)
+
+Options:
+  -h, --help  Print help
+
+A line is a key, a space and the request's JSON. It is answered with a line on
+standard output, once the file has what it changes. Empty lines are skipped.
+
+Example:
+  slotplan ask car.db < changes.txt
+"""
+
+GRANTS_HELP = b"""\
+Prints a variant's grants: which node holds which slot and channel
+
+Usage: slotplan grants [OPTIONS] <DB> <VARIANT>
+
+Arguments:
+  <DB>       The register file (an SQLite database)
+  <VARIANT>  The variant's name
+
+Options:
+      --supplier <NAME>  Prints what this supplier sees; without it, what the integrator sees
+  -h, --help             Print help
+
+Each line: slot, channel, node, supplier. With --supplier the last is left out.
+
+Example:
+  slotplan grants car.db v1
+  slotplan grants car.db v1 --supplier s1
+"""
+
+LAYOUT_HELP = b"""\
+Prints a frame's layout: the signals in its payload
+
+Usage: slotplan layout [OPTIONS] <DB> <VARIANT> <FRAME>
+
+Arguments:
+  <DB>       The register file (an SQLite database)
+  <VARIANT>  The variant's name
+  <FRAME>    The frame's name
+
+Options:
+      --supplier <NAME>  Prints what this supplier sees; without it, what the integrator sees
+  -h, --help             Print help
+
+Each line: first bit, length, little or big, signal, supplier. With --supplier the
+last is left out; without it the frames of this name of all suppliers are shown.
+
+Example:
+  slotplan layout car.db v1 f1
+  slotplan layout car.db v1 f1 --supplier s1
 """
 
 NOT_UTF8 = b"""\
@@ -150,6 +214,8 @@ def words():
     for name, text in ("run", RUN_HELP), ("serve", SERVE_HELP):
         for given in (name, "--help"), (name, "-h"), ("help", name):
             yield Case(f"the words {given}", written=text, words=given)
+    for name, text in ("ask", ASK_HELP), ("grants", GRANTS_HELP), ("layout", LAYOUT_HELP):
+        yield Case(f"the help of {name}", written=text, words=(name, "--help"))
     yield Case("no words", said=HELP, status=2, words=())
     called = ("Usage: slotplan <COMMAND>", "")
     for word in "walk", "Run", "run ":
@@ -158,6 +224,9 @@ def words():
     for given in ("run", "run"), ("run", "x"):
         said = usage(f"unexpected argument '{given[1]}' found", "Usage: slotplan run", "")
         yield Case(f"the words {given}", FIRST, said=said, status=2, words=given)
+    for given, last, usage_of in (("ask",), "<DB>", "ask <DB>"), (("layout", "d", "v"), "<FRAME>", "layout <DB> <VARIANT> <FRAME>"):
+        said = f"error: the following required arguments were not provided:\n  {last}\n\nUsage: slotplan {usage_of}\n\nFor more information, try '--help'.\n"
+        yield Case(f"the words {given}", FIRST, said=said.encode(), status=2, words=given)
     for port in "0", "65536":
         said = usage(f"invalid value '{port}' for '<PORT>': {port} is not in 1..=65535")
         yield Case(f"the port {port}", said=said, status=2, words=("serve", "d", port))

@@ -47,9 +47,19 @@ migrate = with_rule (new_app (codes "migrate")) (word (codes "DB"))
 abbrev pub serve : App
 serve = with_rule (with_rule (with_rule (with_rule (new_app (codes "serve")) (word (codes "DB"))) port) count) seconds
 
--- `schedule` and `gaps`
+abbrev pub ask : App
+ask = with_rule (new_app (codes "ask")) (word (codes "DB"))
+
+-- the supplier as which a report is read
+abbrev pub supplier : Rule
+supplier = record (new_rule (codes "supplier")) { long = Some (codes "supplier"); action = Some Set; value_names = 1 }
+
+-- `grants`, `frames`, `schedule` and `gaps`
 abbrev pub report : Text → App
-report name = with_rule (with_rule (new_app name) (word (codes "DB"))) (word (codes "VARIANT"))
+report name = with_rule (with_rule (with_rule (new_app name) (word (codes "DB"))) (word (codes "VARIANT"))) supplier
+
+abbrev pub layout : App
+layout = with_rule (report (codes "layout")) (word (codes "FRAME"))
 
 abbrev pub import_words : App
 import_words = with_rule (with_rule (with_rule (with_rule (with_rule (new_app (codes "import")) (word (codes "DB"))) (word (codes "KEY")))
@@ -65,7 +75,8 @@ unasked name = record {
 -- the program, with one subcommand for each job
 abbrev pub slotplan : App
 slotplan = with_subcommand (with_subcommand (with_subcommand (with_subcommand (with_subcommand (with_subcommand (with_subcommand
-    (unasked (codes "slotplan")) run.top) create.top) migrate.top) serve.top) (report (codes "schedule")).top) (report (codes "gaps")).top) import_words.top
+    (with_subcommand (with_subcommand (with_subcommand (with_subcommand (unasked (codes "slotplan")) run.top) create.top) migrate.top) serve.top) ask.top)
+    (report (codes "grants")).top) (report (codes "frames")).top) (report (codes "schedule")).top) (report (codes "gaps")).top) layout.top) import_words.top
 
 -- The command is read so, and has no argument that its subcommands have too.
 abbrev pub IsReadAs : App → Command → Type 0

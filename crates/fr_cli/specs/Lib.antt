@@ -8,7 +8,9 @@ pub mod Laws
 pub mod Commands
 pub mod Words
 pub mod Faults
+pub mod Queries
 pub mod Asking
 pub mod Endings
 pub mod Performing
+pub mod Incoming
 pub mod Runs

@@ -3,23 +3,28 @@ ghost use Rattle.std.specs.Prelude.{◌≡◌, ◌⊎◌, Result, IfErr, ⊤, Li
 ghost use Rattle.std.specs.Borrow.{Bor};
 ghost use Rattle.std.specs.Global.{Vec};
 ghost use Rattle.std.specs.Io.KnownBytes.{Appends, Keeps};
-ghost use Rattle.fr_cli.specs.Asking.{line_of, report_of};
+ghost use Rattle.fr_cli.specs.Asking.{line_of};
 ghost use Rattle.fr_cli.specs.Endings.{AppendsFront, IsPrinted, IsTold, Tells, status_of};
 ghost use Rattle.fr_cli.specs.Faults.{IsNotImported, IsNotMade, IsNotMigrated, IsNotReported};
+ghost use Rattle.fr_cli.specs.Incoming.{IsAsked};
 ghost use Rattle.fr_cli.specs.Performing.{Says, listening, of_script};
+ghost use Rattle.fr_cli.specs.Queries.{report_of};
 ghost use Rattle.fr_cli.specs.Runs.{IsRunOf};
-ghost use Rattle.fr_cli.specs.declared.asking.Report.TheVariants as report;
 ghost use Rattle.fr_cli.specs.declared.failure.Failure.{Failure as Ended};
 ghost use Rattle.fr_cli.specs.declared.fault.Fault.{Fault as Word};
-ghost use Rattle.fr_cli.specs.declared.script_fault.ScriptFault.{ScriptFault};
+ghost use Rattle.fr_cli.specs.declared.query.Query.{Query};
+ghost use Rattle.fr_cli.specs.declared.script_fault.ScriptFault.{ScriptFault as Early};
 
-use crate::asking::{ImportWords, Report, import, report_on};
+use crate::asking::{ImportWords, import, report_on};
 use crate::creating::create;
 use crate::failure::Failure;
 use crate::fault::Fault;
 use crate::files::read_front;
+use crate::incoming::answer_input;
 use crate::printing::{end, print, print_all, tell};
+use crate::query::Query;
 use crate::script::run_script;
+use crate::script_fault::ScriptFault;
 use crate::serving::{Service, serve};
 use crate::words::{Job, WordFault};
 use fr_desks::FileDesk;
@@ -39,7 +44,7 @@ pub fn perform<R: Read, O: Write, E: Write>(
     out: &mut O,
     err: &mut E,
 ) -> u8
-    ensures run { job.now ≡ Job.Run → (done : Result ⊤ ScriptFault) × (result ≡ status_of (of_script done))
+    ensures run { job.now ≡ Job.Run → (done : Result ⊤ Early) × (result ≡ status_of (of_script done))
         × Tells (E.contents err.old) (E.contents err.new) (of_script done)
         × IsRunOf (R.remaining input.old) (R.remaining input.new) (O.contents out.old) (O.contents out.new) done }
     ensures create { (db config : Bor (List ℕ)) → job.now ≡ Job.Create db config → (done : Result ⊤ Word) × (result ≡ status_of done)
@@ -48,9 +53,10 @@ pub fn perform<R: Read, O: Write, E: Write>(
     ensures migrate { (db : Bor (List ℕ)) → job.now ≡ Job.Migrate db → (done : Result ⊤ Word) × (result ≡ status_of done)
         × IfErr done IsNotMigrated
         × Keeps (O.contents out.old) (O.contents out.new) × Tells (E.contents err.old) (E.contents err.new) done }
-    ensures schedule { (db variant : Bor (List ℕ)) → job.now ≡ Job.Schedule db variant → (done : Result (Vec ℕ) Ended) × Says IsNotReported (report_of report.Schedule) done
-        × IsTold done (O.contents out.old) (O.contents out.new) (E.contents err.old) (E.contents err.new) result }
-    ensures gaps { (db variant : Bor (List ℕ)) → job.now ≡ Job.Gaps db variant → (done : Result (Vec ℕ) Ended) × Says IsNotReported (report_of report.Gaps) done
+    ensures ask { (db : Bor (List ℕ)) → job.now ≡ Job.Ask db → (done : Result ⊤ Word) × (result ≡ status_of done)
+        × Tells (E.contents err.old) (E.contents err.new) done
+        × IsAsked (R.remaining input.old) (R.remaining input.new) (O.contents out.old) (O.contents out.new) done }
+    ensures report { (db : Bor (List ℕ)) (query : Query) → job.now ≡ Job.Report db query → (done : Result (Vec ℕ) Ended) × Says IsNotReported (report_of query.report) done
         × IsTold done (O.contents out.old) (O.contents out.new) (E.contents err.old) (E.contents err.new) result }
     ensures import { (db key variant label file : Bor (List ℕ)) → job.now ≡ Job.Import db key variant label file → (done : Result (Vec ℕ) Ended) × Says IsNotImported line_of done
         × IsTold done (O.contents out.old) (O.contents out.new) (E.contents err.old) (E.contents err.new) result }
@@ -74,18 +80,8 @@ pub fn perform<R: Read, O: Write, E: Write>(
             };
             end(serve(rt, db, service, out, &mut err), &mut err)
         }
-        Job::Schedule { db, variant } => {
-            tell(
-                report_file(rt, db, Report::Schedule, variant),
-                out,
-                &mut err,
-            )
-        }
-        Job::Gaps { db, variant } => tell(
-            report_file(rt, db, Report::Gaps, variant),
-            out,
-            &mut err,
-        ),
+        Job::Ask { db } => end(ask_file(rt, db, input, out), &mut err),
+        Job::Report { db, query } => tell(report_file(rt, db, query), out, &mut err),
         Job::Import {
             db,
             key,
@@ -129,14 +125,40 @@ fn end_script<R: Read, O: Write, E: Write>(
     out: &mut O,
     err: &mut Output<'_, E>,
 ) -> u8
-    ensures run { (done : Result ⊤ ScriptFault) × (result ≡ status_of (of_script done))
+    ensures run { (done : Result ⊤ Early) × (result ≡ status_of (of_script done))
         × Tells (E.contents err.old.writer.now) (E.contents err.new.writer.now) (of_script done)
         × IsRunOf (R.remaining input.old) (R.remaining input.new) (O.contents out.old) (O.contents out.new) done }
     ensures same { err.new.writer.ghost_name ≡ err.old.writer.ghost_name }
 {
-    match run_script(alloc, input, out) {
-        Ok(()) => end(Ok(()), err),
-        Err(fault) => end(Err(Fault::Script(fault)), err),
+    end(of_script(run_script(alloc, input, out)), err)
+}
+
+// Answers the requests on standard input over the register in a file.
+fn ask_file<R: Read, O: Write>(
+    rt: &HostRuntime,
+    db: &str,
+    input: &mut R,
+    out: &mut O,
+) -> Result<(), Fault>
+    ensures { IsAsked (R.remaining input.old) (R.remaining input.new) (O.contents out.old) (O.contents out.new) result }
+{
+    match FileDesk::open(rt, db) {
+        Ok(mut desk) => {
+            let asked = answer_input(rt.alloc(), &mut desk, input, out);
+            desk.close();
+            of_script(asked)
+        }
+        Err(fault) => Err(Fault::Register(fault)),
+    }
+}
+
+// How the run of a script's lines ends, as a job.
+fn of_script(done: Result<(), ScriptFault>) -> Result<(), Fault>
+    ensures { result ≡ of_script done }
+{
+    match done {
+        Ok(()) => Ok(()),
+        Err(fault) => Err(Fault::Script(fault)),
     }
 }
 
@@ -149,16 +171,11 @@ fn migrate_file(rt: &HostRuntime, db: &str) -> Result<(), Fault>
 
 // The report of a variant of the register in a file.
 #[tactic(auto, using(crate::proofs::AskingLaws::prints_says))]
-fn report_file(
-    rt: &HostRuntime,
-    db: &str,
-    report: Report,
-    variant: &str,
-) -> Result<Vec<u8>, Failure>
-    ensures { Says IsNotReported (report_of report) result }
+fn report_file(rt: &HostRuntime, db: &str, query: Query<'_>) -> Result<Vec<u8>, Failure>
+    ensures { Says IsNotReported (report_of query.entry.report) result }
 {
     match FileDesk::open(rt, db) {
-        Ok(mut desk) => report_on(rt.alloc(), &mut desk, report, variant),
+        Ok(mut desk) => report_on(rt.alloc(), &mut desk, query),
         Err(fault) => Err(Failure::Fault(Fault::Register(fault))),
     }
 }

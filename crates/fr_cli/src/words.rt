@@ -2,9 +2,10 @@
 ghost use Rattle.std.specs.Prelude.{◌≡◌, ◌≤◌, codes, map, string_bytes, IfOk, IfSome, List, Some};
 ghost use Rattle.clap.specs.Walk.{Row, Text, rows_of};
 ghost use Rattle.clap.specs.Words.{found_of, subcommand_rows_of};
-ghost use Rattle.fr_cli.specs.Words.{AskFor, Has, IsJobOf};
+ghost use Rattle.fr_cli.specs.Words.{AskFor, Has, HasFrame, IsJobOf, name_of};
 
 use crate::commands::{MAX_CONNECTIONS, MAX_SECONDS, program};
+use crate::query::{Query, Report};
 use clap::error::ErrorKind;
 use clap::{ArgMatches, Error};
 use std::alloc::Global;
@@ -31,15 +32,14 @@ pub enum Job<'a> {
         count: u32,
         seconds: u32,
     },
-    /// Print a variant's schedule.
-    Schedule {
+    /// Answer the requests on standard input over a register file.
+    Ask {
         db: &'a str,
-        variant: &'a str,
     },
-    /// Print the greatest gaps of a variant's frames.
-    Gaps {
+    /// Print a report of a variant.
+    Report {
         db: &'a str,
-        variant: &'a str,
+        query: Query<'a>,
     },
     /// Carry out the import of a file by who has the key.
     Import {
@@ -100,8 +100,12 @@ fn named_job<'a>(name: &str, found: &ArgMatches<'a>) -> Option<Job<'a>>
         "create" => create_job(found),
         "migrate" => migrate_job(found),
         "serve" => serve_job(found),
-        "schedule" => schedule_job(found),
-        "gaps" => gaps_job(found),
+        "ask" => ask_job(found),
+        "grants" => report_job(found, Report::Grants),
+        "frames" => report_job(found, Report::Frames),
+        "schedule" => report_job(found, Report::Schedule),
+        "gaps" => report_job(found, Report::Gaps),
+        "layout" => layout_job(found),
         "import" => import_job(found),
         _ => None,
     }
@@ -143,22 +147,31 @@ fn serve_job<'a>(found: &ArgMatches<'a>) -> Option<Job<'a>>
     })
 }
 
-fn schedule_job<'a>(found: &ArgMatches<'a>) -> Option<Job<'a>>
-    ensures { IfSome result (λ job. IsJobOf job (codes "schedule") (rows_of (found_of found.now))) }
+fn ask_job<'a>(found: &ArgMatches<'a>) -> Option<Job<'a>>
+    ensures { IfSome result (λ job. IsJobOf job (codes "ask") (rows_of (found_of found.now))) }
 {
-    Some(Job::Schedule {
+    Some(Job::Ask {
         db: word(found, "DB")?,
-        variant: word(found, "VARIANT")?,
     })
 }
 
-fn gaps_job<'a>(found: &ArgMatches<'a>) -> Option<Job<'a>>
-    ensures { IfSome result (λ job. IsJobOf job (codes "gaps") (rows_of (found_of found.now))) }
+fn report_job<'a>(found: &ArgMatches<'a>, report: Report<'a>) -> Option<Job<'a>>
+    ensures { IfSome result (λ job. HasFrame report.entry (rows_of (found_of found.now)) → IsJobOf job (name_of report.entry) (rows_of (found_of found.now))) }
 {
-    Some(Job::Gaps {
-        db: word(found, "DB")?,
+    let db = word(found, "DB")?;
+    let query = Query {
         variant: word(found, "VARIANT")?,
-    })
+        report,
+        supplier: found.get_str("supplier"),
+    };
+    Some(Job::Report { db, query })
+}
+
+fn layout_job<'a>(found: &ArgMatches<'a>) -> Option<Job<'a>>
+    ensures { IfSome result (λ job. IsJobOf job (codes "layout") (rows_of (found_of found.now))) }
+{
+    let frame = word(found, "FRAME")?;
+    report_job(found, Report::Layout { frame })
 }
 
 fn import_job<'a>(found: &ArgMatches<'a>) -> Option<Job<'a>>

@@ -1,6 +1,6 @@
 use Rattle.std.proofs.Common.{rules}
-use Rattle.fr_cli.proofs.OutputLaws.{line_asks, line_refused}
-use Rattle.fr_cli.proofs.script.answer_line.Goals as goal
+use Rattle.fr_cli.proofs.AnsweringLaws.{line_asks, line_refused}
+use Rattle.fr_cli.proofs.answering.answer_line.Goals as goal
 
 pub returns-in-Ok-clause-answers : goal.returns-in-Ok-clause-answers
 returns-in-Ok-clause-answers g c = λ clean.

@@ -1,6 +1,6 @@
 use Rattle.std.proofs.Common.{rules, ◌≡◌, None, IsUtf8, ◌∙◌}
 use Rattle.fr_http.proofs.KeyLaws.{nobodys}
-use Rattle.fr_cli.proofs.script.actor_of.Goals as goal
+use Rattle.fr_cli.proofs.answering.actor_of.Goals as goal
 
 pub returns-in_err-ok : goal.returns-in_err-ok
 returns-in_err-ok g c cluster b stands sound =

@@ -1,0 +1,108 @@
+-- Requests that come in piece by piece: which lines of the input they are.
+use Rattle.std.proofs.Common.{◌≡◌, ℕ, ◌+◌, ◌-◌, ◌<◌, ◌≤◌, List, [], ◌∷◌, ◌++◌, length, Option, Some, None, IfSome, Result, Ok, Err, refl, sym, ap, ◌∙◌, subst, append_assoc, append-nil, arith, length-append, inl, inr}
+use Rattle.std.specs.Prelude.{OnOk, ⊤}
+use Rattle.std.specs.Io.KnownBytes.{Consumes, IsAtEnd}
+use Rattle.fr_records.specs.Held.{Standing}
+use Rattle.fr_cli.specs.Answering.{AnswersLines}
+use Rattle.fr_cli.specs.Incoming.{AreFirstOf, AreFirstOfAll, EndsLines, HasAnswered, IsAsked}
+use Rattle.fr_cli.specs.Performing.{of_script}
+use Rattle.fr_cli.specs.declared.fault.Fault.{Fault}
+use Rattle.fr_cli.specs.declared.script_fault.ScriptFault.{ScriptFault}
+use Rattle.fr_cli.specs.Script.{request_lines}
+use Rattle.fr_cli.proofs.AnsweringLaws.{cut_said, lines_said, lines_then}
+use Rattle.fr_cli.proofs.EndedLines.{requests-append}
+use Rattle.fr_cli.proofs.LineLemmas.{request_lines-none}
+
+-- ---- ends of lines
+
+pub ends-none : EndsLines []
+ends-none more = ap (λ l. l ++ request_lines more) (sym (request_lines-none [] refl))
+
+-- a line feed ends a line
+pub ends-feed : (begun line : List ℕ) → EndsLines (begun ++ (line ++ 10 ∷ []))
+ends-feed begun line = subst EndsLines (append_assoc begun line (10 ∷ [])) (requests-append (begun ++ line))
+
+pub ends-then : (front chunk : List ℕ) → EndsLines front → EndsLines chunk → EndsLines (front ++ chunk)
+ends-then front chunk p q more =
+    ap request_lines (append_assoc front chunk more) ∙ p (chunk ++ more) ∙ ap (λ l. request_lines front ++ l) (q more)
+    ∙ sym (append_assoc (request_lines front) (request_lines chunk) (request_lines more)) ∙ ap (λ l. l ++ request_lines more) (sym (p chunk))
+
+-- ---- first requests
+
+-- of bytes that begin with whole lines
+pub first_whole : (front rest : List ℕ) → EndsLines front → AreFirstOfAll (front ++ rest) (request_lines front)
+first_whole front rest p more = (request_lines (rest ++ more), ap request_lines (append_assoc front rest more) ∙ p (rest ++ more))
+
+-- and of what follows these
+pub first_then : (front rest : List ℕ) (lines : List (List ℕ)) → EndsLines front → AreFirstOfAll rest lines → AreFirstOfAll (front ++ rest) (request_lines front ++ lines)
+first_then front rest lines p q more =
+    let (left, split) = q more in (
+      left,
+      ap request_lines (append_assoc front rest more) ∙ p (rest ++ more) ∙ ap (λ l. request_lines front ++ l) split
+          ∙ sym (append_assoc (request_lines front) lines left),
+    )
+
+-- of whole lines, and what follows them
+pub first_begin : (chunk rest : List ℕ) (lines left : List (List ℕ)) → EndsLines chunk → request_lines chunk ≡ lines ++ left → AreFirstOfAll (chunk ++ rest) lines
+first_begin chunk rest lines left p split more = (
+  left ++ request_lines (rest ++ more),
+  ap request_lines (append_assoc chunk rest more) ∙ p (rest ++ more) ∙ ap (λ l. l ++ request_lines (rest ++ more)) split
+      ∙ append_assoc lines left (request_lines (rest ++ more)),
+)
+
+-- ---- what was taken of an input
+
+-- what is so of what was taken, whatever follows it, is so of the input
+pub on_input : (P : List ℕ → Type 0) (input left : Option (List ℕ)) (taken : List ℕ) → Consumes input left taken → ((more : List ℕ) → P (taken ++ more)) → IfSome input P
+on_input P None left taken c f = tt
+on_input P (Some x) None taken c f = absurd c
+on_input P (Some x) (Some y) taken c f = subst P (sym c) (f y)
+
+-- an input was taken whole
+pub on_whole : (P : List ℕ → Type 0) (input left : Option (List ℕ)) (taken : List ℕ) → Consumes input left taken → IsAtEnd left → P taken → IfSome input P
+on_whole P None left taken c e p = tt
+on_whole P (Some x) None taken c e p = absurd c
+on_whole P (Some x) (Some y) taken c e p = subst P (sym (c ∙ ap (λ l. taken ++ l) e ∙ append-nil taken)) p
+
+-- more was taken than there is room for
+pub on_long : (bound : ℕ) (input left : Option (List ℕ)) (taken : List ℕ) → Consumes input left taken → bound < length taken → IfSome input (λ bytes. bound < length bytes)
+on_long bound input left taken c long = on_input (λ bytes. bound < length bytes) input left taken c (λ more. omega (arith, long, length-append taken more))
+
+-- ---- answers
+
+-- whole lines more were answered
+pub heard_more : (clean first : Type 0) (old mid new : Standing) (front chunk w v : List ℕ) → (clean → first) → EndsLines front
+    → AnswersLines first old mid (request_lines front) w → AnswersLines clean mid new (request_lines chunk) v
+    → AnswersLines clean old new (request_lines (front ++ chunk)) (w ++ v)
+heard_more clean first old mid new front chunk w v falls ends p q =
+    subst (λ l. AnswersLines clean old new l (w ++ v)) (sym (ends chunk)) (lines_then clean first old mid new (request_lines front) (request_lines chunk) w v falls p q)
+
+-- ---- over a file
+
+-- Of a register in a file nothing is supposed.
+pub asked_file : (clean : Type 0) (old new : Standing) (input left a b : Option (List ℕ)) (asked : Result ⊤ ScriptFault) (done : Result ⊤ Fault) → done ≡ of_script asked
+    → OnOk asked (IsAtEnd left) → HasAnswered clean old new input a b asked → IsAsked input left a b done
+asked_file clean old new input left a b (Ok x) done is end has =
+    let (lines, written, all, appended, answered) = has.all in
+    inr (
+      Ok x,
+      is,
+      end,
+      record {
+        all = (lines, written, all, appended, lines_said clean old new lines written answered);
+        early = tt;
+        too_long = λ e. absurd cc;
+        faults = tt;
+      },
+    )
+asked_file clean old new input left a b (Err fault) done is end has = inr (
+  Err fault,
+  is,
+  end,
+  record {
+    all = tt;
+    early = cut_said clean old new _ _ a b fault has.early;
+    too_long = has.too_long;
+    faults = has.faults;
+  },
+)
