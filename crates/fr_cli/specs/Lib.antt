@@ -12,5 +12,6 @@ pub mod Queries
 pub mod Asking
 pub mod Endings
 pub mod Performing
+pub mod RegisterFiles
 pub mod Incoming
 pub mod Runs

@@ -1,6 +1,8 @@
 -- What a register's file held as it was opened, and what the files hold that are left.
-use Rattle.std.specs.Prelude.{◌≡◌, ◌⊎◌}
+use Rattle.std.specs.Prelude.{◌≡◌, ◌⊎◌, ⊤}
 use Rattle.sqlite.specs.Files.{image_of}
+use Rattle.sqlite.specs.declared.file.Leftover.{Leftover}
+use Rattle.sqlite.specs.declared.file.Leftover.TheVariants as left
 use Rattle.sqlite_disk.specs.declared.Disk.{Ghosts}
 use Rattle.sqlite_disk.specs.declared.Files.{Files}
 use Rattle.sqlite_wal.specs.Files.{outcomes}
@@ -16,9 +18,19 @@ abbrev pub LeavesBook : {D : Type 0} → Ghosts D → Files D → Cluster → Bo
 LeavesBook g files c b = AreClean g files.log files.db
     → HoldsBook c b (image_of g files) × ((image : Image) → outcomes g files.log files.db image → HoldsBook c b image)
 
+-- So with what is left of them. Where they failed to close nothing is said.
+abbrev pub IsLeftWith : {D : Type 0} {g : Ghosts D} → Leftover D g → Standing
+IsLeftWith {D} {g} (left.Files files) c b = LeavesBook g files c b
+IsLeftWith (left.Unopened files) c b = ⊤
+IsLeftWith (left.Store it) c b = ⊤
+
+-- the book that files hold
+abbrev pub Held : Image → Standing
+Held image c b = HoldsBook c b image
+
 -- What is found in files that held a register stands for its book, as long as it is clean.
 abbrev pub FindsHeld : Image → Type 0 → Standing → Type 0
-FindsHeld held clean stands = clean → (c : Cluster) (b : Book) → HoldsBook c b held → stands c b
+FindsHeld held clean stands = clean → (c : Cluster) (b : Book) → Held held c b → stands c b
 
 -- What is opened is what the files hold, or what a crash leaves of them.
 abbrev pub IsLeftBy : {D : Type 0} → Ghosts D → Files D → Image → Type 0

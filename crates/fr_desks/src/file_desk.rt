@@ -1,8 +1,8 @@
 //! The desk of a register in a file.
-ghost use Rattle.std.specs.Prelude.{◌≡◌, ◌≢◌, ◌⊎◌, IfErr, IfOk, IfSome, MatchResult, None};
+ghost use Rattle.std.specs.Prelude.{◌≡◌, ◌≢◌, ◌⊎◌, IfErr, IfOk, IfSome, None};
 ghost use Rattle.fr_base.specs.Book.{Book, opening};
 ghost use Rattle.fr_base.specs.Cluster.{Cluster};
-ghost use Rattle.fr_desks.specs.FileDesk.{FindsHeld, LeavesBook};
+ghost use Rattle.fr_desks.specs.FileDesk.{FindsHeld, IsLeftWith, LeavesBook};
 ghost use Rattle.fr_store.specs.Before.{HoldsBookBefore};
 ghost use Rattle.fr_store.specs.Opening.{Explains, Refuses};
 ghost use Rattle.fr_store.specs.Store.{MayForbid};
@@ -24,9 +24,11 @@ use std::fs;
 /// The desk of the register in a file. `S` says what is supposed of the file and its log as they were opened.
 pub type FileDesk<S> = Office<Store<FileStore<FileFrom<S>>>>;
 
-/// Why there is no register to be had in a file, and what is left of the file and its log: nothing where they
-/// were not opened, or failed to close.
-pub type FileFault<S> = (StoreFault, Option<Leftover<FileFrom<S>>>);
+/// What is left of the file and its log: nothing where they were not opened, or were given up.
+pub type Left<S> = Option<Leftover<FileFrom<S>>>;
+
+/// Why there is no register to be had in a file, and what is left of it.
+pub type FileFault<S> = (StoreFault, Left<S>);
 
 /// Makes the register of this cluster in the file at a path, which has none, and closes it: the files that are
 /// left hold the book of a new register. `start` says what is supposed of the file.
@@ -43,7 +45,7 @@ pub fn create<S: Start>(
     ensures lost { IfErr result (λ e. e.1 ≡ None → e.0 ≡ Unavailable) }
 {
     let desk = new_desk(rt, path, config, start)?;
-    match close(desk) {
+    match closed(desk) {
         Ok(files) => Ok(files),
         Err(left) => Err((StoreFault::Unavailable, Some(left))),
     }
@@ -120,11 +122,22 @@ pub fn open<S: Start>(
     }
 }
 
-/// Closes the register: the files that are left hold its book, the database file alone. Where that fails
-/// it gives what is left: a log stays beside the file, which every SQLite reads along, so nothing is lost.
-pub fn close<S: Start>(desk: FileDesk<S>) -> Result<Files<FileFrom<S>>, Leftover<FileFrom<S>>>
-    ensures clean { MatchResult result (λ files. AreClean ⟦<FileFrom<S> as Disk>⟧ files.log files.db → ⟦<FileDesk<S> as Desk>⟧.clean desk)
-        (λ left. IsCleanLeft left → ⟦<FileDesk<S> as Desk>⟧.clean desk) }
+/// Closes the register, and gives what is left of the files: they hold its book, the database file alone.
+/// Where they fail to close, a log stays beside the file, which every SQLite reads along: so nothing is lost.
+pub fn close<S: Start>(desk: FileDesk<S>) -> Leftover<FileFrom<S>>
+    ensures clean { IsCleanLeft result → ⟦<FileDesk<S> as Desk>⟧.clean desk }
+    ensures book { (c : Cluster) (b : Book) → ⟦<FileDesk<S> as Desk>⟧.stands desk c b → IsLeftWith result c b }
+{
+    match closed(desk) {
+        Ok(files) => Leftover::Files(files),
+        Err(left) => left,
+    }
+}
+
+// Closes the register: its files, or what is left of them where they fail to close.
+fn closed<S: Start>(desk: FileDesk<S>) -> Result<Files<FileFrom<S>>, Leftover<FileFrom<S>>>
+    ensures clean { IfOk result (λ files. AreClean ⟦<FileFrom<S> as Disk>⟧ files.log files.db → ⟦<FileDesk<S> as Desk>⟧.clean desk) }
+    ensures left { IfErr result (λ left. (IsCleanLeft left → ⟦<FileDesk<S> as Desk>⟧.clean desk) × ((c : Cluster) (b : Book) → IsLeftWith left c b)) }
     ensures book { IfOk result (λ files. (c : Cluster) (b : Book) → ⟦<FileDesk<S> as Desk>⟧.stands desk c b → LeavesBook ⟦<FileFrom<S> as Disk>⟧ files c b) }
 {
     let conn = desk.into_store().into_connection();

@@ -1,0 +1,6 @@
+use Rattle.fr_base.specs.Book.{opening}
+use Rattle.fr_desks.proofs.FileDeskLemmas.{left_holds}
+use Rattle.fr_desks.proofs.laws.made_is_found.Goals as goal
+
+pub returns : goal.returns
+returns g c files desk f are leaves left found clean = found clean f.cluster (opening f) (left_holds _ files _ f.cluster (opening f) are leaves left)
