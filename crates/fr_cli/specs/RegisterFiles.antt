@@ -23,7 +23,7 @@ module _ {D : Type 0} {g : Ghosts D} where
   -- and what is left holds the book after it.
   abbrev pub IsAnswerOfFile : Image → Option (Leftover D g) → (Cluster → Book → Result Ask Refusal) → Answer → Type 0
   IsAnswerOfFile held rest asks answer =
-      (left : Leftover D g) × (rest ≡ Some left) × IsAnswer (IsCleanLeft left) (Held held) (IsLeftWith left) asks answer
+      (last : Leftover D g) × (rest ≡ Some last) × IsAnswer (IsCleanLeft last) (Held held) (IsLeftWith last) asks answer
 
   -- The files that are left hold the book of a new register of this cluster file.
   abbrev pub IsLeftNew : Option (Leftover D g) → ClusterFile → Type 0
@@ -35,5 +35,5 @@ module _ {D : Type 0} {g : Ghosts D} where
 
   -- Where it was done, what is left holds the book that the file held in schema 1.
   abbrev pub IsMoved : Image → Option (Leftover D g) → Result ⊤ Fault → Type 0
-  IsMoved held rest done = OnOk done ((left : Leftover D g) × (rest ≡ Some left)
-      × (IsCleanLeft left → (c : Cluster) (b : Book) → HoldsBookBefore c b held → HoldsBook c b (image_left left)))
+  IsMoved held rest done = OnOk done ((last : Leftover D g) × (rest ≡ Some last)
+      × (IsCleanLeft last → (c : Cluster) (b : Book) → HoldsBookBefore c b held → HoldsBook c b (image_left last)))

@@ -60,7 +60,7 @@ pub fn perform<S: Start, R: Read, O: Write, E: Write>(
         × Keeps (O.contents out.old) (O.contents out.new) × Tells (E.contents err.old) (E.contents err.new) done }
     ensures ask { (db : Bor (List ℕ)) → job.now ≡ Job.Ask db → (done : Result ⊤ Word) × (result.0 ≡ status_of done)
         × Tells (E.contents err.old) (E.contents err.new) done
-        × IsAsked (R.remaining input.old) (R.remaining input.new) (O.contents out.old) (O.contents out.new) done }
+        × IsAsked (image_at S.Start) result.1 (R.remaining input.old) (R.remaining input.new) (O.contents out.old) (O.contents out.new) done }
     ensures report { (db : Bor (List ℕ)) (query : Query) → job.now ≡ Job.Report db query → (done : Result (Vec ℕ) Ended) × Says IsNotReported (IsAnswerOfFile (image_at S.Start) result.1 (query_of query)) (report_of query.report) done
         × IsTold done (O.contents out.old) (O.contents out.new) (E.contents err.old) (E.contents err.new) result.0 }
     ensures import { (db key variant label file : Bor (List ℕ)) → job.now ≡ Job.Import db key variant label file → (body : List ℕ) × (done : Result (Vec ℕ) Ended)
@@ -161,7 +161,7 @@ fn ask_file<S: Start, R: Read, O: Write>(
     input: &mut R,
     out: &mut O,
 ) -> (Result<(), Fault>, Left<S>)
-    ensures { IsAsked (R.remaining input.old) (R.remaining input.new) (O.contents out.old) (O.contents out.new) result.0 }
+    ensures { IsAsked (image_at S.Start) result.1 (R.remaining input.old) (R.remaining input.new) (O.contents out.old) (O.contents out.new) result.0 }
 {
     match file_desk::open(rt, db, start) {
         Ok(mut desk) => {

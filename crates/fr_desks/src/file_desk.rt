@@ -113,10 +113,11 @@ pub fn open<S: Start>(
     }
     match Store::open_at(rt, path, start) {
         Ok(mut store) => {
-            if !store.is_ready() {
-                return Err((StoreFault::Unavailable, None));
+            if store.is_ready() {
+                Ok(Office::new(rt.alloc(), store))
+            } else {
+                Err((StoreFault::Unavailable, None))
             }
-            Ok(Office::new(rt.alloc(), store))
         }
         Err(refused) => Err(refused),
     }
