@@ -32,7 +32,12 @@ pub fn create<S: Start>(
 }
 
 // Makes the register of this cluster in the file at `db`.
-fn make<S: Start>(rt: &HostRuntime, db: &str, config: &Config, start: S) -> (Result<(), Fault>, Left<S>)
+fn make<S: Start>(
+    rt: &HostRuntime,
+    db: &str,
+    config: &Config,
+    start: S,
+) -> (Result<(), Fault>, Left<S>)
     ensures fault { IfErr result.0 IsNotMade }
     ensures made { OnOk result.0 (IsLeftNew result.1 config.now) }
 {

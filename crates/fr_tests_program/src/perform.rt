@@ -16,7 +16,14 @@ const PLACEMENTS: &str = "frame,node,slot,channels,base,repetition\nf1,n1,1,A,0,
 fn ends(rt: &HostRuntime, job: &Job<'_>, out: &str, err: &str, status: u8) -> bool {
     let mut printed = Vec::new(rt.alloc());
     let mut told = Vec::new(rt.alloc());
-    let (done, _left) = perform(rt, job, Unknown, &mut b"".as_slice(), &mut printed, &mut told);
+    let (done, _left) = perform(
+        rt,
+        job,
+        Unknown,
+        &mut b"".as_slice(),
+        &mut printed,
+        &mut told,
+    );
     done == status && printed.as_slice() == out.as_bytes() && told.as_slice() == err.as_bytes()
 }
 
