@@ -1,5 +1,6 @@
 -- What is printed of an answer that refuses what was asked.
-use Rattle.std.proofs.Common.{◌≡◌, ◌⊎◌, List, ℕ, Ok, Err, OnOk, Option, Some, Result, ⊤, inl, inr, refl, true, subst, sym}
+use Rattle.std.proofs.Common.{◌≡◌, ◌⊎◌, List, ℕ, Ok, Err, OnOk, Option, Some, Result, inl, inr, refl, true, subst, sym}
+use Rattle.std.specs.Prelude.{⊤}
 use Rattle.fr_base.specs.Book.{Book}
 use Rattle.fr_base.specs.Cluster.{Cluster, ClusterFile}
 use Rattle.fr_base.specs.declared.actor.Actor.{Actor}
