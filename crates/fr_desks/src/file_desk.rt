@@ -97,11 +97,7 @@ pub fn migrate<S: Start>(
 
 /// The desk of the register in the file at a path, which stands for the book that the file holds. Where there is
 /// no file there is no register, and none is made. `start` says what is supposed of the file.
-pub fn open<S: Start>(
-    rt: &HostRuntime,
-    path: &str,
-    start: S,
-) -> Result<FileDesk<S>, FileFault<S>>
+pub fn open<S: Start>(rt: &HostRuntime, path: &str, start: S) -> Result<FileDesk<S>, FileFault<S>>
     ensures found { IfOk result (λ desk. FindsHeld (image_at S.Start) (⟦<FileDesk<S> as Desk>⟧.clean desk) (⟦<FileDesk<S> as Desk>⟧.stands desk)) }
     ensures told { IfErr result (λ e. IfSome e.1 (λ left. IsCleanLeft left → (d : _) → IsDatabase d → HoldsDatabase (image_at S.Start) d.trees → Explains d e.0)) }
     ensures known { IfErr result (λ e. IfSome e.1 (λ left. IsCleanLeft left → (c : Cluster) (b : Book) → HoldsBook c b (image_at S.Start) → e.0 ≡ Unavailable)) }

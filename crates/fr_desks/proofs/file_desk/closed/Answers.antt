@@ -15,7 +15,7 @@ pub returns-in-Err-clause-left : goal.returns-in-Err-clause-left
 returns-in-Err-clause-left g c = (
   λ clean.
       let before : HasCleanDisk (file_state c.into_connection-conn.result) =
-          omega (arith, c.in-Err.ensures.err.0.quiet.clean, no_doubt _ clean) in
+      omega (arith, c.in-Err.ensures.err.0.quiet.clean, no_doubt _ clean) in
       subst (λ s. HasCleanDisk (file_state s.conn)) c.into_store.ensures (subst (λ conn. HasCleanDisk (file_state conn)) c.into_connection-conn.ensures before),
   λ k b. tt,
 )
@@ -25,10 +25,9 @@ returns-in-Ok-clause-book g c k b stood are =
     let copied = c.in-Ok.ensures.copied are in
     let sound = (c.schema-schema.ensures.live copied.was_open).1 in
     let there : StandsStored c.into_store.result.config (file_state c.into_store.result.conn) k b =
-        subst (λ s. StandsStored s.config (file_state s.conn) k b) (sym c.into_store.ensures) stood.0 in
+    subst (λ s. StandsStored s.config (file_state s.conn) k b) (sym c.into_store.ensures) stood.0 in
     let stored : StandsStored c.into_store.result.config (file_state c.into_connection-conn.result) k b =
-        subst (λ conn. StandsStored c.into_store.result.config (file_state conn) k b) (sym c.into_connection-conn.ensures) there in
-    (
+    subst (λ conn. StandsStored c.into_store.result.config (file_state conn) k b) (sym c.into_connection-conn.ensures) there in (
       holds_committed c.into_store.result.config (file_state c.into_connection-conn.result) k b _ copied.was_open (record { holds = copied.seen.both; sound = sound }) stored,
       λ image left.
           holds_committed c.into_store.result.config (file_state c.into_connection-conn.result) k b image copied.was_open
