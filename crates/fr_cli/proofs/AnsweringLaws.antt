@@ -95,9 +95,18 @@ lines_kept clean first old new l w falls p = record {
       (last, tt, so);
 }
 
--- Nothing is said of the register.
-pub lines_said : (clean : Type 0) (old new : Standing) (l : List (List ℕ)) (w : List ℕ) → AnswersLines clean old new l w → AnswersLines ⊥ Anything Anything l w
-lines_said clean old new l w p = record { answers = p.answers; each = p.each; bytes = p.bytes; answered = λ no. absurd no }
+-- What was answered by a register that stands for what is held, and leaves what it then stands for, was answered of that.
+pub lines_moved : (whole clean : Type 0) (held old new leaves : Standing) (l : List (List ℕ)) (w : List ℕ) → (whole → clean)
+    → (clean → (c : Cluster) (b : Book) → held c b → old c b) → ((c : Cluster) (b : Book) → new c b → leaves c b)
+    → AnswersLines clean old new l w → AnswersLines whole held leaves l w
+lines_moved whole clean held old new leaves l w closes finds left p = record {
+  answers = p.answers;
+  each = p.each;
+  bytes = p.bytes;
+  answered = λ is c b there sound.
+      let (last, after, so) = p.answered (closes is) c b (finds (closes is) c b there) sound in
+      (last, left c last after, so);
+}
 
 -- ---- a fault comes
 
@@ -151,19 +160,20 @@ cut_after clean first old mid new D T E U a m b fault l w falls p appended f g c
   ];
 }
 
--- Nothing is said of the register.
-pub cut_said : (clean : Type 0) (old new : Standing) (D T : List (List ℕ) → Type 0) (a b : Option (List ℕ)) (fault : ScriptFault)
-    → WasCutShort clean old new D T a b fault → WasCutShort ⊥ Anything Anything D T a b fault
-cut_said clean old new D T a b fault w = record {
+-- So where a fault came.
+pub cut_moved : (whole clean : Type 0) (held old new leaves : Standing) (D T : List (List ℕ) → Type 0) (a b : Option (List ℕ)) (fault : ScriptFault) → (whole → clean)
+    → (clean → (c : Cluster) (b : Book) → held c b → old c b) → ((c : Cluster) (b : Book) → new c b → leaves c b)
+    → WasCutShort clean old new D T a b fault → WasCutShort whole held leaves D T a b fault
+cut_moved whole clean held old new leaves D T a b fault closes finds left w = record {
   lines = w.lines;
   done = w.done;
   written = w.written;
   missing = w.missing;
   appended = w.appended;
   one = w.one;
-  answered = lines_said clean old new w.lines (w.written ++ w.missing) w.answered;
+  answered = lines_moved whole clean held old new leaves w.lines (w.written ++ w.missing) closes finds left w.answered;
   whole = elim w.whole [
     | inl is ↦ inl is
-    | inr so ↦ inr (so.0, so.1, lines_said clean old Anything so.0 w.written so.2)
+    | inr so ↦ inr (so.0, so.1, lines_moved whole clean held old Anything Anything so.0 w.written closes finds (λ c b is. is) so.2)
   ];
 }

@@ -3,6 +3,13 @@ use Rattle.std.proofs.Common.{◌≡◌, ℕ, ◌+◌, ◌<◌, List, [], ◌∷
 use Rattle.std.specs.Prelude.{◌⊎◌, OnOk, ⊤}
 use Rattle.std.specs.Io.KnownBytes.{Appends, Consumes, IsAtEnd}
 use Rattle.std.proofs.KnownBytes.{Appends-trans}
+use Rattle.sqlite.specs.Files.{IsCleanLeft}
+use Rattle.sqlite.specs.declared.file.Leftover.{Leftover}
+use Rattle.sqlite_disk.specs.declared.Disk.{Ghosts}
+use Rattle.sqlite_wal.specs.Recovery.{Image}
+use Rattle.fr_base.specs.Book.{Book}
+use Rattle.fr_base.specs.Cluster.{Cluster}
+use Rattle.fr_desks.specs.FileDesk.{FindsHeld, Held, IsLeftWith}
 use Rattle.fr_records.specs.Held.{Standing}
 use Rattle.fr_cli.specs.Answering.{AnswersLines, BeginWith, GoOnBehind, HasWritten, WasCutShort}
 use Rattle.fr_cli.specs.Incoming.{AreFirstOf, AreFirstOfAll, EndsLines, HasAnswered, IsAsked}
@@ -14,7 +21,7 @@ use Rattle.fr_cli.specs.declared.input.InputFault.{InputFault}
 use Rattle.fr_cli.specs.declared.input.InputFault.TheVariants.{NoMemory as Wanting}
 use Rattle.fr_cli.specs.declared.script_fault.ScriptFault.{ScriptFault}
 use Rattle.fr_cli.specs.declared.script_fault.ScriptFault.TheVariants.{NoMemory, TooLong, WriteFailed}
-use Rattle.fr_cli.proofs.AnsweringLaws.{cut_after, cut_here, cut_said, lines_said, lines_then}
+use Rattle.fr_cli.proofs.AnsweringLaws.{cut_after, cut_here, cut_moved, lines_moved, lines_then}
 use Rattle.fr_cli.proofs.EndedLines.{requests-append}
 use Rattle.fr_cli.proofs.LineLemmas.{request_lines-none}
 
@@ -159,30 +166,42 @@ at_end clean first old mid new input left a m b front begun written (Err fault) 
 
 -- ---- over a file
 
--- Of a register in a file nothing is supposed.
-pub asked_file : (clean : Type 0) (old new : Standing) (input left a b : Option (List ℕ)) (asked : Result ⊤ ScriptFault) (done : Result ⊤ Fault) → done ≡ of_script asked
-    → OnOk asked (IsAtEnd left) → HasAnswered clean old new input a b asked → IsAsked input left a b done
-asked_file clean old new input left a b (Ok x) done is end has =
-    let (lines, written, all, appended, answered) = has.all in
-    inr (
-      Ok x,
-      is,
-      end,
-      record {
-        all = (lines, written, all, appended, lines_said clean old new lines written answered);
-        early = tt;
-        too_long = λ e. absurd cc;
-        faults = tt;
-      },
-    )
-asked_file clean old new input left a b (Err fault) done is end has = inr (
-  Err fault,
-  is,
-  end,
-  record {
-    all = tt;
-    early = cut_said clean old new _ _ a b fault has.early;
-    too_long = has.too_long;
-    faults = has.faults;
-  },
-)
+module _ {D : Type 0} {g : Ghosts D} where
+  -- What was asked of a register that stands for what a file held, and was closed, was asked of the file.
+  pub asked_file : (file : Image) (rest : Leftover D g) (clean before : Type 0) (old new : Standing) (input left a b : Option (List ℕ)) (asked : Result ⊤ ScriptFault) (done : Result ⊤ Fault)
+      → (IsCleanLeft rest → clean) → (clean → before) → FindsHeld file before old → ((c : Cluster) (b : Book) → new c b → IsLeftWith rest c b) → done ≡ of_script asked
+      → OnOk asked (IsAtEnd left) → HasAnswered clean old new input a b asked → IsAsked file (Some rest) input left a b done
+  asked_file file rest clean before old new input left a b (Ok x) done closes falls finds leaves is end has =
+      let (lines, written, all, appended, answered) = has.all in
+      inr (
+        Ok x,
+        rest,
+        refl,
+        is,
+        end,
+        record {
+          all = (
+            lines,
+            written,
+            all,
+            appended,
+            lines_moved (IsCleanLeft rest) clean (Held file) old new (IsLeftWith rest) lines written closes (λ up. finds (falls up)) leaves answered,
+          );
+          early = tt;
+          too_long = λ e. absurd cc;
+          faults = tt;
+        },
+      )
+  asked_file file rest clean before old new input left a b (Err fault) done closes falls finds leaves is end has = inr (
+    Err fault,
+    rest,
+    refl,
+    is,
+    end,
+    record {
+      all = tt;
+      early = cut_moved (IsCleanLeft rest) clean (Held file) old new (IsLeftWith rest) _ _ a b fault closes (λ up. finds (falls up)) leaves has.early;
+      too_long = has.too_long;
+      faults = has.faults;
+    },
+  )

@@ -1,8 +1,13 @@
 -- How requests that come in are answered.
-use Rattle.std.specs.Prelude.{◌≡◌, ◌⊎◌, ◌<◌, ℕ, List, ◌++◌, length, Option, Result, Err, IfErr, IfSome, IsErrOf, OnOk, ⊤}
+use Rattle.std.specs.Prelude.{◌≡◌, ◌⊎◌, ◌<◌, ℕ, List, ◌++◌, length, Option, Some, Result, Err, IfErr, IfSome, IsErrOf, OnOk, ⊤}
 use Rattle.std.specs.Io.KnownBytes.{Appends, IsAtEnd, Keeps}
+use Rattle.sqlite.specs.Files.{IsCleanLeft}
+use Rattle.sqlite.specs.declared.file.Leftover.{Leftover}
+use Rattle.sqlite_disk.specs.declared.Disk.{Ghosts}
+use Rattle.sqlite_wal.specs.Recovery.{Image}
+use Rattle.fr_desks.specs.FileDesk.{Held, IsLeftWith}
 use Rattle.fr_records.specs.Held.{Standing}
-use Rattle.fr_cli.specs.Answering.{AnswersLines, Anything, WasCutShort}
+use Rattle.fr_cli.specs.Answering.{AnswersLines, WasCutShort}
 use Rattle.fr_cli.specs.Faults.{IsNotOpened}
 use Rattle.fr_cli.specs.Performing.{of_script}
 use Rattle.fr_cli.specs.Script.{max_script, request_lines}
@@ -38,9 +43,10 @@ pub record HasAnswered (clean : Type 0) (old new : Standing) (input a b : Option
   pub too_long : IsErrOf done TooLong → IfSome input (λ bytes. max_script < length bytes)
   pub faults : IfErr done (λ fault. (fault ≡ WriteFailed) ⊎ ((of : InputFault) × (fault ≡ script_fault_of of)))
 
--- The register was not opened, and nothing was read or written; or the input's requests were answered, by a register of which nothing
--- is supposed.
-abbrev pub IsAsked : Option (List ℕ) → Option (List ℕ) → Option (List ℕ) → Option (List ℕ) → Result ⊤ Fault → Type 0
-IsAsked input left a b done =
+-- The register was not opened, and nothing was read or written; or its file was opened and closed, and the input's requests were
+-- answered: as long as nobody else wrote to the file, from the book that it held, and what is left holds the book after them.
+abbrev pub IsAsked : {D : Type 0} {g : Ghosts D} → Image → Option (Leftover D g) → Option (List ℕ) → Option (List ℕ) → Option (List ℕ) → Option (List ℕ) → Result ⊤ Fault → Type 0
+IsAsked {D} {g} file rest input left a b done =
     ((fault : Fault) × (done ≡ Err fault) × IsNotOpened fault × Keeps input left × Keeps a b)
-    ⊎ ((asked : Result ⊤ ScriptFault) × (done ≡ of_script asked) × OnOk asked (IsAtEnd left) × HasAnswered ⊥ Anything Anything input a b asked)
+    ⊎ ((asked : Result ⊤ ScriptFault) × (last : Leftover D g) × (rest ≡ Some last) × (done ≡ of_script asked) × OnOk asked (IsAtEnd left)
+    × HasAnswered (IsCleanLeft last) (Held file) (IsLeftWith last) input a b asked)

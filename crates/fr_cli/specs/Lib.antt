@@ -12,6 +12,7 @@ pub mod Queries
 pub mod Asking
 pub mod Endings
 pub mod Performing
+pub mod RegisterFiles
 pub mod Incoming
 pub mod Runs
 pub mod Checking

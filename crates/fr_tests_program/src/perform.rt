@@ -3,7 +3,8 @@
 use crate::fixture::{CLUSTER, PLAN, carried_out};
 use fr_cli::perform::perform;
 use fr_cli::{Job, Query, Report};
-use fr_desks::FileDesk;
+use fr_desks::file_desk;
+use sqlite::Unknown;
 use std::fs;
 use std::net::{Ipv4Addr, TcpListener};
 use std::test::Fail;
@@ -15,7 +16,14 @@ const PLACEMENTS: &str = "frame,node,slot,channels,base,repetition\nf1,n1,1,A,0,
 fn ends(rt: &HostRuntime, job: &Job<'_>, out: &str, err: &str, status: u8) -> bool {
     let mut printed = Vec::new(rt.alloc());
     let mut told = Vec::new(rt.alloc());
-    let done = perform(rt, job, &mut b"".as_slice(), &mut printed, &mut told);
+    let (done, _left) = perform(
+        rt,
+        job,
+        Unknown,
+        &mut b"".as_slice(),
+        &mut printed,
+        &mut told,
+    );
     done == status && printed.as_slice() == out.as_bytes() && told.as_slice() == err.as_bytes()
 }
 
@@ -39,9 +47,9 @@ fn report_of<'a>(db: &'a str, report: Report<'a>) -> Job<'a> {
 
 // Opens a variant in the register file, adds a node and grants it a slot.
 fn granted(rt: &HostRuntime, db: &str) -> Result<(), Fail> {
-    let mut desk = FileDesk::open(rt, db)?;
+    let mut desk = file_desk::open(rt, db, Unknown).map_err(|(fault, _)| fault)?;
     carried_out(rt.alloc(), &mut desk, &PLAN[..3])?;
-    desk.close();
+    drop(file_desk::close(desk));
     Ok(())
 }
 
