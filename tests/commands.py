@@ -4,6 +4,8 @@
 What is wanted was typed by hand from docs/FORMATS.md and docs/HTTP.md; none of it is the program's own output. The files are
 read by the SQLite of python3 too. The last line is 'N passed, M failed'."""
 import os
+import re
+import shutil
 import signal
 import socket
 import sqlite3
@@ -86,9 +88,16 @@ def creating(program, folder):
     tell(program, ["create", "long.db", "longest.toml"], folder)
 
 
+def over(db):
+    """The commands that ask a register file and change nothing where they have no input."""
+    yield from ([report, db, "v1"] for report in ("grants", "frames", "schedule", "gaps"))
+    yield from (["layout", db, "v1", "f1"], ["schedule", db, "v1", "--supplier", "s1"], ["ask", db])
+
+
 def opening(program, folder):
-    fault(program, ["schedule", "none.db", "v1"], folder, "NotARegister")
-    see("no file is made where none is", False, (folder / "none.db").exists())
+    for words in over("none.db"):
+        fault(program, words, folder, "NotARegister")
+        see("no file is made where none is", False, (folder / "none.db").exists())
     (folder / "empty.db").write_bytes(b"")
     (folder / "text.db").write_bytes(b"x" * 100)
     with closing(sqlite3.connect(folder / "other.db")) as other:
@@ -102,7 +111,7 @@ def opening(program, folder):
     schema1.filled(folder / "older.db", {})
     faults = {"empty": "NotARegister", "text": "NotARegister", "other": "NotARegister", "newer": "WrongSchema", "older": "WrongSchema", "orphan": "Unavailable"}
     for file, word in ((f"{name}.db", word) for name, word in faults.items()):
-        for words in ["schedule", file, "v1"], ["gaps", file, "v1"], ["serve", file, "1024"], ["import", file, "supplier01", "v1", "a", "cluster.toml"]:
+        for words in *over(file), ["serve", file, "1024"], ["import", file, "supplier01", "v1", "a", "cluster.toml"]:
             fault(program, words, folder, word)
 
 
@@ -129,6 +138,238 @@ def reports(program, folder):
     fault(program, [*words, "b", "none.csv"], folder, "CannotOpen")
     fault(program, ["import", "none.db", "supplier01", "v1", "b", "none.csv"], folder, "CannotOpen")
     tell(program, ["gaps", "car.db", "v1"], folder, b"GAP    6400 f1 s1\nGAP     200 f2 s1\nGAP    6400 f3 s1\n")
+
+
+# What stands in place of a line of the first script's cluster file, and what `check` says of the file then.
+WRONG = [
+    (b"payload_words = 1\n", b"", b"BadField: payload_words is missing"),
+    (b"payload_words = 1\n", b'payload_words = "1"\n', b'BadField: payload_words is the text "1", it may be 0 to 127'),
+    (b"payload_words = 1\n", b"payload_words = 1.0\n", b"BadField: payload_words is a number with a point, it may be 0 to 127"),
+    (b"payload_words = 1\n", b"payload_words = -1\n", b"BadField: payload_words is -1, it may be 0 to 127"),
+    (b"payload_words = 1\n", b"payload_words = 128\n", b"BadPayload: payload_words is 128, it may be 0 to 127"),
+    (b"payload_words = 1\n", b"payload_words = 1\npayload = 1\n", b'BadField: "payload" is no key of a cluster file'),
+    (b"payload_words = 1\n", b'payload_words = 1\n"a\\nb" = 1\n', b'BadField: "a?b" is no key of a cluster file'),
+    (b"payload_words = 1\n", b"payload_words = 1\npayload_words = 1\n", b"BadToml: line 9: duplicate key"),
+    (b"payload_words = 1\n", b"payload_words 1\n", b"BadToml: line 8: key with no value, expected `=`"),
+    (b"payload_words = 1\n", b"payload_words = 1 # \xff\n", b"BadToml: line 8: invalid UTF-8"),
+    (b"payload_words = 1\n", b"payload_words = 1\ncycles = 9\n", b"BadCycleCount: cycles is 9, it may be an even number from 8 to 64"),
+    (b"payload_words = 1\n", b"payload_words = 1\ncycles = 6\n", b"BadCycleCount: cycles is 6, it may be an even number from 8 to 64"),
+    (b"payload_words = 1\n", b"payload_words = 1\ncycles = 66\n", b"BadCycleCount: cycles is 66, it may be an even number from 8 to 64"),
+    (b"payload_words = 1\n", b"payload_words = 1\ncycles = -8\n", b"BadField: cycles is -8, it may be an even number from 8 to 64"),
+    (b"payload_words = 1\n", b'payload_words = 1\ncycles = "8"\n', b'BadField: cycles is the text "8", it may be an even number from 8 to 64'),
+    (b'channels = "AB"', b'channels = "ab"', b'BadField: channels is the text "ab", it may be "A", "B" or "AB"'),
+    (b'channels = "AB"', b"channels = true", b'BadField: channels is true or false, it may be "A", "B" or "AB"'),
+    (b"static_slots = 4", b"static_slots = 1", b"BadSlots: static_slots is 1, it may be 2 to 1023"),
+    (b"static_slots = 4", b"static_slots = 1024", b"BadSlots: static_slots is 1024, it may be 2 to 1023"),
+    (b"slot_macroticks = 10", b"slot_macroticks = 0", b"BadMacroticks: slot_macroticks is 0, it may be 1 or more"),
+    (b"idle_macroticks = 10", b"idle_macroticks = 0", b"BadMacroticks: idle_macroticks is 0, it may be 1 or more"),
+    (b"macroticks_per_cycle = 100", b"macroticks_per_cycle = 16001", b"BadMacroticks: macroticks_per_cycle is 16001, it may be at most 16000"),
+    (b"idle_macroticks = 10", b"idle_macroticks = 11", b"BadSum: the segments take 101 macroticks, macroticks_per_cycle is 100"),
+    (b'integrator = "integrator1"', b"integrator = 12345678", b"BadField: integrator is a whole number, it may be a text of 8 to 64 ASCII letters and digits"),
+    (b'integrator = "integrator1"', b'integrator = "short"', b"BadKey: the key of the integrator is not 8 to 64 ASCII letters and digits"),
+    (b'integrator = "integrator1"', b'integrator = "supplier02"', b"KeyTwice: the integrator and s2 have the same key"),
+    (
+        b'[suppliers]\ns1 = "supplier01"\ns2 = "supplier02"\n',
+        b'suppliers = "supplier01"\n',
+        b"BadField: suppliers is a text, it may be a table from each supplier's name to its key",
+    ),
+    (b's1 = "supplier01"', b"s1 = 12345678", b"BadField: suppliers: the key of s1 is a whole number, it may be a text"),
+    (b's1 = "supplier01"', b's1 = "supplier-1"', b"BadKey: the key of s1 is not 8 to 64 ASCII letters and digits"),
+    (b's1 = "supplier01"', b's1 = "supplier02"', b"KeyTwice: s1 and s2 have the same key"),
+    (b's1 = "supplier01"', b's-1 = "supplier01"', b'BadName: the supplier\'s name "s-1" is not 1 to 32 ASCII letters, digits and underscores, a letter first'),
+    (b"[suppliers]\n", b"[suppliers]\n" + b"".join(b't%d = "another0%d"\n' % (n, n) for n in range(63)), b"Limit: there are 65 suppliers, at most 64 may be there"),
+]
+
+FIGURES = b"channels AB, 4 static slots of 10 macroticks, 64 cycles of 100 macroticks, payload of 2 bytes, suppliers: 2\n"
+
+
+def checking(program, folder):
+    """What is wrong with a cluster file, and where; `create` gives the same word."""
+    tell(program, ["check", "cluster.toml"], folder, FIGURES)
+    (folder / "ten.toml").write_bytes(CLUSTER.replace(b"payload_words = 1\n", b"payload_words = 1\ncycles = 10\n"))
+    tell(program, ["check", "ten.toml"], folder, FIGURES.replace(b"64 cycles", b"10 cycles"))
+    for old, new, said in WRONG:
+        see(f"{old} stands there once", 1, CLUSTER.count(old))
+        (folder / "wrong.toml").write_bytes(CLUSTER.replace(old, new))
+        fault(program, ["check", "wrong.toml"], folder, said.decode())
+        fault(program, ["create", "wrong.db", "wrong.toml"], folder, said.decode().partition(":")[0])
+    see("no register is made", False, (folder / "wrong.db").exists())
+    for path in "none.toml", ".", "long.toml":
+        fault(program, ["check", path], folder, "CannotOpen")
+    tell(program, ["check", "longest.toml"], folder, FIGURES)
+
+
+# ---- words
+
+
+def listed_words():
+    """The refusals' names and the fault words that docs/FORMATS.md and docs/HTTP.md list."""
+    formats = (TOP / "docs/FORMATS.md").read_text()
+    names = re.findall(r"^\| \d+ \| `(\w+)` \|", formats, re.M) + re.findall(r'"no":29,"refused":"(\w+)"', formats)
+    faults = []
+    for table in re.findall(r"^\| Fault \|.*\n\|[-|]+\n((?:\|.*\n)+)", formats, re.M):
+        faults += re.findall(r"^\| `(\w+)` \|", table, re.M)
+    return set(names), set(faults)
+
+
+# Of connections, which docs/HTTP.md tells of.
+LINK_FAULTS = {"Truncated", "ReadFailed", "TooManyReads", "WriteFailed", "NoMemory"}
+
+
+def explaining(program, folder):
+    """Each refusal and each fault is explained, and nothing else."""
+    names, faults = listed_words()
+    see("refusals that are listed", 31, len(names))
+    see("each kind of fault is listed", True, {"BadSum", "NoSeparator", "NotEmpty", "CannotListen"} <= faults)
+    words = names | faults | LINK_FAULTS
+    everything = subprocess.run([program, "explain"], cwd=folder, capture_output=True, timeout=SECONDS)
+    lines = everything.stdout.decode().splitlines()
+    see("all are listed", (0, b"", sorted(words)), (everything.returncode, everything.stderr, sorted(line.partition(": ")[0] for line in lines)))
+    for line in lines:
+        word = line.partition(": ")[0]
+        got = subprocess.run([program, "explain", word], cwd=folder, capture_output=True, timeout=SECONDS)
+        text = got.stdout.decode().splitlines()
+        see(f"{word} is explained", (0, b"", [line], True), (got.returncode, got.stderr, text[:1], 3 <= len(text) <= 6))
+        see(f"lines of {word} that fit a screen", [], [line for line in text if len(line) > 120])
+    for number, name in re.findall(r"^\| (\d+) \| `(\w+)` \|", (TOP / "docs/FORMATS.md").read_text(), re.M):
+        see(f"the number of {name}", True, any(line.startswith(f"{name}: refusal {number}") for line in lines))
+
+    def alike(word, *begin):
+        found = "".join(f"{line}\n" for line in lines if line.startswith(begin)) if begin else ""
+        rest = f"These begin alike:\n{found}" if found else "`slotplan explain` lists all.\n"
+        fault(program, ["explain", word], folder, f"no refusal and no fault has this name. {rest}"[:-1])
+
+    alike("CellTakn", "CellTaken")
+    alike("celltaken", "CellTaken")
+    alike("BitTake", "BitTaken")
+    alike("NOT", "NotYours", "NotReleased", "NotGranted", "NotEmpty", "NotARegister")
+    alike("xyz")
+    alike("Bed")
+
+
+def version(program, folder):
+    """The toolchain is the one that proves the program."""
+    if shutil.which("rt"):
+        line = subprocess.run(["rt", "version"], capture_output=True, timeout=SECONDS, check=True).stdout
+        tell(program, ["--version"], folder, b"slotplan 1.0\n" + line)
+        see("the README names it too", True, line.strip() in (TOP / "README.md").read_bytes())
+
+
+# ---- requests on standard input
+
+# What is asked of a new register, with the answer to each.
+ASKED = [
+    (b'integrator1 {"do":"open_variant","variant":"v1"}', DONE),
+    (b'integrator1 {"do":"add_supplier","supplier":"s3","key":"supplier03"}', DONE),
+    *((b'integrator1 {"do":"add_node","supplier":"%s","node":"n1"}' % supplier, DONE) for supplier in (b"s1", b"s3")),
+    (b'integrator1 {"do":"grant","variant":"v1","slot":1,"channel":"A","supplier":"s1","node":"n1"}', DONE),
+    (b'integrator1 {"do":"grant","variant":"v1","slot":1,"channel":"B","supplier":"s3","node":"n1"}', DONE),
+    (b'integrator1 {"do":"grant","variant":"v1","slot":1,"channel":"A","supplier":"s3","node":"n1"}', refused(24, "Taken")),
+    *((b'%s {"do":"add_frame","variant":"v1","frame":"f1","node":"n1"}' % key, DONE) for key in (b"supplier01", b"supplier03")),
+    (b'supplier01 {"do":"place","variant":"v1","frame":"f1","slot":1,"channels":"A","base":0,"repetition":32}', DONE),
+    (b'supplier03 {"do":"place","variant":"v1","frame":"f1","slot":1,"channels":"B","base":1,"repetition":64}', DONE),
+    (b'supplier01 {"do":"add_signal","variant":"v1","frame":"f1","signal":"x","start":0,"length":8,"order":"little"}', DONE),
+    (b'supplier03 {"do":"add_signal","variant":"v1","frame":"f1","signal":"y","start":7,"length":8,"order":"big"}', DONE),
+    (b'supplier03 {"do":"schedule","variant":"v1"}', b'{"lines":["01 0001 B f1 n1"],"ok":"schedule"}'),
+    (b"supplier01", refused(1, "BadText")),
+    (b"nobody123 {}", refused(1, "BadText")),
+    (b'nobody123 {"do":"gaps","variant":"v1"}', refused(2, "UnknownKey")),
+    (b'supplier01 {"do":"release","variant":"v1"}', refused(3, "NotYours")),
+    (b' {"do":"gaps","variant":"v1"}', refused(2, "UnknownKey")),
+]
+
+# What the reports of it are: to the integrator, and to each supplier.
+REPORTS = {
+    ("grants", "v1"): {None: b"0001 A n1 s1\n0001 B n1 s3\n", "s1": b"0001 A n1\n", "s2": b"", "s3": b"0001 B n1\n"},
+    ("frames", "v1"): {
+        None: b"FRAME f1 n1 s1\nAT 0001 A 00 32\nFRAME f1 n1 s3\nAT 0001 B 01 64\n",
+        "s1": b"FRAME f1 n1\nAT 0001 A 00 32\n",
+        "s2": b"",
+        "s3": b"FRAME f1 n1\nAT 0001 B 01 64\n",
+    },
+    ("schedule", "v1"): {
+        None: b"00 0001 A f1 n1 s1\n01 0001 B f1 n1 s3\n32 0001 A f1 n1 s1\n",
+        "s1": b"00 0001 A f1 n1\n32 0001 A f1 n1\n",
+        "s2": b"",
+        "s3": b"01 0001 B f1 n1\n",
+    },
+    ("gaps", "v1"): {None: b"GAP    3200 f1 s1\nGAP    6400 f1 s3\n", "s1": b"GAP    3200 f1\n", "s2": b"", "s3": b"GAP    6400 f1\n"},
+    ("layout", "v1", "f1"): {None: b"0000 08 little x s1\n0007 08 big y s3\n", "s1": b"0000 08 little x\n", "s3": b"0007 08 big y\n"},
+}
+
+
+def asked(program, folder, given, written=b"", said=b"", status=0, db="asked.db"):
+    """Asks these bytes of the register in the file."""
+    got = subprocess.run([program, "ask", db], cwd=folder, input=given, capture_output=True, timeout=SECONDS)
+    see(f"{program} ask {given[:200]!r}", (status, written, said), (got.returncode, got.stdout, got.stderr))
+
+
+def asking(program, folder):
+    """Requests on standard input are answered as those of a script, and what they did is in the file."""
+    tell(program, ["create", "asked.db", "cluster.toml"], folder)
+    asked(program, folder, b"")
+    asked(program, folder, b"\n\r\n\n")
+    lines, answers = zip(*ASKED)
+    asked(program, folder, b"\n" + b"\r\n\n".join(lines), b"".join(answer + b"\n" for answer in answers))
+    (folder / "alone.db").write_bytes((folder / "asked.db").read_bytes())
+    see("the database file alone has all", [("s1", "f1"), ("s3", "f1")], rows_of(folder, "SELECT supplier, name FROM frames ORDER BY supplier", "alone.db"))
+    sound(folder, "asked.db")
+    for (name, *words), by_reader in REPORTS.items():
+        for supplier, wanted in by_reader.items():
+            more = [] if supplier is None else ["--supplier", supplier]
+            tell(program, [name, "asked.db", *words, *more], folder, wanted)
+            tell(program, [name, *more, "asked.db", *words], folder, wanted)
+    for words in ["grants", "v9"], ["frames", "v9", "--supplier", "s1"], ["layout", "v9", "f1"]:
+        turned_down(program, [words[0], "asked.db", *words[1:]], folder, refused(10, "NoVariant"))
+    for words in ["layout", "v1", "f9"], ["layout", "v1", "f1", "--supplier", "s2"]:
+        turned_down(program, [words[0], "asked.db", *words[1:]], folder, refused(16, "NoFrame"))
+    for words in ["grants", "1v"], ["layout", "v1", "f 1"], ["gaps", "1v", "--supplier", "s1"]:
+        turned_down(program, [words[0], "asked.db", *words[1:]], folder, refused(4, "BadName"))
+    for supplier in "s4", "S1", "s 1", "":
+        turned_down(program, ["schedule", "asked.db", "v1", "--supplier", supplier], folder, refused(2, "UnknownKey"))
+    with served(program, folder, db="asked.db"):
+        for words in over("asked.db"):
+            fault(program, words, folder, "Unavailable")
+
+
+LINE = b'supplier01 {"do":"add_frame","variant":"v1","frame":"%s","node":"n1"}'
+
+
+def asking_ends(program, folder):
+    """Faults come when what stood before them was answered, and that stays."""
+    longest = b" " * (16_777_216 - len(LINE % b"g1") - 1)
+    for frame, more in (b"g1", longest + b" "), (b"g2", longest + b"\n"):
+        asked(program, folder, LINE % frame + b"\n" + more, DONE + b"\n", b"slotplan: TooLong\n", 1)
+    asked(program, folder, LINE % b"g3" + b"\n" + longest, DONE + b"\n" + refused(1, "BadText") + b"\n")
+    got = subprocess.run(["sh", "-c", '"$1" ask asked.db < /', "sh", program], cwd=folder, capture_output=True, timeout=SECONDS)
+    see("a folder as input", (1, b"", b"slotplan: ReadFailed\n"), (got.returncode, got.stdout, got.stderr))
+    for end in "> /dev/full", ">&-":
+        got = subprocess.run(["sh", "-c", f'"$1" ask asked.db {end}', "sh", program], cwd=folder, input=LINE % b"g4" + b"\n", capture_output=True, timeout=SECONDS)
+        see(f"output {end}", (1, b"slotplan: WriteFailed\n"), (got.returncode, got.stderr))
+        tell(program, ["gaps", "asked.db", "v1", "--supplier", "s1"], folder, b"GAP    3200 f1\nGAP   never g1\nGAP   never g2\nGAP   never g3\nGAP   never g4\n")
+        asked(program, folder, b'supplier01 {"do":"drop_frame","variant":"v1","frame":"g4"}', DONE + b"\n")
+    sound(folder, "asked.db")
+
+
+def asking_killed(program, folder):
+    """It is ended by a signal, between lines and within them: each line that was answered is in the file, and each was answered
+    before the next one was sent."""
+    answered = set()
+    for turn in range(KILLS):
+        words = [program, "ask", "asked.db"]
+        with subprocess.Popen(words, cwd=folder, stdin=subprocess.PIPE, stdout=subprocess.PIPE, bufsize=0) as asks:
+            for frame in [f"k{turn}a", f"k{turn}b"][: 1 + turn % 2]:
+                asks.stdin.write(LINE % frame.encode() + b"\n")
+                see("a frame is added", DONE + b"\n", asks.stdout.readline())
+                answered.add(frame)
+            drop = b'supplier01 {"do":"drop_frame","variant":"v1","frame":"k%da"}' % turn
+            asks.stdin.write(drop[: len(drop) * (turn % 5) // 4])
+            asks.send_signal((signal.SIGKILL, signal.SIGTERM)[turn % 2])
+            asks.wait(SECONDS)
+            see("a line without an end is not answered", b"", asks.stdout.read())
+    names = {name for (name,) in rows_of(folder, "SELECT name FROM frames WHERE name LIKE 'k%'", "asked.db")}
+    see("frames in the file", answered, names)
+    sound(folder, "asked.db")
 
 
 # ---- the server
@@ -546,7 +787,10 @@ def main(programs):
     for program in there:
         with tempfile.TemporaryDirectory() as folder:
             (Path(folder) / "cluster.toml").write_bytes(CLUSTER)
-            for part in creating, opening, serving, cutting, killing, reports, differences, overlaid, made_whole, opened_again, joined, counted_cycles:
+            for part in (
+                creating, checking, explaining, version, opening, serving, cutting, killing, reports, asking, asking_ends, asking_killed,
+                differences, overlaid, made_whole, opened_again, joined, counted_cycles,
+            ):
                 part(program, Path(folder))
     print(f"{counted[True]} passed, {counted[False]} failed")
     return 1 if counted[False] else 0

@@ -35,13 +35,20 @@ Commands:
   create    Makes a register file of a cluster file
   migrate   Brings a register file of schema 1 to schema 2, with all that it holds
   serve     Serves a register file over HTTP
+  ask       Answers requests on standard input, a line each, over a register file
+  grants    Prints a variant's grants: which node holds which slot and channel
+  frames    Prints a variant's frames, with their nodes and placements
   schedule  Prints a variant's schedule: what is sent in which cycle, slot and channel
   gaps      Prints the greatest gap between two sendings of each frame of a variant, in macroticks
+  layout    Prints a frame's layout: the signals in its payload
   import    Carries out a supplier's import: a CSV file of placements or signals, all rows or none
+  check     Says what is wrong with a cluster file and where, or prints its figures
+  explain   Says what a refusal or a fault means, when it comes and what to do
   help      Print this message or the help of the given subcommand(s)
 
 Options:
-  -h, --help  Print help
+  -h, --help     Print help
+  -V, --version  Print version
 
 Status 0: done. Status 1: refused, or a fault; standard error says which.
 Status 2: the words name no job.
@@ -84,6 +91,96 @@ Options:
 Example:
   slotplan serve car.db 8080
   curl -H 'X-Office-Key: supplier01' http://127.0.0.1:8080/v1/variants/v1/schedule
+"""
+
+ASK_HELP = b"""\
+Answers requests on standard input, a line each, over a register file
+
+Usage: slotplan ask <DB>
+
+Arguments:
+  <DB>  The register file (an SQLite database)
+
+Options:
+  -h, --help  Print help
+
+A line is a key, a space and the request's JSON. It is answered with a line on
+standard output, once the file has what it changes. Empty lines are skipped.
+
+Example:
+  slotplan ask car.db < changes.txt
+"""
+
+GRANTS_HELP = b"""\
+Prints a variant's grants: which node holds which slot and channel
+
+Usage: slotplan grants [OPTIONS] <DB> <VARIANT>
+
+Arguments:
+  <DB>       The register file (an SQLite database)
+  <VARIANT>  The variant's name
+
+Options:
+      --supplier <NAME>  Prints what this supplier sees; without it, what the integrator sees
+  -h, --help             Print help
+
+Each line: slot, channel, node, supplier. With --supplier the last is left out.
+
+Example:
+  slotplan grants car.db v1
+  slotplan grants car.db v1 --supplier s1
+"""
+
+LAYOUT_HELP = b"""\
+Prints a frame's layout: the signals in its payload
+
+Usage: slotplan layout [OPTIONS] <DB> <VARIANT> <FRAME>
+
+Arguments:
+  <DB>       The register file (an SQLite database)
+  <VARIANT>  The variant's name
+  <FRAME>    The frame's name
+
+Options:
+      --supplier <NAME>  Prints what this supplier sees; without it, what the integrator sees
+  -h, --help             Print help
+
+Each line: first bit, length, little or big, signal, supplier. With --supplier the
+last is left out; without it the frames of this name of all suppliers are shown.
+
+Example:
+  slotplan layout car.db v1 f1
+  slotplan layout car.db v1 f1 --supplier s1
+"""
+
+CHECK_HELP = b"""\
+Says what is wrong with a cluster file and where, or prints its figures
+
+Usage: slotplan check <CONFIG>
+
+Arguments:
+  <CONFIG>  The cluster file (TOML), at most 1,048,576 bytes
+
+Options:
+  -h, --help  Print help
+
+Example:
+  slotplan check cluster.toml
+"""
+
+EXPLAIN_HELP = b"""\
+Says what a refusal or a fault means, when it comes and what to do
+
+Usage: slotplan explain [WORD]
+
+Arguments:
+  [WORD]  The refusal's name or the fault's word; without it all are listed
+
+Options:
+  -h, --help  Print help
+
+Example:
+  slotplan explain CellTaken
 """
 
 NOT_UTF8 = b"""\
@@ -150,14 +247,20 @@ def words():
     for name, text in ("run", RUN_HELP), ("serve", SERVE_HELP):
         for given in (name, "--help"), (name, "-h"), ("help", name):
             yield Case(f"the words {given}", written=text, words=given)
+    by_name = ("ask", ASK_HELP), ("grants", GRANTS_HELP), ("layout", LAYOUT_HELP), ("check", CHECK_HELP), ("explain", EXPLAIN_HELP)
+    for name, text in by_name:
+        yield Case(f"the help of {name}", written=text, words=(name, "--help"))
     yield Case("no words", said=HELP, status=2, words=())
     called = ("Usage: slotplan <COMMAND>", "")
-    for word in "walk", "Run", "run ":
-        tip = () if word == "walk" else ("  tip: a similar subcommand exists: 'run'", "")
+    for word in "jump", "Run", "run ":
+        tip = () if word == "jump" else ("  tip: a similar subcommand exists: 'run'", "")
         yield Case(f"the word {word!r}", FIRST, said=usage(f"unrecognized subcommand '{word}'", *tip, *called), status=2, words=(word,))
     for given in ("run", "run"), ("run", "x"):
         said = usage(f"unexpected argument '{given[1]}' found", "Usage: slotplan run", "")
         yield Case(f"the words {given}", FIRST, said=said, status=2, words=given)
+    for given, last, usage_of in (("ask",), "<DB>", "ask <DB>"), (("layout", "d", "v"), "<FRAME>", "layout <DB> <VARIANT> <FRAME>"):
+        said = f"error: the following required arguments were not provided:\n  {last}\n\nUsage: slotplan {usage_of}\n\nFor more information, try '--help'.\n"
+        yield Case(f"the words {given}", FIRST, said=said.encode(), status=2, words=given)
     for port in "0", "65536":
         said = usage(f"invalid value '{port}' for '<PORT>': {port} is not in 1..=65535")
         yield Case(f"the port {port}", said=said, status=2, words=("serve", "d", port))
@@ -322,9 +425,9 @@ def streams():
         for end, is_said in (">&-", True), ("> /dev/full", True), (">&- 2>&-", False), ("> /dev/full 2> /dev/full", False):
             said = b"slotplan: WriteFailed\n" if is_said else b""
             yield Case(f"{named} {end}", FIRST, said=said, status=1, words=given, start=f'exec "$@" {end}')
-    yield Case("usage 2> /dev/full", status=2, words=("walk",), start='exec "$@" 2> /dev/full')
-    yield Case("usage 2>&-", status=2, words=("walk",), start='exec "$@" 2>&-')
-    yield Case("usage >&-", said=usage("unrecognized subcommand 'walk'", "Usage: slotplan <COMMAND>", ""), status=2, words=("walk",), start='exec "$@" >&-')
+    yield Case("usage 2> /dev/full", status=2, words=("jump",), start='exec "$@" 2> /dev/full')
+    yield Case("usage 2>&-", status=2, words=("jump",), start='exec "$@" 2>&-')
+    yield Case("usage >&-", said=usage("unrecognized subcommand 'jump'", "Usage: slotplan <COMMAND>", ""), status=2, words=("jump",), start='exec "$@" >&-')
     yield Case("no separator 2> /dev/full", b"x\n", status=1, start='exec "$@" 2> /dev/full')
 
 

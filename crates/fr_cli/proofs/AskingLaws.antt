@@ -1,10 +1,27 @@
 -- What is printed of an answer that refuses what was asked.
-use Rattle.std.proofs.Common.{◌≡◌, List, ℕ, Ok, Err, Result, true, subst, sym}
+use Rattle.std.proofs.Common.{◌≡◌, ◌⊎◌, List, ℕ, Ok, Err, OnOk, Option, Some, Result, inl, inr, refl, true, subst, sym}
+use Rattle.std.specs.Prelude.{⊤}
+use Rattle.fr_base.specs.Book.{Book}
+use Rattle.fr_base.specs.Cluster.{Cluster, ClusterFile}
+use Rattle.fr_base.specs.declared.actor.Actor.{Actor}
 use Rattle.fr_base.specs.declared.answer.Answer.{Answer}
-use Rattle.fr_cli.specs.Asking.{IsRefusedBy, Prints, is_refusal}
+use Rattle.fr_base.specs.declared.refusal.Refusal.{Refusal}
+use Rattle.fr_base.specs.declared.request.Ask.{Ask}
+use Rattle.fr_base.specs.declared.request.Request.{Request}
+use Rattle.fr_desks.specs.FileDesk.{FindsHeld, IsLeftWith}
+use Rattle.fr_http.specs.Asking.{Standing}
+use Rattle.fr_text.specs.ClusterFile.{config_of}
+use Rattle.sqlite.specs.Files.{IsCleanLeft}
+use Rattle.sqlite.specs.declared.file.Leftover.{Leftover}
+use Rattle.sqlite_disk.specs.declared.Disk.{Ghosts}
+use Rattle.sqlite_wal.specs.Recovery.{Image}
+use Rattle.fr_cli.specs.Asked.{asked_by}
+use Rattle.fr_cli.specs.Asking.{IsAnswer, IsRefusedBy, Prints, is_refusal}
+use Rattle.fr_cli.specs.Faults.{IsNotImported}
 use Rattle.fr_cli.specs.Performing.{Says}
+use Rattle.fr_cli.specs.RegisterFiles.{IsAnswerOfFile, IsLeftNew, IsMade}
 use Rattle.fr_cli.specs.declared.fault.Fault.{Fault}
-use Rattle.fr_cli.specs.declared.fault.Fault.TheVariants.{NoMemory}
+use Rattle.fr_cli.specs.declared.fault.Fault.TheVariants.{CannotOpen, NoMemory}
 use Rattle.std.specs.Global.{Vec}
 use Rattle.fr_cli.specs.declared.failure.Failure.{Failure}
 use Rattle.fr_cli.specs.declared.failure.Failure.TheVariants as failure
@@ -14,9 +31,47 @@ pub refused_prints : (Is : Answer → Type 0) (print : Answer → List ℕ) (ans
 refused_prints Is print answer (failure.Refused line) is refusal by = (answer, is, refusal, by)
 refused_prints Is print answer (failure.Fault fault) is refusal by = by
 
--- what was printed of an answer is said of one
-pub prints_says : (May : Fault → Type 0) (Is : Answer → Type 0) (print : Answer → List ℕ) (done : Result (Vec ℕ) Failure) → May NoMemory → Prints Is print done
-    → Says May print done
-prints_says May Is print (Ok text) may p = (p.0, p.2, p.3)
-prints_says May Is print (Err (failure.Refused line)) may p = (p.0, p.2, p.3)
-prints_says May Is print (Err (failure.Fault fault)) may p = subst May (sym p) may
+-- what was printed of an answer is said of what follows of it
+pub prints_says : (May : Fault → Type 0) (Is Was : Answer → Type 0) (print : Answer → List ℕ) (done : Result (Vec ℕ) Failure) → ((answer : Answer) → Was answer → Is answer)
+    → May NoMemory → Prints Was print done → Says May Is print done
+prints_says May Is Was print (Ok text) follows may p = (p.0, follows p.0 p.1, p.2, p.3)
+prints_says May Is Was print (Err (failure.Refused line)) follows may p = (p.0, follows p.0 p.1, p.2, p.3)
+prints_says May Is Was print (Err (failure.Fault fault)) follows may p = subst May (sym p) may
+
+module _ {D : Type 0} {g : Ghosts D} where
+  -- what was asked of a register that stands for what a file held, and was closed, was asked of the file
+  asks_file : (held : Image) (left : Leftover D g) (clean before : Type 0) (old new : Standing) (asks : Cluster → Book → Result Ask Refusal) (answer : Answer)
+      → (IsCleanLeft left → clean) → (clean → before) → FindsHeld held before old → ((c : Cluster) (b : Book) → new c b → IsLeftWith left c b)
+      → IsAnswer clean old new asks answer → IsAnswerOfFile held (Some left) asks answer
+  asks_file held left clean before old new asks answer closes falls finds leaves is = (
+    left,
+    refl,
+    λ kept c b there sound.
+        let step = is (closes kept) c b (finds (falls (closes kept)) c b there) sound in
+        (step.0, step.1, leaves c step.0 step.2),
+  )
+
+  -- so what is printed of its answer is said of the file
+  pub says_of_file : (May : Fault → Type 0) (print : Answer → List ℕ) (done : Result (Vec ℕ) Failure) (held : Image) (left : Leftover D g) (clean before : Type 0) (old new : Standing)
+      (asks : Cluster → Book → Result Ask Refusal) → (IsCleanLeft left → clean) → (clean → before) → FindsHeld held before old
+      → ((c : Cluster) (b : Book) → new c b → IsLeftWith left c b) → May NoMemory → Prints (IsAnswer clean old new asks) print done
+      → Says May (IsAnswerOfFile held (Some left) asks) print done
+  says_of_file May print done held left clean before old new asks closes falls finds leaves may p =
+      prints_says May (IsAnswerOfFile held (Some left) asks) (IsAnswer clean old new asks) print done
+      (λ answer is. asks_file held left clean before old new asks answer closes falls finds leaves is) may p
+
+  -- a register that was made of a cluster file that was read
+  pub is_made : (rest : Option (Leftover D g)) (done : Result ⊤ Fault) (text : List ℕ) (f : ClusterFile) → config_of text ≡ Ok f → OnOk done (IsLeftNew rest f) → IsMade rest done
+  is_made rest (Ok x) text f is made = (text, f, is, made)
+  is_made rest (Err e) text f is made = tt
+
+-- a file that cannot be read is no import
+pub not_imported : (fault : Fault) → (fault ≡ CannotOpen) ⊎ (fault ≡ NoMemory) → IsNotImported fault
+not_imported fault (inl is) = inr is
+not_imported fault (inr is) = inl (inr is)
+
+-- the same was asked by the same
+pub asks_same : (clean : Type 0) (old new : Standing) (by who : Option Actor) (request asks : Request) (answer : Answer) → by ≡ who → request ≡ asks
+    → IsAnswer clean old new (λ c b. asked_by by request) answer → IsAnswer clean old new (λ c b. asked_by who asks) answer
+asks_same clean old new by who request asks answer e f is =
+    subst (λ r. IsAnswer clean old new (λ c b. asked_by who r) answer) f (subst (λ w. IsAnswer clean old new (λ c b. asked_by w request) answer) e is)

@@ -1,8 +1,12 @@
 mod LineLemmas
+mod EndedLines
+pub mod IncomingLaws
 mod CommandLaws
 pub mod ScriptRunLaws
 mod ScriptRows
+pub mod AnsweringLaws
 pub mod OutputLaws
 pub mod RunLaws
 pub mod EndingLaws
 pub mod AskingLaws
+mod EachFault

@@ -1,5 +1,5 @@
 -- How a script's bytes fall into lines.
-use Rattle.std.proofs.Common.{◌≡◌, ℕ, suc, ◌+◌, ◌-◌, ◌<◌, Bool, true, false, ◌||◌, cond, List, [], ◌∷◌, ◌++◌, length, take, drop, refl, sym, ap, ◌∙◌, arith, Option, Some, None, one-add, add-one, append_assoc, append-nil, inl, inr, length-append}
+use Rattle.std.proofs.Common.{◌≡◌, ℕ, suc, ◌+◌, ◌-◌, ◌<◌, Bool, true, false, ◌||◌, cond, List, [], ◌∷◌, ◌++◌, length, take, drop, refl, sym, ap, ◌∙◌, arith, subst, Option, Some, None, one-add, add-one, append_assoc, append-nil, inl, inr, length-append}
 use Rattle.std.proofs.Math.Seq.{take-append_seam}
 use Rattle.std.proofs.lemmas.Bool.{cases_Bool, eqb-true, lt-ltb, ltb-true, ltb-false, le-ltb, ne_eqb}
 use Rattle.std.specs.List.{AllByRecursion, list_any, concat, before_first, after_first, slice_split, position, position_or_len, filter}
@@ -231,3 +231,12 @@ request_lines-empty bytes line after e h = request_lines-first bytes line after 
 
 -- the lemmas by which a request is taken
 pub ruleset request_taken = (request_lines-none, request_lines-some, request_lines-empty)
+
+-- ---- a line with its end
+
+split_of : (bytes line after : List ℕ) (parts : Option (List ℕ × List ℕ)) → Around 10 bytes parts → Some (line, after) ≡ parts → bytes ≡ line ++ 10 ∷ after
+split_of bytes line after parts found e = (subst (Around 10 bytes) (sym e) found).0
+
+-- a line feed ends it, and what follows it is left
+pub split_by : (bytes line after : List ℕ) → Some (line, after) ≡ parts_around 10 bytes → bytes ≡ line ++ 10 ∷ after
+split_by bytes line after e = split_of bytes line after (parts_around 10 bytes) (around 10 bytes) e

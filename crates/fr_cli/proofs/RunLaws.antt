@@ -1,5 +1,5 @@
 -- How the run of a script ends where its register was made.
-use Rattle.std.proofs.Common.{◌≡◌, ◌≤◌, ℕ, List, [], ◌∷◌, ◌++◌, length, Option, Some, None, Result, Ok, Err, IfSome, sym, ap, ◌∙◌, subst, inl, inr}
+use Rattle.std.proofs.Common.{◌≡◌, ◌≤◌, ℕ, List, [], ◌∷◌, ◌++◌, length, Option, Some, None, Result, Ok, Err, IfSome, sym, ap, ◌∙◌, subst, inl, inr, append-nil}
 use Rattle.std.specs.Prelude.{⊤}
 use Rattle.std.specs.Io.KnownBytes.{Appends, IsAtEnd}
 use Rattle.std.specs.Option.{option_map}
@@ -7,10 +7,11 @@ use Rattle.fr_base.specs.Book.{opening}
 use Rattle.fr_base.specs.Cluster.{ClusterFile, IsWellFormed}
 use Rattle.fr_text.specs.ClusterFile.{config_of}
 use Rattle.fr_records.specs.Held.{Standing}
-use Rattle.fr_cli.specs.Answering.{HasWritten}
+use Rattle.fr_cli.specs.Answering.{Anything, HasWritten}
 use Rattle.fr_cli.specs.Output.{IsAnsweredTo, IsCutShort, IsOutputTo, LacksMemory}
 use Rattle.fr_cli.specs.Runs.{IsRunOf}
 use Rattle.fr_cli.specs.Script.{max_script, parts_of, request_lines}
+use Rattle.fr_cli.proofs.OutputLaws.{answered_to}
 use Rattle.fr_cli.specs.declared.script_fault.ScriptFault.{ScriptFault}
 use Rattle.fr_cli.specs.declared.script_fault.ScriptFault.TheVariants.{NoMemory, WriteFailed}
 
@@ -68,13 +69,21 @@ failed script left a b so = record {
   unavailable = λ e. absurd cc;
 }
 
-pub run_of : (old : Standing) (script left a b : Option (List ℕ)) (bytes requests : List ℕ) (f : ClusterFile) (done : Result ⊤ ScriptFault)
-    → IfSome script (λ all. bytes ≡ all) → IsAtEnd left → HasParts bytes f requests → old f.cluster (opening f)
-    → HasWritten old (request_lines requests) a b done → IsRunOf script left a b done
-run_of old script left a b bytes requests f (Ok x) whole end has stands w = record {
+no_write_failed : NoMemory ≡ WriteFailed → ⊥
+no_write_failed e = absurd cc
+
+pub run_of : (clean : Type 0) (old new : Standing) (script left a b : Option (List ℕ)) (bytes requests : List ℕ) (f : ClusterFile) (done : Result ⊤ ScriptFault)
+    → clean → IfSome script (λ all. bytes ≡ all) → IsAtEnd left → HasParts bytes f requests → old f.cluster (opening f)
+    → HasWritten clean old new (request_lines requests) a b done → IsRunOf script left a b done
+run_of clean old new script left a b bytes requests f (Ok x) is whole end has stands w = record {
   output =
       let (written, appended, answered) = w.all in
-      on_script _ script bytes whole (written, appended, output_to bytes requests f [] written has (answered f has.formed stands));
+      on_script _ script bytes whole (
+        written,
+        appended,
+        output_to bytes requests f [] written has
+            (answered_to clean old new f (request_lines requests) (request_lines requests) [] written is has.formed stands (sym (append-nil (request_lines requests))) answered),
+      );
   whole_script = end;
   too_long = λ e. absurd cc;
   too_many_reads = λ e. absurd cc;
@@ -85,13 +94,36 @@ run_of old script left a b bytes requests f (Ok x) whole end has stands w = reco
   write_failed = λ e. absurd cc;
   unavailable = λ e. absurd cc;
 }
-run_of old script left a b bytes requests f (Err fault) whole end has stands w = elim w.faults [
-  | inl is ↦
-      let (line, rest, written, appended, answered) = w.no_memory (ap Err is) in
-      subst (λ e. IsRunOf script left a b (Err e)) (sym is)
-      (lacked script left a b (on_script _ script bytes whole (written, appended, (line, rest, output_to bytes requests f (line ∷ rest) written has (answered f has.formed stands)))))
-  | inr is ↦
-      let (rest, missing, written, appended, answered) = w.write_failed (ap Err is) in
-      subst (λ e. IsRunOf script left a b (Err e)) (sym is)
-      (failed script left a b (on_script _ script bytes whole (written, appended, (rest, missing, output_to bytes requests f rest (written ++ missing) has (answered f has.formed stands)))))
-]
+run_of clean old new script left a b bytes requests f (Err fault) is whole end has stands w =
+    let c = w.early in
+    elim w.faults [
+      | inl lacks ↦ elim c.whole [
+        | inl other ↦ absurd (no_write_failed (sym lacks ∙ other))
+        | inr so ↦
+            let (line, rest, split) = so.1 in
+            subst (λ e. IsRunOf script left a b (Err e)) (sym lacks)
+            (lacked script left a b (on_script _ script bytes whole (
+              c.written,
+              c.appended,
+              (
+                line,
+                rest,
+                output_to bytes requests f (line ∷ rest) c.written has
+                    (answered_to clean old Anything f (request_lines requests) so.0 (line ∷ rest) c.written is has.formed stands split so.2),
+              ),
+            )))
+      ]
+      | inr fails ↦
+          let (rest, split) = c.done in
+          subst (λ e. IsRunOf script left a b (Err e)) (sym fails)
+          (failed script left a b (on_script _ script bytes whole (
+            c.written,
+            c.appended,
+            (
+              rest,
+              c.missing,
+              output_to bytes requests f rest (c.written ++ c.missing) has
+                  (answered_to clean old new f (request_lines requests) c.lines rest (c.written ++ c.missing) is has.formed stands split c.answered),
+            ),
+          )))
+    ]

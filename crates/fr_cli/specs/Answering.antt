@@ -1,18 +1,20 @@
 -- How lines of a script are answered from a register's records.
-use Rattle.std.specs.Prelude.{◌≡◌, ◌⊎◌, ℕ, List, [], ◌∷◌, ◌++◌, Option, Result, Err, OnOk, IfErr, IsErrOf, ⊤}
+use Rattle.std.specs.Prelude.{◌≡◌, ◌⊎◌, ℕ, List, ◌∷◌, ◌++◌, length, Option, Result, Err, OnOk, IfErr, ⊤}
 use Rattle.std.specs.Io.KnownBytes.{Appends}
-use Rattle.fr_base.specs.Book.{Book, opening}
-use Rattle.fr_base.specs.Cluster.{Cluster, ClusterFile, IsWellFormed}
+use Rattle.fr_base.specs.Book.{Book}
+use Rattle.fr_base.specs.Cluster.{Cluster}
 use Rattle.fr_base.specs.Sound.{IsSound}
 use Rattle.fr_base.specs.declared.answer.Answer.{Answer}
 use Rattle.fr_base.specs.declared.refusal.Refusal.{Refusal}
 use Rattle.fr_base.specs.declared.refusal.Refusal.TheVariants.{Unavailable}
 use Rattle.fr_base.specs.declared.request.Ask.{Ask}
 use Rattle.fr_cli.specs.Asked.{ask_in}
-use Rattle.fr_cli.specs.Output.{IsAnsweredTo}
-use Rattle.fr_cli.specs.ScriptRun.{Replied}
+use Rattle.fr_cli.specs.Asking.{line_of}
+use Rattle.fr_cli.specs.Output.{text_of_answers}
+use Rattle.fr_cli.specs.ScriptRun.{AreAnswered, Replied}
 use Rattle.fr_cli.specs.declared.script_fault.ScriptFault.{ScriptFault}
 use Rattle.fr_cli.specs.declared.script_fault.ScriptFault.TheVariants.{NoMemory, WriteFailed}
+use Rattle.fr_http.specs.Connection.{InSound}
 use Rattle.fr_records.specs.Held.{Standing}
 
 -- What the line asks was read so, in a sound book; or memory was wanting.
@@ -24,14 +26,44 @@ abbrev pub AnswersLine : Standing → Standing → List ℕ → Answer → Type 
 AnswersLine old new line answer = (c : Cluster) (b : Book) → old c b → IsSound c b →
     (last : Book) × new c last × Replied c b (ask_in c b line) answer last
 
--- Where the records stood for a register that was just made, the bytes answer the lines up to those that are left.
-abbrev pub AnswersLines : Standing → List (List ℕ) → List (List ℕ) → List ℕ → Type 0
-AnswersLines old lines left written = (f : ClusterFile) → IsWellFormed f → old f.cluster (opening f) → IsAnsweredTo f lines left written
+-- Whatever is so.
+abbrev pub Anything : Standing
+Anything c b = ⊤
 
--- What was written of the lines' answers, by how that ended: all; or those up to a line for which there was no memory; or a front.
-pub record HasWritten (old : Standing) (lines : List (List ℕ)) (a b : Option (List ℕ)) (done : Result ⊤ ScriptFault) : Type 0 where
-  pub all : OnOk done ((written : List ℕ) × Appends a b written × AnswersLines old lines [] written)
-  pub no_memory : IsErrOf done NoMemory → (line : List ℕ) × (left : List (List ℕ)) × (written : List ℕ) × Appends a b written × AnswersLines old lines (line ∷ left) written
-  pub write_failed : IsErrOf done WriteFailed → (left : List (List ℕ)) × (missing : List ℕ) × (written : List ℕ)
-      × Appends a b written × AnswersLines old lines left (written ++ missing)
+-- These bytes are the lines' answers, a line for each. As long as the register was clean, the lines were answered so from each sound
+-- book for which it stood, and now it stands for the book after them.
+pub record AnswersLines (clean : Type 0) (old new : Standing) (lines : List (List ℕ)) (written : List ℕ) : Type 0 where
+  pub answers : List Answer
+  pub each : length answers ≡ length lines
+  pub bytes : written ≡ text_of_answers answers
+  pub answered : clean → InSound old (λ c b. (last : Book) × new c last × AreAnswered c b lines answers last)
+
+-- These bytes are the end of one answer's line, or none.
+abbrev pub EndsAnswer : List ℕ → Type 0
+EndsAnswer missing = (kept : List ℕ) × (answer : Answer) × (line_of answer ≡ kept ++ missing)
+
+-- A fault came, and lines were answered before it. The register carried out some of which this is so; the end of one answer at most was
+-- not written. Unless it was the write that failed, all that was written are whole answers, to lines of which that is so.
+pub record WasCutShort (clean : Type 0) (old new : Standing) (Done Told : List (List ℕ) → Type 0) (a b : Option (List ℕ)) (fault : ScriptFault) : Type 0 where
+  pub lines : List (List ℕ)
+  pub done : Done lines
+  pub written : List ℕ
+  pub missing : List ℕ
+  pub appended : Appends a b written
+  pub one : EndsAnswer missing
+  pub answered : AnswersLines clean old new lines (written ++ missing)
+  pub whole : (fault ≡ WriteFailed) ⊎ ((told : List (List ℕ)) × Told told × AnswersLines clean old Anything told written)
+
+-- The lines begin with these.
+abbrev pub BeginWith : List (List ℕ) → List (List ℕ) → Type 0
+BeginWith lines front = (left : List (List ℕ)) × (lines ≡ front ++ left)
+
+-- The lines begin with these, and there is one more.
+abbrev pub GoOnBehind : List (List ℕ) → List (List ℕ) → Type 0
+GoOnBehind lines front = (line : List ℕ) × (left : List (List ℕ)) × (lines ≡ front ++ line ∷ left)
+
+-- What was written of the lines' answers, by how that ended: all; or, where there was no memory for a line or a write failed, those before.
+pub record HasWritten (clean : Type 0) (old new : Standing) (lines : List (List ℕ)) (a b : Option (List ℕ)) (done : Result ⊤ ScriptFault) : Type 0 where
+  pub all : OnOk done ((written : List ℕ) × Appends a b written × AnswersLines clean old new lines written)
+  pub early : IfErr done (WasCutShort clean old new (BeginWith lines) (GoOnBehind lines) a b)
   pub faults : IfErr done (λ fault. (fault ≡ NoMemory) ⊎ (fault ≡ WriteFailed))

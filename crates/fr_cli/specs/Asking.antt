@@ -4,7 +4,6 @@ use Rattle.std.specs.Global.{Vec}
 use Rattle.fr_base.specs.Actors.{actor_of}
 use Rattle.fr_base.specs.Book.{Book}
 use Rattle.fr_base.specs.Cluster.{Cluster}
-use Rattle.fr_base.specs.declared.actor.Actor.TheVariants.{Integrator}
 use Rattle.fr_base.specs.declared.answer.Answer.{Answer}
 use Rattle.fr_base.specs.declared.answer.Answer.TheVariants.{Refused, RefusedRow}
 use Rattle.fr_base.specs.declared.refusal.Refusal.{Refusal}
@@ -12,32 +11,20 @@ use Rattle.fr_base.specs.declared.request.Ask.{Ask}
 use Rattle.fr_base.specs.declared.request.Request.{Request}
 use Rattle.fr_base.specs.declared.request.Request.TheVariants as request
 use Rattle.fr_text.specs.AnswerText.{text_of}
-use Rattle.fr_text.specs.Report.{gap_lines, schedule_lines}
-use Rattle.fr_text.specs.Styles.{plain_lines}
 use Rattle.fr_http.specs.Asking.{Standing}
 use Rattle.fr_http.specs.Connection.{InSound}
 use Rattle.fr_cli.specs.Asked.{asked_by}
+use Rattle.fr_cli.specs.Queries.{reader_of, request_for}
 use Rattle.fr_cli.specs.ScriptRun.{Replied}
 use Rattle.fr_cli.specs.declared.asking.ImportWords.{ImportWords}
-use Rattle.fr_cli.specs.declared.asking.Report.{Report}
-use Rattle.fr_cli.specs.declared.asking.Report.TheVariants.{Schedule, Gaps}
+use Rattle.fr_cli.specs.declared.query.Query.{Query}
 use Rattle.fr_cli.specs.declared.failure.Failure.{Failure}
 use Rattle.fr_cli.specs.declared.failure.Failure.TheVariants as failure
 use Rattle.fr_cli.specs.declared.fault.Fault.TheVariants.{NoMemory}
 
--- the query for a report
-abbrev pub request_for : Report → List ℕ → Request
-request_for Schedule variant = request.Schedule variant
-request_for Gaps variant = request.Gaps variant
-
--- the lines of its answer
-abbrev pub report_of : Report → Answer → List ℕ
-report_of Schedule answer = plain_lines (schedule_lines answer)
-report_of Gaps answer = plain_lines (gap_lines answer)
-
--- the integrator asks for a report
-abbrev pub query_of : Report → List ℕ → Cluster → Book → Result Ask Refusal
-query_of report variant c b = Ok (record { actor = Integrator; request = request_for report variant })
+-- the report is asked for by who reads it
+abbrev pub query_of : Query → Cluster → Book → Result Ask Refusal
+query_of query c b = asked_by (reader_of query) (request_for query)
 
 -- the request for the import of a file
 abbrev pub import_request : ImportWords → List ℕ → Request

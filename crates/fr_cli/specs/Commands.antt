@@ -35,6 +35,10 @@ seconds = record (new_rule (codes "seconds")) {
   parser = Some (Signed (pos 1) (pos 3600));
 }
 
+-- a word that may stand at its place
+abbrev pub free_word : Text → Rule
+free_word name = record (new_rule name) { action = Some Set }
+
 abbrev pub run : App
 run = new_app (codes "run")
 
@@ -47,25 +51,43 @@ migrate = with_rule (new_app (codes "migrate")) (word (codes "DB"))
 abbrev pub serve : App
 serve = with_rule (with_rule (with_rule (with_rule (new_app (codes "serve")) (word (codes "DB"))) port) count) seconds
 
--- `schedule` and `gaps`
+abbrev pub ask : App
+ask = with_rule (new_app (codes "ask")) (word (codes "DB"))
+
+-- the supplier as which a report is read
+abbrev pub supplier : Rule
+supplier = record (new_rule (codes "supplier")) { long = Some (codes "supplier"); action = Some Set; value_names = 1 }
+
+-- `grants`, `frames`, `schedule` and `gaps`
 abbrev pub report : Text → App
-report name = with_rule (with_rule (new_app name) (word (codes "DB"))) (word (codes "VARIANT"))
+report name = with_rule (with_rule (with_rule (new_app name) (word (codes "DB"))) (word (codes "VARIANT"))) supplier
+
+abbrev pub layout : App
+layout = with_rule (report (codes "layout")) (word (codes "FRAME"))
 
 abbrev pub import_words : App
 import_words = with_rule (with_rule (with_rule (with_rule (with_rule (new_app (codes "import")) (word (codes "DB"))) (word (codes "KEY")))
     (word (codes "VARIANT"))) (word (codes "LABEL"))) (word (codes "FILE"))
 
+abbrev pub check : App
+check = with_rule (new_app (codes "check")) (word (codes "CONFIG"))
+
+abbrev pub explain : App
+explain = with_rule (new_app (codes "explain")) (free_word (codes "WORD"))
+
 -- the program's own word is left out; a subcommand is wanted, and without a word the help is shown
 abbrev pub unasked : Text → App
 unasked name = record {
-  top = record (new_shape name) { no_binary_name = true; subcommand_required = true; arg_required_else_help = true };
+  top = record (new_shape name) { no_binary_name = true; has_version = true; subcommand_required = true; arg_required_else_help = true };
   subs = [];
 }
 
 -- the program, with one subcommand for each job
 abbrev pub slotplan : App
-slotplan = with_subcommand (with_subcommand (with_subcommand (with_subcommand (with_subcommand (with_subcommand (with_subcommand
-    (unasked (codes "slotplan")) run.top) create.top) migrate.top) serve.top) (report (codes "schedule")).top) (report (codes "gaps")).top) import_words.top
+slotplan = with_subcommand (with_subcommand (with_subcommand (with_subcommand (with_subcommand (with_subcommand (with_subcommand (with_subcommand (with_subcommand
+    (with_subcommand (with_subcommand (with_subcommand (with_subcommand (unasked (codes "slotplan")) run.top) create.top) migrate.top) serve.top) ask.top)
+    (report (codes "grants")).top) (report (codes "frames")).top) (report (codes "schedule")).top) (report (codes "gaps")).top) layout.top) import_words.top)
+    check.top) explain.top
 
 -- The command is read so, and has no argument that its subcommands have too.
 abbrev pub IsReadAs : App → Command → Type 0

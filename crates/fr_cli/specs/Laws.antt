@@ -1,11 +1,15 @@
 -- What a script's answers are for the laws of the register.
-use Rattle.std.specs.Prelude.{◌≡◌, ℕ, List, map, IsFalse}
+use Rattle.std.specs.Prelude.{◌≡◌, ℕ, List, map, IsFalse, true}
 use Rattle.std.specs.List.{list_any}
 use Rattle.fr_base.specs.Alone.{is_unavailable}
 use Rattle.fr_base.specs.Book.{Book}
 use Rattle.fr_base.specs.Cluster.{Cluster}
 use Rattle.fr_base.specs.Run.{IsRun}
 use Rattle.fr_base.specs.declared.answer.Answer.{Answer}
+use Rattle.fr_guide.specs.Topics.{is_explained}
+use Rattle.fr_http.specs.declared.fault.LinkFault.{LinkFault}
+use Rattle.fr_cli.specs.Faults.{fault_word, link_word}
+use Rattle.fr_cli.specs.declared.fault.Fault.{Fault}
 use Rattle.fr_cli.specs.ScriptRun.{AreAnswered, answers_to, asks_in, book_after}
 
 -- What lines that are answered so ask, each as the book then stands, is a run with these answers; so the laws of the register hold of it.
@@ -17,3 +21,7 @@ AnsweredLinesAreARun = (c : Cluster) (b last : Book) (lines : List (List ℕ)) (
 abbrev pub AvailableAnswersAreSteps : Type 0
 AvailableAnswersAreSteps = (c : Cluster) (b last : Book) (lines : List (List ℕ)) (answers : List Answer) → AreAnswered c b lines answers last →
     IsFalse (list_any is_unavailable answers) → (answers ≡ answers_to c b lines) × (last ≡ book_after c b lines)
+
+-- Each word of a fault that ends a job is explained, and so is each of a connection's.
+abbrev pub EachFaultIsExplained : Type 0
+EachFaultIsExplained = ((fault : Fault) → is_explained (fault_word fault) ≡ true) × ((fault : LinkFault) → is_explained (link_word fault) ≡ true)

@@ -8,7 +8,12 @@ pub mod Laws
 pub mod Commands
 pub mod Words
 pub mod Faults
+pub mod Queries
 pub mod Asking
 pub mod Endings
 pub mod Performing
+pub mod RegisterFiles
+pub mod Incoming
 pub mod Runs
+pub mod Checking
+pub mod Explaining

@@ -14,11 +14,11 @@ abbrev pub of_script : Result ⊤ ScriptFault → Result ⊤ Fault
 of_script (Ok done) = Ok done
 of_script (Err fault) = Err (Script fault)
 
--- The job gives this text of an answer that is no refusal; or the line of one that is; or a fault that may end it.
-abbrev pub Says : (Fault → Type 0) → (Answer → List ℕ) → Result (Vec ℕ) Failure → Type 0
-Says May print (Ok text) = (answer : Answer) × (is_refusal answer ≡ false) × (text.items ≡ print answer)
-Says May print (Err (failure.Refused line)) = (answer : Answer) × (is_refusal answer ≡ true) × (line.items ≡ line_of answer)
-Says May print (Err (failure.Fault fault)) = May fault
+-- The job gives this text of such an answer that is no refusal; or the line of one that is; or a fault that may end it.
+abbrev pub Says : (Fault → Type 0) → (Answer → Type 0) → (Answer → List ℕ) → Result (Vec ℕ) Failure → Type 0
+Says May Is print (Ok text) = (answer : Answer) × Is answer × (is_refusal answer ≡ false) × (text.items ≡ print answer)
+Says May Is print (Err (failure.Refused line)) = (answer : Answer) × Is answer × (is_refusal answer ≡ true) × (line.items ≡ line_of answer)
+Says May Is print (Err (failure.Fault fault)) = May fault
 
 -- the line of a server that listens
 abbrev pub listening : ℕ → List ℕ

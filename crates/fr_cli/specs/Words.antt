@@ -1,14 +1,35 @@
 -- The words of the command line, after the program's name, and the job that they ask for.
-use Rattle.std.specs.Prelude.{◌≡◌, ◌≤◌, List, Some, codes}
+use Rattle.std.specs.Prelude.{◌≡◌, ◌≤◌, List, Some, codes, option_map, ⊤}
 use Rattle.clap.specs.Walk.{Row, Text, first_of}
 use Rattle.clap.specs.Words.{subcommand_of}
 use Rattle.fr_cli.specs.Commands.{slotplan}
 use Rattle.fr_cli.specs.declared.words.Job.{Job}
-use Rattle.fr_cli.specs.declared.words.Job.TheVariants.{Run, Create, Migrate, Serve, Schedule, Gaps, Import}
+use Rattle.fr_cli.specs.declared.words.Job.TheVariants.{Run, Create, Migrate, Serve, Ask, Report as ReportOn, Import, Check, Explain}
+use Rattle.fr_cli.specs.declared.query.Query.{Query}
+use Rattle.fr_cli.specs.declared.query.Report.{Report}
+use Rattle.fr_cli.specs.declared.query.Report.TheVariants.{Grants, Frames, Schedule, Gaps, Layout}
 
 -- The word at this place is this text.
 abbrev pub Has : Text → List Row → Text → Type 0
 Has name rows text = first_of name rows ≡ Some text
+
+-- the subcommand of a report
+abbrev pub name_of : Report → Text
+name_of Grants = codes "grants"
+name_of Frames = codes "frames"
+name_of Schedule = codes "schedule"
+name_of Gaps = codes "gaps"
+name_of (Layout frame) = codes "layout"
+
+-- The frame of a layout is the word at its place.
+abbrev pub HasFrame : Report → List Row → Type 0
+HasFrame (Layout frame) rows = Has (codes "FRAME") rows frame.now
+HasFrame _ rows = ⊤
+
+-- The query is of these words, and the supplier's that is named, if one is.
+abbrev pub IsQueryIn : List Row → Query → Type 0
+IsQueryIn rows query = Has (codes "VARIANT") rows query.variant.now × HasFrame query.report rows
+    × (option_map (λ name. name.now) query.supplier ≡ first_of (codes "supplier") rows)
 
 -- The job is the subcommand's of this name, with the words that stand at its places.
 abbrev pub IsJobOf : Job → Text → List Row → Type 0
@@ -17,10 +38,12 @@ IsJobOf (Create db config) name rows = (name ≡ codes "create") × Has (codes "
 IsJobOf (Migrate db) name rows = (name ≡ codes "migrate") × Has (codes "DB") rows db.now
 IsJobOf (Serve db port count seconds) name rows = (name ≡ codes "serve") × Has (codes "DB") rows db.now
     × (1 ≤ port) × (port ≤ 65535) × (1 ≤ count) × (count ≤ 1000000) × (1 ≤ seconds) × (seconds ≤ 3600)
-IsJobOf (Schedule db variant) name rows = (name ≡ codes "schedule") × Has (codes "DB") rows db.now × Has (codes "VARIANT") rows variant.now
-IsJobOf (Gaps db variant) name rows = (name ≡ codes "gaps") × Has (codes "DB") rows db.now × Has (codes "VARIANT") rows variant.now
+IsJobOf (Ask db) name rows = (name ≡ codes "ask") × Has (codes "DB") rows db.now
+IsJobOf (ReportOn db query) name rows = (name ≡ name_of query.report) × Has (codes "DB") rows db.now × IsQueryIn rows query
 IsJobOf (Import db key variant label file) name rows = (name ≡ codes "import") × Has (codes "DB") rows db.now × Has (codes "KEY") rows key.now
     × Has (codes "VARIANT") rows variant.now × Has (codes "LABEL") rows label.now × Has (codes "FILE") rows file.now
+IsJobOf (Check config) name rows = (name ≡ codes "check") × Has (codes "CONFIG") rows config.now
+IsJobOf (Explain word) name rows = (name ≡ codes "explain") × (option_map (λ w. w.now) word ≡ first_of (codes "WORD") rows)
 
 -- The words ask for the job: it is that of the subcommand that `clap` finds in them.
 abbrev pub AskFor : List Text → Job → Type 0

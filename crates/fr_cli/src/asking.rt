@@ -2,64 +2,27 @@
 ghost use Rattle.std.specs.Prelude.{◌≡◌, IfOk};
 ghost use Rattle.fr_base.specs.Actors.{actor_of};
 ghost use Rattle.fr_cli.specs.Asked.{asked_by};
-ghost use Rattle.fr_cli.specs.Asking.{IsAnswer, IsRefusedBy, Prints, import_of, import_request, is_refusal, line_of, query_of, report_of, request_for};
+ghost use Rattle.fr_cli.specs.Asking.{IsAnswer, IsRefusedBy, Prints, import_of, import_request, is_refusal, line_of, query_of};
+ghost use Rattle.fr_cli.specs.Queries.{report_of};
 
 use crate::failure::Failure;
 use crate::fault::Fault;
 use crate::lines_out::line_of;
+use crate::query::Query;
 use fr_base::{Actor, Answer, Ask, Body, Desk, NoMemory, Refusal, Request, Text};
-use fr_text::{write_gaps, write_schedule};
 use std::alloc::Global;
 
-/// A report of a variant.
-#[derive(Clone, Copy, PartialEq, Eq)]
-pub enum Report {
-    /// What is sent in which cycle, slot and channel.
-    Schedule,
-    /// The greatest gap of each frame.
-    Gaps,
-}
-
-impl Report {
-    // The query for it.
-    fn request(self, alloc: Global, variant: &str) -> Result<Request, NoMemory>
-        ensures { IfOk result (λ request. request ≡ request_for self variant.now) }
-    {
-        let variant = Text::copy(alloc, variant)?;
-        Ok(match self {
-            Report::Schedule => Request::Schedule { variant },
-            Report::Gaps => Request::Gaps { variant },
-        })
-    }
-
-    // The lines of its answer.
-    fn lines(self, alloc: Global, answer: &Answer) -> Result<Vec<u8>, NoMemory>
-        ensures { IfOk result (λ text. text.items ≡ report_of self answer.now) }
-    {
-        match self {
-            Report::Schedule => write_schedule(alloc, answer),
-            Report::Gaps => write_gaps(alloc, answer),
-        }
-    }
-}
-
-/// The report of a variant, as the integrator reads it.
-pub fn report_on<D: Desk>(
-    alloc: Global,
-    desk: &mut D,
-    report: Report,
-    variant: &str,
-) -> Result<Vec<u8>, Failure>
+/// The report of a variant, as who asks reads it.
+pub fn report_on<D: Desk>(alloc: Global, desk: &mut D, query: Query<'_>) -> Result<Vec<u8>, Failure>
     ensures falls { D.clean desk.new → D.clean desk.old }
-    ensures prints { Prints (IsAnswer (D.clean desk.new) (D.stands desk.old) (D.stands desk.new) (query_of report variant.now)) (report_of report) result }
+    ensures prints { Prints (IsAnswer (D.clean desk.new) (D.stands desk.old) (D.stands desk.new) (query_of query.entry)) (report_of query.entry.report) result }
 {
-    let request = report.request(alloc, variant)?;
-    let actor = Actor::Integrator;
-    let answer = desk.ask(alloc, &Ask { actor, request });
+    let request = query.request(alloc)?;
+    let answer = ask_as(alloc, desk, query.reader(), request);
     if is_refusal(&answer) {
         return Err(refused(alloc, &answer));
     }
-    Ok(report.lines(alloc, &answer)?)
+    Ok(query.report.lines(alloc, &answer)?)
 }
 
 /// What the command line says of an import.
@@ -109,7 +72,16 @@ fn ask_by<D: Desk>(alloc: Global, desk: &mut D, key: &str, request: Request) -> 
     ensures falls { D.clean desk.new → D.clean desk.old }
     ensures answers { IsAnswer (D.clean desk.new) (D.stands desk.old) (D.stands desk.new) (λ c b. asked_by (actor_of c b key.now) request) result }
 {
-    match desk.actor_of(key) {
+    let actor = desk.actor_of(key);
+    ask_as(alloc, desk, actor, request)
+}
+
+// Asks as this actor. Nobody is refused.
+fn ask_as<D: Desk>(alloc: Global, desk: &mut D, actor: Option<Actor>, request: Request) -> Answer
+    ensures falls { D.clean desk.new → D.clean desk.old }
+    ensures answers { IsAnswer (D.clean desk.new) (D.stands desk.old) (D.stands desk.new) (λ c b. asked_by actor request) result }
+{
+    match actor {
         Some(actor) => desk.ask(alloc, &Ask { actor, request }),
         None => Answer::Refused(Refusal::UnknownKey),
     }

@@ -22,9 +22,15 @@ pub fn program<'a>(alloc: Global) -> Result<Command<'a>, Error>
         .subcommand(create(alloc)?)?
         .subcommand(migrate(alloc)?)?
         .subcommand(serve(alloc)?)?
+        .subcommand(ask(alloc)?)?
+        .subcommand(report(alloc, "grants", GRANTS_ABOUT, GRANTS_HELP)?)?
+        .subcommand(report(alloc, "frames", FRAMES_ABOUT, FRAMES_HELP)?)?
         .subcommand(report(alloc, "schedule", SCHEDULE_ABOUT, SCHEDULE_HELP)?)?
         .subcommand(report(alloc, "gaps", GAPS_ABOUT, GAPS_HELP)?)?
-        .subcommand(import(alloc)?)?;
+        .subcommand(layout(alloc)?)?
+        .subcommand(import(alloc)?)?
+        .subcommand(check(alloc)?)?
+        .subcommand(explain(alloc)?)?;
     Ok(program)
 }
 
@@ -35,6 +41,7 @@ fn settings<'a>(command: Command<'a>) -> Command<'a>
     command
         .about(PROGRAM_ABOUT)
         .after_help(PROGRAM_HELP)
+        .version(VERSION)
         .no_binary_name(true)
         .subcommand_required(true)
         .arg_required_else_help(true)
@@ -119,6 +126,16 @@ fn seconds<'a>(alloc: Global) -> Arg<'a>
         .value_parser(value_parser!(u32).range(1..=3_600))
 }
 
+fn ask<'a>(alloc: Global) -> Result<Command<'a>, Error>
+    ensures { IfOk result (IsReadAs app.ask) }
+{
+    let command = Command::new(alloc, "ask")
+        .about("Answers requests on standard input, a line each, over a register file")
+        .after_help(ASK_HELP)
+        .arg(db(alloc))?;
+    Ok(command)
+}
+
 fn report<'a>(
     alloc: Global,
     name: &'a str,
@@ -131,7 +148,20 @@ fn report<'a>(
         .about(about)
         .after_help(help)
         .arg(db(alloc))?
-        .arg(variant(alloc))?;
+        .arg(variant(alloc))?
+        .arg(supplier(alloc))?;
+    Ok(command)
+}
+
+// The report of one frame.
+fn layout<'a>(alloc: Global) -> Result<Command<'a>, Error>
+    ensures { IfOk result (IsReadAs app.layout) }
+{
+    let command = report(alloc, "layout", LAYOUT_ABOUT, LAYOUT_HELP)?.arg(word(
+        alloc,
+        "FRAME",
+        "The frame's name",
+    ))?;
     Ok(command)
 }
 
@@ -155,6 +185,34 @@ fn import<'a>(alloc: Global) -> Result<Command<'a>, Error>
     Ok(command)
 }
 
+fn check<'a>(alloc: Global) -> Result<Command<'a>, Error>
+    ensures { IfOk result (IsReadAs app.check) }
+{
+    let command = Command::new(alloc, "check")
+        .about("Says what is wrong with a cluster file and where, or prints its figures")
+        .after_help(CHECK_HELP)
+        .arg(word(
+            alloc,
+            "CONFIG",
+            "The cluster file (TOML), at most 1,048,576 bytes",
+        ))?;
+    Ok(command)
+}
+
+fn explain<'a>(alloc: Global) -> Result<Command<'a>, Error>
+    ensures { IfOk result (IsReadAs app.explain) }
+{
+    let command = Command::new(alloc, "explain")
+        .about("Says what a refusal or a fault means, when it comes and what to do")
+        .after_help(EXPLAIN_HELP)
+        .arg(free_word(
+            alloc,
+            "WORD",
+            "The refusal's name or the fault's word; without it all are listed",
+        ))?;
+    Ok(command)
+}
+
 // The register file.
 fn db<'a>(alloc: Global) -> Arg<'a>
     ensures { (rule_of result ≡ app.word (codes "DB")) × (result.global ≡ false) }
@@ -169,6 +227,17 @@ fn variant<'a>(alloc: Global) -> Arg<'a>
     word(alloc, "VARIANT", "The variant's name")
 }
 
+// The supplier as which a report is read.
+fn supplier<'a>(alloc: Global) -> Arg<'a>
+    ensures { (rule_of result ≡ app.supplier) × (result.global ≡ false) }
+{
+    Arg::new(alloc, "supplier")
+        .long("supplier")
+        .value_name("NAME")
+        .help("Prints what this supplier sees; without it, what the integrator sees")
+        .action(ArgAction::Set)
+}
+
 // A word that is to stand at its place.
 fn word<'a>(alloc: Global, name: &'a str, help: &'a str) -> Arg<'a>
     ensures { (rule_of result ≡ app.word name.entry.now) × (result.global ≡ false) }
@@ -179,15 +248,31 @@ fn word<'a>(alloc: Global, name: &'a str, help: &'a str) -> Arg<'a>
         .action(ArgAction::Set)
 }
 
+// A word that may stand at its place.
+fn free_word<'a>(alloc: Global, name: &'a str, help: &'a str) -> Arg<'a>
+    ensures { (rule_of result ≡ app.free_word name.entry.now) × (result.global ≡ false) }
+{
+    Arg::new(alloc, name).help(help).action(ArgAction::Set)
+}
+
+/// The program's version, and the line of the toolchain that it is proved with.
+const VERSION: &str = "1.0\nrattle-kit-13f logic dac8208d650f15bf";
+
 const PROGRAM_ABOUT: &str = "\
 Plans the static segment of a FlexRay bus: a register in which an integrator grants
 slots, and each supplier places frames and packs signals of its own";
+
+const GRANTS_ABOUT: &str = "Prints a variant's grants: which node holds which slot and channel";
+
+const FRAMES_ABOUT: &str = "Prints a variant's frames, with their nodes and placements";
 
 const SCHEDULE_ABOUT: &str =
     "Prints a variant's schedule: what is sent in which cycle, slot and channel";
 
 const GAPS_ABOUT: &str =
     "Prints the greatest gap between two sendings of each frame of a variant, in macroticks";
+
+const LAYOUT_ABOUT: &str = "Prints a frame's layout: the signals in its payload";
 
 const PROGRAM_HELP: &str = "\
 Status 0: done. Status 1: refused, or a fault; standard error says which.
@@ -222,18 +307,60 @@ Example:
   slotplan serve car.db 8080
   curl -H 'X-Office-Key: supplier01' http://127.0.0.1:8080/v1/variants/v1/schedule";
 
-const SCHEDULE_HELP: &str = "\
-Each line: cycle, slot, channel, frame, node, supplier.
+const ASK_HELP: &str = "\
+A line is a key, a space and the request's JSON. It is answered with a line on
+standard output, once the file has what it changes. Empty lines are skipped.
 
 Example:
-  slotplan schedule car.db v1";
+  slotplan ask car.db < changes.txt";
+
+const GRANTS_HELP: &str = "\
+Each line: slot, channel, node, supplier. With --supplier the last is left out.
+
+Example:
+  slotplan grants car.db v1
+  slotplan grants car.db v1 --supplier s1";
+
+const FRAMES_HELP: &str = "\
+A line for each frame: FRAME, frame, node, supplier. With --supplier the last is left
+out. Behind it a line for each placement: AT, slot, channels, base, repetition.
+
+Example:
+  slotplan frames car.db v1
+  slotplan frames car.db v1 --supplier s1";
+
+const SCHEDULE_HELP: &str = "\
+Each line: cycle, slot, channel, frame, node, supplier. With --supplier the last is
+left out.
+
+Example:
+  slotplan schedule car.db v1
+  slotplan schedule car.db v1 --supplier s1";
 
 const GAPS_HELP: &str = "\
-Each line: GAP, macroticks or never, frame, supplier.
+Each line: GAP, macroticks or never, frame, supplier. With --supplier the last is left
+out.
 
 Example:
-  slotplan gaps car.db v1";
+  slotplan gaps car.db v1
+  slotplan gaps car.db v1 --supplier s1";
+
+const LAYOUT_HELP: &str = "\
+Each line: first bit, length, little or big, signal, supplier. With --supplier the
+last is left out; without it the frames of this name of all suppliers are shown.
+
+Example:
+  slotplan layout car.db v1 f1
+  slotplan layout car.db v1 f1 --supplier s1";
 
 const IMPORT_HELP: &str = "\
 Example:
   slotplan import car.db supplier01 v1 week47 placements.csv";
+
+const CHECK_HELP: &str = "\
+Example:
+  slotplan check cluster.toml";
+
+const EXPLAIN_HELP: &str = "\
+Example:
+  slotplan explain CellTaken";

@@ -1,20 +1,57 @@
 //! Makes a register file.
-ghost use Rattle.std.specs.Prelude.{IfErr};
+ghost use Rattle.std.specs.Prelude.{◌≡◌, ℕ, List, IfErr, IfOk, Ok, OnOk};
+ghost use Rattle.fr_text.specs.ClusterFile.{config_of};
 ghost use Rattle.fr_cli.specs.Faults.{IsNotMade};
+ghost use Rattle.fr_cli.specs.RegisterFiles.{IsLeftNew, IsMade};
 
 use crate::fault::Fault;
 use crate::files::read_file;
-use fr_desks::FileDesk;
+use fr_base::Config;
+use fr_desks::{Left, file_desk};
 use fr_text::read_config;
+use sqlite::{Leftover, Start};
 
 /// The most bytes that a cluster file may have.
 pub const CONFIG_BYTES: usize = 1_048_576;
 
-/// Makes the register of the cluster file at `config` in the file at `db`.
-pub fn create(rt: &HostRuntime, db: &str, config: &str) -> Result<(), Fault>
-    ensures { IfErr result IsNotMade }
+/// Makes the register of the cluster file at `config` in the file at `db`, and gives what is left of that.
+/// `start` says what is supposed of it.
+pub fn create<S: Start>(
+    rt: &HostRuntime,
+    db: &str,
+    config: &str,
+    start: S,
+) -> (Result<(), Fault>, Left<S>)
+    ensures fault { IfErr result.0 IsNotMade }
+    ensures made { IsMade result.1 result.0 }
 {
-    let text = read_file(rt, config, CONFIG_BYTES)?;
-    let config = read_config(rt.alloc(), &text)?;
-    Ok(FileDesk::create(rt, db, &config)?)
+    match read_cluster(rt, config) {
+        Ok(config) => make(rt, db, &config, start),
+        Err(fault) => (Err(fault), None),
+    }
+}
+
+// Makes the register of this cluster in the file at `db`.
+fn make<S: Start>(
+    rt: &HostRuntime,
+    db: &str,
+    config: &Config,
+    start: S,
+) -> (Result<(), Fault>, Left<S>)
+    ensures fault { IfErr result.0 IsNotMade }
+    ensures made { OnOk result.0 (IsLeftNew result.1 config.now) }
+{
+    match file_desk::create(rt, db, config, start) {
+        Ok(files) => (Ok(()), Some(Leftover::Files(files))),
+        Err((fault, left)) => (Err(Fault::Register(fault)), left),
+    }
+}
+
+// What the cluster file at a path says.
+fn read_cluster(rt: &HostRuntime, path: &str) -> Result<Config, Fault>
+    ensures read { IfOk result (λ config. (text : List ℕ) × (config_of text ≡ Ok config)) }
+    ensures fault { IfErr result IsNotMade }
+{
+    let text = read_file(rt, path, CONFIG_BYTES)?;
+    Ok(read_config(rt.alloc(), &text)?)
 }

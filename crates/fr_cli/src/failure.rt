@@ -4,10 +4,10 @@ ghost use Rattle.std.specs.Prelude.{◌≡◌};
 use crate::fault::Fault;
 use fr_base::NoMemory;
 
-/// Why a job is not done: the register refused it, or a fault ended it.
+/// Why a job is not done: it was refused, or a fault ended it.
 #[derive(Debug, Drop)]
 pub enum Failure {
-    /// It was refused; this is the line of the refused answer.
+    /// It was refused; these are the lines that say so, with their ends.
     Refused { line: Vec<u8> },
     /// A fault ended it.
     Fault(Fault),

@@ -16,8 +16,8 @@ pub const SCRIPT_BYTES: usize = 16_777_216;
 /// The most reads in which a script is read, interrupted ones and the one that meets its end included.
 pub const SCRIPT_READS: u32 = 20_000_000;
 
-/// How many bytes one read asks for.
-const PIECE_BYTES: usize = 8192;
+//// How many bytes one read asks for.
+pub const PIECE_BYTES: usize = 8192;
 
 /// How much of an input is read.
 #[derive(Clone, Copy, PartialEq, Eq)]
@@ -109,8 +109,8 @@ pub fn read_within<R: Read>(
     Err(InputFault::TooManyReads)
 }
 
-// Whether a read that failed so is tried again: it is, where it was interrupted.
-fn try_again(error: &Error) -> Result<(), InputFault>
+/// Whether a read that failed so is tried again: it is, where it was interrupted.
+pub fn try_again(error: &Error) -> Result<(), InputFault>
     ensures ok { IsOk result ↔ (error_kind error.now ≡ ErrorKind.Interrupted) }
     ensures fault { IfErr result (λ fault. fault ≡ InputFault.ReadFailed) }
 {

@@ -1,5 +1,5 @@
-//! Laws of a script's answers.
-ghost use Rattle.fr_cli.specs.Laws.{AnsweredLinesAreARun, AvailableAnswersAreSteps};
+//! Laws of a script's answers, and of the words of faults.
+ghost use Rattle.fr_cli.specs.Laws.{AnsweredLinesAreARun, AvailableAnswersAreSteps, EachFaultIsExplained};
 
 /// What answered lines ask, each as the book then stood, is a run of the register with their answers.
 pub fn answered_lines_are_a_run()
@@ -9,4 +9,9 @@ pub fn answered_lines_are_a_run()
 /// Lines of which none is answered `Unavailable` are answered by the register's steps, one after another.
 pub fn available_answers_are_steps()
     ensures { AvailableAnswersAreSteps }
+{}
+
+/// Each word of a fault that ends a job or a connection is explained.
+pub fn each_fault_is_explained()
+    ensures { EachFaultIsExplained }
 {}

@@ -1,24 +1,31 @@
 //! What the program `slotplan` does: the jobs that the words of a command line ask for, and what is printed of each.
 #![tactic(auto)]
 
+mod answering;
 mod asking;
+mod checking;
 mod commands;
 mod creating;
+mod explaining;
 mod failure;
 mod fault;
 mod files;
+mod incoming;
 mod input;
 mod laws;
 mod lines;
 mod lines_out;
 pub mod perform;
 mod printing;
+mod query;
 mod script;
 mod script_fault;
 mod serving;
 mod timed_stream;
 mod words;
 
+pub use incoming::answer_input;
+pub use query::{Query, Report};
 pub use script::run_script;
 pub use script_fault::ScriptFault;
 pub use serving::serve_stream;

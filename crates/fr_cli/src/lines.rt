@@ -99,7 +99,7 @@ pub fn key_and_text(line: &[u8]) -> Option<(&[u8], &[u8])>
 }
 
 /// What stands before the first such byte, and what stands after it. `None` where there is none.
-fn split_once(bytes: &[u8], byte: u8) -> Option<(&[u8], &[u8])>
+pub fn split_once(bytes: &[u8], byte: u8) -> Option<(&[u8], &[u8])>
     ensures { option_map (λ x. (x.0.now, x.1.now)) result ≡ parts_around byte bytes.now }
 {
     let at = index_of(bytes, byte)?;

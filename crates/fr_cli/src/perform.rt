@@ -1,29 +1,41 @@
 //! Does a job, and says how it ended.
-ghost use Rattle.std.specs.Prelude.{◌≡◌, ◌⊎◌, Result, IfErr, ⊤, List, ℕ};
+ghost use Rattle.std.specs.Prelude.{◌≡◌, ◌⊎◌, Option, Result, IfErr, ⊤, List, ℕ};
 ghost use Rattle.std.specs.Borrow.{Bor};
 ghost use Rattle.std.specs.Global.{Vec};
 ghost use Rattle.std.specs.Io.KnownBytes.{Appends, Keeps};
-ghost use Rattle.fr_cli.specs.Asking.{line_of, report_of};
+ghost use Rattle.sqlite_wal.specs.Files.{image_at};
+ghost use Rattle.fr_cli.specs.Asking.{import_of, line_of, query_of};
+ghost use Rattle.fr_cli.specs.Checking.{IsCheckedFile};
 ghost use Rattle.fr_cli.specs.Endings.{AppendsFront, IsPrinted, IsTold, Tells, status_of};
+ghost use Rattle.fr_cli.specs.Explaining.{IsExplained};
 ghost use Rattle.fr_cli.specs.Faults.{IsNotImported, IsNotMade, IsNotMigrated, IsNotReported};
+ghost use Rattle.fr_cli.specs.Incoming.{IsAsked};
 ghost use Rattle.fr_cli.specs.Performing.{Says, listening, of_script};
+ghost use Rattle.fr_cli.specs.Queries.{report_of};
+ghost use Rattle.fr_cli.specs.RegisterFiles.{IsAnswerOfFile, IsMade, IsMoved};
 ghost use Rattle.fr_cli.specs.Runs.{IsRunOf};
-ghost use Rattle.fr_cli.specs.declared.asking.Report.TheVariants as report;
 ghost use Rattle.fr_cli.specs.declared.failure.Failure.{Failure as Ended};
 ghost use Rattle.fr_cli.specs.declared.fault.Fault.{Fault as Word};
-ghost use Rattle.fr_cli.specs.declared.script_fault.ScriptFault.{ScriptFault};
+ghost use Rattle.fr_cli.specs.declared.query.Query.{Query};
+ghost use Rattle.fr_cli.specs.declared.script_fault.ScriptFault.{ScriptFault as Early};
 
-use crate::asking::{ImportWords, Report, import, report_on};
+use crate::asking::{ImportWords, import, report_on};
+use crate::checking::check;
 use crate::creating::create;
+use crate::explaining::explain_word;
 use crate::failure::Failure;
 use crate::fault::Fault;
 use crate::files::read_front;
+use crate::incoming::answer_input;
 use crate::printing::{end, print, print_all, tell};
+use crate::query::Query;
 use crate::script::run_script;
+use crate::script_fault::ScriptFault;
 use crate::serving::{Service, serve};
 use crate::words::{Job, WordFault};
-use fr_desks::FileDesk;
+use fr_desks::{Left, file_desk};
 use fr_http::Output;
+use sqlite::Start;
 use std::alloc::Global;
 use std::io::{Read, Write};
 
@@ -31,36 +43,50 @@ use std::io::{Read, Write};
 pub const IMPORT_BYTES: usize = 65_537;
 
 /// Does the job, and gives the status that the process ends with: 0 where it was done, 1 where the
-/// register refused it or a fault ended it. What cannot be written to `err` is lost.
-pub fn perform<R: Read, O: Write, E: Write>(
+/// register refused it or a fault ended it. What cannot be written to `err` is lost. Beside the status it gives what is
+/// left of the job's register file, closed. `start` says what is supposed of that file.
+pub fn perform<S: Start, R: Read, O: Write, E: Write>(
     rt: &HostRuntime,
     job: &Job<'_>,
+    start: S,
     input: &mut R,
     out: &mut O,
     err: &mut E,
-) -> u8
-    ensures run { job.now ≡ Job.Run → (done : Result ⊤ ScriptFault) × (result ≡ status_of (of_script done))
+) -> (u8, Left<S>)
+    ensures run { job.now ≡ Job.Run → (done : Result ⊤ Early) × (result.0 ≡ status_of (of_script done))
         × Tells (E.contents err.old) (E.contents err.new) (of_script done)
         × IsRunOf (R.remaining input.old) (R.remaining input.new) (O.contents out.old) (O.contents out.new) done }
-    ensures create { (db config : Bor (List ℕ)) → job.now ≡ Job.Create db config → (done : Result ⊤ Word) × (result ≡ status_of done)
-        × IfErr done IsNotMade
+    ensures create { (db config : Bor (List ℕ)) → job.now ≡ Job.Create db config → (done : Result ⊤ Word) × (result.0 ≡ status_of done)
+        × IfErr done IsNotMade × IsMade result.1 done
         × Keeps (O.contents out.old) (O.contents out.new) × Tells (E.contents err.old) (E.contents err.new) done }
-    ensures migrate { (db : Bor (List ℕ)) → job.now ≡ Job.Migrate db → (done : Result ⊤ Word) × (result ≡ status_of done)
-        × IfErr done IsNotMigrated
+    ensures migrate { (db : Bor (List ℕ)) → job.now ≡ Job.Migrate db → (done : Result ⊤ Word) × (result.0 ≡ status_of done)
+        × IfErr done IsNotMigrated × IsMoved (image_at S.Start) result.1 done
         × Keeps (O.contents out.old) (O.contents out.new) × Tells (E.contents err.old) (E.contents err.new) done }
-    ensures schedule { (db variant : Bor (List ℕ)) → job.now ≡ Job.Schedule db variant → (done : Result (Vec ℕ) Ended) × Says IsNotReported (report_of report.Schedule) done
-        × IsTold done (O.contents out.old) (O.contents out.new) (E.contents err.old) (E.contents err.new) result }
-    ensures gaps { (db variant : Bor (List ℕ)) → job.now ≡ Job.Gaps db variant → (done : Result (Vec ℕ) Ended) × Says IsNotReported (report_of report.Gaps) done
-        × IsTold done (O.contents out.old) (O.contents out.new) (E.contents err.old) (E.contents err.new) result }
-    ensures import { (db key variant label file : Bor (List ℕ)) → job.now ≡ Job.Import db key variant label file → (done : Result (Vec ℕ) Ended) × Says IsNotImported line_of done
-        × IsTold done (O.contents out.old) (O.contents out.new) (E.contents err.old) (E.contents err.new) result }
+    ensures ask { (db : Bor (List ℕ)) → job.now ≡ Job.Ask db → (done : Result ⊤ Word) × (result.0 ≡ status_of done)
+        × Tells (E.contents err.old) (E.contents err.new) done
+        × IsAsked (image_at S.Start) result.1 (R.remaining input.old) (R.remaining input.new) (O.contents out.old) (O.contents out.new) done }
+    ensures report { (db : Bor (List ℕ)) (query : Query) → job.now ≡ Job.Report db query → (done : Result (Vec ℕ) Ended) × Says IsNotReported (IsAnswerOfFile (image_at S.Start) result.1 (query_of query)) (report_of query.report) done
+        × IsTold done (O.contents out.old) (O.contents out.new) (E.contents err.old) (E.contents err.new) result.0 }
+    ensures import { (db key variant label file : Bor (List ℕ)) → job.now ≡ Job.Import db key variant label file → (body : List ℕ) × (done : Result (Vec ℕ) Ended)
+        × Says IsNotImported (IsAnswerOfFile (image_at S.Start) result.1 (import_of (record { key = key; variant = variant; label = label }) body)) line_of done
+        × IsTold done (O.contents out.old) (O.contents out.new) (E.contents err.old) (E.contents err.new) result.0 }
+    ensures check { (config : Bor (List ℕ)) → job.now ≡ Job.Check config → (done : Result (Vec ℕ) Ended) × IsCheckedFile done
+        × IsTold done (O.contents out.old) (O.contents out.new) (E.contents err.old) (E.contents err.new) result.0 }
+    ensures explain { (word : Option (Bor (List ℕ))) → job.now ≡ Job.Explain word → (done : Result (Vec ℕ) Ended) × IsExplained word done
+        × IsTold done (O.contents out.old) (O.contents out.new) (E.contents err.old) (E.contents err.new) result.0 }
     ensures serve { (db : Bor (List ℕ)) (port count seconds : ℕ) → job.now ≡ Job.Serve db port count seconds → AppendsFront (O.contents out.old) (O.contents out.new) (listening port) }
 {
     let mut err = Output::new(err);
     match *job {
-        Job::Run => end_script(rt.alloc(), input, out, &mut err),
-        Job::Create { db, config } => end(create(rt, db, config), &mut err),
-        Job::Migrate { db } => end(migrate_file(rt, db), &mut err),
+        Job::Run => (end_script(rt.alloc(), input, out, &mut err), None),
+        Job::Create { db, config } => {
+            let (done, left) = create(rt, db, config, start);
+            (end(done, &mut err), left)
+        }
+        Job::Migrate { db } => {
+            let (done, left) = migrate_file(rt, db, start);
+            (end(done, &mut err), left)
+        }
         Job::Serve {
             db,
             port,
@@ -72,20 +98,17 @@ pub fn perform<R: Read, O: Write, E: Write>(
                 count,
                 seconds,
             };
-            end(serve(rt, db, service, out, &mut err), &mut err)
+            let (done, left) = serve(rt, db, start, service, out, &mut err);
+            (end(done, &mut err), left)
         }
-        Job::Schedule { db, variant } => {
-            tell(
-                report_file(rt, db, Report::Schedule, variant),
-                out,
-                &mut err,
-            )
+        Job::Ask { db } => {
+            let (done, left) = ask_file(rt, db, start, input, out);
+            (end(done, &mut err), left)
         }
-        Job::Gaps { db, variant } => tell(
-            report_file(rt, db, Report::Gaps, variant),
-            out,
-            &mut err,
-        ),
+        Job::Report { db, query } => {
+            let (done, left) = report_file(rt, db, start, query);
+            (tell(done, out, &mut err), left)
+        }
         Job::Import {
             db,
             key,
@@ -98,12 +121,15 @@ pub fn perform<R: Read, O: Write, E: Write>(
                 variant,
                 label,
             };
-            tell(import_file(rt, db, words, file), out, &mut err)
+            let (done, left) = import_file(rt, db, start, words, file);
+            (tell(done, out, &mut err), left)
         }
+        Job::Check { config } => (tell(check(rt, config), out, &mut err), None),
+        Job::Explain { word } => (tell(explain_word(rt.alloc(), word), out, &mut err), None),
     }
 }
 
-/// Says why words name no job, and gives the status: 0 where help was asked for, 1 where there was no
+/// Says why words name no job, and gives the status: 0 where help or the version was asked for, 1 where there was no
 /// memory, 2 where the program was called otherwise.
 pub fn explain<O: Write, E: Write>(fault: &WordFault, out: &mut O, err: &mut E) -> u8
     ensures help { (text : _) → fault.now ≡ WordFault.Help text
@@ -129,60 +155,103 @@ fn end_script<R: Read, O: Write, E: Write>(
     out: &mut O,
     err: &mut Output<'_, E>,
 ) -> u8
-    ensures run { (done : Result ⊤ ScriptFault) × (result ≡ status_of (of_script done))
+    ensures run { (done : Result ⊤ Early) × (result ≡ status_of (of_script done))
         × Tells (E.contents err.old.writer.now) (E.contents err.new.writer.now) (of_script done)
         × IsRunOf (R.remaining input.old) (R.remaining input.new) (O.contents out.old) (O.contents out.new) done }
     ensures same { err.new.writer.ghost_name ≡ err.old.writer.ghost_name }
 {
-    match run_script(alloc, input, out) {
-        Ok(()) => end(Ok(()), err),
-        Err(fault) => end(Err(Fault::Script(fault)), err),
+    end(of_script(run_script(alloc, input, out)), err)
+}
+
+// Answers the requests on standard input over the register in a file.
+fn ask_file<S: Start, R: Read, O: Write>(
+    rt: &HostRuntime,
+    db: &str,
+    start: S,
+    input: &mut R,
+    out: &mut O,
+) -> (Result<(), Fault>, Left<S>)
+    ensures { IsAsked (image_at S.Start) result.1 (R.remaining input.old) (R.remaining input.new) (O.contents out.old) (O.contents out.new) result.0 }
+{
+    match file_desk::open(rt, db, start) {
+        Ok(mut desk) => {
+            let asked = answer_input(rt.alloc(), &mut desk, input, out);
+            (of_script(asked), Some(file_desk::close(desk)))
+        }
+        Err((fault, left)) => (Err(Fault::Register(fault)), left),
+    }
+}
+
+// How the run of a script's lines ends, as a job.
+fn of_script(done: Result<(), ScriptFault>) -> Result<(), Fault>
+    ensures { result ≡ of_script done }
+{
+    match done {
+        Ok(()) => Ok(()),
+        Err(fault) => Err(Fault::Script(fault)),
     }
 }
 
 // Migrates the register in a file.
-fn migrate_file(rt: &HostRuntime, db: &str) -> Result<(), Fault>
-    ensures { IfErr result IsNotMigrated }
+fn migrate_file<S: Start>(rt: &HostRuntime, db: &str, start: S) -> (Result<(), Fault>, Left<S>)
+    ensures fault { IfErr result.0 IsNotMigrated }
+    ensures moved { IsMoved (image_at S.Start) result.1 result.0 }
 {
-    Ok(FileDesk::migrate(rt, db)?)
+    match file_desk::migrate(rt, db, start) {
+        Ok(left) => (Ok(()), Some(left)),
+        Err((fault, left)) => (Err(Fault::Register(fault)), left),
+    }
 }
 
 // The report of a variant of the register in a file.
-#[tactic(auto, using(crate::proofs::AskingLaws::prints_says))]
-fn report_file(
+fn report_file<S: Start>(
     rt: &HostRuntime,
     db: &str,
-    report: Report,
-    variant: &str,
-) -> Result<Vec<u8>, Failure>
-    ensures { Says IsNotReported (report_of report) result }
+    start: S,
+    query: Query<'_>,
+) -> (Result<Vec<u8>, Failure>, Left<S>)
+    ensures { Says IsNotReported (IsAnswerOfFile (image_at S.Start) result.1 (query_of query.entry)) (report_of query.entry.report) result.0 }
 {
-    match FileDesk::open(rt, db) {
-        Ok(mut desk) => report_on(rt.alloc(), &mut desk, report, variant),
-        Err(fault) => Err(Failure::Fault(Fault::Register(fault))),
+    match file_desk::open(rt, db, start) {
+        Ok(mut desk) => {
+            let done = report_on(rt.alloc(), &mut desk, query);
+            (done, Some(file_desk::close(desk)))
+        }
+        Err((fault, left)) => (Err(Failure::Fault(Fault::Register(fault))), left),
     }
 }
 
 // Carries out the import of a file into the register in another.
-#[tactic(auto, using(crate::proofs::AskingLaws::prints_says))]
-fn import_file(
+fn import_file<S: Start>(
     rt: &HostRuntime,
     db: &str,
+    start: S,
     words: ImportWords<'_>,
     file: &str,
-) -> Result<Vec<u8>, Failure>
-    ensures { Says IsNotImported line_of result }
+) -> (Result<Vec<u8>, Failure>, Left<S>)
+    ensures { (body : List ℕ) × Says IsNotImported (IsAnswerOfFile (image_at S.Start) result.1 (import_of words.entry body)) line_of result.0 }
 {
-    let body = match read_front(rt, file, IMPORT_BYTES) {
-        Ok(body) => body,
-        Err(fault) => return Err(Failure::Fault(fault)),
-    };
-    match FileDesk::open(rt, db) {
+    match read_front(rt, file, IMPORT_BYTES) {
+        Ok(body) => import_body(rt, db, start, words, &body),
+        Err(fault) => (Err(Failure::Fault(fault)), None),
+    }
+}
+
+// Carries out the import of a file with these bytes.
+fn import_body<S: Start>(
+    rt: &HostRuntime,
+    db: &str,
+    start: S,
+    words: ImportWords<'_>,
+    body: &[u8],
+) -> (Result<Vec<u8>, Failure>, Left<S>)
+    ensures { Says IsNotImported (IsAnswerOfFile (image_at S.Start) result.1 (import_of words.entry body.now)) line_of result.0 }
+{
+    match file_desk::open(rt, db, start) {
         Ok(mut desk) => {
-            let done = import(rt.alloc(), &mut desk, words, &body);
-            desk.close();
-            done
+            let done = import(rt.alloc(), &mut desk, words, body);
+            (done, Some(file_desk::close(desk)))
         }
-        Err(fault) => Err(Failure::Fault(Fault::Register(fault))),
+        Err((fault, left)) => (Err(Failure::Fault(Fault::Register(fault))), left),
     }
 }

@@ -7,8 +7,9 @@ use crate::fault::{Fault, link_word};
 use crate::printing::{print, print_word};
 use crate::timed_stream::TimedStream;
 use fr_base::Desk;
-use fr_desks::FileDesk;
+use fr_desks::{Left, file_desk};
 use fr_http::{LinkFault, Output, Served, serve_one};
+use sqlite::Start;
 use std::alloc::Global;
 use std::io::{self, Read, Write};
 use std::net::{Ipv4Addr, Shutdown, TcpListener, TcpStream};
@@ -34,10 +35,32 @@ const REST_READS: u32 = 256;
 const REST_SECONDS: u64 = 1;
 
 /// Serves the register in the file at `db`, one connection after another, and ends after so many
-/// connections as the service has. A connection's fault is printed, and the next one is served.
-pub fn serve<O: Write, E: Write>(
+/// connections as the service has. A connection's fault is printed, and the next one is served. It gives what is left of the
+/// file, closed. `start` says what is supposed of it.
+pub fn serve<S: Start, O: Write, E: Write>(
     rt: &HostRuntime,
     db: &str,
+    start: S,
+    service: Service,
+    out: &mut O,
+    err: &mut Output<'_, E>,
+) -> (Result<(), Fault>, Left<S>)
+    ensures front { AppendsFront (O.contents out.old) (O.contents out.new) (listening service.port) }
+    ensures same { err.new.writer.ghost_name ≡ err.old.writer.ghost_name }
+{
+    match file_desk::open(rt, db, start) {
+        Ok(mut desk) => {
+            let done = serve_desk(rt, &mut desk, service, out, err);
+            (done, Some(file_desk::close(desk)))
+        }
+        Err((fault, left)) => (Err(Fault::Register(fault)), left),
+    }
+}
+
+// Listens, and serves as many connections as the service has.
+fn serve_desk<D: Desk, O: Write, E: Write>(
+    rt: &HostRuntime,
+    desk: &mut D,
     service: Service,
     out: &mut O,
     err: &mut Output<'_, E>,
@@ -45,14 +68,11 @@ pub fn serve<O: Write, E: Write>(
     ensures front { AppendsFront (O.contents out.old) (O.contents out.new) (listening service.port) }
     ensures same { err.new.writer.ghost_name ≡ err.old.writer.ghost_name }
 {
-    let mut desk = FileDesk::open(rt, db)?;
     let listener = TcpListener::bind(rt, (Ipv4Addr::LOCALHOST, service.port)).map_err(
         |_| Fault::CannotListen,
     )?;
     announce(rt.alloc(), service.port, out)?;
-    let done = answer_all(rt, &listener, &service, &mut desk, err);
-    desk.close();
-    done
+    answer_all(rt, &listener, &service, desk, err)
 }
 
 // Prints where it listens.

@@ -2,9 +2,10 @@
 ghost use Rattle.std.specs.Prelude.{◌≡◌, ◌≤◌, codes, map, string_bytes, IfOk, IfSome, List, Some};
 ghost use Rattle.clap.specs.Walk.{Row, Text, rows_of};
 ghost use Rattle.clap.specs.Words.{found_of, subcommand_rows_of};
-ghost use Rattle.fr_cli.specs.Words.{AskFor, Has, IsJobOf};
+ghost use Rattle.fr_cli.specs.Words.{AskFor, Has, HasFrame, IsJobOf, name_of};
 
 use crate::commands::{MAX_CONNECTIONS, MAX_SECONDS, program};
+use crate::query::{Query, Report};
 use clap::error::ErrorKind;
 use clap::{ArgMatches, Error};
 use std::alloc::Global;
@@ -31,15 +32,14 @@ pub enum Job<'a> {
         count: u32,
         seconds: u32,
     },
-    /// Print a variant's schedule.
-    Schedule {
+    /// Answer the requests on standard input over a register file.
+    Ask {
         db: &'a str,
-        variant: &'a str,
     },
-    /// Print the greatest gaps of a variant's frames.
-    Gaps {
+    /// Print a report of a variant.
+    Report {
         db: &'a str,
-        variant: &'a str,
+        query: Query<'a>,
     },
     /// Carry out the import of a file by who has the key.
     Import {
@@ -49,12 +49,20 @@ pub enum Job<'a> {
         label: &'a str,
         file: &'a str,
     },
+    /// Say what is wrong with a cluster file, and where; or its figures.
+    Check {
+        config: &'a str,
+    },
+    /// Say what a refusal's name or a fault's word means, or list all of them.
+    Explain {
+        word: Option<&'a str>,
+    },
 }
 
 /// Why words name no job.
 #[derive(Debug, Drop)]
 pub enum WordFault {
-    /// They ask for help, which is this text.
+    /// They ask for help or for the version, which is this text.
     Help { text: String },
     /// They are not as the program is called: this text says how it is.
     Usage { text: String },
@@ -100,9 +108,15 @@ fn named_job<'a>(name: &str, found: &ArgMatches<'a>) -> Option<Job<'a>>
         "create" => create_job(found),
         "migrate" => migrate_job(found),
         "serve" => serve_job(found),
-        "schedule" => schedule_job(found),
-        "gaps" => gaps_job(found),
+        "ask" => ask_job(found),
+        "grants" => report_job(found, Report::Grants),
+        "frames" => report_job(found, Report::Frames),
+        "schedule" => report_job(found, Report::Schedule),
+        "gaps" => report_job(found, Report::Gaps),
+        "layout" => layout_job(found),
         "import" => import_job(found),
+        "check" => check_job(found),
+        "explain" => Some(explain_job(found)),
         _ => None,
     }
 }
@@ -143,22 +157,31 @@ fn serve_job<'a>(found: &ArgMatches<'a>) -> Option<Job<'a>>
     })
 }
 
-fn schedule_job<'a>(found: &ArgMatches<'a>) -> Option<Job<'a>>
-    ensures { IfSome result (λ job. IsJobOf job (codes "schedule") (rows_of (found_of found.now))) }
+fn ask_job<'a>(found: &ArgMatches<'a>) -> Option<Job<'a>>
+    ensures { IfSome result (λ job. IsJobOf job (codes "ask") (rows_of (found_of found.now))) }
 {
-    Some(Job::Schedule {
+    Some(Job::Ask {
         db: word(found, "DB")?,
-        variant: word(found, "VARIANT")?,
     })
 }
 
-fn gaps_job<'a>(found: &ArgMatches<'a>) -> Option<Job<'a>>
-    ensures { IfSome result (λ job. IsJobOf job (codes "gaps") (rows_of (found_of found.now))) }
+fn report_job<'a>(found: &ArgMatches<'a>, report: Report<'a>) -> Option<Job<'a>>
+    ensures { IfSome result (λ job. HasFrame report.entry (rows_of (found_of found.now)) → IsJobOf job (name_of report.entry) (rows_of (found_of found.now))) }
 {
-    Some(Job::Gaps {
-        db: word(found, "DB")?,
+    let db = word(found, "DB")?;
+    let query = Query {
         variant: word(found, "VARIANT")?,
-    })
+        report,
+        supplier: found.get_str("supplier"),
+    };
+    Some(Job::Report { db, query })
+}
+
+fn layout_job<'a>(found: &ArgMatches<'a>) -> Option<Job<'a>>
+    ensures { IfSome result (λ job. IsJobOf job (codes "layout") (rows_of (found_of found.now))) }
+{
+    let frame = word(found, "FRAME")?;
+    report_job(found, Report::Layout { frame })
 }
 
 fn import_job<'a>(found: &ArgMatches<'a>) -> Option<Job<'a>>
@@ -173,6 +196,22 @@ fn import_job<'a>(found: &ArgMatches<'a>) -> Option<Job<'a>>
     })
 }
 
+fn check_job<'a>(found: &ArgMatches<'a>) -> Option<Job<'a>>
+    ensures { IfSome result (λ job. IsJobOf job (codes "check") (rows_of (found_of found.now))) }
+{
+    Some(Job::Check {
+        config: word(found, "CONFIG")?,
+    })
+}
+
+fn explain_job<'a>(found: &ArgMatches<'a>) -> Job<'a>
+    ensures { IsJobOf result (codes "explain") (rows_of (found_of found.now)) }
+{
+    Job::Explain {
+        word: found.get_str("WORD"),
+    }
+}
+
 // The word at this place.
 fn word<'a>(found: &ArgMatches<'a>, name: &str) -> Option<&'a str>
     ensures { IfSome result (λ text. Has name.now (rows_of (found_of found.now)) text.now) }
@@ -184,7 +223,7 @@ fn word<'a>(found: &ArgMatches<'a>, name: &str) -> Option<&'a str>
 fn fault_of(alloc: Global, error: &Error) -> WordFault {
     match (error.kind(), error.to_string(alloc)) {
         (ErrorKind::OutOfMemory, _) | (_, Err(_)) => WordFault::NoMemory,
-        (ErrorKind::DisplayHelp, Ok(text)) => WordFault::Help { text },
+        (ErrorKind::DisplayHelp | ErrorKind::DisplayVersion, Ok(text)) => WordFault::Help { text },
         (_, Ok(text)) => WordFault::Usage { text },
     }
 }

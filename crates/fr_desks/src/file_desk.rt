@@ -1,88 +1,147 @@
 //! The desk of a register in a file.
-ghost use Rattle.std.specs.Prelude.{◌≡◌, ◌≢◌, ◌⊎◌, IfErr};
-ghost use Rattle.fr_store.specs.declared.fault.StoreFault.TheVariants.{NotEmpty, Unavailable};
+ghost use Rattle.std.specs.Prelude.{◌≡◌, ◌≢◌, ◌⊎◌, IfErr, IfOk, IfSome, None};
+ghost use Rattle.fr_base.specs.Book.{Book, opening};
+ghost use Rattle.fr_base.specs.Cluster.{Cluster};
+ghost use Rattle.fr_desks.specs.FileDesk.{FindsHeld, IsLeftWith, LeavesBook};
+ghost use Rattle.fr_store.specs.Before.{HoldsBookBefore};
+ghost use Rattle.fr_store.specs.Opening.{Explains, Refuses};
+ghost use Rattle.fr_store.specs.Store.{MayForbid};
+ghost use Rattle.fr_store.specs.StoreFiles.{HoldsBook, IsHeld, image_left};
+ghost use Rattle.fr_store.specs.declared.fault.StoreFault.TheVariants.{NotARegister, NotEmpty, Unavailable, WrongSchema};
+ghost use Rattle.fr_tables.specs.Asking.{old_schema_number};
+ghost use Rattle.sqlite.specs.Effect.{IsDatabase};
+ghost use Rattle.sqlite.specs.Files.{HoldsDatabase, IsCleanLeft};
+ghost use Rattle.sqlite_wal.specs.Files.{image_at};
+ghost use Rattle.sqlite_wal.specs.Reads.{AreClean};
 
-use fr_base::{Actor, Answer, Ask, Config, Desk};
+use fr_base::{Config, Desk};
 use fr_office::Office;
 use fr_store::{Store, StoreFault, migrate_at};
-use sqlite::{FileFrom, FileStore, Unknown};
-use std::alloc::Global;
+use sqlite::{FileFrom, FileStore, Files, Leftover, Start};
+use sqlite_disk::Disk;
 use std::fs;
 
-/// The desk of a register in a file, of which nothing is supposed.
-pub struct FileDesk {
-    office: Office<Store<FileStore<FileFrom<Unknown>>>>,
-}
+/// The desk of the register in a file. `S` says what is supposed of the file and its log as they were opened.
+pub type FileDesk<S> = Office<Store<FileStore<FileFrom<S>>>>;
 
-// It is written out, so that a caller does not prove again how the files are dropped.
-impl Drop for FileDesk {
-    fn drop(self) {
-        let FileDesk { office: _ } = self;
+/// What is left of the file and its log: nothing where they were not opened, or were given up.
+pub type Left<S> = Option<Leftover<FileFrom<S>>>;
+
+/// Why there is no register to be had in a file, and what is left of it.
+pub type FileFault<S> = (StoreFault, Left<S>);
+
+/// Makes the register of this cluster in the file at a path, which has none, and closes it: the files that are
+/// left hold the book of a new register. `start` says what is supposed of the file.
+pub fn create<S: Start>(
+    rt: &HostRuntime,
+    path: &str,
+    config: &Config,
+    start: S,
+) -> Result<Files<FileFrom<S>>, FileFault<S>>
+    ensures book { IfOk result (λ files. LeavesBook ⟦<FileFrom<S> as Disk>⟧ files config.now.cluster (opening config.now)) }
+    ensures told { IfErr result (λ e. IfSome e.1 (λ left. IsCleanLeft left → (d : _) → IsDatabase d → HoldsDatabase (image_at S.Start) d.trees → MayForbid d.schema e.0)) }
+    ensures untouched { IfErr result (λ e. e.0 ≡ NotEmpty → IfSome e.1 (λ left. IsCleanLeft left → (d : _) → IsDatabase d → HoldsDatabase (image_at S.Start) d.trees → IsHeld (image_left left) d)) }
+    ensures fault { IfErr result (λ e. (e.0 ≡ NotEmpty) ⊎ (e.0 ≡ Unavailable)) }
+    ensures lost { IfErr result (λ e. e.1 ≡ None → e.0 ≡ Unavailable) }
+{
+    let desk = new_desk(rt, path, config, start)?;
+    match closed(desk) {
+        Ok(files) => Ok(files),
+        Err(left) => Err((StoreFault::Unavailable, Some(left))),
     }
 }
 
-impl Desk for FileDesk {
-    ghost stands = { λ it. ⟦<Office<Store<FileStore<FileFrom<Unknown>>>> as Desk>⟧.stands it.office };
-
-    ghost clean = { λ it. ⟦<Office<Store<FileStore<FileFrom<Unknown>>>> as Desk>⟧.clean it.office };
-
-    fn actor_of(&self, key: &str) -> Option<Actor> {
-        self.office.actor_of(key)
-    }
-
-    fn ask(&mut self, alloc: Global, ask: &Ask) -> Answer {
-        self.office.ask(alloc, ask)
+// The desk of a new register in the file at a path.
+fn new_desk<S: Start>(
+    rt: &HostRuntime,
+    path: &str,
+    config: &Config,
+    start: S,
+) -> Result<FileDesk<S>, FileFault<S>>
+    ensures stands { IfOk result (λ desk. ⟦<FileDesk<S> as Desk>⟧.clean desk → ⟦<FileDesk<S> as Desk>⟧.stands desk config.now.cluster (opening config.now)) }
+    ensures told { IfErr result (λ e. IfSome e.1 (λ left. IsCleanLeft left → (d : _) → IsDatabase d → HoldsDatabase (image_at S.Start) d.trees → MayForbid d.schema e.0)) }
+    ensures untouched { IfErr result (λ e. e.0 ≡ NotEmpty → IfSome e.1 (λ left. IsCleanLeft left → (d : _) → IsDatabase d → HoldsDatabase (image_at S.Start) d.trees → IsHeld (image_left left) d)) }
+    ensures fault { IfErr result (λ e. (e.0 ≡ NotEmpty) ⊎ (e.0 ≡ Unavailable)) }
+    ensures lost { IfErr result (λ e. e.1 ≡ None → e.0 ≡ Unavailable) }
+{
+    // Gives the proof that the suppliers are in order.
+    let _formed = config.params();
+    match Store::create_at(rt, path, config, start) {
+        Ok(store) => Ok(Office::new(rt.alloc(), store)),
+        Err(refused) => Err(refused),
     }
 }
 
-impl FileDesk {
-    /// Makes the register of this cluster in the file at a path, which has none, and closes it.
-    pub fn create(rt: &HostRuntime, path: &str, config: &Config) -> Result<(), StoreFault>
-        ensures { IfErr result (λ e. (e ≡ NotEmpty) ⊎ (e ≡ Unavailable)) }
-    {
-        match Store::create_at(rt, path, config, Unknown) {
-            Ok(store) => {
-                store.close()?;
-                Ok(())
+/// Migrates the register in the file at a path from schema 1 to schema 2, with all that it holds. Where
+/// there is no file there is no register, and none is made. `start` says what is supposed of the file.
+pub fn migrate<S: Start>(
+    rt: &HostRuntime,
+    path: &str,
+    start: S,
+) -> Result<Leftover<FileFrom<S>>, FileFault<S>>
+    ensures migrated { IfOk result (λ left. IsCleanLeft left → (c : Cluster) (b : Book) → HoldsBookBefore c b (image_at S.Start) → HoldsBook c b (image_left left)) }
+    ensures told { IfErr result (λ e. IfSome e.1 (λ left. IsCleanLeft left → (d : _) → IsDatabase d → HoldsDatabase (image_at S.Start) d.trees → Refuses old_schema_number d e.0)) }
+    ensures known { IfErr result (λ e. IfSome e.1 (λ left. IsCleanLeft left → (c : Cluster) (b : Book) → HoldsBookBefore c b (image_at S.Start) → e.0 ≡ Unavailable)) }
+    ensures untouched { IfErr result (λ e. e.0 ≢ Unavailable → IfSome e.1 (λ left. IsCleanLeft left → (d : _) → IsDatabase d → HoldsDatabase (image_at S.Start) d.trees → IsHeld (image_left left) d)) }
+    ensures not_made { IfErr result (λ e. e.0 ≢ NotEmpty) }
+    ensures lost { IfErr result (λ e. e.1 ≡ None → (e.0 ≡ Unavailable) ⊎ (e.0 ≡ NotARegister)) }
+{
+    if let Ok(false) = fs::exists(rt, path) {
+        return Err((StoreFault::NotARegister, None));
+    }
+    match migrate_at(rt, path, start) {
+        Ok(left) => Ok(left),
+        Err(refused) => Err(refused),
+    }
+}
+
+/// The desk of the register in the file at a path, which stands for the book that the file holds. Where there is
+/// no file there is no register, and none is made. `start` says what is supposed of the file.
+pub fn open<S: Start>(rt: &HostRuntime, path: &str, start: S) -> Result<FileDesk<S>, FileFault<S>>
+    ensures found { IfOk result (λ desk. FindsHeld (image_at S.Start) (⟦<FileDesk<S> as Desk>⟧.clean desk) (⟦<FileDesk<S> as Desk>⟧.stands desk)) }
+    ensures told { IfErr result (λ e. IfSome e.1 (λ left. IsCleanLeft left → (d : _) → IsDatabase d → HoldsDatabase (image_at S.Start) d.trees → Explains d e.0)) }
+    ensures known { IfErr result (λ e. IfSome e.1 (λ left. IsCleanLeft left → (c : Cluster) (b : Book) → HoldsBook c b (image_at S.Start) → e.0 ≡ Unavailable)) }
+    ensures not_made { IfErr result (λ e. e.0 ≢ NotEmpty) }
+    ensures lost { IfErr result (λ e. e.1 ≡ None → (e.0 ≡ Unavailable) ⊎ (e.0 ≡ NotARegister)) }
+{
+    if let Ok(false) = fs::exists(rt, path) {
+        return Err((StoreFault::NotARegister, None));
+    }
+    match Store::open_at(rt, path, start) {
+        Ok(mut store) => {
+            if store.is_ready() {
+                Ok(Office::new(rt.alloc(), store))
+            } else {
+                Err((StoreFault::Unavailable, None))
             }
-            Err((fault, _)) => Err(fault),
         }
+        Err(refused) => Err(refused),
     }
+}
 
-    /// Migrates the register in the file at a path from schema 1 to schema 2, with all that it holds. Where
-    /// there is no file there is no register, and none is made.
-    pub fn migrate(rt: &HostRuntime, path: &str) -> Result<(), StoreFault>
-        ensures { IfErr result (λ e. e ≢ NotEmpty) }
-    {
-        if let Ok(false) = fs::exists(rt, path) {
-            return Err(StoreFault::NotARegister);
-        }
-        match migrate_at(rt, path, Unknown) {
-            Ok(_) => Ok(()),
-            Err((fault, _)) => Err(fault),
-        }
+/// Closes the register, and gives what is left of the files: they hold its book, the database file alone.
+/// Where they fail to close, a log stays beside the file, which every SQLite reads along: so nothing is lost.
+pub fn close<S: Start>(desk: FileDesk<S>) -> Leftover<FileFrom<S>>
+    ensures clean { IsCleanLeft result → ⟦<FileDesk<S> as Desk>⟧.clean desk }
+    ensures book { (c : Cluster) (b : Book) → ⟦<FileDesk<S> as Desk>⟧.stands desk c b → IsLeftWith result c b }
+{
+    match closed(desk) {
+        Ok(files) => Leftover::Files(files),
+        Err(left) => left,
     }
+}
 
-    /// The desk of the register in the file at a path. Where there is no file there is no register, and
-    /// none is made.
-    pub fn open(rt: &HostRuntime, path: &str) -> Result<FileDesk, StoreFault>
-        ensures { IfErr result (λ e. e ≢ NotEmpty) }
-    {
-        if let Ok(false) = fs::exists(rt, path) {
-            return Err(StoreFault::NotARegister);
-        }
-        match Store::open_at(rt, path, Unknown) {
-            Ok(store) => Ok(FileDesk {
-                office: Office::new(rt.alloc(), store),
-            }),
-            Err((fault, _)) => Err(fault),
-        }
-    }
-
-    /// Closes the register, after which the database file alone has all of it. Where that fails it has a
-    /// log beside it, which every SQLite reads along.
-    pub fn close(self) {
-        let FileDesk { office } = self;
-        let _ = office.close();
+// Closes the register: its files, or what is left of them where they fail to close.
+fn closed<S: Start>(desk: FileDesk<S>) -> Result<Files<FileFrom<S>>, Leftover<FileFrom<S>>>
+    ensures clean { IfOk result (λ files. AreClean ⟦<FileFrom<S> as Disk>⟧ files.log files.db → ⟦<FileDesk<S> as Desk>⟧.clean desk) }
+    ensures left { IfErr result (λ left. (IsCleanLeft left → ⟦<FileDesk<S> as Desk>⟧.clean desk) × ((c : Cluster) (b : Book) → IsLeftWith left c b)) }
+    ensures book { IfOk result (λ files. (c : Cluster) (b : Book) → ⟦<FileDesk<S> as Desk>⟧.stands desk c b → LeavesBook ⟦<FileFrom<S> as Disk>⟧ files c b) }
+{
+    let conn = desk.into_store().into_connection();
+    // Gives the proof that what is committed is a database.
+    let _schema = conn.schema();
+    match conn.close_files() {
+        Ok(files) => Ok(files),
+        Err((_, store)) => Err(Leftover::Store(store)),
     }
 }

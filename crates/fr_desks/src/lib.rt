@@ -2,8 +2,10 @@
 //! its rows are kept.
 #![tactic(auto)]
 
-mod file_desk;
+pub mod file_desk;
+mod laws;
 mod memory_desk;
 
-pub use file_desk::FileDesk;
+pub use file_desk::{FileDesk, FileFault, Left};
+pub use laws::{left_is_found, made_is_found};
 pub use memory_desk::MemoryDesk;

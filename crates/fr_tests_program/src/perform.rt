@@ -1,9 +1,10 @@
 //! What the check would let pass: a job that ends in a fault, or never sees what the jobs before it did, though
 //! nothing fails.
 use crate::fixture::{CLUSTER, PLAN, carried_out};
-use fr_cli::Job;
 use fr_cli::perform::perform;
-use fr_desks::FileDesk;
+use fr_cli::{Job, Query, Report};
+use fr_desks::file_desk;
+use sqlite::Unknown;
 use std::fs;
 use std::net::{Ipv4Addr, TcpListener};
 use std::test::Fail;
@@ -15,7 +16,14 @@ const PLACEMENTS: &str = "frame,node,slot,channels,base,repetition\nf1,n1,1,A,0,
 fn ends(rt: &HostRuntime, job: &Job<'_>, out: &str, err: &str, status: u8) -> bool {
     let mut printed = Vec::new(rt.alloc());
     let mut told = Vec::new(rt.alloc());
-    let done = perform(rt, job, &mut b"".as_slice(), &mut printed, &mut told);
+    let (done, _left) = perform(
+        rt,
+        job,
+        Unknown,
+        &mut b"".as_slice(),
+        &mut printed,
+        &mut told,
+    );
     done == status && printed.as_slice() == out.as_bytes() && told.as_slice() == err.as_bytes()
 }
 
@@ -27,11 +35,21 @@ fn fails(rt: &HostRuntime, job: &Job<'_>, why: &str) -> bool {
     ends(rt, job, "", why, 1)
 }
 
+// The integrator's report of `v1` in the register file.
+fn report_of<'a>(db: &'a str, report: Report<'a>) -> Job<'a> {
+    let query = Query {
+        variant: "v1",
+        report,
+        supplier: None,
+    };
+    Job::Report { db, query }
+}
+
 // Opens a variant in the register file, adds a node and grants it a slot.
 fn granted(rt: &HostRuntime, db: &str) -> Result<(), Fail> {
-    let mut desk = FileDesk::open(rt, db)?;
+    let mut desk = file_desk::open(rt, db, Unknown).map_err(|(fault, _)| fault)?;
     carried_out(rt.alloc(), &mut desk, &PLAN[..3])?;
-    desk.close();
+    drop(file_desk::close(desk));
     Ok(())
 }
 
@@ -45,7 +63,7 @@ fn each_command_finds_what_the_others_did(rt: HostRuntime) -> Result<(), Fail> {
     let create = Job::Create { db, config };
     assert!(rt; prints(&rt, &create, ""));
     assert!(rt; fails(&rt, &create, "slotplan: NotEmpty\n"));
-    let gaps = Job::Gaps { db, variant };
+    let gaps = report_of(db, Report::Gaps);
     assert!(rt; fails(&rt, &gaps, "{\"no\":10,\"refused\":\"NoVariant\"}\n"));
     granted(&rt, db)?;
     let import = Job::Import {
@@ -56,7 +74,13 @@ fn each_command_finds_what_the_others_did(rt: HostRuntime) -> Result<(), Fail> {
         file,
     };
     assert!(rt; prints(&rt, &import, "{\"ok\":\"imported\",\"rows\":1}\n"));
-    assert!(rt; prints(&rt, &Job::Schedule { db, variant }, "00 0001 A f1 n1 s1\n"));
+    assert!(rt;
+        prints(
+            &rt,
+            &report_of(db, Report::Schedule),
+            "00 0001 A f1 n1 s1\n"
+        )
+    );
     assert!(rt; prints(&rt, &gaps, "GAP    6400 f1 s1\n"));
     for path in [db, config, file] {
         fs::remove_file(&rt, path)?;
@@ -69,10 +93,7 @@ fn each_command_finds_what_the_others_did(rt: HostRuntime) -> Result<(), Fail> {
 fn a_fault_is_told_by_its_word(rt: HostRuntime) -> Result<(), Fail> {
     let (db, config, text) = ("told.db", "told.toml", "told.txt");
     fs::write(&rt, text, [b'x'; 100])?;
-    let schedule = Job::Schedule {
-        db: text,
-        variant: "v1",
-    };
+    let schedule = report_of(text, Report::Schedule);
     assert!(rt; fails(&rt, &schedule, "slotplan: NotARegister\n"));
     let create = Job::Create { db, config };
     assert!(rt; fails(&rt, &create, "slotplan: CannotOpen\n"));

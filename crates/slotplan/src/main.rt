@@ -3,6 +3,7 @@
 
 use fr_cli::perform::{explain, perform};
 use fr_cli::{WordFault, read_words};
+use sqlite::Unknown;
 use std::env;
 use std::io::{self, ErrorKind};
 use std::process::ExitCode;
@@ -20,7 +21,10 @@ fn run(rt: &HostRuntime) -> u8 {
         Err(error) => return explain(&unread(rt, &error), &mut out, &mut err),
     };
     match read_words(rt.alloc(), &words) {
-        Ok(job) => perform(rt, &job, &mut rt.reader(), &mut out, &mut err),
+        Ok(job) => {
+            let (status, _left) = perform(rt, &job, Unknown, &mut rt.reader(), &mut out, &mut err);
+            status
+        }
         Err(fault) => explain(&fault, &mut out, &mut err),
     }
 }

@@ -1,27 +1,24 @@
-use Rattle.std.proofs.Common.{◌∙◌, Ok, subst, sym}
-use Rattle.fr_base.specs.declared.actor.Actor.TheVariants.{Integrator}
+use Rattle.std.proofs.Common.{◌∙◌, ap₂, subst, sym}
+use Rattle.std.specs.Prelude.{Option}
+use Rattle.fr_base.specs.declared.actor.Actor.{Actor}
 use Rattle.fr_base.specs.declared.request.Request.{Request}
-use Rattle.fr_cli.proofs.AskingLaws.{refused_prints}
+use Rattle.fr_cli.proofs.AskingLaws.{refused_prints, asks_same}
 use Rattle.fr_cli.proofs.asking.report_on.Goals as goal
-use Rattle.fr_cli.specs.Asking.{IsAnswer, query_of, report_of}
-use Rattle.fr_cli.specs.ScriptRun.{Replied}
+use Rattle.fr_cli.specs.Asking.{IsAnswer, query_of}
+use Rattle.fr_cli.specs.Queries.{report_of}
 
 pub returns-then-is_refusal-clause-prints : goal.returns-then-is_refusal-clause-prints
 returns-then-is_refusal-clause-prints g c =
+    let is : IsAnswer (g.D.Desk.clean c.ask_as-answer.new.desk) (g.D.Desk.stands c.args.desk.now) (g.D.Desk.stands c.ask_as-answer.new.desk)
+    (query_of c.args.query) c.ask_as-answer.result =
+    asks_same _ _ _ _ _ _ _ _ c.reader.ensures c.in_ok-request.ensures c.ask_as-answer.ensures.answers in
     refused_prints
-    (IsAnswer (g.D.Desk.clean c.ask-answer.new.self) (g.D.Desk.stands c.args.desk.now) (g.D.Desk.stands c.ask-answer.new.self) (query_of c.args.report c.args.variant.now))
-    (report_of c.args.report) c.ask-answer.result c.refused.result
-    (λ clean cluster book stands sound.
-    let step = c.ask-answer.ensures.answered clean cluster book stands sound in
-    (step.0, subst (λ (r : Request). Replied cluster book (Ok (record { actor = Integrator; request = r })) c.ask-answer.result step.0) c.in_ok-request.ensures step.2, step.1))
-    (sym c.is_refusal.ensures ∙ c.if-is_refusal.true) c.refused.ensures
+    (IsAnswer (g.D.Desk.clean c.ask_as-answer.new.desk) (g.D.Desk.stands c.args.desk.now) (g.D.Desk.stands c.ask_as-answer.new.desk) (query_of c.args.query))
+    (report_of c.args.query.report) c.ask_as-answer.result c.refused.result is (sym c.is_refusal.ensures ∙ c.if-is_refusal.true) c.refused.ensures
 
 pub returns-clause-prints : goal.returns-clause-prints
-returns-clause-prints g c = (
-  c.ask-answer.result,
-  λ clean cluster book stands sound.
-      let step = c.ask-answer.ensures.answered clean cluster book stands sound in
-      (step.0, subst (λ (r : Request). Replied cluster book (Ok (record { actor = Integrator; request = r })) c.ask-answer.result step.0) c.in_ok-request.ensures step.2, step.1),
-  sym c.is_refusal.ensures ∙ c.if-is_refusal.false,
-  c.in_ok-lines.ensures,
-)
+returns-clause-prints g c =
+    let is : IsAnswer (g.D.Desk.clean c.ask_as-answer.new.desk) (g.D.Desk.stands c.args.desk.now) (g.D.Desk.stands c.ask_as-answer.new.desk)
+    (query_of c.args.query) c.ask_as-answer.result =
+    asks_same _ _ _ _ _ _ _ _ c.reader.ensures c.in_ok-request.ensures c.ask_as-answer.ensures.answers in
+    (c.ask_as-answer.result, is, sym c.is_refusal.ensures ∙ c.if-is_refusal.false, c.in_ok-lines.ensures)

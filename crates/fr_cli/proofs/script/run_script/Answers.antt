@@ -16,9 +16,9 @@ returns g c =
     let split : parts_of bytes ≡ Some (c.in_ok-cluster.cluster.now, requests) = search rules in
     let file : config_of c.in_ok-cluster.cluster.now ≡ Ok config = search rules in
     let formed : IsWellFormed config = search rules in
-    run_of _ (remaining c.args.reader.now) (remaining c.read_all.new.reader)
+    run_of _ _ _ (remaining c.args.reader.now) (remaining c.read_all.new.reader)
     (contents c.args.writer.now) (contents c.answer_requests.new.writer) bytes requests config c.answer_requests.result
-    c.in_ok-script.ensures.whole c.in_ok-script.ensures.end
+    tt c.in_ok-script.ensures.whole c.in_ok-script.ensures.end
     (record { size = size; cluster = c.in_ok-cluster.cluster.now; split = split; file = file; formed = formed })
     c.in-Ok.ensures.stands
-    (c.answer_requests.ensures.written tt)
+    c.answer_requests.ensures.written

@@ -1,0 +1,207 @@
+-- Requests that come in piece by piece: which lines of the input they are.
+use Rattle.std.proofs.Common.{◌≡◌, ℕ, ◌+◌, ◌<◌, List, [], ◌∷◌, ◌++◌, length, Option, Some, None, IfSome, Result, Ok, Err, refl, sym, ap, ◌∙◌, subst, append_assoc, append-nil, arith, length-append, inl, inr}
+use Rattle.std.specs.Prelude.{◌⊎◌, OnOk, ⊤}
+use Rattle.std.specs.Io.KnownBytes.{Appends, Consumes, IsAtEnd}
+use Rattle.std.proofs.KnownBytes.{Appends-trans}
+use Rattle.sqlite.specs.Files.{IsCleanLeft}
+use Rattle.sqlite.specs.declared.file.Leftover.{Leftover}
+use Rattle.sqlite_disk.specs.declared.Disk.{Ghosts}
+use Rattle.sqlite_wal.specs.Recovery.{Image}
+use Rattle.fr_base.specs.Book.{Book}
+use Rattle.fr_base.specs.Cluster.{Cluster}
+use Rattle.fr_desks.specs.FileDesk.{FindsHeld, Held, IsLeftWith}
+use Rattle.fr_records.specs.Held.{Standing}
+use Rattle.fr_cli.specs.Answering.{AnswersLines, BeginWith, GoOnBehind, HasWritten, WasCutShort}
+use Rattle.fr_cli.specs.Incoming.{AreFirstOf, AreFirstOfAll, EndsLines, HasAnswered, IsAsked}
+use Rattle.fr_cli.specs.Performing.{of_script}
+use Rattle.fr_cli.specs.Script.{max_script, request_lines}
+use Rattle.fr_cli.specs.ScriptFault.{script_fault_of}
+use Rattle.fr_cli.specs.declared.fault.Fault.{Fault}
+use Rattle.fr_cli.specs.declared.input.InputFault.{InputFault}
+use Rattle.fr_cli.specs.declared.input.InputFault.TheVariants.{NoMemory as Wanting}
+use Rattle.fr_cli.specs.declared.script_fault.ScriptFault.{ScriptFault}
+use Rattle.fr_cli.specs.declared.script_fault.ScriptFault.TheVariants.{NoMemory, TooLong, WriteFailed}
+use Rattle.fr_cli.proofs.AnsweringLaws.{cut_after, cut_here, cut_moved, lines_moved, lines_then}
+use Rattle.fr_cli.proofs.EndedLines.{requests-append}
+use Rattle.fr_cli.proofs.LineLemmas.{request_lines-none}
+
+-- ---- ends of lines
+
+pub ends-none : EndsLines []
+ends-none more = ap (λ l. l ++ request_lines more) (sym (request_lines-none [] refl))
+
+-- a line feed ends a line
+pub ends-feed : (begun line : List ℕ) → EndsLines (begun ++ (line ++ 10 ∷ []))
+ends-feed begun line = subst EndsLines (append_assoc begun line (10 ∷ [])) (requests-append (begun ++ line))
+
+pub ends-then : (front chunk : List ℕ) → EndsLines front → EndsLines chunk → EndsLines (front ++ chunk)
+ends-then front chunk p q more =
+    ap request_lines (append_assoc front chunk more) ∙ p (chunk ++ more) ∙ ap (λ l. request_lines front ++ l) (q more)
+    ∙ sym (append_assoc (request_lines front) (request_lines chunk) (request_lines more)) ∙ ap (λ l. l ++ request_lines more) (sym (p chunk))
+
+-- ---- first requests
+
+-- of bytes that begin with whole lines
+pub first_whole : (front rest : List ℕ) → EndsLines front → AreFirstOfAll (front ++ rest) (request_lines front)
+first_whole front rest p more = (request_lines (rest ++ more), ap request_lines (append_assoc front rest more) ∙ p (rest ++ more))
+
+-- and of what follows these
+pub first_then : (front rest : List ℕ) (lines : List (List ℕ)) → EndsLines front → AreFirstOfAll rest lines → AreFirstOfAll (front ++ rest) (request_lines front ++ lines)
+first_then front rest lines p q more =
+    let (left, split) = q more in (
+      left,
+      ap request_lines (append_assoc front rest more) ∙ p (rest ++ more) ∙ ap (λ l. request_lines front ++ l) split
+          ∙ sym (append_assoc (request_lines front) lines left),
+    )
+
+-- of whole lines, and what follows them
+pub first_begin : (chunk rest : List ℕ) (lines left : List (List ℕ)) → EndsLines chunk → request_lines chunk ≡ lines ++ left → AreFirstOfAll (chunk ++ rest) lines
+first_begin chunk rest lines left p split more = (
+  left ++ request_lines (rest ++ more),
+  ap request_lines (append_assoc chunk rest more) ∙ p (rest ++ more) ∙ ap (λ l. l ++ request_lines (rest ++ more)) split
+      ∙ append_assoc lines left (request_lines (rest ++ more)),
+)
+
+-- ---- what was taken of an input
+
+-- what is so of what was taken, whatever follows it, is so of the input
+pub on_input : (P : List ℕ → Type 0) (input left : Option (List ℕ)) (taken : List ℕ) → Consumes input left taken → ((more : List ℕ) → P (taken ++ more)) → IfSome input P
+on_input P None left taken c f = tt
+on_input P (Some x) None taken c f = absurd c
+on_input P (Some x) (Some y) taken c f = subst P (sym c) (f y)
+
+-- an input was taken whole
+pub on_whole : (P : List ℕ → Type 0) (input left : Option (List ℕ)) (taken : List ℕ) → Consumes input left taken → IsAtEnd left → P taken → IfSome input P
+on_whole P None left taken c e p = tt
+on_whole P (Some x) None taken c e p = absurd c
+on_whole P (Some x) (Some y) taken c e p = subst P (sym (c ∙ ap (λ l. taken ++ l) e ∙ append-nil taken)) p
+
+-- more was taken than there is room for
+pub on_long : (bound : ℕ) (input left : Option (List ℕ)) (taken : List ℕ) → Consumes input left taken → bound < length taken → IfSome input (λ bytes. bound < length bytes)
+on_long bound input left taken c long = on_input (λ bytes. bound < length bytes) input left taken c (λ more. omega (arith, long, length-append taken more))
+
+-- ---- answers
+
+-- whole lines more were answered
+pub heard_more : (clean first : Type 0) (old mid new : Standing) (front chunk w v : List ℕ) → (clean → first) → EndsLines front
+    → AnswersLines first old mid (request_lines front) w → AnswersLines clean mid new (request_lines chunk) v
+    → AnswersLines clean old new (request_lines (front ++ chunk)) (w ++ v)
+heard_more clean first old mid new front chunk w v falls ends p q =
+    subst (λ l. AnswersLines clean old new l (w ++ v)) (sym (ends chunk)) (lines_then clean first old mid new (request_lines front) (request_lines chunk) w v falls p q)
+
+-- ---- pieces of an input
+
+-- Of what was begun and the piece behind it some are whole lines.
+pub split_then : (front begun piece more rest : List ℕ) → begun ++ piece ≡ more ++ rest → (front ++ begun) ++ piece ≡ (front ++ more) ++ rest
+split_then front begun piece more rest e = append_assoc front begun piece ∙ ap (λ r. front ++ r) e ∙ sym (append_assoc front more rest)
+
+-- A fault comes between pieces.
+pub cut_between : (clean : Type 0) (old new : Standing) (input left a b : Option (List ℕ)) (front begun written : List ℕ) (fault : ScriptFault) (of : InputFault)
+    → fault ≡ script_fault_of of → Consumes input left (front ++ begun) → EndsLines front → Appends a b written
+    → AnswersLines clean old new (request_lines front) written → (fault ≡ TooLong → IfSome input (λ bytes. max_script < length bytes))
+    → HasAnswered clean old new input a b (Err fault)
+cut_between clean old new input left a b front begun written fault of is taken ends appended answered long =
+    let first : IfSome input (AreFirstOf (request_lines front)) =
+    on_input (AreFirstOf (request_lines front)) input left (front ++ begun) taken (first_whole front begun ends) in
+    record {
+      all = tt;
+      early = cut_here clean clean old new (λ lines. IfSome input (AreFirstOf lines)) (λ lines. IfSome input (AreFirstOf lines)) a b fault (request_lines front) written (λ is. is) answered appended first first;
+      too_long = λ e. long cc;
+      faults = inr (of, is);
+    }
+
+-- what a fault of a line's answer says of an input
+of_line : (input : Option (List ℕ)) (fault : ScriptFault) → (fault ≡ NoMemory) ⊎ (fault ≡ WriteFailed)
+    → (fault ≡ TooLong → IfSome input (λ bytes. max_script < length bytes)) × ((fault ≡ WriteFailed) ⊎ ((of : InputFault) × (fault ≡ script_fault_of of)))
+of_line input fault (inl none) = (λ e. absurd cc, inr (Wanting, none))
+of_line input fault (inr failed) = (λ e. absurd cc, inl failed)
+
+-- A fault comes within a piece.
+pub cut_within : (clean first : Type 0) (old mid new : Standing) (input left a m b : Option (List ℕ)) (front bytes written : List ℕ) (fault : ScriptFault)
+    → (clean → first) → Consumes input left (front ++ bytes) → EndsLines front → Appends a m written → AnswersLines first old mid (request_lines front) written
+    → WasCutShort clean mid new (AreFirstOfAll bytes) (AreFirstOfAll bytes) m b fault → (fault ≡ NoMemory) ⊎ (fault ≡ WriteFailed)
+    → HasAnswered clean old new input a b (Err fault)
+cut_within clean first old mid new input left a m b front bytes written fault falls taken ends appended answered short of =
+    let is_first : (k : List (List ℕ)) → AreFirstOfAll bytes k → IfSome input (AreFirstOf (request_lines front ++ k)) =
+    λ k so. on_input (AreFirstOf (request_lines front ++ k)) input left (front ++ bytes) taken (first_then front bytes k ends so) in
+    let said = of_line input fault of in
+    record {
+      all = tt;
+      early = cut_after clean first old mid new (AreFirstOfAll bytes) (AreFirstOfAll bytes) (λ lines. IfSome input (AreFirstOf lines)) (λ lines. IfSome input (AreFirstOf lines)) a m b fault
+          (request_lines front) written falls answered appended is_first is_first short;
+      too_long = λ e. said.0 cc;
+      faults = said.1;
+    }
+
+-- The input has ended, and what was begun are its last lines.
+pub at_end : (clean first : Type 0) (old mid new : Standing) (input left a m b : Option (List ℕ)) (front begun written : List ℕ) (done : Result ⊤ ScriptFault)
+    → (clean → first) → Consumes input left (front ++ begun) → IsAtEnd left → EndsLines front → Appends a m written
+    → AnswersLines first old mid (request_lines front) written → HasWritten clean mid new (request_lines begun) m b done → HasAnswered clean old new input a b done
+at_end clean first old mid new input left a m b front begun written (Ok x) falls taken end ends appended answered has =
+    let (more, then, last) = has.all in
+    record {
+      all = (
+        request_lines (front ++ begun),
+        written ++ more,
+        on_whole (λ bytes. request_lines (front ++ begun) ≡ request_lines bytes) input left (front ++ begun) taken end refl,
+        Appends-trans a m b written more appended then,
+        heard_more clean first old mid new front begun written more falls ends answered last,
+      );
+      early = tt;
+      too_long = λ e. absurd cc;
+      faults = tt;
+    }
+at_end clean first old mid new input left a m b front begun written (Err fault) falls taken end ends appended answered has =
+    let is_first : (k rest : List (List ℕ)) → request_lines begun ≡ k ++ rest → IfSome input (AreFirstOf (request_lines front ++ k)) =
+    λ k rest split. on_whole (AreFirstOf (request_lines front ++ k)) input left (front ++ begun) taken end
+    (rest, ends begun ∙ ap (λ l. request_lines front ++ l) split ∙ sym (append_assoc (request_lines front) k rest)) in
+    let said = of_line input fault has.faults in
+    record {
+      all = tt;
+      early = cut_after clean first old mid new (BeginWith (request_lines begun)) (GoOnBehind (request_lines begun)) (λ lines. IfSome input (AreFirstOf lines)) (λ lines. IfSome input (AreFirstOf lines))
+          a m b fault (request_lines front) written falls answered appended (λ k so. is_first k so.0 so.1) (λ k so. is_first k (so.0 ∷ so.1) so.2) has.early;
+      too_long = λ e. said.0 cc;
+      faults = said.1;
+    }
+
+-- ---- over a file
+
+module _ {D : Type 0} {g : Ghosts D} where
+  -- What was asked of a register that stands for what a file held, and was closed, was asked of the file.
+  pub asked_file : (file : Image) (rest : Leftover D g) (clean before : Type 0) (old new : Standing) (input left a b : Option (List ℕ)) (asked : Result ⊤ ScriptFault) (done : Result ⊤ Fault)
+      → (IsCleanLeft rest → clean) → (clean → before) → FindsHeld file before old → ((c : Cluster) (b : Book) → new c b → IsLeftWith rest c b) → done ≡ of_script asked
+      → OnOk asked (IsAtEnd left) → HasAnswered clean old new input a b asked → IsAsked file (Some rest) input left a b done
+  asked_file file rest clean before old new input left a b (Ok x) done closes falls finds leaves is end has =
+      let (lines, written, all, appended, answered) = has.all in
+      inr (
+        Ok x,
+        rest,
+        refl,
+        is,
+        end,
+        record {
+          all = (
+            lines,
+            written,
+            all,
+            appended,
+            lines_moved (IsCleanLeft rest) clean (Held file) old new (IsLeftWith rest) lines written closes (λ up. finds (falls up)) leaves answered,
+          );
+          early = tt;
+          too_long = λ e. absurd cc;
+          faults = tt;
+        },
+      )
+  asked_file file rest clean before old new input left a b (Err fault) done closes falls finds leaves is end has = inr (
+    Err fault,
+    rest,
+    refl,
+    is,
+    end,
+    record {
+      all = tt;
+      early = cut_moved (IsCleanLeft rest) clean (Held file) old new (IsLeftWith rest) _ _ a b fault closes (λ up. finds (falls up)) leaves has.early;
+      too_long = has.too_long;
+      faults = has.faults;
+    },
+  )

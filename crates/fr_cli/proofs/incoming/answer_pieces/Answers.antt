@@ -1,0 +1,144 @@
+use Rattle.std.proofs.Common.{◌≡◌, ◌++◌, ◌+◌, ◌<◌, [], ℕ, List, Err, length, refl, sym, ap, ◌∙◌, subst, append_assoc, append-nil, take, arith, rules, length-append}
+use Rattle.std.specs.Io.KnownBytes.{Consumes, IsAtEnd}
+use Rattle.std.proofs.KnownBytes.{Appends-nil, Appends-trans, Consumes-nil, Consumes-trans}
+use Rattle.fr_cli.specs.Answering.{AnswersLines, HasWritten}
+use Rattle.fr_cli.specs.Incoming.{HasAnswered}
+use Rattle.fr_cli.specs.Script.{max_script, request_lines}
+use Rattle.fr_cli.specs.declared.input.InputFault.TheVariants.{ReadFailed, TooLong, TooManyReads}
+use Rattle.fr_cli.specs.declared.script_fault.ScriptFault.TheVariants as fault
+use Rattle.fr_cli.proofs.AnsweringLaws.{no_lines}
+use Rattle.fr_cli.proofs.IncomingLaws.{at_end, cut_between, cut_within, ends-none, ends-then, heard_more, on_long, split_then}
+use Rattle.fr_cli.proofs.LineLemmas.{request_lines-none}
+use Rattle.fr_cli.proofs.incoming.answer_pieces.Goals as goal
+use Rattle.fr_cli.proofs.incoming.answer_pieces.Goals.{in-Ok+in_ok-room-in-Ok+in_ok-answer_piece-in-Ok, in-Err+in_ok-try_again-in-Err}
+
+pub loop-init : goal.loop-init
+loop-init g c =
+    let clean = g.D.Desk.clean c.args.desk.now in
+    let stands = g.D.Desk.stands c.args.desk.now in
+    record {
+      same = refl;
+      falls = λ clean. clean;
+      front = [];
+      taken = subst (Consumes (g.R.Read.remaining c.args.reader.now) (g.R.Read.remaining c.args.reader.now)) (sym c.new-begun.ensures.items) (Consumes-nil (g.R.Read.remaining c.args.reader.now));
+      room = ap (λ (bytes : List ℕ). max_script + length bytes) c.new-begun.ensures.items;
+      ends = ends-none;
+      written = [];
+      appended = Appends-nil (g.W.Write.contents c.args.output.now.writer.now);
+      answered = subst (λ l. AnswersLines clean stands stands l []) (sym (request_lines-none [] refl)) (no_lines clean stands);
+    }
+
+pub returns-in-Ok-eq0-clause-answered : goal.returns-in-Ok-eq0-clause-answered
+returns-in-Ok-eq0-clause-answered g c =
+    let l = c.loop.invariant in
+    let contents = g.W.Write.contents in
+    let remaining = g.R.Read.remaining in
+    let clean = g.D.Desk.clean in
+    let stands = g.D.Desk.stands in
+    let end : IsAtEnd (remaining c.read.new.self) = search rules in
+    let none : take c.in-Ok-eq0.field-0 c.read.new.buf ≡ [] = search rules in
+    let taken : Consumes (remaining c.args.reader.now) (remaining c.read.new.self) (l.front ++ c.loop.begun.items) =
+    subst (Consumes _ _) (ap (λ r. (l.front ++ c.loop.begun.items) ++ r) none ∙ append-nil (l.front ++ c.loop.begun.items)) (Consumes-trans _ _ _ _ _ l.taken c.in-Ok-eq0.ensures.bytes.0) in
+    let has : HasWritten (clean c.write_answers.new.desk) (stands c.loop.desk) (stands c.write_answers.new.desk) (request_lines c.loop.begun.items)
+    (contents c.loop.output.writer.now) (contents c.write_answers.new.output.writer.now) c.write_answers.result =
+    subst (λ b. HasWritten (clean c.write_answers.new.desk) (stands c.loop.desk) (stands c.write_answers.new.desk) (request_lines b)
+    (contents c.loop.output.writer.now) (contents c.write_answers.new.output.writer.now) c.write_answers.result) c.deref.ensures.value c.write_answers.ensures.written in
+    at_end (clean c.write_answers.new.desk) (clean c.loop.desk) (stands c.args.desk.now) (stands c.loop.desk) (stands c.write_answers.new.desk)
+    (remaining c.args.reader.now) (remaining c.read.new.self)
+    (contents c.args.output.now.writer.now) (contents c.loop.output.writer.now) (contents c.write_answers.new.output.writer.now)
+    l.front c.loop.begun.items l.written c.write_answers.result c.write_answers.ensures.falls taken end l.ends l.appended l.answered has
+
+pub returns-in_err-room-in-Ok-clause-answered : goal.returns-in_err-room-in-Ok-clause-answered
+returns-in_err-room-in-Ok-clause-answered g c =
+    let l = c.loop.invariant in
+    let remaining = g.R.Read.remaining in
+    let piece = take c.in-Ok.n c.read.new.buf in
+    let less : c.loop.room < c.in-Ok.n = search rules in
+    let size : length piece ≡ c.in-Ok.n = search rules in
+    let is : c.from_residual.result ≡ Err fault.TooLong = search rules in
+    let taken : Consumes (remaining c.args.reader.now) (remaining c.read.new.self) ((l.front ++ c.loop.begun.items) ++ piece) =
+    Consumes-trans _ _ _ _ _ l.taken c.in-Ok.ensures.bytes.0 in
+    let long : max_script < length ((l.front ++ c.loop.begun.items) ++ piece) =
+    omega (arith, less, size, l.room, length-append (l.front ++ c.loop.begun.items) piece) in
+    subst (HasAnswered (g.D.Desk.clean c.loop.desk) (g.D.Desk.stands c.args.desk.now) (g.D.Desk.stands c.loop.desk) (remaining c.args.reader.now)
+    (g.W.Write.contents c.args.output.now.writer.now) (g.W.Write.contents c.loop.output.writer.now)) (sym is)
+    (cut_between (g.D.Desk.clean c.loop.desk) (g.D.Desk.stands c.args.desk.now) (g.D.Desk.stands c.loop.desk) (remaining c.args.reader.now) (remaining c.read.new.self)
+    (g.W.Write.contents c.args.output.now.writer.now) (g.W.Write.contents c.loop.output.writer.now) l.front (c.loop.begun.items ++ piece) l.written fault.TooLong TooLong refl
+    (subst (Consumes _ _) (append_assoc l.front c.loop.begun.items piece) taken) l.ends l.appended l.answered
+    (λ is. on_long max_script (remaining c.args.reader.now) (remaining c.read.new.self) ((l.front ++ c.loop.begun.items) ++ piece) taken long))
+
+pub returns-in_err-answer_piece-in-Ok-clause-answered : goal.returns-in_err-answer_piece-in-Ok-clause-answered
+returns-in_err-answer_piece-in-Ok-clause-answered g c =
+    let l = c.loop.invariant in
+    let contents = g.W.Write.contents in
+    let remaining = g.R.Read.remaining in
+    let clean = g.D.Desk.clean in
+    let stands = g.D.Desk.stands in
+    let bytes = c.loop.begun.items ++ take c.in-Ok.n c.read.new.buf in
+    let is : c.from_residual-in_err-answer_piece-in-Ok.result ≡ Err c.in_err-answer_piece-in-Ok.field-0.0 = search rules in
+    let taken : Consumes (remaining c.args.reader.now) (remaining c.read.new.self) (l.front ++ bytes) =
+    subst (Consumes _ _) (append_assoc l.front c.loop.begun.items (take c.in-Ok.n c.read.new.buf)) (Consumes-trans _ _ _ _ _ l.taken c.in-Ok.ensures.bytes.0) in
+    subst (HasAnswered (clean c.answer_piece.new.desk) (stands c.args.desk.now) (stands c.answer_piece.new.desk) (remaining c.args.reader.now)
+    (contents c.args.output.now.writer.now) (contents c.answer_piece.new.output.writer.now)) (sym is)
+    (cut_within (clean c.answer_piece.new.desk) (clean c.loop.desk) (stands c.args.desk.now) (stands c.loop.desk) (stands c.answer_piece.new.desk)
+    (remaining c.args.reader.now) (remaining c.read.new.self)
+    (contents c.args.output.now.writer.now) (contents c.loop.output.writer.now) (contents c.answer_piece.new.output.writer.now)
+    l.front bytes l.written c.in_err-answer_piece-in-Ok.field-0.0 c.answer_piece.ensures.falls taken l.ends l.appended l.answered
+    c.in_err-answer_piece-in-Ok.ensures.heard.early c.in_err-answer_piece-in-Ok.ensures.faults)
+
+pub returns-in_err-try_again-in-Err-clause-answered : goal.returns-in_err-try_again-in-Err-clause-answered
+returns-in_err-try_again-in-Err-clause-answered g c =
+    let l = c.loop.invariant in
+    let remaining = g.R.Read.remaining in
+    let is : c.from_residual-in_err-try_again-in-Err.result ≡ Err fault.ReadFailed = search rules in
+    let taken : Consumes (remaining c.args.reader.now) (remaining c.read.new.self) (l.front ++ c.loop.begun.items) = search rules in
+    subst (HasAnswered (g.D.Desk.clean c.loop.desk) (g.D.Desk.stands c.args.desk.now) (g.D.Desk.stands c.loop.desk) (remaining c.args.reader.now)
+    (g.W.Write.contents c.args.output.now.writer.now) (g.W.Write.contents c.loop.output.writer.now)) (sym is)
+    (cut_between (g.D.Desk.clean c.loop.desk) (g.D.Desk.stands c.args.desk.now) (g.D.Desk.stands c.loop.desk) (remaining c.args.reader.now) (remaining c.read.new.self)
+    (g.W.Write.contents c.args.output.now.writer.now) (g.W.Write.contents c.loop.output.writer.now) l.front c.loop.begun.items l.written fault.ReadFailed ReadFailed refl
+    taken l.ends l.appended l.answered (λ is. absurd cc))
+
+pub loop-preserved : goal.loop-preserved
+loop-preserved g c =
+    let l = c.loop.invariant in
+    let remaining = g.R.Read.remaining in
+    elim c.match-read.branch [
+      | in-Ok+in_ok-room-in-Ok+in_ok-answer_piece-in-Ok w ↦
+          let piece = take w.in-Ok.n c.read.new.buf in
+          let (more, written, split, ends, appended, answered) = w.in_ok-answer_piece-in-Ok.ensures.heard.heard in
+          let begun = w.answer_piece.new.begun.items in
+          let all : (l.front ++ c.loop.begun.items) ++ piece ≡ (l.front ++ more) ++ begun = split_then l.front c.loop.begun.items piece more begun split in
+          let size : length piece ≡ w.in-Ok.n = search rules in
+          let less : w.in_ok-room-in-Ok.room + w.in-Ok.n ≡ c.loop.room = search rules in
+          rw w.desk-is (rw w.output-is (rw w.begun-is (rw w.room-is (record {
+            same = w.answer_piece.ensures.same ∙ l.same;
+            falls = λ clean. l.falls (w.answer_piece.ensures.falls clean);
+            front = l.front ++ more;
+            taken = subst (Consumes (remaining c.args.reader.now) (remaining c.read.new.self)) all (Consumes-trans _ _ _ _ _ l.taken w.in-Ok.ensures.bytes.0);
+            room = omega (arith, less, size, l.room, length-append (l.front ++ c.loop.begun.items) piece, ap (λ (bytes : List ℕ). length bytes) all);
+            ends = ends-then l.front more l.ends ends;
+            written = l.written ++ written;
+            appended = Appends-trans _ _ _ l.written written l.appended appended;
+            answered = heard_more _ _ _ _ _ l.front more l.written written w.answer_piece.ensures.falls l.ends l.answered answered;
+          }))))
+      | in-Err+in_ok-try_again-in-Err w ↦
+          let taken : Consumes (remaining c.args.reader.now) (remaining c.read.new.self) (l.front ++ c.loop.begun.items) = search rules in
+          rw w.desk-is (rw w.output-is (rw w.begun-is (rw w.room-is (record {
+            same = l.same;
+            falls = l.falls;
+            front = l.front;
+            taken = taken;
+            room = l.room;
+            ends = l.ends;
+            written = l.written;
+            appended = l.appended;
+            answered = l.answered;
+          }))))
+    ]
+
+pub returns-clause-answered : goal.returns-clause-answered
+returns-clause-answered g c =
+    let l = c.loop.invariant in
+    cut_between (g.D.Desk.clean c.loop.desk) (g.D.Desk.stands c.args.desk.now) (g.D.Desk.stands c.loop.desk) (g.R.Read.remaining c.args.reader.now) (g.R.Read.remaining c.loop.reader)
+    (g.W.Write.contents c.args.output.now.writer.now) (g.W.Write.contents c.loop.output.writer.now) l.front c.loop.begun.items l.written fault.TooManyReads TooManyReads refl
+    l.taken l.ends l.appended l.answered (λ is. absurd cc)

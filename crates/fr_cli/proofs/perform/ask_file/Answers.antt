@@ -1,0 +1,12 @@
+use Rattle.std.proofs.Common.{refl, inl}
+use Rattle.std.proofs.KnownBytes.{Keeps-refl}
+use Rattle.fr_cli.proofs.IncomingLaws.{asked_file}
+use Rattle.fr_cli.proofs.perform.ask_file.Goals as goal
+
+pub returns-in-Ok : goal.returns-in-Ok
+returns-in-Ok g c =
+    asked_file _ _ _ _ _ _ _ _ _ _ c.answer_input-asked.result c.of_script.result c.close.ensures.clean c.answer_input-asked.ensures.falls c.in-Ok.ensures.found c.close.ensures.book
+    c.of_script.ensures c.answer_input-asked.ensures.end c.answer_input-asked.ensures.answered
+
+pub returns-in-Err : goal.returns-in-Err
+returns-in-Err g c = inl (_, refl, c.in-Err.ensures.not_made, Keeps-refl (g.R.Read.remaining c.args.input.now), Keeps-refl (g.O.Write.contents c.args.out.now))

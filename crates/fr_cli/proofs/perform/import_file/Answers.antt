@@ -1,0 +1,9 @@
+use Rattle.std.proofs.Common.{[]}
+use Rattle.fr_cli.proofs.AskingLaws.{not_imported}
+use Rattle.fr_cli.proofs.perform.import_file.Goals as goal
+
+pub returns-in-Ok : goal.returns-in-Ok
+returns-in-Ok g c = (_, c.import_body.ensures)
+
+pub returns-in-Err : goal.returns-in-Err
+returns-in-Err g c = ([], not_imported c.in-Err.fault c.in-Err.ensures.fault)

@@ -1,0 +1,52 @@
+-- How requests that come in are answered.
+use Rattle.std.specs.Prelude.{◌≡◌, ◌⊎◌, ◌<◌, ℕ, List, ◌++◌, length, Option, Some, Result, Err, IfErr, IfSome, IsErrOf, OnOk, ⊤}
+use Rattle.std.specs.Io.KnownBytes.{Appends, IsAtEnd, Keeps}
+use Rattle.sqlite.specs.Files.{IsCleanLeft}
+use Rattle.sqlite.specs.declared.file.Leftover.{Leftover}
+use Rattle.sqlite_disk.specs.declared.Disk.{Ghosts}
+use Rattle.sqlite_wal.specs.Recovery.{Image}
+use Rattle.fr_desks.specs.FileDesk.{Held, IsLeftWith}
+use Rattle.fr_records.specs.Held.{Standing}
+use Rattle.fr_cli.specs.Answering.{AnswersLines, WasCutShort}
+use Rattle.fr_cli.specs.Faults.{IsNotOpened}
+use Rattle.fr_cli.specs.Performing.{of_script}
+use Rattle.fr_cli.specs.Script.{max_script, request_lines}
+use Rattle.fr_cli.specs.ScriptFault.{script_fault_of}
+use Rattle.fr_cli.specs.declared.fault.Fault.{Fault}
+use Rattle.fr_cli.specs.declared.input.InputFault.{InputFault}
+use Rattle.fr_cli.specs.declared.script_fault.ScriptFault.{ScriptFault}
+use Rattle.fr_cli.specs.declared.script_fault.ScriptFault.TheVariants.{TooLong, WriteFailed}
+
+-- These are the first requests of the input.
+abbrev pub AreFirstOf : List (List ℕ) → List ℕ → Type 0
+AreFirstOf lines input = (left : List (List ℕ)) × (request_lines input ≡ lines ++ left)
+
+-- These are the first requests of these bytes, whatever follows them.
+abbrev pub AreFirstOfAll : List ℕ → List (List ℕ) → Type 0
+AreFirstOfAll bytes lines = (more : List ℕ) → AreFirstOf lines (bytes ++ more)
+
+-- The bytes end with the end of a line, or are none: what follows them has its own requests.
+abbrev pub EndsLines : List ℕ → Type 0
+EndsLines bytes = (more : List ℕ) → request_lines (bytes ++ more) ≡ request_lines bytes ++ request_lines more
+
+-- Of these bytes the lines that have an end were answered, and the others begin the next line; or a fault came.
+pub record HasHeard (clean : Type 0) (old new : Standing) (bytes begun : List ℕ) (a b : Option (List ℕ)) (done : Result ⊤ ScriptFault) : Type 0 where
+  pub heard : OnOk done ((front : List ℕ) × (written : List ℕ) × (bytes ≡ front ++ begun) × EndsLines front
+      × Appends a b written × AnswersLines clean old new (request_lines front) written)
+  pub early : IfErr done (WasCutShort clean old new (AreFirstOfAll bytes) (AreFirstOfAll bytes) a b)
+
+-- The input's requests were all answered; or the first of them were, and a fault came.
+pub record HasAnswered (clean : Type 0) (old new : Standing) (input a b : Option (List ℕ)) (done : Result ⊤ ScriptFault) : Type 0 where
+  pub all : OnOk done ((lines : List (List ℕ)) × (written : List ℕ) × IfSome input (λ bytes. lines ≡ request_lines bytes)
+      × Appends a b written × AnswersLines clean old new lines written)
+  pub early : IfErr done (WasCutShort clean old new (λ lines. IfSome input (AreFirstOf lines)) (λ lines. IfSome input (AreFirstOf lines)) a b)
+  pub too_long : IsErrOf done TooLong → IfSome input (λ bytes. max_script < length bytes)
+  pub faults : IfErr done (λ fault. (fault ≡ WriteFailed) ⊎ ((of : InputFault) × (fault ≡ script_fault_of of)))
+
+-- The register was not opened, and nothing was read or written; or its file was opened and closed, and the input's requests were
+-- answered: as long as nobody else wrote to the file, from the book that it held, and what is left holds the book after them.
+abbrev pub IsAsked : {D : Type 0} {g : Ghosts D} → Image → Option (Leftover D g) → Option (List ℕ) → Option (List ℕ) → Option (List ℕ) → Option (List ℕ) → Result ⊤ Fault → Type 0
+IsAsked {D} {g} file rest input left a b done =
+    ((fault : Fault) × (done ≡ Err fault) × IsNotOpened fault × Keeps input left × Keeps a b)
+    ⊎ ((asked : Result ⊤ ScriptFault) × (last : Leftover D g) × (rest ≡ Some last) × (done ≡ of_script asked) × OnOk asked (IsAtEnd left)
+    × HasAnswered (IsCleanLeft last) (Held file) (IsLeftWith last) input a b asked)

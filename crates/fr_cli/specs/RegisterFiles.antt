@@ -1,0 +1,39 @@
+-- What a job found in a register's file, and what it left there.
+use Rattle.std.specs.Prelude.{◌≡◌, ℕ, List, Option, Some, Result, Ok, OnOk, ⊤}
+use Rattle.sqlite.specs.Files.{IsCleanLeft}
+use Rattle.sqlite.specs.declared.file.Leftover.{Leftover}
+use Rattle.sqlite.specs.declared.file.Leftover.TheVariants as left
+use Rattle.sqlite_disk.specs.declared.Disk.{Ghosts}
+use Rattle.sqlite_disk.specs.declared.Files.{Files}
+use Rattle.sqlite_wal.specs.Recovery.{Image}
+use Rattle.fr_base.specs.Book.{Book, opening}
+use Rattle.fr_base.specs.Cluster.{Cluster, ClusterFile}
+use Rattle.fr_base.specs.declared.answer.Answer.{Answer}
+use Rattle.fr_base.specs.declared.refusal.Refusal.{Refusal}
+use Rattle.fr_base.specs.declared.request.Ask.{Ask}
+use Rattle.fr_desks.specs.FileDesk.{Held, IsLeftWith, LeavesBook}
+use Rattle.fr_store.specs.Before.{HoldsBookBefore}
+use Rattle.fr_store.specs.StoreFiles.{HoldsBook, image_left}
+use Rattle.fr_text.specs.ClusterFile.{config_of}
+use Rattle.fr_cli.specs.Asking.{IsAnswer}
+use Rattle.fr_cli.specs.declared.fault.Fault.{Fault}
+
+module _ {D : Type 0} {g : Ghosts D} where
+  -- The file was opened and closed. As long as nobody else wrote to it this was asked of the book that it held, and may be answered so;
+  -- and what is left holds the book after it.
+  abbrev pub IsAnswerOfFile : Image → Option (Leftover D g) → (Cluster → Book → Result Ask Refusal) → Answer → Type 0
+  IsAnswerOfFile held rest asks answer =
+      (last : Leftover D g) × (rest ≡ Some last) × IsAnswer (IsCleanLeft last) (Held held) (IsLeftWith last) asks answer
+
+  -- The files that are left hold the book of a new register of this cluster file.
+  abbrev pub IsLeftNew : Option (Leftover D g) → ClusterFile → Type 0
+  IsLeftNew rest f = (files : Files D) × (rest ≡ Some (left.Files files)) × LeavesBook g files f.cluster (opening f)
+
+  -- Where it was done, a cluster file was read that says this, and such a register was made of it.
+  abbrev pub IsMade : Option (Leftover D g) → Result ⊤ Fault → Type 0
+  IsMade rest done = OnOk done ((text : List ℕ) × (f : ClusterFile) × (config_of text ≡ Ok f) × IsLeftNew rest f)
+
+  -- Where it was done, what is left holds the book that the file held in schema 1.
+  abbrev pub IsMoved : Image → Option (Leftover D g) → Result ⊤ Fault → Type 0
+  IsMoved held rest done = OnOk done ((last : Leftover D g) × (rest ≡ Some last)
+      × (IsCleanLeft last → (c : Cluster) (b : Book) → HoldsBookBefore c b held → HoldsBook c b (image_left last)))

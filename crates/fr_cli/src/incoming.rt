@@ -1,0 +1,88 @@
+//! Requests that come in on a reader, each answered before the next one is awaited.
+ghost use Rattle.std.specs.Prelude.{◌≡◌, ◌⊎◌, ◌++◌, IfErr, OnOk};
+ghost use Rattle.std.specs.Io.KnownBytes.{IsAtEnd};
+ghost use Rattle.fr_cli.specs.Incoming.{HasAnswered, HasHeard};
+ghost use Rattle.fr_cli.specs.ScriptFault.{script_fault_of};
+ghost use Rattle.fr_cli.specs.declared.input.InputFault.{InputFault};
+
+use crate::answering::write_answers;
+use crate::input::{PIECE_BYTES, SCRIPT_BYTES, SCRIPT_READS, try_again};
+use crate::lines::split_once;
+use crate::script_fault::ScriptFault;
+use fr_base::Desk;
+use fr_http::Output;
+use std::alloc::Global;
+use std::io::{Read, Write};
+
+/// Answers requests that come in, a line each, in order: the answer to a line is written before more than
+/// what came with it is read. All lines are answered; or a fault ends it, and what was answered stays. The
+/// bounds are those of a script: [`SCRIPT_BYTES`] bytes and [`SCRIPT_READS`] reads. A line that has no end
+/// when the bounds are met or a read fails is not answered.
+pub fn answer_input<D: Desk, R: Read, W: Write>(
+    alloc: Global,
+    desk: &mut D,
+    reader: &mut R,
+    writer: &mut W,
+) -> Result<(), ScriptFault>
+    ensures falls { D.clean desk.new → D.clean desk.old }
+    ensures answered { HasAnswered (D.clean desk.new) (D.stands desk.old) (D.stands desk.new) (R.remaining reader.old) (W.contents writer.old) (W.contents writer.new) result }
+    ensures end { OnOk result (IsAtEnd (R.remaining reader.new)) }
+{
+    let mut output = Output::new(writer);
+    answer_pieces(alloc, desk, reader, &mut output)
+}
+
+// Answers what the reader gives, piece by piece.
+fn answer_pieces<D: Desk, R: Read, W: Write>(
+    alloc: Global,
+    desk: &mut D,
+    reader: &mut R,
+    output: &mut Output<'_, W>,
+) -> Result<(), ScriptFault>
+    ensures falls { D.clean desk.new → D.clean desk.old }
+    ensures answered { HasAnswered (D.clean desk.new) (D.stands desk.old) (D.stands desk.new) (R.remaining reader.old)
+        (W.contents output.old.writer.now) (W.contents output.new.writer.now) result }
+    ensures end { OnOk result (IsAtEnd (R.remaining reader.new)) }
+    ensures same { output.new.writer.ghost_name ≡ output.old.writer.ghost_name }
+{
+    let mut begun = Vec::new(alloc);
+    let mut room = SCRIPT_BYTES;
+    let mut piece = [0u8; PIECE_BYTES];
+    for _ in 0..SCRIPT_READS {
+        match reader.read(&mut piece) {
+            Ok(0) => return write_answers(alloc, desk, &begun, output),
+            Ok(n) => {
+                room = room.checked_sub(n).ok_or(ScriptFault::TooLong)?;
+                answer_piece(alloc, desk, &mut begun, &piece[..n], output)?;
+            }
+            Err(error) => try_again(&error)?,
+        }
+    }
+    Err(ScriptFault::TooManyReads)
+}
+
+// Answers each line that the piece ends, the first of which was begun before. What follows the last of them
+// begins the next line.
+fn answer_piece<D: Desk, W: Write>(
+    alloc: Global,
+    desk: &mut D,
+    begun: &mut Vec<u8>,
+    piece: &[u8],
+    output: &mut Output<'_, W>,
+) -> Result<(), ScriptFault>
+    ensures falls { D.clean desk.new → D.clean desk.old }
+    ensures heard { HasHeard (D.clean desk.new) (D.stands desk.old) (D.stands desk.new) (begun.old.items ++ piece.now) begun.new.items
+        (W.contents output.old.writer.now) (W.contents output.new.writer.now) result }
+    ensures faults { IfErr result (λ fault. (fault ≡ ScriptFault.NoMemory) ⊎ (fault ≡ ScriptFault.WriteFailed)) }
+    ensures same { output.new.writer.ghost_name ≡ output.old.writer.ghost_name }
+{
+    let mut rest = piece;
+    while let Some((line, after)) = split_once(rest, b'\n') {
+        begun.extend_from_slice(line)?;
+        begun.extend_from_slice(b"\n")?;
+        write_answers(alloc, desk, begun, output)?;
+        begun.clear();
+        rest = after;
+    }
+    Ok(begun.extend_from_slice(rest)?)
+}

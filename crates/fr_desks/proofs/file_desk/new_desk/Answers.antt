@@ -1,0 +1,18 @@
+use Rattle.std.proofs.Common.{◌∙◌, subst, sym}
+use Rattle.sqlite.specs.Files.{file_state}
+use Rattle.sqlite.specs.State.{HasCleanDisk}
+use Rattle.fr_base.specs.Book.{opening}
+use Rattle.fr_base.proofs.SuppliersLaws.{file_of-opening}
+use Rattle.fr_store.specs.Stored.{StandsStored}
+use Rattle.fr_desks.proofs.file_desk.new_desk.Goals as goal
+
+pub returns-in-Ok-clause-stands : goal.returns-in-Ok-clause-stands
+returns-in-Ok-clause-stands g c clean =
+    let store = c.in-Ok.store in
+    let file = c.args.config.now in
+    let kept = subst (λ w. HasCleanDisk (file_state w.records.conn)) c.new.ensures.value clean in
+    let stands : StandsStored store.config (file_state store.conn) file.cluster (opening file) = record {
+      config = c.in-Ok.ensures.config ∙ sym (file_of-opening file c.params-formed.ensures.formed.cluster);
+      rows = λ _. (c.in-Ok.ensures.stands kept, c.in-Ok.ensures.committed kept);
+    } in
+    c.new.ensures.stands file.cluster (opening file) stands

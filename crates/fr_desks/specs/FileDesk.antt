@@ -1,0 +1,37 @@
+-- What a register's file held as it was opened, and what the files hold that are left.
+use Rattle.std.specs.Prelude.{◌≡◌, ◌⊎◌, ⊤}
+use Rattle.sqlite.specs.Files.{image_of}
+use Rattle.sqlite.specs.declared.file.Leftover.{Leftover}
+use Rattle.sqlite.specs.declared.file.Leftover.TheVariants as left
+use Rattle.sqlite_disk.specs.declared.Disk.{Ghosts}
+use Rattle.sqlite_disk.specs.declared.Files.{Files}
+use Rattle.sqlite_wal.specs.Files.{outcomes}
+use Rattle.sqlite_wal.specs.Reads.{AreClean}
+use Rattle.sqlite_wal.specs.Recovery.{Image}
+use Rattle.fr_base.specs.Book.{Book}
+use Rattle.fr_base.specs.Cluster.{Cluster}
+use Rattle.fr_records.specs.Held.{Standing}
+use Rattle.fr_store.specs.StoreFiles.{HoldsBook}
+
+-- As long as nobody else has written to the files, they hold the book, and so does whatever a crash leaves of them.
+abbrev pub LeavesBook : {D : Type 0} → Ghosts D → Files D → Cluster → Book → Type 0
+LeavesBook g files c b = AreClean g files.log files.db
+    → HoldsBook c b (image_of g files) × ((image : Image) → outcomes g files.log files.db image → HoldsBook c b image)
+
+-- So with what is left of them. Where they failed to close nothing is said.
+abbrev pub IsLeftWith : {D : Type 0} {g : Ghosts D} → Leftover D g → Standing
+IsLeftWith {D} {g} (left.Files files) c b = LeavesBook g files c b
+IsLeftWith (left.Unopened files) c b = ⊤
+IsLeftWith (left.Store it) c b = ⊤
+
+-- the book that files hold
+abbrev pub Held : Image → Standing
+Held image c b = HoldsBook c b image
+
+-- What is found in files that held a register stands for its book, as long as it is clean.
+abbrev pub FindsHeld : Image → Type 0 → Standing → Type 0
+FindsHeld held clean stands = clean → (c : Cluster) (b : Book) → Held held c b → stands c b
+
+-- What is opened is what the files hold, or what a crash leaves of them.
+abbrev pub IsLeftBy : {D : Type 0} → Ghosts D → Files D → Image → Type 0
+IsLeftBy g files held = (held ≡ image_of g files) ⊎ outcomes g files.log files.db held

@@ -1,0 +1,2 @@
+pub mod FileDesk
+pub mod Laws

@@ -1,0 +1,18 @@
+-- What is said of a word that is asked for.
+use Rattle.std.specs.Prelude.{◌≡◌, ℕ, true, false, List, filter, Option, Some, None}
+use Rattle.std.specs.Global.{Vec}
+use Rattle.fr_guide.specs.declared.topic.Topic.{Topic}
+use Rattle.fr_guide.specs.Topics.{begin_alike, explained, is_explained, lines_of, page_of, words_of}
+
+-- A word that is explained has a topic, and all that is said of it; another has none.
+abbrev pub Explains : List ℕ → Option (Vec ℕ) → Type 0
+Explains word (Some text) = (is_explained word ≡ true) × (topic : Topic) × (topic.word.now ≡ word) × (text.items ≡ page_of topic)
+Explains word None = is_explained word ≡ false
+
+-- The text has a line for each word that is explained.
+abbrev pub ListsAll : List ℕ → Type 0
+ListsAll text = (topics : List Topic) × (words_of topics ≡ explained) × (text ≡ lines_of topics)
+
+-- The text has those of these lines whose words begin like this one.
+abbrev pub ListsAlike : List ℕ → List ℕ → Type 0
+ListsAlike word text = (topics : List Topic) × (words_of topics ≡ explained) × (text ≡ lines_of (filter (λ t. begin_alike t.word.now word) topics))

@@ -1,0 +1,4 @@
+pub mod Topics
+pub mod Explaining
+pub mod Examining
+pub mod Laws

@@ -1,0 +1,86 @@
+-- The words that are explained, and what is said of them.
+use Rattle.std.specs.Prelude.{ℕ, Bool, List, [], ◌∷◌, ◌++◌, map, min, take, length, codes}
+use Rattle.std.specs.List.{flat_map, list_any}
+use Rattle.std.specs.Str.{bytes_eq, str_eq_ignore_ascii_case}
+use Rattle.fr_guide.specs.declared.topic.Topic.{Topic}
+
+-- refusals of who asks, and of what is no request
+abbrev pub senders : List (List ℕ)
+senders = codes "BadText" ∷ codes "UnknownKey" ∷ codes "NotYours" ∷ codes "BadName" ∷ codes "BadKey" ∷ []
+
+-- of the values of fields
+abbrev pub fields : List (List ℕ)
+fields = codes "BadCycles" ∷ codes "BadSlot" ∷ codes "BadChannel" ∷ codes "BadSignal" ∷ []
+
+-- of variants
+abbrev pub variants : List (List ℕ)
+variants = codes "NoVariant" ∷ codes "Released" ∷ codes "NotReleased" ∷ codes "TooDeep" ∷ []
+
+-- of what is not there
+abbrev pub missing : List (List ℕ)
+missing = codes "NoSupplier" ∷ codes "NoNode" ∷ codes "NoFrame" ∷ codes "NoSignal" ∷ codes "NoPlacement" ∷ []
+
+-- of grants, and of what is there
+abbrev pub grants : List (List ℕ)
+grants = codes "Exists" ∷ codes "NodeDiffers" ∷ codes "NotGranted" ∷ codes "InUse" ∷ codes "KeyTaken" ∷ []
+
+-- of rows that find no room
+abbrev pub edits : List (List ℕ)
+edits = codes "Limit" ∷ codes "Taken" ∷ codes "CellTaken" ∷ codes "Unavailable" ∷ []
+
+-- of a signal's bits
+abbrev pub signals : List (List ℕ)
+signals = codes "OutOfPayload" ∷ codes "BitTaken" ∷ []
+
+-- of imports
+abbrev pub imports : List (List ℕ)
+imports = codes "LabelUsed" ∷ codes "BadRow" ∷ []
+
+-- faults of a cluster file: its text, its keys and its bounds
+abbrev pub clusters : List (List ℕ)
+clusters = codes "BadToml" ∷ codes "BadField" ∷ codes "BadSlots" ∷ codes "BadPayload" ∷ codes "BadCycleCount" ∷ []
+
+-- the lengths of its cycle, and its keys
+abbrev pub segments : List (List ℕ)
+segments = codes "BadMacroticks" ∷ codes "BadSum" ∷ codes "KeyTwice" ∷ []
+
+-- of scripts and connections
+abbrev pub inputs : List (List ℕ)
+inputs = codes "TooLong" ∷ codes "TooManyReads" ∷ codes "ReadFailed" ∷ codes "NoSeparator" ∷ codes "Truncated" ∷ []
+
+-- of files, registers, the socket, memory and output
+abbrev pub files : List (List ℕ)
+files = codes "CannotOpen" ∷ codes "NotEmpty" ∷ codes "NotARegister" ∷ codes "WrongSchema" ∷ codes "CannotListen" ∷ codes "NoMemory"
+    ∷ codes "WriteFailed" ∷ []
+
+-- all of them
+unfoldable pub explained : List (List ℕ)
+explained = senders ++ fields ++ variants ++ missing ++ grants ++ edits ++ signals ++ imports ++ clusters ++ segments ++ inputs ++ files
+
+-- whether the word is explained
+abbrev pub is_explained : List ℕ → Bool
+is_explained word = list_any (λ w. bytes_eq w word) explained
+
+-- the words of topics
+abbrev pub words_of : List Topic → List (List ℕ)
+words_of topics = map (λ t. t.word.now) topics
+
+-- how many letters words have in common at their front that begin alike, unless one of them has fewer
+abbrev pub alike_letters : ℕ → ℕ → ℕ
+alike_letters one other = min (min 3 one) other
+
+-- whether two words begin alike, small and capital letters being the same
+abbrev pub begin_alike : List ℕ → List ℕ → Bool
+begin_alike one other = let n = alike_letters (length one) (length other) in str_eq_ignore_ascii_case (take n one) (take n other)
+
+-- the line of a topic
+abbrev pub line_of : Topic → List ℕ
+line_of topic = topic.word.now ++ codes ": " ++ topic.about.now ++ codes "\n"
+
+-- all that is said of a topic
+abbrev pub page_of : Topic → List ℕ
+page_of topic = line_of topic ++ topic.help.now
+
+-- the lines of topics
+abbrev pub lines_of : List Topic → List ℕ
+lines_of topics = flat_map line_of topics

@@ -1,0 +1,47 @@
+//! The words that are explained, in the order of the table of refusals, then faults by what they are of.
+ghost use Rattle.std.specs.Prelude.{◌≡◌, ◌++◌, IfOk, OnOk};
+ghost use Rattle.fr_guide.specs.Topics.{explained, words_of};
+
+mod clusters;
+mod edits;
+mod fields;
+mod files;
+mod grants;
+mod imports;
+mod inputs;
+mod missing;
+mod segments;
+mod senders;
+mod signals;
+mod variants;
+
+use crate::topic::Topic;
+use fr_base::NoMemory;
+use std::alloc::Global;
+
+/// All of them.
+pub fn topics(alloc: Global) -> Result<Vec<Topic>, NoMemory>
+    ensures { IfOk result (λ all. words_of all.items ≡ explained) }
+{
+    let mut all = Vec::new(alloc);
+    add(&mut all, &senders::topics())?;
+    add(&mut all, &fields::topics())?;
+    add(&mut all, &variants::topics())?;
+    add(&mut all, &missing::topics())?;
+    add(&mut all, &grants::topics())?;
+    add(&mut all, &edits::topics())?;
+    add(&mut all, &signals::topics())?;
+    add(&mut all, &imports::topics())?;
+    add(&mut all, &clusters::topics())?;
+    add(&mut all, &segments::topics())?;
+    add(&mut all, &inputs::topics())?;
+    add(&mut all, &files::topics())?;
+    Ok(all)
+}
+
+// Adds topics.
+fn add(all: &mut Vec<Topic>, more: &[Topic]) -> Result<(), NoMemory>
+    ensures { OnOk result (words_of all.new.items ≡ words_of all.old.items ++ words_of more.now) }
+{
+    Ok(all.extend_from_slice(more)?)
+}

@@ -1,0 +1,57 @@
+//! Refusals of rows that find no room.
+ghost use Rattle.std.specs.Prelude.{◌≡◌};
+ghost use Rattle.fr_guide.specs.Topics.{edits, words_of};
+
+use crate::topic::Topic;
+
+/// The words explained here.
+pub fn topics() -> [Topic; 4]
+    ensures { words_of result ≡ edits }
+{
+    [LIMIT, TAKEN, CELL_TAKEN, UNAVAILABLE]
+}
+
+const LIMIT: Topic = Topic {
+    word: "Limit",
+    about: "refusal 23, and a fault of a cluster file. There would be one too many.",
+    help: "\
+At most: 64 suppliers, 64 nodes a supplier, 64 variants; 256 frames a supplier in one variant;
+8 placements and 64 signals a frame; 1000 imports a supplier; 65536 bytes and 512 rows an import.
+In a cluster file there are more than 64 suppliers.
+Drop frames, placements or signals that are not needed, or split the import.
+Suppliers, nodes, variants and kept imports stay.
+",
+};
+
+const TAKEN: Topic = Topic {
+    word: "Taken",
+    about: "refusal 24. Another supplier holds slot and channel.",
+    help: "\
+It comes for `grant`. A slot on a channel is granted to one node, for all cycles.
+The integrator's report `grants` shows who holds what.
+Grant another slot, or revoke that grant first.
+",
+};
+
+const CELL_TAKEN: Topic = Topic {
+    word: "CellTaken",
+    about: "refusal 25. A cell of the placement is filled.",
+    help: "\
+A cell is a cycle, a slot and a channel, and one frame at most is sent in it.
+The answer names the filled cell of least cycle, A before B, and the frame that is sent there.
+It comes for `place` and for a row of an import. The report `schedule` shows what is sent.
+Choose a base and a repetition that share no cycle with that frame's, or another slot.
+",
+};
+
+const UNAVAILABLE: Topic = Topic {
+    word: "Unavailable",
+    about: "refusal 28, and a fault of a register. Memory or its file failed, or another program has the file.",
+    help: "\
+As a fault: another program, as a server, has the file open; or memory, the disk or the rows give no register.
+For `slotplan create` the file DB may also be no database, or have another table.
+As a refusal: there was no memory, the file failed, or a row in it has not its form. Nothing has changed,
+but for one case: a disk that failed may have kept the change all the same.
+End the other program, see to memory and disk, and ask for a report before you send a command again.
+",
+};

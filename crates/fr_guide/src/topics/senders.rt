@@ -1,0 +1,67 @@
+//! Refusals of who asks, and of what is no request at all.
+ghost use Rattle.std.specs.Prelude.{◌≡◌};
+ghost use Rattle.fr_guide.specs.Topics.{senders, words_of};
+
+use crate::topic::Topic;
+
+/// The words explained here.
+pub fn topics() -> [Topic; 5]
+    ensures { words_of result ≡ senders }
+{
+    [BAD_TEXT, UNKNOWN_KEY, NOT_YOURS, BAD_NAME, BAD_KEY]
+}
+
+const BAD_TEXT: Topic = Topic {
+    word: "BadText",
+    about: "refusal 1. The text is no request.",
+    help: "\
+The line has no space after its key; the text is not one JSON object; `do` names no request;
+or a field is missing, unknown, of another kind, or no whole number of 0 to 4294967295.
+In an import the header is neither of the two, or a row has not the header's fields.
+Compare the fields with those of the request. Write numbers without quotes and without a point.
+",
+};
+
+const UNKNOWN_KEY: Topic = Topic {
+    word: "UnknownKey",
+    about: "refusal 2. The key belongs to nobody.",
+    help: "\
+Neither the integrator nor a supplier has the key when the request's turn comes.
+Over HTTP it also comes where the field X-Office-Key is missing or stands more than once.
+For a report with `--supplier NAME` there is no supplier of that name.
+Use a key of the cluster file, or let the integrator add the supplier by `add_supplier`.
+",
+};
+
+const NOT_YOURS: Topic = Topic {
+    word: "NotYours",
+    about: "refusal 3. The request is not for the one who asks.",
+    help: "\
+A supplier gave a command of the integrator, or the integrator gave one of a supplier.
+The integrator plans variants, suppliers, nodes and grants.
+A supplier plans its frames, placements and signals, and imports them. Both ask for reports.
+Send the request with the key of the one who may ask it.
+",
+};
+
+const BAD_NAME: Topic = Topic {
+    word: "BadName",
+    about: "refusal 4, and a fault of a cluster file. A name has not the form of a name.",
+    help: "\
+A name is 1 to 32 ASCII letters, digits and underscores, and begins with a letter.
+That holds for variants, suppliers, nodes, frames, signals and the labels of imports.
+In a cluster file a supplier's name is meant; `slotplan check` shows which one.
+Choose another name. Hyphens, spaces and letters with accents are not allowed. Case matters.
+",
+};
+
+const BAD_KEY: Topic = Topic {
+    word: "BadKey",
+    about: "refusal 30, and a fault of a cluster file. A key has not the form of a key.",
+    help: "\
+A key is 8 to 64 ASCII letters and digits. Case matters.
+As a refusal it comes for `add_supplier`.
+In a cluster file it is the integrator's key or a supplier's; `slotplan check` says whose.
+Choose another key.
+",
+};
