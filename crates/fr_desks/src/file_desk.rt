@@ -108,13 +108,7 @@ pub fn open<S: Start>(rt: &HostRuntime, path: &str, start: S) -> Result<FileDesk
         return Err((StoreFault::NotARegister, None));
     }
     match Store::open_at(rt, path, start) {
-        Ok(mut store) => {
-            if store.is_ready() {
-                Ok(Office::new(rt.alloc(), store))
-            } else {
-                Err((StoreFault::Unavailable, None))
-            }
-        }
+        Ok(store) => Ok(Office::new(rt.alloc(), store)),
         Err(refused) => Err(refused),
     }
 }
