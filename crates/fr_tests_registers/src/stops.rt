@@ -8,7 +8,7 @@ use crate::stores::{after, created};
 use fr_base::{Config, Desk};
 use fr_office::Office;
 use fr_store::Store;
-use sqlite::{Connection, FileStore};
+use sqlite::{Alter, Connection, FileStore};
 use std::alloc::Global;
 use std::test::Fail;
 
@@ -94,14 +94,24 @@ impl Deed for Asking {
 
 // What is left of a new register of which the requests are asked.
 fn asked(alloc: Global, store: Store<FileStore<Fused>>, lines: &[Line]) -> Result<Left, Fail> {
-    let mut office = Office::new(alloc, store);
-    let count = count_done(alloc, &mut office, lines)?;
-    carry_out(alloc, &mut office, &NOT_YOURS)?;
+    let (count, store) = counted(alloc, store, lines)?;
     Ok(Left {
-        files: files_left(office.into_store().into_connection()),
+        files: files_left(store.into_connection()),
         done: count.saturating_add(1),
         is_stopped: count < lines.len(),
     })
+}
+
+// How many of the requests were done before the first that was not, and the register after all.
+fn counted<S: Alter + Drop>(
+    alloc: Global,
+    store: Store<S>,
+    lines: &[Line],
+) -> Result<(usize, Store<S>), Fail> {
+    let mut office = Office::new(alloc, store);
+    let count = count_done(alloc, &mut office, lines)?;
+    carry_out(alloc, &mut office, &NOT_YOURS)?;
+    Ok((count, office.into_store()))
 }
 
 // How many requests were done before the first that was not. After that none is.
