@@ -1,5 +1,5 @@
 -- Scripts' lines computed: who sends each, what it asks, and which are one supplier's.
-use Rattle.std.proofs.Common.{◌≡◌, ℕ, false, true, List, [], ◌∷◌, ◌++◌, map, Some, None, refl, codes}
+use Rattle.std.proofs.Common.{◌≡◌, ℕ, false, List, [], ◌∷◌, ◌++◌, refl, codes}
 use Rattle.std.specs.Prelude.{⊤}
 use Rattle.std.specs.Char.{encode_utf8}
 use Rattle.std.specs.Float.Numeral.{scan_numeral}

@@ -1,25 +1,21 @@
 -- Lines that were answered so: the book stays sound, what they ask is a run, and to each supplier they are answered as if it were alone.
-use Rattle.std.proofs.Common.{◌≡◌, inl, inr, ℕ, Bool, true, false, true≢false, cond, zero, suc, take, ◌||◌, List, [], ◌∷◌, map, find, filter, Option, Some, None, Result, Ok, Err, IsTrue, refl, sym, ap, ◌∙◌, subst}
+use Rattle.std.proofs.Common.{◌≡◌, inl, inr, ℕ, Bool, true, false, true≢false, cond, zero, suc, take, ◌||◌, List, [], ◌∷◌, map, Option, Some, None, Result, Ok, Err, refl, sym, ap, ◌∙◌, subst}
 use Rattle.std.specs.List.{list_any}
 use Rattle.std.specs.Option.{option_and_then}
 use Rattle.std.proofs.lemmas.Bool.{cases_Bool}
 use Rattle.fr_base.specs.Actors.{actor_of}
-use Rattle.fr_base.specs.Alone.{alone, is_mine, is_refused, is_unavailable, rows_of}
+use Rattle.fr_base.specs.Alone.{is_mine, is_refused, is_unavailable, rows_of}
 use Rattle.fr_base.specs.Book.{Book, opening}
 use Rattle.fr_base.specs.Cluster.{Cluster, ClusterFile, IsWellFormed}
-use Rattle.fr_base.specs.Names.{same_text}
 use Rattle.fr_base.specs.Run.{IsRun}
 use Rattle.fr_base.specs.Sound.{IsSound}
 use Rattle.fr_base.specs.Step.{Outcome, step}
-use Rattle.fr_base.specs.Tables.{only}
 use Rattle.fr_base.specs.declared.actor.Actor.{Actor}
 use Rattle.fr_base.specs.declared.actor.Actor.TheVariants.{Integrator, Supplier}
 use Rattle.fr_base.specs.declared.answer.Answer.{Answer}
 use Rattle.fr_base.specs.declared.answer.Answer.TheVariants.{Refused}
-use Rattle.fr_base.specs.declared.key.Key.{Key}
 use Rattle.fr_base.specs.declared.name.Name.{Name}
 use Rattle.fr_base.specs.declared.refusal.Refusal.{Refusal}
-use Rattle.fr_base.specs.declared.refusal.Refusal.TheVariants.{BadText, Unavailable, UnknownKey}
 use Rattle.fr_base.specs.declared.request.Ask.{Ask}
 use Rattle.fr_base.specs.declared.request.Request.{Request}
 use Rattle.fr_base.proofs.SoundSteps.{step-sound}
@@ -29,7 +25,7 @@ use Rattle.fr_base.proofs.AloneSteps.{step-alone, step-not_mine}
 use Rattle.fr_base.proofs.AloneRuns.{opening-alone}
 use Rattle.fr_http.proofs.AloneActors.{actor-alone, is_heard, mine-heard, not_lacked}
 use Rattle.fr_cli.specs.Asked.{ask_in, asked, request_in, sender_of}
-use Rattle.fr_cli.specs.ScriptRun.{AreAnswered, AreAsIfAlone, Replied, WasCollisionFreeAfter, answers_of, answers_to, asks_in, book_after, book_then, is_own, line_step, lines_of, outcome_of, own_lines, with_ask}
+use Rattle.fr_cli.specs.ScriptRun.{AreAnswered, AreAsIfAlone, Replied, WasCollisionFreeAfter, answers_of, answers_to, asks_in, book_after, book_then, is_own, line_step, lines_of, outcome_of, with_ask}
 
 -- A line that is answered leaves a sound book sound.
 replied-sound : (c : Cluster) (old new : Book) (read : Result Ask Refusal) (answer : Answer) → Replied c old read answer new → IsSound c old → IsSound c new

@@ -1,11 +1,11 @@
-use Rattle.std.proofs.Common.{◌≡◌, ◌++◌, ◌∷◌, [], ℕ, List, Err, refl, sym, ap, ◌∙◌, subst, append_assoc, append-nil, take, drop, take-append-drop, rules, inl, inr}
+use Rattle.std.proofs.Common.{◌≡◌, ◌++◌, ◌∷◌, [], Err, refl, sym, ap, ◌∙◌, subst, append_assoc, append-nil, take, drop, take-append-drop, rules, inl, inr}
 use Rattle.std.proofs.KnownBytes.{Appends-nil, Appends-trans, Appends-kept}
 use Rattle.fr_base.specs.declared.answer.Answer.TheVariants.{Done}
 use Rattle.fr_cli.specs.Answering.{AnswersLines, HasWritten}
 use Rattle.fr_cli.specs.Asking.{line_of}
 use Rattle.fr_cli.specs.Script.{request_lines}
 use Rattle.fr_cli.specs.declared.script_fault.ScriptFault.TheVariants.{NoMemory, WriteFailed}
-use Rattle.fr_cli.proofs.AnsweringLaws.{cut_here, lines_falls, lines_kept, lines_then, no_lines, one_line}
+use Rattle.fr_cli.proofs.AnsweringLaws.{cut_here, lines_kept, lines_then, no_lines, one_line}
 use Rattle.fr_cli.proofs.answering.write_answers.Goals as goal
 
 pub loop-line-init : goal.loop-line-init

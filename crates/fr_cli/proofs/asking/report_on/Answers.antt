@@ -1,7 +1,4 @@
-use Rattle.std.proofs.Common.{◌∙◌, ap₂, subst, sym}
-use Rattle.std.specs.Prelude.{Option}
-use Rattle.fr_base.specs.declared.actor.Actor.{Actor}
-use Rattle.fr_base.specs.declared.request.Request.{Request}
+use Rattle.std.proofs.Common.{◌∙◌, sym}
 use Rattle.fr_cli.proofs.AskingLaws.{refused_prints, asks_same}
 use Rattle.fr_cli.proofs.asking.report_on.Goals as goal
 use Rattle.fr_cli.specs.Asking.{IsAnswer, query_of}

@@ -1,4 +1,4 @@
-use Rattle.std.proofs.Common.{◌≡◌, ◌++◌, ◌∷◌, [], ℕ, List, Err, Ok, refl, sym, ap, ◌∙◌, subst, append_assoc, inl, inr, rules}
+use Rattle.std.proofs.Common.{◌≡◌, ◌++◌, ◌∷◌, [], Err, refl, sym, ap, ◌∙◌, subst, append_assoc, rules}
 use Rattle.std.proofs.KnownBytes.{Appends-nil, Appends-trans}
 use Rattle.fr_cli.specs.Answering.{AnswersLines}
 use Rattle.fr_cli.specs.Incoming.{AreFirstOfAll, EndsLines, HasHeard}

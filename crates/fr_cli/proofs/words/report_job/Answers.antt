@@ -1,4 +1,4 @@
-use Rattle.std.proofs.Common.{rules, ◌∙◌, ◌≡◌, refl, sym}
+use Rattle.std.proofs.Common.{◌∙◌, ◌≡◌, refl}
 use Rattle.std.specs.Prelude.{codes, option_map}
 use Rattle.clap.proofs.WalkLemmas.{first_value-rows}
 use Rattle.clap.specs.Walk.{first_of, rows_of}

@@ -1,0 +1,35 @@
+use Rattle.std.proofs.Common.{rules, ◌∙◌, ap, subst, sym}
+use Rattle.sqlite_wal.specs.Files.{image_at}
+use Rattle.fr_cli.specs.Asking.{import_of, line_of, query_of}
+use Rattle.fr_cli.specs.Faults.{IsNotImported, IsNotReported}
+use Rattle.fr_cli.specs.Performing.{Says}
+use Rattle.fr_cli.specs.Queries.{report_of}
+use Rattle.fr_cli.specs.RegisterFiles.{IsAnswerOfFile}
+use Rattle.fr_cli.specs.declared.asking.ImportWords.{ImportWords}
+use Rattle.fr_cli.specs.declared.query.Query.{Query}
+use Rattle.fr_cli.specs.declared.words.Job.{Job}
+use Rattle.fr_cli.specs.declared.words.Job.TheVariants as job
+use Rattle.fr_cli.proofs.perform.perform.Goals as goal
+
+-- what a report's job asks
+abbrev query_in : Query → Job → Query
+query_in query (job.Report db asked) = asked
+query_in query _ = query
+
+pub returns-in-Report-clause-report : goal.returns-in-Report-clause-report
+returns-in-Report-clause-report g c db query is =
+    let says = subst (λ asked. Says IsNotReported (IsAnswerOfFile (image_at g.S.Start) c.report_file-done.result.1 (query_of asked)) (report_of asked.report) c.report_file-done.result.0)
+    (ap (query_in query) (sym c.in-Report.is ∙ is)) c.report_file-done.ensures in
+    (c.report_file-done.result.0, says, search rules)
+
+-- the words of an import's job
+abbrev words_in : ImportWords → Job → ImportWords
+words_in words (job.Import db key variant label file) = record { key = key; variant = variant; label = label }
+words_in words _ = words
+
+pub returns-in-Import-clause-import : goal.returns-in-Import-clause-import
+returns-in-Import-clause-import g c db key variant label file is =
+    let said = c.import_file-done.ensures in
+    let says = subst (λ words. Says IsNotImported (IsAnswerOfFile (image_at g.S.Start) c.import_file-done.result.1 (import_of words said.0)) line_of c.import_file-done.result.0)
+    (ap (words_in (record { key = key; variant = variant; label = label })) (sym c.in-Import.is ∙ is)) said.1 in
+    (said.0, c.import_file-done.result.0, says, search rules)
