@@ -1,11 +1,13 @@
 //! What is drawn of one slot and channel.
 ghost use Rattle.std.specs.Prelude.{◌≡◌, ◌+◌, ◌*◌, ◌<◌, ◌++◌, ◌∷◌, [], OnOk};
 ghost use Rattle.std.specs.String.{string_bytes};
-ghost use Rattle.fr_picture.specs.Lanes.{IsApart, grant_text, grants_text, lane_cells, lane_text, lanes_text, part_text, rectangles_text, shows_text};
+ghost use Rattle.fr_picture.specs.Lanes.{IsApart, empty_text, free_text, gap_text, grant_text, grants_text, held_end, held_text, lane_cells, lane_text, lanes_text, opens_text, part_text, rectangles_text, shows_text};
 ghost use Rattle.fr_picture.specs.Rectangles.{AreApart, cells_in};
 
 use crate::rectangle::{Rectangle, push_rectangle};
+use crate::texts::{push, push_at};
 use fr_base::{Channel, GrantRow, NoMemory, Sending, Slot};
+use std::alloc::Global;
 
 /// How many lanes there are: one for each slot and channel.
 pub(crate) const LANES: usize = 2046;
@@ -15,6 +17,8 @@ pub(crate) const LANES: usize = 2046;
 pub struct Scale {
     /// How many cycles there are: the height of a lane.
     pub cycles: u32,
+    /// The height of a part of the drawing, with the slots' numbers.
+    pub height: u32,
     /// How wide a lane is.
     pub width: u32,
 }
@@ -64,6 +68,19 @@ pub(crate) fn lane_number(slot: Slot, channel: Channel) -> usize
 }
 
 impl Lane {
+    /// A lane in which nothing is drawn.
+    pub(crate) fn new(alloc: Global, place: Place) -> Lane
+        ensures place { result.place ≡ place }
+        ensures grants { result.grants.items ≡ [] }
+        ensures rectangles { result.rectangles.items ≡ [] }
+    {
+        Lane {
+            place,
+            grants: Vec::new(alloc),
+            rectangles: Vec::new(alloc),
+        }
+    }
+
     /// Draws the cell in this lane: it makes the last rectangle longer, or begins another.
     pub(crate) fn add(&mut self, cell: &Sending) -> Result<(), NoMemory>
         ensures cells { OnOk result (lane_cells self.new ≡ lane_cells self.old ++ cell.now ∷ []) }
@@ -117,21 +134,28 @@ fn push_lane(scale: Scale, lane: &Lane, out: &mut String) -> Result<(), NoMemory
     ensures { OnOk result (string_bytes out.new ≡ string_bytes out.old ++ lane_text scale lane.now) }
 {
     let place = lane.place;
-    push_part(place.opens, scale.cycles, out)?;
+    push_opens(place.opens, scale.height, out)?;
     push_shows(scale, place.x, place.shows, out)?;
     push_grants(scale, place.x, lane.grants.as_slice(), out)?;
     push_rectangles(scale, place.x, lane.rectangles.as_slice(), out)
 }
 
 // Appends the end of a part and the beginning of the next, where one begins.
-#[tactic(auto, unfolding(crate::specs::Lanes::part_text))]
-fn push_part(opens: bool, cycles: u32, out: &mut String) -> Result<(), NoMemory>
-    ensures { OnOk result (string_bytes out.new ≡ string_bytes out.old ++ part_text opens cycles) }
+#[tactic(auto, unfolding(crate::specs::Lanes::opens_text))]
+fn push_opens(opens: bool, height: u32, out: &mut String) -> Result<(), NoMemory>
+    ensures { OnOk result (string_bytes out.new ≡ string_bytes out.old ++ opens_text opens height) }
 {
-    if !opens {
-        return Ok(());
+    if opens {
+        push_part(height, out)
+    } else {
+        Ok(())
     }
-    let height = u64::from(cycles) + 3;
+}
+
+#[tactic(auto, unfolding(crate::specs::Lanes::part_text))]
+fn push_part(height: u32, out: &mut String) -> Result<(), NoMemory>
+    ensures { OnOk result (string_bytes out.new ≡ string_bytes out.old ++ part_text height) }
+{
     write!(
         out,
         "</svg>\n<svg class=plan viewBox=\"0 -3 138 {height}\"><use href=\"#cycles\" />\n"
@@ -151,7 +175,7 @@ fn push_shows(scale: Scale, x: u32, shows: Shows, out: &mut String) -> Result<()
 }
 
 // Appends a gap, and which slots nobody holds.
-#[tactic(auto, unfolding(crate::specs::Lanes::shows_text))]
+#[tactic(auto, unfolding(crate::specs::Lanes::gap_text))]
 fn push_gap(
     scale: Scale,
     x: u32,
@@ -159,13 +183,30 @@ fn push_gap(
     last: u32,
     out: &mut String,
 ) -> Result<(), NoMemory>
-    ensures { OnOk result (string_bytes out.new ≡ string_bytes out.old ++ shows_text scale x (Shows.Gap first last)) }
+    ensures { OnOk result (string_bytes out.new ≡ string_bytes out.old ++ gap_text scale x first last) }
 {
-    let Scale { cycles, width } = scale;
-    let inside = u64::from(x) + 1;
+    push_empty(scale, x, out)?;
+    push_free(x, first, last, out)
+}
+
+#[tactic(auto, unfolding(crate::specs::Lanes::empty_text))]
+fn push_empty(scale: Scale, x: u32, out: &mut String) -> Result<(), NoMemory>
+    ensures { OnOk result (string_bytes out.new ≡ string_bytes out.old ++ empty_text scale x) }
+{
+    let Scale { cycles, width, .. } = scale;
     write!(
         out,
-        "<rect class=gap x={x} y=0 width={width} height={cycles}><title>nobody holds slots {first} to {last}</title></rect><text class=free x={inside} y=0>free: {first} to {last}</text>\n"
+        "<rect class=gap x={x} y=0 width={width} height={cycles} />"
+    )
+}
+
+#[tactic(auto, unfolding(crate::specs::Lanes::free_text))]
+fn push_free(x: u32, first: u32, last: u32, out: &mut String) -> Result<(), NoMemory>
+    ensures { OnOk result (string_bytes out.new ≡ string_bytes out.old ++ free_text x first last) }
+{
+    write!(
+        out,
+        "<text class=free x={x} y=0>nobody holds {first} to {last}</text>\n"
     )
 }
 
@@ -189,19 +230,28 @@ fn push_grants(
 fn push_grant(scale: Scale, x: u32, grant: &GrantRow, out: &mut String) -> Result<(), NoMemory>
     ensures { OnOk result (string_bytes out.new ≡ string_bytes out.old ++ grant_text scale x grant.now) }
 {
-    let Scale { cycles, width } = scale;
-    let GrantRow {
-        slot,
-        channel,
-        node,
-        supplier,
-    } = *grant;
-    let slot = slot.get();
-    let channel = channel.as_str();
+    push_held(scale, x, grant, out)?;
+    push_at(grant.slot, grant.channel, out)?;
+    push_held_end(out)
+}
+
+#[tactic(auto, unfolding(crate::specs::Lanes::held_text))]
+fn push_held(scale: Scale, x: u32, grant: &GrantRow, out: &mut String) -> Result<(), NoMemory>
+    ensures { OnOk result (string_bytes out.new ≡ string_bytes out.old ++ held_text scale x grant.now) }
+{
+    let Scale { cycles, width, .. } = scale;
+    let GrantRow { node, supplier, .. } = *grant;
     write!(
         out,
-        "<rect class=held x={x} y=0 width={width} height={cycles}><title>node {node} of {supplier} holds slot {slot} on {channel}, and sends nothing here</title></rect>\n"
+        "<rect class=held x={x} y=0 width={width} height={cycles}><title>nothing sent by node {node} of {supplier}:"
     )
+}
+
+#[tactic(auto, unfolding(crate::specs::Lanes::held_end))]
+fn push_held_end(out: &mut String) -> Result<(), NoMemory>
+    ensures { OnOk result (string_bytes out.new ≡ string_bytes out.old ++ held_end) }
+{
+    push("</title></rect>\n", out)
 }
 
 #[tactic(auto, unfolding(crate::specs::Lanes::rectangles_text))]
@@ -214,7 +264,7 @@ fn push_rectangles(
     ensures { OnOk result (string_bytes out.new ≡ string_bytes out.old ++ rectangles_text scale x rectangles.now) }
 {
     for rectangle in rectangles {
-        push_rectangle(x, scale.width, rectangle, out)?;
+        push_rectangle(x, scale.width, rectangles, rectangle, out)?;
     }
     Ok(())
 }

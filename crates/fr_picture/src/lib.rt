@@ -2,8 +2,18 @@
 #![tactic(auto)]
 
 mod drawing;
+mod frames;
 mod lane;
+mod page;
+mod places;
 mod rectangle;
+mod shares;
+mod style;
+mod texts;
 
-pub use lane::{Lane, Place, Shows};
+pub use drawing::Drawing;
+pub use frames::{DrawnFrame, DrawnSignal, Run, worst_first};
+pub use lane::{Lane, Place, Scale, Shows};
+pub use page::{Plan, write_page};
 pub use rectangle::Rectangle;
+pub use shares::Share;
