@@ -1,5 +1,5 @@
 -- The numbers of the cycles, one after the other, and the parts of a page.
-use Rattle.std.proofs.Common.{◌≡◌, ℕ, ◌+◌, List, [], ◌∷◌, ◌++◌, subst, map, ap, ◌∙◌, sym, append-nil, zero-add, refl}
+use Rattle.std.proofs.Common.{◌≡◌, ℕ, ◌+◌, List, [], ◌∷◌, ◌++◌, subst, map, ap, ◌∙◌, sym, append-nil, append_assoc, zero-add}
 use Rattle.std.specs.List.{flat_map, range_with_len}
 use Rattle.std.proofs.lemmas.Grind.{flat_map-append}
 use Rattle.std.proofs.lemmas.List.FromFn.{map-range_with_len_more}
@@ -22,7 +22,11 @@ flat_map-range f n =
     sym (same (n + 1)) ∙ ap (flat_map f) (map-range_with_len_more (λ x. x) 0 n n (zero-add n)) ∙ flat_map-append f (map (λ x. x) (range_with_len 0 n)) (n ∷ [])
     ∙ ap (λ t. t ++ flat_map f (n ∷ [])) (same n) ∙ ap (λ t. flat_map f (range_with_len 0 n) ++ t) (append-nil (f n))
 
-pub ruleset cycles = (flat_map-range)
+-- what was put behind the text so far, and one number more
+pub number_more : (f : ℕ → List ℕ) (n : ℕ) (old front new : List ℕ) → front ≡ old ++ flat_map f (range_with_len 0 n) → new ≡ front ++ f n
+    → new ≡ old ++ flat_map f (range_with_len 0 (n + 1))
+number_more f n old front new before after =
+    after ∙ ap (λ t. t ++ f n) before ∙ append_assoc old (flat_map f (range_with_len 0 n)) (f n) ∙ ap (λ t. old ++ t) (sym (flat_map-range f n))
 
 -- what is known of a page, for the plan's own rows
 pub page_of : (plan : Plan) (drawing : Drawing) (shares listed : List Share) (holds : List GrantRow) (cells : List Sending) (frames : List DrawnFrame) (names known : List Name) (text : List ℕ)

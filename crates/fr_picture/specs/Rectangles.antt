@@ -33,7 +33,7 @@ AreApart (r ∷ s ∷ rs) = ¬ Meets r s.first × AreApart (s ∷ rs)
 -- ---- their text
 
 -- of the same frame and as high: in one lane the same but for the cycle
-abbrev pub is_like : Rectangle → Rectangle → Bool
+unfoldable pub is_like : Rectangle → Rectangle → Bool
 is_like r s = (r.cycles == s.cycles) && same_text r.first.frame s.first.frame && same_text r.first.supplier s.first.supplier
 
 -- by what a rectangle is named in the page: its channel, slot and first cycle

@@ -210,7 +210,7 @@ fn push_drawing(
 }
 
 // Appends the numbers of the cycles.
-#[tactic(auto, using(crate::proofs::PageLemmas::cycles), unfolding(crate::specs::Pages::cycles_text))]
+#[tactic(auto, unfolding(crate::specs::Pages::cycles_text))]
 fn push_cycles(cycles: u32, out: &mut String) -> Result<(), NoMemory>
     ensures { OnOk result (string_bytes out.new ≡ string_bytes out.old ++ cycles_text cycles) }
 {

@@ -54,6 +54,7 @@ impl Rectangle {
 
 impl Rectangle {
     // Whether the other is of the same frame and as high. In one lane it is then the same but for its cycle.
+    #[tactic(auto, unfolding(crate::specs::Rectangles::is_like))]
     fn is_like(&self, other: &Rectangle) -> bool
         ensures { result ≡ is_like self.now other.now }
     {
@@ -67,8 +68,9 @@ impl Rectangle {
 fn first_like(all: &[Rectangle], rectangle: &Rectangle) -> Option<Rectangle>
     ensures { result ≡ find (λ other. is_like other rectangle.now) all.now }
 {
-    let first = all.iter().find(|other| other.is_like(rectangle))?;
-    Some(*first)
+    all.iter()
+        .copied()
+        .find(|other| other.is_like(rectangle))
 }
 
 /// Appends a rectangle of a lane, of which these are all: from where on across, and how wide. It is drawn whole where it is the first
