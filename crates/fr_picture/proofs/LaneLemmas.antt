@@ -117,4 +117,5 @@ pub drawing_of : (holds : List GrantRow) (cells : List Sending) (empty held all 
 drawing_of holds cells empty held all g0 c0 a0 g1 c1 a1 c2 g2 a2 = record {
   grants = subst (λ xs. IsPermutation xs holds) (sym g2) (subst (λ xs. IsPermutation (drawn_grants held) (xs ++ holds)) g0 g1);
   cells = subst (λ xs. IsPermutation (drawn_cells all) (xs ++ cells)) (c1 ∙ c0) c2;
-  apart = a2 (a1 a0) }
+  apart = a2 (a1 a0);
+}

@@ -37,4 +37,5 @@ page_of plan drawing shares listed holds cells frames names known text e1 e2 e3 
   shares = shares;
   drawn = subst (λ cs. IsDrawing plan.grants cs drawing.lanes.items) e2 (subst (λ gs. IsDrawing gs cells drawing.lanes.items) e1 drawn);
   suppliers = e6 ∙ e5 ∙ e4 ∙ ap (λ fs. suppliers_of fs holds) e3 ∙ ap (λ gs. suppliers_of plan.frames.items gs) e1;
-  is = e8 ∙ ap (λ ss. page_text plan drawing ss) e7 }
+  is = e8 ∙ ap (λ ss. page_text plan drawing ss) e7;
+}

@@ -65,7 +65,7 @@ shows_text scale x (Gap first last) = gap_text scale x first last
 unfoldable pub held_text : Scale → ℕ → GrantRow → List ℕ
 held_text scale x g =
     together (codes "<rect class=held x=" ∷ decimal x ∷ codes " y=0 width=" ∷ decimal scale.width ∷ codes " height=" ∷ decimal scale.cycles
-        ∷ codes "><title>nothing sent by node " ∷ g.node ∷ codes " of " ∷ g.supplier ∷ codes ":" ∷ [])
+    ∷ codes "><title>nothing sent by node " ∷ g.node ∷ codes " of " ∷ g.supplier ∷ codes ":" ∷ [])
 
 unfoldable pub held_end : List ℕ
 held_end = codes "</title></rect>\n"

@@ -42,12 +42,12 @@ viewer_text (Some supplier) = together (codes " This page shows what is " ∷ su
 unfoldable pub cycle_figures : List ℕ → RawParams → List ℕ
 cycle_figures names p =
     together (codes "</p>\n<p>Channels " ∷ names ∷ codes "; " ∷ decimal p.cycles ∷ codes " cycles of " ∷ decimal p.macroticks_per_cycle
-        ∷ codes " macroticks; payload of " ∷ decimal p.payload_words ∷ codes " words. " ∷ [])
+    ∷ codes " macroticks; payload of " ∷ decimal p.payload_words ∷ codes " words. " ∷ [])
 
 unfoldable pub segment_figures : RawParams → List ℕ
 segment_figures p =
     together (decimal p.static_slots ∷ codes " static slots of " ∷ decimal p.slot_macroticks ∷ codes ", dynamic segment " ∷ decimal p.dynamic_macroticks
-        ∷ codes ", symbol window " ∷ decimal p.symbol_macroticks ∷ codes ", idle time " ∷ decimal p.idle_macroticks ∷ codes ".</p>\n" ∷ [])
+    ∷ codes ", symbol window " ∷ decimal p.symbol_macroticks ∷ codes ", idle time " ∷ decimal p.idle_macroticks ∷ codes ".</p>\n" ∷ [])
 
 -- the cluster's figures
 unfoldable pub cluster_text : Params → List ℕ

@@ -58,7 +58,7 @@ named_text r = fixed_text GroupStart ++ id_text r
 unfoldable pub opening_text : ℕ → ℕ → Rectangle → List ℕ
 opening_text x width r =
     together (codes "><rect class=s-" ∷ r.first.supplier ∷ codes " x=" ∷ decimal x ∷ codes " y=" ∷ decimal r.first.cycle ∷ codes " width=" ∷ decimal width ∷ codes " height=" ∷ decimal r.cycles
-        ∷ codes "><title>" ∷ [])
+    ∷ codes "><title>" ∷ [])
 
 -- what is sent
 unfoldable pub names_text : Rectangle → List ℕ

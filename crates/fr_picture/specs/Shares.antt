@@ -33,7 +33,7 @@ classes_text shares = flat_map class_text shares
 unfoldable pub fill_text : ℕ → List ℕ → List ℕ → List ℕ
 fill_text number colour path =
     together (codes "<pattern id=p" ∷ decimal number ∷ codes " width=1 height=1 patternUnits=userSpaceOnUse><path fill=\"" ∷ colour
-        ∷ codes "\" d=\"M0 0h1v1H0z\"/><path stroke=#000 stroke-width=.14 d=\"" ∷ path ∷ codes "\"/></pattern>\n" ∷ [])
+    ∷ codes "\" d=\"M0 0h1v1H0z\"/><path stroke=#000 stroke-width=.14 d=\"" ∷ path ∷ codes "\"/></pattern>\n" ∷ [])
 
 -- a supplier's pattern on its colour
 unfoldable pub paint_text : ℕ → List ℕ
@@ -49,7 +49,7 @@ key_text supplier =
 unfoldable pub holds_text : Share → ℕ → List ℕ
 holds_text s hundredths =
     together (codes "holds " ∷ decimal s.held ∷ codes " slots and sends in " ∷ decimal s.sent ∷ codes " of their " ∷ decimal s.room ∷ codes " cells: "
-        ∷ decimal hundredths ∷ codes " %</li>\n" ∷ [])
+    ∷ decimal hundredths ∷ codes " %</li>\n" ∷ [])
 
 unfoldable pub share_text : Share → List ℕ
 share_text s = key_text s.supplier ++ holds_text s (percent s.sent s.room)

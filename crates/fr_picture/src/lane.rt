@@ -176,13 +176,7 @@ fn push_shows(scale: Scale, x: u32, shows: Shows, out: &mut String) -> Result<()
 
 // Appends a gap, and which slots nobody holds.
 #[tactic(auto, unfolding(crate::specs::Lanes::gap_text))]
-fn push_gap(
-    scale: Scale,
-    x: u32,
-    first: u32,
-    last: u32,
-    out: &mut String,
-) -> Result<(), NoMemory>
+fn push_gap(scale: Scale, x: u32, first: u32, last: u32, out: &mut String) -> Result<(), NoMemory>
     ensures { OnOk result (string_bytes out.new ≡ string_bytes out.old ++ gap_text scale x first last) }
 {
     push_empty(scale, x, out)?;
@@ -211,12 +205,7 @@ fn push_free(x: u32, first: u32, last: u32, out: &mut String) -> Result<(), NoMe
 }
 
 #[tactic(auto, unfolding(crate::specs::Lanes::grants_text))]
-fn push_grants(
-    scale: Scale,
-    x: u32,
-    grants: &[GrantRow],
-    out: &mut String,
-) -> Result<(), NoMemory>
+fn push_grants(scale: Scale, x: u32, grants: &[GrantRow], out: &mut String) -> Result<(), NoMemory>
     ensures { OnOk result (string_bytes out.new ≡ string_bytes out.old ++ grants_text scale x grants.now) }
 {
     for grant in grants {

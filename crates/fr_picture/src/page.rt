@@ -153,11 +153,7 @@ fn push_cluster(params: &Params, out: &mut String) -> Result<(), NoMemory>
 
 // Appends the channels, and what a cycle has.
 #[tactic(auto, unfolding(crate::specs::Pages::cycle_figures))]
-fn push_cycle_figures(
-    channels: &str,
-    raw: RawParams,
-    out: &mut String,
-) -> Result<(), NoMemory>
+fn push_cycle_figures(channels: &str, raw: RawParams, out: &mut String) -> Result<(), NoMemory>
     ensures { OnOk result (string_bytes out.new ≡ string_bytes out.old ++ cycle_figures channels.now raw) }
 {
     let RawParams {

@@ -68,9 +68,7 @@ impl Rectangle {
 fn first_like(all: &[Rectangle], rectangle: &Rectangle) -> Option<Rectangle>
     ensures { result ≡ find (λ other. is_like other rectangle.now) all.now }
 {
-    all.iter()
-        .copied()
-        .find(|other| other.is_like(rectangle))
+    all.iter().copied().find(|other| other.is_like(rectangle))
 }
 
 /// Appends a rectangle of a lane, of which these are all: from where on across, and how wide. It is drawn whole where it is the first
@@ -111,11 +109,7 @@ fn push_drawn(
 
 // Appends the first rectangle of its kind again, so many cycles later.
 #[tactic(auto, unfolding(crate::specs::Rectangles::again_text))]
-fn push_again(
-    first: &Rectangle,
-    rectangle: &Rectangle,
-    out: &mut String,
-) -> Result<(), NoMemory>
+fn push_again(first: &Rectangle, rectangle: &Rectangle, out: &mut String) -> Result<(), NoMemory>
     requires { first.now.first.cycle < rectangle.now.first.cycle }
     ensures { OnOk result (string_bytes out.new ≡ string_bytes out.old ++ again_text first.now rectangle.now) }
 {
@@ -176,11 +170,7 @@ fn push_named(rectangle: &Rectangle, out: &mut String) -> Result<(), NoMemory>
 
 // Appends a title: the names, the slot and channel, and the cycles of all rectangles of this kind.
 #[tactic(auto, unfolding(crate::specs::Rectangles::title_text))]
-fn push_title(
-    all: &[Rectangle],
-    rectangle: &Rectangle,
-    out: &mut String,
-) -> Result<(), NoMemory>
+fn push_title(all: &[Rectangle], rectangle: &Rectangle, out: &mut String) -> Result<(), NoMemory>
     ensures { OnOk result (string_bytes out.new ≡ string_bytes out.old ++ title_text all.now rectangle.now) }
 {
     push_names(rectangle, out)?;
@@ -217,11 +207,7 @@ fn push_length(cycles: u32, out: &mut String) -> Result<(), NoMemory>
 
 // Appends the first cycles of all rectangles of this kind.
 #[tactic(auto, unfolding(crate::specs::Rectangles::cycles_text))]
-fn push_cycles(
-    all: &[Rectangle],
-    rectangle: &Rectangle,
-    out: &mut String,
-) -> Result<(), NoMemory>
+fn push_cycles(all: &[Rectangle], rectangle: &Rectangle, out: &mut String) -> Result<(), NoMemory>
     ensures { OnOk result (string_bytes out.new ≡ string_bytes out.old ++ cycles_text all.now rectangle.now) }
 {
     for other in all {
@@ -231,11 +217,7 @@ fn push_cycles(
 }
 
 #[tactic(auto, unfolding(crate::specs::Rectangles::cycle_text))]
-fn push_cycle(
-    other: &Rectangle,
-    rectangle: &Rectangle,
-    out: &mut String,
-) -> Result<(), NoMemory>
+fn push_cycle(other: &Rectangle, rectangle: &Rectangle, out: &mut String) -> Result<(), NoMemory>
     ensures { OnOk result (string_bytes out.new ≡ string_bytes out.old ++ cycle_text rectangle.now other.now) }
 {
     if !other.is_like(rectangle) {
@@ -247,17 +229,14 @@ fn push_cycle(
 
 // Appends how a rectangle begins, up to its title.
 #[tactic(auto, unfolding(crate::specs::Rectangles::opening_text))]
-fn push_opening(
-    x: u32,
-    width: u32,
-    rectangle: &Rectangle,
-    out: &mut String,
-) -> Result<(), NoMemory>
+fn push_opening(x: u32, width: u32, rectangle: &Rectangle, out: &mut String) -> Result<(), NoMemory>
     ensures { OnOk result (string_bytes out.new ≡ string_bytes out.old ++ opening_text x width rectangle.now) }
 {
     let Rectangle { first, cycles } = *rectangle;
     let Sending {
-        cycle, supplier, ..
+        cycle,
+        supplier,
+        ..
     } = first;
     write!(
         out,
@@ -267,12 +246,7 @@ fn push_opening(
 
 // Appends how a rectangle ends, with its frame's name where there is room for it.
 #[tactic(auto, unfolding(crate::specs::Rectangles::ending_text))]
-fn push_ending(
-    x: u32,
-    width: u32,
-    rectangle: &Rectangle,
-    out: &mut String,
-) -> Result<(), NoMemory>
+fn push_ending(x: u32, width: u32, rectangle: &Rectangle, out: &mut String) -> Result<(), NoMemory>
     ensures { OnOk result (string_bytes out.new ≡ string_bytes out.old ++ ending_text x width rectangle.now) }
 {
     let frame = rectangle.first.frame;
@@ -280,5 +254,8 @@ fn push_ending(
     if frame.as_str().len() as u64 > 2 * u64::from(width) {
         return write!(out, "</title></rect></g>\n");
     }
-    write!(out, "</title></rect><text x={x} y={cycle}>{frame}</text></g>\n")
+    write!(
+        out,
+        "</title></rect><text x={x} y={cycle}>{frame}</text></g>\n"
+    )
 }

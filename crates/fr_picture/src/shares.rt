@@ -140,7 +140,9 @@ fn push_class(share: &Share, out: &mut String) -> Result<(), NoMemory>
     ensures { OnOk result (string_bytes out.new ≡ string_bytes out.old ++ class_text share.now) }
 {
     let Share {
-        number, supplier, ..
+        number,
+        supplier,
+        ..
     } = *share;
     write!(out, ".s-{supplier}{{fill:url(#p{number})}}\n")
 }
@@ -207,7 +209,10 @@ fn push_holds(share: &Share, percent: u64, out: &mut String) -> Result<(), NoMem
     ensures { OnOk result (string_bytes out.new ≡ string_bytes out.old ++ holds_text share.now percent) }
 {
     let Share {
-        held, sent, room, ..
+        held,
+        sent,
+        room,
+        ..
     } = *share;
     write!(
         out,

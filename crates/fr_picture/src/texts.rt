@@ -99,19 +99,25 @@ const PATH_START: &str = "<path d=\"";
 
 const STRIP_END: &str = "</svg></td></tr>\n";
 
-const PATTERNS_START: &str = "<svg class=defs><defs>\n<pattern id=held width=.5 height=.5 patternUnits=userSpaceOnUse patternTransform=\"rotate(45)\"><path fill=#fff d=\"M0 0h.5v.5H0z\"/><path stroke=#888 stroke-width=.1 d=\"M.25 0v.5\"/></pattern>\n";
+const PATTERNS_START: &str =
+    "<svg class=defs><defs>\n<pattern id=held width=.5 height=.5 patternUnits=userSpaceOnUse patternTransform=\"rotate(45)\"><path fill=#fff d=\"M0 0h.5v.5H0z\"/><path stroke=#888 stroke-width=.1 d=\"M.25 0v.5\"/></pattern>\n";
 
 const NUMBERS_START: &str = "<g id=numbers>";
 
-const BAND_A: &str = "</g><g id=cycles><use href=\"#numbers\" /><text class=band x=4 y=-2.9>channel A</text></g></defs>\n";
+const BAND_A: &str =
+    "</g><g id=cycles><use href=\"#numbers\" /><text class=band x=4 y=-2.9>channel A</text></g></defs>\n";
 
-const BAND_B: &str = "</g><g id=cycles><use href=\"#numbers\" /><text class=band x=4 y=-2.9>channel B</text></g></defs>\n";
+const BAND_B: &str =
+    "</g><g id=cycles><use href=\"#numbers\" /><text class=band x=4 y=-2.9>channel B</text></g></defs>\n";
 
-const BANDS_AB: &str = "</g><g id=cycles><use href=\"#numbers\" /><use href=\"#numbers\" x=68 /><text class=band x=4 y=-2.9>channel A</text><text class=band x=72 y=-2.9>channel B</text></g></defs>\n";
+const BANDS_AB: &str =
+    "</g><g id=cycles><use href=\"#numbers\" /><use href=\"#numbers\" x=68 /><text class=band x=4 y=-2.9>channel A</text><text class=band x=72 y=-2.9>channel B</text></g></defs>\n";
 
-const LEGEND_START: &str = "</svg>\n<h2>Suppliers</h2>\n<p>Cycles go down, slots go across. A hatched cell is granted, and nothing is sent in it.</p>\n<ul class=legend>\n";
+const LEGEND_START: &str =
+    "</svg>\n<h2>Suppliers</h2>\n<p>Cycles go down, slots go across. A hatched cell is granted, and nothing is sent in it.</p>\n<ul class=legend>\n";
 
-const TABLE_START: &str = "</ul>\n<h2>Frames</h2>\n<p>The worst are first. A placement has its slot, its channels, and its base and repetition. A gap is in macroticks. A payload has its bits from 0 on, from left to right.</p>\n<table>\n<tr><th>frame</th><th>node</th><th>supplier</th><th>placements</th><th class=right>greatest gap</th><th>payload</th></tr>\n";
+const TABLE_START: &str =
+    "</ul>\n<h2>Frames</h2>\n<p>The worst are first. A placement has its slot, its channels, and its base and repetition. A gap is in macroticks. A payload has its bits from 0 on, from left to right.</p>\n<table>\n<tr><th>frame</th><th>node</th><th>supplier</th><th>placements</th><th class=right>greatest gap</th><th>payload</th></tr>\n";
 
 const PAGE_END: &str = "</table>\n</html>\n";
 
