@@ -67,3 +67,6 @@ returns-in-Ok-open_on-clause-left g c clean k b db held is =
     let same = c.in-Ok-open_on.ensures.opened clean in
     let schema : (file_state c.in-Ok.conn).now.schema ≡ register_schema = ap (λ (d : Database). d.schema) (sym same.0) ∙ c.in-Ok-open_on.ensures.ours in
     c.in-Ok-open_on.ensures.again clean k b (left_stands (file_state c.in-Ok.conn) k b db is schema (c.in-Ok.ensures.found before db held))
+
+pub returns-in-Ok-open_on-clause-open : goal.returns-in-Ok-open_on-clause-open
+returns-in-Ok-open_on-clause-open g c clean = (c.in-Ok-open_on.ensures.open clean).1
