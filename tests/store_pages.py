@@ -108,7 +108,7 @@ fn carry_all_out(alloc: Global, store: &mut Register, edits: &str) -> Result<(),
 
 fn carry_out(alloc: Global, store: &mut Register, edits: &str) -> Result<(), Error> {
     let batch = batch(alloc, edits)?;
-    match store.apply(batch.as_slice()) {
+    match store.apply(alloc, batch.as_slice()) {
         Ok(()) => Ok(()),
         Err(fault) => bail!("{fault:?}"),
     }
