@@ -17,3 +17,5 @@ pub mod StepLaws
 pub mod GatherLaws
 pub mod GrantLaws
 pub mod AllReplies
+pub mod CrashLaws
+pub mod FrontLaws

@@ -7,6 +7,7 @@ mod answering;
 mod commands;
 mod import_counts;
 mod imports;
+pub mod laws;
 mod open_page;
 mod pages;
 mod queries;
