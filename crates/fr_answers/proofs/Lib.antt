@@ -18,4 +18,5 @@ pub mod GatherLaws
 pub mod GrantLaws
 pub mod AllReplies
 pub mod CrashLaws
+pub mod DoneLaws
 pub mod FrontLaws

@@ -1,5 +1,5 @@
 -- What the office makes of a request.
-use Rattle.std.specs.Prelude.{◌≡◌, ◌⊎◌, Bool, true, List, [], ◌∷◌, Result, Ok, Err, IsTrue, MatchResult, ⊤}
+use Rattle.std.specs.Prelude.{◌≡◌, ◌⊎◌, Bool, true, List, [], ◌∷◌, Result, Ok, Err, IsTrue, MatchResult, OnOk, ⊤}
 use Rattle.std.specs.List.{list_any}
 use Rattle.fr_base.specs.Book.{Book}
 use Rattle.fr_base.specs.Cluster.{Cluster, ClusterFile}
@@ -46,6 +46,16 @@ answer_of (Err refusal) = Refused refusal
 -- In a sound book the request was answered by one step, or it is Unavailable where it may be; and the records stand for the book after it.
 abbrev pub Answers : Standing → Standing → Ask → Answer → Type 0
 Answers old new ask answer = (c : Cluster) (b : Book) → old c b → IsSound c b → (last : Book) × new c last × IsRun c b (ask ∷ []) (answer ∷ []) last
+
+-- This holds after a command with checked values that was carried out.
+abbrev pub AfterCommand : Checked → Result Answer Refusal → Type 0 → Type 0
+AfterCommand (checked.Command command) r P = OnOk r P
+AfterCommand (checked.Import i) r P = ⊤
+AfterCommand (checked.Query query) r P = ⊤
+
+-- This holds where a request to records of a sound book was answered Done.
+abbrev pub AfterDone : Standing → Answer → Type 0 → Type 0
+AfterDone stands answer P = (c : Cluster) (b : Book) → stands c b → IsSound c b → answer ≡ Done → P
 
 -- Of a request with checked values, a crash leaves no more than it did before, or the book after it.
 abbrev pub LeavesAct : Standing → Leaving → Leaving → Actor → Checked → Type 0
