@@ -1,11 +1,9 @@
 -- What a crash leaves of a request that is under way.
-use Rattle.std.proofs.Common.{◌≡◌, ◌⊎◌, ◌∙◌, inl, inr, List, ◌∷◌, Result, Ok, Err, IsTrue, ap, sym, subst}
+use Rattle.std.proofs.Common.{◌≡◌, ◌⊎◌, inl, inr, List, ◌∷◌, Result, Ok, IsTrue, ap, subst}
 use Rattle.fr_base.specs.Book.{Book}
 use Rattle.fr_base.specs.Cluster.{Cluster}
 use Rattle.fr_base.specs.Refusing.{◌>>=◌}
-use Rattle.fr_base.specs.Sound.{IsSound}
-use Rattle.fr_base.specs.Step.{Outcome, act, perform, done, knows}
-use Rattle.fr_base.specs.Tables.{contains}
+use Rattle.fr_base.specs.Step.{act, perform, done, knows}
 use Rattle.fr_base.specs.declared.actor.Actor.{Actor}
 use Rattle.fr_base.specs.declared.actor.Actor.TheVariants.{Supplier}
 use Rattle.fr_base.specs.declared.answer.Answer.TheVariants.{Done}
@@ -16,7 +14,6 @@ use Rattle.fr_base.specs.declared.request.Import.{Import}
 use Rattle.fr_answers.specs.Answering.{LeavesAct}
 use Rattle.fr_answers.specs.Carried.{Does, LeavesDone, MayLeave}
 use Rattle.fr_answers.specs.Imports.{LeavesImport}
-use Rattle.fr_answers.proofs.CommandLaws.{performed}
 use Rattle.fr_records.specs.Held.{Leaving, LeavesEdited, LeavesNoMore, Standing}
 use Rattle.fr_world.specs.BookEdits.{all_applied}
 use Rattle.fr_world.specs.declared.edit.Edit.{Edit}

@@ -1,10 +1,10 @@
 -- What is answered Done is a command.
-use Rattle.std.proofs.Common.{◌≡◌, ℕ, Bool, false, true≢false, Option, Some, None, Result, Ok, Err, IfOk, refl, sym, subst}
+use Rattle.std.proofs.Common.{◌≡◌, ℕ, false, true≢false, Option, Some, None, Result, Ok, Err, IfOk, refl, subst}
 use Rattle.fr_base.specs.Alone.{is_done}
 use Rattle.fr_base.specs.Book.{Book, Kept, Variant}
 use Rattle.fr_base.specs.Cluster.{Cluster}
 use Rattle.fr_base.specs.Queries.{reply, shown, variant_asked}
-use Rattle.fr_base.specs.Refusing.{◌>>=◌, ◌or◌}
+use Rattle.fr_base.specs.Refusing.{◌or◌}
 use Rattle.fr_base.specs.Step.{Outcome, RefusedAt, act, import, imported}
 use Rattle.fr_base.specs.Tables.{get}
 use Rattle.fr_base.specs.declared.actor.Actor.{Actor}

@@ -1,5 +1,5 @@
 -- A crash leaves the register after a front of the requests.
-use Rattle.std.proofs.Common.{◌≡◌, ◌≢◌, ◌⊎◌, ℕ, suc, inl, inr, List, [], ◌∷◌, refl, sym, subst, map, take}
+use Rattle.std.proofs.Common.{◌≡◌, ◌≢◌, ◌⊎◌, suc, inl, inr, List, [], ◌∷◌, refl, subst, map, take}
 use Rattle.fr_base.specs.Book.{Book}
 use Rattle.fr_base.specs.Cluster.{Cluster}
 use Rattle.fr_base.specs.Run.{IsRun}

@@ -1,11 +1,9 @@
-use Rattle.std.proofs.Common.{rules, sym, subst, ◌≡◌, Ok}
+use Rattle.std.proofs.Common.{rules, sym, subst, ◌≡◌, Ok, inl}
 use Rattle.fr_base.specs.declared.actor.Actor.TheVariants.{Supplier}
 use Rattle.fr_base.specs.declared.answer.Answer.TheVariants.{Done}
 use Rattle.fr_base.specs.declared.request.Checked.{Checked}
-use Rattle.fr_answers.specs.Answering.{Acts, HasPassed}
+use Rattle.fr_answers.specs.Answering.{Acts, HasPassed, LeavesAct}
 use Rattle.fr_answers.proofs.StepLaws.{command_done, command_refused, import_acts, query_acts}
-use Rattle.std.proofs.Common.{inl}
-use Rattle.fr_answers.specs.Answering.{LeavesAct}
 use Rattle.fr_answers.proofs.CrashLaws.{act_command, act_import}
 use Rattle.fr_answers.proofs.answering.act.Goals as goal
 

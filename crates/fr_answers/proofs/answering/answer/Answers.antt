@@ -1,13 +1,9 @@
-use Rattle.std.proofs.Common.{rules, ◌≡◌, Ok, Err, subst}
+use Rattle.std.proofs.Common.{rules, ◌≡◌, Ok, Err, subst, ◌∷◌, inl, inr, sym}
 use Rattle.fr_base.specs.declared.params.Params.{Params}
-use Rattle.fr_answers.specs.Answering.{HasPassed}
+use Rattle.fr_answers.specs.Answering.{HasPassed, AfterCommand}
 use Rattle.fr_answers.proofs.StepLaws.{acted, acts_so, passed, unchecked, unknown}
-use Rattle.std.proofs.Common.{◌∷◌, inl, inr, sym, Result}
 use Rattle.fr_base.specs.Step.{Outcome, act}
 use Rattle.fr_base.specs.declared.answer.Answer.{Answer}
-use Rattle.fr_base.specs.declared.answer.Answer.TheVariants.{Done}
-use Rattle.fr_base.specs.declared.refusal.Refusal.{Refusal}
-use Rattle.fr_answers.specs.Answering.{AfterCommand}
 use Rattle.fr_answers.proofs.DoneLaws.{done_so}
 use Rattle.fr_answers.proofs.answering.answer.Goals as goal
 

@@ -1,6 +1,5 @@
-use Rattle.std.proofs.Common.{rules}
+use Rattle.std.proofs.Common.{rules, inl, inr}
 use Rattle.fr_answers.proofs.ImportLaws.{IsNew, count_lacked, label_again, label_free, label_stopped, no_room, page_stopped, refused_so, rows_given, rows_left}
-use Rattle.std.proofs.Common.{inl, inr}
 use Rattle.fr_answers.proofs.imports.import.Goals as goal
 
 pub returns-in_err-rows-clause-gives : goal.returns-in_err-rows-clause-gives

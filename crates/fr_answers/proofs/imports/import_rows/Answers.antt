@@ -1,10 +1,9 @@
-use Rattle.std.proofs.Common.{rules, arith, ◌≡◌, ◌≤◌, length, subst}
+use Rattle.std.proofs.Common.{rules, arith, ◌≡◌, ◌≤◌, length, subst, Ok, inl}
 use Rattle.fr_base.specs.declared.limits.TheConstants.{MAX_ROWS}
 use Rattle.fr_world.specs.Edits.{all_edited}
 use Rattle.fr_world.specs.Pages.{own_rows_of}
 use Rattle.fr_answers.specs.Decided.{TakesAll}
 use Rattle.fr_answers.proofs.ImportLaws.{few_made, rows_refused, rows_kept, rows_lacked}
-use Rattle.std.proofs.Common.{Ok, inl, inr}
 use Rattle.fr_answers.proofs.CrashLaws.{AddsTo}
 use Rattle.fr_answers.proofs.imports.import_rows.Goals as goal
 

@@ -1,6 +1,5 @@
-use Rattle.std.proofs.Common.{rules}
+use Rattle.std.proofs.Common.{rules, Ok}
 use Rattle.fr_answers.proofs.CommandLaws.{common_carried, common_refused}
-use Rattle.std.proofs.Common.{Ok}
 use Rattle.fr_base.specs.Step.{common}
 use Rattle.fr_answers.proofs.CrashLaws.{AddsTo, may_do, may_stay}
 use Rattle.fr_answers.proofs.commands.common.change_common.Goals as goal

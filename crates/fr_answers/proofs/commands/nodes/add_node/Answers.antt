@@ -1,6 +1,5 @@
-use Rattle.std.proofs.Common.{rules}
+use Rattle.std.proofs.Common.{rules, Ok}
 use Rattle.fr_answers.proofs.CommandLaws.{named-there, node_carried, node_refused, node_unnamed}
-use Rattle.std.proofs.Common.{Ok}
 use Rattle.fr_base.specs.Step.{add_node}
 use Rattle.fr_answers.proofs.CrashLaws.{AddsTo, may_do, may_stay}
 use Rattle.fr_answers.proofs.commands.nodes.add_node.Goals as goal

@@ -1,6 +1,5 @@
-use Rattle.std.proofs.Common.{rules, Err}
+use Rattle.std.proofs.Common.{rules, Err, Ok, List, subst}
 use Rattle.fr_answers.proofs.RowsLaws.{rows_made, rows_refused, rows_stopped}
-use Rattle.std.proofs.Common.{Ok, List, subst}
 use Rattle.fr_records.specs.Held.{LeavesEdited}
 use Rattle.fr_world.specs.declared.edit.Edit.{Edit}
 use Rattle.fr_base.specs.Step.{change_rows}

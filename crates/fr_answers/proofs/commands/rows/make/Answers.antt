@@ -1,5 +1,4 @@
 use Rattle.std.proofs.Common.{rules}
-use Rattle.fr_answers.proofs.CrashLaws.{edited_then}
 use Rattle.fr_answers.proofs.commands.rows.make.Goals as goal
 
 -- The search names the one goal here, so that a wrong body is refused in no time.

@@ -1,6 +1,5 @@
-use Rattle.std.proofs.Common.{rules}
+use Rattle.std.proofs.Common.{rules, Ok}
 use Rattle.fr_answers.proofs.CommandLaws.{joining_carried, joining_refused}
-use Rattle.std.proofs.Common.{Ok}
 use Rattle.fr_base.specs.Step.{add_supplier}
 use Rattle.fr_answers.proofs.CrashLaws.{AddsTo, may_do, may_stay}
 use Rattle.fr_answers.proofs.commands.suppliers.add_supplier.Goals as goal

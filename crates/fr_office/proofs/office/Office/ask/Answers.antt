@@ -1,6 +1,6 @@
 use Rattle.std.proofs.Common.{[], ◌∷◌, ◌∙◌, inl, inr, subst, sym}
 use Rattle.fr_base.specs.Book.{Book}
-use Rattle.fr_answers.specs.KeptPages.{StandsWarm, WarmData}
+use Rattle.fr_answers.specs.KeptPages.{StandsWarm}
 use Rattle.fr_office.proofs.office.Office.ask.Goals as goal
 
 pub returns-clause-answers : goal.returns-clause-answers
