@@ -1,17 +1,14 @@
 -- What a crash leaves of a register, after a call.
-use Rattle.std.proofs.Common.{◌≡◌, ◌⊎◌, inl, inr, List, [], ◌∷◌, Result, Ok, Err, OnOk, OnErr, IsTrue, ap, sym, subst, ◌∙◌}
+use Rattle.std.proofs.Common.{◌≡◌, ◌⊎◌, inl, inr, List, ◌∷◌, Result, Ok, Err, OnOk, OnErr, IsTrue, sym, subst, ◌∙◌}
 use Rattle.sqlite.specs.State.{State, HasCleanDisk, Survives}
-use Rattle.sqlite.specs.Effect.{Database}
-use Rattle.sqlite.specs.Tree.{Trees}
 use Rattle.fr_base.specs.Book.{Book}
-use Rattle.fr_base.specs.Cluster.{Cluster, ClusterFile}
+use Rattle.fr_base.specs.Cluster.{Cluster}
 use Rattle.fr_world.specs.BookEdits.{all_applied}
 use Rattle.fr_world.specs.Fits.{AllFit}
 use Rattle.fr_world.specs.declared.edit.Edit.{Edit}
 use Rattle.fr_store.specs.Applying.{LeavesAll}
 use Rattle.fr_store.specs.Crashes.{IsForOne, LeavesOnly, StoredLeaves}
 use Rattle.fr_store.specs.Reading.{Leaves, Stands}
-use Rattle.fr_store.specs.Stored.{StandsStored}
 use Rattle.fr_store.specs.declared.fault.StoreFault.{StoreFault}
 use Rattle.fr_tables.specs.Asking.{AreAsBefore}
 use Rattle.fr_tables.specs.Changes.{Spares, Stays}

@@ -1,5 +1,5 @@
 -- A law of stores: while one is open, what a crash leaves of it is the book for which it stands.
-use Rattle.std.proofs.Common.{◌≡◌, ◌∙◌, inl, [], ◌∷◌, IsTrue, ap, sym, subst}
+use Rattle.std.proofs.Common.{◌≡◌, ◌∙◌, inl, [], ◌∷◌, ap, sym, subst}
 use Rattle.sqlite.specs.Effect.{Database}
 use Rattle.sqlite.specs.State.{State}
 use Rattle.sqlite.specs.Tree.{Trees}

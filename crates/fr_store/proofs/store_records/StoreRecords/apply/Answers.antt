@@ -1,9 +1,8 @@
-use Rattle.std.proofs.Common.{◌∙◌, ap, arith}
+use Rattle.std.proofs.Common.{◌∙◌, ap, arith, inl, inr, IsTrue}
 use Rattle.sqlite.specs.Held.{state}
 use Rattle.sqlite.specs.State.{HasCleanDisk}
 use Rattle.fr_base.specs.Cluster.{ClusterFile}
 use Rattle.fr_store.proofs.StoredLaws.{cluster_stays, edits_stored, opened}
-use Rattle.std.proofs.Common.{inl, inr, IsTrue}
 use Rattle.fr_store.specs.Crashes.{Serves}
 use Rattle.fr_store.proofs.CrashLemmas.{edited_left}
 use Rattle.fr_store.proofs.store_records.StoreRecords.apply.Goals as goal
