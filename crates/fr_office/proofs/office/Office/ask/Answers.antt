@@ -18,7 +18,7 @@ returns-clause-durable g c = λ clean k b stands sound done.
     let inside = subst (λ w. StandsWarm g.R.Records.stands w k b) (sym c.self.view_is) stands in
     let answered = c.answer.ensures.answers clean k b inside sound in
     let records = c.answer.new.records.records in
-    let left = g.met.R.Records.settled records k answered.0 clean (c.answer.ensures.open clean k b inside sound done) answered.1.0 in
+    let left = g.R.Records.settled records k answered.0 clean (c.answer.ensures.open clean k b inside sound done) answered.1.0 in
     elim answered.2 [
       | inl lacked ↦ absurd (let no = sym done ∙ lacked.1 in cc)
       | inr ran ↦ subst (λ (last : Book). g.R.Records.leaves records k (last ∷ [])) ran.1 left
