@@ -34,7 +34,7 @@ use Rattle.fr_world.proofs.RowsDecide.{applied-more, rows-checked}
 use Rattle.fr_answers.specs.Carried.{Makes, Replies}
 use Rattle.fr_answers.specs.Decided.{open_page}
 use Rattle.fr_records.specs.Held.{IsFresh, Keeps, Standing, Tells}
-use Rattle.fr_answers.specs.Imports.{GivesImport, GivesRows, rows_outcome}
+use Rattle.fr_answers.specs.Imports.{AfterNew, GivesImport, GivesRows, OnImported, rows_outcome}
 use Rattle.fr_answers.proofs.FreshLaws.{untouched-fresh}
 use Rattle.fr_answers.proofs.RowsLaws.{opened-there}
 use Rattle.fr_answers.proofs.WarmLaws.{page-fresh}
@@ -182,6 +182,11 @@ module _ (i : Import) (rows : ℕ) (page : PageData) (edits made : List Edit) (a
 pub refused_so : (old new : Standing) (i : Import) (said : Result Answer Refusal) (e : Refusal) → said ≡ Err e → GivesImport old new (Err e) i → GivesImport old new said i
 refused_so old new i said e is given = subst (λ r. GivesImport old new r i) (sym is) given
 
+-- what holds after an import holds after a new one
+pub after_new : (stands : Standing) (i : Import) (P : Type 0) (r : Result Answer Refusal) → OnImported r P → AfterNew stands i r P
+after_new stands i P (Ok answer) h = λ c b stood sound free. h
+after_new stands i P (Err e) h = tt
+
 -- Records that stood for a sound book still stand for it, and no import is kept there under the label.
 abbrev pub IsNew : Standing → Standing → Import → Type 0
 IsNew old now i = (c : Cluster) (b : Book) → old c b → IsSound c b → now c b × (get b.imports (i.supplier, i.label) ≡ None)
@@ -211,6 +216,14 @@ module _ (i : Import) (old mid : Standing) where
   label_again found rows is kept c b stood sound known =
       let t = kept c b stood sound in
       (b, by_label c b (Ok (Some rows)) (t.1 ∙ ap Ok is), t.0)
+
+  -- so one is kept
+  pub label_taken : (found : Option ℕ) (rows : ℕ) → found ≡ Some rows → Replies old mid (Ok found) label_of → (c : Cluster) (b : Book) → old c b → IsSound c b → ¬ (get b.imports (i.supplier, i.label) ≡ None)
+  unfolding label_decision
+  label_taken found rows is kept c b stood sound free =
+      let said : label_of c b ≡ Ok found = (kept c b stood sound).1 in
+      let none : label_of c b ≡ Ok None = ap (λ k. label_decision k i) free in
+      cc
 
   -- none is
   pub label_free : (found : Option ℕ) → found ≡ None → Replies old mid (Ok found) label_of → IsNew old mid i
@@ -262,6 +275,15 @@ module _ (i : Import) (old mid : Standing) where
         no_room e full c b stood sound known =
             let k = by_room c b stood sound known in
             (k.0, inr (k.1 ∙ ap (λ r. r >> Ok (rows_outcome c.params b i page)) full))
+
+        -- there is room, and so its outcome is that of its rows
+        pub rows_left : import_room i count ≡ Ok tt → (c : Cluster) (b : Book) → old c b → IsSound c b → contains b.suppliers i.supplier ≡ true →
+            last c b × (get b.imports (i.supplier, i.label) ≡ None) × (open_page c.params b i.supplier i.variant ≡ Ok page)
+            × (import c.params b i (get b.imports (i.supplier, i.label)) ≡ Ok (rows_outcome c.params b i page))
+        unfolding ◌>>◌
+        rows_left room c b stood sound known =
+            let k = by_room c b stood sound known in
+            (k.0, (new c b stood sound).1, (read c b (new c b stood sound).0 sound).1, k.1 ∙ ap (λ r. r >> Ok (rows_outcome c.params b i page)) room)
 
         pub rows_given : import_room i count ≡ Ok tt → (after : Standing) (r : Result Answer Refusal) → GivesRows last after r i page → GivesImport old after r i
         unfolding ◌>>◌

@@ -31,7 +31,7 @@ use Rattle.fr_answers.specs.Imports.{GivesImport}
 use Rattle.fr_answers.proofs.CheckedLaws.{command-checked}
 
 -- who is in the book is in what a cluster file says of it
-known-so : (c : Cluster) (b : Book) (actor : Actor) → knows b actor ≡ is_known (file_of c b) actor
+pub known-so : (c : Cluster) (b : Book) (actor : Actor) → knows b actor ≡ is_known (file_of c b) actor
 known-so c b Integrator = refl
 known-so c b (Supplier s) = sym (contains-listed b s)
 
@@ -90,6 +90,12 @@ module _ (now : Standing) (config : ClusterFile) (same : (c : Cluster) (b : Book
             | inr refused ↦ stepped c b ask (record { book = b; answer = Refused e }) (checked_so (Ok valid) checks c b stood ∙ ap (outcome b) refused)
           ],
         )
+
+    -- what it comes to, where it is carried out
+    pub acts_so : (valid : Checked) → check config.cluster.params ask.actor ask.request ≡ Ok valid → (c : Cluster) (b : Book) → now c b →
+        IsTrue (knows b ask.actor) × ((after : Outcome) → act c b ask.actor valid ≡ Ok after → step c b ask.actor ask.request ≡ after)
+    unfolding outcome ◌>>=◌
+    acts_so valid checks c b stood = (knows-so true is c b stood, λ after made. checked_so (Ok valid) checks c b stood ∙ ap (outcome b) made)
 
 -- ---- what is made of it
 

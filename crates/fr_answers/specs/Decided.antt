@@ -1,4 +1,5 @@
--- What is asked of all rows, before and after a supplier's page decides.
+-- Decided: what is asked of all rows beside a supplier's page. Before the page decides the variant is open and the
+-- supplier is there. After it a slot and channel that are to be granted are not held.
 use Rattle.std.specs.Prelude.{Bool, false, not, List, Result, Ok, ⊤}
 use Rattle.fr_base.specs.Refusing.{◌>>=◌, ◌>>◌, ◌or◌, refuse◌when◌}
 use Rattle.fr_base.specs.Tables.{contains}

@@ -1,5 +1,5 @@
--- What the register promises, whatever it is asked and by whom: each supplier is answered as if it were alone, and in every
--- variant, cycle, slot and channel at most one frame is sent, by the node that holds the grant.
+-- Promise: what holds of requests that were answered, from a book to the last. Each supplier was answered as if it were
+-- alone. After each of them at most one frame is sent in a cell, by the node that holds the grant.
 use Rattle.std.specs.Prelude.{◌≡◌, ℕ, List, [], ◌∷◌, take, drop, Some, ⊤}
 use Rattle.fr_base.specs.Alone.{rows_of, asks_of, answers_of, answers_to, book_after}
 use Rattle.fr_base.specs.Book.{Frame, Variant, Book}

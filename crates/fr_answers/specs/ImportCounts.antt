@@ -1,4 +1,4 @@
--- Counts of the imports that suppliers keep, held in memory beside the register.
+-- Import counts: when a count that is kept of a supplier's imports is right; which one is found.
 use Rattle.std.specs.Prelude.{◌≡◌, ℕ, Bool, not, List, All, Option, find, filter, option_map}
 use Rattle.fr_base.specs.Book.{Book, own}
 use Rattle.fr_base.specs.Names.{same_text}

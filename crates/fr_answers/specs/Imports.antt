@@ -1,5 +1,6 @@
--- What the office makes of an import.
-use Rattle.std.specs.Prelude.{◌≡◌, length, Result, Ok, None, IsTrue, MatchResult}
+-- Import: an import is carried out as the definition has it, its rows as they are decided on the supplier's page; or
+-- nothing is done. What a crash leaves of it.
+use Rattle.std.specs.Prelude.{◌≡◌, ◌⊎◌, List, ◌∷◌, length, Result, Ok, None, IfOk, IsTrue, MatchResult, ⊤}
 use Rattle.fr_base.specs.Book.{Book}
 use Rattle.fr_base.specs.Cluster.{Cluster}
 use Rattle.fr_base.specs.ImportRows.{rows_of_body}
@@ -8,6 +9,7 @@ use Rattle.fr_base.specs.Sound.{IsSound}
 use Rattle.fr_base.specs.Step.{Outcome, import, imported}
 use Rattle.fr_base.specs.Tables.{get, contains}
 use Rattle.fr_base.specs.declared.answer.Answer.{Answer}
+use Rattle.fr_base.specs.declared.answer.Answer.TheVariants.{Imported}
 use Rattle.fr_base.specs.declared.params.Params.{Params}
 use Rattle.fr_base.specs.declared.refusal.Refusal.{Refusal}
 use Rattle.fr_base.specs.declared.refusal.Refusal.TheVariants.{Unavailable}
@@ -17,7 +19,7 @@ use Rattle.fr_world.specs.Pages.{PageData}
 use Rattle.fr_world.specs.RowDecisions.{rows_decision}
 use Rattle.fr_answers.specs.Carried.{IsRefused}
 use Rattle.fr_answers.specs.Decided.{open_page}
-use Rattle.fr_records.specs.Held.{Standing}
+use Rattle.fr_records.specs.Held.{Leaving, Standing}
 
 -- In a sound book the import of a supplier that is there is carried out as the definition has it, and the records stand for the book
 -- after it; or nothing was done.
@@ -38,3 +40,27 @@ GivesRows old new r i page = (c : Cluster) (b : Book) → old c b → IsSound c 
     get b.imports (i.supplier, i.label) ≡ None → open_page c.params b i.supplier i.variant ≡ Ok page → MatchResult r
     (λ answer. (answer ≡ (rows_outcome c.params b i page).answer) × new c (rows_outcome c.params b i page).book)
     (λ e. (e ≡ Unavailable) × new c b)
+
+-- Of the import of a supplier that is there, a crash leaves no more than it did before, or the book after it.
+abbrev pub LeavesImport : Standing → Leaving → Leaving → Import → Type 0
+LeavesImport stands old new i = (c : Cluster) (b : Book) (books : List Book) → stands c b → IsSound c b → IsTrue (contains b.suppliers i.supplier) → old c books
+    → new c books ⊎ ((after : Outcome) × (import c.params b i (get b.imports (i.supplier, i.label)) ≡ Ok after) × new c (after.book ∷ books))
+
+-- So with the rows of a new one.
+abbrev pub LeavesRows : Standing → Leaving → Leaving → Import → PageData → Type 0
+LeavesRows stands old new i page = (c : Cluster) (b : Book) (books : List Book) → stands c b → IsSound c b → IsTrue (contains b.suppliers i.supplier)
+    → get b.imports (i.supplier, i.label) ≡ None → open_page c.params b i.supplier i.variant ≡ Ok page → old c books
+    → new c books ⊎ new c ((rows_outcome c.params b i page).book ∷ books)
+
+-- This holds where the answer is that of an import that was carried out.
+abbrev pub WhereImported : Answer → Type 0 → Type 0
+WhereImported (Imported rows) P = P
+WhereImported _ P = ⊤
+
+-- This holds after an import that was carried out.
+abbrev pub OnImported : Result Answer Refusal → Type 0 → Type 0
+OnImported r P = IfOk r (λ answer. WhereImported answer P)
+
+-- So where no import was kept under the label before.
+abbrev pub AfterNew : Standing → Import → Result Answer Refusal → Type 0 → Type 0
+AfterNew stands i r P = IfOk r (λ answer. (c : Cluster) (b : Book) → stands c b → IsSound c b → get b.imports (i.supplier, i.label) ≡ None → WhereImported answer P)

@@ -1,4 +1,6 @@
--- Pages that are kept in memory beside the register.
+-- Kept pages: when no page that is kept is stale; when records stand for a book with pages and counts kept beside them;
+-- which page is found; how many bytes a page takes at most; which pages are let go where one that is given back has no
+-- room; what an edit may change.
 use Rattle.std.specs.Prelude.{◌≡◌, ℕ, ◌+◌, ◌*◌, Bool, false, ◌&&◌, not, if◌then◌else◌, nat_le, min, List, [], ◌∷◌, length, find, filter, sum_by, All, Option, Some, ⊤}
 use Rattle.std.specs.Option.{option_or}
 use Rattle.std.specs.Ordering.{match_ordering}

@@ -8,3 +8,5 @@ pub mod KeptPages
 pub mod Shared
 pub mod Shelves
 pub mod Shown
+pub mod Crashed
+pub mod Listing

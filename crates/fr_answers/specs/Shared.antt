@@ -1,4 +1,4 @@
--- The grants and placements of several suppliers in a variant.
+-- Which grants and placements several suppliers have in a variant.
 use Rattle.std.specs.Prelude.{List, [], ◌∷◌}
 use Rattle.std.specs.List.{flat_map, list_any}
 use Rattle.fr_base.specs.Book as book

@@ -1,4 +1,4 @@
--- Pages that stand by whose they are.
+-- Shelf: when pages stand by whose they are, and take no more bytes than they may.
 use Rattle.std.specs.Prelude.{◌≡◌, ℕ, ◌≤◌, List, All, sum_by}
 use Rattle.std.specs.Map.{values_of}
 use Rattle.fr_world.specs.Pages.{PageData}

@@ -1,4 +1,5 @@
--- What the office reads to answer a query, and what it shows of it.
+-- Shown: what is read to answer a query, of one supplier's page or of all, and that the query shows what the definition
+-- has.
 use Rattle.std.specs.List.{flat_map}
 use Rattle.std.specs.Prelude.{◌≡◌, ◌<◌, ◌⊎◌, List, [], length, Option, Some, None, Result, Ok, Err, MatchResult}
 use Rattle.fr_base.specs.Book.{Book, Frame, Variant, own}

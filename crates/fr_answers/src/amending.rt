@@ -1,4 +1,4 @@
-//! A page as edits of the register leave it.
+//! A page with edits of the register made in it.
 ghost use Rattle.std.specs.Prelude.{◌≡◌, IfOk};
 ghost use Rattle.fr_base.specs.Book.{Book};
 ghost use Rattle.fr_base.specs.Cluster.{Cluster};

@@ -7,6 +7,8 @@ mod answering;
 mod commands;
 mod import_counts;
 mod imports;
+mod laws;
+mod listing;
 mod open_page;
 mod pages;
 mod queries;
@@ -16,6 +18,8 @@ mod suppliers;
 mod warm;
 
 pub use answering::answer;
+pub use laws::answers_are_kept;
+pub use listing::list_variants;
 pub use running::{Stopped, run};
 pub use shelf::MAX_BYTES;
 pub use warm::Warm;

@@ -1,4 +1,5 @@
-//! Pages of the register that are kept in memory, so that they need not be read for each request.
+//! Pages of the register that are kept in memory, so that they need not be read for each request. Which of them are let
+//! go.
 ghost use Rattle.std.specs.Prelude.{◌≡◌, ◌+◌, ◌≤◌, [], sum_by, OnErr, OnOk};
 ghost use Rattle.fr_answers.specs.KeptPages.{bytes_of, kept_at, kept_without, kept_with, untouched_by, with_room};
 ghost use Rattle.fr_answers.specs.declared.shelf.TheConstants.{MAX_BYTES};

@@ -1,4 +1,4 @@
-//! Which suppliers there are.
+//! Whether a supplier is there.
 ghost use Rattle.std.specs.Prelude.{◌≡◌};
 ghost use Rattle.std.specs.List.{list_any};
 ghost use Rattle.fr_base.specs.Names.{same_text};

@@ -1,4 +1,5 @@
-//! Records of which some pages are kept in memory, and how many imports suppliers keep.
+//! Records of which some pages are kept in memory, and how many imports suppliers keep: read from there, given back,
+//! let go.
 ghost use Rattle.std.specs.Prelude.{◌≡◌, [], IfOk};
 ghost use Rattle.fr_answers.specs.KeptPages.{StandsWarm};
 
@@ -68,6 +69,12 @@ impl<R: Records> Records for Warm<R> {
     ghost stands = { StandsWarm R.stands };
 
     ghost clean = { λ warm. R.clean warm.records };
+
+    ghost serves = { λ warm. R.serves warm.records };
+
+    ghost leaves = { λ warm. R.leaves warm.records };
+
+    ghost settled = { λ warm c b clean serves stands. R.settled warm.records c b clean serves stands.0 };
 
     ghost params = { λ warm. R.params warm.records };
 

@@ -1,17 +1,25 @@
 -- What is opened of files, and what is left of them.
-use Rattle.std.proofs.Common.{◌≡◌, ◌⊎◌, inl, inr, IsTrue, subst, sym}
+use Rattle.std.proofs.Common.{◌≡◌, ◌⊎◌, inl, inr, List, [], ◌∷◌, IsTrue, subst, sym}
+use Rattle.std.proofs.Math.Logic.{∥∥₁_map}
 use Rattle.sqlite.specs.State.{State}
+use Rattle.sqlite.specs.Tree.{Trees}
 use Rattle.sqlite_disk.specs.declared.Disk.{Ghosts}
 use Rattle.sqlite_disk.specs.declared.Files.{Files}
 use Rattle.sqlite_wal.specs.Reads.{AreClean}
 use Rattle.sqlite_wal.specs.Recovery.{Image}
 use Rattle.fr_base.specs.Book.{Book}
 use Rattle.fr_base.specs.Cluster.{Cluster, ClusterFile}
-use Rattle.fr_store.specs.StoreFiles.{HoldsBook, IsHeld}
+use Rattle.fr_records.specs.Held.{Standing}
+use Rattle.fr_answers.specs.Crashed.{EachBook, IsOrNext, WasLacking}
+use Rattle.fr_answers.proofs.CrashedLaws.{is_found, were_kept}
+use Rattle.fr_store.specs.Crashes.{IsForOne, Serves, StoredLeaves}
+use Rattle.fr_store.specs.Store.{IsRegisterFor}
+use Rattle.fr_store.specs.StoreFiles.{HoldsBook, IsHeld, database_of}
 use Rattle.fr_store.specs.Stored.{StandsStored}
 use Rattle.fr_store.proofs.AgainLemmas as again
 use Rattle.fr_store.proofs.StoredLaws.{holds_book}
 use Rattle.fr_desks.specs.FileDesk.{IsLeftBy, LeavesBook}
+use Rattle.fr_desks.specs.Laws.{CrashIsFound}
 
 -- files that hold what was committed hold the book
 pub holds_committed : (found : ClusterFile) (s : State) (c : Cluster) (b : Book) (image : Image) → IsTrue s.is_open → IsHeld image s.committed → StandsStored found s c b → HoldsBook c b image
@@ -21,3 +29,18 @@ holds_committed found s c b image up held stood = holds_book found s c b up stoo
 pub left_holds : {D : Type 0} (g : Ghosts D) (files : Files D) (held : Image) (c : Cluster) (b : Book) → AreClean g files.log files.db → LeavesBook g files c b → IsLeftBy g files held → HoldsBook c b held
 left_holds g files held c b are leaves (inl same) = subst (HoldsBook c b) (sym same) (leaves are).0
 left_holds g files held c b are leaves (inr crash) = (leaves are).1 held crash
+
+-- of what may be left it is one
+one_of : (c : Cluster) (P : Book → Type 0) (books : List Book) (db : Trees) → EachBook P books → IsForOne c books db → (x : Book) × P x × IsRegisterFor c x (database_of db)
+one_of c P [] db each is = absurd is
+one_of c P (b ∷ books) db each (inl this) = (b, each.0, this)
+one_of c P (b ∷ books) db each (inr other) = one_of c P books db each.1 other
+
+-- what is opened of files that were given up
+pub crash_found : {D Desk Found : Type 0} (g : Ghosts D) (stands : Desk → Standing) (state : Desk → State) (held : Image) (clean : Found → Type 0) (finds : Found → Standing)
+    → ((desk : Desk) (c : Cluster) (b : Book) → Serves (state desk) → stands desk c b → StoredLeaves (state desk) c (b ∷ [])) → CrashIsFound g stands state held clean finds
+crash_found {D} {Desk} g stands state held clean finds settled c b first last asks answers files found stood sound serves asked given are crash finds_left is_clean =
+    let kept = were_kept stands (λ (desk : Desk). StoredLeaves (state desk)) c b first last asks answers asked stood sound (settled first c b serves stood) in
+    ∥∥₁_map (given are held crash c kept.books kept.left.left) (λ one.
+    let x = one_of c (IsOrNext c (WasLacking asks answers) kept.last) kept.books one.0 kept.each one.2 in
+    is_found (finds found c) c b kept.last x.0 asks answers sound kept.run x.1 (finds_left is_clean c x.0 one.0 one.1 x.2))

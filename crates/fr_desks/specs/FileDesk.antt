@@ -1,6 +1,10 @@
--- What a register's file held as it was opened, and what the files hold that are left.
-use Rattle.std.specs.Prelude.{◌≡◌, ◌⊎◌, ⊤}
-use Rattle.sqlite.specs.Files.{image_of}
+-- Left, found: as long as nobody else writes to the files, those that are left hold a book, and so does whatever a
+-- crash leaves of them. What is found stands for the book that the files held. What is opened is what was left, or what
+-- a crash leaves of it.
+use Rattle.std.specs.Prelude.{◌≡◌, ◌⊎◌, List, ⊤}
+use Rattle.sqlite.specs.Files.{HoldsDatabase, image_of}
+use Rattle.sqlite.specs.State.{State}
+use Rattle.sqlite.specs.Tree.{Trees}
 use Rattle.sqlite.specs.declared.file.Leftover.{Leftover}
 use Rattle.sqlite.specs.declared.file.Leftover.TheVariants as left
 use Rattle.sqlite_disk.specs.declared.Disk.{Ghosts}
@@ -11,7 +15,9 @@ use Rattle.sqlite_wal.specs.Recovery.{Image}
 use Rattle.fr_base.specs.Book.{Book}
 use Rattle.fr_base.specs.Cluster.{Cluster}
 use Rattle.fr_records.specs.Held.{Standing}
-use Rattle.fr_store.specs.StoreFiles.{HoldsBook}
+use Rattle.fr_store.specs.Crashes.{HoldsOne, LeavesOnly}
+use Rattle.fr_store.specs.Store.{IsRegisterFor}
+use Rattle.fr_store.specs.StoreFiles.{HoldsBook, database_of}
 
 -- As long as nobody else has written to the files, they hold the book, and so does whatever a crash leaves of them.
 abbrev pub LeavesBook : {D : Type 0} → Ghosts D → Files D → Cluster → Book → Type 0
@@ -31,6 +37,15 @@ Held image c b = HoldsBook c b image
 -- What is found in files that held a register stands for its book, as long as it is clean.
 abbrev pub FindsHeld : Image → Type 0 → Standing → Type 0
 FindsHeld held clean stands = clean → (c : Cluster) (b : Book) → Held held c b → stands c b
+
+-- So where all that is known of what they held is that its tables stood for the book.
+abbrev pub FindsLeft : Image → Type 0 → Standing → Type 0
+FindsLeft held clean stands = clean → (c : Cluster) (b : Book) (db : Trees) → HoldsDatabase held db → IsRegisterFor c b (database_of db) → stands c b
+
+-- What a crash leaves of files that were given up is a register that it would have left before.
+abbrev pub AreGivenUp : {D : Type 0} → Ghosts D → State → Files D → Type 0
+AreGivenUp g s files = AreClean g files.log files.db → (image : Image) → outcomes g files.log files.db image → (c : Cluster) (books : List Book) → LeavesOnly s c books
+    → ∥ HoldsOne c books image ∥₁
 
 -- What is opened is what the files hold, or what a crash leaves of them.
 abbrev pub IsLeftBy : {D : Type 0} → Ghosts D → Files D → Image → Type 0

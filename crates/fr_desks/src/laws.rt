@@ -1,10 +1,13 @@
-//! Laws of registers in files.
-ghost use Rattle.fr_desks.specs.Laws.{LeftIsFound, MadeIsFound};
+//! Laws of registers in files: one that was made, or closed, and is opened then has the same book.
+ghost use Rattle.fr_desks.specs.Laws.{CrashIsFound, LeftIsFound, MadeIsFound};
+ghost use Rattle.sqlite.specs.Files.{file_state};
 ghost use Rattle.sqlite_wal.specs.Files.{image_at};
 
 use crate::file_desk::FileDesk;
 use fr_base::Desk;
-use sqlite::Start;
+use fr_office::Office;
+use fr_store::Store;
+use sqlite::{FileStore, Start};
 use sqlite_disk::Disk;
 
 /// A register that was closed and is opened again has the same book, after a crash too.
@@ -15,4 +18,11 @@ pub fn left_is_found<D: Disk, S: Start>()
 /// A register that was made and is opened then has the book of a new register.
 pub fn made_is_found<D: Disk, S: Start>()
     ensures { MadeIsFound D.Disk (image_at S.Start) ⟦<FileDesk<S> as Desk>⟧.clean ⟦<FileDesk<S> as Desk>⟧.stands }
+{}
+
+/// Whatever is asked of a register in files, and wherever a crash falls: what is opened afterwards is the register after
+/// all that was answered, or after one request more, which had been answered `Unavailable`; each supplier was answered
+/// as if it were alone, and at most one frame is sent in a cell.
+pub fn crash_is_found<D: Disk, S: Start>()
+    ensures { CrashIsFound D.Disk ⟦<Office<Store<FileStore<D>>> as Desk>⟧.stands (λ desk. file_state desk.records.conn) (image_at S.Start) ⟦<FileDesk<S> as Desk>⟧.clean ⟦<FileDesk<S> as Desk>⟧.stands }
 {}

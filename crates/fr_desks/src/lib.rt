@@ -7,5 +7,5 @@ mod laws;
 mod memory_desk;
 
 pub use file_desk::{FileDesk, FileFault, Left};
-pub use laws::{left_is_found, made_is_found};
+pub use laws::{crash_is_found, left_is_found, made_is_found};
 pub use memory_desk::MemoryDesk;

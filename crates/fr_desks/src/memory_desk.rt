@@ -1,4 +1,4 @@
-//! The desk of a register in memory.
+//! The desk of a register in memory, which a script asks.
 ghost use Rattle.std.specs.Prelude.{◌≡◌, ◌<◌, length, take, IfErr, IfOk, MatchResult, ⊤};
 ghost use Rattle.fr_base.specs.Book.{Book, opening};
 ghost use Rattle.fr_base.specs.Cluster.{Cluster};

@@ -1,18 +1,22 @@
-//! The office of a register.
-ghost use Rattle.std.specs.Prelude.{◌≡◌, ◌<◌, [], length, take, IfOk, IfErr, MatchResult};
+//! The office of a register, which answers one request, or a list of them.
+ghost use Rattle.std.specs.Prelude.{◌≡◌, ◌<◌, [], ◌∷◌, length, take, IfOk, IfErr, MatchResult};
 ghost use Rattle.fr_base.specs.Actors.{actor_of};
 ghost use Rattle.fr_base.specs.Book.{Book};
 ghost use Rattle.fr_base.specs.Cluster.{Cluster};
 ghost use Rattle.fr_base.specs.Sound.{IsSound};
-ghost use Rattle.fr_answers.specs.Answering.{Answers};
+ghost use Rattle.fr_answers.specs.Answering.{Answers, KeepsChange, LeavesStep};
+ghost use Rattle.fr_answers.specs.Crashed.{WereAsked, WereKept};
 ghost use Rattle.fr_answers.specs.Headline.{WereAnswered};
 ghost use Rattle.fr_answers.specs.KeptPages.{StandsWarm};
+ghost use Rattle.fr_answers.specs.Listing.{Lists};
+ghost use Rattle.fr_records.specs.Held.{LeavesNoMore};
 
 mod stored;
 
-use fr_answers::{Stopped, Warm, answer, run};
-use fr_base::{Actor, Answer, Ask, Desk};
+use fr_answers::{Stopped, Warm, answer, list_variants, run};
+use fr_base::{Actor, Answer, Ask, Desk, Params, Refusal};
 use fr_records::Records;
+use fr_world::VariantRow;
 use std::alloc::Global;
 use std::marker::Model;
 
@@ -80,11 +84,34 @@ impl<R: Records> Office<R> {
     /// Answers a request of a sound register by one step of it; or the answer is `Unavailable`, only
     /// where who asks is known and nothing in the request itself refuses it, and the rows stay. Who is
     /// not there is answered `UnknownKey`.
+    ///
+    /// Until it answers, a crash leaves what it would have left before, or the register after the step. Where it
+    /// answers `Done`, or `Imported` to an import that is new, a crash leaves the register after the step, and no other.
     pub fn ask(&mut self, alloc: Global, ask: &Ask) -> Answer
         ensures falls { R.clean self.new.records → R.clean self.old.records }
         ensures answers { R.clean self.new.records → Answers (StandsWarm R.stands self.old) (StandsWarm R.stands self.new) ask.now result }
+        ensures leaves { R.clean self.new.records → LeavesStep (StandsWarm R.stands self.old) (R.leaves self.old.records) (R.leaves self.new.records) ask.now }
+        ensures durable { R.clean self.new.records → KeepsChange (StandsWarm R.stands self.old) (R.leaves self.new.records) ask.now result }
     {
         answer(alloc, &mut self.warm, ask)
+    }
+
+    /// The parameters of the register's cluster.
+    pub fn params(&self) -> Params
+        ensures { (c : Cluster) (b : Book) → StandsWarm R.stands self.now c b → result ≡ c.params }
+    {
+        self.warm.config().params()
+    }
+
+    /// The variants of the register, by name, as who asks is told: all of them, since they are common to all suppliers.
+    /// `UnknownKey` where who asks is not there; `Unavailable` where who asks is there, and memory is refused or the
+    /// records are.
+    pub fn variants(&mut self, alloc: Global, actor: &Actor) -> Result<Vec<VariantRow>, Refusal>
+        ensures falls { R.clean self.new.records → R.clean self.old.records }
+        ensures leaves { R.clean self.new.records → LeavesNoMore (R.leaves self.old.records) (R.leaves self.new.records) }
+        ensures lists { R.clean self.new.records → Lists (StandsWarm R.stands self.old) (StandsWarm R.stands self.new) actor.now result }
+    {
+        list_variants(alloc, &mut self.warm, actor)
     }
 
     /// Answers requests one after another. The room for an answer is got before its request is asked;
@@ -93,6 +120,9 @@ impl<R: Records> Office<R> {
     /// Whatever is asked of a sound register, and by whom: each supplier is answered as by a register
     /// that holds it alone, and after each request at most one frame is sent in a cycle, slot and channel
     /// of a variant, by the node that holds the grant.
+    ///
+    /// Of a register that a crash would have left as it stood, a crash then leaves it as it stands now, with all
+    /// that was answered; or after one request more, which was answered `Unavailable`.
     pub fn run(&mut self, alloc: Global, asks: &[Ask]) -> Result<Vec<Answer>, Stopped>
         ensures falls { R.clean self.new.records → R.clean self.old.records }
         ensures each { IfOk result (λ answers. length answers.items ≡ length asks.now) }
@@ -100,7 +130,13 @@ impl<R: Records> Office<R> {
         ensures headline { R.clean self.new.records → (c : Cluster) (b : Book) → StandsWarm R.stands self.old c b → IsSound c b → MatchResult result
             (λ answers. WereAnswered (StandsWarm R.stands self.new c) c b asks.now answers.items)
             (λ stopped. WereAnswered (StandsWarm R.stands self.new c) c b (take (length stopped.answers.items) asks.now) stopped.answers.items) }
+        ensures asked { R.clean self.new.records → MatchResult result
+            (λ answers. WereAsked (StandsWarm R.stands) (λ office. R.leaves office.records) self.old asks.now answers.items self.new)
+            (λ stopped. WereAsked (StandsWarm R.stands) (λ office. R.leaves office.records) self.old (take (length stopped.answers.items) asks.now) stopped.answers.items self.new) }
+        ensures kept { R.clean self.new.records → (c : Cluster) (b : Book) → StandsWarm R.stands self.old c b → IsSound c b → R.leaves self.old.records c (b ∷ []) → MatchResult result
+            (λ answers. WereKept (StandsWarm R.stands self.new c) (R.leaves self.new.records c) c b asks.now answers.items)
+            (λ stopped. WereKept (StandsWarm R.stands self.new c) (R.leaves self.new.records c) c b (take (length stopped.answers.items) asks.now) stopped.answers.items) }
     {
-        run(alloc, self, asks)
+        run(alloc, &mut self.warm, asks)
     }
 }

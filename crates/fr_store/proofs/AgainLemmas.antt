@@ -38,18 +38,18 @@ found_again old new found same good is c b stood =
 -- tables that say the number that is wanted are refused for no other reason
 pub refused_alone : (wanted : ℤ) (db : Database) (e : StoreFault) → HasNumber db wanted → Refuses wanted db e → e ≡ Unavailable
 refused_alone wanted db NotEmpty is h = absurd h
-refused_alone wanted db NotARegister is h = absurd (h wanted is)
+refused_alone wanted db NotARegister is h = absurd (h.1 wanted is)
 refused_alone wanted db WrongSchema is h =
-    let it = h is.has in
-    let same : numbered it.0 ≡ numbered wanted = cc (sym it.2.number ∙ is.number) in
-    absurd (it.1 (ap (λ (r : RegisterRow). r.schema) same))
+    let its = h.3 is.has in
+    let same : numbered h.0 ≡ numbered wanted = cc (sym its.number ∙ is.number) in
+    absurd (h.1 (ap (λ (r : RegisterRow). r.schema) same))
 refused_alone wanted db Unavailable is h = refl
 
 -- nor are files that hold them
 pub refused_alone_files : (wanted : ℤ) (image : Image) (db : Database) (e : StoreFault) → IsHeld image db → HasNumber db wanted → ((d : Database) → IsDatabase d → HoldsDatabase image d.trees → Refuses wanted d e) → e ≡ Unavailable
 refused_alone_files wanted image db Unavailable held is told = refl
 refused_alone_files wanted image db NotEmpty held is told = absurd (∥∥₁_elim held.holds (hlevel) (λ there. told db held.sound there))
-refused_alone_files wanted image db NotARegister held is told = absurd (∥∥₁_elim held.holds (hlevel) (λ there. told db held.sound there wanted is))
+refused_alone_files wanted image db NotARegister held is told = absurd (∥∥₁_elim held.holds (hlevel) (λ there. (told db held.sound there).1 wanted is))
 refused_alone_files wanted image db WrongSchema held is told =
     absurd (∥∥₁_elim held.holds (hlevel) (λ there. let same = refused_alone wanted db WrongSchema is (told db held.sound there) in cc))
 

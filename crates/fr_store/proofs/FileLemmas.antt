@@ -1,5 +1,5 @@
 -- What an open finds in files that hold a database.
-use Rattle.std.proofs.Common.{◌≡◌, ◌∙◌, inl, inr, sym, subst}
+use Rattle.std.proofs.Common.{◌≡◌, ◌≢◌, ◌∙◌, inl, inr, ℤ, IsTrue, refl, sym, subst}
 use Rattle.std.proofs.Math.Logic.{∥∥₁_elim}
 use Rattle.sqlite_disk.specs.declared.Disk.{Ghosts}
 use Rattle.sqlite_disk.specs.declared.Files.{Files}
@@ -15,16 +15,17 @@ use Rattle.sqlite_wal.specs.Recovery.{Image}
 use Rattle.sqlite.specs.Tree.{Trees}
 use Rattle.sqlite.specs.Effect.{Database, IsDatabase}
 use Rattle.sqlite.specs.Closing.{files_left}
-use Rattle.sqlite.specs.Files.{HoldsDatabase, image_of, FailsToOpenFiles, IsCleanLeft}
-use Rattle.sqlite.specs.State.{store_error}
+use Rattle.sqlite.specs.Files.{AreFoundIn, HoldsDatabase, image_of, FailsToOpenFiles, IsCleanLeft}
+use Rattle.sqlite.specs.State.{State, IsLive, store_error}
 use Rattle.sqlite.specs.declared.file.Leftover.{Leftover}
 use Rattle.sqlite.specs.declared.file.Leftover.TheVariants as left
 use Rattle.sqlite.specs.declared.error.Error.{Error}
 use Rattle.sqlite.specs.declared.error.Error.TheVariants.{SqliteFailure}
 use Rattle.sqlite.specs.declared.error.ErrorCode.TheVariants.{NotADatabase}
 use Rattle.sqlite.specs.Schema.{Schema}
+use Rattle.fr_store.specs.Opening.{Refuses, RefusesFiles, ForbidsFiles}
 use Rattle.fr_store.specs.Store.{Forbids, MayForbid}
-use Rattle.fr_store.specs.StoreFiles.{IsHeld}
+use Rattle.fr_store.specs.StoreFiles.{IsHeld, IsFound}
 use Rattle.fr_store.specs.declared.fault.StoreFault.{StoreFault}
 use Rattle.fr_store.specs.declared.fault.StoreFault.TheVariants.{NotEmpty, NotARegister, WrongSchema, Unavailable}
 
@@ -53,6 +54,31 @@ may_forbid schema NotEmpty h = h
 may_forbid schema NotARegister h = h
 may_forbid schema WrongSchema h = h
 may_forbid schema Unavailable h = tt
+
+-- files that were not opened are refused for nothing that was found there
+pub refused_unopened : (wanted : ℤ) (image : Image) (fault : StoreFault) → fault ≢ NotEmpty → fault ≢ WrongSchema → ((db : Trees) → HoldsDatabase image db → fault ≡ Unavailable) → RefusesFiles wanted image fault
+refused_unopened wanted image NotEmpty made ours told = absurd (made refl)
+refused_unopened wanted image NotARegister made ours told = inl (λ held. let is = told held.0 held.1 in cc)
+refused_unopened wanted image WrongSchema made ours told = absurd (ours refl)
+refused_unopened wanted image Unavailable made ours told = tt
+
+-- and others for that alone
+pub refused_opened : (wanted : ℤ) (image : Image) (db : Database) (fault : StoreFault) → IsFound image db → Refuses wanted db fault → RefusesFiles wanted image fault
+refused_opened wanted image db NotEmpty found h = absurd h
+refused_opened wanted image db NotARegister found h = inr (db, found, h)
+refused_opened wanted image db WrongSchema found h = (db, found, h)
+refused_opened wanted image db Unavailable found h = tt
+
+-- so where a register was to be made
+pub forbidden_opened : (image : Image) (db : Database) (fault : StoreFault) → IsFound image db → Forbids db.schema fault → ForbidsFiles image fault
+forbidden_opened image db NotEmpty found h = (db, found, h)
+forbidden_opened image db NotARegister found h = absurd h
+forbidden_opened image db WrongSchema found h = absurd h
+forbidden_opened image db Unavailable found h = tt
+
+-- what was committed, as it was found
+pub found_opened : (image : Image) (s : State) → IsTrue s.is_open → IsLive s → (trees : Trees) → s.now.trees ≡ trees → AreFoundIn image trees → ((db : Trees) → HoldsDatabase image db → trees ≡ db) → IsFound image s.now
+found_opened image s up live trees same reads holds = record { recovered = subst (AreFoundIn image) (sym same) reads; sound = (live up).0; only = λ db held. same ∙ holds db held }
 
 no_such_cause : (kind : StoreError) (e : Error) → e ≡ SqliteFailure NotADatabase → e ≡ store_error kind → ⊥
 no_such_cause cause.OutOfMemory e is h = absurd (let k = sym is ∙ h in cc)

@@ -1,4 +1,5 @@
--- What an edit's statements inside a transaction make of the tables.
+-- Edits: what edits of the register's rows make of the tables and of the book for which they stand. An edit that fits
+-- is made ready, and then carried out. What a crash leaves of edits.
 use Rattle.std.specs.Prelude.{◌≡◌, ⊤, Bool, List, Option, Some, None, IfSome, Result, IfOk, OnOk, IsTrue}
 use Rattle.sqlite.specs.State.{State, HasCleanDisk, KeepsCommit}
 use Rattle.sqlite.specs.Tree.{Trees}

@@ -1,4 +1,6 @@
--- A register of the schema before this one, and what a migration makes of it.
+-- Before: when tables of the schema before stand for a cluster of 64 cycles and a book. All rows but the number's and
+-- the cluster's are those of this schema. When files hold such a register. What a migration makes of it, and what a
+-- crash leaves of that.
 use Rattle.std.specs.Prelude.{◌≡◌, ◌++◌, List, [], ◌∷◌, Result, OnOk, IsTrue}
 use Rattle.sqlite.specs.Effect.{Database}
 use Rattle.sqlite.specs.State.{State, HasCleanDisk, KeepsCommit}

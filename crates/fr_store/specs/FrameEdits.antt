@@ -1,4 +1,5 @@
--- An edit of one frame, carried out in the tables.
+-- Edit of a frame: what it makes of the tables. A frame whose placements or signals change is the variant's own by
+-- then.
 use Rattle.std.specs.Prelude.{◌≡◌, false, Option, Some, is_some, IsTrue, Result, OnOk, ⊤}
 use Rattle.sqlite.specs.State.{State, HasCleanDisk}
 use Rattle.fr_base.specs.Tables.{get, contains}

@@ -1,4 +1,4 @@
--- What edits make of the suppliers that a config lists.
+-- Joined: what edits make of the suppliers that a config lists, one more for each that joins.
 use Rattle.std.specs.Prelude.{List, [], ◌∷◌}
 use Rattle.fr_base.specs.Cluster.{ClusterFile}
 use Rattle.fr_base.specs.Joining.{joined}

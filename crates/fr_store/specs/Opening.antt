@@ -1,18 +1,42 @@
--- Why a database is not opened, or not migrated.
-use Rattle.std.specs.Prelude.{◌≢◌, ℤ, ⊤}
+-- Opening: why a database is not opened or not migrated, whatever its schema. Why files are not, and why no register is
+-- made in them, whatever they hold.
+use Rattle.std.specs.Prelude.{◌≢◌, ◌⊎◌, ℤ, IsTrue, ⊤}
 use Rattle.sqlite.specs.Effect.{Database}
+use Rattle.sqlite.specs.Files.{HoldsDatabase}
+use Rattle.sqlite.specs.Tree.{Trees}
+use Rattle.sqlite_wal.specs.Recovery.{Image}
 use Rattle.fr_tables.specs.Tables.{HasSomeTables}
-use Rattle.fr_tables.specs.Asking.{our_schema_number, HasNumber}
+use Rattle.fr_tables.specs.Asking.{our_schema_number, HasNumber, SaysNumber, SaysNoNumber}
+use Rattle.fr_store.specs.Store.{has_table}
+use Rattle.fr_store.specs.StoreFiles.{IsFound}
 use Rattle.fr_store.specs.declared.fault.StoreFault.{StoreFault}
 use Rattle.fr_store.specs.declared.fault.StoreFault.TheVariants.{NotEmpty, NotARegister, WrongSchema, Unavailable}
 
--- why a database with these tables is refused, of which that number is wanted
+-- Why a database of any schema is refused, of which that number is wanted. What it says is what its rows have, where the tables are a register's.
 abbrev pub Refuses : ℤ → Database → StoreFault → Type 0
 Refuses wanted db NotEmpty = ⊥
-Refuses wanted db NotARegister = (n : ℤ) → ¬ HasNumber db n
-Refuses wanted db WrongSchema = HasSomeTables db → (n : ℤ) × (n ≢ wanted) × HasNumber db n
+Refuses wanted db NotARegister = SaysNoNumber db × ((n : ℤ) → ¬ HasNumber db n)
+Refuses wanted db WrongSchema = (n : ℤ) × (n ≢ wanted) × SaysNumber db n × (HasSomeTables db → HasNumber db n)
 Refuses wanted db Unavailable = ⊤
 
 -- why it is not opened
 abbrev pub Explains : Database → StoreFault → Type 0
 Explains = Refuses our_schema_number
+
+-- why files are refused, whatever they hold: for the database that is found there, or since there is none
+abbrev pub RefusesFiles : ℤ → Image → StoreFault → Type 0
+RefusesFiles wanted image NotEmpty = ⊥
+RefusesFiles wanted image NotARegister = (¬ ((db : Trees) × HoldsDatabase image db)) ⊎ ((db : Database) × IsFound image db × Refuses wanted db NotARegister)
+RefusesFiles wanted image WrongSchema = (db : Database) × IsFound image db × Refuses wanted db WrongSchema
+RefusesFiles wanted image Unavailable = ⊤
+
+-- why they are not opened
+abbrev pub ExplainsFiles : Image → StoreFault → Type 0
+ExplainsFiles = RefusesFiles our_schema_number
+
+-- why no register is made in files, whatever they hold
+abbrev pub ForbidsFiles : Image → StoreFault → Type 0
+ForbidsFiles image NotEmpty = (db : Database) × IsFound image db × IsTrue (has_table db.schema)
+ForbidsFiles image NotARegister = ⊥
+ForbidsFiles image WrongSchema = ⊥
+ForbidsFiles image Unavailable = ⊤

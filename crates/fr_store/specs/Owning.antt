@@ -1,4 +1,6 @@
--- The frames that are a variant's own, and how a variant is stored.
+-- Own frames: how a variant is stored, over its parent or not. Which frames are its own, and for each frame that it
+-- shows, which variant has it as its own. A frame that is only a parent's becomes its own, with copies of all its rows,
+-- and what each variant shows stays.
 use Rattle.std.specs.Prelude.{◌≡◌, ◌++◌, ◌&&◌, ℕ, Bool, List, Some, Result, MatchResult, OnOk, IfOk, IsTrue, IsPermutation}
 use Rattle.std.specs.List.{list_any}
 use Rattle.std.specs.Ordering.{int_eq}

@@ -1,4 +1,5 @@
--- What is read of a supplier's rows in a variant.
+-- Paging: what a call reads of a supplier's rows in a variant, which are its nodes, its grants, the frames that are the
+-- variant's own, those that the variant shows, and its page.
 use Rattle.std.specs.Prelude.{◌≡◌, ℕ, pos, List, option_map, Option, Some, None, Result, MatchResult, MatchOption, nat_abs, unwrap_or, if◌then◌else◌}
 use Rattle.std.specs.Ordering.{int_eq}
 use Rattle.sqlite.specs.Order.{Row, column}

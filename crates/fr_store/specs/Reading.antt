@@ -1,4 +1,5 @@
--- What is read of the book for which the tables stand.
+-- Reading: what a call reads of the book for which the tables stand, as the variants, a supplier's nodes, the holder of
+-- a slot, and an import that is kept. Which variants a register can have, whoever wrote its rows.
 use Rattle.std.specs.Prelude.{◌≡◌, ◌≤◌, ℕ, pos, List, length, map, All, Option, Some, None, Result, Ok, IfOk, nat_abs}
 use Rattle.std.specs.Ordering.{int_eq}
 use Rattle.sqlite.specs.Order.{Row, column}

@@ -1,4 +1,9 @@
--- When the tables stand for a cluster and a book.
+-- Stands for, view: the tables stand for a cluster and a book where they have one row for each entry of the book, in
+-- any order, and no other; but of a variant's frames only its own have rows. A variant shows its own frames alone; or,
+-- where it is laid over its parent, also those that the parent shows, that it has not itself and that were not dropped
+-- in it. They are its frames in the book. Of the count of cycles no row of a placement tells: it is the cluster's
+-- (`IsAsStored`). What the rows of the book say (`HoldsRows`) is parted from the heads, which are the number and the
+-- cluster (`HasHeads`).
 use Rattle.std.specs.Prelude.{◌≡◌, ℕ, suc, pos, Bool, not, ◌||◌, List, [], ◌∷◌, map, Option, Some, None, IsTrue, IsPermutation, IsSorted, All, ⊤, if◌then◌else◌}
 use Rattle.std.specs.List.{flat_map, list_any}
 use Rattle.std.specs.Ordering.{on, nat_cmp}

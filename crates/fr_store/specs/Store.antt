@@ -1,4 +1,5 @@
--- A register as it is made and found: its tables, and the cluster of which they tell.
+-- Register: when a database is a register of a cluster, or of a cluster and a book, and when a new one; when it is
+-- found again; whether one of its tables is there, and why none is made.
 use Rattle.std.specs.Prelude.{◌≡◌, ℕ, [], ◌∷◌, List, Bool, false, map, IsTrue, IsPermutation, Result, MatchResult, ⊤}
 use Rattle.std.specs.List.{list_any}
 use Rattle.sqlite.specs.Table.{Table}

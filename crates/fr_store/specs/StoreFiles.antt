@@ -1,12 +1,14 @@
--- What a database file and its log hold.
+-- Files: when a database file and its log hold a database, a register, or one whose tables stand for a book; which
+-- database an open finds in them; what survives since they were opened, and what a crash may leave of files that were
+-- not.
 use Rattle.std.specs.Prelude.{◌≡◌}
 use Rattle.sqlite.specs.Effect.{Database, IsDatabase}
 use Rattle.sqlite.specs.Closing.{files_left}
-use Rattle.sqlite.specs.Files.{HoldsDatabase, file_state}
+use Rattle.sqlite.specs.Files.{AreFoundIn, HoldsDatabase, file_state}
 use Rattle.sqlite.specs.Held.{Held}
 use Rattle.sqlite.specs.State.{State, HasCleanDisk, Opens, IsLive, Survives}
 use Rattle.sqlite.specs.declared.file.Leftover.{Leftover}
-use Rattle.sqlite_wal.specs.Files.{seen_image}
+use Rattle.sqlite_wal.specs.Files.{outcomes, seen_image}
 use Rattle.sqlite_disk.specs.declared.Disk.{Ghosts}
 use Rattle.sqlite_store.specs.declared.store.FileStore.{FileStore}
 use Rattle.sqlite.specs.Tree.{Trees}
@@ -23,6 +25,12 @@ use Rattle.fr_store.specs.Store.{IsRegisterOf, IsRegisterFor}
 pub record IsHeld (image : Image) (db : Database) : Type 0 where
   pub holds : ∥ HoldsDatabase image db.trees ∥₁
   pub sound : IsDatabase db
+
+-- An open finds this database in the files: they recover to it, or nothing was there and it is empty. If they hold one, it is this.
+pub record IsFound (image : Image) (db : Database) : Type 0 where
+  pub recovered : AreFoundIn image db.trees
+  pub sound : IsDatabase db
+  pub only : (trees : Trees) → HoldsDatabase image trees → db.trees ≡ trees
 
 abbrev pub database_of : Trees → Database
 database_of db = record { schema = register_schema; trees = db }
@@ -54,6 +62,10 @@ module _ {D : Type 0} {g : Ghosts D} where
   -- what is left of two files
   abbrev pub image_left : Leftover D g → Image
   image_left left = let both = files_left left in seen_image g both.0 both.1
+
+  -- what a crash may leave of them
+  abbrev pub outcomes_left : Leftover D g → Image → Type 0
+  outcomes_left left = let both = files_left left in outcomes g both.0 both.1
 
   -- a connection that has opened files of this content
   pub record HasOpened (image : Image) (c : Held (FileStore D g)) : Type 0 where

@@ -1,4 +1,5 @@
--- A register whose rows are kept by SQL, as the office's records.
+-- Stored: when a store stands for a cluster and a book, as records do. It lists the book's suppliers; and while its
+-- connection is open its tables stand for the book, and all is committed.
 use Rattle.std.specs.Prelude.{◌≡◌, IsTrue}
 use Rattle.sqlite.specs.State.{State}
 use Rattle.fr_base.specs.Book.{Book, file_of}

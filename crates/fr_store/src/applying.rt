@@ -1,4 +1,4 @@
-//! The edits of the register's rows, carried out in the tables.
+//! The edits of the register's rows, carried out in the tables. That of a new node stands here.
 
 ghost use Rattle.std.specs.Prelude.{◌≡◌, IsTrue, None, OnOk};
 ghost use Rattle.sqlite.specs.State.{HasCleanDisk, Survives};

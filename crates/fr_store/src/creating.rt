@@ -1,4 +1,4 @@
-//! Makes a register.
+//! Makes a register, over any connection.
 
 ghost use Rattle.std.specs.Prelude.{◌≡◌, [], ◌∷◌, IsTrue, IfOk, IfErr, OnOk, OnErr, false};
 ghost use Rattle.std.specs.List.{list_any};
@@ -6,14 +6,13 @@ ghost use Rattle.sqlite_schema.specs.Names.{same_name};
 ghost use Rattle.sqlite.specs.State.{HasCleanDisk, Survives};
 ghost use Rattle.sqlite.specs.Held.{state};
 ghost use Rattle.fr_base.specs.Book.{opening};
-ghost use Rattle.fr_tables.specs.Filling.{with_config};
-ghost use Rattle.fr_tables.specs.Making.{IsFresh, no_rows};
+ghost use Rattle.fr_tables.specs.Making.{IsFresh};
 ghost use Rattle.fr_tables.specs.Asking.{AreAsBefore};
 ghost use Rattle.fr_store.specs.Crashes.{LeavesOnly};
 ghost use Rattle.fr_store.specs.Reading.{Stands};
 ghost use Rattle.fr_tables.specs.Schema.{schema_of};
-ghost use Rattle.fr_store.specs.Store.{IsNewOf, MakesNew, Forbids, is_ours, has_table};
-ghost use Rattle.fr_tables.specs.Tables.{tables_in};
+ghost use Rattle.fr_store.specs.Store.{IsNewOf, IsRegisterFor, MakesNew, Forbids, is_ours, has_table};
+ghost use Rattle.fr_store.specs.StoreFiles.{database_of};
 ghost use Rattle.fr_store.specs.declared.fault.StoreFault.TheVariants as fault;
 
 use crate::fault::StoreFault;
@@ -43,7 +42,7 @@ fn create<S: Alter>(conn: &mut Connection<S>, config: &Config) -> Result<(), Err
     ensures open { HasCleanDisk (state S.Store conn.new) → OnOk result (IsTrue (state S.Store conn.new).is_open) }
     ensures undone { HasCleanDisk (state S.Store conn.new) → IsFresh 0 0 (state S.Store conn.old).now → OnErr result (AreAsBefore (state S.Store conn.old) (state S.Store conn.new)) }
     ensures autocommit { conn.new.in_transaction ≡ false }
-    ensures survives { IsFresh 0 0 (state S.Store conn.old).now → Survives (state S.Store conn.old) (state S.Store conn.new) (λ db. tables_in db ≡ with_config config.now no_rows) }
+    ensures survives { IsFresh 0 0 (state S.Store conn.old).now → Survives (state S.Store conn.old) (state S.Store conn.new) (λ db. IsNewOf config.now (database_of db)) }
 {
     let _settled = conn.is_autocommit();
     let mut tx = conn.transaction();
@@ -109,12 +108,12 @@ impl<S: Alter + Drop> Store<S> {
         ensures durable { IfOk result (λ s. HasCleanDisk (state S.Store s.conn) → LeavesOnly (state S.Store s.conn) config.now.cluster (opening config.now ∷ [])) }
         ensures config { IfOk result (λ s. s.config ≡ config.now) }
         ensures outside { IfOk result (λ s. s.conn.in_transaction ≡ false) }
-        ensures survives { IfOk result (λ s. Survives (state S.Store conn) (state S.Store s.conn) (λ db. tables_in db ≡ with_config config.now no_rows)) }
+        ensures survives { IfOk result (λ s. Survives (state S.Store conn) (state S.Store s.conn) (λ db. IsRegisterFor config.now.cluster (opening config.now) (database_of db))) }
         ensures told { IfErr result (λ e. Forbids (state S.Store conn).now.schema e.0) }
         ensures untouched { IfErr result (λ e. e.0 ≡ fault.NotEmpty → e.1 ≡ conn) }
         ensures unharmed { IfErr result (λ e. HasCleanDisk (state S.Store e.1) → AreAsBefore (state S.Store conn) (state S.Store e.1)) }
         ensures outside_still { IfErr result (λ e. conn.in_transaction ≡ false → e.1.in_transaction ≡ false) }
-        ensures survives_still { IfErr result (λ e. Survives (state S.Store conn) (state S.Store e.1) (λ db. tables_in db ≡ with_config config.now no_rows)) }
+        ensures survives_still { IfErr result (λ e. Survives (state S.Store conn) (state S.Store e.1) (λ db. IsRegisterFor config.now.cluster (opening config.now) (database_of db))) }
     {
         if has_table(conn.schema()) {
             return Err((StoreFault::NotEmpty, conn));

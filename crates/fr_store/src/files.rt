@@ -1,4 +1,4 @@
-//! A register in a database file and its log.
+//! A register made, and one opened, in a database file and its log, and these closed.
 
 ghost use Rattle.std.specs.Prelude.{◌≡◌, ◌≢◌, [], ◌∷◌, IsTrue, IfOk, IfErr, IfSome, None, false};
 ghost use Rattle.sqlite_wal.specs.Files.{outcomes};
@@ -8,15 +8,13 @@ ghost use Rattle.sqlite.specs.State.{HasCleanDisk, Opens, IsLive};
 ghost use Rattle.sqlite.specs.Files.{file_state, image_of, HoldsDatabase};
 ghost use Rattle.fr_base.specs.Book.{opening};
 ghost use Rattle.fr_tables.specs.Schema.{register_schema, old_schema};
-ghost use Rattle.fr_tables.specs.Filling.{with_config};
-ghost use Rattle.fr_tables.specs.Making.{no_rows};
-ghost use Rattle.fr_store.specs.Opening.{Explains};
+ghost use Rattle.fr_store.specs.Opening.{Explains, ExplainsFiles, ForbidsFiles};
 ghost use Rattle.fr_tables.specs.Changes.{tables_of};
 ghost use Rattle.fr_store.specs.Reading.{Stands, TellsOpened};
-ghost use Rattle.fr_tables.specs.Tables.{AreOrdered, AreOrderedBefore, tables_in};
-ghost use Rattle.fr_store.specs.Store.{IsNewOf, IsRegisterOf, MayForbid};
-ghost use Rattle.fr_store.specs.Crashes.{HoldsOne, LeavesOnly};
-ghost use Rattle.fr_store.specs.StoreFiles.{HoldsRegister, KeepsBook, FindsBook, FindsLeft, IsHeld, SurvivesSince, database_of};
+ghost use Rattle.fr_tables.specs.Tables.{AreOrdered, AreOrderedBefore};
+ghost use Rattle.fr_store.specs.Store.{IsNewOf, IsRegisterFor, IsRegisterOf, MayForbid};
+ghost use Rattle.fr_store.specs.Crashes.{HoldsOne, LeavesOnly, Serves};
+ghost use Rattle.fr_store.specs.StoreFiles.{HoldsRegister, KeepsBook, FindsBook, FindsLeft, IsFound, IsHeld, SurvivesSince, database_of};
 ghost use Rattle.fr_store.specs.declared.fault.StoreFault.TheVariants as fault;
 
 use crate::fault::StoreFault;
@@ -56,9 +54,11 @@ pub(crate) fn connected<D: Disk + Drop>(
     ensures ordered { IfOk result (λ c. HasCleanDisk (file_state c) → (file_state c).now.schema ≡ register_schema → AreOrdered (file_state c).now.trees) }
     ensures ordered_before { IfOk result (λ c. HasCleanDisk (file_state c) → (file_state c).now.schema ≡ old_schema → AreOrderedBefore (file_state c).now.trees) }
     ensures found { IfOk result (λ c. HasCleanDisk (file_state c) → (db : _) → HoldsDatabase (image_of D.Disk files) db → (file_state c).now.trees ≡ db) }
+    ensures reads { IfOk result (λ c. HasCleanDisk (file_state c) → IsFound (image_of D.Disk files) (file_state c).now) }
     ensures honest { IfOk result (λ c. HasCleanDisk (file_state c) → AreClean D.Disk files.log files.db) }
     ensures told { IfErr result (λ e. AreClean D.Disk e.1.log e.1.db → (db : _) → HoldsDatabase (image_of D.Disk files) db → e.0 ≡ fault.Unavailable) }
     ensures not_made { IfErr result (λ e. e.0 ≢ fault.NotEmpty) }
+    ensures not_ours { IfErr result (λ e. e.0 ≢ fault.WrongSchema) }
 {
     let conn = match Connection::open_files(alloc, files, options) {
         Ok(conn) => conn,
@@ -100,8 +100,8 @@ impl<D: Disk + Drop> Store<FileStore<D>> {
     }
 
     /// Makes a register of this cluster in files that hold no table: all of it, or nothing. It is NotEmpty
-    /// where they hold one of a register's tables already, and then they hold what they held. A refusal
-    /// gives the files back, unless they fail to close.
+    /// where one of a register's tables is found in them already; then they hold what they held, and so does what a
+    /// crash leaves. Else a refusal is Unavailable. It gives the files back, unless they fail to close.
     pub fn create(
         alloc: Global,
         files: Files<D>,
@@ -118,9 +118,14 @@ impl<D: Disk + Drop> Store<FileStore<D>> {
         ensures config { IfOk result (λ s. s.config ≡ config.now) }
         ensures honest { IfOk result (λ s. HasCleanDisk (file_state s.conn) → AreClean D.Disk files.log files.db) }
         ensures outside { IfOk result (λ s. s.conn.in_transaction ≡ false) }
-        ensures survives { IfOk result (λ s. SurvivesSince (image_of D.Disk files) s.conn (λ db. tables_in db ≡ with_config config.now no_rows)) }
+        ensures survives { IfOk result (λ s. SurvivesSince (image_of D.Disk files) s.conn (λ db. IsRegisterFor config.now.cluster (opening config.now) (database_of db))) }
         ensures told { IfErr result (λ e. IfSome e.1 (λ left. AreClean D.Disk left.log left.db → (d : _) → IsDatabase d → HoldsDatabase (image_of D.Disk files) d.trees → MayForbid d.schema e.0)) }
+        ensures cause { IfErr result (λ e. IfSome e.1 (λ left. AreClean D.Disk left.log left.db → ForbidsFiles (image_of D.Disk files) e.0)) }
+        ensures not_found { IfErr result (λ e. e.0 ≢ fault.NotARegister) }
+        ensures not_ours { IfErr result (λ e. e.0 ≢ fault.WrongSchema) }
         ensures untouched { IfErr result (λ e. e.0 ≡ fault.NotEmpty → IfSome e.1 (λ left. AreClean D.Disk left.log left.db → (d : _) → IsDatabase d → HoldsDatabase (image_of D.Disk files) d.trees → IsHeld (image_of D.Disk left) d)) }
+        ensures survives_still { IfErr result (λ e. e.0 ≡ fault.NotEmpty → IfSome e.1 (λ left. AreClean D.Disk left.log left.db → (image : _) → outcomes D.Disk left.log left.db image
+            → (d : _) → IsDatabase d → HoldsDatabase (image_of D.Disk files) d.trees → IsHeld image d)) }
         ensures lost { IfErr result (λ e. e.1 ≡ None → e.0 ≡ fault.Unavailable) }
     {
         let conn = match connected(alloc, files, options) {
@@ -136,7 +141,9 @@ impl<D: Disk + Drop> Store<FileStore<D>> {
         }
     }
 
-    /// The register that the files hold. A refusal gives the files back, unless they fail to close.
+    /// The register that the files hold. It is NotARegister where they hold no database, or one that does not say one
+    /// number of its schema, and WrongSchema where that is another than this version's; then they hold what they held,
+    /// and so does what a crash leaves. Else a refusal is Unavailable. It gives the files back, unless they fail to close.
     pub fn open(
         alloc: Global,
         files: Files<D>,
@@ -148,6 +155,8 @@ impl<D: Disk + Drop> Store<FileStore<D>> {
         ensures stands { IfOk result (λ s. HasCleanDisk (file_state s.conn) → IsRegisterOf s.config (file_state s.conn).now) }
         ensures opened { IfOk result (λ s. HasCleanDisk (file_state s.conn) → (c : _) (db : _) → HoldsRegister c (image_of D.Disk files) db
             → ((file_state s.conn).now ≡ database_of db) × ((file_state s.conn).committed ≡ database_of db)) }
+        ensures committed { IfOk result (λ s. HasCleanDisk (file_state s.conn) → (file_state s.conn).committed ≡ (file_state s.conn).now) }
+        ensures serves { IfOk result (λ s. HasCleanDisk (file_state s.conn) → Serves (file_state s.conn)) }
         ensures variants { IfOk result (λ s. HasCleanDisk (file_state s.conn) → TellsOpened (tables_of (file_state s.conn))) }
         ensures again { IfOk result (λ s. HasCleanDisk (file_state s.conn) → FindsBook (image_of D.Disk files) (file_state s.conn) s.config) }
         ensures left { IfOk result (λ s. HasCleanDisk (file_state s.conn) → FindsLeft (image_of D.Disk files) (file_state s.conn) s.config) }
@@ -155,6 +164,10 @@ impl<D: Disk + Drop> Store<FileStore<D>> {
         ensures outside { IfOk result (λ s. s.conn.in_transaction ≡ false) }
         ensures survives { IfOk result (λ s. SurvivesSince (image_of D.Disk files) s.conn (λ _. ⊥)) }
         ensures told { IfErr result (λ e. IfSome e.1 (λ left. AreClean D.Disk left.log left.db → (d : _) → IsDatabase d → HoldsDatabase (image_of D.Disk files) d.trees → Explains d e.0)) }
+        ensures cause { IfErr result (λ e. IfSome e.1 (λ left. AreClean D.Disk left.log left.db → ExplainsFiles (image_of D.Disk files) e.0)) }
+        ensures untouched { IfErr result (λ e. e.0 ≢ fault.Unavailable → IfSome e.1 (λ left. AreClean D.Disk left.log left.db → (d : _) → IsDatabase d → HoldsDatabase (image_of D.Disk files) d.trees → IsHeld (image_of D.Disk left) d)) }
+        ensures survives_still { IfErr result (λ e. e.0 ≢ fault.Unavailable → IfSome e.1 (λ left. AreClean D.Disk left.log left.db → (image : _) → outcomes D.Disk left.log left.db image
+            → (d : _) → IsDatabase d → HoldsDatabase (image_of D.Disk files) d.trees → IsHeld image d)) }
         ensures not_made { IfErr result (λ e. e.0 ≢ fault.NotEmpty) }
         ensures known { IfErr result (λ e. IfSome e.1 (λ left. AreClean D.Disk left.log left.db → (c : _) (db : _) → HoldsRegister c (image_of D.Disk files) db → e.0 ≡ fault.Unavailable)) }
         ensures lost { IfErr result (λ e. e.1 ≡ None → e.0 ≡ fault.Unavailable) }

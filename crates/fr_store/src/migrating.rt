@@ -1,4 +1,4 @@
-//! Makes a register of the schema before one of this schema.
+//! Makes a register of the schema before one of this schema, in one transaction.
 
 ghost use Rattle.std.specs.Prelude.{◌≡◌, ◌≢◌, IfErr, OnErr, OnOk, false};
 ghost use Rattle.sqlite.specs.State.{HasCleanDisk, IsUnchanged, Survives};

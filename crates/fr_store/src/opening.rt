@@ -1,4 +1,4 @@
-//! Opens a register that was made before.
+//! Opens a register that was made before, over any connection.
 
 ghost use Rattle.std.specs.Prelude.{◌≡◌, ◌≢◌, ◌≤◌, ℤ, IsTrue, IfOk, IfErr, IfSome, OnOk, IsPermutation, map, [], ◌∷◌, false, Some};
 ghost use Rattle.sqlite.specs.State.{HasCleanDisk, Survives};
@@ -9,6 +9,7 @@ ghost use Rattle.fr_tables.specs.Statements.{shows_register, cluster2_row, shows
 ghost use Rattle.fr_tables.specs.Filling.{supplier_row};
 ghost use Rattle.fr_tables.specs.Tables.{HasTables, AreOrdered};
 ghost use Rattle.fr_tables.specs.Changes.{AreListed, tables_of};
+ghost use Rattle.fr_store.specs.Crashes.{Serves};
 ghost use Rattle.fr_store.specs.Reading.{TellsOpened};
 ghost use Rattle.fr_store.specs.Store.{IsRegisterOf, FindsAgain};
 ghost use Rattle.fr_tables.specs.Asking.{AreAsBefore, HasNumber, numbered, number_text, cluster_text, suppliers_text, variants_text};
@@ -108,6 +109,7 @@ impl<S: Alter + Drop> Store<S> {
     ) -> Result<Store<S>, (StoreFault, Connection<S>)>
         ensures open { IfOk result (λ s. HasCleanDisk (state S.Store s.conn) → IsTrue (state S.Store conn).is_open × IsTrue (state S.Store s.conn).is_open) }
         ensures opened { IfOk result (λ s. HasCleanDisk (state S.Store s.conn) → ((state S.Store s.conn).now ≡ (state S.Store conn).now) × ((state S.Store s.conn).committed ≡ (state S.Store conn).committed)) }
+        ensures serves { IfOk result (λ s. HasCleanDisk (state S.Store s.conn) → Serves (state S.Store s.conn)) }
         ensures ours { IfOk result (λ s. (state S.Store s.conn).now.schema ≡ register_schema) }
         ensures stands { IfOk result (λ s. HasCleanDisk (state S.Store s.conn) → AreOrdered (state S.Store conn).now.trees → IsRegisterOf s.config (state S.Store s.conn).now) }
         ensures variants { IfOk result (λ s. HasCleanDisk (state S.Store s.conn) → HasTables (state S.Store s.conn).now → TellsOpened (tables_of (state S.Store s.conn))) }

@@ -1,4 +1,5 @@
-//! What a register tells of its rows.
+//! What a register tells of its rows: nodes, variants, whether one is there, the holder of a slot, imports, and a
+//! supplier's page.
 
 ghost use Rattle.std.specs.Prelude.{◌≡◌, IfErr, IfOk, IfSome, option_map};
 ghost use Rattle.sqlite.specs.Held.{state};

@@ -1,4 +1,4 @@
-//! Which schema tables are of.
+//! Whether tables are of this schema, or of the one before.
 
 ghost use Rattle.std.specs.Prelude.{◌≡◌, ◌≢◌, IsTrue, IfOk, IfErr, OnOk, false, ◌≤◌};
 ghost use Rattle.sqlite.specs.State.{HasCleanDisk, Survives};

@@ -1,4 +1,4 @@
-//! A register whose rows are kept by SQL.
+//! A register whose rows are kept by SQL: its connection, and its cluster with the suppliers that are there.
 
 ghost use Rattle.std.specs.Prelude.{◌≡◌, IsTrue, false};
 ghost use Rattle.sqlite.specs.Held.{state};

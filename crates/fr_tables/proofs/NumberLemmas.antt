@@ -26,7 +26,8 @@ use Rattle.fr_tables.specs.Tables.{HasTables, HasSomeTables, AreKept, tables_in}
 use Rattle.fr_tables.specs.Changes.{AreListed}
 use Rattle.fr_tables.proofs.FindLemmas.{Queries}
 use Rattle.fr_tables.specs.Statements.{shows_register, every, any_order}
-use Rattle.fr_tables.specs.Asking.{number_text, numbered, HasNumber}
+use Rattle.sqlite.specs.Clock.{timed}
+use Rattle.fr_tables.specs.Asking.{number_text, numbered, HasNumber, Answers, IsAnswer, IsQuery, SaysNumber, SaysNoNumber}
 use Rattle.fr_tables.proofs.RegisterLemmas.{its_row, row_before}
 use Rattle.fr_tables.proofs.ReadLemmas.{reads, stored_as, known, all_known, listed}
 
@@ -102,32 +103,33 @@ read_is_no_text limit (Select q names) db params e x (inr (inr h)) is = absurd (
 read_is_no_text limit (Rows values width names) db params e x h is = absurd (let k = h.0 in cc)
 read_is_no_text limit _ db params e x h is = absurd cc
 
-plain_not_err : (r : Result Compiled CompileError) (fault : CompileError) → IsPlain r → r ≢ Err fault
-plain_not_err (Ok c) fault plain e = absurd cc
-plain_not_err (Err f) fault plain e = absurd plain
+plain_query : (r : Result Compiled CompileError) → IsPlain r → (c : Compiled) × (r ≡ Ok c) × (c.returning ≡ None)
+plain_query (Ok c) plain = (c, refl, plain.0)
+plain_query (Err f) plain = absurd plain
 
--- the text is understood, so the error is another
-pub no_text_error : (old new : State) (e : Error) (x : _) → IsPlain (understood old.now.schema number_text) → FailsToQuery number_text [] old new e ⊎ IsTooLate number_text [] old new e → e ≢ SqlInputError x
+-- the text is a query, so the error is another
+pub no_text_error : (sql : List ℕ) (old new : State) (e : Error) (x : _) → IsQuery old.now.schema sql → FailsToQuery sql [] old new e ⊎ IsTooLate sql [] old new e → e ≢ SqlInputError x
 unfolding FailsToQuery IsNotRun
-no_text_error old new e x plain (inl (inl (inl h))) is = elim h.0 [
-  | inl bad ↦ absurd (plain_not_err _ bad.0 plain bad.1)
+no_text_error sql old new e x query (inl (inl (inl h))) is = elim h.0 [
+  | inl bad ↦ absurd (let both = sym query.1 ∙ bad.1 in cc)
   | inr other ↦ elim other.2 [ inl many ↦ absurd (let k = many.1 in cc) | inr rest ↦ elim rest [ inl few ↦ absurd (let k = few.1 in cc) | inr late ↦ absurd (let k = late.1 in cc) ] ]
 ]
-no_text_error old new e x plain (inl (inl (inr h))) is = absurd (no_text_fault h.0 x (sym h.1 ∙ is))
-no_text_error old new e x plain (inl (inr h)) is =
-    let bare = subst IsPlain h.1.is plain in
-    let refused = rw bare.0 at h.2 in
+no_text_error sql old new e x query (inl (inl (inr h))) is = absurd (no_text_fault h.0 x (sym h.1 ∙ is))
+no_text_error sql old new e x query (inl (inr h)) is =
+    let same : h.0 ≡ query.0 = cc (sym h.1.is ∙ query.1) in
+    let bare : h.0.returning ≡ None = ap (λ (c : Compiled). c.returning) same ∙ query.2 in
+    let refused = rw bare at h.2 in
     absurd (read_is_no_text _ h.0.command refused.0 _ e x refused.2 is)
-no_text_error old new e x plain (inr h) is = absurd (let k = h.4 in cc)
+no_text_error sql old new e x query (inr h) is = absurd (let k = h.4 in cc)
 
 -- the number's text is a query of the register's rows in either schema
 some_shown : (old new : State) (rows : List Row) → HasSomeTables old.now → Shown number_text [] old new rows → IsPermutation (map shows_register (tables_in old.now.trees).register) rows
 some_shown old new rows (inl was) h = numbers_shown register_schema its_row old new rows was.schema was.register h
 some_shown old new rows (inr was) h = numbers_shown old_schema row_before old new rows was.schema was.register h
 
-some_plain : (db : Database) → HasSomeTables db → IsPlain (understood db.schema number_text)
-some_plain db (inl was) = rw was.schema its_row.is.plain
-some_plain db (inr was) = rw was.schema row_before.is.plain
+some_query : (db : Database) → HasSomeTables db → IsQuery db.schema number_text
+some_query db (inl was) = rw was.schema (plain_query _ its_row.is.plain)
+some_query db (inr was) = rw was.schema (plain_query _ row_before.is.plain)
 
 pub asked_shown : (sql : List ℕ) (old begun mid : State) (r : Result (Vec Row Global) Error) → sql ≡ number_text → begun.now ≡ old.now → HasSomeTables old.now → IfOk r (λ rows. Shown sql [] begun mid rows.items)
     → IfOk r (λ rows. IsPermutation (map shows_register (tables_in old.now.trees).register) rows.items)
@@ -140,7 +142,7 @@ pub asked_told : (sql : List ℕ) (old begun mid : State) (r : Result (Vec Row G
     → IfErr r (λ e. FailsToQuery sql [] begun mid e ⊎ IsTooLate sql [] begun mid e) → IfErr r (λ e. (x : CompileError) → e ≢ SqlInputError x)
 asked_told sql old begun mid (Ok rows) text same was h = tt
 asked_told sql old begun mid (Err e) text same was h =
-    λ x. no_text_error begun mid e x (some_plain begun.now (subst HasSomeTables (sym same) was)) (subst (λ t. FailsToQuery t [] begun mid e ⊎ IsTooLate t [] begun mid e) text h)
+    λ x. no_text_error number_text begun mid e x (some_query begun.now (subst HasSomeTables (sym same) was)) (subst (λ t. FailsToQuery t [] begun mid e ⊎ IsTooLate t [] begun mid e) text h)
 
 -- what is asked of another table
 module _ {X : Type 0} (columns shows : X → Row) (read : Row → X) (passes : X → Bool) (cmp : X → X → Ordering) (tree : ℕ) (text : List ℕ) (q : Queries register_schema columns shows passes cmp tree text []) where
@@ -173,3 +175,33 @@ pub number_some : (db : Database) (rows : List Row) (found : Option ℤ) → IfS
     → IfSome found (λ n. HasSomeTables db → HasNumber db n)
 number_some db rows None is same = tt
 number_some db rows (Some n) is same = λ was. number_known db n rows is (same was) was
+
+-- ---- of a database with any schema
+
+shows_answer : (sql : List ℕ) (old new : State) (c : Compiled) (now : ℕ) (rows : List Row) (what : Option Returning) → ShowsRows old new sql c (timed [] c.formats now) rows what → what ≡ None → IsAnswer sql old.now c rows
+shows_answer sql old new c now rows None h none = (h.0, h.1, now, h.2)
+shows_answer sql old new c now rows (Some what) h none = absurd cc
+
+is_answer : (sql : List ℕ) (old new : State) (rows : List Row) → Shown sql [] old new rows → Answers sql old.now rows
+unfolding Shown
+is_answer sql old new rows h = record { compiled = h.0; is = h.1.is; shows = shows_answer sql old new h.0 h.1.now rows h.0.returning h.2 }
+
+-- what is shown is the answer
+pub asked_answers : (sql : List ℕ) (old begun mid : State) (r : Result (Vec Row Global) Error) → begun.now ≡ old.now → IfOk r (λ rows. Shown sql [] begun mid rows.items) → IfOk r (λ rows. Answers sql old.now rows.items)
+asked_answers sql old begun mid (Ok rows) same h = subst (λ (d : Database). Answers sql d rows.items) same (is_answer sql begun mid rows.items h)
+asked_answers sql old begun mid (Err e) same h = tt
+
+-- where the text is not understood, it is no query
+pub asked_unread : (sql : List ℕ) (old begun mid : State) (r : Result (Vec Row Global) Error) → begun.now ≡ old.now → IfErr r (λ e. FailsToQuery sql [] begun mid e ⊎ IsTooLate sql [] begun mid e)
+    → IfErr r (λ e. (x : CompileError) → e ≡ SqlInputError x → ¬ IsQuery old.now.schema sql)
+asked_unread sql old begun mid (Ok rows) same h = tt
+asked_unread sql old begun mid (Err e) same h =
+    λ x is query. no_text_error sql begun mid e x (subst (λ (d : Database). IsQuery d.schema sql) (sym same) query) h is
+
+-- the rows are those of the number that was read of them, or of none
+pub number_says : (db : Database) (rows : List Row) (found : Option ℤ) → IfSome found (λ n. rows ≡ shows_register (numbered n) ∷ []) → Answers number_text db rows → IfSome found (SaysNumber db)
+number_says db rows None is h = tt
+number_says db rows (Some n) is h = subst (Answers number_text db) is h
+
+pub number_silent : (db : Database) (rows : List Row) (found : Option ℤ) → ((n : ℤ) → rows ≡ shows_register (numbered n) ∷ [] → found ≡ Some n) → Answers number_text db rows → found ≡ None → SaysNoNumber db
+number_silent db rows found is h none = inr (rows, h, λ n same. let some = is n same in absurd cc)

@@ -1,8 +1,16 @@
--- What is asked of a database that is opened, and what its answer tells.
-use Rattle.std.specs.Prelude.{◌≡◌, ℕ, ℤ, pos, List, [], ◌∷◌, codes, IsTrue}
-use Rattle.sqlite.specs.Effect.{Database}
+-- Asking: the numbers of this version's schema and of the one before, and when tables of either tell a number; what is
+-- asked of tables before they are known. Of a database with any schema: when a text is a query of it, which answer it
+-- has, and whether the database says a number when it is asked for that of its schema.
+use Rattle.std.specs.Prelude.{◌≡◌, ◌≢◌, ◌⊎◌, ℕ, ℤ, pos, List, [], ◌∷◌, codes, None, Ok, IsTrue}
+use Rattle.sqlite.specs.Clock.{timed}
+use Rattle.sqlite.specs.Effect.{Database, Reads}
+use Rattle.sqlite.specs.Listing.{reads_listing, understood, IsSourceOf}
+use Rattle.sqlite.specs.Order.{Row}
+use Rattle.sqlite.specs.Schema.{Schema}
 use Rattle.sqlite.specs.State.{State}
+use Rattle.sqlite_resolve.specs.declared.compiled.Compiled.{Compiled}
 use Rattle.fr_tables.specs.Rows.{RegisterRow}
+use Rattle.fr_tables.specs.Statements.{shows_register}
 use Rattle.fr_tables.specs.Tables.{HasSomeTables, tables_in}
 
 -- the schema that this version reads and writes
@@ -36,3 +44,27 @@ AreAsBefore old new = IsTrue new.is_open → IsTrue old.is_open × (new.now ≡ 
 pub record HasNumber (db : Database) (n : ℤ) : Type 0 where
   pub has : HasSomeTables db
   pub number : (tables_in db.trees).register ≡ numbered n ∷ []
+
+-- ---- of a database with any schema
+
+-- the text is a query over this schema
+abbrev pub IsQuery : Schema → List ℕ → Type 0
+IsQuery schema text = (c : Compiled) × (understood schema text ≡ Ok c) × (c.returning ≡ None)
+
+-- the query has this answer
+abbrev pub IsAnswer : List ℕ → Database → Compiled → List Row → Type 0
+IsAnswer text db c rows = (source : Database) × IsSourceOf (reads_listing db.schema text) db source × (now : ℕ) × Reads c.command source (timed [] c.formats now) rows
+
+-- the text is understood over the database's schema, and as a query of it has this answer
+pub record Answers (text : List ℕ) (db : Database) (rows : List Row) : Type 0 where
+  pub compiled : Compiled
+  pub is : understood db.schema text ≡ Ok compiled
+  pub shows : compiled.returning ≡ None → IsAnswer text db compiled rows
+
+-- asked for the number of its schema, the database answers with this one
+abbrev pub SaysNumber : Database → ℤ → Type 0
+SaysNumber db n = Answers number_text db (shows_register (numbered n) ∷ [])
+
+-- it cannot be asked for that, or does not answer with one number
+abbrev pub SaysNoNumber : Database → Type 0
+SaysNoNumber db = (¬ IsQuery db.schema number_text) ⊎ ((rows : List Row) × Answers number_text db rows × ((n : ℤ) → rows ≢ shows_register (numbered n) ∷ []))

@@ -1,4 +1,5 @@
--- What a statement makes of the tables.
+-- Changes, finds: a statement inside a transaction makes its change of the tables, or fails and makes none. A query
+-- shows the rows that pass, in their order, and changes nothing.
 use Rattle.std.specs.Prelude.{◌≡◌, ◌⊎◌, List, Result, MatchResult, IsTrue, if◌then◌else◌, IsPermutation, IsSorted, Bool, filter, map, Vec}
 use Rattle.std.specs.declared.alloc.Global.{Global}
 use Rattle.std.specs.declared.cmp.Ordering.{Ordering}

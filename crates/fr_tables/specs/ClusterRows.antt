@@ -1,4 +1,5 @@
--- The rows of a cluster and of its suppliers that have their form.
+-- Cluster's rows: which parameters a row tells, but for the count of cycles; when names and keys of suppliers have
+-- their form.
 use Rattle.std.specs.Prelude.{◌≡◌, pos, List, IsTrue}
 use Rattle.std.specs.List.{list_all}
 use Rattle.sqlite.specs.Order.{Row, column}

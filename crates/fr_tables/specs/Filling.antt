@@ -1,4 +1,4 @@
--- The rows that a new register has.
+-- Filling: the rows that a new register has, which are the schema's number, the cluster and its suppliers.
 use Rattle.std.specs.Prelude.{◌++◌, pos, List, [], ◌∷◌, map, Result, MatchResult, IsTrue}
 use Rattle.sqlite.specs.State.{State, HasCleanDisk, KeepsCommit}
 use Rattle.fr_base.specs.declared.config.Supplier.{Supplier}

@@ -1,4 +1,5 @@
--- How far the tables are made.
+-- Making: how far the tables are made. They have no row, and there are so many of them, all of the schema before, or
+-- all of this one. How the schema before becomes this one.
 use Rattle.std.specs.Prelude.{◌≡◌, ℕ, [], take, Result, MatchResult, IsTrue}
 use Rattle.std.specs.List.{AllByRecursion}
 use Rattle.sqlite.specs.Effect.{Database}

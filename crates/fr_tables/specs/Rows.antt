@@ -1,4 +1,4 @@
--- A row of each table as a value of its own: its columns, and what a row says.
+-- Rows: a row of each table as a value of its own, with its columns, and what a row says.
 use Rattle.std.specs.Prelude.{ℕ, ℤ, pos, Bool, List, [], ◌∷◌, Option, Some, None, if◌then◌else◌}
 use Rattle.sqlite.specs.declared.types.Value.{Value}
 use Rattle.sqlite.specs.declared.types.Value.TheVariants.{Null, Int, Text, Blob}

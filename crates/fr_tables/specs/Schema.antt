@@ -1,4 +1,5 @@
--- The schema of a register's tables, as SQLite reads it from the statements of `SchemaText`.
+-- Schema: the tables with their columns, keys and rules, as SQLite reads them from the statements that make them; and
+-- so the tables of the schema before, which lack the last one.
 use Rattle.std.specs.Prelude.{◌++◌, ℕ, true, false, List, [], ◌∷◌, map, take, codes, pos, Option, Some, None}
 use Rattle.sqlite.specs.Collation.TheVariants.{Binary}
 use Rattle.sqlite.specs.declared.types.Value.TheVariants.{Null, Int}

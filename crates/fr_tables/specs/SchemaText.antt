@@ -1,4 +1,4 @@
--- The statements that make the tables, in this order.
+-- Text of the schema: the statement that makes each table, and the index. `cluster2` is made last, behind the index.
 use Rattle.std.specs.Prelude.{ℕ, List, codes}
 
 abbrev pub register_text : List ℕ

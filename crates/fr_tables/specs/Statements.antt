@@ -1,4 +1,5 @@
--- What each statement adds to its table, which rows it takes, and in which order and with which columns it shows them.
+-- Statements: what each statement adds to its table, which rows it changes or takes out, and in which order and with
+-- which columns it shows them.
 use Rattle.std.specs.Prelude.{◌++◌, ◌&&◌, ℕ, ℤ, pos, Bool, true, not, List, [], ◌∷◌, map, filter, bytes_eq, if◌then◌else◌}
 use Rattle.std.specs.List.{list_any}
 use Rattle.std.specs.declared.cmp.Ordering.{Ordering}

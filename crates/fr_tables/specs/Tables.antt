@@ -1,4 +1,5 @@
--- The tables of a register as lists of rows, in the order in which the rows came.
+-- Tables: the tables of a register as lists of rows; when these are in the order of their numbers; when a database has
+-- the tables of this schema, of the one before, or of either.
 use Rattle.std.specs.Prelude.{◌≡◌, ◌⊎◌, List, [], ◌∷◌, map, IsTrue}
 use Rattle.std.specs.List.{AllByRecursion}
 use Rattle.sqlite.specs.Order.{Row}

@@ -1,4 +1,4 @@
-//! Makes the tables, one statement each, in this order.
+//! Makes the tables, one statement each, in this order: those of schema 1, and the one that this schema has more.
 
 ghost use Rattle.std.specs.Prelude.{◌≡◌};
 ghost use Rattle.sqlite.specs.State.{Survives};

@@ -1,4 +1,4 @@
-//! Requests for tests, as texts with the keys of those who ask.
+//! Requests for these tests, as texts with the keys of those who ask.
 use fr_base::{Answer, Ask, Config, Desk, Name};
 use fr_text::{read_command, read_config, write_answer};
 use std::alloc::Global;

@@ -1,5 +1,5 @@
-//! A register of the schema before, migrated. What the check would let pass: a migration that is always `Unavailable`, though
-//! nothing fails; and tables of the schema before that are not as they were made.
+//! Tests of `fr_store`: a register of the schema before, migrated. The check would let pass a migration that is always
+//! `Unavailable`, though nothing fails; and tables of the schema before that are not as they were made.
 use crate::asks::{DONE, FIRST, Line, config};
 use crate::deeds::{Course, Deed, Left, stops};
 use crate::fused::{EACH, Fused, Fusible, Image, USUAL, files_left, files_of, opened, options};

@@ -1,5 +1,5 @@
-//! What the check would let pass: a register in memory that is always `Unavailable`, or runs no list to its end, though
-//! memory is there.
+//! Tests of `fr_desks`. The check would let pass a register in memory that is always `Unavailable`, or runs no list to
+//! its end, though memory is there.
 use crate::asks::{CLUSTER, DONE, FIRST, Line, are_answers, ask, push, push_lines};
 use fr_base::{Actor, Answer, Ask, Desk, Name};
 use fr_desks::MemoryDesk;

@@ -1,4 +1,5 @@
-//! What the check would let pass: files of a caller's own that are always `Unavailable`, though memory is there.
+//! Tests of `fr_store`. The check would let pass files of a caller's own that are always `Unavailable`, though memory
+//! is there.
 ghost use Rattle.std.specs.Prelude.{◌≡◌, IsTrue, IfOk};
 
 use crate::asks::{FIRST, are_answers, config, name, push_lines};

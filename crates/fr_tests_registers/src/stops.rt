@@ -1,5 +1,6 @@
-//! A stop at each call of a register's files, as it is made and as it is asked. What the check would let pass: an office whose
-//! requests were answered and are gone after a stop, or there in part; and files that a stop left, of which none is a register.
+//! Tests of `fr_office`: a stop at each call of a register's files, as it is made and as it is asked. The check would
+//! let pass an office whose requests were answered and are gone after a stop, or there in part; and files that a stop
+//! left, of which none is a register.
 use crate::asks::{DONE, FIRST, Line, carry_out, config, told};
 use crate::deeds::{Course, Deed, Left, stops};
 use crate::fused::{Fused, Fusible, Image, USUAL, files_left, opened};

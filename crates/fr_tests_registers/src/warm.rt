@@ -1,5 +1,5 @@
-//! What the check would let pass: pages that are read again, and imports counted again, though there is memory to keep
-//! the pages and the counts.
+//! Tests of `fr_answers`. The check would let pass pages that are read again, and imports counted again, though there
+//! is memory to keep the pages and the counts.
 ghost use Rattle.std.specs.Prelude.{◌≡◌, IfOk, IfSome};
 
 use crate::asks::{CLUSTER, ask};
@@ -16,9 +16,9 @@ use std::test::Fail;
 /// Records in which `s1` has a node that holds a slot in each variant, and of other rows there is none. They count how often
 /// a page is read, and how often imports are counted. Of what they stand for nothing is said: they are never clean.
 #[derive(Drop)]
-struct Counted {
+pub(crate) struct Counted {
     config: Config,
-    reads: u32,
+    pub(crate) reads: u32,
     counts: u32,
 }
 
@@ -26,6 +26,12 @@ impl Records for Counted {
     ghost stands = { λ _ _ _. ⊥ };
 
     ghost clean = { λ _. ⊥ };
+
+    ghost serves = { λ _. ⊥ };
+
+    ghost leaves = { λ _ _ _. ⊥ };
+
+    ghost settled = { λ _ _ _ clean. absurd clean };
 
     ghost params = { λ counted. counted.config.cluster.params };
 
@@ -175,14 +181,19 @@ const ASKED: [(&str, &str, u32); 15] = [
     ),
 ];
 
-// An office that has read nothing.
-fn office(alloc: Global) -> Result<Office<Counted>, Fail> {
+/// Records of which nothing was read.
+pub(crate) fn unread(alloc: Global) -> Result<Counted, Fail> {
     let config = read_config(alloc, CLUSTER.as_bytes())?;
-    let records = Counted {
+    Ok(Counted {
         config,
         reads: 0,
         counts: 0,
-    };
+    })
+}
+
+/// An office that has read nothing.
+pub(crate) fn office(alloc: Global) -> Result<Office<Counted>, Fail> {
+    let records = unread(alloc)?;
     Ok(Office::new(alloc, records))
 }
 

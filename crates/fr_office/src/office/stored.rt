@@ -1,16 +1,15 @@
-//! The office of a register whose rows are kept by SQL.
+//! The office of a store: it gives the store back, or closes its files.
 ghost use Rattle.std.specs.Prelude.{◌≡◌, IsTrue, IfErr, IfOk};
-ghost use Rattle.sqlite.specs.Files.{file_state, image_of};
-ghost use Rattle.sqlite.specs.State.{HasCleanDisk};
+ghost use Rattle.sqlite.specs.Files.{image_of};
 ghost use Rattle.sqlite_wal.specs.Files.{outcomes};
 ghost use Rattle.sqlite_wal.specs.Reads.{AreClean};
 ghost use Rattle.fr_base.specs.Book.{Book};
 ghost use Rattle.fr_base.specs.Cluster.{Cluster};
-ghost use Rattle.fr_store.specs.Stored.{StandsStored};
 ghost use Rattle.fr_store.specs.StoreFiles.{HoldsBook};
 ghost use Rattle.fr_store.specs.declared.fault.StoreFault.TheVariants.{Unavailable};
 
 use crate::office::Office;
+use fr_records::Records;
 use fr_store::{Store, StoreFault};
 use sqlite::{Alter, FileStore, Files};
 use sqlite_disk::Disk;
@@ -30,11 +29,11 @@ impl<D: Disk + Drop> Office<Store<FileStore<D>>> {
     /// fail to close.
     pub fn close(self) -> Result<Files<D>, StoreFault>
         ensures usable { IfOk result (λ files. IsTrue (D.Disk.is_usable files.log) × IsTrue (D.Disk.is_usable files.db)) }
-        ensures clean { IfOk result (λ files. AreClean D.Disk files.log files.db → HasCleanDisk (file_state self.records.conn)) }
+        ensures clean { IfOk result (λ files. AreClean D.Disk files.log files.db → ⟦<Store<FileStore<D>> as Records>⟧.clean self.records) }
         ensures book { IfOk result (λ files. AreClean D.Disk files.log files.db → (c : Cluster) (b : Book) →
-            StandsStored self.records.config (file_state self.records.conn) c b → HoldsBook c b (image_of D.Disk files)) }
+            ⟦<Store<FileStore<D>> as Records>⟧.stands self.records c b → HoldsBook c b (image_of D.Disk files)) }
         ensures survives { IfOk result (λ files. AreClean D.Disk files.log files.db → (image : _) → outcomes D.Disk files.log files.db image → (c : Cluster) (b : Book) →
-            StandsStored self.records.config (file_state self.records.conn) c b → HoldsBook c b image) }
+            ⟦<Store<FileStore<D>> as Records>⟧.stands self.records c b → HoldsBook c b image) }
         ensures told { IfErr result (λ e. e ≡ Unavailable) }
     {
         self.into_store().close()

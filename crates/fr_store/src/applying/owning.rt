@@ -1,4 +1,4 @@
-//! A frame that is only a parent's made the variant's own.
+//! Makes a parent's frame the variant's own, with a copy of its rows.
 
 ghost use Rattle.std.specs.Prelude.{◌≡◌, IfErr};
 ghost use Rattle.sqlite.specs.State.{Survives};

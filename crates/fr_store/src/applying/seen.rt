@@ -1,4 +1,4 @@
-//! How the variant whose frames an edit changes is stored.
+//! How a variant is stored, where an edit changes its frames.
 
 ghost use Rattle.std.specs.Prelude.{◌≡◌, IfErr};
 ghost use Rattle.sqlite.specs.State.{Survives};

@@ -1,4 +1,4 @@
-//! The same of a register in files.
+//! Migrates a register in files, or in the file at a path.
 
 ghost use Rattle.std.specs.Prelude.{◌≡◌, ◌≢◌, IsTrue, IfOk, IfErr, IfSome, None};
 ghost use Rattle.sqlite_wal.specs.Files.{outcomes, image_at};
@@ -7,8 +7,8 @@ ghost use Rattle.sqlite.specs.Effect.{IsDatabase};
 ghost use Rattle.sqlite.specs.Files.{image_of, HoldsDatabase, IsCleanLeft};
 ghost use Rattle.fr_tables.specs.Asking.{old_schema_number};
 ghost use Rattle.fr_store.specs.Before.{HoldsBookBefore};
-ghost use Rattle.fr_store.specs.Opening.{Refuses};
-ghost use Rattle.fr_store.specs.StoreFiles.{HoldsBook, IsHeld, image_left};
+ghost use Rattle.fr_store.specs.Opening.{Refuses, RefusesFiles};
+ghost use Rattle.fr_store.specs.StoreFiles.{HoldsBook, IsHeld, image_left, outcomes_left};
 ghost use Rattle.fr_store.specs.declared.fault.StoreFault.TheVariants as fault;
 
 use crate::fault::StoreFault;
@@ -34,8 +34,11 @@ pub fn migrate<D: Disk + Drop>(
     ensures survives { IfOk result (λ left. AreClean D.Disk left.log left.db → (image : _) → outcomes D.Disk left.log left.db image
         → (c : _) (b : _) → HoldsBookBefore c b (image_of D.Disk files) → HoldsBook c b image) }
     ensures told { IfErr result (λ e. IfSome e.1 (λ left. AreClean D.Disk left.log left.db → (d : _) → IsDatabase d → HoldsDatabase (image_of D.Disk files) d.trees → Refuses old_schema_number d e.0)) }
+    ensures cause { IfErr result (λ e. IfSome e.1 (λ left. AreClean D.Disk left.log left.db → RefusesFiles old_schema_number (image_of D.Disk files) e.0)) }
     ensures known { IfErr result (λ e. IfSome e.1 (λ left. AreClean D.Disk left.log left.db → (c : _) (b : _) → HoldsBookBefore c b (image_of D.Disk files) → e.0 ≡ fault.Unavailable)) }
     ensures untouched { IfErr result (λ e. e.0 ≢ fault.Unavailable → IfSome e.1 (λ left. AreClean D.Disk left.log left.db → (d : _) → IsDatabase d → HoldsDatabase (image_of D.Disk files) d.trees → IsHeld (image_of D.Disk left) d)) }
+    ensures survives_still { IfErr result (λ e. e.0 ≢ fault.Unavailable → IfSome e.1 (λ left. AreClean D.Disk left.log left.db → (image : _) → outcomes D.Disk left.log left.db image
+        → (d : _) → IsDatabase d → HoldsDatabase (image_of D.Disk files) d.trees → IsHeld image d)) }
     ensures not_made { IfErr result (λ e. e.0 ≢ fault.NotEmpty) }
     ensures lost { IfErr result (λ e. e.1 ≡ None → e.0 ≡ fault.Unavailable) }
 {
@@ -62,9 +65,13 @@ pub fn migrate_at<S: Start>(
     start: S,
 ) -> Result<Leftover<FileFrom<S>>, (StoreFault, Option<Leftover<FileFrom<S>>>)>
     ensures migrated { IfOk result (λ left. IsCleanLeft left → (c : _) (b : _) → HoldsBookBefore c b (image_at S.Start) → HoldsBook c b (image_left left)) }
+    ensures survives { IfOk result (λ left. IsCleanLeft left → (image : _) → outcomes_left left image → (c : _) (b : _) → HoldsBookBefore c b (image_at S.Start) → HoldsBook c b image) }
     ensures told { IfErr result (λ e. IfSome e.1 (λ left. IsCleanLeft left → (d : _) → IsDatabase d → HoldsDatabase (image_at S.Start) d.trees → Refuses old_schema_number d e.0)) }
+    ensures cause { IfErr result (λ e. IfSome e.1 (λ left. IsCleanLeft left → RefusesFiles old_schema_number (image_at S.Start) e.0)) }
     ensures known { IfErr result (λ e. IfSome e.1 (λ left. IsCleanLeft left → (c : _) (b : _) → HoldsBookBefore c b (image_at S.Start) → e.0 ≡ fault.Unavailable)) }
     ensures untouched { IfErr result (λ e. e.0 ≢ fault.Unavailable → IfSome e.1 (λ left. IsCleanLeft left → (d : _) → IsDatabase d → HoldsDatabase (image_at S.Start) d.trees → IsHeld (image_left left) d)) }
+    ensures survives_still { IfErr result (λ e. e.0 ≢ fault.Unavailable → IfSome e.1 (λ left. IsCleanLeft left → (image : _) → outcomes_left left image
+        → (d : _) → IsDatabase d → HoldsDatabase (image_at S.Start) d.trees → IsHeld image d)) }
     ensures not_made { IfErr result (λ e. e.0 ≢ fault.NotEmpty) }
     ensures lost { IfErr result (λ e. e.1 ≡ None → e.0 ≡ fault.Unavailable) }
 {

@@ -1,4 +1,4 @@
-//! The frames of a parent that a variant has not.
+//! The frames of a variant's parent that the variant does not have.
 
 ghost use Rattle.std.specs.Prelude.{◌≡◌};
 ghost use Rattle.sqlite.specs.State.{Survives};

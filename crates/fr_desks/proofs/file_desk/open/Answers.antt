@@ -3,6 +3,7 @@ use Rattle.std.proofs.lemmas.Option.{IfSome_then}
 use Rattle.sqlite.specs.Files.{file_state}
 use Rattle.sqlite.specs.State.{HasCleanDisk}
 use Rattle.fr_base.specs.Book.{file_of}
+use Rattle.fr_store.specs.Crashes.{Serves}
 use Rattle.fr_store.specs.Stored.{StandsStored}
 use Rattle.fr_desks.proofs.file_desk.open.Goals as goal
 
@@ -18,3 +19,17 @@ returns-in-Ok-clause-found g c clean k b holds =
 pub returns-in-Err-clause-known : goal.returns-in-Err-clause-known
 returns-in-Err-clause-known g c =
     IfSome_then c.in-Err.refused.1 c.in-Err.ensures.known (λ rest known clean k b holds. known clean (file_of k b) holds.trees holds.register)
+
+pub returns-in-Ok-clause-left : goal.returns-in-Ok-clause-left
+returns-in-Ok-clause-left g c clean k b db held is =
+    let store = c.in-Ok.store in
+    let kept : HasCleanDisk (file_state store.conn) = subst (λ w. HasCleanDisk (file_state w.records.conn)) c.new.ensures.value clean in
+    let found = c.in-Ok.ensures.left kept k b db held is in
+    let stored : StandsStored store.config (file_state store.conn) k b = record { config = found.0; rows = λ _. (found.1, c.in-Ok.ensures.committed kept) } in
+    c.new.ensures.stands k b stored
+
+pub returns-in-Ok-clause-serves : goal.returns-in-Ok-clause-serves
+returns-in-Ok-clause-serves g c clean =
+    let store = c.in-Ok.store in
+    let kept : HasCleanDisk (file_state store.conn) = subst (λ w. HasCleanDisk (file_state w.records.conn)) c.new.ensures.value clean in
+    subst (λ w. Serves (file_state w.records.conn)) (sym c.new.ensures.value) (c.in-Ok.ensures.serves kept)

@@ -7,7 +7,7 @@ use Rattle.fr_tables.specs.Asking.{cluster_text, suppliers_text, variants_text}
 use Rattle.fr_tables.proofs.Cluster2Lemmas as cluster2
 use Rattle.fr_tables.proofs.SupplierLemmas as suppliers
 use Rattle.fr_tables.proofs.VariantLemmas as variants
-use Rattle.fr_tables.proofs.NumberLemmas.{asked_shown, asked_told, asked_listed, as_before, keeps}
+use Rattle.fr_tables.proofs.NumberLemmas.{asked_answers, asked_unread, asked_shown, asked_told, asked_listed, as_before, keeps}
 use Rattle.fr_tables.proofs.asking.asked.Goals as goal
 
 pub returns-clause-number : goal.returns-clause-number
@@ -21,6 +21,18 @@ returns-clause-told g c clean text was =
     let late : HasCleanDisk (state g.S.Store c.drop-tx.new.self.0) = search rules in
     asked_told c.args.sql.now (state g.S.Store c.args.conn.now) (state g.S.Store c.transaction-tx.result.conn.now) (state g.S.Store c.query_all.new.self.conn.now) c.query_all.result
     text (ap (λ h. (state g.S.Store h).now) c.transaction-tx.ensures.begun) was (c.query_all.ensures.err (omega (arith, c.drop-tx.ensures.survives.clean)))
+
+pub returns-clause-answer : goal.returns-clause-answer
+returns-clause-answer g c clean =
+    let late : HasCleanDisk (state g.S.Store c.drop-tx.new.self.0) = search rules in
+    asked_answers c.args.sql.now (state g.S.Store c.args.conn.now) (state g.S.Store c.transaction-tx.result.conn.now) (state g.S.Store c.query_all.new.self.conn.now) c.query_all.result
+    (ap (λ h. (state g.S.Store h).now) c.transaction-tx.ensures.begun) (c.query_all.ensures.ok (omega (arith, c.drop-tx.ensures.survives.clean)))
+
+pub returns-clause-unread : goal.returns-clause-unread
+returns-clause-unread g c clean =
+    let late : HasCleanDisk (state g.S.Store c.drop-tx.new.self.0) = search rules in
+    asked_unread c.args.sql.now (state g.S.Store c.args.conn.now) (state g.S.Store c.transaction-tx.result.conn.now) (state g.S.Store c.query_all.new.self.conn.now) c.query_all.result
+    (ap (λ h. (state g.S.Store h).now) c.transaction-tx.ensures.begun) (c.query_all.ensures.err (omega (arith, c.drop-tx.ensures.survives.clean)))
 
 pub returns-clause-cluster : goal.returns-clause-cluster
 returns-clause-cluster g c clean text was =

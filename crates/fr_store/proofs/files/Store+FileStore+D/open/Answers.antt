@@ -2,10 +2,11 @@ use Rattle.std.proofs.Common.{◌≡◌, ◌∙◌, arith, ap, sym, subst}
 use Rattle.sqlite.specs.Effect.{Database}
 use Rattle.sqlite.specs.State.{HasCleanDisk}
 use Rattle.sqlite.specs.Files.{file_state, image_of}
+use Rattle.fr_tables.specs.Asking.{our_schema_number}
 use Rattle.fr_tables.specs.Schema.{register_schema}
 use Rattle.fr_store.specs.Opening.{Explains}
 use Rattle.fr_store.specs.StoreFiles.{database_of}
-use Rattle.fr_store.proofs.FileLemmas.{same_database, found_database}
+use Rattle.fr_store.proofs.FileLemmas.{held_as, refused_opened, refused_unopened, same_database, found_database}
 use Rattle.fr_store.proofs.AgainLemmas.{held_stands, left_stands, only_unavailable_files}
 use Rattle.fr_store.proofs.files.Store+FileStore+D.open.Goals as goal
 
@@ -66,3 +67,46 @@ returns-in-Ok-open_on-clause-left g c clean k b db held is =
 
 pub returns-in-Ok-open_on-clause-open : goal.returns-in-Ok-open_on-clause-open
 returns-in-Ok-open_on-clause-open g c clean = (c.in-Ok-open_on.ensures.open clean).1
+
+pub returns-in-Err-clause-cause : goal.returns-in-Err-clause-cause
+returns-in-Err-clause-cause g c clean =
+    refused_unopened our_schema_number (image_of g.D.Disk c.args.files) c.in-Err.fault c.in-Err.ensures.not_made c.in-Err.ensures.not_ours (c.in-Err.ensures.told clean)
+
+pub returns-in-Some-clause-cause : goal.returns-in-Some-clause-cause
+returns-in-Some-clause-cause g c clean =
+    let late = (c.in-Some.ensures.clean clean).0 in
+    let before : HasCleanDisk (file_state c.in-Ok.conn) = omega (arith, c.in-Err-open_on.ensures.survives_still.clean, late) in
+    refused_opened our_schema_number (image_of g.D.Disk c.args.files) (file_state c.in-Ok.conn).now c.in-Err-open_on.fault (c.in-Ok.ensures.reads before) (c.in-Err-open_on.ensures.told late)
+
+-- ---- a refusal for another reason than want of memory or a fault
+
+pub returns-in-Err-clause-untouched : goal.returns-in-Err-clause-untouched
+returns-in-Err-clause-untouched g c refused clean d is held = absurd (refused (c.in-Err.ensures.told clean d.trees held))
+
+pub returns-in-Err-clause-survives_still : goal.returns-in-Err-clause-survives_still
+returns-in-Err-clause-survives_still g c refused clean image may d is held = absurd (refused (c.in-Err.ensures.told clean d.trees held))
+
+pub returns-in-Some-clause-untouched : goal.returns-in-Some-clause-untouched
+returns-in-Some-clause-untouched g c refused clean d is held =
+    let late = (c.in-Some.ensures.clean clean).0 in
+    let up = (c.in-Some.ensures.clean clean).1 in
+    let before : HasCleanDisk (file_state c.in-Ok.conn) = omega (arith, c.in-Err-open_on.ensures.survives_still.clean, late) in
+    let opens = c.in-Ok.ensures.opens before in
+    let same : (file_state c.in-Ok.conn).now ≡ d = same_database (file_state c.in-Ok.conn).now d (opens.1 opens.0.is_open).0 is (c.in-Ok.ensures.found before d.trees held) in
+    held_as _ _ d ((c.in-Err-open_on.ensures.unharmed late up).2 ∙ sym opens.0.clean ∙ same) (c.in-Some.ensures.held clean)
+
+pub returns-in-Some-clause-survives_still : goal.returns-in-Some-clause-survives_still
+returns-in-Some-clause-survives_still g c refused clean image may d is held =
+    let late = (c.in-Some.ensures.clean clean).0 in
+    let up = (c.in-Some.ensures.clean clean).1 in
+    let before : HasCleanDisk (file_state c.in-Ok.conn) = omega (arith, c.in-Err-open_on.ensures.survives_still.clean, late) in
+    let opens = c.in-Ok.ensures.opens before in
+    let same : (file_state c.in-Ok.conn).now ≡ d = same_database (file_state c.in-Ok.conn).now d (opens.1 opens.0.is_open).0 is (c.in-Ok.ensures.found before d.trees held) in
+    held_as image _ d ((c.in-Err-open_on.ensures.unharmed late up).2 ∙ sym opens.0.clean ∙ same) (c.in-Some.ensures.left clean image may)
+
+pub returns-in-Ok-open_on-clause-committed : goal.returns-in-Ok-open_on-clause-committed
+returns-in-Ok-open_on-clause-committed g c clean =
+    let before : HasCleanDisk (file_state c.in-Ok.conn) = omega (arith, c.in-Ok-open_on.ensures.survives.clean, clean) in
+    let same = c.in-Ok-open_on.ensures.opened clean in
+    let is = c.in-Ok.ensures.opens before in
+    same.1 ∙ sym is.0.clean ∙ sym same.0

@@ -6,7 +6,7 @@ use Rattle.fr_tables.specs.Asking.{old_schema_number}
 use Rattle.fr_store.specs.Opening.{Refuses}
 use Rattle.fr_store.specs.StoreFiles.{IsHeld}
 use Rattle.fr_store.proofs.BeforeLemmas.{found_before, old_if_before, committed_held, only_unavailable_held}
-use Rattle.fr_store.proofs.FileLemmas.{same_database}
+use Rattle.fr_store.proofs.FileLemmas.{held_as, refused_opened, refused_unopened, same_database}
 use Rattle.fr_store.proofs.migrating.files.migrate.Goals as goal
 
 -- ---- files that are not opened
@@ -63,3 +63,29 @@ returns-in-Err-told-clause-untouched g c refused clean d is held =
     let same : (file_state c.in-Ok.conn).now ≡ d = same_database (file_state c.in-Ok.conn).now d sound is (c.in-Ok.ensures.found before d.trees held) in
     let unharmed = c.in-Err-told.ensures.unharmed late (old_if_before (file_state c.in-Ok.conn) sound (c.in-Ok.ensures.ordered_before before)) up in
     subst (IsHeld (image_of g.D.Disk c.in-Some.files)) (unharmed.2 ∙ sym opens.0.clean ∙ same) (c.in-Some.ensures.held clean)
+
+-- ---- whatever the files hold
+
+pub returns-in-Err-clause-cause : goal.returns-in-Err-clause-cause
+returns-in-Err-clause-cause g c clean =
+    refused_unopened old_schema_number (image_of g.D.Disk c.args.files) c.in-Err.fault c.in-Err.ensures.not_made c.in-Err.ensures.not_ours (c.in-Err.ensures.told clean)
+
+pub returns-in-Err-told-clause-cause : goal.returns-in-Err-told-clause-cause
+returns-in-Err-told-clause-cause g c clean =
+    let late = (c.in-Some.ensures.clean clean).0 in
+    let before : HasCleanDisk (file_state c.in-Ok.conn) = omega (arith, c.migrate_on-told.ensures.survives.clean, late) in
+    refused_opened old_schema_number (image_of g.D.Disk c.args.files) (file_state c.in-Ok.conn).now c.in-Err-told.fault (c.in-Ok.ensures.reads before) (c.in-Err-told.ensures.told late)
+
+pub returns-in-Err-clause-survives_still : goal.returns-in-Err-clause-survives_still
+returns-in-Err-clause-survives_still g c refused clean image may d is held = absurd (refused (c.in-Err.ensures.told clean d.trees held))
+
+pub returns-in-Err-told-clause-survives_still : goal.returns-in-Err-told-clause-survives_still
+returns-in-Err-told-clause-survives_still g c refused clean image may d is held =
+    let late = (c.in-Some.ensures.clean clean).0 in
+    let up = (c.in-Some.ensures.clean clean).1 in
+    let before : HasCleanDisk (file_state c.in-Ok.conn) = omega (arith, c.migrate_on-told.ensures.survives.clean, late) in
+    let opens = c.in-Ok.ensures.opens before in
+    let sound = (opens.1 opens.0.is_open).0 in
+    let same : (file_state c.in-Ok.conn).now ≡ d = same_database (file_state c.in-Ok.conn).now d sound is (c.in-Ok.ensures.found before d.trees held) in
+    let unharmed = c.in-Err-told.ensures.unharmed late (old_if_before (file_state c.in-Ok.conn) sound (c.in-Ok.ensures.ordered_before before)) up in
+    held_as image _ d (unharmed.2 ∙ sym opens.0.clean ∙ same) (c.in-Some.ensures.left clean image may)

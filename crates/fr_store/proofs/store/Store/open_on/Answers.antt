@@ -18,3 +18,8 @@ returns-in-Ok-clause-again g c clean =
 
 pub returns-in-Err-clause-known : goal.returns-in-Err-clause-known
 returns-in-Err-clause-known g c clean k is = only_unavailable k (state g.S.Store c.args.conn).now c.in-Err.fault is (c.in-Err.ensures.told clean)
+
+pub returns-in-Ok-clause-serves : goal.returns-in-Ok-clause-serves
+returns-in-Ok-clause-serves g c clean =
+    let up = c.in-Ok.ensures.open clean in
+    record { up = up; settled = λ db may. g.met.S.Store.settled c.recognized.new.conn.store db up may }

@@ -1,0 +1,26 @@
+//! The variants of the register, listed for who asks.
+ghost use Rattle.fr_answers.specs.Listing.{Lists};
+ghost use Rattle.fr_records.specs.Held.{LeavesNoMore};
+
+use crate::answering::is_known;
+use fr_base::{Actor, Refusal};
+use fr_records::Records;
+use fr_world::VariantRow;
+use std::alloc::Global;
+
+/// The variants, by name. They are common to all suppliers, so each of them is told of all. `UnknownKey` where who
+/// asks is not there; `Unavailable` where who asks is there, and memory is refused or the records are.
+pub fn list_variants<R: Records>(
+    alloc: Global,
+    records: &mut R,
+    actor: &Actor,
+) -> Result<Vec<VariantRow>, Refusal>
+    ensures falls { R.clean records.new → R.clean records.old }
+    ensures leaves { R.clean records.new → LeavesNoMore (R.leaves records.old) (R.leaves records.new) }
+    ensures lists { R.clean records.new → Lists (R.stands records.old) (R.stands records.new) actor.now result }
+{
+    if !is_known(records.config(), actor) {
+        return Err(Refusal::UnknownKey);
+    }
+    records.variants(alloc)
+}
