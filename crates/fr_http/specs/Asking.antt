@@ -1,4 +1,4 @@
--- What is said of a request and of who asks it, on the way to an outcome.
+-- What is known of a request and of who asks it, on the way to an outcome.
 use Rattle.std.specs.Prelude.{ℕ, ◌≡◌, ◌⊎◌, false, List, Option, None, Some, Result, Ok, Err}
 use Rattle.fr_base.specs.Actors.{actor_of}
 use Rattle.fr_base.specs.Book.{Book}

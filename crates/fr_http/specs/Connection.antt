@@ -1,4 +1,5 @@
--- One connection: what was read of it, what was written to it, and what became of the register.
+-- Connection: what was read and written on a connection, how it ended, that it was an exchange, and what became of the
+-- register.
 use Rattle.std.specs.Prelude.{ℕ, ◌≡◌, ◌⊎◌, Bool, true, false, List, [], ◌∷◌, Option, Result, Ok, Err, IfErr, IsErrOf}
 use Rattle.std.specs.Io.KnownBytes.{Appends, Consumes, IsAtEnd, Keeps}
 use Rattle.httparse.specs.Grammar.{RequestHead}

@@ -1,4 +1,6 @@
--- What happens on connections that are served one after another, and what of it is one supplier's.
+-- Exchange: what happened on a connection: the bytes read and written, and what the register was asked, with its
+-- answer. When that is an exchange with a register from a book, and when a list of them is one after another. Which of
+-- them are one supplier's.
 use Rattle.std.specs.Prelude.{◌≡◌, ℕ, Bool, false, List, [], ◌∷◌, ◌++◌, filter, Option, Some, None, is_some, Result, Ok, Err, IfOk}
 use Rattle.fr_base.specs.Actors.{actor_of}
 use Rattle.fr_base.specs.Alone.{is_mine}

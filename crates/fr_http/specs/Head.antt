@@ -1,4 +1,5 @@
--- The head of a request: which bytes are one, and what it says.
+-- Head: which bytes begin with a request's head, by `httparse`'s grammar and within the bounds; the values of its
+-- fields by name, and the key.
 use Rattle.std.specs.Prelude.{ℕ, ◌≤◌, Bool, List, [], ◌∷◌, length, map, filter, codes, Option, Some, None}
 use Rattle.std.specs.Str.{str_eq_ignore_ascii_case}
 use Rattle.httparse.specs.Grammar.{ReadsRequest, RequestHead, print_request}

@@ -1,4 +1,5 @@
--- What connections that are served one after another are for a supplier, and what asks nothing of the register.
+-- Laws: the exchanges that are a supplier's are those with the register that holds it alone. What asks nothing has the
+-- same reply from every register, unless its key is nobody's.
 use Rattle.std.specs.Prelude.{◌≢◌, List}
 use Rattle.fr_base.specs.Alone.{rows_of}
 use Rattle.fr_base.specs.Book.{Book}

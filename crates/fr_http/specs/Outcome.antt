@@ -1,4 +1,5 @@
--- What the bytes of a connection ask, or why they ask nothing.
+-- Outcome: what the bytes of a connection ask, or why they ask nothing, step by step; whether `100 Continue` is due;
+-- what may be answered where there is no head.
 use Rattle.std.specs.Prelude.{ℕ, ◌≡◌, ◌⊎◌, ◌≤◌, ◌<◌, Bool, false, not, ◌&&◌, ◌==◌, nat_lt, nat_le, List, [], ◌∷◌, length, take, codes, Option, Some, None, Result, Ok, Err, if◌then◌else◌}
 use Rattle.std.specs.Char.{is_ascii_digit}
 use Rattle.std.specs.List.{list_all, list_any}

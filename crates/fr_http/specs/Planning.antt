@@ -1,4 +1,4 @@
--- What is said of a plan on the way to an outcome.
+-- What is known of a plan, on the way to an outcome: it is what the head asks for.
 use Rattle.std.specs.Prelude.{◌≡◌, ◌⊎◌, false, Result, Ok, Err}
 use Rattle.fr_http.specs.Head.{HeadData}
 use Rattle.fr_http.specs.Outcome.{plan_of}

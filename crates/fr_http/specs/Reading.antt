@@ -1,4 +1,4 @@
--- What is said of the bytes that were read, on the way to an outcome.
+-- What is known of the bytes that were read, on the way to an outcome: whether a head came, and a whole body.
 use Rattle.std.specs.Global.{Vec}
 use Rattle.std.specs.Prelude.{ℕ, ◌≡◌, false, List, ◌++◌, Option, Some, None, Result, MatchResult}
 use Rattle.std.specs.Io.KnownBytes.{Consumes, IsAtEnd}

@@ -1,4 +1,4 @@
--- The bytes of a reply.
+-- Reply: the bytes of a reply, the engine's own or to an answer of the register.
 use Rattle.std.specs.Prelude.{ℕ, Bool, true, false, ◌==◌, List, [], ◌++◌, length, codes, decimal, unwrap_or, if◌then◌else◌}
 use Rattle.http.specs.StatusCode.{reason_phrase}
 use Rattle.fr_base.specs.Refusals.{status_of}

@@ -1,4 +1,4 @@
--- What is said of a reply's parts on the way to it.
+-- What is known of a reply's parts, on the way to its bytes.
 use Rattle.std.specs.Prelude.{ℕ, ◌≡◌, List, ◌++◌}
 use Rattle.fr_http.specs.Reply.{Reply, body_fields, closing, print, status_line}
 use Rattle.fr_http.specs.declared.reply.ReplyText.{ReplyText}

@@ -1,4 +1,4 @@
--- Which request a path asks for.
+-- Route: which request a path asks for, by `matchit`, and its names.
 use Rattle.std.specs.Prelude.{ℕ, ◌==◌, List, [], ◌∷◌, codes, Option, Some, None, Result, Ok, Err, if◌then◌else◌, unwrap_or}
 use Rattle.std.specs.List.{before_first, fold, list_all, slice_get, slice_split}
 use Rattle.std.specs.Option.{option_map}

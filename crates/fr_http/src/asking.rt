@@ -1,4 +1,4 @@
-//! Makes what is asked of a head and a body.
+//! Makes what is asked of a head and a body: the request, and who asks it.
 ghost use Rattle.std.specs.Prelude.{◌≡◌, IfOk};
 ghost use Rattle.fr_http.specs.Asking.{FindsActor, MakesCommand, MakesRequest, unasked_by};
 ghost use Rattle.fr_http.specs.Routes.{part};

@@ -1,4 +1,4 @@
-//! How a connection goes on that asks nothing: the engine answers itself, the request is refused, or a fault ends it.
+//! A connection that asks nothing: the engine answers itself, the request is refused, or a fault ends it.
 use crate::method::Method;
 use fr_base::{NoMemory, Refusal};
 

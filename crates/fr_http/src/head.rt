@@ -1,4 +1,4 @@
-//! The head of a request, and what came behind it.
+//! The head of a request and its fields, and what came behind it.
 ghost use Rattle.std.specs.Prelude.{◌≡◌};
 ghost use Rattle.std.specs.Iterator.{YieldsFirstRef, item_count};
 ghost use Rattle.httparse.specs.Spans.{IsRequestWithin};

@@ -1,4 +1,4 @@
-//! What a head asks for.
+//! What a head asks for, and how long the body is.
 ghost use Rattle.std.specs.Prelude.{◌≡◌, [], ◌∷◌};
 ghost use Rattle.std.specs.Char.{is_ascii_digit};
 ghost use Rattle.std.specs.List.{list_all};

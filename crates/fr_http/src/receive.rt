@@ -1,4 +1,4 @@
-//! Reads the head of a request.
+//! Reads until a request's head is there.
 ghost use Rattle.std.specs.Prelude.{◌≡◌};
 ghost use Rattle.fr_http.specs.Reading.{HasReceived};
 

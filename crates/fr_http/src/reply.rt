@@ -1,4 +1,4 @@
-//! Writes replies.
+//! Writes the bytes of a reply.
 ghost use Rattle.std.specs.Prelude.{◌≡◌, ◌++◌, IfOk, OnOk};
 ghost use Rattle.fr_base.specs.Refusals.{status_of};
 ghost use Rattle.fr_http.specs.Reply.{allow, answer_reply, authenticate, body_of, closing, engine_reply, field_line, is_report, phrase_of, status_line, status_of_answer, status_of_rejection, type_of};

@@ -1,4 +1,4 @@
-//! Serves one connection.
+//! Serves one connection: what it asks is taken, the register asked, the reply written.
 ghost use Rattle.std.specs.Prelude.{◌≡◌, ℕ, List, Err, IfOk, IfErr, OnOk, OnErr, false};
 ghost use Rattle.std.specs.List.{list_any};
 ghost use Rattle.std.specs.Io.KnownBytes.{Appends};

@@ -1,5 +1,6 @@
-//! What the check would let pass: a request that is not served though there is memory, and reads and writes that are tried
-//! again too seldom, too often, or after another error. Replies are typed by hand from the formats.
+//! Tests of `fr_http`. The check would let pass a request that is not served though there is memory, and reads and
+//! writes that are tried again too seldom, too often, or after another error. Replies are typed by hand from the
+//! formats.
 use fr_base::{
     Actor, Answer, Ask, Channel, Desk, Name, NoMemory, Refusal, Request, Rows, Sending, Slot,
 };
@@ -315,6 +316,7 @@ fn a_request_is_asked_once_it_is_whole(rt: HostRuntime) -> Result<(), Fail> {
         for (error, fault) in [
             (None, LinkFault::Truncated),
             (Some(ErrorKind::ConnectionReset), LinkFault::ReadFailed),
+            (Some(ErrorKind::WouldBlock), LinkFault::ReadFailed),
             (Some(ErrorKind::Interrupted), LinkFault::TooManyReads),
         ] {
             if end > 0 && error == Some(ErrorKind::Interrupted) {

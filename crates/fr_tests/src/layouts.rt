@@ -1,4 +1,5 @@
-//! What the contracts leave open: bytes packed by a tool that is not ours, and that calls succeed.
+//! Tests of `fr_layout`. The contracts leave open whether a tool of others packs the same bytes, and whether calls
+//! succeed.
 use fr_base::{Name, Order, Signal};
 use fr_layout::Layout;
 use std::alloc::Global;

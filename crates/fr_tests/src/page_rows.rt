@@ -1,5 +1,4 @@
-//! Values for the tests: a cluster of all static slots, and a page of the supplier `s1` in the variant
-//! `v1`.
+//! Values for these tests: a cluster of all static slots, and a page of the supplier `s1` in the variant `v1`.
 ghost use Rattle.std.specs.Bool.{OnTrue};
 ghost use Rattle.fr_base.specs.Sound.{FitsCluster};
 

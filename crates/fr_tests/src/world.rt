@@ -1,4 +1,4 @@
-//! What the check would let pass: a call that lacks memory though there is enough, or from some size on;
+//! Tests of `fr_world`. The check would let pass a call that lacks memory though there is enough, or from some size on;
 //! and cells that a table from outside the register says are taken.
 ghost use Rattle.std.specs.Prelude.{◌≡◌, IfOk, Ok};
 ghost use Rattle.fr_world.specs.Decisions.{IsChecked};

@@ -1,4 +1,5 @@
--- The text of an answer: compact JSON, its keys in byte order. Names are ASCII letters, digits and `_`, so nothing in it needs an escape.
+-- Answer's text: the line of JSON for each answer, its keys in byte order. Names are ASCII letters, digits and `_`, so
+-- nothing in it needs an escape.
 use Rattle.std.specs.Prelude.{List, ◌++◌, codes, ℕ, decimal}
 use Rattle.fr_base.specs.Channels.{text_of_channel}
 use Rattle.fr_base.specs.Refusals.{number_of, name_of}

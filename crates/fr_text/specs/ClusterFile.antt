@@ -1,4 +1,4 @@
--- What the bytes of a cluster file say.
+-- Cluster file: what its bytes mean, the config or the first fault in order. Each fault's word.
 use Rattle.std.specs.Prelude.{ℕ, ◌^◌, ℤ, pos, negsuc, Bool, true, not, ◌&&◌, List, [], ◌∷◌, length, codes, nat_lt, Option, Some, None, is_some, option_and_then, Result, Ok, Err, if◌then◌else◌}
 use Rattle.std.specs.List.{list_all, list_any}
 use Rattle.std.specs.Str.{is_utf8, bytes_eq}

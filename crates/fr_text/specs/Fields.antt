@@ -1,4 +1,5 @@
--- The fields of a JSON object, each of its kind.
+-- Fields: a field of a JSON object is a text, a text that may be null or absent, or a whole number; and no other field
+-- is there.
 use Rattle.std.specs.Prelude.{◌≡◌, ◌⊎◌, ℕ, ◌^◌, Bool, List, [], ◌∷◌, nat_lt, if◌then◌else◌, Option, Some, None, is_some, ⊤, Result, Ok, Err, String}
 use Rattle.std.specs.BTreeMap.{BTreeMap}
 use Rattle.std.specs.Global.{Global}

@@ -1,4 +1,4 @@
--- Laws of the definitions: what is written for a request is read back as that request.
+-- Law: what is written for a request is read back as that request.
 use Rattle.std.specs.Prelude.{◌≡◌, ℕ, ◌^◌, List, [], ◌∷◌, codes, nat_lt, Option, Some, None, IsTrue}
 use Rattle.std.specs.List.{list_all}
 use Rattle.std.specs.Str.{is_utf8}

@@ -1,5 +1,6 @@
--- The lines of each report.
-use Rattle.std.specs.Prelude.{ℕ, Bool, List, [], ◌∷◌, map, codes}
+-- Report: the lines of each report, with a gap right in seven places. The supplier's name stands at the end of each but
+-- `AT` lines, for the integrator alone. The line of a variant.
+use Rattle.std.specs.Prelude.{ℕ, Bool, List, [], ◌∷◌, map, codes, decimal, Option, Some, None, if◌then◌else◌}
 use Rattle.std.specs.List.{flat_map}
 use Rattle.fr_base.specs.Channels.{text_of_channel, text_of_channels}
 use Rattle.fr_base.specs.Signals.{text_of_order}
@@ -10,7 +11,9 @@ use Rattle.fr_base.specs.declared.answer.FrameRow.{FrameRow}
 use Rattle.fr_base.specs.declared.answer.Sending.{Sending}
 use Rattle.fr_base.specs.declared.answer.GapRow.{GapRow}
 use Rattle.fr_base.specs.declared.answer.SignalRow.{SignalRow}
+use Rattle.fr_base.specs.declared.name.Name.{Name}
 use Rattle.fr_base.specs.declared.placement.Placement.{Placement}
+use Rattle.fr_world.specs.declared.variants.VariantRow.{VariantRow}
 use Rattle.fr_text.specs.Words.{two_digits, four_digits, right_in, gap_word, line, shown_to}
 
 -- slot, channel and node
@@ -65,3 +68,16 @@ gap_lines _ = []
 unfoldable pub layout_lines : Answer → List (List ℕ)
 layout_lines (Layout all rows) = map (signal_line all) rows
 layout_lines _ = []
+
+-- the variant that another was opened from, or a hyphen where it was opened empty
+abbrev pub parent_word : Option Name → List ℕ
+parent_word None = codes "-"
+parent_word (Some parent) = parent
+
+-- whether a variant may still change
+abbrev pub state_word : Bool → List ℕ
+state_word released = if released then codes "released" else codes "open"
+
+-- name, parent, depth and state of a variant
+unfoldable pub variant_line : VariantRow → List ℕ
+variant_line v = line (v.variant ∷ parent_word v.parent ∷ decimal v.depth ∷ state_word v.released ∷ [])

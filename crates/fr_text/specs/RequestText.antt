@@ -1,5 +1,5 @@
--- Which request the bytes of a line are. They are one JSON object, whose field `do` names the request; its other fields are
--- exactly those of that request.
+-- Request's text: which request, an import too, the bytes of a line are. They are one JSON object, whose field `do`
+-- names the request, with exactly that request's fields, each of its kind.
 use Rattle.std.specs.Prelude.{ℕ, List, [], ◌∷◌, codes, Option, Some}
 use Rattle.std.specs.Map.{lookup}
 use Rattle.std.specs.Str.{bytes_eq}

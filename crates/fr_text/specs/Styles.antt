@@ -1,4 +1,4 @@
--- How the lines of a report are set.
+-- Style: a report's lines as texts of JSON with commas between, or each with a line feed behind it.
 use Rattle.std.specs.Prelude.{ℕ, Bool, List, [], ◌∷◌, ◌++◌, codes}
 use Rattle.std.specs.List.{join_by, flat_map}
 use Rattle.fr_text.specs.declared.style.Style.{Style}

@@ -1,4 +1,5 @@
--- The words of a line, and how numbers are written in them.
+-- Words of a line: they stand with one space between. A number has its digits with leading zeros. A text stands right
+-- in so many places. A gap is its number, or `never`. The supplier's name is for the integrator alone.
 use Rattle.std.specs.Prelude.{◌≡◌, ℕ, ◌+◌, ◌-◌, ◌/◌, ◌%◌, Bool, List, [], ◌∷◌, ◌++◌, codes, decimal, length, replicate, if◌then◌else◌, Option, Some, None}
 use Rattle.std.specs.List.{join_by, flat_map}
 

@@ -1,5 +1,5 @@
-//! The cluster file: a TOML document with the cluster's parameters, the integrator's key, and the
-//! suppliers with theirs.
+//! Reads a cluster file: a TOML document with the cluster's parameters, the integrator's key, and the suppliers with
+//! theirs.
 ghost use Rattle.std.specs.Prelude.{◌≡◌, ◌⊎◌, false, Ok, Err, Some, None, IfOk, IfErr, MatchResult, IsTrue, string_bytes};
 ghost use Rattle.std.specs.List.{list_all, list_any};
 ghost use Rattle.std.specs.Str.{bytes_eq};

@@ -16,5 +16,5 @@ pub use answer_text::write_answer;
 pub use cluster_file::{ConfigFault, read_config};
 pub use import_text::read_import;
 pub use laws::written_is_read_back;
-pub use report::{write_gaps, write_layout, write_lines, write_schedule};
+pub use report::{write_gaps, write_layout, write_lines, write_schedule, write_variants};
 pub use request_text::read_command;

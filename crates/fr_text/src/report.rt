@@ -1,4 +1,4 @@
-//! Writes the lines of reports.
+//! Writes the lines of any report.
 ghost use Rattle.std.specs.Prelude.{◌≡◌, ◌++◌, IfOk, OnOk, OnErr, Bool, List, ℕ, ◌∷◌};
 ghost use Rattle.fr_text.specs.AnswerText.{report_of};
 ghost use Rattle.fr_text.specs.Styles.{joined, lines_in, marked, plain_lines, set_in};
@@ -9,6 +9,7 @@ mod gaps;
 mod grants;
 mod layout;
 mod schedule;
+mod variants;
 
 use crate::style::Style;
 use crate::words::push;
@@ -17,6 +18,7 @@ pub use gaps::write_gaps;
 pub use layout::write_layout;
 pub use schedule::write_schedule;
 use std::alloc::Global;
+pub use variants::write_variants;
 
 /// A row of a report, which makes a line, or more.
 pub(crate) trait Row {
