@@ -92,6 +92,7 @@ def over(db):
     """The commands that ask a register file and change nothing where they have no input."""
     yield from ([report, db, "v1"] for report in ("grants", "frames", "schedule", "gaps"))
     yield from (["layout", db, "v1", "f1"], ["schedule", db, "v1", "--supplier", "s1"], ["ask", db])
+    yield from (["variants", db], ["variants", db, "--supplier", "s1"])
 
 
 def opening(program, folder):
@@ -276,7 +277,13 @@ ASKED = [
     (b'nobody123 {"do":"gaps","variant":"v1"}', refused(2, "UnknownKey")),
     (b'supplier01 {"do":"release","variant":"v1"}', refused(3, "NotYours")),
     (b' {"do":"gaps","variant":"v1"}', refused(2, "UnknownKey")),
+    (b'integrator1 {"do":"open_variant","variant":"W"}', DONE),
+    (b'integrator1 {"do":"release","variant":"W"}', DONE),
+    (b'integrator1 {"do":"open_variant","variant":"w_2","from":"W"}', DONE),
 ]
+
+# Its variants, in byte order of their names. Each supplier sees the same ones.
+VARIANTS = b"W - 1 released\nv1 - 1 open\nw_2 W 2 open\n"
 
 # What the reports of it are: to the integrator, and to each supplier.
 REPORTS = {
@@ -307,6 +314,7 @@ def asked(program, folder, given, written=b"", said=b"", status=0, db="asked.db"
 def asking(program, folder):
     """Requests on standard input are answered as those of a script, and what they did is in the file."""
     tell(program, ["create", "asked.db", "cluster.toml"], folder)
+    tell(program, ["variants", "asked.db"], folder)
     asked(program, folder, b"")
     asked(program, folder, b"\n\r\n\n")
     lines, answers = zip(*ASKED)
@@ -319,6 +327,9 @@ def asking(program, folder):
             more = [] if supplier is None else ["--supplier", supplier]
             tell(program, [name, "asked.db", *words, *more], folder, wanted)
             tell(program, [name, *more, "asked.db", *words], folder, wanted)
+    for more in [], *(["--supplier", supplier] for supplier in ("s1", "s2", "s3")):
+        tell(program, ["variants", "asked.db", *more], folder, VARIANTS)
+        tell(program, ["variants", *more, "asked.db"], folder, VARIANTS)
     for words in ["grants", "v9"], ["frames", "v9", "--supplier", "s1"], ["layout", "v9", "f1"]:
         turned_down(program, [words[0], "asked.db", *words[1:]], folder, refused(10, "NoVariant"))
     for words in ["layout", "v1", "f9"], ["layout", "v1", "f1", "--supplier", "s2"]:
@@ -327,6 +338,7 @@ def asking(program, folder):
         turned_down(program, [words[0], "asked.db", *words[1:]], folder, refused(4, "BadName"))
     for supplier in "s4", "S1", "s 1", "":
         turned_down(program, ["schedule", "asked.db", "v1", "--supplier", supplier], folder, refused(2, "UnknownKey"))
+        turned_down(program, ["variants", "asked.db", "--supplier", supplier], folder, refused(2, "UnknownKey"))
     with served(program, folder, db="asked.db"):
         for words in over("asked.db"):
             fault(program, words, folder, "Unavailable")
@@ -586,6 +598,7 @@ def differences(program, folder):
             lines = sent(port, head("GET", f"/v1/variants/{variant}/frames", "integrator1")).partition(b"\r\n\r\n")[2].decode().splitlines()
             listed[variant] = [tuple(line.split()[1:]) for line in lines if line.startswith("FRAME ")]
         see("the server ends", 0, server.wait(SECONDS))
+    tell(program, ["variants", "car.db"], folder, b"v1 - 1 released\nv2 v1 2 released\nv3 v2 3 open\n")
     for variant, names in shown.items():
         see(f"frames of {variant}", [(name, "n1", "s1") for name in names], listed[variant])
         with closing(sqlite3.connect(folder / "car.db")) as file:

@@ -36,6 +36,7 @@ Commands:
   migrate   Brings a register file of schema 1 to schema 2, with all that it holds
   serve     Serves a register file over HTTP
   ask       Answers requests on standard input, a line each, over a register file
+  variants  Prints the variants: which there are, and which was opened from which
   grants    Prints a variant's grants: which node holds which slot and channel
   frames    Prints a variant's frames, with their nodes and placements
   schedule  Prints a variant's schedule: what is sent in which cycle, slot and channel
@@ -109,6 +110,26 @@ standard output, once the file has what it changes. Empty lines are skipped.
 
 Example:
   slotplan ask car.db < changes.txt
+"""
+
+VARIANTS_HELP = b"""\
+Prints the variants: which there are, and which was opened from which
+
+Usage: slotplan variants [OPTIONS] <DB>
+
+Arguments:
+  <DB>  The register file (an SQLite database)
+
+Options:
+      --supplier <NAME>  Prints what this supplier sees; without it, what the integrator sees
+  -h, --help             Print help
+
+Each line: name, parent, depth, and open or released. A variant that was opened empty
+has - for its parent. Each supplier sees all variants.
+
+Example:
+  slotplan variants car.db
+  slotplan variants car.db --supplier s1
 """
 
 GRANTS_HELP = b"""\
@@ -247,7 +268,7 @@ def words():
     for name, text in ("run", RUN_HELP), ("serve", SERVE_HELP):
         for given in (name, "--help"), (name, "-h"), ("help", name):
             yield Case(f"the words {given}", written=text, words=given)
-    by_name = ("ask", ASK_HELP), ("grants", GRANTS_HELP), ("layout", LAYOUT_HELP), ("check", CHECK_HELP), ("explain", EXPLAIN_HELP)
+    by_name = ("ask", ASK_HELP), ("variants", VARIANTS_HELP), ("grants", GRANTS_HELP), ("layout", LAYOUT_HELP), ("check", CHECK_HELP), ("explain", EXPLAIN_HELP)
     for name, text in by_name:
         yield Case(f"the help of {name}", written=text, words=(name, "--help"))
     yield Case("no words", said=HELP, status=2, words=())

@@ -9,4 +9,6 @@ pub mod OutputLaws
 pub mod RunLaws
 pub mod EndingLaws
 pub mod AskingLaws
+pub mod ReadingLaws
+pub mod ListingLaws
 mod EachFault

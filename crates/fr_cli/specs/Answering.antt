@@ -1,4 +1,6 @@
--- How lines of a script are answered from a register's records.
+-- Answered lines: the bytes are the lines' answers, a line for each, and the lines a run from the sound book for which
+-- the register stood; it now stands for the book after them. How they are cut short by a fault: the first lines were
+-- carried out, and but for the end of one answer all is written.
 use Rattle.std.specs.Prelude.{◌≡◌, ◌⊎◌, ℕ, List, ◌∷◌, ◌++◌, length, Option, Result, Err, OnOk, IfErr, ⊤}
 use Rattle.std.specs.Io.KnownBytes.{Appends}
 use Rattle.fr_base.specs.Book.{Book}

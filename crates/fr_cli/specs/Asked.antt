@@ -1,4 +1,5 @@
--- Who sends a request's line and what it asks, as the book stands.
+-- Asked line: who sends a request's line, as the book then stands, which request its text is, and so who asks what,
+-- with `BadText` before `UnknownKey`.
 use Rattle.std.specs.Prelude.{ℕ, List, Option, Some, None, Result, Ok, Err, option_and_then}
 use Rattle.fr_base.specs.Actors.{actor_of}
 use Rattle.fr_base.specs.Book.{Book}

@@ -1,4 +1,5 @@
--- What the command line asks of a register, and what it prints of the answer.
+-- Report, import: what a command asks of a register, and what it prints of the answer. That is the report, the answer's
+-- line, or the line of one that refuses.
 use Rattle.std.specs.Prelude.{◌≡◌, ◌++◌, ℕ, List, Bool, true, false, Result, Ok, Err, codes}
 use Rattle.std.specs.Global.{Vec}
 use Rattle.fr_base.specs.Actors.{actor_of}

@@ -1,4 +1,5 @@
--- What the command line says of a cluster file.
+-- Check: what is said of a cluster file, and how that ends. It is one; or it is none, and the line begins with the word
+-- of its fault; or it cannot be read, or memory is wanting.
 use Rattle.std.specs.Prelude.{◌≡◌, ◌⊎◌, ◌++◌, ℕ, List, codes, Result, Ok, Err}
 use Rattle.std.specs.Global.{Vec}
 use Rattle.fr_base.specs.Cluster.{ClusterFile}

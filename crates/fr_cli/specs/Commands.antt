@@ -1,4 +1,4 @@
--- The command line of the program, as `clap` reads it: a subcommand for each job, with the words that it takes.
+-- Command line: the words that the program takes, as `clap` reads them, a subcommand for each job with its words.
 use Rattle.std.specs.Prelude.{◌∷◌, [], ◌≡◌, Some, pos, true, false, codes}
 use Rattle.clap.specs.Simple.{new_shape}
 use Rattle.clap.specs.Words.{App, Rule, Text, app_of, new_app, new_rule, with_rule, with_subcommand}
@@ -58,6 +58,9 @@ ask = with_rule (new_app (codes "ask")) (word (codes "DB"))
 abbrev pub supplier : Rule
 supplier = record (new_rule (codes "supplier")) { long = Some (codes "supplier"); action = Some Set; value_names = 1 }
 
+abbrev pub variants : App
+variants = with_rule (with_rule (new_app (codes "variants")) (word (codes "DB"))) supplier
+
 -- `grants`, `frames`, `schedule` and `gaps`
 abbrev pub report : Text → App
 report name = with_rule (with_rule (with_rule (new_app name) (word (codes "DB"))) (word (codes "VARIANT"))) supplier
@@ -85,9 +88,9 @@ unasked name = record {
 -- the program, with one subcommand for each job
 abbrev pub slotplan : App
 slotplan = with_subcommand (with_subcommand (with_subcommand (with_subcommand (with_subcommand (with_subcommand (with_subcommand (with_subcommand (with_subcommand
-    (with_subcommand (with_subcommand (with_subcommand (with_subcommand (unasked (codes "slotplan")) run.top) create.top) migrate.top) serve.top) ask.top)
-    (report (codes "grants")).top) (report (codes "frames")).top) (report (codes "schedule")).top) (report (codes "gaps")).top) layout.top) import_words.top)
-    check.top) explain.top
+    (with_subcommand (with_subcommand (with_subcommand (with_subcommand (with_subcommand (unasked (codes "slotplan")) run.top) create.top) migrate.top) serve.top)
+    ask.top) variants.top) (report (codes "grants")).top) (report (codes "frames")).top) (report (codes "schedule")).top) (report (codes "gaps")).top) layout.top)
+    import_words.top) check.top) explain.top
 
 -- The command is read so, and has no argument that its subcommands have too.
 abbrev pub IsReadAs : App → Command → Type 0

@@ -1,4 +1,4 @@
--- How a job ends: its status, and what is said of it on standard output and standard error.
+-- Ending: the status with which a job ends, and what standard output and standard error get.
 use Rattle.std.specs.Prelude.{◌≡◌, ◌⊎◌, ℕ, List, ◌++◌, codes, Option, Result, Ok, Err, ⊤}
 use Rattle.std.specs.Global.{Vec}
 use Rattle.std.specs.Io.KnownBytes.{Appends, Keeps}

@@ -1,4 +1,5 @@
--- What the command line says of a word.
+-- Explain: what is said of a word. All is said of one that is explained; of another that it is not, with the lines of
+-- those that begin like it. Without a word each that is explained has its line.
 use Rattle.std.specs.Prelude.{◌≡◌, ◌++◌, ℕ, List, [], ◌∷◌, codes, Option, Some, None, Result, Ok, Err}
 use Rattle.std.specs.Borrow.{Bor}
 use Rattle.std.specs.Global.{Vec}

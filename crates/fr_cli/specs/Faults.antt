@@ -1,4 +1,4 @@
--- The words of the faults that end a job or a connection, and which of them may end which job.
+-- Job's faults: the word of each fault that ends a job or a connection, and which of them may end which job.
 use Rattle.std.specs.Prelude.{◌≡◌, ◌≢◌, ◌⊎◌, ℕ, List, codes, ⊤}
 use Rattle.fr_cli.specs.ScriptFault.{script_fault_word}
 use Rattle.fr_cli.specs.declared.fault.Fault.{Fault}

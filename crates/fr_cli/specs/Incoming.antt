@@ -1,4 +1,5 @@
--- How requests that come in are answered.
+-- Requests that come in: all requests of an input are answered, or the first of them before a fault comes. Those of a
+-- register in a file are answered from the book that the file held, and what is left holds the book after them.
 use Rattle.std.specs.Prelude.{◌≡◌, ◌⊎◌, ◌<◌, ℕ, List, ◌++◌, length, Option, Some, Result, Err, IfErr, IfSome, IsErrOf, OnOk, ⊤}
 use Rattle.std.specs.Io.KnownBytes.{Appends, IsAtEnd, Keeps}
 use Rattle.sqlite.specs.Files.{IsCleanLeft}

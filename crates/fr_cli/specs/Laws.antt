@@ -1,4 +1,5 @@
--- What a script's answers are for the laws of the register.
+-- Laws: what answered lines ask is a run of the register. Lines of which none is answered `Unavailable` have the
+-- answers of its steps. The word of each fault that ends a job or a connection is explained.
 use Rattle.std.specs.Prelude.{◌≡◌, ℕ, List, map, IsFalse, true}
 use Rattle.std.specs.List.{list_any}
 use Rattle.fr_base.specs.Alone.{is_unavailable}

@@ -10,6 +10,8 @@ pub mod Words
 pub mod Faults
 pub mod Queries
 pub mod Asking
+pub mod Reading
+pub mod Listing
 pub mod Endings
 pub mod Performing
 pub mod RegisterFiles

@@ -1,4 +1,7 @@
--- What the run of a script writes.
+-- Output: what the run of a script writes. These are the answers to its lines from the register's opening book, each
+-- answer's text on a line of its own. Each supplier is answered as if it were alone, there is no collision after any
+-- line, and the book at the end is sound. The script is not too long and its cluster well formed. What stands where a
+-- run ended early: the answers up to some request.
 use Rattle.std.specs.Prelude.{◌≡◌, ◌≤◌, ℕ, List, [], ◌∷◌, ◌++◌, length, codes, Option, Some, Result, Ok, option_map}
 use Rattle.std.specs.List.{flat_map}
 use Rattle.fr_base.specs.Book.{Book, opening}

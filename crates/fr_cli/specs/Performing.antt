@@ -1,4 +1,5 @@
--- What a job prints, and how it ends.
+-- Printed: a job that prints an answer may end with its text, with the line of a refusal, or with a fault. The line of
+-- a server that listens.
 use Rattle.std.specs.Prelude.{◌≡◌, ◌++◌, ℕ, List, true, false, codes, decimal, Result, Ok, Err, ⊤}
 use Rattle.std.specs.Global.{Vec}
 use Rattle.fr_base.specs.declared.answer.Answer.{Answer}

@@ -1,4 +1,4 @@
--- A report of a variant: what is asked for it, by whom, and its lines.
+-- Report: what is asked for a report, by whom, and its lines in the answer.
 use Rattle.std.specs.Prelude.{ℕ, List, [], Bool, true, false, Option, Some, None, if◌then◌else◌}
 use Rattle.std.specs.Borrow.{Bor}
 use Rattle.fr_base.specs.Names.{is_name}

@@ -1,4 +1,6 @@
--- What a job found in a register's file, and what it left there.
+-- Register files: what a job says of a register's file. Its answer is a step from the book that the file held, and what
+-- is left holds the book after it; what is read of it is that book's. Or what is left holds the book of a new register,
+-- or the book that the file held in schema 1.
 use Rattle.std.specs.Prelude.{◌≡◌, ℕ, List, Option, Some, Result, Ok, OnOk, ⊤}
 use Rattle.sqlite.specs.Files.{IsCleanLeft}
 use Rattle.sqlite.specs.declared.file.Leftover.{Leftover}
@@ -16,6 +18,7 @@ use Rattle.fr_store.specs.Before.{HoldsBookBefore}
 use Rattle.fr_store.specs.StoreFiles.{HoldsBook, image_left}
 use Rattle.fr_text.specs.ClusterFile.{config_of}
 use Rattle.fr_cli.specs.Asking.{IsAnswer}
+use Rattle.fr_cli.specs.Reading.{IsRead, Reading}
 use Rattle.fr_cli.specs.declared.fault.Fault.{Fault}
 
 module _ {D : Type 0} {g : Ghosts D} where
@@ -24,6 +27,10 @@ module _ {D : Type 0} {g : Ghosts D} where
   abbrev pub IsAnswerOfFile : Image → Option (Leftover D g) → (Cluster → Book → Result Ask Refusal) → Answer → Type 0
   IsAnswerOfFile held rest asks answer =
       (last : Leftover D g) × (rest ≡ Some last) × IsAnswer (IsCleanLeft last) (Held held) (IsLeftWith last) asks answer
+
+  -- So it is with what is read of the book; and what is left holds the same book.
+  abbrev pub IsReadOfFile : {X : Type 0} → Image → Option (Leftover D g) → Reading X → Result X Refusal → Type 0
+  IsReadOfFile held rest may read = (last : Leftover D g) × (rest ≡ Some last) × IsRead (IsCleanLeft last) (Held held) (IsLeftWith last) may read
 
   -- The files that are left hold the book of a new register of this cluster file.
   abbrev pub IsLeftNew : Option (Leftover D g) → ClusterFile → Type 0

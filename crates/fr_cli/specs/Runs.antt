@@ -1,4 +1,5 @@
--- The run of a script: what it writes where it ends well, and what stands where a fault ends it.
+-- Run of a script: it ends with the script's output, or with a fault. What the fault says of the script, and what was
+-- written before it.
 use Rattle.std.specs.Prelude.{◌≡◌, ◌⊎◌, ◌<◌, ℕ, List, length, Option, Some, None, Result, Ok, Err, IfSome, IsErrOf, OnOk, ⊤}
 use Rattle.std.specs.Io.KnownBytes.{Appends, IsAtEnd, Keeps}
 use Rattle.fr_base.specs.Cluster.{ClusterFile, IsWellFormed}

@@ -1,4 +1,5 @@
--- A script: the cluster file, the line `---`, and a line for each request.
+-- Script: all before the first line `---` is the cluster file; each later line that is not empty is a request, its key
+-- before the first space and its text after it.
 use Rattle.std.specs.Prelude.{ℕ, ◌==◌, nat_lt, Bool, if◌then◌else◌, Option, Some, None, List, [], ◌∷◌, length, filter, codes}
 use Rattle.std.specs.List.{list_any, concat, before_first, after_first}
 use Rattle.std.specs.Str.{bytes_eq}

@@ -1,4 +1,4 @@
--- The words of the faults that end a script's run.
+-- Script's faults: the word of each fault that ends a run.
 use Rattle.std.specs.Prelude.{ℕ, List, codes}
 use Rattle.fr_text.specs.ClusterFile.{config_fault_word}
 use Rattle.fr_cli.specs.declared.script_fault.ScriptFault.{ScriptFault}

@@ -1,4 +1,8 @@
--- The run of a script's lines: how they may be answered, what they ask, and what of them is one supplier's.
+-- Run of lines: how lines may be answered one after another. What a line asks is a step, and a line that asks nothing
+-- is refused. What answered lines ask. Which of them are one supplier's: those with its key, unless they were answered
+-- `Unavailable`, and the integrator's that were done and are common or name it. When the supplier is answered as if it
+-- were alone: a new register of the cluster file with this supplier alone gives these lines, one after another, the
+-- same answers, and ends with the same rows of the supplier.
 use Rattle.std.specs.Prelude.{◌≡◌, ℕ, Bool, false, List, [], ◌∷◌, map, take, Option, Some, None, Result, Ok, Err, if◌then◌else◌}
 use Rattle.fr_base.specs.Alone.{alone, is_mine, is_unavailable, rows_of}
 use Rattle.fr_base.specs.Book.{Book, opening}

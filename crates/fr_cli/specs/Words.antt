@@ -1,10 +1,11 @@
--- The words of the command line, after the program's name, and the job that they ask for.
-use Rattle.std.specs.Prelude.{◌≡◌, ◌≤◌, List, Some, codes, option_map, ⊤}
+-- Program's words: which job the words of the command line name.
+use Rattle.std.specs.Prelude.{◌≡◌, ◌≤◌, ℕ, List, Option, Some, codes, option_map, ⊤}
+use Rattle.std.specs.Borrow.{Bor}
 use Rattle.clap.specs.Walk.{Row, Text, first_of}
 use Rattle.clap.specs.Words.{subcommand_of}
 use Rattle.fr_cli.specs.Commands.{slotplan}
 use Rattle.fr_cli.specs.declared.words.Job.{Job}
-use Rattle.fr_cli.specs.declared.words.Job.TheVariants.{Run, Create, Migrate, Serve, Ask, Report as ReportOn, Import, Check, Explain}
+use Rattle.fr_cli.specs.declared.words.Job.TheVariants.{Run, Create, Migrate, Serve, Ask, Variants, Report as ReportOn, Import, Check, Explain}
 use Rattle.fr_cli.specs.declared.query.Query.{Query}
 use Rattle.fr_cli.specs.declared.query.Report.{Report}
 use Rattle.fr_cli.specs.declared.query.Report.TheVariants.{Grants, Frames, Schedule, Gaps, Layout}
@@ -26,10 +27,14 @@ abbrev pub HasFrame : Report → List Row → Type 0
 HasFrame (Layout frame) rows = Has (codes "FRAME") rows frame.now
 HasFrame _ rows = ⊤
 
+-- The supplier is the one that the words name, if they name one.
+abbrev pub IsOfSupplier : Option (Bor (List ℕ)) → List Row → Type 0
+IsOfSupplier supplier rows = option_map (λ name. name.now) supplier ≡ first_of (codes "supplier") rows
+
 -- The query is of these words, and the supplier's that is named, if one is.
 abbrev pub IsQueryIn : List Row → Query → Type 0
 IsQueryIn rows query = Has (codes "VARIANT") rows query.variant.now × HasFrame query.report rows
-    × (option_map (λ name. name.now) query.supplier ≡ first_of (codes "supplier") rows)
+    × IsOfSupplier query.supplier rows
 
 -- The job is the subcommand's of this name, with the words that stand at its places.
 abbrev pub IsJobOf : Job → Text → List Row → Type 0
@@ -39,6 +44,7 @@ IsJobOf (Migrate db) name rows = (name ≡ codes "migrate") × Has (codes "DB") 
 IsJobOf (Serve db port count seconds) name rows = (name ≡ codes "serve") × Has (codes "DB") rows db.now
     × (1 ≤ port) × (port ≤ 65535) × (1 ≤ count) × (count ≤ 1000000) × (1 ≤ seconds) × (seconds ≤ 3600)
 IsJobOf (Ask db) name rows = (name ≡ codes "ask") × Has (codes "DB") rows db.now
+IsJobOf (Variants db supplier) name rows = (name ≡ codes "variants") × Has (codes "DB") rows db.now × IsOfSupplier supplier rows
 IsJobOf (ReportOn db query) name rows = (name ≡ name_of query.report) × Has (codes "DB") rows db.now × IsQueryIn rows query
 IsJobOf (Import db key variant label file) name rows = (name ≡ codes "import") × Has (codes "DB") rows db.now × Has (codes "KEY") rows key.now
     × Has (codes "VARIANT") rows variant.now × Has (codes "LABEL") rows label.now × Has (codes "FILE") rows file.now

@@ -1,4 +1,4 @@
-//! Answers the lines of requests, one after another.
+//! Answers the lines of requests by a desk, each in its turn.
 ghost use Rattle.std.specs.Prelude.{◌≡◌, ◌++◌, codes, IfErr, IfOk};
 ghost use Rattle.fr_base.specs.Actors.{actor_of};
 ghost use Rattle.fr_base.specs.Book.{Book};

@@ -1,4 +1,4 @@
-//! Asks a register on the words of the command line.
+//! Asks a register for a report or an import, and gives the text of its answer.
 ghost use Rattle.std.specs.Prelude.{◌≡◌, IfOk};
 ghost use Rattle.fr_base.specs.Actors.{actor_of};
 ghost use Rattle.fr_cli.specs.Asked.{asked_by};
@@ -94,8 +94,8 @@ fn is_refusal(answer: &Answer) -> bool
     matches!(answer, Answer::Refused(_) | Answer::RefusedRow { .. })
 }
 
-// The failure of a job that was answered so.
-fn refused(alloc: Global, answer: &Answer) -> Failure
+/// The failure of a job that was answered so.
+pub fn refused(alloc: Global, answer: &Answer) -> Failure
     ensures { IsRefusedBy answer.now result }
 {
     match line_of(alloc, answer) {

@@ -1,4 +1,4 @@
-//! The commands of the program, as the command line names them.
+//! The program's command line, as `clap` reads it: a subcommand for each job.
 ghost use Rattle.std.specs.Prelude.{◌≡◌, IfOk, codes, false};
 ghost use Rattle.clap.specs.Words.{Text, new_app, rule_of};
 ghost use Rattle.fr_cli.specs.Commands as app;
@@ -23,6 +23,7 @@ pub fn program<'a>(alloc: Global) -> Result<Command<'a>, Error>
         .subcommand(migrate(alloc)?)?
         .subcommand(serve(alloc)?)?
         .subcommand(ask(alloc)?)?
+        .subcommand(variants(alloc)?)?
         .subcommand(report(alloc, "grants", GRANTS_ABOUT, GRANTS_HELP)?)?
         .subcommand(report(alloc, "frames", FRAMES_ABOUT, FRAMES_HELP)?)?
         .subcommand(report(alloc, "schedule", SCHEDULE_ABOUT, SCHEDULE_HELP)?)?
@@ -133,6 +134,17 @@ fn ask<'a>(alloc: Global) -> Result<Command<'a>, Error>
         .about("Answers requests on standard input, a line each, over a register file")
         .after_help(ASK_HELP)
         .arg(db(alloc))?;
+    Ok(command)
+}
+
+fn variants<'a>(alloc: Global) -> Result<Command<'a>, Error>
+    ensures { IfOk result (IsReadAs app.variants) }
+{
+    let command = Command::new(alloc, "variants")
+        .about("Prints the variants: which there are, and which was opened from which")
+        .after_help(VARIANTS_HELP)
+        .arg(db(alloc))?
+        .arg(supplier(alloc))?;
     Ok(command)
 }
 
@@ -313,6 +325,14 @@ standard output, once the file has what it changes. Empty lines are skipped.
 
 Example:
   slotplan ask car.db < changes.txt";
+
+const VARIANTS_HELP: &str = "\
+Each line: name, parent, depth, and open or released. A variant that was opened empty
+has - for its parent. Each supplier sees all variants.
+
+Example:
+  slotplan variants car.db
+  slotplan variants car.db --supplier s1";
 
 const GRANTS_HELP: &str = "\
 Each line: slot, channel, node, supplier. With --supplier the last is left out.

@@ -1,4 +1,4 @@
-//! How a job ends that is not done.
+//! A job that is not done: it was refused, or a fault ended it.
 ghost use Rattle.std.specs.Prelude.{◌≡◌};
 
 use crate::fault::Fault;

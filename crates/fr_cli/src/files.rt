@@ -1,4 +1,4 @@
-//! The files of the command line that are texts.
+//! The files of the command line that are texts: cluster files and imports.
 ghost use Rattle.std.specs.Prelude.{◌≡◌, ◌⊎◌, ◌≤◌, vec_len, IfErr, IfOk};
 
 use crate::fault::Fault;

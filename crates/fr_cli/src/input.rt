@@ -1,4 +1,4 @@
-//! A whole input, read within bounds: that of a script.
+//! A whole input, read within bounds.
 ghost use Rattle.std.specs.Prelude.{◌≡◌, ◌↔◌, ℕ, List, ◌+◌, ◌<◌, ◌≤◌, ◌++◌, length, vec_len, IfSome, IfOk, IfErr, OnOk, IsErrOf, IsOk};
 ghost use Rattle.std.specs.Io.KnownBytes.{Consumes, IsAtEnd};
 ghost use Rattle.std.specs.IoError.{error_kind};

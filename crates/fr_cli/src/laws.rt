@@ -1,4 +1,5 @@
-//! Laws of a script's answers, and of the words of faults.
+//! Laws of a script's answers, and of the words of faults: lines that are answered one after another are a run of the
+//! register, and each fault's word is explained.
 ghost use Rattle.fr_cli.specs.Laws.{AnsweredLinesAreARun, AvailableAnswersAreSteps, EachFaultIsExplained};
 
 /// What answered lines ask, each as the book then stood, is a run of the register with their answers.

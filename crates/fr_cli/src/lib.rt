@@ -15,6 +15,7 @@ mod input;
 mod laws;
 mod lines;
 mod lines_out;
+mod listing;
 pub mod perform;
 mod printing;
 mod query;

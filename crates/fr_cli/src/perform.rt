@@ -1,4 +1,4 @@
-//! Does a job, and says how it ended.
+//! Does a job, and says how it ended: what is printed of it, and its status.
 ghost use Rattle.std.specs.Prelude.{◌≡◌, ◌⊎◌, Option, Result, IfErr, ⊤, List, ℕ};
 ghost use Rattle.std.specs.Borrow.{Bor};
 ghost use Rattle.std.specs.Global.{Vec};
@@ -10,9 +10,11 @@ ghost use Rattle.fr_cli.specs.Endings.{AppendsFront, IsPrinted, IsTold, Tells, s
 ghost use Rattle.fr_cli.specs.Explaining.{IsExplained};
 ghost use Rattle.fr_cli.specs.Faults.{IsNotImported, IsNotMade, IsNotMigrated, IsNotReported};
 ghost use Rattle.fr_cli.specs.Incoming.{IsAsked};
+ghost use Rattle.fr_cli.specs.Listing.{AreLines, variants_for};
 ghost use Rattle.fr_cli.specs.Performing.{Says, listening, of_script};
-ghost use Rattle.fr_cli.specs.Queries.{report_of};
-ghost use Rattle.fr_cli.specs.RegisterFiles.{IsAnswerOfFile, IsMade, IsMoved};
+ghost use Rattle.fr_cli.specs.Queries.{named, report_of};
+ghost use Rattle.fr_cli.specs.Reading.{PrintsRead};
+ghost use Rattle.fr_cli.specs.RegisterFiles.{IsAnswerOfFile, IsMade, IsMoved, IsReadOfFile};
 ghost use Rattle.fr_cli.specs.Runs.{IsRunOf};
 ghost use Rattle.fr_cli.specs.declared.failure.Failure.{Failure as Ended};
 ghost use Rattle.fr_cli.specs.declared.fault.Fault.{Fault as Word};
@@ -27,6 +29,7 @@ use crate::failure::Failure;
 use crate::fault::Fault;
 use crate::files::read_front;
 use crate::incoming::answer_input;
+use crate::listing::list;
 use crate::printing::{end, print, print_all, tell};
 use crate::query::Query;
 use crate::script::run_script;
@@ -65,6 +68,8 @@ pub fn perform<S: Start, R: Read, O: Write, E: Write>(
     ensures ask { (db : Bor (List ℕ)) → job.now ≡ Job.Ask db → (done : Result ⊤ Word) × (result.0 ≡ status_of done)
         × Tells (E.contents err.old) (E.contents err.new) done
         × IsAsked (image_at S.Start) result.1 (R.remaining input.old) (R.remaining input.new) (O.contents out.old) (O.contents out.new) done }
+    ensures variants { (db : Bor (List ℕ)) (supplier : Option (Bor (List ℕ))) → job.now ≡ Job.Variants db supplier → (done : Result (Vec ℕ) Ended) × PrintsRead IsNotReported (IsReadOfFile (image_at S.Start) result.1 (variants_for (named supplier))) AreLines done
+        × IsTold done (O.contents out.old) (O.contents out.new) (E.contents err.old) (E.contents err.new) result.0 }
     ensures report { (db : Bor (List ℕ)) (query : Query) → job.now ≡ Job.Report db query → (done : Result (Vec ℕ) Ended) × Says IsNotReported (IsAnswerOfFile (image_at S.Start) result.1 (query_of query)) (report_of query.report) done
         × IsTold done (O.contents out.old) (O.contents out.new) (E.contents err.old) (E.contents err.new) result.0 }
     ensures import { (db key variant label file : Bor (List ℕ)) → job.now ≡ Job.Import db key variant label file → (body : List ℕ) × (done : Result (Vec ℕ) Ended)
@@ -104,6 +109,10 @@ pub fn perform<S: Start, R: Read, O: Write, E: Write>(
         Job::Ask { db } => {
             let (done, left) = ask_file(rt, db, start, input, out);
             (end(done, &mut err), left)
+        }
+        Job::Variants { db, supplier } => {
+            let (done, left) = list_file(rt, db, start, supplier);
+            (tell(done, out, &mut err), left)
         }
         Job::Report { db, query } => {
             let (done, left) = report_file(rt, db, start, query);
@@ -200,6 +209,24 @@ fn migrate_file<S: Start>(rt: &HostRuntime, db: &str, start: S) -> (Result<(), F
     match file_desk::migrate(rt, db, start) {
         Ok(left) => (Ok(()), Some(left)),
         Err((fault, left)) => (Err(Fault::Register(fault)), left),
+    }
+}
+
+// The variants of the register in a file.
+fn list_file<S: Start>(
+    rt: &HostRuntime,
+    db: &str,
+    start: S,
+    supplier: Option<&str>,
+) -> (Result<Vec<u8>, Failure>, Left<S>)
+    ensures { PrintsRead IsNotReported (IsReadOfFile (image_at S.Start) result.1 (variants_for (named supplier.entry))) AreLines result.0 }
+{
+    match file_desk::open(rt, db, start) {
+        Ok(mut desk) => {
+            let done = list(rt.alloc(), &mut desk, supplier);
+            (done, Some(file_desk::close(desk)))
+        }
+        Err((fault, left)) => (Err(Failure::Fault(Fault::Register(fault))), left),
     }
 }
 

@@ -1,4 +1,4 @@
-//! What is printed of a job, and its status.
+//! What is printed of a job on standard output and standard error, and its status.
 ghost use Rattle.std.specs.Prelude.{◌≡◌, OnOk};
 ghost use Rattle.std.specs.Io.KnownBytes.{Appends};
 ghost use Rattle.fr_cli.specs.Endings.{AppendsFront, IsPrinted, IsTold, Tells, status_of, word_line};

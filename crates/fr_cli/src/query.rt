@@ -1,6 +1,6 @@
-//! A report of a variant, and who asks for it.
+//! A report of a variant, who asks for it, and its lines.
 ghost use Rattle.std.specs.Prelude.{◌≡◌, IfOk};
-ghost use Rattle.fr_cli.specs.Queries.{is_in, reader_of, report_of, request_for};
+ghost use Rattle.fr_cli.specs.Queries.{is_in, named, reader_of, report_of, request_for};
 
 use fr_base::{Actor, Answer, Name, NoMemory, Request, Text};
 use fr_text::write_lines;
@@ -63,10 +63,7 @@ impl Query<'_> {
     pub fn reader(self) -> Option<Actor>
         ensures { result ≡ reader_of self.entry }
     {
-        match self.supplier {
-            Some(name) => Name::read(name).map(Actor::Supplier),
-            None => Some(Actor::Integrator),
-        }
+        named(self.supplier)
     }
 
     /// What is asked.
@@ -84,5 +81,15 @@ impl Query<'_> {
                 frame: Text::copy(alloc, frame)?,
             },
         })
+    }
+}
+
+/// Who reads a report: the supplier of this name, or the integrator where none is named. A text that is no name is nobody's.
+pub fn named(supplier: Option<&str>) -> Option<Actor>
+    ensures { result ≡ named supplier.entry }
+{
+    match supplier {
+        Some(name) => Name::read(name).map(Actor::Supplier),
+        None => Some(Actor::Integrator),
     }
 }

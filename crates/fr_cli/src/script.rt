@@ -1,4 +1,4 @@
-//! Runs a script: reads it, and writes the answer to each of its requests.
+//! Runs a script: reads it whole, splits it, and writes the answer to each of its requests.
 ghost use Rattle.fr_cli.specs.Answering.{HasWritten};
 ghost use Rattle.fr_cli.specs.Runs.{IsRunOf};
 ghost use Rattle.fr_cli.specs.Script.{request_lines};

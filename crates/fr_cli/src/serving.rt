@@ -1,4 +1,4 @@
-//! Serves a register file over HTTP.
+//! Serves a register file over HTTP: connections are accepted, served and closed, one after another.
 ghost use Rattle.std.specs.Prelude.{◌≡◌};
 ghost use Rattle.fr_cli.specs.Endings.{AppendsFront};
 ghost use Rattle.fr_cli.specs.Performing.{listening};

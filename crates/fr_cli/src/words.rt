@@ -2,7 +2,7 @@
 ghost use Rattle.std.specs.Prelude.{◌≡◌, ◌≤◌, codes, map, string_bytes, IfOk, IfSome, List, Some};
 ghost use Rattle.clap.specs.Walk.{Row, Text, rows_of};
 ghost use Rattle.clap.specs.Words.{found_of, subcommand_rows_of};
-ghost use Rattle.fr_cli.specs.Words.{AskFor, Has, HasFrame, IsJobOf, name_of};
+ghost use Rattle.fr_cli.specs.Words.{AskFor, Has, HasFrame, IsJobOf, IsOfSupplier, name_of};
 
 use crate::commands::{MAX_CONNECTIONS, MAX_SECONDS, program};
 use crate::query::{Query, Report};
@@ -35,6 +35,11 @@ pub enum Job<'a> {
     /// Answer the requests on standard input over a register file.
     Ask {
         db: &'a str,
+    },
+    /// Print the variants, as the integrator reads them, or the supplier that is named.
+    Variants {
+        db: &'a str,
+        supplier: Option<&'a str>,
     },
     /// Print a report of a variant.
     Report {
@@ -109,6 +114,7 @@ fn named_job<'a>(name: &str, found: &ArgMatches<'a>) -> Option<Job<'a>>
         "migrate" => migrate_job(found),
         "serve" => serve_job(found),
         "ask" => ask_job(found),
+        "variants" => variants_job(found),
         "grants" => report_job(found, Report::Grants),
         "frames" => report_job(found, Report::Frames),
         "schedule" => report_job(found, Report::Schedule),
@@ -165,6 +171,15 @@ fn ask_job<'a>(found: &ArgMatches<'a>) -> Option<Job<'a>>
     })
 }
 
+fn variants_job<'a>(found: &ArgMatches<'a>) -> Option<Job<'a>>
+    ensures { IfSome result (λ job. IsJobOf job (codes "variants") (rows_of (found_of found.now))) }
+{
+    Some(Job::Variants {
+        db: word(found, "DB")?,
+        supplier: supplier(found),
+    })
+}
+
 fn report_job<'a>(found: &ArgMatches<'a>, report: Report<'a>) -> Option<Job<'a>>
     ensures { IfSome result (λ job. HasFrame report.entry (rows_of (found_of found.now)) → IsJobOf job (name_of report.entry) (rows_of (found_of found.now))) }
 {
@@ -172,7 +187,7 @@ fn report_job<'a>(found: &ArgMatches<'a>, report: Report<'a>) -> Option<Job<'a>>
     let query = Query {
         variant: word(found, "VARIANT")?,
         report,
-        supplier: found.get_str("supplier"),
+        supplier: supplier(found),
     };
     Some(Job::Report { db, query })
 }
@@ -217,6 +232,13 @@ fn word<'a>(found: &ArgMatches<'a>, name: &str) -> Option<&'a str>
     ensures { IfSome result (λ text. Has name.now (rows_of (found_of found.now)) text.now) }
 {
     found.get_str(name)
+}
+
+// The supplier that is named, if one is.
+fn supplier<'a>(found: &ArgMatches<'a>) -> Option<&'a str>
+    ensures { IsOfSupplier result (rows_of (found_of found.now)) }
+{
+    found.get_str("supplier")
 }
 
 // What an error of the parse is.

@@ -1,15 +1,29 @@
-use Rattle.std.proofs.Common.{rules, ◌∙◌, ap, subst, sym}
+use Rattle.std.proofs.Common.{rules, ◌∙◌, List, ℕ, Option, ap, subst, sym}
+use Rattle.std.specs.Borrow.{Bor}
 use Rattle.sqlite_wal.specs.Files.{image_at}
 use Rattle.fr_cli.specs.Asking.{import_of, line_of, query_of}
 use Rattle.fr_cli.specs.Faults.{IsNotImported, IsNotReported}
+use Rattle.fr_cli.specs.Listing.{AreLines, variants_for}
 use Rattle.fr_cli.specs.Performing.{Says}
-use Rattle.fr_cli.specs.Queries.{report_of}
-use Rattle.fr_cli.specs.RegisterFiles.{IsAnswerOfFile}
+use Rattle.fr_cli.specs.Queries.{named, report_of}
+use Rattle.fr_cli.specs.Reading.{PrintsRead}
+use Rattle.fr_cli.specs.RegisterFiles.{IsAnswerOfFile, IsReadOfFile}
 use Rattle.fr_cli.specs.declared.asking.ImportWords.{ImportWords}
 use Rattle.fr_cli.specs.declared.query.Query.{Query}
 use Rattle.fr_cli.specs.declared.words.Job.{Job}
 use Rattle.fr_cli.specs.declared.words.Job.TheVariants as job
 use Rattle.fr_cli.proofs.perform.perform.Goals as goal
+
+-- the supplier for whom a job lists the variants
+abbrev supplier_in : Option (Bor (List ℕ)) → Job → Option (Bor (List ℕ))
+supplier_in supplier (job.Variants db given) = given
+supplier_in supplier _ = supplier
+
+pub returns-in-Variants-clause-variants : goal.returns-in-Variants-clause-variants
+returns-in-Variants-clause-variants g c db supplier is =
+    let says = subst (λ given. PrintsRead IsNotReported (IsReadOfFile (image_at g.S.Start) c.list_file-done.result.1 (variants_for (named given))) AreLines c.list_file-done.result.0)
+    (ap (supplier_in supplier) (sym c.in-Variants.is ∙ is)) c.list_file-done.ensures in
+    (c.list_file-done.result.0, says, search rules)
 
 -- what a report's job asks
 abbrev query_in : Query → Job → Query

@@ -1,0 +1,56 @@
+-- What is printed of what was read of a register, and of one in a file.
+use Rattle.std.proofs.Common.{◌≡◌, List, ℕ, Ok, Err, Some, Result, refl, subst, sym}
+use Rattle.std.specs.Global.{Vec}
+use Rattle.fr_base.specs.Book.{Book}
+use Rattle.fr_base.specs.Cluster.{Cluster}
+use Rattle.fr_base.specs.declared.answer.Answer.TheVariants as answer
+use Rattle.fr_base.specs.declared.refusal.Refusal.{Refusal}
+use Rattle.fr_desks.specs.FileDesk.{FindsHeld, IsLeftWith}
+use Rattle.fr_http.specs.Asking.{Standing}
+use Rattle.sqlite.specs.Files.{IsCleanLeft}
+use Rattle.sqlite.specs.declared.file.Leftover.{Leftover}
+use Rattle.sqlite_disk.specs.declared.Disk.{Ghosts}
+use Rattle.sqlite_wal.specs.Recovery.{Image}
+use Rattle.fr_cli.specs.Asking.{IsRefusedBy}
+use Rattle.fr_cli.specs.Reading.{IsRead, PrintsRead, Reading}
+use Rattle.fr_cli.specs.RegisterFiles.{IsReadOfFile}
+use Rattle.fr_cli.specs.declared.failure.Failure.{Failure}
+use Rattle.fr_cli.specs.declared.failure.Failure.TheVariants as failure
+use Rattle.fr_cli.specs.declared.fault.Fault.{Fault}
+use Rattle.fr_cli.specs.declared.fault.Fault.TheVariants.{NoMemory}
+
+module _ {X : Type 0} where
+  -- the line of a refusal, or no memory for it
+  pub refused_reading : (Is : Result X Refusal → Type 0) (IsText : X → List ℕ → Type 0) (refusal : Refusal) (f : Failure) → Is (Err refusal)
+      → IsRefusedBy (answer.Refused refusal) f → PrintsRead (λ fault. fault ≡ NoMemory) Is IsText (Err f)
+  refused_reading Is IsText refusal (failure.Refused line) is by = (refusal, is, by)
+  refused_reading Is IsText refusal (failure.Fault fault) is by = by
+
+  -- what was printed is said of what follows of it
+  reading_says : (May : Fault → Type 0) (Is Was : Result X Refusal → Type 0) (IsText : X → List ℕ → Type 0) (done : Result (Vec ℕ) Failure) → ((r : Result X Refusal) → Was r → Is r)
+      → May NoMemory → PrintsRead (λ fault. fault ≡ NoMemory) Was IsText done → PrintsRead May Is IsText done
+  reading_says May Is Was IsText (Ok text) follows may p = (p.0, follows (Ok p.0) p.1, p.2)
+  reading_says May Is Was IsText (Err (failure.Refused line)) follows may p = (p.0, follows (Err p.0) p.1, p.2)
+  reading_says May Is Was IsText (Err (failure.Fault fault)) follows may p = subst May (sym p) may
+
+  module _ {D : Type 0} {g : Ghosts D} where
+    -- what was read of a register that stands for what a file held, and was closed, was read of the file
+    reads_file : (held : Image) (left : Leftover D g) (clean before : Type 0) (old new : Standing) (may : Reading X) (r : Result X Refusal)
+        → (IsCleanLeft left → clean) → (clean → before) → FindsHeld held before old → ((c : Cluster) (b : Book) → new c b → IsLeftWith left c b)
+        → IsRead clean old new may r → IsReadOfFile held (Some left) may r
+    reads_file held left clean before old new may r closes falls finds leaves is = (
+      left,
+      refl,
+      λ kept c b there sound.
+          let read = is (closes kept) c b (finds (falls (closes kept)) c b there) sound in
+          (leaves c b read.0, read.1),
+    )
+
+    -- so what is printed of it is said of the file
+    pub reading_of_file : (May : Fault → Type 0) (IsText : X → List ℕ → Type 0) (done : Result (Vec ℕ) Failure) (held : Image) (left : Leftover D g) (clean before : Type 0) (old new : Standing)
+        (may : Reading X) → (IsCleanLeft left → clean) → (clean → before) → FindsHeld held before old
+        → ((c : Cluster) (b : Book) → new c b → IsLeftWith left c b) → May NoMemory → PrintsRead (λ fault. fault ≡ NoMemory) (IsRead clean old new may) IsText done
+        → PrintsRead May (IsReadOfFile held (Some left) may) IsText done
+    reading_of_file May IsText done held left clean before old new may closes falls finds leaves lacks p =
+        reading_says May (IsReadOfFile held (Some left) may) (IsRead clean old new may) IsText done
+        (λ r is. reads_file held left clean before old new may r closes falls finds leaves is) lacks p

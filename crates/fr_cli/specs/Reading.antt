@@ -1,0 +1,28 @@
+-- Reading: what a job reads of the book for which the register stands, which stays. What is printed of it: a text of
+-- what was read, or the line of a refusal.
+use Rattle.std.specs.Prelude.{◌≡◌, ℕ, List, Result, Ok, Err}
+use Rattle.std.specs.Global.{Vec}
+use Rattle.fr_base.specs.Book.{Book}
+use Rattle.fr_base.specs.Cluster.{Cluster}
+use Rattle.fr_base.specs.declared.answer.Answer.TheVariants as answer
+use Rattle.fr_base.specs.declared.refusal.Refusal.{Refusal}
+use Rattle.fr_http.specs.Asking.{Standing}
+use Rattle.fr_http.specs.Connection.{InSound}
+use Rattle.fr_cli.specs.Asking.{line_of}
+use Rattle.fr_cli.specs.declared.failure.Failure.{Failure}
+use Rattle.fr_cli.specs.declared.failure.Failure.TheVariants as failure
+use Rattle.fr_cli.specs.declared.fault.Fault.{Fault}
+
+-- what may be read of a book, or why it is refused
+abbrev pub Reading : Type 0 → Type 1
+Reading X = Cluster → Book → Result X Refusal → Type 0
+
+-- In each sound book for which the register stood this may be read, and the register stands for the same book as before.
+abbrev pub IsRead : {X : Type 0} → Type 0 → Standing → Standing → Reading X → Result X Refusal → Type 0
+IsRead clean old new may read = clean → InSound old (λ c b. new c b × may c b read)
+
+-- What is printed is such a text of what was read; where that was refused, the refusal's line; or such a fault ended it.
+abbrev pub PrintsRead : {X : Type 0} → (Fault → Type 0) → (Result X Refusal → Type 0) → (X → List ℕ → Type 0) → Result (Vec ℕ) Failure → Type 0
+PrintsRead {X} May Is IsText (Ok text) = (x : X) × Is (Ok x) × IsText x text.items
+PrintsRead May Is IsText (Err (failure.Refused line)) = (refusal : Refusal) × Is (Err refusal) × (line.items ≡ line_of (answer.Refused refusal))
+PrintsRead May Is IsText (Err (failure.Fault fault)) = May fault
