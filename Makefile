@@ -3,6 +3,7 @@
 #               built program tried
 # make edits    asks the prover of every wrong body, also of those that the gate leaves out; CRATES='fr_base ..' names some.
 #               Run it when a contract has changed; no part of the gate
+# make tables   writes the tables of files in docs/MAP.md and docs/DEFINITIONS.md from the heads of the files; the gate compares them
 # make try      tries the built program alone, as the gate does: rows, examples, faults, limits, counts of cycles, register files and
 #               their migration, the server, the commands of docs/TUTORIAL.md, and docs/openapi.yaml
 # make hostile  stops the built program at each of its calls on files, gives it files cut and changed at many places, and
@@ -23,7 +24,7 @@ build_log := out/build.log
 try_log := out/try.log
 sources := -name out -prune -o \( -name '*.rt' -o -name '*.antt' -o -name crates.txt \)
 
-.PHONY: run try-run test edits try hostile refuse store install bench build toolchain
+.PHONY: run try-run test edits tables try hostile refuse store install bench build toolchain
 
 # The proved program is there where no source is newer. `rt try` compiles without proof, and keeps no program; the answers come when
 # the script has ended.
@@ -43,6 +44,9 @@ test: toolchain
 
 edits: toolchain
 	@python3 tests/edits.py $(CRATES)
+
+tables:
+	@python3 tests/tables.py --write
 
 try: build
 	@python3 tests/program.py $(program)

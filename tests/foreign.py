@@ -69,6 +69,9 @@ def without_register(program, room):
         copied(room / "none", files)
         (files / "car.db").write_bytes(data)
         said_of(name, program, files, "NotARegister")
+        if data:
+            see(f"create over {name}", fault("Unavailable"), performed(program, CREATE, files))
+            see(f"{name} stays under it", data, (files / "car.db").read_bytes())
     copied(room / "none", files)
     with closing(sqlite3.connect(files / "car.db")) as file:
         file.execute("CREATE TABLE t (x)")

@@ -1,6 +1,7 @@
 #!/usr/bin/env python3
-"""The gate: `rt ci`, whether the pages name each file, how another SQLite finds the rows of each statement, and then the program
-that was built, tried as each compiler made it, also where its files, connections and memory fail. The last line counts all."""
+"""The gate: `rt ci`, whether the pages' tables are made of the heads of the files, how another SQLite finds the rows of each
+statement, and then the program that was built, tried as each compiler made it, also where its files, connections and memory fail. The
+last line counts all."""
 import os
 import re
 import resource

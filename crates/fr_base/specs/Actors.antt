@@ -1,4 +1,4 @@
--- Who asks with which key, as the book stands.
+-- Actor: whose a key is, as the book stands, the integrator's, else a supplier's, else nobody's.
 use Rattle.std.specs.Prelude.{ℕ, List, find, Option, Some, if◌then◌else◌}
 use Rattle.std.specs.Option.{option_map}
 use Rattle.fr_base.specs.Names.{same_text}

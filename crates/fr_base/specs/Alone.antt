@@ -1,4 +1,7 @@
--- What is one supplier's: its rows of a book, its part of a list of requests, and the register that holds it alone.
+-- One supplier's: a supplier's rows of a book. Which requests are its own, or concern it, and what of a list of
+-- requests is the supplier's. The register that holds it alone: that is the same step, on a book with its rows and the
+-- variants alone, and it begins with the cluster file's entry of this supplier, if there is one. What may differ beside
+-- other suppliers.
 use Rattle.std.specs.Prelude.{ℕ, Bool, true, false, not, ◌&&◌, nat_le, List, [], ◌∷◌, filter, Option, Some, None, if◌then◌else◌}
 use Rattle.std.specs.List.{list_any}
 use Rattle.std.specs.Option.{option_and_then}

@@ -1,4 +1,7 @@
--- The payload bits of signals, and what values make of a payload.
+-- Bits, image: payload bit `p` is bit `p mod 8` of byte `p div 8`. In little order a value's least significant bit lies
+-- at the start and each next one a bit above. In big order the most significant bit lies at the start and each next one
+-- a bit below, and after a byte's lowest bit at the highest of the next byte. The image of values has their bits there,
+-- and 0 where no signal lies.
 use Rattle.std.specs.Prelude.{ℕ, ◌+◌, ◌-◌, ◌*◌, ◌/◌, ◌%◌, ◌==◌, zero, suc, Bool, List, [], ◌∷◌, map, reverse, Option, Some, None, if◌then◌else◌, nat_lt, slice_index}
 use Rattle.std.specs.List.{range_with_len, list_any}
 use Rattle.std.specs.Option.{option_map, option_map_or}

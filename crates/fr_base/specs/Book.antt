@@ -1,4 +1,7 @@
--- The register's rows, over all suppliers.
+-- Book: the suppliers, their nodes, the variants, and the imports that are kept under each supplier's labels; in a
+-- variant who holds which slot and channel, and each supplier's frames with their placements and signals. A register
+-- begins with the cluster file's suppliers and nothing else. The cluster file that says what a cluster and a book have
+-- now. What of a book is one supplier's own, and who sends in which cell.
 use Rattle.std.specs.Prelude.{ℕ, Bool, false, ◌&&◌, List, map, Option, Some, None, ⊤}
 use Rattle.std.specs.List.{flat_map, list_all}
 use Rattle.fr_base.specs.Tables.{Table, empty, get, only, from_rows}

@@ -1,4 +1,5 @@
--- Cells: a cycle, a slot and a channel; and the cells of a placement and of a cluster.
+-- Cell: a cycle, a static slot and a channel. A placement has the cells of its slot, its channels and its cycles; a
+-- cluster has those of its cycles, slots and channels. They come in order: by cycle, then slot, then A before B.
 use Rattle.std.specs.Prelude.{ℕ, Bool, List, [], ◌∷◌, map}
 use Rattle.std.specs.declared.cmp.Ordering.{Ordering}
 use Rattle.std.specs.Ordering.{nat_cmp, is_eq, on, then_cmp}

@@ -1,4 +1,4 @@
--- The two channels, their texts, and which of them a cluster has or a frame is sent on.
+-- Channels: a cluster has A, B or both, and so has a placement. How they are written.
 use Rattle.std.specs.Prelude.{ℕ, Bool, true, false, List, [], ◌∷◌, codes, Option, Some, None, if◌then◌else◌}
 use Rattle.fr_base.specs.Names.{same_text}
 use Rattle.fr_base.specs.declared.channel.Channel.{Channel}

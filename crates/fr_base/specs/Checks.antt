@@ -1,4 +1,5 @@
--- What a request says by itself: its texts and numbers checked, or the first refusal that needs no register.
+-- Check: what a request says by itself is checked: whose it is to give, its names, key, cycles, slot, channels, and its
+-- signal's length and order. They are asked in the order of refusals.
 use Rattle.std.specs.Prelude.{ℕ, Bool, true, false, not, ◌&&◌, List, nat_le, Option, Some, None, Result, Ok, Err, if◌then◌else◌}
 use Rattle.std.specs.List.{list_all}
 use Rattle.fr_base.specs.Refusing.{◌>>=◌, ◌>>◌, ◌or◌, refuse◌when◌}

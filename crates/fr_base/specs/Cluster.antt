@@ -1,4 +1,7 @@
--- What a cluster file says.
+-- Cluster, cluster file: a cluster is the parameters and the integrator's key, which never change in a register. A
+-- cluster file is these and suppliers with their keys. It is well formed where its parameters have no fault, each name
+-- and key has its form, and there are at most 64 suppliers, in byte order of their names, no name and no key twice, the
+-- integrator's key included. Every `Config` of the code is.
 use Rattle.std.specs.Prelude.{◌≡◌, ℕ, Bool, true, not, ◌&&◌, List, [], ◌∷◌, map, length, nat_le, Ok, IsTrue}
 use Rattle.std.specs.List.{list_all, list_any}
 use Rattle.std.specs.Ordering.{nat_cmp, is_lt}

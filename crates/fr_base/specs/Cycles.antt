@@ -1,4 +1,7 @@
--- Cycle filtering: the cycles that a base and a repetition select.
+-- Cycles: a count of cycles is even and from 8 to 64; the cycle counter goes from 0 to the number before it. A
+-- repetition divides the count, and a base is below the repetition. The three together (`Cycles`) select the cycles
+-- whose remainder by the repetition is the base, and none from the count on. The first cycle that two such sets have in
+-- common.
 use Rattle.std.specs.Prelude.{ℕ, ◌%◌, ◌==◌, Bool, ◌&&◌, List, filter, find, nat_le, nat_lt, nat_eq, Option}
 use Rattle.std.specs.Int.{bit_at}
 use Rattle.std.specs.List.{list_any, range_with_len}

@@ -1,4 +1,4 @@
--- A text in an array of a fixed length.
+-- How names and keys lie in memory: a text at the front of an array of a fixed length, and zeros behind it.
 use Rattle.std.specs.Prelude.{◌≡◌, ℕ, ◌≤◌, ◌-◌, List, ◌++◌, length, take, replicate, IsUtf8}
 
 -- the first `len` of the `n` bytes are a text, and the others are zero

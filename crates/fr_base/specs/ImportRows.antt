@@ -1,4 +1,5 @@
--- What the bytes of an import's file say: its rows, up to the first that is refused by its own text.
+-- Import's file: what its bytes say. One byte order mark is taken off, and the first record says which rows follow.
+-- Each record is a row or its own refusal, up to the first refused one. There are at most 512 rows.
 use Rattle.std.specs.Prelude.{ℕ, suc, ◌+◌, ◌^◌, ◌==◌, Bool, not, ◌&&◌, List, [], ◌∷◌, length, codes, nat_le, nat_lt, if◌then◌else◌, Option, Some, None, is_err, Result, Ok, Err}
 use Rattle.std.specs.Cmp.Lexicographic.{pointwise}
 use Rattle.std.specs.List.{list_all}

@@ -1,4 +1,5 @@
--- How a supplier joins a cluster file's list, and what refuses it.
+-- Joining: how a supplier joins a cluster file's list. What refuses it, in order: its name is there, its key is
+-- another's or the integrator's, 64 suppliers are there.
 use Rattle.std.specs.Prelude.{ℕ, Bool, List, [], ◌∷◌, length, nat_le, Result, ⊤, if◌then◌else◌}
 use Rattle.std.specs.List.{list_any}
 use Rattle.std.specs.Ordering.{nat_cmp, is_lt}

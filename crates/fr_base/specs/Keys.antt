@@ -1,4 +1,5 @@
--- The orders of keys: of names, of a supplier's own names, of slots and channels, of placements.
+-- Orders of keys: names in byte order; a supplier, then a name of its own; a slot, then A before B; placements by slot,
+-- channels, base, repetition, and the count of cycles, which all of a cluster have alike.
 use Rattle.std.specs.Prelude.{◌≡◌, ℕ}
 use Rattle.std.specs.Ordering.{nat_cmp}
 use Rattle.std.specs.Cmp.{nat_cmp_total}

@@ -1,4 +1,11 @@
--- Laws of the register. Each says of which books it is: any, or sound ones. `IsWellFormed f` is what reading a cluster file gives.
+-- Laws: a new register is sound. Each request, done or refused, leaves a sound book sound, and so does each run. In a
+-- sound book at most one frame is sent in a cell of a variant, by one placement alone, and its supplier and node hold
+-- the grant of the cell's slot and channel. Who is known stays known. A released variant stays, and so do the answers
+-- to queries of it. A refusal changes nothing. An import that was carried out has the same answer ever after and
+-- changes nothing again; its label stays used. What is a supplier's is answered as in a register of its own, and does
+-- the same to its rows. Two sound registers under one cluster that are alike for a supplier stay alike for it.
+-- Suppliers depend on each other alone by a Grant that another's grant makes `Taken`, and by a supplier that is to join
+-- with another's key or beside 64. Each law says of which books it is: any, or sound ones.
 use Rattle.std.specs.Prelude.{◌≡◌, ℕ, ◌&&◌, List, take, drop, Some, Ok, IsTrue, IsFalse}
 use Rattle.fr_base.specs.Tables.{get}
 use Rattle.fr_base.specs.Cells.{Cell, cells_of}

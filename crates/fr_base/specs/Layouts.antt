@@ -1,4 +1,6 @@
--- The signals of a frame's payload: which may stand together, and what is refused.
+-- Layout: signals that stand together, at most 64, in a payload of at most 127 words, no bit and no name twice, by
+-- their starts. What refuses a signal, in order, with the least bit that is taken and whose it is; the signals with it,
+-- or without one.
 use Rattle.std.specs.Prelude.{◌≢◌, ℕ, ◌*◌, ◌<◌, ◌≤◌, Bool, not, ◌&&◌, List, [], ◌∷◌, length, filter, find, Option, Some, None, is_some, Result, Ok, Err, ⊤, nat_lt, nat_le, if◌then◌else◌, IsTrue, All, AllPairs}
 use Rattle.std.specs.List.{list_any, list_all, range_with_len}
 use Rattle.std.specs.Option.{option_map, option_and_then}

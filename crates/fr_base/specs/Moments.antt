@@ -1,4 +1,6 @@
--- The moments at which a frame is sent, on the ring of all cycles, and its greatest gap.
+-- Moments, gap: the moment of a cell is the macrotick at which its slot starts, on the ring of all the cluster's
+-- cycles. A frame's greatest gap is the longest way from one of its moments to the next. A frame that is nowhere placed
+-- has none.
 use Rattle.std.specs.Prelude.{ℕ, ◌+◌, ◌-◌, ◌*◌, List, [], ◌∷◌, map, Option, Some, None, if◌then◌else◌, nat_lt, min, max}
 use Rattle.std.specs.List.{flat_map, filter_map}
 use Rattle.fr_base.specs.Cells.{Cell, cells_of}

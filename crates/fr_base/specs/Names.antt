@@ -1,4 +1,5 @@
--- What a name is, what a key is, and when two texts are the same.
+-- Name, key, same text: a name is 1 to 32 ASCII letters, digits and underscores, a letter first. A key is 8 to 64 ASCII
+-- letters and digits. Two texts are the same where each byte is.
 use Rattle.std.specs.Prelude.{ℕ, Bool, false, ◌&&◌, ◌||◌, ◌==◌, List, [], ◌∷◌, length, nat_le}
 use Rattle.std.specs.List.{list_all}
 use Rattle.std.specs.Str.{bytes_eq}

@@ -1,4 +1,4 @@
--- Numbers of the static segment.
+-- Slot: a static slot has a number from 1 to 1023.
 use Rattle.std.specs.Prelude.{ℕ, Bool, ◌&&◌, nat_le}
 
 -- static slots are numbered from 1, and there are at most 1023

@@ -1,4 +1,4 @@
--- Orders of keys made of others, and that only equal keys tie in them.
+-- How orders of keys are made of others, and that only equal keys tie in them.
 use Rattle.std.specs.Prelude.{◌≡◌, ℕ, refl}
 use Rattle.std.specs.declared.cmp.Ordering.{Ordering}
 use Rattle.std.specs.declared.cmp.Ordering.TheVariants.{Less, Equal, Greater}

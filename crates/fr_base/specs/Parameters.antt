@@ -1,4 +1,5 @@
--- Which parameters make a cluster, and why others do not.
+-- Parameters: the segments' macroticks are together the cycle's. The bounds of slots, payload, macroticks and the count
+-- of cycles. Which fault comes first, and each fault's word.
 use Rattle.std.specs.Prelude.{ℕ, ◌+◌, ◌*◌, ◌==◌, ◌||◌, not, nat_lt, List, codes, Result, Ok}
 use Rattle.fr_base.specs.Cycles.{is_cycle_count}
 use Rattle.fr_base.specs.Refusing.{◌>>◌, refuse◌when◌}

@@ -1,4 +1,5 @@
--- What a query shows of a variant.
+-- Query: an actor sees of a variant its own rows, and the integrator those of all suppliers. They are grants, frames,
+-- schedule, gaps and layouts, each in its order.
 use Rattle.std.specs.Prelude.{ℕ, ◌==◌, List, map, Result, Ok}
 use Rattle.std.specs.List.{flat_map}
 use Rattle.fr_base.specs.Refusing.{◌>>=◌, ◌>>◌, ◌or◌, refuse◌when◌}

@@ -1,4 +1,4 @@
--- What a client is told of a refusal.
+-- Refusals: each refusal's number, name and HTTP status.
 use Rattle.std.specs.Prelude.{ℕ, List, codes}
 use Rattle.fr_base.specs.declared.refusal.Refusal.{Refusal}
 use Rattle.fr_base.specs.declared.refusal.Refusal.TheVariants.{BadText, UnknownKey, NotYours, BadName, BadCycles, BadSlot, BadChannel, BadSignal, LabelUsed, NoVariant, Released, NotReleased, TooDeep, NoSupplier, NoNode, NoFrame, NoSignal, NoPlacement, Exists, NodeDiffers, NotGranted, InUse, Limit, Taken, CellTaken, OutOfPayload, BitTaken, Unavailable, BadKey, KeyTaken}

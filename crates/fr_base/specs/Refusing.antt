@@ -1,4 +1,4 @@
--- The words of a list of refusals: its lines are asked in order, and the first that applies is the answer.
+-- Refuse .. when, or: the lines of a definition are refusals, asked from the top. The first that applies is the answer.
 use Rattle.std.specs.Prelude.{Bool, true, false, Option, Some, None, Result, Ok, Err, ⊤}
 
 infixl 10 ◌>>=◌

@@ -1,4 +1,5 @@
--- Runs: a list of requests, one after another.
+-- Run: a list of requests, each in turn a step; or answered `Unavailable`, with nothing changed, where its sender is
+-- known and the request itself gives no cause for a refusal.
 use Rattle.std.specs.Prelude.{◌≡◌, ◌⊎◌, List, [], ◌∷◌, IsTrue, IsOk}
 use Rattle.fr_base.specs.Checks.{check}
 use Rattle.fr_base.specs.Book.{Book}

@@ -1,4 +1,5 @@
--- Who sends in which cell: the schedule by filling, and the first taken cell.
+-- Schedule: frames fill cells in turn, and in a cell is the first that has it. The first taken cell of a placement is
+-- the first of its cells, by cycle, slot and channel, that is filled.
 use Rattle.std.specs.Prelude.{List, [], ◌∷◌, Option, Some, None, option_map, if◌then◌else◌}
 use Rattle.std.specs.List.{filter_map}
 use Rattle.fr_base.specs.Cells.{Cell, has_cell}

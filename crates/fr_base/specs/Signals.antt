@@ -1,4 +1,5 @@
--- Signals: named runs of payload bits.
+-- Signal: a named run of 1 to 64 payload bits that holds one unsigned number, in little or big order. How an order is
+-- written.
 use Rattle.std.specs.Prelude.{ℕ, Bool, ◌&&◌, List, codes, nat_le, Option, Some, None, if◌then◌else◌}
 use Rattle.fr_base.specs.Names.{same_text}
 use Rattle.fr_base.specs.declared.signal.Order.{Order}

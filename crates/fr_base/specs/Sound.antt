@@ -1,4 +1,9 @@
--- Sound books: all that a row names is there, grants and placements fit the cluster and each other, and the limits are kept.
+-- Sound: the cluster with the book's suppliers is a well formed cluster file. Names have their form, and each row's
+-- owner is there. Each variant was opened empty, or from a released one that is one less deep. Grants and placements
+-- fit the cluster, whose count of cycles each placement's set has. Each placement lies in grants to its frame's node.
+-- In a cell at most one frame is sent, by one placement. Each frame's signals have names and make a layout of the
+-- payload. A kept import's label is a name, its supplier and variant are there, and its file is within the limits. The
+-- limits are kept.
 use Rattle.std.specs.Prelude.{◌≡◌, ℕ, suc, ◌≤◌, length, Option, Some, None, IsTrue, All, ⊤}
 use Rattle.std.specs.List.{list_all}
 use Rattle.fr_base.specs.Tables.{Table, get, contains, len}

@@ -1,4 +1,10 @@
--- What a request does: the book after it, and the answer.
+-- Step: what each request does. First come its refusals by the book in order, one a line, and then the book after it
+-- and the answer. What refuses a change of a supplier's rows sees those rows alone, and of all rows only which slots
+-- and channels are held and who sends in which cell. What the change makes of grants and frames is said once, for all
+-- rows and for the supplier's own. An import's rows are such changes in turn: a row of placements is its frame, added
+-- where it is not there, and then its placement; a row of signals adds the signal. All are carried out and the import
+-- is kept, or the first refused row is told and nothing is changed. An import whose label is kept has its answer again,
+-- or is `LabelUsed`. A refusal leaves the book as it was.
 use Rattle.std.specs.Prelude.{ℕ, suc, ◌==◌, Bool, true, false, not, ◌&&◌, List, [], ◌∷◌, length, nat_le, nat_lt, Option, Some, None, is_some, Result, Ok, Err, ⊤}
 use Rattle.std.specs.List.{list_any}
 use Rattle.std.specs.Option.{option_and_then}

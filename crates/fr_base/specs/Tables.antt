@@ -1,4 +1,5 @@
--- Tables: finite lists of rows in the order of their keys, no two rows with one key.
+-- Table: rows in the order of their keys, no two rows with one key. What stands at a key, a row put in, a row taken
+-- out, the rows that pass a test.
 use Rattle.std.specs.Prelude.{ℕ, Bool, not, T, List, [], ◌∷◌, map, length, filter, Option, is_some}
 use Rattle.std.specs.declared.cmp.Ordering.{Ordering}
 use Rattle.std.specs.Ordering.{eq_by_cmp}

@@ -1,4 +1,4 @@
-//! An import's file, as it was sent.
+//! The bytes of an import's file, as they were sent.
 ghost use Rattle.std.specs.Prelude.{nat_eq};
 ghost use Rattle.std.specs.Cmp.Lexicographic.{pointwise, nat_list_eq_equiv};
 ghost use Rattle.std.specs.Cmp.{partial_equiv_from_equiv};

@@ -1,4 +1,4 @@
-//! The two channels of a cluster.
+//! The two channels, those that a cluster has or a frame is sent on, and how they are written.
 ghost use Rattle.std.specs.Prelude.{◌≡◌};
 ghost use Rattle.fr_base.specs.Channels.{channel_of_text, channels_in, channels_of_text, text_of_channel, text_of_channels, has_channel};
 

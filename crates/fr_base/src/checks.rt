@@ -1,4 +1,4 @@
-//! What a request says by itself: checked values, or the first refusal that needs no register.
+//! A request checked by itself, before any register is asked: checked values, or the first refusal.
 ghost use Rattle.std.specs.Prelude.{◌≡◌, ℕ, List, not};
 ghost use Rattle.std.specs.List.{list_all};
 ghost use Rattle.fr_base.specs.Channels.{channels_in, has_channel};

@@ -1,4 +1,4 @@
-//! What a cluster file says.
+//! What a cluster file says, and the same with one supplier more.
 ghost use Rattle.std.specs.Prelude.{◌≡◌, ◌==◌, [], ◌∷◌, ◌++◌, length, OnOk, OnErr};
 ghost use Rattle.std.specs.Prelude.{◌⊎◌, Ok, Err, IfOk, IfErr, position, IsTrue};
 ghost use Rattle.std.specs.List.{list_any};

@@ -1,4 +1,4 @@
-//! The cycles that a base and a repetition select.
+//! The cycles that a base and a repetition select, out of the count of cycles.
 ghost use Rattle.std.specs.Prelude.{◌≡◌, ◌≤◌, ◌^◌, ◌-◌, IsTrue, Ok, Err, if◌then◌else◌};
 
 use std::marker::Model;

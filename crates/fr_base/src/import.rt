@@ -1,4 +1,4 @@
-//! The rows of an import's file.
+//! The headers and rows of an import's file, checked by themselves.
 ghost use Rattle.std.specs.Prelude.{◌≡◌, option_map};
 ghost use Rattle.std.specs.Result.{result_ok};
 ghost use Rattle.fr_base.specs.Checks.{placement, signal};

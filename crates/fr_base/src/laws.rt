@@ -1,4 +1,6 @@
-//! Laws of the register: functions with nothing to do, whose contracts say what holds of any register.
+//! Laws of the register: functions with nothing to do, whose contracts say what holds of any register. A new register
+//! is sound and stays so, one frame is sent in a cell, a release freezes, an import acts once, and each supplier is
+//! answered as if alone.
 ghost use Rattle.fr_base.specs.Laws.{BadVariantIsBadName, EqualViews, FirstTakenIsOwn, HolderSends, ImportActsOnce, ImportIsKept, KnownStaysKnown, LabelStaysUsed, OneDependence, OneFrameInACell, OpeningIsAlone, OpeningIsSound, OtherStepLeavesRows, OwnStepIsAlone, RefusedChangesNothing, ReleaseFreezes, ReleasedAnswersStay, RunIsAlone, RunIsSoundThroughout, RunKeepsSound, ScheduleIsOwn, StepKeepsSound, StepsAreARun};
 
 /// The book of a new register is sound.

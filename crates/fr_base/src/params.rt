@@ -1,4 +1,4 @@
-//! The parameters of a cluster's static segment.
+//! The parameters of a cluster, unchecked and checked, and why some make no cluster.
 ghost use Rattle.std.specs.Prelude.{◌≡◌, ◌≤◌, IsTrue, Ok};
 ghost use Rattle.fr_base.specs.Cycles.{is_cycle_count};
 ghost use Rattle.fr_base.specs.Parameters.{check_params, segments, word_of};

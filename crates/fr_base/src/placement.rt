@@ -1,4 +1,4 @@
-//! Where a frame is sent.
+//! Where a frame is sent: a slot, channels and cycles.
 use crate::channel::Channels;
 use crate::cycles::CycleSet;
 use crate::slot::Slot;

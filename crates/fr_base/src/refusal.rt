@@ -1,4 +1,4 @@
-//! Why a request is refused.
+//! Why a request is refused: each refusal, with its number, name and HTTP status.
 use crate::NoMemory;
 use crate::channel::Channel;
 use crate::name::Name;

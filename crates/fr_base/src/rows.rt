@@ -1,4 +1,4 @@
-//! Lists of rows.
+//! Lists of rows, as an answer has them.
 use crate::NoMemory;
 use std::alloc::Global;
 use std::marker::Model;

@@ -1,4 +1,4 @@
-//! Signals of a frame's payload.
+//! Signals of a frame's payload, and the orders of their bits.
 ghost use Rattle.std.specs.Prelude.{◌≡◌, ◌≤◌, Ok, Err, if◌then◌else◌};
 ghost use Rattle.fr_base.specs.Signals.{is_signal_length, SignalData};
 

@@ -1,4 +1,5 @@
--- What is said of a cluster file.
+-- Finding: a cluster file's bytes are found to be one; or they are found to be none, and the text begins with the word
+-- of their fault.
 use Rattle.std.specs.Prelude.{◌≡◌, ℕ, List, ◌++◌, codes, Ok, Err}
 use Rattle.fr_base.specs.Cluster.{ClusterFile}
 use Rattle.fr_text.specs.ClusterFile.{config_fault_word, config_of}

@@ -1,4 +1,4 @@
--- What is said of a word that is asked for.
+-- Explaining: when a text explains a word, when it lists all words, and when those that begin alike.
 use Rattle.std.specs.Prelude.{◌≡◌, ℕ, true, false, List, filter, Option, Some, None}
 use Rattle.std.specs.Global.{Vec}
 use Rattle.fr_guide.specs.declared.topic.Topic.{Topic}

@@ -1,4 +1,4 @@
--- Which words are explained.
+-- Laws: each refusal's name is explained, and each fault's word of a cluster file.
 use Rattle.std.specs.Prelude.{◌≡◌, true, codes}
 use Rattle.fr_base.specs.Refusals.{name_of}
 use Rattle.fr_base.specs.declared.refusal.Refusal.{Refusal}

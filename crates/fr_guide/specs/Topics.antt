@@ -1,4 +1,5 @@
--- The words that are explained, and what is said of them.
+-- Explained: the list of the words that are explained; which words begin alike; the line of a topic, its page, and the
+-- lines of several.
 use Rattle.std.specs.Prelude.{ℕ, Bool, List, [], ◌∷◌, ◌++◌, map, min, take, length, codes}
 use Rattle.std.specs.List.{flat_map, list_any}
 use Rattle.std.specs.Str.{bytes_eq, str_eq_ignore_ascii_case}

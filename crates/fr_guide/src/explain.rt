@@ -1,4 +1,4 @@
-//! What is said of a word.
+//! What is said of a word, or of all, or of those that begin alike.
 ghost use Rattle.std.specs.Prelude.{◌≡◌, ◌++◌, IfOk, OnOk, option_copied};
 ghost use Rattle.std.specs.List.{find};
 ghost use Rattle.std.specs.Str.{bytes_eq};

@@ -1,4 +1,4 @@
-//! What is said of a cluster file.
+//! What is said of a cluster file: its figures, or its fault and where.
 ghost use Rattle.std.specs.Prelude.{◌≡◌, ◌++◌, IfOk, List, ℕ, codes};
 ghost use Rattle.fr_guide.specs.Examining.{IsFinding};
 ghost use Rattle.fr_text.specs.ClusterFile.{config_fault_word};

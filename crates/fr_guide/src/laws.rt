@@ -1,4 +1,4 @@
-//! Laws of the words that are explained.
+//! Laws of the words that are explained: each refusal's name is explained, and each fault's word of a cluster file.
 ghost use Rattle.fr_guide.specs.Laws.{EachConfigFaultIsExplained, EachRefusalIsExplained};
 
 /// The name of each refusal is explained, also that of an import's refused row.

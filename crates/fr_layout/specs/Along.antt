@@ -1,4 +1,4 @@
--- A count of the payload bits in which the bits of a signal rise by one.
+-- How the code counts a signal's bits: the payload's bits in an order in which those of a signal rise by one.
 use Rattle.std.specs.Prelude.{ℕ, ◌+◌, ◌-◌, ◌*◌, ◌/◌, ◌%◌}
 use Rattle.fr_base.specs.declared.signal.Order.{Order}
 use Rattle.fr_base.specs.declared.signal.Order.TheVariants.{Little, Big}

@@ -1,4 +1,4 @@
--- Laws of the definitions.
+-- Law: what was packed is unpacked to the same values.
 use Rattle.std.specs.Prelude.{◌≡◌, ℕ, List, Ok}
 use Rattle.fr_base.specs.Layouts.{LayoutData, IsLayout}
 use Rattle.fr_layout.specs.Packing.{packed, unpacked}

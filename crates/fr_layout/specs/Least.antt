@@ -1,4 +1,4 @@
--- The least number that has a property.
+-- When a number is the least that has a property. So the code names the first bit of a signal that is used.
 use Rattle.std.specs.Prelude.{ℕ, ◌≤◌, Option, IfNone, IfSome}
 
 -- it is the least number of which P holds, or none where P holds of none

@@ -1,4 +1,5 @@
--- The values of a layout's signals packed into a payload, and unpacked from it.
+-- Packing: when values fit a layout's signals, and which bytes they make. Which values bytes hold, and when bytes have
+-- not the payload's length. Which fault comes first.
 use Rattle.std.specs.Prelude.{◌≡◌, ℕ, ◌*◌, ◌^◌, ◌==◌, not, List, length, map, position, Option, Some, None, Result, Ok, Err, ⊤, nat_le}
 use Rattle.std.specs.List.{zip}
 use Rattle.fr_base.specs.Refusing.{◌>>◌, refuse◌when◌}

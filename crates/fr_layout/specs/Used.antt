@@ -1,4 +1,4 @@
--- Payload bits that signals use.
+-- Which payload bits two signals share, and which bits of a signal are used by others.
 use Rattle.std.specs.Prelude.{ℕ, List, IsTrue}
 use Rattle.std.specs.List.{list_any}
 use Rattle.fr_base.specs.Bits.{uses}

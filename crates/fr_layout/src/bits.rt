@@ -1,4 +1,4 @@
-//! Where the bits of a signal lie in a payload.
+//! Where the bits of a signal lie in a payload, and which bits two signals share.
 ghost use Rattle.std.specs.List.{find, range_with_len};
 ghost use Rattle.std.specs.Prelude.{◌≡◌, ◌&&◌, ◌-◌, ◌<◌, ◌≤◌, ◌*◌, ◌^◌, ℕ, IsTrue, slice_index};
 ghost use Rattle.fr_base.specs.Bits.{bits_of, uses};

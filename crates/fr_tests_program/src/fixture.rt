@@ -1,4 +1,4 @@
-//! Values for tests.
+//! Values for these tests: a cluster, and requests that plan in it.
 
 use fr_base::{Answer, Ask, Desk};
 use fr_text::read_command;

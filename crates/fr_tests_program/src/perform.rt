@@ -1,5 +1,5 @@
-//! What the check would let pass: a job that ends in a fault, or never sees what the jobs before it did, though
-//! nothing fails.
+//! The jobs on files. The check would let pass a job that ends in a fault, or never sees what the jobs before it did,
+//! though nothing fails.
 use crate::fixture::{CLUSTER, PLAN, carried_out};
 use fr_cli::perform::perform;
 use fr_cli::{Job, Query, Report};

@@ -1,4 +1,4 @@
-//! What the check would let pass: a server from which no client reads a reply.
+//! A connection over a socket. The check would let pass a server from which no client reads a reply.
 use crate::fixture::{CLUSTER, PLAN, carried_out};
 use fr_cli::serve_stream;
 use fr_desks::MemoryDesk;

@@ -1,4 +1,5 @@
--- What edits make of the register's rows.
+-- Edit of the book: what edits make of all rows of the register, by the step's own words. One keeps an import under its
+-- label. The list of variants. Which edits spare the grants of other suppliers.
 use Rattle.std.specs.Prelude.{◌≡◌, true, false, List, [], ◌∷◌, map, Option, Some, None, ⊤}
 use Rattle.fr_base.specs.Alone.{is_another}
 use Rattle.fr_base.specs.Tables.{get, insert}

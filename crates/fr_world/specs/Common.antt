@@ -1,4 +1,4 @@
--- What OpenVariant and Release are decided to, by the list of variants.
+-- Common: which edit opens or releases a variant, by the list of variants; or what refuses it.
 use Rattle.std.specs.Prelude.{ℕ, suc, not, List, length, find, nat_le, Option, Some, None, is_some, Result, Ok}
 use Rattle.fr_base.specs.Refusing.{◌>>=◌, ◌>>◌, ◌or◌, refuse◌when◌}
 use Rattle.fr_base.specs.Names.{same_text}

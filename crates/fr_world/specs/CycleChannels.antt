@@ -1,4 +1,4 @@
--- A cell's cycle and channel, and which of two filled cells is the earlier one.
+-- How the code compares filled cells of one slot: by their cycles and channels, the earlier one first.
 use Rattle.std.specs.Prelude.{Option, Some, None}
 use Rattle.std.specs.declared.cmp.Ordering.{Ordering}
 use Rattle.std.specs.Ordering.{min_by_ordering}

@@ -1,4 +1,5 @@
--- What a change of a supplier's rows is decided to, on the supplier's page.
+-- Decision: what refuses a change of a page's rows, by the step's own words where the page's rows are all that there
+-- are; and the edit that an accepted change is.
 use Rattle.std.specs.Prelude.{not, List, [], ◌∷◌, map, nat_le, Result, Ok, IsTrue, ⊤}
 use Rattle.fr_base.specs.Refusing.{◌>>=◌, ◌>>◌, ◌or◌, refuse◌when◌}
 use Rattle.fr_base.specs.Tables.{get, len}

@@ -1,4 +1,4 @@
--- What a draft of the code stands for.
+-- What a page stands for while an import's rows change it.
 use Rattle.fr_world.specs.Pages.{own_rows_of}
 use Rattle.fr_world.specs.RowDecisions.{DraftData}
 use Rattle.fr_world.specs.declared.decision.draft.Draft.{Draft}

@@ -1,4 +1,5 @@
--- What an edit makes of a page, and which edits a page takes.
+-- Edit: what an edit makes of a page, by the step's own words. Which edits a page takes, which fit its rows, and where
+-- edits lead it one after the other.
 use Rattle.std.specs.Prelude.{◌≡◌, Bool, true, false, List, [], ◌∷◌, Option, Some, None, is_some, IsTrue, IsFalse, ⊤}
 use Rattle.fr_base.specs.Tables.{Table, get, contains, insert}
 use Rattle.fr_base.specs.Keys.{owned}

@@ -1,4 +1,4 @@
--- Which placement of a list is the first that has a cell, noted by slot, cycle and channel.
+-- First places: which of a list of placements is the first that has a cell, noted by slot, cycle and channel.
 use Rattle.std.specs.Prelude.{◌≡◌, ◌&&◌, ℕ, List, [], Option, Some, None, if◌then◌else◌, slice_index_or}
 use Rattle.std.specs.List.{position}
 use Rattle.std.specs.Option.{option_or}

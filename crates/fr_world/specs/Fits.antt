@@ -1,4 +1,6 @@
--- Which edits fit the register's rows: what they add is new, and what they name or take out is there.
+-- Fits: when an edit fits the register's rows under a cluster's parameters. What it adds is new, a placement among it
+-- has the cluster's count of cycles, what it names or takes out is there, and a variant that changes is open. Each of a
+-- list fits the book that those before it left.
 use Rattle.std.specs.Prelude.{◌≡◌, ◌≤◌, List, [], ◌∷◌, Some, None, IsTrue, IsFalse, ⊤}
 use Rattle.fr_base.specs.Tables.{Table, get, contains}
 use Rattle.fr_base.specs.Keys.{owned}

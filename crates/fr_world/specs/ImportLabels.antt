@@ -1,4 +1,5 @@
--- What an import's label decides.
+-- Label: by its label an import is new; or it is the one that is kept, and has its answer again; or another is kept,
+-- and it is `LabelUsed`.
 use Rattle.std.specs.Prelude.{ℕ, ◌&&◌, not, Option, Some, None, Result, Ok}
 use Rattle.fr_base.specs.Refusing.{◌>>◌, refuse◌when◌}
 use Rattle.fr_base.specs.Names.{same_text}

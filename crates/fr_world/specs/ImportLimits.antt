@@ -1,4 +1,5 @@
--- What is decided of an import whose label is new, before its rows and by them.
+-- Room: whether there is room for a new import. What comes of it: its variant is there and open, there is room, and
+-- then its rows are decided on the supplier's page.
 use Rattle.std.specs.Prelude.{ℕ, length, nat_le, nat_lt, Result, Ok, ⊤}
 use Rattle.fr_base.specs.Refusing.{◌>>=◌, ◌>>◌, ◌or◌, refuse◌when◌}
 use Rattle.fr_base.specs.Tables.{get, len}

@@ -1,4 +1,6 @@
--- Laws of pages. In a sound book what is decided on a supplier's page is the register's step.
+-- Laws: in a sound book what is decided on a supplier's page is the register's step, of a change and of an import's
+-- rows, and the edits that a page decides lead it to what the change or the rows make of it. They fit the register's
+-- rows. An edit does the same to the book and to the page, and leaves others' pages.
 use Rattle.std.specs.Prelude.{◌≡◌, ◌||◌, ◌++◌, ℕ, List, [], ◌∷◌, false, Option, Some, None, Ok, IsTrue, IsFalse}
 use Rattle.fr_base.specs.Refusing.{◌>>=◌, ◌>>◌, refuse◌when◌}
 use Rattle.fr_base.specs.Tables.{get, contains}

@@ -1,4 +1,4 @@
--- Rows that are kept in maps and sets, as the register's tables.
+-- How maps and sets stand for tables of the register.
 use Rattle.std.specs.Prelude.{List, map, ⊤}
 use Rattle.fr_base.specs.Tables.{Order, Table, from_rows}
 

@@ -1,4 +1,4 @@
--- Filled cycles as bits of words: for each slot a word of each channel.
+-- Masks: filled cycles as the bits of words, one for each slot and channel, and when they are those that a list fills.
 use Rattle.std.specs.Prelude.{◌≡◌, ℕ, Bool, List, Option, is_none, is_some, unwrap_or}
 use Rattle.std.specs.Ordering.{nat_cmp}
 use Rattle.std.specs.List.{find}

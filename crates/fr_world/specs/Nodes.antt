@@ -1,4 +1,4 @@
--- What is decided of a new node for a supplier.
+-- New node: which edit gives a supplier a node, by the nodes that it has; or what refuses it.
 use Rattle.std.specs.Prelude.{List, length, nat_le, Result, Ok}
 use Rattle.std.specs.List.{list_any}
 use Rattle.fr_base.specs.Refusing.{◌>>◌, refuse◌when◌}

@@ -1,4 +1,4 @@
--- Which cells a list of frames and placements fills.
+-- Occupancy: which cells a list of frames and placements fills, and the first taken one.
 use Rattle.std.specs.Prelude.{◌≡◌, Bool, not, ◌&&◌, List, filter, Option, Some, None, is_none, option_map, Result, Ok, Err, ⊤}
 use Rattle.std.specs.Ordering.{is_eq}
 use Rattle.fr_base.specs.Keys.{owned, placement_order}

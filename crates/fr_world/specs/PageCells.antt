@@ -1,4 +1,4 @@
--- The frames and placements of a page, beside its rows.
+-- Cells of a page: when frames and placements are those of a page's rows, in whatever order.
 use Rattle.std.specs.Prelude.{◌≡◌, Bool, false, List, flat_map, AllPairs, Option, Some, None, option_map}
 use Rattle.std.specs.Ordering.{nat_cmp}
 use Rattle.std.specs.Cmp.Lexicographic.{slice_cmp}

@@ -1,4 +1,6 @@
--- A page: a supplier's rows in a variant as lists, what they stand for in the register, and which rows a page may have.
+-- Page: a supplier's rows in a variant as lists, the supplier's own rows that they stand for, and which rows a page
+-- has: in the order of their keys, within the limits, placements that fit and lie in grants to their frame's node, no
+-- cell twice, signals that make a layout. The rows of a supplier in a book.
 use Rattle.std.specs.Prelude.{◌≡◌, ◌≤◌, Bool, List, map, IsTrue, All, AllPairs, Some}
 use Rattle.std.specs.declared.cmp.Ordering.{Ordering}
 use Rattle.std.specs.Ordering.{on}

@@ -1,4 +1,5 @@
--- What the rows of an import are decided to, on the supplier's page: each row on the page that those before it left.
+-- Decision on rows: what the rows of an import are decided to on a page, the edits or the first refused row. Each is
+-- decided on the rows that those before it left. Which rows are checked.
 use Rattle.std.specs.Prelude.{◌++◌, not, List, [], ◌∷◌, Option, Some, None, Result, Ok, IfOk, IsTrue, All}
 use Rattle.fr_base.specs.Refusing.{◌>>=◌, ◌>>◌, refuse◌when◌}
 use Rattle.fr_base.specs.Tables.{get, contains}

@@ -1,4 +1,4 @@
--- Why rows are not carried out.
+-- Row's fault: whether a fault is that of the refused row. Want of memory always may be.
 use Rattle.std.specs.Prelude.{◌≡◌, Result, Err, ⊤}
 use Rattle.fr_base.specs.Step as step
 use Rattle.fr_world.specs.declared.decision.import_rows.RowFault.{RowFault}

@@ -1,4 +1,4 @@
--- What is sent in which cell, where placements are given with their senders, and by a page's frames.
+-- Sendings: what placements send in which cell, and a page in a cycle.
 use Rattle.std.specs.Prelude.{ℕ, ◌==◌, ◌≡◌, ◌++◌, ◌<◌, All, Bool, List, [], ◌∷◌, length, map, slice_index_or}
 use Rattle.std.specs.List.{list_any}
 use Rattle.fr_base.specs.Cells.{Cell, cells_in, slots_of}

@@ -1,4 +1,4 @@
--- What is decided of a supplier that joins.
+-- New supplier: which edit adds a supplier, by the suppliers that are there; or what refuses it.
 use Rattle.std.specs.Prelude.{Result, Ok}
 use Rattle.fr_base.specs.Refusing.{◌>>◌}
 use Rattle.fr_base.specs.Cluster.{ClusterFile}

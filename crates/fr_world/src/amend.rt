@@ -1,4 +1,4 @@
-//! What an edit makes of a page: only the rows that it names change.
+//! A page after an edit: only the rows that the edit names change.
 ghost use Rattle.std.specs.Prelude.{◌≡◌, ◌≤◌, ◌||◌, ◌&&◌, ◌++◌, ◌∷◌, [], not, filter, option_map, Err, IfSome, OnOk, OnErr};
 ghost use Rattle.std.specs.BTreeMap.{is_at};
 ghost use Rattle.std.specs.Cmp.Lexicographic.{slice_cmp};

@@ -1,4 +1,4 @@
-//! A cycle and a channel, by which cells of one slot are told apart.
+//! A cycle and a channel, by which cells of one slot are told apart; the first in which two placements share a cell.
 ghost use Rattle.std.specs.Prelude.{◌≡◌, option_map};
 ghost use Rattle.std.specs.List.{find};
 ghost use Rattle.fr_base.specs.Cells.{cells_of, has_cell};

@@ -1,4 +1,4 @@
-//! The cycles in which a slot is filled.
+//! The cycles in which one slot is filled, as a word for each channel.
 ghost use Rattle.std.specs.Prelude.{◌≡◌, ◌||◌, ◌&&◌, ℕ};
 ghost use Rattle.fr_base.specs.Channels.{has_channel};
 ghost use Rattle.fr_base.specs.Cycles.{has_cycle, is_bit_set};

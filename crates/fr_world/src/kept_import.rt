@@ -1,4 +1,4 @@
-//! Imports that were carried out.
+//! An import that was carried out, as it is kept.
 use fr_base::{Body, Name};
 
 /// An import that was carried out.

@@ -1,4 +1,4 @@
-//! Laws of pages: what is decided on one is the register's step.
+//! Laws of pages: what is decided on one, of a change or of an import's rows, is the register's step.
 ghost use Rattle.fr_world.specs.Laws.{CommonDecides, CommonFits, DecisionFits, DecisionLeads, EditsAgree, GrantDecides, ImportFits, JoiningDecides, JoiningFits, JoiningIsListed, LabelDecides, NewImportDecides, NodeDecides, NodeFits, OthersStay, RevokeDecides, RowsAreChecked, RowsAreTheRegisters, RowsDecide, RowsFit, RowsLead, SoundRowsAreAPage, SupplierDecides};
 
 /// In a sound book a supplier's rows of a variant are a page's.

@@ -1,4 +1,4 @@
-//! Occupied cells as words of filled cycles, beside the list of placements that names the frames.
+//! Filled cells, kept as words of filled cycles, beside the list of placements that names the frames.
 ghost use Rattle.std.specs.Prelude.{◌≡◌, ◌++◌, ◌∷◌, [], OnOk, OnErr, option_map};
 ghost use Rattle.std.specs.List.{find};
 ghost use Rattle.fr_base.specs.Cells.{cells_in};

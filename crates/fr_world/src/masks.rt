@@ -1,4 +1,4 @@
-//! The words of the slots that are in use.
+//! The words of filled cycles of all slots in use.
 ghost use Rattle.std.specs.Prelude.{◌≡◌, ◌==◌, ◌&&◌, ℕ, [], is_some, IsTrue, OnOk, if◌then◌else◌};
 ghost use Rattle.fr_world.specs.Masks.{has_words, words_at};
 

@@ -1,4 +1,4 @@
-//! What the integrator's command that gives a supplier a node decides.
+//! What the integrator's command that gives a supplier a node decides, by the supplier's nodes.
 ghost use Rattle.std.specs.Prelude.{◌≡◌};
 ghost use Rattle.std.specs.List.{list_any};
 ghost use Rattle.fr_base.specs.Names.{same_text};

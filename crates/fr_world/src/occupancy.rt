@@ -1,4 +1,4 @@
-//! Which cells are filled.
+//! Which cells are filled, and the first taken one.
 use fr_base::{Channel, Name, Placement, Refusal};
 
 /// A filled cell of a slot, and the frame that is sent there.

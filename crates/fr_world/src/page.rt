@@ -1,4 +1,4 @@
-//! A supplier's rows in a variant.
+//! A supplier's rows in a variant, with the cells that they fill.
 use crate::mask_occupancy::MaskOccupancy;
 use fr_base::{Channel, Name, NoMemory, Params, Placement, Slot};
 use fr_layout::Layout;

@@ -1,4 +1,4 @@
-//! Occupied cells as a list of placements, which are compared one by one.
+//! Filled cells, kept as a list of placements, which are compared one by one.
 ghost use Rattle.std.specs.Prelude.{◌≡◌, ◌++◌, ◌∷◌, [], map, not, OnOk, OnErr};
 ghost use Rattle.fr_base.specs.Schedule.{fill};
 ghost use Rattle.fr_base.specs.declared.channel.Channel.{Channel as OneChannel};

@@ -1,4 +1,4 @@
-//! Which placement is the first that has a slot's cells.
+//! Which placement is the first that has a slot's cells, noted in one pass over the placements.
 ghost use Rattle.std.specs.Prelude.{◌≡◌, ◌<◌, [], ℕ, IfOk, None, OnOk, Some, if◌then◌else◌, length, slice_index_or};
 ghost use Rattle.std.specs.Option.{option_or};
 ghost use Rattle.fr_base.specs.Channels.{has_channel};

@@ -1,4 +1,4 @@
-//! What the integrator's command by which a supplier joins decides.
+//! What the integrator's command by which a supplier joins decides, by the config.
 ghost use Rattle.std.specs.Prelude.{◌≡◌};
 ghost use Rattle.fr_world.specs.Suppliers.{new_supplier};
 

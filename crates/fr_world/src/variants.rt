@@ -1,4 +1,4 @@
-//! What the integrator's commands on all suppliers decide.
+//! What the integrator's commands on all suppliers decide, by the list of variants.
 ghost use Rattle.std.specs.Prelude.{◌≡◌, option_map};
 ghost use Rattle.fr_world.specs.Common.{common_edit, depth_after, row_of};
 

@@ -1,4 +1,4 @@
-//! The program `slotplan`.
+//! The program `slotplan`: it reads the words after its name, has `fr_cli` do the job, and ends with its status.
 #![tactic(auto)]
 
 use fr_cli::perform::{explain, perform};

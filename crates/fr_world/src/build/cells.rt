@@ -1,4 +1,4 @@
-//! The cells that a supplier's frames fill.
+//! The cells that a supplier's frames fill, if none lies in two placements.
 ghost use Rattle.std.specs.Prelude.{◌≡◌, ◌++◌, true, false, List, IfNone, IfOk, IfSome};
 ghost use Rattle.fr_base.specs.declared.name.Name.{Name as NameText};
 ghost use Rattle.fr_base.specs.declared.placement.Placement.{Placement as Cells};
