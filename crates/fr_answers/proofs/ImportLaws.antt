@@ -263,6 +263,15 @@ module _ (i : Import) (old mid : Standing) where
             let k = by_room c b stood sound known in
             (k.0, inr (k.1 ∙ ap (λ r. r >> Ok (rows_outcome c.params b i page)) full))
 
+        -- there is room, and so its outcome is that of its rows
+        pub rows_left : import_room i count ≡ Ok tt → (c : Cluster) (b : Book) → old c b → IsSound c b → contains b.suppliers i.supplier ≡ true →
+            last c b × (get b.imports (i.supplier, i.label) ≡ None) × (open_page c.params b i.supplier i.variant ≡ Ok page)
+            × (import c.params b i (get b.imports (i.supplier, i.label)) ≡ Ok (rows_outcome c.params b i page))
+        unfolding ◌>>◌
+        rows_left room c b stood sound known =
+            let k = by_room c b stood sound known in
+            (k.0, (new c b stood sound).1, (read c b (new c b stood sound).0 sound).1, k.1 ∙ ap (λ r. r >> Ok (rows_outcome c.params b i page)) room)
+
         pub rows_given : import_room i count ≡ Ok tt → (after : Standing) (r : Result Answer Refusal) → GivesRows last after r i page → GivesImport old after r i
         unfolding ◌>>◌
         rows_given room after (Ok answer) given c b stood sound known =

@@ -17,3 +17,6 @@ pub mod StepLaws
 pub mod GatherLaws
 pub mod GrantLaws
 pub mod AllReplies
+pub mod CrashLaws
+pub mod DoneLaws
+pub mod FrontLaws

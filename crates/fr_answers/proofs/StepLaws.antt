@@ -91,6 +91,12 @@ module _ (now : Standing) (config : ClusterFile) (same : (c : Cluster) (b : Book
           ],
         )
 
+    -- what it comes to, where it is carried out
+    pub acts_so : (valid : Checked) → check config.cluster.params ask.actor ask.request ≡ Ok valid → (c : Cluster) (b : Book) → now c b →
+        IsTrue (knows b ask.actor) × ((after : Outcome) → act c b ask.actor valid ≡ Ok after → step c b ask.actor ask.request ≡ after)
+    unfolding outcome ◌>>=◌
+    acts_so valid checks c b stood = (knows-so true is c b stood, λ after made. checked_so (Ok valid) checks c b stood ∙ ap (outcome b) made)
+
 -- ---- what is made of it
 
 module _ (old new : Standing) (actor : Actor) where

@@ -1,16 +1,16 @@
 -- What the office makes of a request.
-use Rattle.std.specs.Prelude.{◌≡◌, Bool, true, [], ◌∷◌, Result, Ok, Err, IsTrue, MatchResult, ⊤}
+use Rattle.std.specs.Prelude.{◌≡◌, ◌⊎◌, Bool, true, List, [], ◌∷◌, Result, Ok, Err, IsTrue, MatchResult, OnOk, ⊤}
 use Rattle.std.specs.List.{list_any}
 use Rattle.fr_base.specs.Book.{Book}
 use Rattle.fr_base.specs.Cluster.{Cluster, ClusterFile}
 use Rattle.fr_base.specs.Names.{same_text}
 use Rattle.fr_base.specs.Run.{IsRun}
 use Rattle.fr_base.specs.Sound.{IsSound}
-use Rattle.fr_base.specs.Step.{act, knows}
+use Rattle.fr_base.specs.Step.{Outcome, act, knows, step}
 use Rattle.fr_base.specs.declared.actor.Actor.{Actor}
 use Rattle.fr_base.specs.declared.actor.Actor.TheVariants.{Integrator, Supplier}
 use Rattle.fr_base.specs.declared.answer.Answer.{Answer}
-use Rattle.fr_base.specs.declared.answer.Answer.TheVariants.{Refused}
+use Rattle.fr_base.specs.declared.answer.Answer.TheVariants.{Done, Refused}
 use Rattle.fr_base.specs.declared.params.Params.{Params}
 use Rattle.fr_base.specs.declared.refusal.Refusal.{Refusal}
 use Rattle.fr_base.specs.declared.request.Ask.{Ask}
@@ -18,7 +18,7 @@ use Rattle.fr_base.specs.declared.request.Checked.{Checked}
 use Rattle.fr_base.specs.declared.request.Checked.TheVariants as checked
 use Rattle.fr_answers.specs.Carried.{IsRefused}
 use Rattle.fr_answers.specs.Decided.{IsCheckedCommand}
-use Rattle.fr_records.specs.Held.{Standing}
+use Rattle.fr_records.specs.Held.{Leaving, Standing}
 
 -- whether who asks is in what a cluster file says
 abbrev pub is_known : ClusterFile → Actor → Bool
@@ -46,3 +46,27 @@ answer_of (Err refusal) = Refused refusal
 -- In a sound book the request was answered by one step, or it is Unavailable where it may be; and the records stand for the book after it.
 abbrev pub Answers : Standing → Standing → Ask → Answer → Type 0
 Answers old new ask answer = (c : Cluster) (b : Book) → old c b → IsSound c b → (last : Book) × new c last × IsRun c b (ask ∷ []) (answer ∷ []) last
+
+-- This holds after a command with checked values that was carried out.
+abbrev pub AfterCommand : Checked → Result Answer Refusal → Type 0 → Type 0
+AfterCommand (checked.Command command) r P = OnOk r P
+AfterCommand (checked.Import i) r P = ⊤
+AfterCommand (checked.Query query) r P = ⊤
+
+-- This holds where a request to records of a sound book was answered Done.
+abbrev pub AfterDone : Standing → Answer → Type 0 → Type 0
+AfterDone stands answer P = (c : Cluster) (b : Book) → stands c b → IsSound c b → answer ≡ Done → P
+
+-- Of a request with checked values, a crash leaves no more than it did before, or the book after it.
+abbrev pub LeavesAct : Standing → Leaving → Leaving → Actor → Checked → Type 0
+LeavesAct stands old new actor valid = (c : Cluster) (b : Book) (books : List Book) → stands c b → IsSound c b → IsTrue (knows b actor) → old c books
+    → new c books ⊎ ((after : Outcome) × (act c b actor valid ≡ Ok after) × new c (after.book ∷ books))
+
+-- So with any request.
+abbrev pub LeavesStep : Standing → Leaving → Leaving → Ask → Type 0
+LeavesStep stands old new ask = (c : Cluster) (b : Book) (books : List Book) → stands c b → IsSound c b → old c books
+    → new c books ⊎ new c ((step c b ask.actor ask.request).book ∷ books)
+
+-- What was answered Done is kept: a crash leaves the register after the step, and no other.
+abbrev pub KeepsDone : Standing → Leaving → Ask → Answer → Type 0
+KeepsDone stands new ask answer = (c : Cluster) (b : Book) → stands c b → IsSound c b → answer ≡ Done → new c ((step c b ask.actor ask.request).book ∷ [])

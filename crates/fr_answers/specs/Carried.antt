@@ -1,5 +1,5 @@
 -- What the office makes of a request with checked values, and how it answers.
-use Rattle.std.specs.Prelude.{◌≡◌, ◌⊎◌, List, Vec, Result, Ok, Err, MatchResult, ⊤}
+use Rattle.std.specs.Prelude.{◌≡◌, ◌⊎◌, List, ◌∷◌, Vec, Result, Ok, Err, MatchResult, ⊤}
 use Rattle.std.specs.declared.alloc.Global.{Global}
 use Rattle.fr_base.specs.Book.{Book}
 use Rattle.fr_base.specs.Cluster.{Cluster}
@@ -15,7 +15,7 @@ use Rattle.fr_world.specs.Fits.{AllFit}
 use Rattle.fr_world.specs.Pages.{PageData}
 use Rattle.fr_world.specs.declared.edit.Edit.{Edit}
 use Rattle.fr_answers.specs.Decided.{allowed}
-use Rattle.fr_records.specs.Held.{IsFresh, Standing}
+use Rattle.fr_records.specs.Held.{IsFresh, Leaving, Standing}
 
 -- Nothing was done: for the reason that the definition has, or the answer is Unavailable; and the records stand for the same book as before.
 abbrev pub IsRefused : {A : Type 0} → Standing → Cluster → Book → Refusal → Result A Refusal → Type 0
@@ -26,6 +26,16 @@ abbrev pub Does : Standing → Standing → Result ⊤ Refusal → (Cluster → 
 Does old new r does = (c : Cluster) (b : Book) → old c b → IsSound c b → MatchResult r
     (λ _. (after : Book) × (does c b ≡ Ok after) × new c after)
     (λ e. IsRefused new c b e (does c b))
+
+-- Of what was to be done in a sound book, a crash leaves no more than it did before, or the book after it.
+abbrev pub MayLeave : Standing → Leaving → Leaving → (Cluster → Book → Result Book Refusal) → Type 0
+MayLeave stands old new does = (c : Cluster) (b : Book) (books : List Book) → stands c b → IsSound c b → old c books
+    → new c books ⊎ ((after : Book) × (does c b ≡ Ok after) × new c (after ∷ books))
+
+-- So with a command.
+abbrev pub LeavesDone : Standing → Leaving → Leaving → (Cluster → Book → Result Outcome Refusal) → Type 0
+LeavesDone stands old new does = (c : Cluster) (b : Book) (books : List Book) → stands c b → IsSound c b → old c books
+    → new c books ⊎ ((after : Outcome) × (does c b ≡ Ok after) × new c (after.book ∷ books))
 
 -- The edits of a change of the page's rows were decided, or its refusal; or it is Unavailable. The records stand for the same book as before.
 abbrev pub Allows : Standing → Standing → Result (Vec Edit Global) Refusal → PageData → Change → Type 0

@@ -1,5 +1,5 @@
 -- What the office makes of an import.
-use Rattle.std.specs.Prelude.{◌≡◌, length, Result, Ok, None, IsTrue, MatchResult}
+use Rattle.std.specs.Prelude.{◌≡◌, ◌⊎◌, List, ◌∷◌, length, Result, Ok, None, IsTrue, MatchResult}
 use Rattle.fr_base.specs.Book.{Book}
 use Rattle.fr_base.specs.Cluster.{Cluster}
 use Rattle.fr_base.specs.ImportRows.{rows_of_body}
@@ -17,7 +17,7 @@ use Rattle.fr_world.specs.Pages.{PageData}
 use Rattle.fr_world.specs.RowDecisions.{rows_decision}
 use Rattle.fr_answers.specs.Carried.{IsRefused}
 use Rattle.fr_answers.specs.Decided.{open_page}
-use Rattle.fr_records.specs.Held.{Standing}
+use Rattle.fr_records.specs.Held.{Leaving, Standing}
 
 -- In a sound book the import of a supplier that is there is carried out as the definition has it, and the records stand for the book
 -- after it; or nothing was done.
@@ -38,3 +38,14 @@ GivesRows old new r i page = (c : Cluster) (b : Book) → old c b → IsSound c 
     get b.imports (i.supplier, i.label) ≡ None → open_page c.params b i.supplier i.variant ≡ Ok page → MatchResult r
     (λ answer. (answer ≡ (rows_outcome c.params b i page).answer) × new c (rows_outcome c.params b i page).book)
     (λ e. (e ≡ Unavailable) × new c b)
+
+-- Of the import of a supplier that is there, a crash leaves no more than it did before, or the book after it.
+abbrev pub LeavesImport : Standing → Leaving → Leaving → Import → Type 0
+LeavesImport stands old new i = (c : Cluster) (b : Book) (books : List Book) → stands c b → IsSound c b → IsTrue (contains b.suppliers i.supplier) → old c books
+    → new c books ⊎ ((after : Outcome) × (import c.params b i (get b.imports (i.supplier, i.label)) ≡ Ok after) × new c (after.book ∷ books))
+
+-- So with the rows of a new one.
+abbrev pub LeavesRows : Standing → Leaving → Leaving → Import → PageData → Type 0
+LeavesRows stands old new i page = (c : Cluster) (b : Book) (books : List Book) → stands c b → IsSound c b → IsTrue (contains b.suppliers i.supplier)
+    → get b.imports (i.supplier, i.label) ≡ None → open_page c.params b i.supplier i.variant ≡ Ok page → old c books
+    → new c books ⊎ new c ((rows_outcome c.params b i page).book ∷ books)

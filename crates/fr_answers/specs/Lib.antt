@@ -8,3 +8,4 @@ pub mod KeptPages
 pub mod Shared
 pub mod Shelves
 pub mod Shown
+pub mod Fronts

@@ -1,6 +1,6 @@
 //! How the office answers one request.
 ghost use Rattle.std.specs.Prelude.{◌≡◌};
-ghost use Rattle.fr_answers.specs.Answering.{Acts, Answers, HasPassed, is_known};
+ghost use Rattle.fr_answers.specs.Answering.{Acts, AfterCommand, AfterDone, Answers, HasPassed, LeavesAct, LeavesStep, is_known};
 
 use crate::commands::carry_out;
 use crate::imports::import;
@@ -14,6 +14,8 @@ use std::alloc::Global;
 /// then it is carried out, or `Unavailable`.
 pub fn answer<R: Records>(alloc: Global, records: &mut R, ask: &Ask) -> Answer
     ensures falls { R.clean records.new → R.clean records.old }
+    ensures open { R.clean records.new → AfterDone (R.stands records.old) result (R.serves records.new) }
+    ensures leaves { R.clean records.new → LeavesStep (R.stands records.old) (R.leaves records.old) (R.leaves records.new) ask.now }
     ensures answers { R.clean records.new → Answers (R.stands records.old) (R.stands records.new) ask.now result }
 {
     let config = records.config();
@@ -49,6 +51,8 @@ fn act<R: Records>(
 ) -> Result<Answer, Refusal>
     requires passed { HasPassed (R.params records.old) actor.now valid.now }
     ensures falls { R.clean records.new → R.clean records.old }
+    ensures open { R.clean records.new → AfterCommand valid.now result (R.serves records.new) }
+    ensures leaves { R.clean records.new → LeavesAct (R.stands records.old) (R.leaves records.old) (R.leaves records.new) actor.now valid.now }
     ensures acts { R.clean records.new → Acts (R.stands records.old) (R.stands records.new) result actor.now valid.now }
 {
     match valid {

@@ -1,7 +1,8 @@
 //! What commands make of the records.
 ghost use Rattle.fr_base.specs.Step.{perform};
-ghost use Rattle.fr_answers.specs.Carried.{Performs};
+ghost use Rattle.fr_answers.specs.Carried.{LeavesDone, Performs};
 ghost use Rattle.fr_answers.specs.Decided.{IsCheckedCommand};
+ghost use Rattle.std.specs.Prelude.{OnOk};
 
 mod common;
 mod nodes;
@@ -25,6 +26,8 @@ pub(crate) fn carry_out<R: Records>(
 ) -> Result<(), Refusal>
     requires checked { IsCheckedCommand (R.params records.old) command.now }
     ensures falls { R.clean records.new → R.clean records.old }
+    ensures open { R.clean records.new → OnOk result (R.serves records.new) }
+    ensures leaves { R.clean records.new → LeavesDone (R.stands records.old) (R.leaves records.old) (R.leaves records.new) (λ c b. perform c b command.now) }
     ensures does { R.clean records.new → Performs (R.stands records.old) (R.stands records.new) result (λ c b. perform c b command.now) }
 {
     match command {

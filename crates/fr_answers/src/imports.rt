@@ -3,9 +3,10 @@ ghost use Rattle.std.specs.Prelude.{◌≡◌, ◌++◌, [], ◌∷◌, false};
 ghost use Rattle.fr_base.specs.Tables.{get};
 ghost use Rattle.fr_answers.specs.Carried.{Makes, Replies};
 ghost use Rattle.fr_answers.specs.Decided.{TakesAll};
-ghost use Rattle.fr_answers.specs.Imports.{GivesImport, GivesRows};
+ghost use Rattle.fr_answers.specs.Imports.{GivesImport, GivesRows, LeavesImport, LeavesRows};
 ghost use Rattle.fr_world.specs.ImportLabels.{label_decision};
 ghost use Rattle.fr_world.specs.declared.edit.Edit.TheVariants.{KeepImport};
+ghost use Rattle.fr_records.specs.Held.{LeavesEdited, LeavesNoMore};
 
 use crate::amending::amended;
 use crate::open_page::open_page;
@@ -24,6 +25,7 @@ pub(crate) fn import<R: Records>(
     import: &Import<'_>,
 ) -> Result<Answer, Refusal>
     ensures falls { R.clean records.new → R.clean records.old }
+    ensures leaves { R.clean records.new → LeavesImport (R.stands records.old) (R.leaves records.old) (R.leaves records.new) import.now }
     ensures gives { R.clean records.new → GivesImport (R.stands records.old) (R.stands records.new) result import.now }
 {
     if let Some(rows) = rows_kept(alloc, records, import)? {
@@ -42,6 +44,7 @@ fn rows_kept<R: Records>(
     import: &Import<'_>,
 ) -> Result<Option<u32>, Refusal>
     ensures falls { R.clean records.new → R.clean records.old }
+    ensures leaves { R.clean records.new → LeavesNoMore (R.leaves records.old) (R.leaves records.new) }
     ensures label { R.clean records.new → Replies (R.stands records.old) (R.stands records.new) result
         (λ c b. label_decision (get b.imports (import.now.supplier, import.now.label)) import.now) }
 {
@@ -60,6 +63,7 @@ fn import_rows<R: Records>(
     requires open { page.released ≡ false }
     requires params { page.params ≡ R.params records.old }
     ensures falls { R.clean records.new → R.clean records.old }
+    ensures leaves { R.clean records.new → LeavesRows (R.stands records.old) (R.leaves records.old) (R.leaves records.new) import.now page }
     ensures gives { R.clean records.new → GivesRows (R.stands records.old) (R.stands records.new) result import.now page }
 {
     let rows = read_import(alloc, &page.params(), import.body.as_slice())?;
@@ -92,6 +96,8 @@ fn keep<R: Records>(
     requires params { page.params ≡ R.params records.old }
     requires takes { TakesAll page edits.items }
     ensures falls { R.clean records.new → R.clean records.old }
+    ensures leaves { R.clean records.new → LeavesEdited (R.stands records.old) (R.leaves records.old) (R.leaves records.new)
+        (edits.items ++ KeepImport import.now.supplier import.now.label import.now.variant import.now.body rows ∷ []) }
     ensures makes { R.clean records.new → Makes (R.stands records.old) (R.stands records.new) result page
         (edits.items ++ KeepImport import.now.supplier import.now.label import.now.variant import.now.body rows ∷ []) }
 {

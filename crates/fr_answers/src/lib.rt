@@ -7,6 +7,7 @@ mod answering;
 mod commands;
 mod import_counts;
 mod imports;
+mod laws;
 mod open_page;
 mod pages;
 mod queries;
@@ -16,6 +17,7 @@ mod suppliers;
 mod warm;
 
 pub use answering::answer;
+pub use laws::fronts_are_left;
 pub use running::{Stopped, run};
 pub use shelf::MAX_BYTES;
 pub use warm::Warm;

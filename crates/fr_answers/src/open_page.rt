@@ -2,6 +2,7 @@
 ghost use Rattle.std.specs.Prelude.{◌≡◌, false, IfOk};
 ghost use Rattle.fr_answers.specs.Carried.{Replies};
 ghost use Rattle.fr_answers.specs.Decided.{open_page};
+ghost use Rattle.fr_records.specs.Held.{LeavesNoMore};
 
 use crate::suppliers::has_supplier;
 use fr_base::{Name, Refusal};
@@ -18,6 +19,7 @@ pub(crate) fn open_page<R: Records>(
     variant: Name,
 ) -> Result<Page, Refusal>
     ensures falls { R.clean records.new → R.clean records.old }
+    ensures leaves { R.clean records.new → LeavesNoMore (R.leaves records.old) (R.leaves records.new) }
     ensures open { IfOk result (λ page. page.released ≡ false) }
     ensures same { R.params records.new ≡ R.params records.old }
     ensures params { IfOk result (λ page. page.params ≡ R.params records.old) }

@@ -4,6 +4,7 @@ ghost use Rattle.fr_base.specs.Queries.{reply, variant_asked};
 ghost use Rattle.fr_base.specs.declared.actor.Actor.TheVariants.{Integrator, Supplier};
 ghost use Rattle.fr_answers.specs.Carried.{Replies};
 ghost use Rattle.fr_answers.specs.Shown.{FindsPage, ShowsAll, ShowsOwn};
+ghost use Rattle.fr_records.specs.Held.{LeavesNoMore};
 
 mod frames;
 mod gaps;
@@ -33,6 +34,7 @@ pub(crate) fn reply<R: Records>(
     query: &Query,
 ) -> Result<Answer, Refusal>
     ensures falls { R.clean records.new → R.clean records.old }
+    ensures leaves { R.clean records.new → LeavesNoMore (R.leaves records.old) (R.leaves records.new) }
     ensures replies { R.clean records.new → Replies (R.stands records.old) (R.stands records.new) result (λ c b. reply c.params b actor.now query.now) }
 {
     match actor {
@@ -48,6 +50,7 @@ fn reply_to_integrator<R: Records>(
     query: &Query,
 ) -> Result<Answer, Refusal>
     ensures falls { R.clean records.new → R.clean records.old }
+    ensures leaves { R.clean records.new → LeavesNoMore (R.leaves records.old) (R.leaves records.new) }
     ensures replies { R.clean records.new → Replies (R.stands records.old) (R.stands records.new) result (λ c b. reply c.params b Integrator query.now) }
 {
     if records.has_variant(variant_asked(query))? {
@@ -60,6 +63,7 @@ fn reply_to_integrator<R: Records>(
 // What the query shows the integrator of the variant, which is there.
 fn show_all<R: Records>(alloc: Global, records: &mut R, query: &Query) -> Result<Answer, Refusal>
     ensures falls { R.clean records.new → R.clean records.old }
+    ensures leaves { R.clean records.new → LeavesNoMore (R.leaves records.old) (R.leaves records.new) }
     ensures shows { R.clean records.new → ShowsAll (R.stands records.old) (R.stands records.new) query.now result }
 {
     let params = records.config().params();
@@ -99,6 +103,7 @@ fn reply_to_supplier<R: Records>(
     query: &Query,
 ) -> Result<Answer, Refusal>
     ensures falls { R.clean records.new → R.clean records.old }
+    ensures leaves { R.clean records.new → LeavesNoMore (R.leaves records.old) (R.leaves records.new) }
     ensures replies { R.clean records.new → Replies (R.stands records.old) (R.stands records.new) result (λ c b. reply c.params b (Supplier supplier) query.now) }
 {
     let page = find_page(alloc, records, supplier, variant_asked(query))?;
@@ -115,6 +120,7 @@ pub(crate) fn find_page<R: Records>(
     variant: Name,
 ) -> Result<Page, Refusal>
     ensures falls { R.clean records.new → R.clean records.old }
+    ensures leaves { R.clean records.new → LeavesNoMore (R.leaves records.old) (R.leaves records.new) }
     ensures params { IfOk result (λ page. page.params ≡ R.params records.new) }
     ensures page { R.clean records.new → FindsPage (R.stands records.old) (R.stands records.new) result supplier variant }
 {

@@ -69,6 +69,12 @@ impl<R: Records> Records for Warm<R> {
 
     ghost clean = { λ warm. R.clean warm.records };
 
+    ghost serves = { λ warm. R.serves warm.records };
+
+    ghost leaves = { λ warm. R.leaves warm.records };
+
+    ghost settled = { λ warm c b clean serves stands. R.settled warm.records c b clean serves stands.0 };
+
     ghost params = { λ warm. R.params warm.records };
 
     fn config(&self) -> &Config {

@@ -4,7 +4,7 @@ ghost use Rattle.fr_base.specs.Actors.{actor_of};
 ghost use Rattle.fr_base.specs.Book.{Book};
 ghost use Rattle.fr_base.specs.Cluster.{Cluster};
 ghost use Rattle.fr_base.specs.Sound.{IsSound};
-ghost use Rattle.fr_answers.specs.Answering.{Answers};
+ghost use Rattle.fr_answers.specs.Answering.{Answers, KeepsDone, LeavesStep};
 ghost use Rattle.fr_answers.specs.Headline.{WereAnswered};
 ghost use Rattle.fr_answers.specs.KeptPages.{StandsWarm};
 
@@ -80,9 +80,14 @@ impl<R: Records> Office<R> {
     /// Answers a request of a sound register by one step of it; or the answer is `Unavailable`, only
     /// where who asks is known and nothing in the request itself refuses it, and the rows stay. Who is
     /// not there is answered `UnknownKey`.
+    ///
+    /// Until it answers, a crash leaves what it would have left before, or the register after the step. Where it
+    /// answers `Done`, a crash leaves the register after the step, and no other.
     pub fn ask(&mut self, alloc: Global, ask: &Ask) -> Answer
         ensures falls { R.clean self.new.records → R.clean self.old.records }
         ensures answers { R.clean self.new.records → Answers (StandsWarm R.stands self.old) (StandsWarm R.stands self.new) ask.now result }
+        ensures leaves { R.clean self.new.records → LeavesStep (StandsWarm R.stands self.old) (R.leaves self.old.records) (R.leaves self.new.records) ask.now }
+        ensures durable { R.clean self.new.records → KeepsDone (StandsWarm R.stands self.old) (R.leaves self.new.records) ask.now result }
     {
         answer(alloc, &mut self.warm, ask)
     }

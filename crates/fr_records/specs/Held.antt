@@ -1,5 +1,5 @@
 -- What is known of records that stand for a book, and may be read and changed by the office alone.
-use Rattle.std.specs.Prelude.{◌≡◌, ℕ, Bool, false, Option, Some, None, List, Result, MatchResult, option_map}
+use Rattle.std.specs.Prelude.{◌≡◌, ◌⊎◌, ℕ, Bool, false, Option, Some, None, List, ◌∷◌, Result, MatchResult, option_map}
 use Rattle.fr_base.specs.Tables.{get, contains}
 use Rattle.fr_base.specs.Book.{Book, Variant}
 use Rattle.fr_base.specs.Cluster.{Cluster}
@@ -25,6 +25,19 @@ Tells old new r says = (c : Cluster) (b : Book) → old c b → new c b × Match
 abbrev pub Applies : {X : Type 0} → Standing → Standing → Result X Refusal → List Edit → Type 0
 Applies old new r edits = (c : Cluster) (b : Book) → old c b → AllFit c.params b edits →
     MatchResult r (λ _. new c (all_applied b edits)) (λ e. (e ≡ Unavailable) × new c b)
+
+-- For which books what a crash leaves of records may stand, each list of them in a cluster.
+abbrev pub Leaving : Type 1
+Leaving = Cluster → List Book → Type 0
+
+-- A crash leaves no more than it did before.
+abbrev pub LeavesNoMore : Leaving → Leaving → Type 0
+LeavesNoMore old new = (c : Cluster) (books : List Book) → old c books → new c books
+
+-- Of edits that fit, a crash leaves no more than it did before, or the book after them.
+abbrev pub LeavesEdited : Standing → Leaving → Leaving → List Edit → Type 0
+LeavesEdited stands old new edits = (c : Cluster) (b : Book) (books : List Book) → stands c b → AllFit c.params b edits → old c books
+    → new c books ⊎ new c (all_applied b edits ∷ books)
 
 -- the supplier's page of the variant, if the variant is there
 abbrev pub page_of : Params → Book → Name → Name → Option PageData

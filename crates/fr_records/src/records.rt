@@ -1,5 +1,5 @@
 //! The register's records, as the office reads and changes them.
-ghost use Rattle.std.specs.Prelude.{◌≡◌, IfOk, IfSome, option_map};
+ghost use Rattle.std.specs.Prelude.{◌≡◌, List, [], ◌∷◌, IfOk, IfSome, OnOk, option_map};
 
 use fr_base::{Channel, Config, Name, Refusal, Slot};
 use fr_world::{Edit, KeptImport, Page, VariantRow};
@@ -13,7 +13,7 @@ pub trait Records {
     ghost use Rattle.fr_base.specs.Cluster.{Cluster};
     ghost use Rattle.fr_base.specs.Tables.{contains, get, len};
     ghost use Rattle.fr_base.specs.declared.params.Params.{Params};
-    ghost use Rattle.fr_records.specs.Held.{Applies, Keeps, Tells, held_in, page_of};
+    ghost use Rattle.fr_records.specs.Held.{Applies, Keeps, LeavesEdited, LeavesNoMore, Tells, held_in, page_of};
     ghost use Rattle.fr_world.specs.BookEdits.{variants_in};
     ghost use Rattle.fr_world.specs.ImportLabels.{kept_of};
     ghost use Rattle.fr_world.specs.Pages.{nodes_in};
@@ -23,6 +23,15 @@ pub trait Records {
 
     /// Nobody else has written to them so far.
     ghost clean: { Self → Type 0 };
+
+    /// They can be read and changed, until a fault ends that.
+    ghost serves: { Self → Type 0 };
+
+    /// What a crash leaves of them stands for one of these books, in a cluster.
+    ghost leaves: { Self → Cluster → List Book → Type 0 };
+
+    /// While they can be read and changed, what a crash leaves of them stands for their book.
+    ghost settled: { (records : Self) (c : Cluster) (b : Book) → clean records → serves records → stands records c b → leaves records c (b ∷ []) };
 
     /// The cluster's parameters, which stay.
     ghost params: { Self → Params };
@@ -36,6 +45,7 @@ pub trait Records {
     fn has_variant(&mut self, variant: Name) -> Result<bool, Refusal>
         ensures falls { clean self.new → clean self.old }
         ensures same { params self.new ≡ params self.old }
+        ensures leaves { clean self.new → LeavesNoMore (leaves self.old) (leaves self.new) }
         ensures has { clean self.new → Tells (stands self.old) (stands self.new) result (λ c b has. has ≡ contains b.variants variant) };
 
     /// The supplier's page of the variant, if the variant is there. A page has the cluster's parameters.
@@ -47,6 +57,7 @@ pub trait Records {
     ) -> Result<Option<Page>, Refusal>
         ensures falls { clean self.new → clean self.old }
         ensures same { params self.new ≡ params self.old }
+        ensures leaves { clean self.new → LeavesNoMore (leaves self.old) (leaves self.new) }
         ensures params { IfOk result (λ found. IfSome found (λ page. page.params ≡ params self.old)) }
         ensures page { clean self.new → Tells (stands self.old) (stands self.new) result (λ c b found. found ≡ page_of c.params b supplier variant) };
 
@@ -56,24 +67,29 @@ pub trait Records {
         requires params { page.params ≡ params self.old }
         ensures falls { clean self.new → clean self.old }
         ensures same { params self.new ≡ params self.old }
+        ensures open { clean self.new → serves self.old → serves self.new }
+        ensures leaves { clean self.new → LeavesNoMore (leaves self.old) (leaves self.new) }
         ensures keeps { clean self.new → Keeps (stands self.old) (stands self.new) page };
 
     /// Whether anybody holds the slot on the channel in the variant.
     fn is_held(&mut self, variant: Name, slot: Slot, channel: Channel) -> Result<bool, Refusal>
         ensures falls { clean self.new → clean self.old }
         ensures same { params self.new ≡ params self.old }
+        ensures leaves { clean self.new → LeavesNoMore (leaves self.old) (leaves self.new) }
         ensures held { clean self.new → Tells (stands self.old) (stands self.new) result (λ c b is. is ≡ held_in b variant (slot, channel)) };
 
     /// The variants, by name.
     fn variants(&mut self, alloc: Global) -> Result<Vec<VariantRow>, Refusal>
         ensures falls { clean self.new → clean self.old }
         ensures same { params self.new ≡ params self.old }
+        ensures leaves { clean self.new → LeavesNoMore (leaves self.old) (leaves self.new) }
         ensures variants { clean self.new → Tells (stands self.old) (stands self.new) result (λ c b rows. rows.items ≡ variants_in b) };
 
     /// The supplier's nodes, in byte order.
     fn nodes(&mut self, alloc: Global, supplier: Name) -> Result<Vec<Name>, Refusal>
         ensures falls { clean self.new → clean self.old }
         ensures same { params self.new ≡ params self.old }
+        ensures leaves { clean self.new → LeavesNoMore (leaves self.old) (leaves self.new) }
         ensures nodes { clean self.new → Tells (stands self.old) (stands self.new) result (λ c b names. names.items ≡ nodes_in b supplier) };
 
     /// The import that the supplier keeps under the label, if one is kept.
@@ -85,17 +101,22 @@ pub trait Records {
     ) -> Result<Option<KeptImport>, Refusal>
         ensures falls { clean self.new → clean self.old }
         ensures same { params self.new ≡ params self.old }
+        ensures leaves { clean self.new → LeavesNoMore (leaves self.old) (leaves self.new) }
         ensures import { clean self.new → Tells (stands self.old) (stands self.new) result (λ c b found. option_map kept_of found ≡ get b.imports (supplier, label)) };
 
     /// How many imports of the supplier are kept.
     fn imports(&mut self, alloc: Global, supplier: Name) -> Result<usize, Refusal>
         ensures falls { clean self.new → clean self.old }
         ensures same { params self.new ≡ params self.old }
+        ensures leaves { clean self.new → LeavesNoMore (leaves self.old) (leaves self.new) }
         ensures imports { clean self.new → Tells (stands self.old) (stands self.new) result (λ c b count. count ≡ len (own supplier b.imports)) };
 
-    /// Carries out the edits, all or none. They fit the records, one after another.
+    /// Carries out the edits, all or none. They fit the records, one after another. Until the answer a crash may
+    /// leave either.
     fn apply(&mut self, alloc: Global, edits: &[Edit]) -> Result<(), Refusal>
         ensures falls { clean self.new → clean self.old }
         ensures same { params self.new ≡ params self.old }
+        ensures open { clean self.new → OnOk result (serves self.new) }
+        ensures leaves { clean self.new → LeavesEdited (stands self.old) (leaves self.old) (leaves self.new) edits.now }
         ensures applies { clean self.new → Applies (stands self.old) (stands self.new) result edits.now };
 }

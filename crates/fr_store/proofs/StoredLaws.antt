@@ -35,6 +35,11 @@ pub answered : {X : Type 0} (P : X → Type 0) (told : Result X StoreFault) (r :
 answered P (Ok x) r is h = subst (λ r. IfOk r P) (sym is) h
 answered P (Err e) r is h = subst (λ r. IfOk r P) (sym is) tt
 
+-- what follows wherever it tells anything follows wherever anything is answered
+pub opened : {X : Type 0} (P Q : Type 0) → (P → Q) → (told : Result X StoreFault) (r : Result X Refusal) → Answers told r → OnOk told P → OnOk r Q
+opened P Q follows (Ok x) r is h = subst (λ r. OnOk r Q) (sym is) (follows h)
+opened P Q follows (Err e) r is h = subst (λ r. OnOk r Q) (sym is) tt
+
 was_open : (old new : State) → Stays old new → IsTrue new.is_open → IsTrue old.is_open
 was_open old new (inl same) up = same.0.was_open
 was_open old new (inr back) up = back.was_open up

@@ -4,11 +4,12 @@ use Rattle.sqlite.specs.Effect.{Database}
 use Rattle.sqlite.specs.State.{State}
 use Rattle.sqlite.specs.Tree.{Trees}
 use Rattle.fr_base.specs.Book.{Book}
-use Rattle.fr_base.specs.Cluster.{Cluster}
-use Rattle.fr_store.specs.Crashes.{LeavesOnly}
+use Rattle.fr_base.specs.Cluster.{Cluster, ClusterFile}
+use Rattle.fr_store.specs.Crashes.{LeavesOnly, Serves, StoredLeaves}
 use Rattle.fr_store.specs.Reading.{Stands}
 use Rattle.fr_store.specs.StandsFor.{StandsFor}
 use Rattle.fr_store.specs.Store.{IsRegisterFor}
+use Rattle.fr_store.specs.Stored.{StandsStored}
 use Rattle.fr_store.specs.StoreFiles.{database_of}
 use Rattle.fr_tables.specs.Tables.{HasTables, tables_in}
 
@@ -22,3 +23,9 @@ is_left s c b db is stands = record {
 -- of what is committed a crash leaves the book for which its tables stand, and no other
 pub leaves_committed : (s : State) → ((db : Trees) → s.may_leave db → db ≡ s.committed.trees) → s.committed ≡ s.now → (c : Cluster) (b : Book) → Stands s c b → LeavesOnly s c (b ∷ [])
 leaves_committed s settled same c b stands db may = inl (is_left s c b db (settled db may ∙ ap (λ (d : Database). d.trees) same) stands)
+
+-- while a store is open, what a crash leaves is the book for which it stands
+pub stored_settled : (s : State) (found : ClusterFile) (c : Cluster) (b : Book) → Serves s → StandsStored found s c b → StoredLeaves s c (b ∷ [])
+stored_settled s found c b serves stands =
+    let rows = stands.rows serves.up in
+    record { rows = λ _. (rows.0.has, rows.1); left = leaves_committed s serves.settled rows.1 c b rows.0 }

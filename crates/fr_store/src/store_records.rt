@@ -3,7 +3,9 @@ ghost use Rattle.std.specs.Prelude.{◌≡◌, Ok, Err, IfErr, IsTrue, MatchResu
 ghost use Rattle.sqlite.specs.Held.{state};
 ghost use Rattle.sqlite.specs.State.{HasCleanDisk};
 ghost use Rattle.fr_base.specs.declared.refusal.Refusal.TheVariants.{Unavailable};
+ghost use Rattle.fr_store.specs.Crashes.{Serves, StoredLeaves};
 ghost use Rattle.fr_store.specs.Stored.{StandsStored};
+ghost use Rattle.fr_store.specs.Settled.{stored_settled};
 
 use crate::fault::StoreFault;
 use crate::store::Store;
@@ -17,6 +19,12 @@ impl<S: Alter> Records for Store<S> {
     ghost stands = { λ s c b. StandsStored s.config (state S.Store s.conn) c b };
 
     ghost clean = { λ s. HasCleanDisk (state S.Store s.conn) };
+
+    ghost serves = { λ s. Serves (state S.Store s.conn) };
+
+    ghost leaves = { λ s c books. StoredLeaves (state S.Store s.conn) c books };
+
+    ghost settled = { λ s c b _ serves stands. stored_settled (state S.Store s.conn) s.config c b serves stands };
 
     ghost params = { λ s. s.config.cluster.params };
 
@@ -84,6 +92,7 @@ fn see_open<S: Alter>(store: &mut Store<S>) -> Result<(), Refusal>
     ensures config { store.new.config ≡ store.old.config }
     ensures open { HasCleanDisk (state S.Store store.new.conn) → OnOk result (IsTrue (state S.Store store.new.conn).is_open) }
     ensures stands { HasCleanDisk (state S.Store store.new.conn) → (c : _) (b : _) → StandsStored store.old.config (state S.Store store.old.conn) c b → StandsStored store.new.config (state S.Store store.new.conn) c b }
+    ensures leaves { HasCleanDisk (state S.Store store.new.conn) → (c : _) (books : _) → StoredLeaves (state S.Store store.old.conn) c books → StoredLeaves (state S.Store store.new.conn) c books }
     ensures refused { IfErr result (λ e. e ≡ Unavailable) }
 {
     if store.is_ready() {

@@ -27,6 +27,12 @@ impl Records for Counted {
 
     ghost clean = { λ _. ⊥ };
 
+    ghost serves = { λ _. ⊥ };
+
+    ghost leaves = { λ _ _ _. ⊥ };
+
+    ghost settled = { λ _ _ _ clean. absurd clean };
+
     ghost params = { λ counted. counted.config.cluster.params };
 
     fn config(&self) -> &Config {

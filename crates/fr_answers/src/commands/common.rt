@@ -1,6 +1,7 @@
 //! The integrator's commands on all suppliers.
 ghost use Rattle.fr_base.specs.Step.{common};
-ghost use Rattle.fr_answers.specs.Carried.{Does};
+ghost use Rattle.fr_answers.specs.Carried.{Does, MayLeave};
+ghost use Rattle.std.specs.Prelude.{OnOk};
 
 use fr_base::{CommonCommand, Refusal};
 use fr_records::Records;
@@ -14,6 +15,8 @@ pub(crate) fn change_common<R: Records>(
     command: &CommonCommand,
 ) -> Result<(), Refusal>
     ensures falls { R.clean records.new → R.clean records.old }
+    ensures open { R.clean records.new → OnOk result (R.serves records.new) }
+    ensures leaves { R.clean records.new → MayLeave (R.stands records.old) (R.leaves records.old) (R.leaves records.new) (λ c b. common b command.now) }
     ensures does { R.clean records.new → Does (R.stands records.old) (R.stands records.new) result (λ c b. common b command.now) }
 {
     let variants = records.variants(alloc)?;

@@ -1,6 +1,7 @@
 //! The integrator's command that gives a supplier a node.
 ghost use Rattle.fr_base.specs.Step.{add_node};
-ghost use Rattle.fr_answers.specs.Carried.{Does};
+ghost use Rattle.fr_answers.specs.Carried.{Does, MayLeave};
+ghost use Rattle.std.specs.Prelude.{OnOk};
 
 use crate::suppliers::has_supplier;
 use fr_base::{Name, Refusal};
@@ -16,6 +17,8 @@ pub(crate) fn add_node<R: Records>(
     node: Name,
 ) -> Result<(), Refusal>
     ensures falls { R.clean records.new → R.clean records.old }
+    ensures open { R.clean records.new → OnOk result (R.serves records.new) }
+    ensures leaves { R.clean records.new → MayLeave (R.stands records.old) (R.leaves records.old) (R.leaves records.new) (λ c b. add_node b supplier node) }
     ensures does { R.clean records.new → Does (R.stands records.old) (R.stands records.new) result (λ c b. add_node b supplier node) }
 {
     if !has_supplier(records.config(), supplier) {

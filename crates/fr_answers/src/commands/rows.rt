@@ -1,9 +1,9 @@
 //! Changes of a supplier's rows in a variant.
-ghost use Rattle.std.specs.Prelude.{◌≡◌, IfOk};
+ghost use Rattle.std.specs.Prelude.{◌≡◌, IfOk, OnOk};
 ghost use Rattle.fr_base.specs.Step.{change_rows};
-ghost use Rattle.fr_answers.specs.Carried.{Allows, Does, Makes};
+ghost use Rattle.fr_answers.specs.Carried.{Allows, Does, Makes, MayLeave};
 ghost use Rattle.fr_answers.specs.Decided.{TakesAll, is_taken};
-ghost use Rattle.fr_records.specs.Held.{Tells};
+ghost use Rattle.fr_records.specs.Held.{LeavesEdited, LeavesNoMore, Tells};
 ghost use Rattle.fr_world.specs.Decisions.{IsChecked};
 
 use crate::amending::amended;
@@ -24,6 +24,8 @@ pub(crate) fn change_rows<R: Records>(
 ) -> Result<(), Refusal>
     requires checked { IsChecked (R.params records.old) change.now }
     ensures falls { R.clean records.new → R.clean records.old }
+    ensures open { R.clean records.new → OnOk result (R.serves records.new) }
+    ensures leaves { R.clean records.new → MayLeave (R.stands records.old) (R.leaves records.old) (R.leaves records.new) (λ c b. change_rows c.params b supplier variant change.now) }
     ensures does { R.clean records.new → Does (R.stands records.old) (R.stands records.new) result (λ c b. change_rows c.params b supplier variant change.now) }
 {
     let page = open_page(alloc, records, supplier, variant)?;
@@ -45,6 +47,7 @@ fn allow<R: Records>(
 ) -> Result<Vec<Edit>, Refusal>
     requires checked { IsChecked page.now.params change.now }
     ensures falls { R.clean records.new → R.clean records.old }
+    ensures leaves { R.clean records.new → LeavesNoMore (R.leaves records.old) (R.leaves records.new) }
     ensures same { R.params records.new ≡ R.params records.old }
     ensures takes { IfOk result (λ edits. TakesAll page.now edits.items) }
     ensures allows { R.clean records.new → Allows (R.stands records.old) (R.stands records.new) result page.now change.now }
@@ -59,6 +62,7 @@ fn allow<R: Records>(
 // Whether what is to be granted in the variant is held.
 fn is_taken<R: Records>(records: &mut R, variant: Name, change: &Change) -> Result<bool, Refusal>
     ensures falls { R.clean records.new → R.clean records.old }
+    ensures leaves { R.clean records.new → LeavesNoMore (R.leaves records.old) (R.leaves records.new) }
     ensures same { R.params records.new ≡ R.params records.old }
     ensures taken { R.clean records.new → Tells (R.stands records.old) (R.stands records.new) result (λ c b is. is ≡ is_taken b variant change.now) }
 {
@@ -78,6 +82,8 @@ fn make<R: Records>(
     requires params { page.params ≡ R.params records.old }
     requires takes { TakesAll page edits.now }
     ensures falls { R.clean records.new → R.clean records.old }
+    ensures open { R.clean records.new → OnOk result (R.serves records.new) }
+    ensures leaves { R.clean records.new → LeavesEdited (R.stands records.old) (R.leaves records.old) (R.leaves records.new) edits.now }
     ensures makes { R.clean records.new → Makes (R.stands records.old) (R.stands records.new) result page edits.now }
 {
     records.apply(alloc, edits)?;

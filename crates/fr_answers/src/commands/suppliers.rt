@@ -1,6 +1,7 @@
 //! The integrator's command by which a supplier joins.
 ghost use Rattle.fr_base.specs.Step.{add_supplier};
-ghost use Rattle.fr_answers.specs.Carried.{Does};
+ghost use Rattle.fr_answers.specs.Carried.{Does, MayLeave};
+ghost use Rattle.std.specs.Prelude.{OnOk};
 
 use fr_base::{Key, Name, Refusal};
 use fr_records::Records;
@@ -16,6 +17,8 @@ pub(crate) fn add_supplier<R: Records>(
     key: Key,
 ) -> Result<(), Refusal>
     ensures falls { R.clean records.new → R.clean records.old }
+    ensures open { R.clean records.new → OnOk result (R.serves records.new) }
+    ensures leaves { R.clean records.new → MayLeave (R.stands records.old) (R.leaves records.old) (R.leaves records.new) (λ c b. add_supplier c b supplier key) }
     ensures does { R.clean records.new → Does (R.stands records.old) (R.stands records.new) result (λ c b. add_supplier c b supplier key) }
 {
     let edit = decide_supplier(records.config(), supplier, key)?;

@@ -5,6 +5,7 @@ ghost use Rattle.fr_base.specs.Book.{own};
 ghost use Rattle.fr_base.specs.Queries.{frames_of};
 ghost use Rattle.fr_answers.specs.Shown.{Gathers};
 ghost use Rattle.fr_world.specs.Pages.{own_rows_of};
+ghost use Rattle.fr_records.specs.Held.{LeavesNoMore};
 
 use crate::queries::find_page;
 use fr_base::{FrameRow, Name, NoMemory, Refusal, Rows};
@@ -36,6 +37,7 @@ pub(crate) fn gather_frames<R: Records>(
     variant: Name,
 ) -> Result<Rows<FrameRow>, Refusal>
     ensures falls { R.clean records.new → R.clean records.old }
+    ensures leaves { R.clean records.new → LeavesNoMore (R.leaves records.old) (R.leaves records.new) }
     ensures gathers { R.clean records.new → Gathers (R.stands records.old) (R.stands records.new) result variant (λ p x rows. rows ≡ flat_map (λ s. frames_of (own s x.frames)) suppliers.now) }
 {
     let mut rows = Rows::new(alloc);

@@ -4,6 +4,7 @@ ghost use Rattle.fr_base.specs.Queries.{named, signals_of};
 ghost use Rattle.fr_base.specs.Tables.{len};
 ghost use Rattle.fr_answers.specs.Shown.{AreSignals, Gathers};
 ghost use Rattle.fr_world.specs.Pages.{own_rows_of};
+ghost use Rattle.fr_records.specs.Held.{LeavesNoMore};
 
 use crate::queries::find_page;
 use fr_base::{Name, NoMemory, Refusal, Rows, SignalRow};
@@ -40,6 +41,7 @@ pub(crate) fn gather_signals<R: Records>(
     name: Name,
 ) -> Result<Option<Rows<SignalRow>>, Refusal>
     ensures falls { R.clean records.new → R.clean records.old }
+    ensures leaves { R.clean records.new → LeavesNoMore (R.leaves records.old) (R.leaves records.new) }
     ensures gathers { R.clean records.new → Gathers (R.stands records.old) (R.stands records.new) result variant (λ p x found. AreSignals name suppliers.now x found) }
 {
     let mut rows = Rows::new(alloc);

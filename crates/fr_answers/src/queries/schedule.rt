@@ -6,6 +6,7 @@ ghost use Rattle.fr_answers.specs.Shown.{Gathers};
 ghost use Rattle.fr_base.specs.Queries.{sendings_of};
 ghost use Rattle.fr_world.specs.Pages.{own_rows_of};
 ghost use Rattle.fr_world.specs.Sendings.{sent_in};
+ghost use Rattle.fr_records.specs.Held.{LeavesNoMore};
 
 use crate::queries::find_page;
 use fr_base::{Name, NoMemory, Params, Refusal, Rows, Sending};
@@ -32,6 +33,7 @@ pub(crate) fn gather_schedule<R: Records>(
     variant: Name,
 ) -> Result<Rows<Sending>, Refusal>
     ensures falls { R.clean records.new → R.clean records.old }
+    ensures leaves { R.clean records.new → LeavesNoMore (R.leaves records.old) (R.leaves records.new) }
     ensures gathers { R.clean records.new → Gathers (R.stands records.old) (R.stands records.new) result variant (λ p x rows. rows ≡ sent_in (placements_among suppliers.now x) (cluster_cells params.now)) }
 {
     let triggerings = gather_triggerings(alloc, records, suppliers, variant)?;
@@ -46,6 +48,7 @@ fn gather_triggerings<R: Records>(
     variant: Name,
 ) -> Result<Triggerings, Refusal>
     ensures falls { R.clean records.new → R.clean records.old }
+    ensures leaves { R.clean records.new → LeavesNoMore (R.leaves records.old) (R.leaves records.new) }
     ensures gathers { R.clean records.new → Gathers (R.stands records.old) (R.stands records.new) result variant (λ p x triggerings. triggerings ≡ placements_among suppliers.now x) }
 {
     let mut triggerings = Triggerings::new(alloc);

@@ -1,7 +1,10 @@
-use Rattle.std.proofs.Common.{rules, ◌≡◌, Ok, Err, subst}
+use Rattle.std.proofs.Common.{rules, ◌≡◌, Ok, Err, subst, ◌∷◌, inl, inr, sym}
 use Rattle.fr_base.specs.declared.params.Params.{Params}
-use Rattle.fr_answers.specs.Answering.{HasPassed}
-use Rattle.fr_answers.proofs.StepLaws.{acted, passed, unchecked, unknown}
+use Rattle.fr_answers.specs.Answering.{HasPassed, AfterCommand}
+use Rattle.fr_answers.proofs.StepLaws.{acted, acts_so, passed, unchecked, unknown}
+use Rattle.fr_base.specs.Step.{Outcome, act}
+use Rattle.fr_base.specs.declared.answer.Answer.{Answer}
+use Rattle.fr_answers.proofs.DoneLaws.{done_so}
 use Rattle.fr_answers.proofs.answering.answer.Goals as goal
 
 pub returns-then-not-is_known-clause-answers : goal.returns-then-not-is_known-clause-answers
@@ -27,3 +30,34 @@ returns-in-Err-act-clause-answers g c = λ clean.
 pub returns-in-Err-clause-answers : goal.returns-in-Err-clause-answers
 returns-in-Err-clause-answers g c = λ clean.
     unchecked (g.R.Records.stands c.args.records.now) c.config-config.result.now c.config-config.ensures.config c.args.ask.now (search rules) c.in-Err.refusal (search rules)
+
+pub returns-then-not-is_known-clause-leaves : goal.returns-then-not-is_known-clause-leaves
+returns-then-not-is_known-clause-leaves g c = λ clean cl b books stood sound left. inl left
+
+pub returns-in-Err-clause-leaves : goal.returns-in-Err-clause-leaves
+returns-in-Err-clause-leaves g c = λ clean cl b books stood sound left. inl left
+
+pub returns-in-Ok-act-clause-leaves : goal.returns-in-Ok-act-clause-leaves
+returns-in-Ok-act-clause-leaves g c = λ clean cl b books stood sound left.
+    let so = acts_so (g.R.Records.stands c.args.records.now) c.config-config.result.now c.config-config.ensures.config c.args.ask.now (search rules) c.in-Ok.valid (search rules) cl b stood in
+    elim (c.act.ensures.leaves clean cl b books stood sound so.0 left) [
+      | inl stays ↦ inl stays
+      | inr more ↦ inr (subst (λ (after : Outcome). g.R.Records.leaves c.act.new.records cl (after.book ∷ books)) (sym (so.1 more.0 more.1)) more.2)
+    ]
+
+pub returns-in-Err-act-clause-leaves : goal.returns-in-Err-act-clause-leaves
+returns-in-Err-act-clause-leaves g c = λ clean cl b books stood sound left.
+    let so = acts_so (g.R.Records.stands c.args.records.now) c.config-config.result.now c.config-config.ensures.config c.args.ask.now (search rules) c.in-Ok.valid (search rules) cl b stood in
+    elim (c.act.ensures.leaves clean cl b books stood sound so.0 left) [
+      | inl stays ↦ inl stays
+      | inr more ↦ inr (subst (λ (after : Outcome). g.R.Records.leaves c.act.new.records cl (after.book ∷ books)) (sym (so.1 more.0 more.1)) more.2)
+    ]
+
+pub returns-in-Ok-act-clause-open : goal.returns-in-Ok-act-clause-open
+returns-in-Ok-act-clause-open g c = λ clean cl b stood sound done.
+    let records = g.R.Records in
+    let so = acts_so (records.stands c.args.records.now) c.config-config.result.now c.config-config.ensures.config c.args.ask.now (search rules) c.in-Ok.valid (search rules) cl b stood in
+    let acts = c.in-Ok-act.ensures.acts clean cl b stood sound so.0 in
+    done_so cl b c.args.ask.now.actor c.in-Ok.valid (records.serves c.act.new.records) acts.0
+    (subst (λ (a : Answer). act cl b c.args.ask.now.actor c.in-Ok.valid ≡ Ok (record { book = acts.0; answer = a })) done acts.1)
+    (subst (λ (a : Answer). AfterCommand c.in-Ok.valid (Ok a) (records.serves c.act.new.records)) done (c.in-Ok-act.ensures.open clean))

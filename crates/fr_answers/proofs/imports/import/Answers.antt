@@ -1,5 +1,5 @@
-use Rattle.std.proofs.Common.{rules}
-use Rattle.fr_answers.proofs.ImportLaws.{IsNew, count_lacked, label_again, label_free, label_stopped, no_room, page_stopped, refused_so, rows_given}
+use Rattle.std.proofs.Common.{rules, inl, inr}
+use Rattle.fr_answers.proofs.ImportLaws.{IsNew, count_lacked, label_again, label_free, label_stopped, no_room, page_stopped, refused_so, rows_given, rows_left}
 use Rattle.fr_answers.proofs.imports.import.Goals as goal
 
 pub returns-in_err-rows-clause-gives : goal.returns-in_err-rows-clause-gives
@@ -58,3 +58,41 @@ returns-clause-gives g c = λ clean.
     let new : IsNew old mid i = label_free i old mid c.in_ok-rows.field-0 (search rules) (c.in_ok-rows.ensures.label (c.open_page.ensures.falls clean_next)) in
     rows_given i old mid new next c.in_ok-page.page (c.in_ok-page.ensures.page clean_next) last c.in_ok-count.count (c.in_ok-count.ensures.imports clean_last) (search rules)
     (g.R.Records.stands c.import_rows.new.records) c.import_rows.result (c.import_rows.ensures.gives clean)
+
+pub returns-in_err-rows-clause-leaves : goal.returns-in_err-rows-clause-leaves
+returns-in_err-rows-clause-leaves g c = λ clean cl b books stood sound known left. inl (c.rows_kept.ensures.leaves clean cl books left)
+
+pub returns-in-Some-clause-leaves : goal.returns-in-Some-clause-leaves
+returns-in-Some-clause-leaves g c = λ clean cl b books stood sound known left. inl (c.rows_kept.ensures.leaves clean cl books left)
+
+pub returns-in_err-page-clause-leaves : goal.returns-in_err-page-clause-leaves
+returns-in_err-page-clause-leaves g c = λ clean cl b books stood sound known left.
+    inl (c.open_page.ensures.leaves clean cl books (c.rows_kept.ensures.leaves (c.open_page.ensures.falls clean) cl books left))
+
+pub returns-in_err-count-clause-leaves : goal.returns-in_err-count-clause-leaves
+returns-in_err-count-clause-leaves g c = λ clean cl b books stood sound known left.
+    let next = c.imports.ensures.falls clean in
+    inl (c.imports.ensures.leaves clean cl books (c.open_page.ensures.leaves next cl books (c.rows_kept.ensures.leaves (c.open_page.ensures.falls next) cl books left)))
+
+pub returns-in_err-admit_import-clause-leaves : goal.returns-in_err-admit_import-clause-leaves
+returns-in_err-admit_import-clause-leaves g c = λ clean cl b books stood sound known left.
+    let next = c.imports.ensures.falls clean in
+    inl (c.imports.ensures.leaves clean cl books (c.open_page.ensures.leaves next cl books (c.rows_kept.ensures.leaves (c.open_page.ensures.falls next) cl books left)))
+
+pub returns-clause-leaves : goal.returns-clause-leaves
+returns-clause-leaves g c = λ clean cl b books stood sound known left.
+    let old = g.R.Records.stands c.args.records.now in
+    let mid = g.R.Records.stands c.rows_kept.new.records in
+    let next = g.R.Records.stands c.open_page.new.records in
+    let last = g.R.Records.stands c.imports.new.self in
+    let i = c.args.import.now in
+    let clean_last = c.import_rows.ensures.falls clean in
+    let clean_next = c.imports.ensures.falls clean_last in
+    let clean_mid = c.open_page.ensures.falls clean_next in
+    let new : IsNew old mid i = label_free i old mid c.in_ok-rows.field-0 (search rules) (c.in_ok-rows.ensures.label clean_mid) in
+    let so = rows_left i old mid new next c.in_ok-page.page (c.in_ok-page.ensures.page clean_next) last c.in_ok-count.count (c.in_ok-count.ensures.imports clean_last) (search rules) cl b stood sound known in
+    let before = c.imports.ensures.leaves clean_last cl books (c.open_page.ensures.leaves clean_next cl books (c.rows_kept.ensures.leaves clean_mid cl books left)) in
+    elim (c.import_rows.ensures.leaves clean cl b books so.0 sound known so.1 so.2 before) [
+      | inl stays ↦ inl stays
+      | inr more ↦ inr (_, so.3, more)
+    ]

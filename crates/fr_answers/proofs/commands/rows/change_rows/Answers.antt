@@ -1,5 +1,9 @@
-use Rattle.std.proofs.Common.{rules, Err}
+use Rattle.std.proofs.Common.{rules, Err, Ok, List, subst}
 use Rattle.fr_answers.proofs.RowsLaws.{rows_made, rows_refused, rows_stopped}
+use Rattle.fr_records.specs.Held.{LeavesEdited}
+use Rattle.fr_world.specs.declared.edit.Edit.{Edit}
+use Rattle.fr_base.specs.Step.{change_rows}
+use Rattle.fr_answers.proofs.CrashLaws.{AddsTo, may_do, may_stay}
 use Rattle.fr_answers.proofs.commands.rows.change_rows.Goals as goal
 
 pub returns-in_err-page-clause-does : goal.returns-in_err-page-clause-does
@@ -23,3 +27,26 @@ returns-in-Err-clause-does g c = λ clean.
     let asked = c.keep.ensures.falls clean in
     rows_refused (g.R.Records.stands c.args.records.now) mid c.args.supplier c.args.variant c.args.change.now c.in_ok-page.page (c.in_ok-page.ensures.page (c.allow.ensures.falls asked))
     (g.R.Records.stands c.allow.new.records) (g.R.Records.stands c.keep.new.self) (Err c.in-Err.refusal) c.in-Err.refusal (search rules) (c.in-Err.ensures.allows asked) (c.keep.ensures.keeps clean)
+
+pub returns-in_err-page-clause-leaves : goal.returns-in_err-page-clause-leaves
+returns-in_err-page-clause-leaves g c = λ clean. may_stay _ _ _ _ (c.open_page.ensures.leaves clean)
+
+pub returns-in-Ok-clause-leaves : goal.returns-in-Ok-clause-leaves
+returns-in-Ok-clause-leaves g c = λ clean.
+    let records = g.R.Records in
+    let stands = records.stands c.args.records.now in
+    let asked = c.make.ensures.falls clean in
+    let late = c.allow.ensures.falls asked in
+    let next = records.leaves c.allow.new.records in
+    let new = records.leaves c.make.new.records in
+    let made = subst (λ (es : List Edit). LeavesEdited (records.stands c.allow.new.records) next new es) c.deref.ensures.value (c.make.ensures.leaves clean) in
+    may_do stands (records.leaves c.args.records.now) next new (λ cl b. change_rows cl.params b c.args.supplier c.args.variant c.args.change.now)
+    (λ cl books left. c.allow.ensures.leaves asked cl books (c.open_page.ensures.leaves late cl books left)) (λ books.
+    rows_made stands (records.stands c.open_page.new.records) c.args.supplier c.args.variant c.args.change.now c.in_ok-page.page (c.in_ok-page.ensures.page late)
+    (records.stands c.allow.new.records) (AddsTo books next new) c.in-Ok.edits (Ok tt) (c.in-Ok.ensures.allows asked) (search rules)
+    (λ cl b stood fresh fit left. made cl b books stood fit left))
+
+pub returns-in-Err-clause-leaves : goal.returns-in-Err-clause-leaves
+returns-in-Err-clause-leaves g c = λ clean.
+    let asked = c.keep.ensures.falls clean in
+    may_stay _ _ _ _ (λ cl books left. c.keep.ensures.leaves clean cl books (c.allow.ensures.leaves asked cl books (c.open_page.ensures.leaves (c.allow.ensures.falls asked) cl books left)))

@@ -8,6 +8,7 @@ pub loop-supplier-init : goal.loop-supplier-init
 loop-supplier-init g c =
     record {
       falls = λ now. now;
+      leaves = λ now cl books left. left;
       gathered = λ now. held-none (g.R.Records.stands c.args.records.now) c.args.variant c.new-held.result.entries c.new-held.ensures.empty;
     }
 
@@ -18,6 +19,9 @@ loop-supplier-preserved g c =
     let suppliers = c.args.suppliers.now in
     record {
       falls = λ now. c.loop-supplier.invariant.falls (c.find_page.ensures.falls (c.keep.ensures.falls now));
+      leaves = λ now cl books left.
+          let read = c.keep.ensures.falls now in
+          c.keep.ensures.leaves now cl books (c.find_page.ensures.leaves read cl books (c.loop-supplier.invariant.leaves (c.find_page.ensures.falls read) cl books left));
       gathered = λ now.
           held-more (records.stands c.args.records.now) c.args.variant (records.stands c.loop-supplier.records) (records.stands c.keep.new.self)
           c.supplier-item.result (take i suppliers) (take (i + 1) suppliers) c.in_ok-page.page c.loop-supplier.held.entries c.add_grants.new.held.entries

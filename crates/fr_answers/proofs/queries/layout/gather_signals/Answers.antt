@@ -23,6 +23,9 @@ loop-supplier-preserved g c =
     ] in
     record {
       falls = λ now. c.loop-supplier.invariant.falls (c.find_page.ensures.falls (c.keep.ensures.falls now));
+      leaves = λ now cl books left.
+          let read = c.keep.ensures.falls now in
+          c.keep.ensures.leaves now cl books (c.find_page.ensures.leaves read cl books (c.loop-supplier.invariant.leaves (c.find_page.ensures.falls read) cl books left));
       gathered = λ now.
           gathered-more (signals_named c.args.name) old c.args.variant mid new s (take i suppliers) (take (i + 1) suppliers) c.in_ok-page.page c.loop-supplier.rows c.push_signals.new.rows
           (c.loop-supplier.invariant.gathered (c.find_page.ensures.falls (c.keep.ensures.falls now))) (finds-kept _ _ _ _ _ _ (c.in_ok-page.ensures.page (c.keep.ensures.falls now)) (c.keep.ensures.keeps now)) c.in_ok-push_signals.ensures.rows more;

@@ -4,6 +4,7 @@ use Rattle.sqlite.specs.State.{HasCleanDisk}
 use Rattle.fr_base.specs.Tables.{get}
 use Rattle.fr_world.specs.ImportLabels.{kept_of}
 use Rattle.fr_store.proofs.StoredLaws.{told}
+use Rattle.fr_store.proofs.CrashLemmas.{read_left}
 use Rattle.fr_store.proofs.store_records.StoreRecords.import.Goals as goal
 
 pub returns-clause-import : goal.returns-clause-import
@@ -15,3 +16,10 @@ returns-clause-import g c clean cluster b stored =
     told mid (state g.S.Store c.import.new.self.conn) c.see_open.new.store.config c.import.new.self.config c.import.ensures.config clean cluster b there
     (λ found. option_map kept_of found ≡ get b.imports (c.args.supplier, c.args.label)) c.import.result c.answer.result c.answer.ensures ready c.import.ensures.stays
     (c.import.ensures.import clean cluster b (there.rows ready).0)
+
+pub returns-clause-leaves : goal.returns-clause-leaves
+returns-clause-leaves g c clean cluster books left =
+    let mid = state g.S.Store c.see_open.new.store.conn in
+    let clean_mid : HasCleanDisk mid = omega (arith, c.import.ensures.spares.clean, clean) in
+    read_left mid (state g.S.Store c.import.new.self.conn) c.import.ensures.spares clean (c.in_ok-see_open.ensures.open clean_mid) c.import.ensures.stays cluster books
+    (c.see_open.ensures.leaves clean_mid cluster books left)

@@ -5,6 +5,7 @@ use Rattle.fr_base.specs.declared.refusal.Refusal.TheVariants.{Unavailable}
 use Rattle.fr_store.specs.Reading.{as_holder, holder_in}
 use Rattle.fr_records.specs.Held.{held_in}
 use Rattle.fr_store.proofs.StoredLaws.{told, held_as}
+use Rattle.fr_store.proofs.CrashLemmas.{read_left}
 use Rattle.fr_store.proofs.store_records.StoreRecords.is_held.Goals as goal
 
 pub returns-in_err-holder-clause-held : goal.returns-in_err-holder-clause-held
@@ -34,3 +35,17 @@ returns-clause-held g c clean cluster b stored =
     let who = subst (λ o. MatchResult o (λ found. option_map as_holder found ≡ holder_in b c.args.variant (c.args.slot, c.args.channel)) (λ e. e ≡ Unavailable)) c.in_ok-holder.was known.1 in
     let is : c.is_some.result ≡ is_some c.in_ok-holder.holder = search rules in
     (known.0, is ∙ held_as b c.args.variant (c.args.slot, c.args.channel) c.in_ok-holder.holder who)
+
+pub returns-clause-leaves : goal.returns-clause-leaves
+returns-clause-leaves g c clean cluster books left =
+    let mid = state g.S.Store c.see_open.new.store.conn in
+    let clean_mid : HasCleanDisk mid = omega (arith, c.holder.ensures.spares.clean, clean) in
+    read_left mid (state g.S.Store c.holder.new.self.conn) c.holder.ensures.spares clean (c.in_ok-see_open.ensures.open clean_mid) c.holder.ensures.stays cluster books
+    (c.see_open.ensures.leaves clean_mid cluster books left)
+
+pub returns-in_err-holder-clause-leaves : goal.returns-in_err-holder-clause-leaves
+returns-in_err-holder-clause-leaves g c clean cluster books left =
+    let mid = state g.S.Store c.see_open.new.store.conn in
+    let clean_mid : HasCleanDisk mid = omega (arith, c.holder.ensures.spares.clean, clean) in
+    read_left mid (state g.S.Store c.holder.new.self.conn) c.holder.ensures.spares clean (c.in_ok-see_open.ensures.open clean_mid) c.holder.ensures.stays cluster books
+    (c.see_open.ensures.leaves clean_mid cluster books left)

@@ -5,6 +5,7 @@ use Rattle.fr_base.specs.Cluster.{ClusterFile}
 use Rattle.fr_base.specs.declared.params.Params.{Params}
 use Rattle.fr_records.specs.Held.{page_of}
 use Rattle.fr_store.proofs.StoredLaws.{answered, given, told}
+use Rattle.fr_store.proofs.CrashLemmas.{read_left}
 use Rattle.fr_store.proofs.store_records.StoreRecords.page.Goals as goal
 
 pub returns-clause-params : goal.returns-clause-params
@@ -23,3 +24,10 @@ returns-clause-page g c clean cluster b stored =
     (λ found. found ≡ page_of cluster.params b c.args.supplier c.args.variant) c.page.result c.answer.result c.answer.ensures ready c.page.ensures.stays
     (given c.page.result (cluster.params.cycles ≡ cluster.params.cycles) (λ found. found ≡ page_of cluster.params b c.args.supplier c.args.variant) refl
     (subst (λ x. IfOk c.page.result (λ found. cluster.params.cycles ≡ x.cluster.params.cycles → found ≡ page_of x.cluster.params b c.args.supplier c.args.variant)) there.config (c.page.ensures.page clean cluster b (there.rows ready).0)))
+
+pub returns-clause-leaves : goal.returns-clause-leaves
+returns-clause-leaves g c clean cluster books left =
+    let mid = state g.S.Store c.see_open.new.store.conn in
+    let clean_mid : HasCleanDisk mid = omega (arith, c.page.ensures.spares.clean, clean) in
+    read_left mid (state g.S.Store c.page.new.self.conn) c.page.ensures.spares clean (c.in_ok-see_open.ensures.open clean_mid) c.page.ensures.stays cluster books
+    (c.see_open.ensures.leaves clean_mid cluster books left)
