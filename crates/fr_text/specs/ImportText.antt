@@ -1,6 +1,6 @@
 -- What a reader of an import's records still has to give.
-use Rattle.std.specs.Prelude.{◌≡◌, ℕ, ◌+◌, List, [], length, Option, Some, None, false}
-use Rattle.csv.specs.Reading.{Ready, default_config, has_failed, reader_config, reader_state, reader_trim, records_from, source_of}
+use Rattle.std.specs.Prelude.{◌≡◌, ℕ, ◌+◌, List, [], length, Option, Some, None, false, true}
+use Rattle.csv.specs.Reading.{Ready, default_config, has_failed, is_flexible, reader_config, reader_state, reader_trim, records_from, source_of}
 use Rattle.csv.specs.declared.parser.State.{State}
 use Rattle.csv.specs.declared.reader.Reader.{Reader}
 use Rattle.csv.specs.declared.reader.Trim.TheVariants as trim
@@ -14,6 +14,7 @@ records_left s (Some bytes) = records_from default_config (length bytes + 1) s b
 abbrev pub left_of : {R : Type 0} → (R → Option (List ℕ)) → Reader R → List (List (List ℕ))
 left_of remaining reader = records_left (reader_state reader) (source_of remaining reader)
 
--- as long as it has not failed, the reader gives each record as it stands
+-- as long as it has not failed, the reader gives each record as it stands, of however many fields
 abbrev pub IsPlain : {R : Type 0} → Reader R → Type 0
-IsPlain reader = has_failed reader ≡ false → (reader_config reader ≡ default_config) × (reader_trim reader ≡ trim.None) × Ready reader
+IsPlain reader =
+    has_failed reader ≡ false → (reader_config reader ≡ default_config) × (reader_trim reader ≡ trim.None) × Ready reader × (is_flexible reader ≡ true)

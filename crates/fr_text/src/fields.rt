@@ -1,11 +1,13 @@
 //! Reads JSON, and the fields of an object, each of its kind.
-ghost use Rattle.std.specs.Prelude.{◌≡◌, ◌⊎◌, map, option_map, Some, None};
+ghost use Rattle.std.specs.Prelude.{◌≡◌, ◌⊎◌, IfErr, false, Err, map, option_map, Some, None};
+ghost use Rattle.std.specs.Str.{is_utf8};
+ghost use Rattle.serde_json.specs.Errors.{IsMemory};
 ghost use Rattle.serde_json.specs.Find.{get_member};
 ghost use Rattle.serde_json.specs.View.{view};
 ghost use Rattle.fr_text.specs.Fields.{fields_in, value_of, text, text_or_null, whole, is_among, only, provided, Reads};
 
 use fr_base::{Refusal, Text};
-use serde_json::{Map, Value};
+use serde_json::{Error, Map, Value};
 use std::alloc::Global;
 
 /// The fields of a request's object.
@@ -14,22 +16,36 @@ pub(crate) type Fields = Map<String, Value>;
 /// The value that the bytes spell in JSON.
 #[tactic(auto, using(crate::proofs::FieldsLemmas::utf8_tests), unfolding(crate::specs::Fields::value_of))]
 pub(crate) fn read_json(alloc: Global, bytes: &[u8]) -> Result<Value, Refusal>
-    ensures { Reads view (value_of bytes.now) result }
+    ensures value { Reads view (value_of bytes.now) result }
+
+    // Bytes that are no text are never `Unavailable`.
+    ensures plain { is_utf8 bytes.now ≡ false → result ≡ Err Refusal.BadText }
 {
     let Ok(text) = str::from_utf8(bytes) else {
         return Err(Refusal::BadText);
     };
     match Value::from_str(alloc, text) {
         Ok(value) => Ok(value),
-        Err(error) if error.is_memory() => Err(Refusal::Unavailable),
-        Err(_) => Err(Refusal::BadText),
+        Err(error) => Err(refusal_of(&error)),
+    }
+}
+
+// How a text is refused of which no value was read: for want of memory, or else as a text that is none.
+fn refusal_of(error: &Error) -> Refusal
+    ensures { ((result ≡ Refusal.Unavailable) × IsMemory error.now) ⊎ ((result ≡ Refusal.BadText) × ¬ (IsMemory error.now)) }
+{
+    if error.is_memory() {
+        Refusal::Unavailable
+    } else {
+        Refusal::BadText
     }
 }
 
 /// The field of this name, a text.
 #[tactic(auto, unfolding(crate::specs::Fields::text))]
 pub(crate) fn text_in<'v>(fields: &'v Fields, name: &str) -> Result<&'v str, Refusal>
-    ensures { Reads (λ s. s.now) (text name.now (fields_in fields.now)) result }
+    ensures there { Reads (λ s. s.now) (text name.now (fields_in fields.now)) result }
+    ensures plain { IfErr result (λ refusal. refusal ≡ Refusal.BadText) }
 {
     field(fields, name)
         .and_then(Value::as_str)
@@ -61,7 +77,8 @@ pub(crate) fn copy_text_or_null(
 /// The field of this name, a whole number from 0 to 4,294,967,295.
 #[tactic(auto, unfolding(crate::specs::Fields::whole))]
 pub(crate) fn number_in(fields: &Fields, name: &str) -> Result<u32, Refusal>
-    ensures { Reads (λ n. n) (whole name.now (fields_in fields.now)) result }
+    ensures there { Reads (λ n. n) (whole name.now (fields_in fields.now)) result }
+    ensures plain { IfErr result (λ refusal. refusal ≡ Refusal.BadText) }
 {
     field(fields, name)
         .and_then(Value::as_u64)
@@ -71,7 +88,8 @@ pub(crate) fn number_in(fields: &Fields, name: &str) -> Result<u32, Refusal>
 
 /// Refuses a field whose name is none of these.
 pub(crate) fn allow_only(fields: &Fields, names: &[&str]) -> Result<(), Refusal>
-    ensures { Reads (λ _. tt) (provided (only (map (λ name. name.now) names.now) (fields_in fields.now))) result }
+    ensures there { Reads (λ _. tt) (provided (only (map (λ name. name.now) names.now) (fields_in fields.now))) result }
+    ensures plain { IfErr result (λ refusal. refusal ≡ Refusal.BadText) }
 {
     if has_only(fields, names) {
         Ok(())
@@ -90,7 +108,8 @@ fn field<'v>(fields: &'v Fields, name: &str) -> Option<&'v Value>
 // The field of this name, a text; `None` where it is absent or null.
 #[tactic(auto, unfolding(crate::specs::Fields::text_or_null))]
 fn text_or_null_in<'v>(fields: &'v Fields, name: &str) -> Result<Option<&'v str>, Refusal>
-    ensures { Reads (option_map (λ s. s.now)) (text_or_null name.now (fields_in fields.now)) result }
+    ensures there { Reads (option_map (λ s. s.now)) (text_or_null name.now (fields_in fields.now)) result }
+    ensures plain { IfErr result (λ refusal. refusal ≡ Refusal.BadText) }
 {
     match field(fields, name) {
         None => Ok(None),
