@@ -1,9 +1,10 @@
 //! The input of a connection, read within a bound.
-ghost use Rattle.std.specs.Prelude.{◌≡◌, ◌⊎◌, ◌<◌, ◌≤◌, length, take, IfOk, IfErr, OnErr};
+ghost use Rattle.std.specs.Prelude.{◌≡◌, ◌⊎◌, ◌↔◌, ◌<◌, ◌≤◌, length, take, IfOk, IfErr, IsErrOf, IsOk, OnErr};
 ghost use Rattle.std.specs.Io.KnownBytes.{Consumes, IsAtEnd, Keeps};
+ghost use Rattle.std.specs.IoError.{error_kind};
 
 use crate::fault::LinkFault;
-use std::io::{ErrorKind, Read};
+use std::io::{Error, ErrorKind, Read};
 
 /// In how many reads a request is read at most, interrupted ones included.
 pub const MAX_READS: u32 = 100_000;
@@ -20,6 +21,7 @@ impl<'a, R: Read> Input<'a, R> {
     pub(crate) fn new(reader: &'a mut R) -> Input<'a, R>
         ensures same { result.reader.ghost_name ≡ reader.entry.ghost_name }
         ensures holds { result.reader.now ≡ reader.old }
+        ensures reads { result.reads ≡ MAX_READS }
     {
         Input {
             reader,
@@ -35,16 +37,28 @@ impl<'a, R: Read> Input<'a, R> {
         ensures end { IfOk result (λ n. n ≡ 0 → 0 < length piece.new → IsAtEnd (R.remaining self.new.reader.now)) }
         ensures kept { OnErr result (Keeps (R.remaining self.old.reader.now) (R.remaining self.new.reader.now)) }
         ensures fault { IfErr result (λ fault. (fault ≡ LinkFault.ReadFailed) ⊎ (fault ≡ LinkFault.TooManyReads)) }
+        ensures spent { IsErrOf result LinkFault.TooManyReads → self.new.reads ≡ 0 }
+        ensures reads { self.new.reads ≤ self.old.reads }
         ensures same { self.new.reader.ghost_name ≡ self.old.reader.ghost_name }
     {
         while self.reads > 0 {
             self.reads -= 1;
             match self.reader.read(piece) {
                 Ok(n) => return Ok(n),
-                Err(error) if error.kind() == ErrorKind::Interrupted => {}
-                Err(_) => return Err(LinkFault::ReadFailed),
+                Err(error) => try_again(&error)?,
             }
         }
         Err(LinkFault::TooManyReads)
+    }
+}
+
+// Whether a read that failed so is tried again: it is, where it was interrupted.
+fn try_again(error: &Error) -> Result<(), LinkFault>
+    ensures again { IsOk result ↔ (error_kind error.now ≡ ErrorKind.Interrupted) }
+    ensures fault { IfErr result (λ fault. fault ≡ LinkFault.ReadFailed) }
+{
+    match error.kind() {
+        ErrorKind::Interrupted => Ok(()),
+        _ => Err(LinkFault::ReadFailed),
     }
 }

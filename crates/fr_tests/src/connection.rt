@@ -315,6 +315,7 @@ fn a_request_is_asked_once_it_is_whole(rt: HostRuntime) -> Result<(), Fail> {
         for (error, fault) in [
             (None, LinkFault::Truncated),
             (Some(ErrorKind::ConnectionReset), LinkFault::ReadFailed),
+            (Some(ErrorKind::WouldBlock), LinkFault::ReadFailed),
             (Some(ErrorKind::Interrupted), LinkFault::TooManyReads),
         ] {
             if end > 0 && error == Some(ErrorKind::Interrupted) {
