@@ -9,4 +9,5 @@ pub mod OutputLaws
 pub mod RunLaws
 pub mod EndingLaws
 pub mod AskingLaws
+pub mod ServingLaws
 mod EachFault

@@ -60,11 +60,12 @@ pub fn print<W: Write>(text: &[u8], output: &mut Output<'_, W>) -> Result<(), Wr
     output.write_all(text)
 }
 
-/// Writes the line that names a fault.
+/// Writes the line that names a fault. The line has retries of its own.
 pub fn print_word<W: Write>(word: &str, output: &mut Output<'_, W>) -> Result<(), WriteFailed>
     ensures front { AppendsFront (W.contents output.old.writer.now) (W.contents output.new.writer.now) (word_line word.now) }
     ensures same { output.new.writer.ghost_name ≡ output.old.writer.ghost_name }
 {
+    output.renew();
     output.write_all(b"slotplan: ")?;
     output.write_all(word.as_bytes())?;
     output.write_all(b"\n")

@@ -1,7 +1,8 @@
 //! Serves a register file over HTTP.
-ghost use Rattle.std.specs.Prelude.{◌≡◌};
-ghost use Rattle.fr_cli.specs.Endings.{AppendsFront};
-ghost use Rattle.fr_cli.specs.Performing.{listening};
+ghost use Rattle.std.specs.Prelude.{◌≡◌, ◌⊎◌, ◌∷◌, [], IfErr, Result, ⊤};
+ghost use Rattle.sqlite_wal.specs.Files.{image_at};
+ghost use Rattle.fr_cli.specs.Serving.{HasServed, IsAnnounced, IsServed, ServesOne, TellsEach};
+ghost use Rattle.fr_http.specs.declared.fault.LinkFault.{LinkFault as Link};
 
 use crate::fault::{Fault, link_word};
 use crate::printing::{print, print_word};
@@ -45,7 +46,8 @@ pub fn serve<S: Start, O: Write, E: Write>(
     out: &mut O,
     err: &mut Output<'_, E>,
 ) -> (Result<(), Fault>, Left<S>)
-    ensures front { AppendsFront (O.contents out.old) (O.contents out.new) (listening service.port) }
+    ensures announced { IsAnnounced service.port (O.contents out.old) (O.contents out.new) result.0 }
+    ensures served { IsServed (image_at S.Start) result.1 service.count (E.contents err.old.writer.now) (E.contents err.new.writer.now) result.0 }
     ensures same { err.new.writer.ghost_name ≡ err.old.writer.ghost_name }
 {
     match file_desk::open(rt, db, start) {
@@ -65,7 +67,10 @@ fn serve_desk<D: Desk, O: Write, E: Write>(
     out: &mut O,
     err: &mut Output<'_, E>,
 ) -> Result<(), Fault>
-    ensures front { AppendsFront (O.contents out.old) (O.contents out.new) (listening service.port) }
+    ensures falls { D.clean desk.new → D.clean desk.old }
+    ensures announced { IsAnnounced service.port (O.contents out.old) (O.contents out.new) result }
+    ensures served { HasServed (D.clean desk.new) (D.stands desk.old) (D.stands desk.new) service.count
+        (E.contents err.old.writer.now) (E.contents err.new.writer.now) result }
     ensures same { err.new.writer.ghost_name ≡ err.old.writer.ghost_name }
 {
     let listener = TcpListener::bind(rt, (Ipv4Addr::LOCALHOST, service.port)).map_err(
@@ -77,7 +82,8 @@ fn serve_desk<D: Desk, O: Write, E: Write>(
 
 // Prints where it listens.
 fn announce<O: Write>(alloc: Global, port: u16, out: &mut O) -> Result<(), Fault>
-    ensures front { AppendsFront (O.contents out.old) (O.contents out.new) (listening port) }
+    ensures announced { IsAnnounced port (O.contents out.old) (O.contents out.new) result }
+    ensures fault { IfErr result (λ fault. (fault ≡ Fault.NoMemory) ⊎ (fault ≡ Fault.WriteFailed)) }
 {
     let line = format!(in alloc; "listening on 127.0.0.1:{port}\n").map_err(|_| Fault::NoMemory)?;
     Ok(print(line.as_bytes(), &mut Output::new(out))?)
@@ -91,18 +97,40 @@ fn answer_all<D: Desk, E: Write>(
     desk: &mut D,
     err: &mut Output<'_, E>,
 ) -> Result<(), Fault>
+    ensures falls { D.clean desk.new → D.clean desk.old }
+    ensures served { HasServed (D.clean desk.new) (D.stands desk.old) (D.stands desk.new) service.now.count
+        (E.contents err.old.writer.now) (E.contents err.new.writer.now) result }
     ensures same { err.new.writer.ghost_name ≡ err.old.writer.ghost_name }
 {
     for _ in 0..service.count {
         let (stream, _) = listener.accept().map_err(|_| Fault::CannotListen)?;
-        if let Err(fault) = serve_stream(rt, &stream, service.seconds, desk) {
-            let _ = print_word(link_word(fault), err);
-        }
+        answer_stream(rt, &stream, service.seconds, desk, err);
     }
     Ok(())
 }
 
-/// Serves one connection within so many seconds.
+// Serves one connection, and tells of its fault.
+fn answer_stream<D: Desk, E: Write>(
+    rt: &HostRuntime,
+    stream: &TcpStream,
+    seconds: u32,
+    desk: &mut D,
+    err: &mut Output<'_, E>,
+)
+    ensures falls { D.clean desk.new → D.clean desk.old }
+    ensures served { (end : Result ⊤ Link) × ServesOne (D.clean desk.new) (D.stands desk.old) (D.stands desk.new) end
+        × TellsEach (E.contents err.old.writer.now) (E.contents err.new.writer.now) (end ∷ []) }
+    ensures same { err.new.writer.ghost_name ≡ err.old.writer.ghost_name }
+{
+    match serve_stream(rt, stream, seconds, desk) {
+        Ok(()) => {}
+        Err(fault) => {
+            let _ = print_word(link_word(fault), err);
+        }
+    }
+}
+
+/// Serves one connection within so many seconds: one exchange with the register, which then stands for the book after it.
 pub fn serve_stream<D: Desk>(
     rt: &HostRuntime,
     stream: &TcpStream,
@@ -110,6 +138,7 @@ pub fn serve_stream<D: Desk>(
     desk: &mut D,
 ) -> Result<(), LinkFault>
     ensures falls { D.clean desk.new → D.clean desk.old }
+    ensures served { ServesOne (D.clean desk.new) (D.stands desk.old) (D.stands desk.new) result }
 {
     let time = Duration::from_secs(u64::from(seconds));
     let Ok(mut client) = TimedStream::new(rt, stream, time) else {

@@ -1,10 +1,11 @@
-use Rattle.std.proofs.Common.{rules, ◌∙◌, ap, subst, sym}
+use Rattle.std.proofs.Common.{rules, ℕ, Bor, ◌∙◌, ap, subst, sym}
 use Rattle.sqlite_wal.specs.Files.{image_at}
 use Rattle.fr_cli.specs.Asking.{import_of, line_of, query_of}
 use Rattle.fr_cli.specs.Faults.{IsNotImported, IsNotReported}
 use Rattle.fr_cli.specs.Performing.{Says}
 use Rattle.fr_cli.specs.Queries.{report_of}
 use Rattle.fr_cli.specs.RegisterFiles.{IsAnswerOfFile}
+use Rattle.fr_cli.specs.Serving.{IsAnnounced, IsServed}
 use Rattle.fr_cli.specs.declared.asking.ImportWords.{ImportWords}
 use Rattle.fr_cli.specs.declared.query.Query.{Query}
 use Rattle.fr_cli.specs.declared.words.Job.{Job}
@@ -33,3 +34,22 @@ returns-in-Import-clause-import g c db key variant label file is =
     let says = subst (λ words. Says IsNotImported (IsAnswerOfFile (image_at g.S.Start) c.import_file-done.result.1 (import_of words said.0)) line_of c.import_file-done.result.0)
     (ap (words_in (record { key = key; variant = variant; label = label })) (sym c.in-Import.is ∙ is)) said.1 in
     (said.0, c.import_file-done.result.0, says, search rules)
+
+-- the port and the count of a server's job
+port_in : Job → ℕ
+port_in (job.Serve db port count seconds) = port
+port_in _ = 0
+
+count_in : Job → ℕ
+count_in (job.Serve db port count seconds) = count
+count_in _ = 0
+
+pub returns-in-Serve-clause-serve : goal.returns-in-Serve-clause-serve
+unfolding port_in count_in
+returns-in-Serve-clause-serve g c db port count seconds is =
+    let done = c.serve-done.result.0 in
+    let same = sym c.in-Serve.is ∙ is in
+    let announced = subst (λ p. IsAnnounced p (g.O.Write.contents c.args.out.now) (g.O.Write.contents c.serve-done.new.out) done) (ap port_in same) c.serve-done.ensures.announced in
+    let served = subst (λ n. IsServed (image_at g.S.Start) c.serve-done.result.1 n _ _ done) (ap count_in same) c.serve-done.ensures.served in
+    let from = subst (λ e. IsServed (image_at g.S.Start) c.serve-done.result.1 count (g.E.Write.contents e) _ done) c.new.ensures.holds served in
+    (done, search rules, announced, (_, from, search rules))
