@@ -1,0 +1,3 @@
+pub mod RectangleLemmas
+pub mod LaneLemmas
+pub mod PageLemmas
