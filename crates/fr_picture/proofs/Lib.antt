@@ -1,3 +1,4 @@
-pub mod RectangleLemmas
-pub mod LaneLemmas
 pub mod PageLemmas
+pub mod KindLemmas
+pub mod RunLemmas
+pub mod StripLemmas

@@ -7,15 +7,17 @@ use Rattle.fr_base.specs.declared.channel.Channels.TheVariants as channels
 use Rattle.fr_base.specs.declared.name.Name.{Name}
 use Rattle.fr_base.specs.declared.params.Params.{Params}
 use Rattle.fr_base.specs.declared.params.RawParams.{RawParams}
-use Rattle.fr_picture.specs.declared.drawing.Drawing.{Drawing}
-use Rattle.fr_picture.specs.declared.lane.Lane.{Lane}
-use Rattle.fr_picture.specs.declared.lane.Scale.{Scale}
+use Rattle.fr_drawing.specs.Lanes.{IsDrawing}
+use Rattle.fr_drawing.specs.declared.columns.Scale.{Scale}
+use Rattle.fr_drawing.specs.declared.drawing.Drawing.{Drawing}
+use Rattle.fr_drawing.specs.declared.lane.Lane.{Lane}
 use Rattle.fr_picture.specs.declared.page.Plan.{Plan}
 use Rattle.fr_picture.specs.declared.shares.Share.{Share}
 use Rattle.fr_picture.specs.declared.texts.Fixed.TheVariants as fixed
 use Rattle.fr_picture.specs.FrameTables.{frames_text}
-use Rattle.fr_picture.specs.Lanes.{IsDrawing, lanes_text}
-use Rattle.fr_picture.specs.Shares.{classes_text, legend_text, patterns_text, suppliers_of}
+use Rattle.fr_picture.specs.LaneTexts.{lanes_text}
+use Rattle.fr_picture.specs.Sets.{shapes_text}
+use Rattle.fr_picture.specs.Shares.{legend_text, share_of, suppliers_of}
 use Rattle.fr_picture.specs.Styles.{style_text}
 use Rattle.fr_picture.specs.Texts.{together, fixed_text}
 
@@ -42,11 +44,11 @@ viewer_text (Some supplier) = together (codes " This page shows what is " ∷ su
 unfoldable pub cycle_figures : List ℕ → RawParams → List ℕ
 cycle_figures names p =
     together (codes "</p>\n<p>Channels " ∷ names ∷ codes "; " ∷ decimal p.cycles ∷ codes " cycles of " ∷ decimal p.macroticks_per_cycle
-    ∷ codes " macroticks; payload of " ∷ decimal p.payload_words ∷ codes " words. " ∷ [])
+    ∷ codes " macroticks; payload words " ∷ decimal p.payload_words ∷ codes "; " ∷ [])
 
 unfoldable pub segment_figures : RawParams → List ℕ
 segment_figures p =
-    together (decimal p.static_slots ∷ codes " static slots of " ∷ decimal p.slot_macroticks ∷ codes ", dynamic segment " ∷ decimal p.dynamic_macroticks
+    together (decimal p.static_slots ∷ codes " static slots of " ∷ decimal p.slot_macroticks ∷ codes " macroticks, dynamic segment " ∷ decimal p.dynamic_macroticks
     ∷ codes ", symbol window " ∷ decimal p.symbol_macroticks ∷ codes ", idle time " ∷ decimal p.idle_macroticks ∷ codes ".</p>\n" ∷ [])
 
 -- the cluster's figures
@@ -58,8 +60,12 @@ unfoldable pub figures_text : Plan → List ℕ
 figures_text plan =
     heading_text plan.variant ++ parent_text plan.parent ++ state_text plan.released ++ viewer_text plan.supplier ++ cluster_text plan.params
 
-unfoldable pub top_text : Plan → List Share → List ℕ
-top_text plan shares = head_text plan.variant ++ style_text ++ classes_text shares ++ figures_text plan
+-- the style of payloads of so many bits
+unfoldable pub strips_text : ℕ → List ℕ
+strips_text bits = together (codes "td path{transform:scale(calc(400/" ∷ decimal bits ∷ codes "),1)}\n" ∷ [])
+
+unfoldable pub top_text : Plan → List ℕ
+top_text plan = head_text plan.variant ++ style_text ++ strips_text (16 * plan.params.payload_words) ++ figures_text plan
 
 unfoldable pub cycle_text : ℕ → List ℕ
 cycle_text n = together (codes "<text class=names x=3.6 y=" ∷ decimal n ∷ codes ">" ∷ decimal n ∷ codes "</text>" ∷ [])
@@ -74,23 +80,27 @@ bands_text channels.A = fixed_text fixed.BandA
 bands_text channels.B = fixed_text fixed.BandB
 bands_text channels.AB = fixed_text fixed.BandsAB
 
-unfoldable pub drawing_text : Plan → List Share → Scale → List Lane → List ℕ
-drawing_text plan shares scale lanes =
-    fixed_text fixed.PatternsStart ++ patterns_text shares ++ fixed_text fixed.NumbersStart ++ cycles_text scale.cycles ++ bands_text plan.params.channels
-    ++ lanes_text scale lanes
+unfoldable pub drawing_text : Plan → List Name → Scale → List Lane → List ℕ
+drawing_text plan names scale lanes =
+    fixed_text fixed.ShapesStart ++ shapes_text scale ++ fixed_text fixed.NumbersStart ++ cycles_text scale.cycles ++ bands_text plan.params.channels
+    ++ lanes_text names scale lanes
 
 unfoldable pub tables_text : Plan → List Share → List ℕ
 tables_text plan shares =
-    fixed_text fixed.LegendStart ++ legend_text shares ++ fixed_text fixed.TableStart ++ frames_text (16 * plan.params.payload_words) plan.frames.items
-    ++ fixed_text fixed.PageEnd
+    fixed_text fixed.LegendStart ++ legend_text shares ++ fixed_text fixed.TableStart ++ frames_text plan.frames.items ++ fixed_text fixed.PageEnd
 
-unfoldable pub page_text : Plan → Drawing → List Share → List ℕ
-page_text plan d shares = top_text plan shares ++ drawing_text plan shares d.scale d.lanes.items ++ tables_text plan shares
+unfoldable pub page_text : Plan → Drawing → List Name → List Share → List ℕ
+page_text plan d names shares = top_text plan ++ drawing_text plan names d.scale d.lanes.items ++ tables_text plan shares
+
+-- the suppliers of a plan, and how full their grants are
+abbrev pub names_of : Plan → List Name
+names_of plan = suppliers_of plan.frames.items plan.grants
+
+abbrev pub shares_of : Plan → List Share
+shares_of plan = map (share_of (names_of plan) plan.params.cycles plan.grants plan.cells) (names_of plan)
 
 -- The page of a plan: the text of a drawing that has exactly its grants and its cells, and of each of its suppliers and frames.
 pub record IsPage (plan : Plan) (text : List ℕ) : Type 0 where
   pub drawing : Drawing
-  pub shares : List Share
   pub drawn : IsDrawing plan.grants plan.cells drawing.lanes.items
-  pub suppliers : map (λ s. s.supplier) shares ≡ suppliers_of plan.frames.items plan.grants
-  pub is : text ≡ page_text plan drawing shares
+  pub is : text ≡ page_text plan drawing (names_of plan) (shares_of plan)

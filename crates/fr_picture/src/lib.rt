@@ -1,19 +1,17 @@
 //! A picture of a variant's plan: one page of HTML, with the static segment as inline SVG.
 #![tactic(auto)]
 
-mod drawing;
 mod frames;
-mod lane;
+mod kinds;
+mod lanes;
 mod page;
-mod places;
-mod rectangle;
+mod sets;
 mod shares;
+mod signals;
 mod style;
 mod texts;
 
-pub use drawing::Drawing;
-pub use frames::{DrawnFrame, DrawnSignal, Run, worst_first};
-pub use lane::{Lane, Place, Scale, Shows};
+pub use frames::{DrawnFrame, worst_first};
 pub use page::{Plan, write_page};
-pub use rectangle::Rectangle;
 pub use shares::Share;
+pub use signals::{DrawnSignal, Run};

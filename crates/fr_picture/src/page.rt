@@ -1,15 +1,16 @@
 //! The page of a variant.
 ghost use Rattle.std.specs.Prelude.{◌≡◌, ◌++◌, OnOk, IfOk};
 ghost use Rattle.std.specs.String.{string_bytes};
-ghost use Rattle.fr_picture.specs.Pages.{IsPage, bands_text, cluster_text, cycle_figures, cycle_text, cycles_text, drawing_text, figures_text, head_text, heading_text, opened_text, page_text, parent_text, segment_figures, state_text, tables_text, top_text, viewer_text};
+ghost use Rattle.fr_picture.specs.Pages.{IsPage, bands_text, cluster_text, cycle_figures, cycle_text, cycles_text, drawing_text, figures_text, head_text, heading_text, opened_text, page_text, parent_text, segment_figures, state_text, strips_text, tables_text, top_text, viewer_text};
 
-use crate::drawing::{Drawing, draw};
 use crate::frames::{DrawnFrame, push_frames};
-use crate::lane::push_lanes;
-use crate::shares::{Share, push_classes, push_legend, push_patterns, shares_of, suppliers};
+use crate::lanes::push_lanes;
+use crate::sets::push_shapes;
+use crate::shares::{Share, push_legend, shares_of, suppliers};
 use crate::style::style;
 use crate::texts::{Fixed, push, push_fixed};
 use fr_base::{Channels, GrantRow, Name, NoMemory, Params, RawParams, Rows, Sending};
+use fr_drawing::{Drawing, draw};
 use std::alloc::Global;
 
 /// What a page shows: a variant's plan, as its reader sees it.
@@ -44,7 +45,7 @@ pub fn write_page(alloc: Global, plan: &Plan) -> Result<String, NoMemory>
     let names = suppliers(alloc, frames, grants)?;
     let known = names.as_slice();
     let shares = shares_of(alloc, known, plan.params.cycles(), grants, cells)?;
-    let text = write_parts(alloc, plan, &drawing, shares.as_slice())?;
+    let text = write_parts(alloc, plan, &drawing, known, shares.as_slice())?;
     Ok(text)
 }
 
@@ -54,26 +55,35 @@ fn write_parts(
     alloc: Global,
     plan: &Plan,
     drawing: &Drawing,
+    names: &[Name],
     shares: &[Share],
 ) -> Result<String, NoMemory>
-    ensures { IfOk result (λ text. string_bytes text ≡ page_text plan.now drawing.now shares.now) }
+    ensures { IfOk result (λ text. string_bytes text ≡ page_text plan.now drawing.now names.now shares.now) }
 {
     let mut out = String::new(alloc);
-    push_top(plan, shares, &mut out)?;
-    push_drawing(plan, shares, drawing, &mut out)?;
+    push_top(plan, &mut out)?;
+    push_drawing(alloc, plan, names, drawing, &mut out)?;
     push_tables(plan, shares, &mut out)?;
     Ok(out)
 }
 
 // Appends what stands above the drawing.
 #[tactic(auto, unfolding(crate::specs::Pages::top_text))]
-fn push_top(plan: &Plan, shares: &[Share], out: &mut String) -> Result<(), NoMemory>
-    ensures { OnOk result (string_bytes out.new ≡ string_bytes out.old ++ top_text plan.now shares.now) }
+fn push_top(plan: &Plan, out: &mut String) -> Result<(), NoMemory>
+    ensures { OnOk result (string_bytes out.new ≡ string_bytes out.old ++ top_text plan.now) }
 {
     push_head(plan.variant, out)?;
     push(style(), out)?;
-    push_classes(shares, out)?;
+    push_strips(16 * plan.params.payload_words(), out)?;
     push_figures(plan, out)
+}
+
+// Appends the style of payloads of so many bits.
+#[tactic(auto, unfolding(crate::specs::Pages::strips_text))]
+fn push_strips(bits: u32, out: &mut String) -> Result<(), NoMemory>
+    ensures { OnOk result (string_bytes out.new ≡ string_bytes out.old ++ strips_text bits) }
+{
+    write!(out, "td path{{transform:scale(calc(400/{bits}),1)}}\n")
 }
 
 #[tactic(auto, unfolding(crate::specs::Pages::head_text))]
@@ -164,7 +174,7 @@ fn push_cycle_figures(channels: &str, raw: RawParams, out: &mut String) -> Resul
     } = raw;
     write!(
         out,
-        "</p>\n<p>Channels {channels}; {cycles} cycles of {macroticks_per_cycle} macroticks; payload of {payload_words} words. "
+        "</p>\n<p>Channels {channels}; {cycles} cycles of {macroticks_per_cycle} macroticks; payload words {payload_words}; "
     )
 }
 
@@ -183,26 +193,28 @@ fn push_segments(raw: RawParams, out: &mut String) -> Result<(), NoMemory>
     } = raw;
     write!(
         out,
-        "{static_slots} static slots of {slot_macroticks}, dynamic segment {dynamic_macroticks}, symbol window {symbol_macroticks}, idle time {idle_macroticks}.</p>\n"
+        "{static_slots} static slots of {slot_macroticks} macroticks, dynamic segment {dynamic_macroticks}, symbol window {symbol_macroticks}, idle time {idle_macroticks}.</p>\n"
     )
 }
 
 // Appends the drawing.
 #[tactic(auto, unfolding(crate::specs::Pages::drawing_text))]
 fn push_drawing(
+    alloc: Global,
     plan: &Plan,
-    shares: &[Share],
+    names: &[Name],
     drawing: &Drawing,
     out: &mut String,
 ) -> Result<(), NoMemory>
-    ensures { OnOk result (string_bytes out.new ≡ string_bytes out.old ++ drawing_text plan.now shares.now drawing.now.scale drawing.now.lanes.items) }
+    ensures { OnOk result (string_bytes out.new ≡ string_bytes out.old ++ drawing_text plan.now names.now drawing.now.scale drawing.now.lanes.items) }
 {
-    push_fixed(Fixed::PatternsStart, out)?;
-    push_patterns(shares, out)?;
+    let scale = drawing.scale;
+    push_fixed(Fixed::ShapesStart, out)?;
+    push_shapes(scale, out)?;
     push_fixed(Fixed::NumbersStart, out)?;
-    push_cycles(drawing.scale.cycles, out)?;
+    push_cycles(scale.cycles, out)?;
     push_bands(plan.params.channels(), out)?;
-    push_lanes(drawing.scale, drawing.lanes.as_slice(), out)
+    push_lanes(alloc, names, scale, drawing.lanes.as_slice(), out)
 }
 
 // Appends the numbers of the cycles.
@@ -240,10 +252,9 @@ fn push_bands(channels: Channels, out: &mut String) -> Result<(), NoMemory>
 fn push_tables(plan: &Plan, shares: &[Share], out: &mut String) -> Result<(), NoMemory>
     ensures { OnOk result (string_bytes out.new ≡ string_bytes out.old ++ tables_text plan.now shares.now) }
 {
-    let bits = 16 * plan.params.payload_words();
     push_fixed(Fixed::LegendStart, out)?;
     push_legend(shares, out)?;
     push_fixed(Fixed::TableStart, out)?;
-    push_frames(bits, plan.frames.as_slice(), out)?;
+    push_frames(plan.frames.as_slice(), out)?;
     push_fixed(Fixed::PageEnd, out)
 }

@@ -3,25 +3,26 @@ ghost use Rattle.std.specs.Prelude.{◌≡◌, ◌++◌, ◌<◌, ◌≤◌, ◌
 ghost use Rattle.std.specs.List.{fold, list_any};
 ghost use Rattle.std.specs.String.{string_bytes};
 ghost use Rattle.fr_base.specs.Names.{same_text};
-ghost use Rattle.fr_picture.specs.Shares.{class_text, classes_text, fill_text, holds_text, key_text, legend_text, paint_text, patterns_text, percent, share_text, suppliers_of, with_name};
+ghost use Rattle.fr_picture.specs.Shares.{holds_text, key_text, legend_text, mark_text, number_of, percent, round_text, share_of, share_text, suppliers_of, with_name};
 
 use crate::frames::DrawnFrame;
-use crate::style::{colour, pattern};
+use crate::style::letter;
+use crate::texts::push;
 use fr_base::{GrantRow, Name, NoMemory, Sending};
 use std::alloc::Global;
 
 /// A supplier, and how full its grants are.
 #[derive(Clone, Copy)]
 pub struct Share {
-    /// Its number, from 0 on, by which it has its colour and pattern.
-    pub number: u32,
+    /// Its number, from 0 on, by which it has its colour and mark.
+    pub number: usize,
     /// Its name.
     pub supplier: Name,
-    /// How many slots it holds, each on a channel.
+    /// How many lanes it holds: slots, each on a channel.
     pub held: usize,
     /// How many cells it sends in.
     pub sent: usize,
-    /// How many cells its slots have.
+    /// How many cells its lanes have.
     pub room: u64,
 }
 
@@ -83,29 +84,24 @@ pub(crate) fn shares_of(
     grants: &[GrantRow],
     cells: &[Sending],
 ) -> Result<Vec<Share>, NoMemory>
-    ensures { IfOk result (λ shares. map (λ s. s.supplier) shares.items ≡ names.now) }
+    ensures { IfOk result (λ shares. shares.items ≡ map (share_of names.now cycles grants.now cells.now) names.now) }
 {
     let mut shares = Vec::new(alloc);
-    let mut number: u32 = 0;
     for name in names {
-        shares.push(measure(number, *name, cycles, grants, cells))?;
-        number = number.saturating_add(1);
+        shares.push(measure(names, *name, cycles, grants, cells))?;
     }
     Ok(shares)
 }
 
 // How full the grants of this supplier are.
 fn measure(
-    number: u32,
+    names: &[Name],
     supplier: Name,
     cycles: u32,
     grants: &[GrantRow],
     cells: &[Sending],
 ) -> Share
-    ensures supplier { result.supplier ≡ supplier }
-    ensures number { result.number ≡ number }
-    ensures held { result.held ≡ count_by (λ g. same_text g.supplier supplier) grants.now }
-    ensures sent { result.sent ≡ count_by (λ s. same_text s.supplier supplier) cells.now }
+    ensures { result ≡ share_of names.now cycles grants.now cells.now supplier }
 {
     let held = grants
         .iter()
@@ -116,7 +112,7 @@ fn measure(
         .filter(|cell| cell.supplier == supplier)
         .count();
     Share {
-        number,
+        number: number_of(names, supplier),
         supplier,
         held,
         sent,
@@ -124,55 +120,34 @@ fn measure(
     }
 }
 
-/// Appends the classes of the suppliers, by which their cells have their colours.
-#[tactic(auto, unfolding(crate::specs::Shares::classes_text))]
-pub(crate) fn push_classes(shares: &[Share], out: &mut String) -> Result<(), NoMemory>
-    ensures { OnOk result (string_bytes out.new ≡ string_bytes out.old ++ classes_text shares.now) }
+/// The number of the supplier of this name, by which it has its colour and mark.
+pub(crate) fn number_of(names: &[Name], supplier: Name) -> usize
+    ensures { result ≡ number_of names.now supplier }
 {
-    for share in shares {
-        push_class(share, out)?;
+    names
+        .iter()
+        .position(|name| *name == supplier)
+        .unwrap_or(0)
+}
+
+/// Appends the mark of the supplier of this number: the letter of its colour, and how often the colours were used before it.
+#[tactic(auto, unfolding(crate::specs::Shares::mark_text))]
+pub(crate) fn push_mark(number: usize, out: &mut String) -> Result<(), NoMemory>
+    ensures { OnOk result (string_bytes out.new ≡ string_bytes out.old ++ mark_text number) }
+{
+    push(letter(number), out)?;
+    push_round(number / 8, out)
+}
+
+#[tactic(auto, unfolding(crate::specs::Shares::round_text))]
+fn push_round(round: usize, out: &mut String) -> Result<(), NoMemory>
+    ensures { OnOk result (string_bytes out.new ≡ string_bytes out.old ++ round_text round) }
+{
+    if round == 0 {
+        Ok(())
+    } else {
+        write!(out, "{round}")
     }
-    Ok(())
-}
-
-#[tactic(auto, unfolding(crate::specs::Shares::class_text))]
-fn push_class(share: &Share, out: &mut String) -> Result<(), NoMemory>
-    ensures { OnOk result (string_bytes out.new ≡ string_bytes out.old ++ class_text share.now) }
-{
-    let Share {
-        number,
-        supplier,
-        ..
-    } = *share;
-    write!(out, ".s-{supplier}{{fill:url(#p{number})}}\n")
-}
-
-/// Appends the suppliers' patterns.
-#[tactic(auto, unfolding(crate::specs::Shares::patterns_text))]
-pub(crate) fn push_patterns(shares: &[Share], out: &mut String) -> Result<(), NoMemory>
-    ensures { OnOk result (string_bytes out.new ≡ string_bytes out.old ++ patterns_text shares.now) }
-{
-    for share in shares {
-        push_paint(share.number, out)?;
-    }
-    Ok(())
-}
-
-#[tactic(auto, unfolding(crate::specs::Shares::paint_text))]
-fn push_paint(number: u32, out: &mut String) -> Result<(), NoMemory>
-    ensures { OnOk result (string_bytes out.new ≡ string_bytes out.old ++ paint_text number) }
-{
-    push_fill(number, colour(number), pattern(number), out)
-}
-
-#[tactic(auto, unfolding(crate::specs::Shares::fill_text))]
-fn push_fill(number: u32, colour: &str, path: &str, out: &mut String) -> Result<(), NoMemory>
-    ensures { OnOk result (string_bytes out.new ≡ string_bytes out.old ++ fill_text number colour.now path.now) }
-{
-    write!(
-        out,
-        "<pattern id=p{number} width=1 height=1 patternUnits=userSpaceOnUse><path fill=\"{colour}\" d=\"M0 0h1v1H0z\"/><path stroke=#000 stroke-width=.14 d=\"{path}\"/></pattern>\n"
-    )
 }
 
 /// Appends the legend: each supplier's colour, and how full its grants are.
@@ -190,18 +165,16 @@ pub(crate) fn push_legend(shares: &[Share], out: &mut String) -> Result<(), NoMe
 fn push_share(share: &Share, out: &mut String) -> Result<(), NoMemory>
     ensures { OnOk result (string_bytes out.new ≡ string_bytes out.old ++ share_text share.now) }
 {
-    push_key(share.supplier, out)?;
+    push_key(share.number % 8, out)?;
+    push_mark(share.number, out)?;
     push_holds(share, percent(share.sent as u64, share.room), out)
 }
 
 #[tactic(auto, unfolding(crate::specs::Shares::key_text))]
-fn push_key(supplier: Name, out: &mut String) -> Result<(), NoMemory>
-    ensures { OnOk result (string_bytes out.new ≡ string_bytes out.old ++ key_text supplier) }
+fn push_key(colour: usize, out: &mut String) -> Result<(), NoMemory>
+    ensures { OnOk result (string_bytes out.new ≡ string_bytes out.old ++ key_text colour) }
 {
-    write!(
-        out,
-        "<li><svg class=key viewBox=\"0 0 5 2\"><rect class=s-{supplier} width=5 height=2 /></svg> {supplier} "
-    )
+    write!(out, "<li><i class=c{colour}>")
 }
 
 #[tactic(auto, unfolding(crate::specs::Shares::holds_text))]
@@ -209,6 +182,7 @@ fn push_holds(share: &Share, percent: u64, out: &mut String) -> Result<(), NoMem
     ensures { OnOk result (string_bytes out.new ≡ string_bytes out.old ++ holds_text share.now percent) }
 {
     let Share {
+        supplier,
         held,
         sent,
         room,
@@ -216,7 +190,7 @@ fn push_holds(share: &Share, percent: u64, out: &mut String) -> Result<(), NoMem
     } = *share;
     write!(
         out,
-        "holds {held} slots and sends in {sent} of their {room} cells: {percent} %</li>\n"
+        "</i> {supplier}: lanes {held}, cells {room}, sent in {sent} of them ({percent} %)</li>\n"
     )
 }
 

@@ -6,4 +6,4 @@ use Rattle.fr_picture.proofs.frames.push_frames.Given as goal
 
 -- the text of those up to here
 abbrev pub invariant-loop-frame : goal.invariant-loop-frame
-invariant-loop-frame l = string_bytes l.out ≡ string_bytes l.initial.out ++ flat_map (frame_text l.bits) (take l.frame-index l.frames)
+invariant-loop-frame l = string_bytes l.out ≡ string_bytes l.initial.out ++ flat_map (frame_text) (take l.frame-index l.frames)

@@ -1,0 +1,2 @@
+pub mod RectangleLemmas
+pub mod LaneLemmas

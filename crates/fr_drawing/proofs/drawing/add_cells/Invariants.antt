@@ -1,0 +1,14 @@
+use Rattle.std.proofs.Common.{◌≡◌, ◌++◌, take, vec_len}
+use Rattle.std.specs.List.{All}
+use Rattle.std.specs.List.Sorted.{IsPermutation}
+use Rattle.fr_drawing.specs.Lanes.{IsApart, drawn_cells, drawn_grants}
+use Rattle.fr_drawing.proofs.drawing.add_cells.Given as goal
+
+-- those up to here are drawn
+abbrev pub invariant-loop-cell : goal.invariant-loop-cell
+invariant-loop-cell l = record {
+  len : vec_len l.lanes ≡ 2046;
+  drawn : IsPermutation (drawn_cells l.lanes.items) (drawn_cells l.initial.lanes.items ++ take l.cell-index l.cells);
+  others : drawn_grants l.lanes.items ≡ drawn_grants l.initial.lanes.items;
+  apart : All IsApart l.initial.lanes.items → All IsApart l.lanes.items;
+}

@@ -1,0 +1,8 @@
+use Rattle.fr_drawing.proofs.LaneLemmas.{drawing_of}
+use Rattle.fr_drawing.proofs.drawing.draw.Goals as goal
+
+pub returns : goal.returns
+returns c =
+    drawing_of _ _ _ _ _ c.in_ok-lanes.ensures.grants c.in_ok-lanes.ensures.cells c.in_ok-lanes.ensures.apart
+    c.in_ok-add_grants.ensures.grants c.in_ok-add_grants.ensures.cells c.in_ok-add_grants.ensures.apart
+    c.in_ok-add_cells.ensures.cells c.in_ok-add_cells.ensures.grants c.in_ok-add_cells.ensures.apart

@@ -1,0 +1,29 @@
+-- The lanes of a drawing: what is drawn of one slot and channel.
+use Rattle.std.specs.Prelude.{List, IsPermutation}
+use Rattle.std.specs.List.{flat_map, All}
+use Rattle.fr_base.specs.declared.answer.GrantRow.{GrantRow}
+use Rattle.fr_base.specs.declared.answer.Sending.{Sending}
+use Rattle.fr_drawing.specs.declared.lane.Lane.{Lane}
+use Rattle.fr_drawing.specs.Rectangles.{AreApart, cells_in}
+
+-- the cells of a lane's rectangles
+abbrev pub lane_cells : Lane → List Sending
+lane_cells l = cells_in l.rectangles.items
+
+-- all grants and all cells that lanes draw
+unfoldable pub drawn_grants : List Lane → List GrantRow
+drawn_grants lanes = flat_map (λ l. l.grants.items) lanes
+
+unfoldable pub drawn_cells : List Lane → List Sending
+drawn_cells lanes = flat_map lane_cells lanes
+
+-- no two neighbours of a lane could be joined
+abbrev pub IsApart : Lane → Type 0
+IsApart l = AreApart l.rectangles.items
+
+-- The lanes draw exactly the grants and the cells of the schedule, each as often as it is there; each cell with its frame, node
+-- and supplier.
+pub record IsDrawing (holds : List GrantRow) (sendings : List Sending) (lanes : List Lane) : Type 0 where
+  pub grants : IsPermutation (drawn_grants lanes) holds
+  pub cells : IsPermutation (drawn_cells lanes) sendings
+  pub apart : All IsApart lanes

@@ -1,9 +1,0 @@
-use Rattle.std.proofs.Common.{◌≡◌, ◌++◌, take}
-use Rattle.std.specs.List.{flat_map}
-use Rattle.std.specs.String.{string_bytes}
-use Rattle.fr_picture.specs.Lanes.{grant_text}
-use Rattle.fr_picture.proofs.lane.push_grants.Given as goal
-
--- the text of those up to here
-abbrev pub invariant-loop-grant : goal.invariant-loop-grant
-invariant-loop-grant l = string_bytes l.out ≡ string_bytes l.initial.out ++ flat_map (grant_text l.scale l.x) (take l.grant-index l.grants)

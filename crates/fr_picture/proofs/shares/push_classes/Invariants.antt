@@ -1,9 +1,0 @@
-use Rattle.std.proofs.Common.{◌≡◌, ◌++◌, take}
-use Rattle.std.specs.List.{flat_map}
-use Rattle.std.specs.String.{string_bytes}
-use Rattle.fr_picture.specs.Shares.{class_text}
-use Rattle.fr_picture.proofs.shares.push_classes.Given as goal
-
--- the text of those up to here
-abbrev pub invariant-loop-share : goal.invariant-loop-share
-invariant-loop-share l = string_bytes l.out ≡ string_bytes l.initial.out ++ flat_map (class_text) (take l.share-index l.shares)
