@@ -1,2 +1,3 @@
 pub mod RectangleLemmas
+pub mod ColumnLemmas
 pub mod LaneLemmas

@@ -1,9 +1,11 @@
 -- The lanes of a drawing: what is drawn of one slot and channel.
-use Rattle.std.specs.Prelude.{List, IsPermutation}
+use Rattle.std.specs.Prelude.{ℕ, List, IsPermutation}
 use Rattle.std.specs.List.{flat_map, All}
 use Rattle.fr_base.specs.declared.answer.GrantRow.{GrantRow}
 use Rattle.fr_base.specs.declared.answer.Sending.{Sending}
+use Rattle.fr_drawing.specs.declared.columns.Place.{Place}
 use Rattle.fr_drawing.specs.declared.lane.Lane.{Lane}
+use Rattle.fr_drawing.specs.Places.{AreAt, AreHome, AreInOrder}
 use Rattle.fr_drawing.specs.Rectangles.{AreApart, cells_in}
 
 -- the cells of a lane's rectangles
@@ -21,9 +23,14 @@ drawn_cells lanes = flat_map lane_cells lanes
 abbrev pub IsApart : Lane → Type 0
 IsApart l = AreApart l.rectangles.items
 
--- The lanes draw exactly the grants and the cells of the schedule, each as often as it is there; each cell with its frame, node
--- and supplier.
+-- The lanes draw exactly the grants and the cells of the schedule, each as often as it is there, in the lane of its slot and channel; each
+-- cell with its frame, node and supplier. The lanes stand at the columns of their slots, which are in the order of the slots.
 pub record IsDrawing (holds : List GrantRow) (sendings : List Sending) (lanes : List Lane) : Type 0 where
   pub grants : IsPermutation (drawn_grants lanes) holds
   pub cells : IsPermutation (drawn_cells lanes) sendings
   pub apart : All IsApart lanes
+  pub home : AreHome 0 lanes
+  pub columns : List Place
+  pub shift : ℕ
+  pub order : AreInOrder columns
+  pub at : AreAt shift columns lanes

@@ -1,2 +1,3 @@
 pub mod Rectangles
+pub mod Places
 pub mod Lanes

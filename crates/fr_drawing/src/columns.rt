@@ -1,6 +1,8 @@
 //! Where the lanes of a drawing stand.
-ghost use Rattle.std.specs.Prelude.{◌≡◌, ◌+◌, ◌<◌, IfOk};
+ghost use Rattle.std.specs.Prelude.{◌≡◌, ◌+◌, ◌≤◌, false, IfOk};
+ghost use Rattle.std.specs.List.{All};
 ghost use Rattle.std.specs.Vec.{vec_len};
+ghost use Rattle.fr_drawing.specs.Places.{AreInOrder};
 
 use crate::marks::{Marks, Shows};
 use fr_base::{Channels, NoMemory, Params};
@@ -43,6 +45,9 @@ pub(crate) struct Bands {
     // Where the first channel's lanes end.
     end: u32,
     width: u32,
+    ghost shift_in_range: { shift ≤ 68 },
+    ghost end_in_range: { end ≤ 136 },
+    ghost width_in_range: { width ≤ 12 },
 }
 
 impl Bands {
@@ -71,7 +76,9 @@ impl Bands {
     }
 
     // How wide what is shown is.
-    fn width_of(&self, shows: Shows) -> u32 {
+    fn width_of(&self, shows: Shows) -> u32
+        ensures { result ≤ 12 }
+    {
         match shows {
             Shows::Nothing => 0,
             Shows::Slot(_) => self.width,
@@ -81,7 +88,9 @@ impl Bands {
 }
 
 // How wide a lane is, where slots and gaps share this room: 2 to 12.
-fn lane_width(room: u32, last: u32, marks: &Marks) -> u32 {
+fn lane_width(room: u32, last: u32, marks: &Marks) -> u32
+    ensures { result ≤ 12 }
+{
     let mut slots: u32 = 0;
     let mut gaps: u32 = 0;
     for slot in 1..1024u32 {
@@ -91,24 +100,28 @@ fn lane_width(room: u32, last: u32, marks: &Marks) -> u32 {
             Shows::Gap(_, _) => gaps = gaps.saturating_add(1),
         }
     }
-    (room.saturating_sub(gaps) / slots.max(1)).min(12).max(2)
+    (room.saturating_sub(gaps) / slots.max(1)).max(2).min(12)
 }
 
-// The next column, which shows this.
-fn column(bands: &Bands, x: u32, shows: Shows) -> Place
-    ensures { result.shows ≡ shows }
+// The next column, which shows this, where the one before it ends here. A new part begins where it has no room in this one.
+fn column(bands: &Bands, end: u32, shows: Shows) -> Place
+    requires { end ≤ 136 }
+    ensures shows { result.shows ≡ shows }
+    ensures within { result.x + result.width ≤ 136 }
+    ensures behind { result.opens ≡ false → result.x ≡ end }
 {
     let width = bands.width_of(shows);
-    let opens = width > 0 && x.saturating_add(width) > bands.end;
+    let opens = width > 0 && end + width > bands.end;
     Place {
         opens,
-        x: if opens { START } else { x },
+        x: if opens { START } else { end },
         width,
         shows,
     }
 }
 
 /// The columns of a drawing, one for each slot number.
+#[tactic(auto, using(crate::proofs::ColumnLemmas::in_order))]
 pub(crate) fn columns(
     alloc: Global,
     params: &Params,
@@ -116,13 +129,15 @@ pub(crate) fn columns(
     bands: &Bands,
 ) -> Result<Vec<Place>, NoMemory>
     ensures len { IfOk result (λ columns. vec_len columns ≡ 1023) }
+    ensures order { IfOk result (λ columns. AreInOrder columns.items) }
+    ensures within { IfOk result (λ columns. All (λ p. p.x + p.width ≤ 136) columns.items) }
 {
     let mut columns = Vec::new(alloc);
-    let mut x = u32::MAX;
+    let mut end = bands.end;
     let mut free: u32 = 1;
     for slot in 1..1024u32 {
-        let next = column(bands, x, marks.shows(params.static_slots(), free, slot));
-        x = next.x.saturating_add(next.width);
+        let next = column(bands, end, marks.shows(params.static_slots(), free, slot));
+        end = next.x + next.width;
         if let Shows::Slot(number) = next.shows {
             free = number.saturating_add(1);
         }

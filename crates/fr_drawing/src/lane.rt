@@ -1,8 +1,9 @@
 //! What is drawn of one slot and channel.
-ghost use Rattle.std.specs.Prelude.{◌≡◌, ◌<◌, ◌++◌, ◌∷◌, [], OnOk, IfOk, ◌+◌, length};
+ghost use Rattle.std.specs.Prelude.{◌≡◌, List, ◌<◌, ◌≤◌, ◌++◌, ◌∷◌, [], OnOk, IfOk, ◌+◌, length};
 ghost use Rattle.std.specs.List.{All};
 ghost use Rattle.std.specs.Vec.{vec_len};
 ghost use Rattle.fr_drawing.specs.Lanes.{IsApart, drawn_cells, drawn_grants, lane_cells};
+ghost use Rattle.fr_drawing.specs.Places.{AreAt, AreHome, lane_of};
 ghost use Rattle.fr_drawing.specs.Rectangles.{AreApart, cells_in};
 
 use crate::columns::Place;
@@ -24,7 +25,8 @@ pub struct Lane {
 
 /// The number of the lane of this slot and channel.
 pub(crate) fn lane_number(slot: Slot, channel: Channel) -> usize
-    ensures { result < 2046 }
+    ensures value { result ≡ lane_of slot channel }
+    ensures small { result < 2046 }
 {
     let first = 2 * (slot.get() as usize - 1);
     match channel {
@@ -51,6 +53,7 @@ impl Lane {
     pub(crate) fn add(&mut self, cell: &Sending) -> Result<(), NoMemory>
         ensures cells { OnOk result (lane_cells self.new ≡ lane_cells self.old ++ cell.now ∷ []) }
         ensures grants { self.new.grants ≡ self.old.grants }
+        ensures place { self.new.place ≡ self.old.place }
         ensures apart { OnOk result (IsApart self.old → IsApart self.new) }
     {
         add_cell(&mut self.rectangles, cell)
@@ -60,6 +63,7 @@ impl Lane {
     pub(crate) fn hold(&mut self, grant: &GrantRow) -> Result<(), NoMemory>
         ensures grants { OnOk result (self.new.grants.items ≡ self.old.grants.items ++ grant.now ∷ []) }
         ensures rectangles { self.new.rectangles ≡ self.old.rectangles }
+        ensures place { self.new.place ≡ self.old.place }
     {
         self.grants.push(*grant)?;
         Ok(())
@@ -101,36 +105,50 @@ pub(crate) fn empty_lanes(
     shift: u32,
     columns: &[Place],
 ) -> Result<Vec<Lane>, NoMemory>
+    requires shift { shift ≤ 68 }
+    requires columns { All (λ p. p.x + p.width ≤ 136) columns.now }
     ensures len { IfOk result (λ lanes. vec_len lanes ≡ length columns.now + length columns.now) }
     ensures grants { IfOk result (λ lanes. drawn_grants lanes.items ≡ []) }
     ensures cells { IfOk result (λ lanes. drawn_cells lanes.items ≡ []) }
     ensures apart { IfOk result (λ lanes. All IsApart lanes.items) }
+    ensures home { IfOk result (λ lanes. AreHome 0 lanes.items) }
+    ensures at { IfOk result (λ lanes. AreAt shift columns.now lanes.items) }
 {
     let mut lanes = Vec::new(alloc);
     for column in columns {
-        let a = Place {
-            shows: shown_on(channels, Channel::A, column.shows),
-            ..*column
-        };
-        let b = Place {
-            opens: false,
-            x: column.x.saturating_add(shift),
-            shows: shown_on(channels, Channel::B, column.shows),
-            width: column.width,
-        };
-        push_empty(alloc, a, &mut lanes)?;
-        push_empty(alloc, b, &mut lanes)?;
+        push_column(alloc, channels, shift, column, &mut lanes)?;
     }
     Ok(lanes)
 }
 
-// One lane more, in which nothing is drawn.
-fn push_empty(alloc: Global, place: Place, lanes: &mut Vec<Lane>) -> Result<(), NoMemory>
-    ensures len { OnOk result (vec_len lanes.new ≡ vec_len lanes.old + 1) }
+// The two lanes more of a column, in which nothing is drawn.
+fn push_column(
+    alloc: Global,
+    channels: Channels,
+    shift: u32,
+    column: &Place,
+    lanes: &mut Vec<Lane>,
+) -> Result<(), NoMemory>
+    requires shift { shift ≤ 68 }
+    requires column { column.now.x + column.now.width ≤ 136 }
+    ensures len { OnOk result (vec_len lanes.new ≡ vec_len lanes.old + 2) }
     ensures grants { OnOk result (drawn_grants lanes.new.items ≡ drawn_grants lanes.old.items) }
     ensures cells { OnOk result (drawn_cells lanes.new.items ≡ drawn_cells lanes.old.items) }
     ensures apart { OnOk result (All IsApart lanes.old.items → All IsApart lanes.new.items) }
+    ensures home { OnOk result (AreHome 0 lanes.old.items → AreHome 0 lanes.new.items) }
+    ensures at { OnOk result ((columns : List Place) → AreAt shift columns lanes.old.items → AreAt shift (columns ++ column.now ∷ []) lanes.new.items) }
 {
-    lanes.push(Lane::new(alloc, place))?;
+    let a = Place {
+        shows: shown_on(channels, Channel::A, column.shows),
+        ..*column
+    };
+    let b = Place {
+        opens: false,
+        x: column.x + shift,
+        shows: shown_on(channels, Channel::B, column.shows),
+        width: column.width,
+    };
+    lanes.push(Lane::new(alloc, a))?;
+    lanes.push(Lane::new(alloc, b))?;
     Ok(())
 }

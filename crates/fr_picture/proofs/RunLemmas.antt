@@ -81,9 +81,9 @@ bits_in-more runs new r after =
     ap (flat_map (λ q. range_with_len q.start q.length)) after ∙ flat_map-append (λ q. range_with_len q.start q.length) runs (r ∷ [])
     ∙ ap (λ xs. flat_map (λ q. range_with_len q.start q.length) runs ++ xs) (append-nil (range_with_len r.start r.length))
 
-pub bits_in-none : (all : List ℕ) → IsPermutation (bits_in [] ++ all) all
+pub bits_in_none : (all : List ℕ) → IsPermutation (bits_in [] ++ all) all
 unfolding bits_in
-bits_in-none all = IsPermutation-refl all
+bits_in_none all = IsPermutation-refl all
 
 onto : (done line rest more all : List ℕ) → IsPermutation (line ++ rest) more → IsPermutation (done ++ more) all → IsPermutation ((done ++ line) ++ rest) all
 onto done line rest more all step before =
@@ -102,13 +102,14 @@ byte_more runs new r h left all after low count more before =
     (subst (λ m. IsPermutation (range_with_len (h - h % 8) (h % 8 + 1) ++ rest) (run_big h m)) whole (run_byte (h % 8) h (left - (h % 8 + 1)) refl)) before)
 
 -- the last run
-pub last_more : (runs new : List Run) (r : Run) (h left : ℕ) (all : List ℕ) → new ≡ runs ++ r ∷ [] → r.start ≡ h + 1 - left → r.length ≡ left → left ≤ h % 8
+pub last_more : (runs new : List Run) (r : Run) (h left : ℕ) (all : List ℕ) → new ≡ runs ++ r ∷ [] → r.start ≡ h - left + 1 → r.length ≡ left → left ≤ h % 8
     → IsPermutation (bits_in runs ++ run_big h left) all → IsPermutation (bits_in new) all
 last_more runs new r h left all after low count less before =
-    let line : range_with_len r.start r.length ≡ range_with_len (h + 1 - left) left = ap (λ a. range_with_len a r.length) low ∙ ap (range_with_len (h + 1 - left)) count in
+    let top : h - left + 1 + left ≡ h + 1 = omega (arith, less) in
+    let line : range_with_len r.start r.length ≡ range_with_len (h - left + 1) left = ap (λ a. range_with_len a r.length) low ∙ ap (range_with_len (h - left + 1)) count in
     subst (λ xs. IsPermutation xs all) (sym (bits_in-more runs new r after ∙ ap (λ xs. bits_in runs ++ xs) line))
-    (IsPermutation-trans (bits_in runs ++ range_with_len (h + 1 - left) left) (bits_in runs ++ run_big h left) all
-    (IsPermutation-append_right (bits_in runs) (range_with_len (h + 1 - left) left) (run_big h left) (run_last h left (h + 1 - left) (omega (arith, less)) less)) before)
+    (IsPermutation-trans (bits_in runs ++ range_with_len (h - left + 1) left) (bits_in runs ++ run_big h left) all
+    (IsPermutation-append_right (bits_in runs) (range_with_len (h - left + 1) left) (run_big h left) (run_last h left (h - left + 1) top less)) before)
 
 pub none_more : (runs : List Run) (h left : ℕ) (all : List ℕ) → left ≡ 0 → IsPermutation (bits_in runs ++ run_big h left) all → IsPermutation (bits_in runs) all
 none_more runs h left all none before =
@@ -126,3 +127,7 @@ pub signal_bits : (xs : List ℕ) (s : SignalData) (o : Order) (start n : ℕ) �
 unfolding bits_of
 signal_bits xs s o start n e1 e2 e3 h =
     subst (λ m. IsPermutation xs (run_of s.order s.start m)) e3 (subst (λ a. IsPermutation xs (run_of s.order a n)) e2 (subst (λ q. IsPermutation xs (run_of q start n)) e1 h))
+
+pub ruleset last = (last_more, none_more)
+
+pub ruleset orders = (little_bits, big_bits)

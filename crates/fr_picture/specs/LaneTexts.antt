@@ -56,10 +56,14 @@ ungranted_text place (g ∷ grants) = []
 unfoldable pub holder_text : ℕ → Name → Name → ℕ → List ℕ → List ℕ
 holder_text x node supplier slot channel =
     together (codes "<use href=#held x=" ∷ decimal x ∷ codes "><title>" ∷ node ∷ codes " of " ∷ supplier ∷ codes ", slot " ∷ decimal slot ∷ codes " " ∷ channel
-    ∷ codes "</title></use><text x=" ∷ decimal x ∷ codes " y=-1>" ∷ [])
+    ∷ codes "</title></use>" ∷ [])
+
+-- the beginning of what stands above a lane
+unfoldable pub over_text : ℕ → List ℕ
+over_text x = together (codes "<text x=" ∷ decimal x ∷ codes " y=-1>" ∷ [])
 
 unfoldable pub grant_text : ℕ → ℕ → GrantRow → List ℕ
-grant_text number x g = holder_text x g.node g.supplier g.slot (text_of_channel g.channel) ++ mark_text number ++ fixed_text TextEnd
+grant_text number x g = holder_text x g.node g.supplier g.slot (text_of_channel g.channel) ++ over_text x ++ mark_text number ++ fixed_text TextEnd
 
 unfoldable pub grants_text : List Name → ℕ → List GrantRow → List ℕ
 grants_text names x grants = flat_map (λ g. grant_text (number_of names g.supplier) x g) grants

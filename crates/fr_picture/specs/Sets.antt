@@ -12,12 +12,12 @@ empties_text width cycles =
     together (codes "<rect id=free width=" ∷ decimal width ∷ codes " height=" ∷ decimal cycles ∷ codes " /><rect id=gap width=1 height=" ∷ decimal cycles
     ∷ codes " />\n<g id=held><rect width=" ∷ decimal width ∷ codes " height=" ∷ decimal cycles ∷ codes " /><path d=\"" ∷ [])
 
--- a line across the cell that ends at y
+-- a line across the lane's cell in this cycle
 unfoldable pub hatch_text : ℕ → ℕ → List ℕ
-hatch_text width y = together (codes "M0 " ∷ decimal y ∷ codes "l" ∷ decimal width ∷ codes "-1" ∷ [])
+hatch_text width cycle = together (codes "M0 " ∷ decimal (cycle + 1) ∷ codes "l" ∷ decimal width ∷ codes "-1" ∷ [])
 
 unfoldable pub hatches_text : ℕ → ℕ → List ℕ
-hatches_text width cycles = flat_map (λ c. hatch_text width (c + 1)) (range_with_len 0 cycles)
+hatches_text width cycles = flat_map (hatch_text width) (range_with_len 0 cycles)
 
 unfoldable pub held_text : Scale → List ℕ
 held_text scale = hatches_text scale.width scale.cycles ++ fixed_text HeldEnd

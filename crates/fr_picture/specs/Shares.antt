@@ -23,12 +23,12 @@ suppliers_of frames grants = fold with_name (fold with_name [] (map (λ f. f.row
 abbrev pub percent : ℕ → ℕ → ℕ
 percent part whole = if whole == 0 then 0 else min (part * 100) (2 ^ 64 - 1) / whole
 
--- the number of the supplier of this name
+-- the number of the supplier of this name, from 0 on
 abbrev pub number_of : List Name → Name → ℕ
 number_of names supplier = unwrap_or (position (λ name. same_text name supplier) names) 0
 
 -- a supplier's number, the lanes that it holds, the cells in which it sends, and those that its lanes have
-abbrev pub share_of : List Name → ℕ → List GrantRow → List Sending → Name → Share
+unfoldable pub share_of : List Name → ℕ → List GrantRow → List Sending → Name → Share
 share_of names cycles grants cells supplier = record {
   number = number_of names supplier;
   supplier = supplier;

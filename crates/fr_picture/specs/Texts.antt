@@ -1,7 +1,7 @@
 -- Texts that stand one behind the other.
 --
 -- A name stands in a page as it is. It has letters, digits and underscores alone (`Names.antt` of `fr_base`), so no character of a name
--- means anything in HTML, and a name is a class of CSS.
+-- means anything in HTML.
 use Rattle.std.specs.Prelude.{ℕ, List}
 use Rattle.std.specs.List.{flat_map}
 use Rattle.fr_picture.specs.declared.texts.Fixed.{Fixed}

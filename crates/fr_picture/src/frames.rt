@@ -12,7 +12,7 @@ use fr_base::{FrameRow, Name, NoMemory, Placement, Rows};
 pub struct DrawnFrame {
     /// The frame, and where it is sent.
     pub row: FrameRow,
-    /// Its greatest gap, if it is sent at all.
+    /// Its greatest gap in macroticks, if it is sent at all.
     pub gap: Option<u32>,
     /// Its signals.
     pub signals: Rows<DrawnSignal>,

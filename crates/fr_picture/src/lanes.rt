@@ -1,7 +1,7 @@
 //! The text of lanes.
 ghost use Rattle.std.specs.Prelude.{◌≡◌, ◌++◌, OnOk};
 ghost use Rattle.std.specs.String.{string_bytes};
-ghost use Rattle.fr_picture.specs.LaneTexts.{alone_text, free_text, grant_text, grants_text, holder_text, lane_text, lanes_text, opens_text, part_text, run_text, shows_text, ungranted_text, unheld_text};
+ghost use Rattle.fr_picture.specs.LaneTexts.{alone_text, free_text, grant_text, grants_text, holder_text, lane_text, lanes_text, opens_text, over_text, part_text, run_text, shows_text, ungranted_text, unheld_text};
 
 use crate::kinds::push_rectangles;
 use crate::shares::{number_of, push_mark};
@@ -161,8 +161,16 @@ fn push_grant(number: usize, x: u32, grant: &GrantRow, out: &mut String) -> Resu
         grant.channel.as_str(),
         out,
     )?;
+    push_over(x, out)?;
     push_mark(number, out)?;
     push_fixed(Fixed::TextEnd, out)
+}
+
+#[tactic(auto, unfolding(crate::specs::LaneTexts::over_text))]
+fn push_over(x: u32, out: &mut String) -> Result<(), NoMemory>
+    ensures { OnOk result (string_bytes out.new ≡ string_bytes out.old ++ over_text x) }
+{
+    write!(out, "<text x={x} y=-1>")
 }
 
 #[tactic(auto, unfolding(crate::specs::LaneTexts::holder_text))]
@@ -178,6 +186,6 @@ fn push_holder(
 {
     write!(
         out,
-        "<use href=#held x={x}><title>{node} of {supplier}, slot {slot} {channel}</title></use><text x={x} y=-1>"
+        "<use href=#held x={x}><title>{node} of {supplier}, slot {slot} {channel}</title></use>"
     )
 }

@@ -16,7 +16,7 @@ use std::alloc::Global;
 /// What a page shows: a variant's plan, as its reader sees it.
 #[derive(Drop)]
 pub struct Plan {
-    /// The cluster's parameters.
+    /// The cluster's parameters. Its count of cycles is the height of the drawing.
     pub params: Params,
     /// The variant.
     pub variant: Name,
@@ -34,7 +34,8 @@ pub struct Plan {
     pub frames: Vec<DrawnFrame>,
 }
 
-/// The page of a plan, in HTML. Its drawing has exactly the grants and the cells of the plan.
+/// The page of a plan, in HTML. Its drawing has exactly the grants and the cells of the plan. A name stands in the page as it is: it has
+/// letters, digits and underscores alone, and none of these means anything in HTML or in an attribute. `NoMemory` is the only error.
 pub fn write_page(alloc: Global, plan: &Plan) -> Result<String, NoMemory>
     ensures { IfOk result (λ text. IsPage plan.now (string_bytes text)) }
 {

@@ -43,15 +43,16 @@ fn push_hatches(width: u32, cycles: u32, out: &mut String) -> Result<(), NoMemor
     ensures { OnOk result (string_bytes out.new ≡ string_bytes out.old ++ hatches_text width cycles) }
 {
     for cycle in 0..cycles {
-        push_hatch(width, u64::from(cycle) + 1, out)?;
+        push_hatch(width, cycle, out)?;
     }
     Ok(())
 }
 
 #[tactic(auto, unfolding(crate::specs::Sets::hatch_text))]
-fn push_hatch(width: u32, y: u64, out: &mut String) -> Result<(), NoMemory>
-    ensures { OnOk result (string_bytes out.new ≡ string_bytes out.old ++ hatch_text width y) }
+fn push_hatch(width: u32, cycle: u32, out: &mut String) -> Result<(), NoMemory>
+    ensures { OnOk result (string_bytes out.new ≡ string_bytes out.old ++ hatch_text width cycle) }
 {
+    let y = u64::from(cycle) + 1;
     write!(out, "M0 {y}l{width}-1")
 }
 

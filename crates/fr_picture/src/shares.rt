@@ -1,6 +1,6 @@
 //! The suppliers of a page: their colours, and how full their grants are.
 ghost use Rattle.std.specs.Prelude.{◌≡◌, ◌++◌, ◌<◌, ◌≤◌, ◌^◌, OnOk, IfOk, length, count_by, map};
-ghost use Rattle.std.specs.List.{fold, list_any};
+ghost use Rattle.std.specs.List.{fold, list_any, position};
 ghost use Rattle.std.specs.String.{string_bytes};
 ghost use Rattle.fr_base.specs.Names.{same_text};
 ghost use Rattle.fr_picture.specs.Shares.{holds_text, key_text, legend_text, mark_text, number_of, percent, round_text, share_of, share_text, suppliers_of, with_name};
@@ -94,6 +94,7 @@ pub(crate) fn shares_of(
 }
 
 // How full the grants of this supplier are.
+#[tactic(auto, unfolding(crate::specs::Shares::share_of))]
 fn measure(
     names: &[Name],
     supplier: Name,
@@ -124,10 +125,17 @@ fn measure(
 pub(crate) fn number_of(names: &[Name], supplier: Name) -> usize
     ensures { result ≡ number_of names.now supplier }
 {
-    names
-        .iter()
-        .position(|name| *name == supplier)
-        .unwrap_or(0)
+    match place_of(names, supplier) {
+        Some(number) => number,
+        None => 0,
+    }
+}
+
+// Where the name stands among them.
+fn place_of(names: &[Name], supplier: Name) -> Option<usize>
+    ensures { result ≡ position (λ name. same_text name supplier) names.now }
+{
+    names.iter().position(|name| *name == supplier)
 }
 
 /// Appends the mark of the supplier of this number: the letter of its colour, and how often the colours were used before it.

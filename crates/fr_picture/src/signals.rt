@@ -1,5 +1,5 @@
 //! Payloads as strips of bits.
-ghost use Rattle.std.specs.Prelude.{◌≡◌, ◌++◌, IsPermutation, OnOk, IfOk, true};
+ghost use Rattle.std.specs.Prelude.{◌≡◌, ℕ, List, ◌+◌, ◌*◌, ◌<◌, ◌≤◌, ◌%◌, ◌^◌, ◌++◌, IsPermutation, OnOk, IfOk, true};
 ghost use Rattle.std.specs.List.{range_with_len};
 ghost use Rattle.std.specs.String.{string_bytes};
 ghost use Rattle.fr_base.specs.Bits.{bits_of, run_big, run_of};
@@ -29,6 +29,7 @@ pub struct Run {
 
 impl DrawnSignal {
     /// The signal with its bits: each bit of the signal is in just one of the runs, and no other bit is.
+    #[tactic(auto, using(crate::proofs::RunLemmas::signal_bits))]
     pub fn of(alloc: Global, signal: Signal) -> Result<DrawnSignal, NoMemory>
         ensures signal { IfOk result (λ drawn. drawn.signal ≡ signal) }
         ensures bits { IfOk result (λ drawn. IsPermutation (bits_in drawn.runs.items) (bits_of signal)) }
@@ -39,12 +40,13 @@ impl DrawnSignal {
 }
 
 // The payload bits of a signal.
+#[tactic(auto, using(crate::proofs::RunLemmas::orders))]
 fn runs_of(alloc: Global, order: Order, start: u32, length: u32) -> Result<Vec<Run>, NoMemory>
     ensures { IfOk result (λ runs. IsPermutation (bits_in runs.items) (run_of order start length)) }
 {
     match order {
         Order::Little => little_runs(alloc, u64::from(start), u64::from(length)),
-        Order::Big => big_runs(alloc, start, length),
+        Order::Big => big_runs(alloc, u64::from(start), u64::from(length)),
     }
 }
 
@@ -59,28 +61,40 @@ fn little_runs(alloc: Global, start: u64, length: u64) -> Result<Vec<Run>, NoMem
 }
 
 // The bits of a signal in big order: down to its byte's lowest bit, and then from the highest bit of the next byte.
-fn big_runs(alloc: Global, start: u32, length: u32) -> Result<Vec<Run>, NoMemory>
+#[tactic(auto, using(crate::proofs::RunLemmas::bits_in_none))]
+fn big_runs(alloc: Global, start: u64, length: u64) -> Result<Vec<Run>, NoMemory>
+    requires small { start + 15 * length < 2 ^ 40 }
     ensures { IfOk result (λ runs. IsPermutation (bits_in runs.items) (run_big start length)) }
 {
     let mut runs = Vec::new(alloc);
-    let mut high = u64::from(start);
-    let mut left = u64::from(length);
+    let mut high = start;
+    let mut left = length;
     while left > high % 8 {
-        let place = high % 8;
         runs.push(Run {
-            start: high - place,
-            length: place + 1,
+            start: high - high % 8,
+            length: high % 8 + 1,
         })?;
-        left -= place + 1;
-        high = high - place + 15;
+        left -= high % 8 + 1;
+        high = high - high % 8 + 15;
     }
-    if left > 0 {
-        runs.push(Run {
-            start: high + 1 - left,
-            length: left,
-        })?;
-    }
+    push_last(&mut runs, high, left)?;
     Ok(runs)
+}
+
+// The last bits, if any are left; they lie in one byte.
+#[tactic(auto, using(crate::proofs::RunLemmas::last))]
+fn push_last(runs: &mut Vec<Run>, high: u64, left: u64) -> Result<(), NoMemory>
+    requires byte { left ≤ high % 8 }
+    ensures { OnOk result ((all : List ℕ) → IsPermutation (bits_in runs.old.items ++ run_big high left) all → IsPermutation (bits_in runs.new.items) all) }
+{
+    if left == 0 {
+        return Ok(());
+    }
+    runs.push(Run {
+        start: high - left + 1,
+        length: left,
+    })?;
+    Ok(())
 }
 
 /// Appends a payload as a strip of bits, with its signals. Each next signal stands in the other one of two rows.
@@ -95,7 +109,6 @@ pub(crate) fn push_strip(signals: &[DrawnSignal], out: &mut String) -> Result<()
 }
 
 // Appends the bits of signals.
-#[tactic(auto, using(crate::proofs::StripLemmas::bars))]
 fn push_bars(signals: &[DrawnSignal], out: &mut String) -> Result<(), NoMemory>
     ensures { OnOk result (string_bytes out.new ≡ string_bytes out.old ++ bars_text true signals.now) }
 {

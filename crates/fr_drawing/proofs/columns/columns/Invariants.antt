@@ -1,6 +1,15 @@
-use Rattle.std.proofs.Common.{◌≡◌, ◌+◌, vec_len}
+use Rattle.std.proofs.Common.{◌≡◌, ◌+◌, ◌≤◌, vec_len}
+use Rattle.std.specs.List.{All}
+use Rattle.fr_drawing.specs.Places.{AreInOrder}
+use Rattle.fr_drawing.proofs.ColumnLemmas.{end_of}
 use Rattle.fr_drawing.proofs.columns.columns.Given as goal
 
--- a column for each slot up to here
+-- a column for each slot up to here, in order
 abbrev pub invariant-loop-slot : goal.invariant-loop-slot
-invariant-loop-slot l = vec_len l.columns + 1 ≡ l.slot
+invariant-loop-slot l = record {
+  len : vec_len l.columns + 1 ≡ l.slot;
+  small : l.end ≤ 136;
+  last : end_of l.columns.items ≤ l.end;
+  order : AreInOrder l.columns.items;
+  within : All (λ p. p.x + p.width ≤ 136) l.columns.items;
+}

@@ -1,3 +1,4 @@
+use Rattle.std.proofs.Common.{rules}
 use Rattle.std.proofs.lemmas.List.Sorted.{IsNonDecreasingBy-from_sort_by_key}
 use Rattle.fr_picture.specs.FrameTables.{urgency}
 use Rattle.fr_picture.proofs.frames.worst_first.Goals as goal
