@@ -2,6 +2,7 @@
 
 The page's rectangles are read as cells: a lane is found by where it stands, its frame by its title."""
 import re
+from collections import Counter
 from html.parser import HTMLParser
 
 BOX = re.compile(r"M(\d+) (\d+)h(\d+)v(\d+)h-(\d+)z")
@@ -38,7 +39,12 @@ class Page(HTMLParser):
         self.tags[tag] = self.tags.get(tag, 0) + 1
         assert not {"src", "onload", "onclick"} & set(given) and tag != "script", tag
         assert given.get("href", "#").startswith("#"), given
-        self.open.append((tag, given))
+        # Tags that the page does not close end where the next of their kind begins.
+        ends = {"td": ("td", "th"), "th": ("td", "th"), "tr": ("td", "th", "tr")}.get(tag, ())
+        while self.open and self.open[-1] in ends:
+            self.open.pop()
+        if tag not in ("br", "meta", "html"):
+            self.open.append(tag)
         if tag == "svg" and given.get("class") == "plan":
             self.parts.append([])
         elif tag == "path" and given.get("id", "").startswith("r"):
@@ -63,13 +69,13 @@ class Page(HTMLParser):
         self.handle_endtag(tag)
 
     def handle_endtag(self, tag):
-        while self.open and self.open.pop()[0] != tag:
+        while tag in self.open and self.open.pop() != tag:
             pass
         if tag in ("use", "path", "text"):
             self.shape = None
 
     def handle_data(self, data):
-        inside = [tag for tag, _ in self.open]
+        inside = self.open
         if self.rows and ("td" in inside or "th" in inside):
             self.rows[-1][-1] += data
         elif self.keys and "li" in inside:
@@ -159,7 +165,8 @@ def compare(text, plan):
 
     def same(what, wanted, got):
         if wanted != got and isinstance(wanted, list):
-            missing, more = [row for row in wanted if row not in got], [row for row in got if row not in wanted]
+            missing, more = Counter(map(repr, wanted)), Counter(map(repr, got))
+            missing, more = list((missing - more).elements()), list((more - missing).elements())
             wrong.append(f"{what}: {len(missing)} are missing: {missing[:4]}; {len(more)} are too many: {more[:4]}; or their order differs")
         elif wanted != got:
             wrong.append(f"{what}: wanted {wanted!r}, got {got!r}")
@@ -185,7 +192,8 @@ def compare(text, plan):
             runs.append((slot, end - 1))
         slot = end + 1
     same("the gaps", runs, sorted(gaps))
-    same("the lanes that nobody holds", sorted((s, c) for s in shown for c in plan["channels"] if (s, c) not in {g[:2] for g in plan["grants"]}), sorted(free))
+    granted = {grant[:2] for grant in plan["grants"]}
+    same("the lanes that nobody holds", sorted((s, c) for s in shown for c in plan["channels"] if (s, c) not in granted), sorted(free))
     # Each supplier has a mark and a colour of its own, in the legend and above its lanes.
     keys = [KEY.fullmatch(key) for key in page.keys]
     same("the suppliers that the legend has", sorted({g[3] for g in plan["grants"]} | {f[2] for f in plan["frames"]}), sorted(key[2] for key in keys if key))

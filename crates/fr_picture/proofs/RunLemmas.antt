@@ -32,11 +32,15 @@ across h low = grind (arith, nat_tests, low)
 
 -- k bits down within a byte, and n more
 run_down : (k a h n : ℕ) → a + k ≡ h + 1 → k ≤ h % 8 → IsPermutation (range_with_len a k ++ run_big (h - k) n) (run_big h (k + n))
-run_down zero a h n top le = IsPermutation-refl (run_big h n)
+run_down zero a h n top le =
+    let all : h - 0 ≡ h = omega arith in
+    let none : n ≡ 0 + n = omega arith in
+    same (run_big (h - 0) n) (run_big h (0 + n)) (ap (λ m. run_big m n) all ∙ ap (run_big h) none)
 run_down (suc k) a h n top le =
     let line = range_with_len a k in
     let rest = run_big (h - suc k) n in
     let down : h - 1 - k ≡ h - suc k = omega arith in
+    let on : suc (k + n) ≡ suc k + n = omega arith in
     let ih : IsPermutation (line ++ rest) (run_big (h - 1) (k + n)) =
       subst (λ m. IsPermutation (line ++ run_big m n) (run_big (h - 1) (k + n))) down
       (run_down k a (h - 1) n (omega (arith, top, le)) (omega (arith, le))) in
@@ -46,7 +50,7 @@ run_down (suc k) a h n top le =
     (IsPermutation-append_left rest (line ++ h ∷ []) (h ∷ line) (IsPermutation-append_comm line (h ∷ [])))
     (IsPermutation-trans (h ∷ (line ++ rest)) (h ∷ run_big (h - 1) (k + n)) (run_big h (suc k + n))
     (IsPermutation-cons h (line ++ rest) (run_big (h - 1) (k + n)) ih)
-    (same (h ∷ run_big (h - 1) (k + n)) (run_big h (suc k + n)) (ap (λ m. h ∷ run_big m (k + n)) (sym (within h (omega (arith, le))))))))
+    (same (h ∷ run_big (h - 1) (k + n)) (run_big h (suc k + n)) (ap (λ m. h ∷ run_big m (k + n)) (sym (within h (omega (arith, le)))) ∙ ap (run_big h) on))))
 
 -- the last bits, which end in the byte in which they begin
 run_last : (h n a : ℕ) → a + n ≡ h + 1 → n ≤ h % 8 → IsPermutation (range_with_len a n) (run_big h n)

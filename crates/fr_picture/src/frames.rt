@@ -25,7 +25,8 @@ pub fn worst_first(frames: &mut Vec<DrawnFrame>) -> Result<(), NoMemory>
     ensures sorted { OnOk result (AreWorstFirst frames.new.items) }
     ensures err { OnErr result (frames.new.items ≡ frames.old.items) }
 {
-    frames.sort_by_key(|frame| urgency(frame.gap))
+    frames.sort_by_key(|frame| urgency(frame.gap))?;
+    Ok(())
 }
 
 // The less, the worse.
