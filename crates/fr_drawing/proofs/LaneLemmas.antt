@@ -1,9 +1,11 @@
 -- Lanes of which one is changed.
-use Rattle.std.proofs.Common.{◌≡◌, ℕ, ◌+◌, ◌<◌, zero, suc, List, [], ◌∷◌, ◌++◌, length, get_or, take, refl, sym, ap, ◌∙◌, append_assoc, append-nil, arith, subst, zero-add}
+use Rattle.std.proofs.Common.{◌≡◌, Bool, ℕ, ◌+◌, ◌<◌, zero, suc, List, [], ◌∷◌, ◌++◌, length, get_or, take, refl, sym, ap, ◌∙◌, append_assoc, append-nil, arith, subst, zero-add}
 use Rattle.std.proofs.Math.ListN.{set}
 use Rattle.std.specs.List.{flat_map, All}
 use Rattle.std.proofs.lemmas.List.{take_more}
 use Rattle.std.proofs.lemmas.List.Elements.{All-push}
+use Rattle.fr_drawing.specs.Shown.{IsMarked, IsShown}
+use Rattle.fr_drawing.proofs.MarkLemmas.{all_shown}
 use Rattle.fr_drawing.specs.Places.{AreAt, AreHome, AreInOrder, IsHome, lane_of}
 use Rattle.fr_drawing.specs.declared.columns.Place.{Place}
 use Rattle.fr_drawing.specs.declared.rectangle.Rectangle.{Rectangle}
@@ -162,15 +164,17 @@ set_home (n ∷ ls) (suc i) j m l d at small f h = (h.0, set_home ls i (suc j) m
 
 home_grant : (m : ℕ) (old new : Lane) (x : GrantRow) → lane_of x.slot x.channel ≡ m → new.grants.items ≡ old.grants.items ++ x ∷ [] → new.rectangles ≡ old.rectangles
     → IsHome m old → IsHome m new
-home_grant m old new x here more same_rectangles h =
-    (subst (All (λ g. lane_of g.slot g.channel ≡ m)) (sym more) (All-push (λ g. lane_of g.slot g.channel ≡ m) old.grants.items x h.0 here),
-     subst (λ rs. All (λ s. lane_of s.slot s.channel ≡ m) (cells_in rs.items)) (sym same_rectangles) h.1)
+home_grant m old new x here more same_rectangles h = (
+  subst (All (λ g. lane_of g.slot g.channel ≡ m)) (sym more) (All-push (λ g. lane_of g.slot g.channel ≡ m) old.grants.items x h.0 here),
+  subst (λ rs. All (λ s. lane_of s.slot s.channel ≡ m) (cells_in rs.items)) (sym same_rectangles) h.1,
+)
 
 home_cell : (m : ℕ) (old new : Lane) (x : Sending) → lane_of x.slot x.channel ≡ m → lane_cells new ≡ lane_cells old ++ x ∷ [] → new.grants ≡ old.grants
     → IsHome m old → IsHome m new
-home_cell m old new x here more same_grants h =
-    (subst (λ gs. All (λ g. lane_of g.slot g.channel ≡ m) gs.items) (sym same_grants) h.0,
-     subst (All (λ s. lane_of s.slot s.channel ≡ m)) (sym more) (All-push (λ s. lane_of s.slot s.channel ≡ m) (lane_cells old) x h.1 here))
+home_cell m old new x here more same_grants h = (
+  subst (λ gs. All (λ g. lane_of g.slot g.channel ≡ m) gs.items) (sym same_grants) h.0,
+  subst (All (λ s. lane_of s.slot s.channel ≡ m)) (sym more) (All-push (λ s. lane_of s.slot s.channel ≡ m) (lane_cells old) x h.1 here),
+)
 
 pub grant_home : (ls : List Lane) (k : ℕ) (l d : Lane) (x : GrantRow) → k < length ls → k ≡ lane_of x.slot x.channel → l.grants.items ≡ (get_or ls k d).grants.items ++ x ∷ []
     → l.rectangles ≡ (get_or ls k d).rectangles → AreHome 0 ls → AreHome 0 (set ls k l)
@@ -188,17 +192,20 @@ home-push (n ∷ ls) j l at h = (h.0, home-push ls (suc j) l at h.1)
 
 pub home-more : (ls new : List Lane) (l : Lane) → new ≡ ls ++ l ∷ [] → l.grants.items ≡ [] → l.rectangles.items ≡ [] → AreHome 0 ls → AreHome 0 new
 home-more ls new l after no_grants no_rectangles h =
-    let alone : (k : ℕ) → IsHome k l = λ k. (subst (All (λ g. lane_of g.slot g.channel ≡ k)) (sym no_grants) (All-none (λ g. lane_of g.slot g.channel ≡ k)),
-      subst (All (λ s. lane_of s.slot s.channel ≡ k)) (sym (nothing l.rectangles.items no_rectangles)) (All-none (λ s. lane_of s.slot s.channel ≡ k))) in
+    let alone : (k : ℕ) → IsHome k l = λ k. (
+      subst (All (λ g. lane_of g.slot g.channel ≡ k)) (sym no_grants) (All-none (λ g. lane_of g.slot g.channel ≡ k)),
+      subst (All (λ s. lane_of s.slot s.channel ≡ k)) (sym (nothing l.rectangles.items no_rectangles)) (All-none (λ s. lane_of s.slot s.channel ≡ k)),
+    ) in
     subst (AreHome 0) (sym after) (home-push ls 0 l alone h)
 
-pub drawing_of : (columns listed : List Place) (shift : ℕ) (holds : List GrantRow) (cells : List Sending) (empty held all : List Lane) → drawn_grants empty ≡ [] → drawn_cells empty ≡ [] → All IsApart empty → AreHome 0 empty → AreInOrder columns → listed ≡ columns → AreAt shift listed empty
+pub drawing_of : (columns listed : List Place) (shift : ℕ) (marks : List Bool) (holds : List GrantRow) (cells : List Sending) (empty held all : List Lane) → drawn_grants empty ≡ [] → drawn_cells empty ≡ [] → All IsApart empty → AreHome 0 empty → AreInOrder columns → listed ≡ columns → AreAt shift listed empty
+    → ((n : ℕ) → IsMarked marks n → IsShown columns n) → All (λ g. IsMarked marks g.slot) holds → All (λ s. IsMarked marks s.slot) cells
     → IsPermutation (drawn_grants held) (drawn_grants empty ++ holds) → drawn_cells held ≡ drawn_cells empty → (All IsApart empty → All IsApart held) → (AreHome 0 empty → AreHome 0 held)
     → ((n : ℕ) (ps : List Place) → AreAt n ps empty → AreAt n ps held)
     → IsPermutation (drawn_cells all) (drawn_cells held ++ cells) → drawn_grants all ≡ drawn_grants held → (All IsApart held → All IsApart all) → (AreHome 0 held → AreHome 0 all)
     → ((n : ℕ) (ps : List Place) → AreAt n ps held → AreAt n ps all)
     → IsDrawing holds cells all
-drawing_of columns listed shift holds cells empty held all g0 c0 a0 h0 o0 e0 p0 g1 c1 a1 h1 p1 c2 g2 a2 h2 p2 = record {
+drawing_of columns listed shift marks holds cells empty held all g0 c0 a0 h0 o0 e0 p0 shown m1 m2 g1 c1 a1 h1 p1 c2 g2 a2 h2 p2 = record {
   grants = subst (λ xs. IsPermutation xs holds) (sym g2) (subst (λ xs. IsPermutation (drawn_grants held) (xs ++ holds)) g0 g1);
   cells = subst (λ xs. IsPermutation (drawn_cells all) (xs ++ cells)) (c1 ∙ c0) c2;
   apart = a2 (a1 a0);
@@ -207,4 +214,6 @@ drawing_of columns listed shift holds cells empty held all g0 c0 a0 h0 o0 e0 p0 
   shift = shift;
   order = o0;
   at = subst (λ ps. AreAt shift ps all) e0 (p2 shift listed (p1 shift listed p0));
+  shown_grants = all_shown (λ g. g.slot) holds marks columns m1 shown;
+  shown_cells = all_shown (λ s. s.slot) cells marks columns m2 shown;
 }

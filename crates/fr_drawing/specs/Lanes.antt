@@ -6,6 +6,7 @@ use Rattle.fr_base.specs.declared.answer.Sending.{Sending}
 use Rattle.fr_drawing.specs.declared.columns.Place.{Place}
 use Rattle.fr_drawing.specs.declared.lane.Lane.{Lane}
 use Rattle.fr_drawing.specs.Places.{AreAt, AreHome, AreInOrder}
+use Rattle.fr_drawing.specs.Shown.{IsShown}
 use Rattle.fr_drawing.specs.Rectangles.{AreApart, cells_in}
 
 -- the cells of a lane's rectangles
@@ -24,7 +25,8 @@ abbrev pub IsApart : Lane → Type 0
 IsApart l = AreApart l.rectangles.items
 
 -- The lanes draw exactly the grants and the cells of the schedule, each as often as it is there, in the lane of its slot and channel; each
--- cell with its frame, node and supplier. The lanes stand at the columns of their slots, which are in the order of the slots.
+-- cell with its frame, node and supplier. The lanes stand at the columns of their slots, which are in the order
+-- of the slots, and each slot that is held or used has one.
 pub record IsDrawing (holds : List GrantRow) (sendings : List Sending) (lanes : List Lane) : Type 0 where
   pub grants : IsPermutation (drawn_grants lanes) holds
   pub cells : IsPermutation (drawn_cells lanes) sendings
@@ -34,3 +36,5 @@ pub record IsDrawing (holds : List GrantRow) (sendings : List Sending) (lanes : 
   pub shift : ℕ
   pub order : AreInOrder columns
   pub at : AreAt shift columns lanes
+  pub shown_grants : All (λ g. IsShown columns g.slot) holds
+  pub shown_cells : All (λ s. IsShown columns s.slot) sendings

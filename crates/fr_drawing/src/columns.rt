@@ -1,8 +1,9 @@
 //! Where the lanes of a drawing stand.
-ghost use Rattle.std.specs.Prelude.{◌≡◌, ◌+◌, ◌≤◌, false, IfOk};
+ghost use Rattle.std.specs.Prelude.{◌≡◌, ℕ, ◌+◌, ◌≤◌, false, IfOk};
 ghost use Rattle.std.specs.List.{All};
 ghost use Rattle.std.specs.Vec.{vec_len};
 ghost use Rattle.fr_drawing.specs.Places.{AreInOrder};
+ghost use Rattle.fr_drawing.specs.Shown.{IsMarked, IsShown};
 
 use crate::marks::{Marks, Shows};
 use fr_base::{Channels, NoMemory, Params};
@@ -121,7 +122,7 @@ fn column(bands: &Bands, end: u32, shows: Shows) -> Place
 }
 
 /// The columns of a drawing, one for each slot number.
-#[tactic(auto, using(crate::proofs::ColumnLemmas::in_order))]
+#[tactic(auto, using(crate::proofs::ColumnLemmas::in_order, crate::proofs::MarkLemmas::showing))]
 pub(crate) fn columns(
     alloc: Global,
     params: &Params,
@@ -130,6 +131,7 @@ pub(crate) fn columns(
 ) -> Result<Vec<Place>, NoMemory>
     ensures len { IfOk result (λ columns. vec_len columns ≡ 1023) }
     ensures order { IfOk result (λ columns. AreInOrder columns.items) }
+    ensures shown { IfOk result (λ columns. (n : ℕ) → IsMarked marks.now.0 n → IsShown columns.items n) }
     ensures within { IfOk result (λ columns. All (λ p. p.x + p.width ≤ 136) columns.items) }
 {
     let mut columns = Vec::new(alloc);

@@ -1,4 +1,3 @@
 pub mod PageLemmas
-pub mod KindLemmas
 pub mod RunLemmas
 pub mod StripLemmas

@@ -36,8 +36,8 @@ pub page_of : (plan : Plan) (drawing : Drawing) (shares listed : List Share) (ho
 page_of plan drawing shares listed holds cells frames names known count text e1 e2 e3 drawn e4 e5 e6 e7 e8 e9 =
     let own : known ≡ names_of plan = e5 ∙ e4 ∙ ap (λ fs. suppliers_of fs holds) e3 ∙ ap (λ gs. suppliers_of plan.frames.items gs) e1 in
     let full : listed ≡ shares_of plan =
-      e8 ∙ e7 ∙ ap (λ n. map (share_of known n holds cells) known) e6 ∙ ap (λ gs. map (share_of known plan.params.cycles gs cells) known) e1
-      ∙ ap (λ cs. map (share_of known plan.params.cycles plan.grants cs) known) e2 ∙ ap (λ ns. map (share_of ns plan.params.cycles plan.grants plan.cells) ns) own in
+    e8 ∙ e7 ∙ ap (λ n. map (share_of known n holds cells) known) e6 ∙ ap (λ gs. map (share_of known plan.params.cycles gs cells) known) e1
+    ∙ ap (λ cs. map (share_of known plan.params.cycles plan.grants cs) known) e2 ∙ ap (λ ns. map (share_of ns plan.params.cycles plan.grants plan.cells) ns) own in
     record {
       drawing = drawing;
       drawn = subst (λ cs. IsDrawing plan.grants cs drawing.lanes.items) e2 (subst (λ gs. IsDrawing gs cells drawing.lanes.items) e1 drawn);

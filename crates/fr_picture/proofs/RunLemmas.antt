@@ -42,8 +42,8 @@ run_down (suc k) a h n top le =
     let down : h - 1 - k ≡ h - suc k = omega arith in
     let on : suc (k + n) ≡ suc k + n = omega arith in
     let ih : IsPermutation (line ++ rest) (run_big (h - 1) (k + n)) =
-      subst (λ m. IsPermutation (line ++ run_big m n) (run_big (h - 1) (k + n))) down
-      (run_down k a (h - 1) n (omega (arith, top, le)) (omega (arith, le))) in
+    subst (λ m. IsPermutation (line ++ run_big m n) (run_big (h - 1) (k + n))) down
+    (run_down k a (h - 1) n (omega (arith, top, le)) (omega (arith, le))) in
     IsPermutation-trans (range_with_len a (suc k) ++ rest) ((line ++ h ∷ []) ++ rest) (run_big h (suc k + n))
     (same (range_with_len a (suc k) ++ rest) ((line ++ h ∷ []) ++ rest) (ap (λ xs. xs ++ rest) (range_more a k h (omega (arith, top)))))
     (IsPermutation-trans ((line ++ h ∷ []) ++ rest) ((h ∷ line) ++ rest) (run_big h (suc k + n))
@@ -85,9 +85,9 @@ bits_in-more runs new r after =
     ap (flat_map (λ q. range_with_len q.start q.length)) after ∙ flat_map-append (λ q. range_with_len q.start q.length) runs (r ∷ [])
     ∙ ap (λ xs. flat_map (λ q. range_with_len q.start q.length) runs ++ xs) (append-nil (range_with_len r.start r.length))
 
-pub bits_in_none : (all : List ℕ) → IsPermutation (bits_in [] ++ all) all
+pub bits_in_none : (runs : List Run) (all : List ℕ) → runs ≡ [] → IsPermutation (bits_in runs ++ all) all
 unfolding bits_in
-bits_in_none all = IsPermutation-refl all
+bits_in_none runs all none = subst (λ rs. IsPermutation (bits_in rs ++ all) all) (sym none) (IsPermutation-refl all)
 
 onto : (done line rest more all : List ℕ) → IsPermutation (line ++ rest) more → IsPermutation (done ++ more) all → IsPermutation ((done ++ line) ++ rest) all
 onto done line rest more all step before =

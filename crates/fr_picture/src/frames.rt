@@ -64,10 +64,7 @@ fn push_frame(frame: &DrawnFrame, out: &mut String) -> Result<(), NoMemory>
 fn push_names(frame: Name, node: Name, supplier: Name, out: &mut String) -> Result<(), NoMemory>
     ensures { OnOk result (string_bytes out.new ≡ string_bytes out.old ++ names_text frame node supplier) }
 {
-    write!(
-        out,
-        "<tr><td>{frame}<td>{node}<td>{supplier}<td>"
-    )
+    write!(out, "<tr><td>{frame}<td>{node}<td>{supplier}<td>")
 }
 
 #[tactic(auto, unfolding(crate::specs::FrameTables::placements_text))]

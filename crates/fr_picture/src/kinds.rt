@@ -38,8 +38,7 @@ fn kin(alloc: Global, all: &[Rectangle], one: &Rectangle) -> Result<Vec<Rectangl
 fn is_again(all: &[Rectangle], one: &Rectangle) -> bool
     ensures { result ≡ is_again all.now one.now }
 {
-    all.iter()
-        .any(|other| other.first.cycle < one.first.cycle && is_kin(other, one))
+    all.iter().any(|other| other.first.cycle < one.first.cycle && is_kin(other, one))
 }
 
 // Whether the rectangles are this high and stand behind one another, the first in this cycle and each next so many cycles later.
@@ -112,7 +111,14 @@ fn push_rectangle(
         return Ok(());
     }
     let kind = kin(alloc, all, one)?;
-    push_kind(number_of(names, one.first.supplier), scale, x, kind.as_slice(), one, out)
+    push_kind(
+        number_of(names, one.first.supplier),
+        scale,
+        x,
+        kind.as_slice(),
+        one,
+        out,
+    )
 }
 
 // Appends the rectangles of one frame, of which this is the first, in the colour of the supplier of this number.
@@ -178,7 +184,10 @@ fn push_set_start(
 ) -> Result<(), NoMemory>
     ensures { OnOk result (string_bytes out.new ≡ string_bytes out.old ++ set_start colour repetition x base) }
 {
-    write!(out, "<use class=c{colour} href=#r{repetition} x={x} y={base}>")
+    write!(
+        out,
+        "<use class=c{colour} href=#r{repetition} x={x} y={base}>"
+    )
 }
 
 #[tactic(auto, unfolding(crate::specs::Kinds::within_text))]

@@ -1,6 +1,7 @@
-use Rattle.std.proofs.Common.{◌≡◌, ◌+◌, ◌≤◌, vec_len}
+use Rattle.std.proofs.Common.{◌≡◌, ℕ, ◌+◌, ◌<◌, ◌≤◌, vec_len}
 use Rattle.std.specs.List.{All}
 use Rattle.fr_drawing.specs.Places.{AreInOrder}
+use Rattle.fr_drawing.specs.Shown.{IsMarked, IsShown}
 use Rattle.fr_drawing.proofs.ColumnLemmas.{end_of}
 use Rattle.fr_drawing.proofs.columns.columns.Given as goal
 
@@ -11,5 +12,6 @@ invariant-loop-slot l = record {
   small : l.end ≤ 136;
   last : end_of l.columns.items ≤ l.end;
   order : AreInOrder l.columns.items;
+  shown : (n : ℕ) → IsMarked l.marks.0 n → n < l.slot → IsShown l.columns.items n;
   within : All (λ p. p.x + p.width ≤ 136) l.columns.items;
 }

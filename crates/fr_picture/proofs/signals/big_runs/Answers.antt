@@ -3,7 +3,7 @@ use Rattle.fr_picture.proofs.RunLemmas.{bits_in_none, byte_more}
 use Rattle.fr_picture.proofs.signals.big_runs.Goals as goal
 
 pub loop-high-init : goal.loop-high-init
-loop-high-init c = record { kept = bits_in_none _; small = omega arith; }
+loop-high-init c = record { kept = bits_in_none _ _ c.new-runs.ensures.items; small = omega arith }
 
 pub loop-high-preserved : goal.loop-high-preserved
 loop-high-preserved c = record {
