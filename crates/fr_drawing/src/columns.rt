@@ -90,7 +90,8 @@ impl Bands {
 
 // How wide a lane is, where slots and gaps share this room: 2 to 12.
 fn lane_width(room: u32, last: u32, marks: &Marks) -> u32
-    ensures { result ≤ 12 }
+    ensures least { 2 ≤ result }
+    ensures most { result ≤ 12 }
 {
     let mut slots: u32 = 0;
     let mut gaps: u32 = 0;

@@ -1,7 +1,8 @@
 //! What is drawn of one slot and channel.
-ghost use Rattle.std.specs.Prelude.{◌≡◌, List, ◌<◌, ◌≤◌, ◌++◌, ◌∷◌, [], OnOk, IfOk, ◌+◌, length};
+ghost use Rattle.std.specs.Prelude.{◌≡◌, if◌then◌else◌, List, ◌<◌, ◌≤◌, ◌++◌, ◌∷◌, [], OnOk, IfOk, ◌+◌, length};
 ghost use Rattle.std.specs.List.{All};
 ghost use Rattle.std.specs.Vec.{vec_len};
+ghost use Rattle.fr_base.specs.Channels.{has_channel};
 ghost use Rattle.fr_drawing.specs.Lanes.{IsApart, drawn_cells, drawn_grants, lane_cells};
 ghost use Rattle.fr_drawing.specs.Places.{AreAt, AreHome, lane_of};
 ghost use Rattle.fr_drawing.specs.Rectangles.{AreApart, cells_in};
@@ -89,7 +90,9 @@ fn add_cell(rectangles: &mut Vec<Rectangle>, cell: &Sending) -> Result<(), NoMem
 }
 
 // What is shown in the lane of a channel, where the cluster has it.
-fn shown_on(channels: Channels, channel: Channel, shows: Shows) -> Shows {
+fn shown_on(channels: Channels, channel: Channel, shows: Shows) -> Shows
+    ensures { result ≡ (if has_channel channels channel then shows else Shows.Nothing) }
+{
     if channels.has(channel) {
         shows
     } else {
