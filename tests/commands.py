@@ -92,7 +92,7 @@ def over(db):
     """The commands that ask a register file and change nothing where they have no input."""
     yield from ([report, db, "v1"] for report in ("grants", "frames", "schedule", "gaps"))
     yield from (["layout", db, "v1", "f1"], ["schedule", db, "v1", "--supplier", "s1"], ["ask", db])
-    yield from (["variants", db], ["variants", db, "--supplier", "s1"])
+    yield from (["variants", db], ["variants", db, "--supplier", "s1"], ["picture", db, "v1"], ["picture", db, "v1", "--supplier", "s1"])
 
 
 def opening(program, folder):
@@ -342,6 +342,25 @@ def asking(program, folder):
     with served(program, folder, db="asked.db"):
         for words in over("asked.db"):
             fault(program, words, folder, "Unavailable")
+
+
+def drawing(program, folder):
+    """The page of a plan shows the reader's own names alone. How it looks is no format, so little of it is looked for here."""
+    before = (folder / "asked.db").read_bytes()
+    for supplier, seen, hidden in (None, {b"s1", b"s3", b"f1"}, set()), ("s1", {b"s1", b"f1"}, {b"s3"}), ("s2", {b"s2"}, {b"s1", b"s3", b"f1"}):
+        more = [] if supplier is None else ["--supplier", supplier]
+        got = subprocess.run([program, "picture", "asked.db", "v1", *more], cwd=folder, stdin=subprocess.DEVNULL, capture_output=True, timeout=SECONDS)
+        see(f"the page for {supplier}", (0, b"", True, True), (got.returncode, got.stderr, got.stdout.startswith(b"<!DOCTYPE html>"), b"<title>v1</title>" in got.stdout))
+        words = set(re.findall(rb"\w+", re.sub(rb"<style>.*?</style>", b"", got.stdout, flags=re.DOTALL)))
+        see(f"names on the page for {supplier}", (set(), set()), (seen - words, hidden & words))
+    turned_down(program, ["picture", "asked.db", "v9"], folder, refused(10, "NoVariant"))
+    turned_down(program, ["picture", "asked.db", "v9", "--supplier", "s1"], folder, refused(10, "NoVariant"))
+    turned_down(program, ["picture", "asked.db", "1v"], folder, refused(4, "BadName"))
+    for supplier in "s4", "S1", "s 1", "":
+        turned_down(program, ["picture", "asked.db", "v1", "--supplier", supplier], folder, refused(2, "UnknownKey"))
+    got = subprocess.run(["sh", "-c", '"$1" picture asked.db v1 > /dev/full', "sh", program], cwd=folder, capture_output=True, timeout=SECONDS)
+    see("output that is full", (1, b"slotplan: WriteFailed\n"), (got.returncode, got.stderr))
+    see("a picture leaves the file", before, (folder / "asked.db").read_bytes())
 
 
 LINE = b'supplier01 {"do":"add_frame","variant":"v1","frame":"%s","node":"n1"}'
@@ -801,7 +820,7 @@ def main(programs):
         with tempfile.TemporaryDirectory() as folder:
             (Path(folder) / "cluster.toml").write_bytes(CLUSTER)
             for part in (
-                creating, checking, explaining, version, opening, serving, cutting, killing, reports, asking, asking_ends, asking_killed,
+                creating, checking, explaining, version, opening, serving, cutting, killing, reports, asking, drawing, asking_ends, asking_killed,
                 differences, overlaid, made_whole, opened_again, joined, counted_cycles,
             ):
                 part(program, Path(folder))

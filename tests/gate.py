@@ -26,6 +26,7 @@ TRIALS = {
     "its connections cut": ["tests/links.py"],
     "its tutorial": ["tests/tutorial.py"],
     "its HTTP interface": ["tests/openapi.py"],
+    "its pictures": ["tests/pictures.py"],
     "its files stopped": ["tests/stops.py", "--step", "4"],
     "its files changed": ["tests/foreign.py", "--step", "20"],
     "its memory refused": ["tests/refused.py", "--step", "120"],

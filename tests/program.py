@@ -42,6 +42,7 @@ Commands:
   schedule  Prints a variant's schedule: what is sent in which cycle, slot and channel
   gaps      Prints the greatest gap between two sendings of each frame of a variant, in macroticks
   layout    Prints a frame's layout: the signals in its payload
+  picture   Draws a variant's plan as a page of HTML, for a browser or a printer
   import    Carries out a supplier's import: a CSV file of placements or signals, all rows or none
   check     Says what is wrong with a cluster file and where, or prints its figures
   explain   Says what a refusal or a fault means, when it comes and what to do
@@ -150,6 +151,28 @@ Each line: slot, channel, node, supplier. With --supplier the last is left out.
 Example:
   slotplan grants car.db v1
   slotplan grants car.db v1 --supplier s1
+"""
+
+PICTURE_HELP = b"""\
+Draws a variant's plan as a page of HTML, for a browser or a printer
+
+Usage: slotplan picture [OPTIONS] <DB> <VARIANT>
+
+Arguments:
+  <DB>       The register file (an SQLite database)
+  <VARIANT>  The variant's name
+
+Options:
+      --supplier <NAME>  Prints what this supplier sees; without it, what the integrator sees
+  -h, --help             Print help
+
+The page shows the static segment: cycles down, slots across, each grant and each
+frame that is sent; how full each supplier's grants are; and the frames with their
+gaps and signals. It needs no other file and no network.
+
+Example:
+  slotplan picture car.db v1 > v1.html
+  slotplan picture car.db v1 --supplier s1 > s1.html
 """
 
 LAYOUT_HELP = b"""\
@@ -268,7 +291,7 @@ def words():
     for name, text in ("run", RUN_HELP), ("serve", SERVE_HELP):
         for given in (name, "--help"), (name, "-h"), ("help", name):
             yield Case(f"the words {given}", written=text, words=given)
-    by_name = ("ask", ASK_HELP), ("variants", VARIANTS_HELP), ("grants", GRANTS_HELP), ("layout", LAYOUT_HELP), ("check", CHECK_HELP), ("explain", EXPLAIN_HELP)
+    by_name = ("ask", ASK_HELP), ("variants", VARIANTS_HELP), ("grants", GRANTS_HELP), ("layout", LAYOUT_HELP), ("picture", PICTURE_HELP), ("check", CHECK_HELP), ("explain", EXPLAIN_HELP)
     for name, text in by_name:
         yield Case(f"the help of {name}", written=text, words=(name, "--help"))
     yield Case("no words", said=HELP, status=2, words=())

@@ -11,4 +11,5 @@ pub mod EndingLaws
 pub mod AskingLaws
 pub mod ReadingLaws
 pub mod ListingLaws
+pub mod PicturingLaws
 mod EachFault

@@ -1,8 +1,9 @@
 -- What is printed of what was read of a register, and of one in a file.
-use Rattle.std.proofs.Common.{◌≡◌, List, ℕ, Ok, Err, Some, Result, refl, subst, sym}
+use Rattle.std.proofs.Common.{◌≡◌, List, ℕ, Option, Ok, Err, Some, Result, refl, subst, sym}
 use Rattle.std.specs.Global.{Vec}
 use Rattle.fr_base.specs.Book.{Book}
 use Rattle.fr_base.specs.Cluster.{Cluster}
+use Rattle.fr_base.specs.declared.actor.Actor.{Actor}
 use Rattle.fr_base.specs.declared.answer.Answer.TheVariants as answer
 use Rattle.fr_base.specs.declared.refusal.Refusal.{Refusal}
 use Rattle.fr_desks.specs.FileDesk.{FindsHeld, IsLeftWith}
@@ -20,6 +21,11 @@ use Rattle.fr_cli.specs.declared.fault.Fault.{Fault}
 use Rattle.fr_cli.specs.declared.fault.Fault.TheVariants.{NoMemory}
 
 module _ {X : Type 0} where
+  -- what one reader is told is told to another that is the same
+  pub read_same : (clean : Type 0) (old new : Standing) (may : Option Actor → Reading X) (reader wanted : Option Actor) (r : Result X Refusal) → reader ≡ wanted
+      → IsRead clean old new (may reader) r → IsRead clean old new (may wanted) r
+  read_same clean old new may reader wanted r is read = subst (λ who. IsRead clean old new (may who) r) is read
+
   -- the line of a refusal, or no memory for it
   pub refused_reading : (Is : Result X Refusal → Type 0) (IsText : X → List ℕ → Type 0) (refusal : Refusal) (f : Failure) → Is (Err refusal)
       → IsRefusedBy (answer.Refused refusal) f → PrintsRead (λ fault. fault ≡ NoMemory) Is IsText (Err f)

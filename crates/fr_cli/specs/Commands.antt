@@ -61,7 +61,7 @@ supplier = record (new_rule (codes "supplier")) { long = Some (codes "supplier")
 abbrev pub variants : App
 variants = with_rule (with_rule (new_app (codes "variants")) (word (codes "DB"))) supplier
 
--- `grants`, `frames`, `schedule` and `gaps`
+-- `grants`, `frames`, `schedule`, `gaps` and `picture`
 abbrev pub report : Text → App
 report name = with_rule (with_rule (with_rule (new_app name) (word (codes "DB"))) (word (codes "VARIANT"))) supplier
 
@@ -88,9 +88,9 @@ unasked name = record {
 -- the program, with one subcommand for each job
 abbrev pub slotplan : App
 slotplan = with_subcommand (with_subcommand (with_subcommand (with_subcommand (with_subcommand (with_subcommand (with_subcommand (with_subcommand (with_subcommand
-    (with_subcommand (with_subcommand (with_subcommand (with_subcommand (with_subcommand (unasked (codes "slotplan")) run.top) create.top) migrate.top) serve.top)
-    ask.top) variants.top) (report (codes "grants")).top) (report (codes "frames")).top) (report (codes "schedule")).top) (report (codes "gaps")).top) layout.top)
-    import_words.top) check.top) explain.top
+    (with_subcommand (with_subcommand (with_subcommand (with_subcommand (with_subcommand (with_subcommand (unasked (codes "slotplan")) run.top) create.top)
+    migrate.top) serve.top) ask.top) variants.top) (report (codes "grants")).top) (report (codes "frames")).top) (report (codes "schedule")).top)
+    (report (codes "gaps")).top) layout.top) (report (codes "picture")).top) import_words.top) check.top) explain.top
 
 -- The command is read so, and has no argument that its subcommands have too.
 abbrev pub IsReadAs : App → Command → Type 0

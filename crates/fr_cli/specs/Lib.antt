@@ -12,6 +12,7 @@ pub mod Queries
 pub mod Asking
 pub mod Reading
 pub mod Listing
+pub mod Picturing
 pub mod Endings
 pub mod Performing
 pub mod RegisterFiles

@@ -5,7 +5,7 @@ use Rattle.clap.specs.Walk.{Row, Text, first_of}
 use Rattle.clap.specs.Words.{subcommand_of}
 use Rattle.fr_cli.specs.Commands.{slotplan}
 use Rattle.fr_cli.specs.declared.words.Job.{Job}
-use Rattle.fr_cli.specs.declared.words.Job.TheVariants.{Run, Create, Migrate, Serve, Ask, Variants, Report as ReportOn, Import, Check, Explain}
+use Rattle.fr_cli.specs.declared.words.Job.TheVariants.{Run, Create, Migrate, Serve, Ask, Variants, Report as ReportOn, Picture, Import, Check, Explain}
 use Rattle.fr_cli.specs.declared.query.Query.{Query}
 use Rattle.fr_cli.specs.declared.query.Report.{Report}
 use Rattle.fr_cli.specs.declared.query.Report.TheVariants.{Grants, Frames, Schedule, Gaps, Layout}
@@ -46,6 +46,8 @@ IsJobOf (Serve db port count seconds) name rows = (name ≡ codes "serve") × Ha
 IsJobOf (Ask db) name rows = (name ≡ codes "ask") × Has (codes "DB") rows db.now
 IsJobOf (Variants db supplier) name rows = (name ≡ codes "variants") × Has (codes "DB") rows db.now × IsOfSupplier supplier rows
 IsJobOf (ReportOn db query) name rows = (name ≡ name_of query.report) × Has (codes "DB") rows db.now × IsQueryIn rows query
+IsJobOf (Picture db variant supplier) name rows = (name ≡ codes "picture") × Has (codes "DB") rows db.now × Has (codes "VARIANT") rows variant.now
+    × IsOfSupplier supplier rows
 IsJobOf (Import db key variant label file) name rows = (name ≡ codes "import") × Has (codes "DB") rows db.now × Has (codes "KEY") rows key.now
     × Has (codes "VARIANT") rows variant.now × Has (codes "LABEL") rows label.now × Has (codes "FILE") rows file.now
 IsJobOf (Check config) name rows = (name ≡ codes "check") × Has (codes "CONFIG") rows config.now

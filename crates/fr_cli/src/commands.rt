@@ -29,6 +29,7 @@ pub fn program<'a>(alloc: Global) -> Result<Command<'a>, Error>
         .subcommand(report(alloc, "schedule", SCHEDULE_ABOUT, SCHEDULE_HELP)?)?
         .subcommand(report(alloc, "gaps", GAPS_ABOUT, GAPS_HELP)?)?
         .subcommand(layout(alloc)?)?
+        .subcommand(report(alloc, "picture", PICTURE_ABOUT, PICTURE_HELP)?)?
         .subcommand(import(alloc)?)?
         .subcommand(check(alloc)?)?
         .subcommand(explain(alloc)?)?;
@@ -286,6 +287,8 @@ const GAPS_ABOUT: &str =
 
 const LAYOUT_ABOUT: &str = "Prints a frame's layout: the signals in its payload";
 
+const PICTURE_ABOUT: &str = "Draws a variant's plan as a page of HTML, for a browser or a printer";
+
 const PROGRAM_HELP: &str = "\
 Status 0: done. Status 1: refused, or a fault; standard error says which.
 Status 2: the words name no job.
@@ -372,6 +375,15 @@ last is left out; without it the frames of this name of all suppliers are shown.
 Example:
   slotplan layout car.db v1 f1
   slotplan layout car.db v1 f1 --supplier s1";
+
+const PICTURE_HELP: &str = "\
+The page shows the static segment: cycles down, slots across, each grant and each
+frame that is sent; how full each supplier's grants are; and the frames with their
+gaps and signals. It needs no other file and no network.
+
+Example:
+  slotplan picture car.db v1 > v1.html
+  slotplan picture car.db v1 --supplier s1 > s1.html";
 
 const IMPORT_HELP: &str = "\
 Example:

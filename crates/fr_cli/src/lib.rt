@@ -17,6 +17,7 @@ mod lines;
 mod lines_out;
 mod listing;
 pub mod perform;
+mod picturing;
 mod printing;
 mod query;
 mod script;

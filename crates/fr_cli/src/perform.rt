@@ -12,6 +12,8 @@ ghost use Rattle.fr_cli.specs.Faults.{IsNotImported, IsNotMade, IsNotMigrated, I
 ghost use Rattle.fr_cli.specs.Incoming.{IsAsked};
 ghost use Rattle.fr_cli.specs.Listing.{AreLines, variants_for};
 ghost use Rattle.fr_cli.specs.Performing.{Says, listening, of_script};
+ghost use Rattle.fr_cli.specs.Picturing.{plans_for};
+ghost use Rattle.fr_picture.specs.Pages.{IsPage};
 ghost use Rattle.fr_cli.specs.Queries.{named, report_of};
 ghost use Rattle.fr_cli.specs.Reading.{PrintsRead};
 ghost use Rattle.fr_cli.specs.RegisterFiles.{IsAnswerOfFile, IsMade, IsMoved, IsReadOfFile};
@@ -30,6 +32,7 @@ use crate::fault::Fault;
 use crate::files::read_front;
 use crate::incoming::answer_input;
 use crate::listing::list;
+use crate::picturing::picture;
 use crate::printing::{end, print, print_all, tell};
 use crate::query::Query;
 use crate::script::run_script;
@@ -71,6 +74,8 @@ pub fn perform<S: Start, R: Read, O: Write, E: Write>(
     ensures variants { (db : Bor (List ℕ)) (supplier : Option (Bor (List ℕ))) → job.now ≡ Job.Variants db supplier → (done : Result (Vec ℕ) Ended) × PrintsRead IsNotReported (IsReadOfFile (image_at S.Start) result.1 (variants_for (named supplier))) AreLines done
         × IsTold done (O.contents out.old) (O.contents out.new) (E.contents err.old) (E.contents err.new) result.0 }
     ensures report { (db : Bor (List ℕ)) (query : Query) → job.now ≡ Job.Report db query → (done : Result (Vec ℕ) Ended) × Says IsNotReported (IsAnswerOfFile (image_at S.Start) result.1 (query_of query)) (report_of query.report) done
+        × IsTold done (O.contents out.old) (O.contents out.new) (E.contents err.old) (E.contents err.new) result.0 }
+    ensures picture { (db variant : Bor (List ℕ)) (supplier : Option (Bor (List ℕ))) → job.now ≡ Job.Picture db variant supplier → (done : Result (Vec ℕ) Ended) × PrintsRead IsNotReported (IsReadOfFile (image_at S.Start) result.1 (plans_for (named supplier) variant.now)) IsPage done
         × IsTold done (O.contents out.old) (O.contents out.new) (E.contents err.old) (E.contents err.new) result.0 }
     ensures import { (db key variant label file : Bor (List ℕ)) → job.now ≡ Job.Import db key variant label file → (body : List ℕ) × (done : Result (Vec ℕ) Ended)
         × Says IsNotImported (IsAnswerOfFile (image_at S.Start) result.1 (import_of (record { key = key; variant = variant; label = label }) body)) line_of done
@@ -116,6 +121,14 @@ pub fn perform<S: Start, R: Read, O: Write, E: Write>(
         }
         Job::Report { db, query } => {
             let (done, left) = report_file(rt, db, start, query);
+            (tell(done, out, &mut err), left)
+        }
+        Job::Picture {
+            db,
+            variant,
+            supplier,
+        } => {
+            let (done, left) = picture_file(rt, db, start, variant, supplier);
             (tell(done, out, &mut err), left)
         }
         Job::Import {
@@ -242,6 +255,25 @@ fn report_file<S: Start>(
     match file_desk::open(rt, db, start) {
         Ok(mut desk) => {
             let done = report_on(rt.alloc(), &mut desk, query);
+            (done, Some(file_desk::close(desk)))
+        }
+        Err((fault, left)) => (Err(Failure::Fault(Fault::Register(fault))), left),
+    }
+}
+
+// The page of a variant's plan of the register in a file.
+fn picture_file<S: Start>(
+    rt: &HostRuntime,
+    db: &str,
+    start: S,
+    variant: &str,
+    supplier: Option<&str>,
+) -> (Result<Vec<u8>, Failure>, Left<S>)
+    ensures { PrintsRead IsNotReported (IsReadOfFile (image_at S.Start) result.1 (plans_for (named supplier.entry) variant.now)) IsPage result.0 }
+{
+    match file_desk::open(rt, db, start) {
+        Ok(mut desk) => {
+            let done = picture(rt.alloc(), &mut desk, variant, supplier);
             (done, Some(file_desk::close(desk)))
         }
         Err((fault, left)) => (Err(Failure::Fault(Fault::Register(fault))), left),

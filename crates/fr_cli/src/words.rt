@@ -46,6 +46,12 @@ pub enum Job<'a> {
         db: &'a str,
         query: Query<'a>,
     },
+    /// Draw a variant's plan, as the integrator sees it, or the supplier that is named.
+    Picture {
+        db: &'a str,
+        variant: &'a str,
+        supplier: Option<&'a str>,
+    },
     /// Carry out the import of a file by who has the key.
     Import {
         db: &'a str,
@@ -120,6 +126,7 @@ fn named_job<'a>(name: &str, found: &ArgMatches<'a>) -> Option<Job<'a>>
         "schedule" => report_job(found, Report::Schedule),
         "gaps" => report_job(found, Report::Gaps),
         "layout" => layout_job(found),
+        "picture" => picture_job(found),
         "import" => import_job(found),
         "check" => check_job(found),
         "explain" => Some(explain_job(found)),
@@ -197,6 +204,16 @@ fn layout_job<'a>(found: &ArgMatches<'a>) -> Option<Job<'a>>
 {
     let frame = word(found, "FRAME")?;
     report_job(found, Report::Layout { frame })
+}
+
+fn picture_job<'a>(found: &ArgMatches<'a>) -> Option<Job<'a>>
+    ensures { IfSome result (λ job. IsJobOf job (codes "picture") (rows_of (found_of found.now))) }
+{
+    Some(Job::Picture {
+        db: word(found, "DB")?,
+        variant: word(found, "VARIANT")?,
+        supplier: supplier(found),
+    })
 }
 
 fn import_job<'a>(found: &ArgMatches<'a>) -> Option<Job<'a>>

@@ -22,7 +22,8 @@ returns c =
     (with_job _ _ _ _ _ c.in_ok-subcommand-9.ensures
     (with_job _ _ _ _ _ c.in_ok-subcommand-8.ensures
     (with_job _ _ _ _ _ c.in_ok-subcommand-7.ensures files c.in_ok-report.ensures) c.in_ok-report-2.ensures) c.in_ok-report-3.ensures) c.in_ok-report-4.ensures in
-    let changes = with_job _ _ _ _ _ c.in_ok-subcommand-12.ensures
-    (with_job _ _ _ _ _ c.in_ok-subcommand-11.ensures reports c.in_ok-layout.ensures) c.in_ok-import.ensures in
+    let changes = with_job _ _ _ _ _ c.in_ok-subcommand-13.ensures
+    (with_job _ _ _ _ _ c.in_ok-subcommand-12.ensures
+    (with_job _ _ _ _ _ c.in_ok-subcommand-11.ensures reports c.in_ok-layout.ensures) c.in_ok-report-5.ensures) c.in_ok-import.ensures in
     with_job _ _ _ _ _ c.in_ok-program.ensures
-    (with_job _ _ _ _ _ c.in_ok-subcommand-13.ensures changes c.in_ok-check.ensures) c.in_ok-explain.ensures
+    (with_job _ _ _ _ _ c.in_ok-subcommand-14.ensures changes c.in_ok-check.ensures) c.in_ok-explain.ensures

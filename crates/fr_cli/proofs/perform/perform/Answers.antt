@@ -5,6 +5,8 @@ use Rattle.fr_cli.specs.Asking.{import_of, line_of, query_of}
 use Rattle.fr_cli.specs.Faults.{IsNotImported, IsNotReported}
 use Rattle.fr_cli.specs.Listing.{AreLines, variants_for}
 use Rattle.fr_cli.specs.Performing.{Says}
+use Rattle.fr_cli.specs.Picturing.{plans_for}
+use Rattle.fr_picture.specs.Pages.{IsPage}
 use Rattle.fr_cli.specs.Queries.{named, report_of}
 use Rattle.fr_cli.specs.Reading.{PrintsRead}
 use Rattle.fr_cli.specs.RegisterFiles.{IsAnswerOfFile, IsReadOfFile}
@@ -47,3 +49,14 @@ returns-in-Import-clause-import g c db key variant label file is =
     let says = subst (λ words. Says IsNotImported (IsAnswerOfFile (image_at g.S.Start) c.import_file-done.result.1 (import_of words said.0)) line_of c.import_file-done.result.0)
     (ap (words_in (record { key = key; variant = variant; label = label })) (sym c.in-Import.is ∙ is)) said.1 in
     (said.0, c.import_file-done.result.0, says, search rules)
+
+-- the variant that a job draws, and the supplier for whom
+abbrev view_in : Bor (List ℕ) × Option (Bor (List ℕ)) → Job → Bor (List ℕ) × Option (Bor (List ℕ))
+view_in view (job.Picture db variant given) = (variant, given)
+view_in view _ = view
+
+pub returns-in-Picture-clause-picture : goal.returns-in-Picture-clause-picture
+returns-in-Picture-clause-picture g c db variant supplier is =
+    let says = subst (λ view. PrintsRead IsNotReported (IsReadOfFile (image_at g.S.Start) c.picture_file-done.result.1 (plans_for (named view.1) view.0.now)) IsPage c.picture_file-done.result.0)
+    (ap (view_in (variant, supplier)) (sym c.in-Picture.is ∙ is)) c.picture_file-done.ensures in
+    (c.picture_file-done.result.0, says, search rules)

@@ -1,0 +1,219 @@
+-- Lanes of which one is changed.
+use Rattle.std.proofs.Common.{◌≡◌, Bool, ℕ, ◌+◌, ◌<◌, zero, suc, List, [], ◌∷◌, ◌++◌, length, get_or, take, refl, sym, ap, ◌∙◌, append_assoc, append-nil, arith, subst, zero-add}
+use Rattle.std.proofs.Math.ListN.{set}
+use Rattle.std.specs.List.{flat_map, All}
+use Rattle.std.proofs.lemmas.List.{take_more}
+use Rattle.std.proofs.lemmas.List.Elements.{All-push}
+use Rattle.fr_drawing.specs.Shown.{IsMarked, IsShown}
+use Rattle.fr_drawing.proofs.MarkLemmas.{all_shown}
+use Rattle.fr_drawing.specs.Places.{AreAt, AreHome, AreInOrder, IsHome, lane_of}
+use Rattle.fr_drawing.specs.declared.columns.Place.{Place}
+use Rattle.fr_drawing.specs.declared.rectangle.Rectangle.{Rectangle}
+use Rattle.std.proofs.lemmas.Grind.{flat_map-append}
+use Rattle.fr_drawing.specs.Rectangles.{AreApart, cells_in, cells_of}
+use Rattle.std.specs.List.Sorted.{IsPermutation}
+use Rattle.std.proofs.lemmas.List.Sorted.{IsPermutation-refl, IsPermutation-trans, IsPermutation-append_left, IsPermutation-append_right, IsPermutation-append_comm}
+use Rattle.fr_base.specs.declared.answer.GrantRow.{GrantRow}
+use Rattle.fr_base.specs.declared.answer.Sending.{Sending}
+use Rattle.fr_drawing.specs.declared.lane.Lane.{Lane}
+use Rattle.fr_drawing.specs.Lanes.{IsApart, IsDrawing, lane_cells, drawn_cells, drawn_grants}
+
+same : {X : Type 0} (xs ys : List X) → xs ≡ ys → IsPermutation xs ys
+same xs ys e = subst (λ zs. IsPermutation xs zs) e (IsPermutation-refl xs)
+
+-- what one element has more, all have more
+pub one_more : {L X : Type 0} (f : L → List X) (ls : List L) (k : ℕ) (l d : L) (x : X) → k < length ls → f l ≡ f (get_or ls k d) ++ x ∷ []
+    → IsPermutation (flat_map f (set ls k l)) (flat_map f ls ++ x ∷ [])
+one_more f [] k l d x small e = absurd (omega (arith, small))
+one_more f (m ∷ ms) zero l d x small e =
+    let rest = flat_map f ms in
+    IsPermutation-trans (f l ++ rest) ((f m ++ x ∷ []) ++ rest) ((f m ++ rest) ++ x ∷ [])
+    (same (f l ++ rest) ((f m ++ x ∷ []) ++ rest) (ap (λ t. t ++ rest) e))
+    (IsPermutation-trans ((f m ++ x ∷ []) ++ rest) (f m ++ (x ∷ [] ++ rest)) ((f m ++ rest) ++ x ∷ [])
+    (same ((f m ++ x ∷ []) ++ rest) (f m ++ (x ∷ [] ++ rest)) (append_assoc (f m) (x ∷ []) rest))
+    (IsPermutation-trans (f m ++ (x ∷ [] ++ rest)) (f m ++ (rest ++ x ∷ [])) ((f m ++ rest) ++ x ∷ [])
+    (IsPermutation-append_right (f m) (x ∷ [] ++ rest) (rest ++ x ∷ []) (IsPermutation-append_comm (x ∷ []) rest))
+    (same (f m ++ (rest ++ x ∷ [])) ((f m ++ rest) ++ x ∷ []) (sym (append_assoc (f m) rest (x ∷ []))))))
+one_more f (m ∷ ms) (suc k) l d x small e =
+    let within : k < length ms = omega (arith, small) in
+    IsPermutation-trans (f m ++ flat_map f (set ms k l)) (f m ++ (flat_map f ms ++ x ∷ [])) ((f m ++ flat_map f ms) ++ x ∷ [])
+    (IsPermutation-append_right (f m) (flat_map f (set ms k l)) (flat_map f ms ++ x ∷ []) (one_more f ms k l d x within e))
+    (same (f m ++ (flat_map f ms ++ x ∷ [])) ((f m ++ flat_map f ms) ++ x ∷ []) (sym (append_assoc (f m) (flat_map f ms) (x ∷ []))))
+
+-- what one element has still, all have still
+pub none_more : {L X : Type 0} (f : L → List X) (ls : List L) (k : ℕ) (l d : L) → k < length ls → f l ≡ f (get_or ls k d)
+    → flat_map f (set ls k l) ≡ flat_map f ls
+none_more f [] k l d small e = absurd (omega (arith, small))
+none_more f (m ∷ ms) zero l d small e = ap (λ t. t ++ flat_map f ms) e
+none_more f (m ∷ ms) (suc k) l d small e = ap (λ t. f m ++ t) (none_more f ms k l d (omega (arith, small)) e)
+
+pub cell_more : (ls : List Lane) (k : ℕ) (l d : Lane) (x : Sending) → k < length ls → lane_cells l ≡ lane_cells (get_or ls k d) ++ x ∷ []
+    → IsPermutation (drawn_cells (set ls k l)) (drawn_cells ls ++ x ∷ [])
+unfolding drawn_cells
+cell_more ls k l d x small e = one_more lane_cells ls k l d x small e
+
+pub grants_stay : (ls : List Lane) (k : ℕ) (l d : Lane) → k < length ls → l.grants ≡ (get_or ls k d).grants
+    → drawn_grants (set ls k l) ≡ drawn_grants ls
+unfolding drawn_grants
+grants_stay ls k l d small e = none_more (λ m. m.grants.items) ls k l d small (ap (λ g. g.items) e)
+
+pub drawn_grants-none : drawn_grants [] ≡ []
+unfolding drawn_grants
+drawn_grants-none = refl
+
+pub drawn_cells-none : drawn_cells [] ≡ []
+unfolding drawn_cells
+drawn_cells-none = refl
+
+-- a lane more, in which nothing is drawn
+pub drawn_grants-more : (ls new : List Lane) (l : Lane) → new ≡ ls ++ l ∷ [] → l.grants.items ≡ [] → drawn_grants new ≡ drawn_grants ls
+unfolding drawn_grants
+drawn_grants-more ls new l after empty =
+    ap (λ ms. flat_map (λ m. m.grants.items) ms) after ∙ flat_map-append (λ m. m.grants.items) ls (l ∷ [])
+    ∙ ap (λ t. flat_map (λ m. m.grants.items) ls ++ t) (append-nil l.grants.items ∙ empty) ∙ append-nil (flat_map (λ m. m.grants.items) ls)
+
+nothing : (rs : List Rectangle) → rs ≡ [] → cells_in rs ≡ []
+unfolding cells_in
+nothing rs empty = ap (λ ss. flat_map cells_of ss) empty
+
+pub drawn_cells-more : (ls new : List Lane) (l : Lane) → new ≡ ls ++ l ∷ [] → l.rectangles.items ≡ [] → drawn_cells new ≡ drawn_cells ls
+unfolding drawn_cells
+drawn_cells-more ls new l after empty =
+    ap (λ ms. flat_map lane_cells ms) after ∙ flat_map-append lane_cells ls (l ∷ [])
+    ∙ ap (λ t. flat_map lane_cells ls ++ t) (append-nil (lane_cells l) ∙ nothing l.rectangles.items empty) ∙ append-nil (flat_map lane_cells ls)
+
+pub apart-more : (ls new : List Lane) (l : Lane) → new ≡ ls ++ l ∷ [] → l.rectangles.items ≡ [] → All IsApart ls → All IsApart new
+apart-more ls new l after empty apart =
+    let alone : IsApart l = subst AreApart (sym empty) tt in
+    subst (λ ms. All IsApart ms) (sym after) (All-push IsApart ls l apart alone)
+
+-- ---- each where its column stands
+
+pub at_stays : (shift : ℕ) (columns : List Place) (ls : List Lane) (k : ℕ) (l d : Lane) → k < length ls → l.place ≡ (get_or ls k d).place
+    → AreAt shift columns ls → AreAt shift columns (set ls k l)
+at_stays shift [] [] k l d small e h = absurd (omega (arith, small))
+at_stays shift [] (m ∷ ls) k l d small e h = absurd h
+at_stays shift (p ∷ ps) [] k l d small e h = absurd h
+at_stays shift (p ∷ ps) (m ∷ []) k l d small e h = absurd h
+at_stays shift (p ∷ ps) (m ∷ n ∷ ls) zero l d small e h = (ap (λ q. q.x) e ∙ h.0, h.1, h.2)
+at_stays shift (p ∷ ps) (m ∷ n ∷ ls) (suc zero) l d small e h = (h.0, ap (λ q. q.x) e ∙ h.1, h.2)
+at_stays shift (p ∷ ps) (m ∷ n ∷ ls) (suc (suc k)) l d small e h = (h.0, h.1, at_stays shift ps ls k l d (omega (arith, small)) e h.2)
+
+at-push : (shift : ℕ) (columns : List Place) (ls : List Lane) (p : Place) (a b : Lane) → a.place.x ≡ p.x → b.place.x ≡ p.x + shift
+    → AreAt shift columns ls → AreAt shift (columns ++ p ∷ []) (ls ++ a ∷ b ∷ [])
+at-push shift [] [] p a b ea eb h = (ea, eb, tt)
+at-push shift [] (m ∷ ls) p a b ea eb h = absurd h
+at-push shift (q ∷ qs) [] p a b ea eb h = absurd h
+at-push shift (q ∷ qs) (m ∷ []) p a b ea eb h = absurd h
+at-push shift (q ∷ qs) (m ∷ n ∷ ls) p a b ea eb h = (h.0, h.1, at-push shift qs ls p a b ea eb h.2)
+
+pub at-more : (shift : ℕ) (columns : List Place) (ls mid new : List Lane) (p : Place) (a b : Lane) → mid ≡ ls ++ a ∷ [] → new ≡ mid ++ b ∷ [] → a.place.x ≡ p.x
+    → b.place.x ≡ p.x + shift → AreAt shift columns ls → AreAt shift (columns ++ p ∷ []) new
+at-more shift columns ls mid new p a b e1 e2 ea eb h =
+    subst (AreAt shift (columns ++ p ∷ [])) (sym (e2 ∙ ap (λ xs. xs ++ b ∷ []) e1 ∙ append_assoc ls (a ∷ []) (b ∷ []))) (at-push shift columns ls p a b ea eb h)
+
+-- a loop's step: the columns so far, and one more
+pub at_step : (shift : ℕ) (columns : List Place) (i : ℕ) (d : Place) (ls : List Lane) → i < length columns
+    → AreAt shift (take i columns ++ get_or columns i d ∷ []) ls → AreAt shift (take (i + 1) columns) ls
+at_step shift columns i d ls small h = subst (λ ps. AreAt shift ps ls) (sym (take_more columns i d small)) h
+
+pub at-none : (shift : ℕ) → AreAt shift [] []
+at-none shift = tt
+
+All-none : {X : Type 0} (P : X → Type 0) → All P []
+All-none P = λ k d small. absurd (omega (arith, small))
+
+pub home-none : AreHome 0 []
+home-none = tt
+
+pub ruleset empty_lanes = (drawn_grants-none, drawn_cells-none, home-none, at-none)
+
+-- a loop's step: what was done of the rows so far, and one more
+pub perm_none : {X : Type 0} (xs rows : List X) → IsPermutation xs (xs ++ take 0 rows)
+perm_none xs rows = same xs (xs ++ []) (sym (append-nil xs))
+
+pub perm_more : {X : Type 0} (xs ys zs rows : List X) (i : ℕ) (x : X) → i < length rows → x ≡ get_or rows i x
+    → IsPermutation ys (xs ++ take i rows) → IsPermutation zs (ys ++ x ∷ []) → IsPermutation zs (xs ++ take (i + 1) rows)
+perm_more xs ys zs rows i x small read before now =
+    IsPermutation-trans zs (ys ++ x ∷ []) (xs ++ take (i + 1) rows) now
+    (IsPermutation-trans (ys ++ x ∷ []) ((xs ++ take i rows) ++ x ∷ []) (xs ++ take (i + 1) rows)
+    (IsPermutation-append_left (x ∷ []) ys (xs ++ take i rows) before)
+    (same ((xs ++ take i rows) ++ x ∷ []) (xs ++ take (i + 1) rows)
+    (append_assoc xs (take i rows) (x ∷ []) ∙ ap (λ t. xs ++ t) (sym (take_more rows i x small ∙ ap (λ y. take i rows ++ y ∷ []) (sym read))))))
+
+pub grant_more : (ls : List Lane) (k : ℕ) (l d : Lane) (x : GrantRow) → k < length ls → l.grants.items ≡ (get_or ls k d).grants.items ++ x ∷ []
+    → IsPermutation (drawn_grants (set ls k l)) (drawn_grants ls ++ x ∷ [])
+unfolding drawn_grants
+grant_more ls k l d x small e = one_more (λ m. m.grants.items) ls k l d x small e
+
+pub cells_stay : (ls : List Lane) (k : ℕ) (l d : Lane) → k < length ls → l.rectangles ≡ (get_or ls k d).rectangles
+    → drawn_cells (set ls k l) ≡ drawn_cells ls
+unfolding drawn_cells
+cells_stay ls k l d small e = none_more lane_cells ls k l d small (ap (λ g. cells_in g.items) e)
+
+pub ruleset perms = (perm_none, perm_more)
+
+-- ---- each in the lane of its slot and channel
+
+set_home : (ls : List Lane) (i j m : ℕ) (l d : Lane) → m ≡ j + i → i < length ls → (IsHome m (get_or ls i d) → IsHome m l) → AreHome j ls → AreHome j (set ls i l)
+set_home [] i j m l d at small f h = absurd (omega (arith, small))
+set_home (n ∷ ls) zero j m l d at small f h =
+    let here : m ≡ j = omega (arith, at) in
+    (subst (λ k. IsHome k l) here (f (subst (λ k. IsHome k n) (sym here) h.0)), h.1)
+set_home (n ∷ ls) (suc i) j m l d at small f h = (h.0, set_home ls i (suc j) m l d (omega (arith, at)) (omega (arith, small)) f h.1)
+
+home_grant : (m : ℕ) (old new : Lane) (x : GrantRow) → lane_of x.slot x.channel ≡ m → new.grants.items ≡ old.grants.items ++ x ∷ [] → new.rectangles ≡ old.rectangles
+    → IsHome m old → IsHome m new
+home_grant m old new x here more same_rectangles h = (
+  subst (All (λ g. lane_of g.slot g.channel ≡ m)) (sym more) (All-push (λ g. lane_of g.slot g.channel ≡ m) old.grants.items x h.0 here),
+  subst (λ rs. All (λ s. lane_of s.slot s.channel ≡ m) (cells_in rs.items)) (sym same_rectangles) h.1,
+)
+
+home_cell : (m : ℕ) (old new : Lane) (x : Sending) → lane_of x.slot x.channel ≡ m → lane_cells new ≡ lane_cells old ++ x ∷ [] → new.grants ≡ old.grants
+    → IsHome m old → IsHome m new
+home_cell m old new x here more same_grants h = (
+  subst (λ gs. All (λ g. lane_of g.slot g.channel ≡ m) gs.items) (sym same_grants) h.0,
+  subst (All (λ s. lane_of s.slot s.channel ≡ m)) (sym more) (All-push (λ s. lane_of s.slot s.channel ≡ m) (lane_cells old) x h.1 here),
+)
+
+pub grant_home : (ls : List Lane) (k : ℕ) (l d : Lane) (x : GrantRow) → k < length ls → k ≡ lane_of x.slot x.channel → l.grants.items ≡ (get_or ls k d).grants.items ++ x ∷ []
+    → l.rectangles ≡ (get_or ls k d).rectangles → AreHome 0 ls → AreHome 0 (set ls k l)
+grant_home ls k l d x small here more same_rectangles h =
+    set_home ls k 0 k l d (sym (zero-add k)) small (home_grant k (get_or ls k d) l x (sym here) more same_rectangles) h
+
+pub cell_home : (ls : List Lane) (k : ℕ) (l d : Lane) (x : Sending) → k < length ls → k ≡ lane_of x.slot x.channel → lane_cells l ≡ lane_cells (get_or ls k d) ++ x ∷ []
+    → l.grants ≡ (get_or ls k d).grants → AreHome 0 ls → AreHome 0 (set ls k l)
+cell_home ls k l d x small here more same_grants h =
+    set_home ls k 0 k l d (sym (zero-add k)) small (home_cell k (get_or ls k d) l x (sym here) more same_grants) h
+
+home-push : (ls : List Lane) (j : ℕ) (l : Lane) → ((k : ℕ) → IsHome k l) → AreHome j ls → AreHome j (ls ++ l ∷ [])
+home-push [] j l at h = (at j, tt)
+home-push (n ∷ ls) j l at h = (h.0, home-push ls (suc j) l at h.1)
+
+pub home-more : (ls new : List Lane) (l : Lane) → new ≡ ls ++ l ∷ [] → l.grants.items ≡ [] → l.rectangles.items ≡ [] → AreHome 0 ls → AreHome 0 new
+home-more ls new l after no_grants no_rectangles h =
+    let alone : (k : ℕ) → IsHome k l = λ k. (
+      subst (All (λ g. lane_of g.slot g.channel ≡ k)) (sym no_grants) (All-none (λ g. lane_of g.slot g.channel ≡ k)),
+      subst (All (λ s. lane_of s.slot s.channel ≡ k)) (sym (nothing l.rectangles.items no_rectangles)) (All-none (λ s. lane_of s.slot s.channel ≡ k)),
+    ) in
+    subst (AreHome 0) (sym after) (home-push ls 0 l alone h)
+
+pub drawing_of : (columns listed : List Place) (shift : ℕ) (marks : List Bool) (holds : List GrantRow) (cells : List Sending) (empty held all : List Lane) → drawn_grants empty ≡ [] → drawn_cells empty ≡ [] → All IsApart empty → AreHome 0 empty → AreInOrder columns → listed ≡ columns → AreAt shift listed empty
+    → ((n : ℕ) → IsMarked marks n → IsShown columns n) → All (λ g. IsMarked marks g.slot) holds → All (λ s. IsMarked marks s.slot) cells
+    → IsPermutation (drawn_grants held) (drawn_grants empty ++ holds) → drawn_cells held ≡ drawn_cells empty → (All IsApart empty → All IsApart held) → (AreHome 0 empty → AreHome 0 held)
+    → ((n : ℕ) (ps : List Place) → AreAt n ps empty → AreAt n ps held)
+    → IsPermutation (drawn_cells all) (drawn_cells held ++ cells) → drawn_grants all ≡ drawn_grants held → (All IsApart held → All IsApart all) → (AreHome 0 held → AreHome 0 all)
+    → ((n : ℕ) (ps : List Place) → AreAt n ps held → AreAt n ps all)
+    → IsDrawing holds cells all
+drawing_of columns listed shift marks holds cells empty held all g0 c0 a0 h0 o0 e0 p0 shown m1 m2 g1 c1 a1 h1 p1 c2 g2 a2 h2 p2 = record {
+  grants = subst (λ xs. IsPermutation xs holds) (sym g2) (subst (λ xs. IsPermutation (drawn_grants held) (xs ++ holds)) g0 g1);
+  cells = subst (λ xs. IsPermutation (drawn_cells all) (xs ++ cells)) (c1 ∙ c0) c2;
+  apart = a2 (a1 a0);
+  home = h2 (h1 h0);
+  columns = columns;
+  shift = shift;
+  order = o0;
+  at = subst (λ ps. AreAt shift ps all) e0 (p2 shift listed (p1 shift listed p0));
+  shown_grants = all_shown (λ g. g.slot) holds marks columns m1 shown;
+  shown_cells = all_shown (λ s. s.slot) cells marks columns m2 shown;
+}

@@ -1,0 +1,4 @@
+pub mod RectangleLemmas
+pub mod ColumnLemmas
+pub mod MarkLemmas
+pub mod LaneLemmas

@@ -1,0 +1,17 @@
+use Rattle.std.proofs.Common.{◌≡◌, ℕ, ◌+◌, ◌<◌, ◌≤◌, vec_len}
+use Rattle.std.specs.List.{All}
+use Rattle.fr_drawing.specs.Places.{AreInOrder}
+use Rattle.fr_drawing.specs.Shown.{IsMarked, IsShown}
+use Rattle.fr_drawing.proofs.ColumnLemmas.{end_of}
+use Rattle.fr_drawing.proofs.columns.columns.Given as goal
+
+-- a column for each slot up to here, in order
+abbrev pub invariant-loop-slot : goal.invariant-loop-slot
+invariant-loop-slot l = record {
+  len : vec_len l.columns + 1 ≡ l.slot;
+  small : l.end ≤ 136;
+  last : end_of l.columns.items ≤ l.end;
+  order : AreInOrder l.columns.items;
+  shown : (n : ℕ) → IsMarked l.marks.0 n → n < l.slot → IsShown l.columns.items n;
+  within : All (λ p. p.x + p.width ≤ 136) l.columns.items;
+}

@@ -1,0 +1,23 @@
+use Rattle.std.proofs.Common.{◌∙◌, ap}
+use Rattle.fr_drawing.proofs.LaneLemmas.{drawn_grants-more, drawn_cells-more, apart-more, home-more, at-more}
+use Rattle.fr_drawing.proofs.lane.push_column.Goals as goal
+
+pub returns-clause-grants : goal.returns-clause-grants
+returns-clause-grants c =
+    drawn_grants-more _ _ _ c.in_ok-push-2.ensures.items c.new-2.ensures.grants ∙ drawn_grants-more _ _ _ c.in_ok-push.ensures.items c.new.ensures.grants
+
+pub returns-clause-cells : goal.returns-clause-cells
+returns-clause-cells c =
+    drawn_cells-more _ _ _ c.in_ok-push-2.ensures.items c.new-2.ensures.rectangles ∙ drawn_cells-more _ _ _ c.in_ok-push.ensures.items c.new.ensures.rectangles
+
+pub returns-clause-apart : goal.returns-clause-apart
+returns-clause-apart c =
+    λ h. apart-more _ _ _ c.in_ok-push-2.ensures.items c.new-2.ensures.rectangles (apart-more _ _ _ c.in_ok-push.ensures.items c.new.ensures.rectangles h)
+
+pub returns-clause-home : goal.returns-clause-home
+returns-clause-home c =
+    λ h. home-more _ _ _ c.in_ok-push-2.ensures.items c.new-2.ensures.grants c.new-2.ensures.rectangles (home-more _ _ _ c.in_ok-push.ensures.items c.new.ensures.grants c.new.ensures.rectangles h)
+
+pub returns-clause-at : goal.returns-clause-at
+returns-clause-at c =
+    λ columns h. at-more _ columns _ _ _ _ _ _ c.in_ok-push.ensures.items c.in_ok-push-2.ensures.items (ap (λ p. p.x) c.new.ensures.place) (ap (λ p. p.x) c.new-2.ensures.place) h

@@ -1,0 +1,4 @@
+pub mod Rectangles
+pub mod Places
+pub mod Shown
+pub mod Lanes

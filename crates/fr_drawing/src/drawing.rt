@@ -1,0 +1,102 @@
+//! The lanes of a drawing, with what is drawn in them.
+ghost use Rattle.std.specs.Prelude.{◌≡◌, ℕ, List, ◌++◌, ◌∷◌, [], OnOk, IfOk, IsPermutation};
+ghost use Rattle.std.specs.List.{All};
+ghost use Rattle.std.specs.Vec.{vec_len};
+ghost use Rattle.fr_drawing.specs.Lanes.{IsApart, IsDrawing, drawn_cells, drawn_grants};
+ghost use Rattle.fr_drawing.specs.Places.{AreAt, AreHome};
+
+use crate::columns::{Bands, Place, Scale, columns};
+use crate::lane::{Lane, empty_lanes, lane_number};
+use crate::marks::Marks;
+use fr_base::{GrantRow, NoMemory, Params, Sending};
+use std::alloc::Global;
+
+/// The lanes of a plan, and how large they are.
+#[derive(Drop)]
+pub struct Drawing {
+    /// How large the drawing is.
+    pub scale: Scale,
+    /// The lanes, by slot, A before B.
+    pub lanes: Vec<Lane>,
+}
+
+/// Draws the grants and the cells of a schedule.
+pub fn draw(
+    alloc: Global,
+    params: &Params,
+    grants: &[GrantRow],
+    cells: &[Sending],
+) -> Result<Drawing, NoMemory>
+    ensures { IfOk result (λ drawing. IsDrawing grants.now cells.now drawing.lanes.items) }
+{
+    let marks = Marks::of(grants, cells);
+    let bands = Bands::of(params, &marks);
+    let scale = bands.scale(params);
+    let columns = columns(alloc, params, &marks, &bands)?;
+    let mut lanes = empty_lanes(alloc, bands.channels, bands.shift, columns.as_slice())?;
+    add_grants(&mut lanes, grants)?;
+    add_cells(&mut lanes, cells)?;
+    Ok(Drawing { scale, lanes })
+}
+
+// Draws the grants.
+#[tactic(auto, using(crate::proofs::LaneLemmas::perms))]
+fn add_grants(lanes: &mut Vec<Lane>, grants: &[GrantRow]) -> Result<(), NoMemory>
+    requires { vec_len lanes.old ≡ 2046 }
+    ensures len { vec_len lanes.new ≡ 2046 }
+    ensures grants { OnOk result (IsPermutation (drawn_grants lanes.new.items) (drawn_grants lanes.old.items ++ grants.now)) }
+    ensures cells { OnOk result (drawn_cells lanes.new.items ≡ drawn_cells lanes.old.items) }
+    ensures apart { OnOk result (All IsApart lanes.old.items → All IsApart lanes.new.items) }
+    ensures at { OnOk result ((shift : ℕ) (columns : List Place) → AreAt shift columns lanes.old.items → AreAt shift columns lanes.new.items) }
+    ensures home { OnOk result (AreHome 0 lanes.old.items → AreHome 0 lanes.new.items) }
+{
+    for grant in grants {
+        add_grant(lanes, grant)?;
+    }
+    Ok(())
+}
+
+// Draws one grant.
+#[tactic(auto, using(crate::proofs::LaneLemmas::grant_more, crate::proofs::LaneLemmas::cells_stay, crate::proofs::LaneLemmas::grant_home, crate::proofs::LaneLemmas::at_stays))]
+fn add_grant(lanes: &mut Vec<Lane>, grant: &GrantRow) -> Result<(), NoMemory>
+    requires { vec_len lanes.old ≡ 2046 }
+    ensures len { vec_len lanes.new ≡ 2046 }
+    ensures grants { OnOk result (IsPermutation (drawn_grants lanes.new.items) (drawn_grants lanes.old.items ++ grant.now ∷ [])) }
+    ensures cells { OnOk result (drawn_cells lanes.new.items ≡ drawn_cells lanes.old.items) }
+    ensures apart { OnOk result (All IsApart lanes.old.items → All IsApart lanes.new.items) }
+    ensures at { OnOk result ((shift : ℕ) (columns : List Place) → AreAt shift columns lanes.old.items → AreAt shift columns lanes.new.items) }
+    ensures home { OnOk result (AreHome 0 lanes.old.items → AreHome 0 lanes.new.items) }
+{
+    lanes[lane_number(grant.slot, grant.channel)].hold(grant)
+}
+
+// Draws the cells, by cycle: a cell that goes on where the last rectangle of its lane ends makes it longer.
+#[tactic(auto, using(crate::proofs::LaneLemmas::perms))]
+fn add_cells(lanes: &mut Vec<Lane>, cells: &[Sending]) -> Result<(), NoMemory>
+    requires { vec_len lanes.old ≡ 2046 }
+    ensures len { vec_len lanes.new ≡ 2046 }
+    ensures cells { OnOk result (IsPermutation (drawn_cells lanes.new.items) (drawn_cells lanes.old.items ++ cells.now)) }
+    ensures grants { OnOk result (drawn_grants lanes.new.items ≡ drawn_grants lanes.old.items) }
+    ensures apart { OnOk result (All IsApart lanes.old.items → All IsApart lanes.new.items) }
+    ensures at { OnOk result ((shift : ℕ) (columns : List Place) → AreAt shift columns lanes.old.items → AreAt shift columns lanes.new.items) }
+    ensures home { OnOk result (AreHome 0 lanes.old.items → AreHome 0 lanes.new.items) }
+{
+    for cell in cells {
+        add_cell(lanes, cell)?;
+    }
+    Ok(())
+}
+
+// Draws one cell.
+#[tactic(auto, using(crate::proofs::LaneLemmas::cell_more, crate::proofs::LaneLemmas::grants_stay, crate::proofs::LaneLemmas::cell_home, crate::proofs::LaneLemmas::at_stays))]
+fn add_cell(lanes: &mut Vec<Lane>, cell: &Sending) -> Result<(), NoMemory>
+    requires { vec_len lanes.old ≡ 2046 }
+    ensures len { vec_len lanes.new ≡ 2046 }
+    ensures cells { OnOk result (IsPermutation (drawn_cells lanes.new.items) (drawn_cells lanes.old.items ++ cell.now ∷ [])) }
+    ensures grants { OnOk result (drawn_grants lanes.new.items ≡ drawn_grants lanes.old.items) }
+    ensures apart { OnOk result (All IsApart lanes.old.items → All IsApart lanes.new.items) }
+    ensures at { OnOk result ((shift : ℕ) (columns : List Place) → AreAt shift columns lanes.old.items → AreAt shift columns lanes.new.items) }
+    ensures home { OnOk result (AreHome 0 lanes.old.items → AreHome 0 lanes.new.items) }
+{
+    lanes[lane_number(cell.slot, cell.channel)].add(cell)
+}

@@ -1,0 +1,45 @@
+-- The numbers of the cycles, one after the other, and the parts of a page.
+use Rattle.std.proofs.Common.{◌≡◌, ℕ, ◌+◌, List, [], ◌∷◌, ◌++◌, subst, map, ap, ◌∙◌, sym, append-nil, append_assoc, zero-add}
+use Rattle.std.specs.List.{flat_map, range_with_len}
+use Rattle.std.proofs.lemmas.Grind.{flat_map-append}
+use Rattle.std.proofs.lemmas.List.FromFn.{map-range_with_len_more}
+use Rattle.std.proofs.lemmas.List.Folds.{flat_map-map}
+use Rattle.fr_base.specs.declared.name.Name.{Name}
+use Rattle.fr_base.specs.declared.answer.GrantRow.{GrantRow}
+use Rattle.fr_base.specs.declared.answer.Sending.{Sending}
+use Rattle.fr_drawing.specs.Lanes.{IsDrawing}
+use Rattle.fr_drawing.specs.declared.drawing.Drawing.{Drawing}
+use Rattle.fr_picture.specs.declared.frames.DrawnFrame.{DrawnFrame}
+use Rattle.fr_picture.specs.declared.page.Plan.{Plan}
+use Rattle.fr_picture.specs.declared.shares.Share.{Share}
+use Rattle.fr_picture.specs.Pages.{IsPage, names_of, page_text, shares_of}
+use Rattle.fr_picture.specs.Shares.{share_of, suppliers_of}
+
+-- one number more
+pub flat_map-range : (f : ℕ → List ℕ) (n : ℕ) → flat_map f (range_with_len 0 (n + 1)) ≡ flat_map f (range_with_len 0 n) ++ f n
+flat_map-range f n =
+    let same : (k : ℕ) → flat_map f (map (λ x. x) (range_with_len 0 k)) ≡ flat_map f (range_with_len 0 k) = λ k. flat_map-map f (λ x. x) (range_with_len 0 k) in
+    sym (same (n + 1)) ∙ ap (flat_map f) (map-range_with_len_more (λ x. x) 0 n n (zero-add n)) ∙ flat_map-append f (map (λ x. x) (range_with_len 0 n)) (n ∷ [])
+    ∙ ap (λ t. t ++ flat_map f (n ∷ [])) (same n) ∙ ap (λ t. flat_map f (range_with_len 0 n) ++ t) (append-nil (f n))
+
+-- what was put behind the text so far, and one number more
+pub number_more : (f : ℕ → List ℕ) (n : ℕ) (old front new : List ℕ) → front ≡ old ++ flat_map f (range_with_len 0 n) → new ≡ front ++ f n
+    → new ≡ old ++ flat_map f (range_with_len 0 (n + 1))
+number_more f n old front new before after =
+    after ∙ ap (λ t. t ++ f n) before ∙ append_assoc old (flat_map f (range_with_len 0 n)) (f n) ∙ ap (λ t. old ++ t) (sym (flat_map-range f n))
+
+-- what is known of a page, for the plan's own rows
+pub page_of : (plan : Plan) (drawing : Drawing) (shares listed : List Share) (holds : List GrantRow) (cells : List Sending) (frames : List DrawnFrame) (names known : List Name) (count : ℕ) (text : List ℕ)
+    → holds ≡ plan.grants → cells ≡ plan.cells → frames ≡ plan.frames.items → IsDrawing holds cells drawing.lanes.items → names ≡ suppliers_of frames holds
+    → known ≡ names → count ≡ plan.params.cycles → shares ≡ map (share_of known count holds cells) known → listed ≡ shares
+    → text ≡ page_text plan drawing known listed → IsPage plan text
+page_of plan drawing shares listed holds cells frames names known count text e1 e2 e3 drawn e4 e5 e6 e7 e8 e9 =
+    let own : known ≡ names_of plan = e5 ∙ e4 ∙ ap (λ fs. suppliers_of fs holds) e3 ∙ ap (λ gs. suppliers_of plan.frames.items gs) e1 in
+    let full : listed ≡ shares_of plan =
+    e8 ∙ e7 ∙ ap (λ n. map (share_of known n holds cells) known) e6 ∙ ap (λ gs. map (share_of known plan.params.cycles gs cells) known) e1
+    ∙ ap (λ cs. map (share_of known plan.params.cycles plan.grants cs) known) e2 ∙ ap (λ ns. map (share_of ns plan.params.cycles plan.grants plan.cells) ns) own in
+    record {
+      drawing = drawing;
+      drawn = subst (λ cs. IsDrawing plan.grants cs drawing.lanes.items) e2 (subst (λ gs. IsDrawing gs cells drawing.lanes.items) e1 drawn);
+      is = e9 ∙ ap (λ ns. page_text plan drawing ns listed) own ∙ ap (λ ss. page_text plan drawing (names_of plan) ss) full;
+    }

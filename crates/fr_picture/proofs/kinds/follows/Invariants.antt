@@ -1,0 +1,10 @@
+use Rattle.std.proofs.Common.{◌≡◌, ℕ, ◌+◌, ◌*◌, ◌<◌, ◌^◌, drop}
+use Rattle.fr_picture.specs.Kinds.{follows}
+use Rattle.fr_picture.proofs.kinds.follows.Given as goal
+
+-- those up to here follow
+abbrev pub invariant-loop-one : goal.invariant-loop-one
+invariant-loop-one l = record {
+  rest : follows l.from l.step l.height l.kind ≡ follows l.next l.step l.height (drop l.one-index l.kind);
+  small : l.next < 2 ^ 33;
+}

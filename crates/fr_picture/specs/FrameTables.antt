@@ -1,0 +1,54 @@
+-- Table of frames: when frames are in order, the worst first. The text of a frame's row: its names, placements,
+-- greatest gap, and its payload.
+use Rattle.std.specs.Prelude.{ℕ, ◌-◌, ◌^◌, List, [], ◌∷◌, ◌++◌, codes, decimal, Option, Some, None}
+use Rattle.std.specs.List.{flat_map}
+use Rattle.std.specs.List.Sorted.{IsNonDecreasingBy}
+use Rattle.fr_base.specs.Channels.{text_of_channels}
+use Rattle.fr_base.specs.declared.name.Name.{Name}
+use Rattle.fr_base.specs.declared.placement.Placement.{Placement}
+use Rattle.fr_picture.specs.declared.frames.DrawnFrame.{DrawnFrame}
+use Rattle.fr_picture.specs.declared.texts.Fixed.TheVariants.{Never}
+use Rattle.fr_picture.specs.Strips.{strip_text}
+use Rattle.fr_picture.specs.Texts.{together, fixed_text}
+
+-- how soon a frame comes in the table: at once where it is never sent, and the sooner, the greater its gap
+abbrev pub urgency : Option ℕ → ℕ
+urgency None = 0
+urgency (Some gap) = 2 ^ 32 - gap
+
+-- the frames that are never sent come first, and then those of greater gaps
+abbrev pub AreWorstFirst : List DrawnFrame → Type 0
+AreWorstFirst frames = IsNonDecreasingBy (λ f. urgency f.gap) frames
+
+-- ---- its text
+
+unfoldable pub names_text : Name → Name → Name → List ℕ
+names_text frame node supplier =
+    together (codes "<tr><td>" ∷ frame ∷ codes "<td>" ∷ node ∷ codes "<td>" ∷ supplier ∷ codes "<td>" ∷ [])
+
+-- slot, channels, base and repetition
+unfoldable pub placement_text_of : ℕ → List ℕ → ℕ → ℕ → List ℕ
+placement_text_of slot channels base repetition =
+    together (decimal slot ∷ codes " " ∷ channels ∷ codes " " ∷ decimal base ∷ codes "/" ∷ decimal repetition ∷ codes "<br>" ∷ [])
+
+unfoldable pub placement_text : Placement → List ℕ
+placement_text q = placement_text_of q.slot (text_of_channels q.channels) q.cycles.base q.cycles.repetition
+
+unfoldable pub placements_text : List Placement → List ℕ
+placements_text placements = flat_map placement_text placements
+
+unfoldable pub number_text : ℕ → List ℕ
+number_text n = together (codes "<td>" ∷ decimal n ∷ codes " " ∷ [])
+
+-- a greatest gap, or that the frame is never sent
+unfoldable pub gap_word : Option ℕ → List ℕ
+gap_word None = fixed_text Never
+gap_word (Some gap) = number_text gap
+
+-- a frame's row: its names, its placements, its greatest gap, and its payload as a strip of bits
+unfoldable pub frame_text : DrawnFrame → List ℕ
+frame_text f =
+    names_text f.row.frame f.row.node f.row.supplier ++ placements_text f.row.placements ++ gap_word f.gap ++ strip_text f.signals
+
+unfoldable pub frames_text : List DrawnFrame → List ℕ
+frames_text frames = flat_map frame_text frames

@@ -1,0 +1,9 @@
+pub mod Texts
+pub mod Kinds
+pub mod Sets
+pub mod LaneTexts
+pub mod Styles
+pub mod Shares
+pub mod Strips
+pub mod FrameTables
+pub mod Pages

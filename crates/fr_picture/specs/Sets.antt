@@ -1,0 +1,47 @@
+-- Shapes: the text of the shapes that a page has once. They are the cells of each repetition, a hatched lane, and a
+-- lane and a gap that nobody holds.
+use Rattle.std.specs.Prelude.{ℕ, ◌+◌, ◌*◌, ◌/◌, ◌%◌, ◌==◌, List, [], ◌∷◌, ◌++◌, codes, decimal, if◌then◌else◌}
+use Rattle.std.specs.List.{flat_map, range_with_len}
+use Rattle.fr_drawing.specs.declared.columns.Scale.{Scale}
+use Rattle.fr_picture.specs.declared.texts.Fixed.TheVariants.{HeldEnd, ShapeEnd}
+use Rattle.fr_picture.specs.Kinds.{box_text}
+use Rattle.fr_picture.specs.Texts.{together, fixed_text}
+
+-- a lane and a gap that nobody holds, and the beginning of a granted lane
+unfoldable pub empties_text : ℕ → ℕ → List ℕ
+empties_text width cycles =
+    together (codes "<rect id=free width=" ∷ decimal width ∷ codes " height=" ∷ decimal cycles ∷ codes " /><rect id=gap width=1 height=" ∷ decimal cycles
+    ∷ codes " />\n<g id=held><rect width=" ∷ decimal width ∷ codes " height=" ∷ decimal cycles ∷ codes " /><path d=\"" ∷ [])
+
+-- a line across the lane's cell in this cycle
+unfoldable pub hatch_text : ℕ → ℕ → List ℕ
+hatch_text width cycle = together (codes "M0 " ∷ decimal (cycle + 1) ∷ codes "l" ∷ decimal width ∷ codes "-1" ∷ [])
+
+unfoldable pub hatches_text : ℕ → ℕ → List ℕ
+hatches_text width cycles = flat_map (hatch_text width) (range_with_len 0 cycles)
+
+unfoldable pub held_text : Scale → List ℕ
+held_text scale = hatches_text scale.width scale.cycles ++ fixed_text HeldEnd
+
+unfoldable pub set_start : ℕ → List ℕ
+set_start repetition = together (codes "<path id=r" ∷ decimal repetition ∷ codes " d=\"" ∷ [])
+
+-- so many cells, one each repetition
+unfoldable pub repeated_text : ℕ → ℕ → ℕ → List ℕ
+repeated_text width repetition count = flat_map (λ k. box_text 0 (k * repetition) width 1) (range_with_len 0 count)
+
+-- the cells of base 0 and this repetition: where it is 1, one rectangle of all cycles
+unfoldable pub rows_text : Scale → ℕ → List ℕ
+rows_text scale repetition =
+    if repetition == 1 then box_text 0 0 scale.width scale.cycles else repeated_text scale.width repetition (scale.cycles / repetition)
+
+-- the shape of the repetition that is one greater, if it divides the count of cycles
+unfoldable pub set_path : Scale → ℕ → List ℕ
+set_path scale less =
+    if scale.cycles % (less + 1) == 0 then set_start (less + 1) ++ rows_text scale (less + 1) ++ fixed_text ShapeEnd else []
+
+unfoldable pub sets_text : Scale → List ℕ
+sets_text scale = flat_map (set_path scale) (range_with_len 0 scale.cycles)
+
+unfoldable pub shapes_text : Scale → List ℕ
+shapes_text scale = empties_text scale.width scale.cycles ++ held_text scale ++ sets_text scale

@@ -1,0 +1,62 @@
+-- Suppliers of a page: the suppliers of frames and grants, each once; their numbers and marks; how many lanes each
+-- holds and in how many cells it sends; the text of the legend.
+use Rattle.std.specs.Prelude.{ℕ, ◌-◌, ◌*◌, ◌/◌, ◌%◌, ◌^◌, ◌==◌, min, List, [], ◌∷◌, ◌++◌, map, count_by, codes, decimal, if◌then◌else◌}
+use Rattle.std.specs.List.{flat_map, fold, list_any, position}
+use Rattle.std.specs.Option.{unwrap_or}
+use Rattle.fr_base.specs.Names.{same_text}
+use Rattle.fr_base.specs.declared.answer.GrantRow.{GrantRow}
+use Rattle.fr_base.specs.declared.answer.Sending.{Sending}
+use Rattle.fr_base.specs.declared.name.Name.{Name}
+use Rattle.fr_picture.specs.declared.frames.DrawnFrame.{DrawnFrame}
+use Rattle.fr_picture.specs.declared.shares.Share.{Share}
+use Rattle.fr_picture.specs.Styles.{letter_of}
+use Rattle.fr_picture.specs.Texts.{together}
+
+-- the name behind the others, unless it is there
+abbrev pub with_name : List Name → Name → List Name
+with_name names name = if list_any (λ known. same_text known name) names then names else names ++ name ∷ []
+
+-- the suppliers of frames and of grants, each once
+abbrev pub suppliers_of : List DrawnFrame → List GrantRow → List Name
+suppliers_of frames grants = fold with_name (fold with_name [] (map (λ f. f.row.supplier) frames)) (map (λ g. g.supplier) grants)
+
+-- how many in a hundred, rounded down; of nothing none
+abbrev pub percent : ℕ → ℕ → ℕ
+percent part whole = if whole == 0 then 0 else min (part * 100) (2 ^ 64 - 1) / whole
+
+-- the number of the supplier of this name, from 0 on
+abbrev pub number_of : List Name → Name → ℕ
+number_of names supplier = unwrap_or (position (λ name. same_text name supplier) names) 0
+
+-- a supplier's number, the lanes that it holds, the cells in which it sends, and those that its lanes have
+unfoldable pub share_of : List Name → ℕ → List GrantRow → List Sending → Name → Share
+share_of names cycles grants cells supplier = record {
+  number = number_of names supplier;
+  supplier = supplier;
+  held = count_by (λ g. same_text g.supplier supplier) grants;
+  sent = count_by (λ s. same_text s.supplier supplier) cells;
+  room = min (count_by (λ g. same_text g.supplier supplier) grants * cycles) (2 ^ 64 - 1);
+}
+
+-- ---- their texts
+
+unfoldable pub round_text : ℕ → List ℕ
+round_text round = if round == 0 then [] else decimal round
+
+-- a supplier's mark: the letter of its colour, and how often the colours were used before it
+unfoldable pub mark_text : ℕ → List ℕ
+mark_text number = letter_of (number % 8) ++ round_text (number / 8)
+
+unfoldable pub key_text : ℕ → List ℕ
+key_text colour = together (codes "<li><i class=c" ∷ decimal colour ∷ codes ">" ∷ [])
+
+unfoldable pub holds_text : Share → ℕ → List ℕ
+holds_text s hundredths =
+    together (codes "</i> " ∷ s.supplier ∷ codes ": lanes " ∷ decimal s.held ∷ codes ", cells " ∷ decimal s.room ∷ codes ", sent in " ∷ decimal s.sent
+    ∷ codes " of them (" ∷ decimal hundredths ∷ codes " %)</li>\n" ∷ [])
+
+unfoldable pub share_text : Share → List ℕ
+share_text s = key_text (s.number % 8) ++ mark_text s.number ++ holds_text s (percent s.sent s.room)
+
+unfoldable pub legend_text : List Share → List ℕ
+legend_text shares = flat_map share_text shares

@@ -1,0 +1,323 @@
+//! The rectangles of one frame in a lane, drawn as one shape with one title.
+ghost use Rattle.std.specs.Prelude.{◌≡◌, ◌+◌, ◌*◌, ◌/◌, ◌<◌, ◌++◌, ◌&&◌, nat_lt, filter, max, length, OnOk, IfOk};
+ghost use Rattle.std.specs.List.{list_any};
+ghost use Rattle.std.specs.String.{string_bytes};
+ghost use Rattle.fr_picture.specs.Kinds.{box_text, boxes_text, follows, is_again, is_kin, is_set, is_whole, kind_shape, kind_text, label_text, names_text, names_text_of, path_start, path_text, rectangle_text, rectangles_text, set_of, set_start, set_text, span_text, spans_text, within_text};
+
+use crate::shares::number_of;
+use crate::texts::{Fixed, push_fixed};
+use fr_base::{Name, NoMemory, Sending};
+use fr_drawing::{Rectangle, Scale};
+use std::alloc::Global;
+
+// Whether the other rectangle of the lane is of the same frame.
+#[tactic(auto, unfolding(crate::specs::Kinds::is_kin))]
+fn is_kin(other: &Rectangle, one: &Rectangle) -> bool
+    ensures { result ≡ is_kin other.now one.now }
+{
+    other.first.frame == one.first.frame
+        && other.first.node == one.first.node
+        && other.first.supplier == one.first.supplier
+}
+
+// The rectangles of a lane that are of the same frame as this one.
+fn kin(alloc: Global, all: &[Rectangle], one: &Rectangle) -> Result<Vec<Rectangle>, NoMemory>
+    ensures { IfOk result (λ kind. kind.items ≡ filter (λ other. is_kin other one.now) all.now) }
+{
+    let mut kind = Vec::new(alloc);
+    for other in all {
+        if is_kin(other, one) {
+            kind.push(*other)?;
+        }
+    }
+    Ok(kind)
+}
+
+// Whether a rectangle of the same frame stands in an earlier cycle of the lane.
+#[tactic(auto, unfolding(crate::specs::Kinds::is_again))]
+fn is_again(all: &[Rectangle], one: &Rectangle) -> bool
+    ensures { result ≡ is_again all.now one.now }
+{
+    all.iter().any(|other| other.first.cycle < one.first.cycle && is_kin(other, one))
+}
+
+// Whether the rectangles are this high and stand behind one another, the first in this cycle and each next so many cycles later.
+#[tactic(auto, unfolding(crate::specs::Kinds::follows))]
+fn follows(from: u32, step: u32, height: u32, kind: &[Rectangle]) -> bool
+    ensures { result ≡ follows from step height kind.now }
+{
+    let mut next = u64::from(from);
+    for one in kind {
+        if u64::from(one.first.cycle) != next || one.cycles != height {
+            return false;
+        }
+        next += u64::from(step);
+    }
+    true
+}
+
+// The repetition, if the rectangles of one frame are just the cells of a base and this repetition.
+#[tactic(auto, unfolding(crate::specs::Kinds::set_of, crate::specs::Kinds::is_set, crate::specs::Kinds::is_whole))]
+fn set_of(cycles: u32, base: u8, kind: &[Rectangle]) -> Option<u32>
+    ensures { result ≡ set_of cycles base kind.now }
+{
+    let count = kind.len() as u64;
+    if count == 1 && follows(0, 1, cycles, kind) {
+        return Some(1);
+    }
+    let repetition = (u64::from(cycles) / count.max(1)) as u32;
+    if repetition > 1
+        && u64::from(repetition) * count == u64::from(cycles)
+        && u32::from(base) < repetition
+        && follows(u32::from(base), repetition, 1, kind)
+    {
+        return Some(repetition);
+    }
+    None
+}
+
+/// Appends the rectangles of a lane, those of one frame together: from where on across, and how large.
+#[tactic(auto, unfolding(crate::specs::Kinds::rectangles_text))]
+pub(crate) fn push_rectangles(
+    alloc: Global,
+    names: &[Name],
+    scale: Scale,
+    x: u32,
+    all: &[Rectangle],
+    out: &mut String,
+) -> Result<(), NoMemory>
+    ensures { OnOk result (string_bytes out.new ≡ string_bytes out.old ++ rectangles_text names.now scale x all.now) }
+{
+    for one in all {
+        push_rectangle(alloc, names, scale, x, all, one, out)?;
+    }
+    Ok(())
+}
+
+// Appends all rectangles of this one's frame, if it is the first of them.
+#[tactic(auto, unfolding(crate::specs::Kinds::rectangle_text))]
+fn push_rectangle(
+    alloc: Global,
+    names: &[Name],
+    scale: Scale,
+    x: u32,
+    all: &[Rectangle],
+    one: &Rectangle,
+    out: &mut String,
+) -> Result<(), NoMemory>
+    ensures { OnOk result (string_bytes out.new ≡ string_bytes out.old ++ rectangle_text names.now scale x all.now one.now) }
+{
+    if is_again(all, one) {
+        return Ok(());
+    }
+    let kind = kin(alloc, all, one)?;
+    push_kind(
+        number_of(names, one.first.supplier),
+        scale,
+        x,
+        kind.as_slice(),
+        one,
+        out,
+    )
+}
+
+// Appends the rectangles of one frame, of which this is the first, in the colour of the supplier of this number.
+#[tactic(auto, unfolding(crate::specs::Kinds::kind_text))]
+fn push_kind(
+    number: usize,
+    scale: Scale,
+    x: u32,
+    kind: &[Rectangle],
+    one: &Rectangle,
+    out: &mut String,
+) -> Result<(), NoMemory>
+    ensures { OnOk result (string_bytes out.new ≡ string_bytes out.old ++ kind_text number scale x kind.now one.now) }
+{
+    let repetition = set_of(scale.cycles, one.first.cycle, kind);
+    push_shape(number, x, scale.width, kind, one, repetition, out)?;
+    push_label(x, scale.width, one, out)
+}
+
+#[tactic(auto, unfolding(crate::specs::Kinds::kind_shape))]
+fn push_shape(
+    number: usize,
+    x: u32,
+    width: u32,
+    kind: &[Rectangle],
+    one: &Rectangle,
+    repetition: Option<u32>,
+    out: &mut String,
+) -> Result<(), NoMemory>
+    ensures { OnOk result (string_bytes out.new ≡ string_bytes out.old ++ kind_shape number x width kind.now one.now repetition) }
+{
+    match repetition {
+        Some(repetition) => push_set(number, repetition, x, one, out),
+        None => push_path(number, x, width, kind, one, out),
+    }
+}
+
+// Appends the cells of a base and a repetition, which are drawn elsewhere in the page.
+#[tactic(auto, unfolding(crate::specs::Kinds::set_text))]
+fn push_set(
+    number: usize,
+    repetition: u32,
+    x: u32,
+    one: &Rectangle,
+    out: &mut String,
+) -> Result<(), NoMemory>
+    ensures { OnOk result (string_bytes out.new ≡ string_bytes out.old ++ set_text number repetition x one.now) }
+{
+    let base = one.first.cycle;
+    push_set_start(number % 8, repetition, x, base, out)?;
+    push_names(&one.first, out)?;
+    push_within(base, repetition, out)?;
+    push_fixed(Fixed::UseEnd, out)
+}
+
+#[tactic(auto, unfolding(crate::specs::Kinds::set_start))]
+fn push_set_start(
+    colour: usize,
+    repetition: u32,
+    x: u32,
+    base: u8,
+    out: &mut String,
+) -> Result<(), NoMemory>
+    ensures { OnOk result (string_bytes out.new ≡ string_bytes out.old ++ set_start colour repetition x base) }
+{
+    write!(
+        out,
+        "<use class=c{colour} href=#r{repetition} x={x} y={base}>"
+    )
+}
+
+#[tactic(auto, unfolding(crate::specs::Kinds::within_text))]
+fn push_within(base: u8, repetition: u32, out: &mut String) -> Result<(), NoMemory>
+    ensures { OnOk result (string_bytes out.new ≡ string_bytes out.old ++ within_text base repetition) }
+{
+    write!(out, " {base}/{repetition}")
+}
+
+// Appends a frame with its node, supplier, slot and channel: the beginning of a title.
+#[tactic(auto, unfolding(crate::specs::Kinds::names_text))]
+fn push_names(cell: &Sending, out: &mut String) -> Result<(), NoMemory>
+    ensures { OnOk result (string_bytes out.new ≡ string_bytes out.old ++ names_text cell.now) }
+{
+    push_names_of(
+        cell.frame,
+        cell.node,
+        cell.supplier,
+        cell.slot.get(),
+        cell.channel.as_str(),
+        out,
+    )
+}
+
+#[tactic(auto, unfolding(crate::specs::Kinds::names_text_of))]
+fn push_names_of(
+    frame: Name,
+    node: Name,
+    supplier: Name,
+    slot: u32,
+    channel: &str,
+    out: &mut String,
+) -> Result<(), NoMemory>
+    ensures { OnOk result (string_bytes out.new ≡ string_bytes out.old ++ names_text_of frame node supplier slot channel.now) }
+{
+    write!(
+        out,
+        "<title>{frame}, {node} of {supplier}, slot {slot} {channel}, cycles"
+    )
+}
+
+// Appends rectangles of one frame as one path.
+#[tactic(auto, unfolding(crate::specs::Kinds::path_text))]
+fn push_path(
+    number: usize,
+    x: u32,
+    width: u32,
+    kind: &[Rectangle],
+    one: &Rectangle,
+    out: &mut String,
+) -> Result<(), NoMemory>
+    ensures { OnOk result (string_bytes out.new ≡ string_bytes out.old ++ path_text number x width kind.now one.now) }
+{
+    push_path_start(number % 8, out)?;
+    push_boxes(x, width, kind, out)?;
+    push_fixed(Fixed::QuoteEnd, out)?;
+    push_names(&one.first, out)?;
+    push_spans(kind, out)?;
+    push_fixed(Fixed::PathEnd, out)
+}
+
+#[tactic(auto, unfolding(crate::specs::Kinds::path_start))]
+fn push_path_start(colour: usize, out: &mut String) -> Result<(), NoMemory>
+    ensures { OnOk result (string_bytes out.new ≡ string_bytes out.old ++ path_start colour) }
+{
+    write!(out, "<path class=c{colour} d=\"")
+}
+
+#[tactic(auto, unfolding(crate::specs::Kinds::boxes_text))]
+fn push_boxes(x: u32, width: u32, kind: &[Rectangle], out: &mut String) -> Result<(), NoMemory>
+    ensures { OnOk result (string_bytes out.new ≡ string_bytes out.old ++ boxes_text x width kind.now) }
+{
+    for one in kind {
+        push_box(x, u32::from(one.first.cycle), width, one.cycles, out)?;
+    }
+    Ok(())
+}
+
+/// Appends a rectangle as part of a path: from where on, how wide and how high.
+#[tactic(auto, unfolding(crate::specs::Kinds::box_text))]
+pub(crate) fn push_box(
+    x: u32,
+    y: u32,
+    width: u32,
+    height: u32,
+    out: &mut String,
+) -> Result<(), NoMemory>
+    ensures { OnOk result (string_bytes out.new ≡ string_bytes out.old ++ box_text x y width height) }
+{
+    write!(out, "M{x} {y}h{width}v{height}h-{width}z")
+}
+
+// Appends the cycles of rectangles: the first ones, and the last ones where there are more.
+#[tactic(auto, unfolding(crate::specs::Kinds::spans_text))]
+fn push_spans(kind: &[Rectangle], out: &mut String) -> Result<(), NoMemory>
+    ensures { OnOk result (string_bytes out.new ≡ string_bytes out.old ++ spans_text kind.now) }
+{
+    for one in kind {
+        push_span(u64::from(one.first.cycle), u64::from(one.cycles), out)?;
+    }
+    Ok(())
+}
+
+#[tactic(auto, unfolding(crate::specs::Kinds::span_text))]
+fn push_span(cycle: u64, cycles: u64, out: &mut String) -> Result<(), NoMemory>
+    requires cycle { cycle < 256 }
+    requires small { cycles < 4294967296 }
+    ensures { OnOk result (string_bytes out.new ≡ string_bytes out.old ++ span_text cycle cycles) }
+{
+    if cycles < 2 {
+        write!(out, " {cycle}")
+    } else {
+        let last = cycle + cycles - 1;
+        write!(out, " {cycle}-{last}")
+    }
+}
+
+// Appends the frame's name in its first rectangle, across where there is room for it, else down.
+#[tactic(auto, unfolding(crate::specs::Kinds::label_text))]
+fn push_label(x: u32, width: u32, one: &Rectangle, out: &mut String) -> Result<(), NoMemory>
+    ensures { OnOk result (string_bytes out.new ≡ string_bytes out.old ++ label_text x width one.now) }
+{
+    let frame = one.first.frame;
+    let cycle = one.first.cycle;
+    let length = frame.as_str().len() as u64;
+    if length < 2 * u64::from(width) {
+        write!(out, "<text x={x} y={cycle}>{frame}</text>\n")
+    } else if length < 2 * u64::from(one.cycles) {
+        write!(out, "<text class=v x={x} y={cycle}>{frame}</text>\n")
+    } else {
+        write!(out, "\n")
+    }
+}

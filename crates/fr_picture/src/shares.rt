@@ -1,0 +1,214 @@
+//! The suppliers of a page: their colours, and how full their grants are.
+ghost use Rattle.std.specs.Prelude.{◌≡◌, ◌++◌, ◌<◌, ◌≤◌, ◌^◌, OnOk, IfOk, length, count_by, map};
+ghost use Rattle.std.specs.List.{fold, list_any, position};
+ghost use Rattle.std.specs.String.{string_bytes};
+ghost use Rattle.fr_base.specs.Names.{same_text};
+ghost use Rattle.fr_picture.specs.Shares.{holds_text, key_text, legend_text, mark_text, number_of, percent, round_text, share_of, share_text, suppliers_of, with_name};
+
+use crate::frames::DrawnFrame;
+use crate::style::letter;
+use crate::texts::push;
+use fr_base::{GrantRow, Name, NoMemory, Sending};
+use std::alloc::Global;
+
+/// A supplier, and how full its grants are.
+#[derive(Clone, Copy)]
+pub struct Share {
+    /// Its number, from 0 on, by which it has its colour and mark.
+    pub number: usize,
+    /// Its name.
+    pub supplier: Name,
+    /// How many lanes it holds: slots, each on a channel.
+    pub held: usize,
+    /// How many cells it sends in.
+    pub sent: usize,
+    /// How many cells its lanes have.
+    pub room: u64,
+}
+
+/// The suppliers of the rows, each once.
+pub(crate) fn suppliers(
+    alloc: Global,
+    frames: &[DrawnFrame],
+    grants: &[GrantRow],
+) -> Result<Vec<Name>, NoMemory>
+    ensures { IfOk result (λ names. names.items ≡ suppliers_of frames.now grants.now) }
+{
+    let mut names = Vec::new(alloc);
+    add_frames(frames, &mut names)?;
+    add_grants(grants, &mut names)?;
+    Ok(names)
+}
+
+fn add_frames(frames: &[DrawnFrame], names: &mut Vec<Name>) -> Result<(), NoMemory>
+    ensures { OnOk result (names.new.items ≡ fold with_name names.old.items (map (λ f. f.row.supplier) frames.now)) }
+{
+    for frame in frames {
+        add_name(frame.row.supplier, names)?;
+    }
+    Ok(())
+}
+
+fn add_grants(grants: &[GrantRow], names: &mut Vec<Name>) -> Result<(), NoMemory>
+    ensures { OnOk result (names.new.items ≡ fold with_name names.old.items (map (λ g. g.supplier) grants.now)) }
+{
+    for grant in grants {
+        add_name(grant.supplier, names)?;
+    }
+    Ok(())
+}
+
+// Adds the name, unless it is there.
+fn add_name(name: Name, names: &mut Vec<Name>) -> Result<(), NoMemory>
+    ensures { OnOk result (names.new.items ≡ with_name names.old.items name) }
+{
+    if is_among(names.as_slice(), name) {
+        return Ok(());
+    }
+    names.push(name)?;
+    Ok(())
+}
+
+// Whether the name is one of them.
+fn is_among(names: &[Name], name: Name) -> bool
+    ensures { result ≡ list_any (λ known. same_text known name) names.now }
+{
+    names.iter().any(|known| *known == name)
+}
+
+/// How full the suppliers' grants are.
+pub(crate) fn shares_of(
+    alloc: Global,
+    names: &[Name],
+    cycles: u32,
+    grants: &[GrantRow],
+    cells: &[Sending],
+) -> Result<Vec<Share>, NoMemory>
+    ensures { IfOk result (λ shares. shares.items ≡ map (share_of names.now cycles grants.now cells.now) names.now) }
+{
+    let mut shares = Vec::new(alloc);
+    for name in names {
+        shares.push(measure(names, *name, cycles, grants, cells))?;
+    }
+    Ok(shares)
+}
+
+// How full the grants of this supplier are.
+#[tactic(auto, unfolding(crate::specs::Shares::share_of))]
+fn measure(
+    names: &[Name],
+    supplier: Name,
+    cycles: u32,
+    grants: &[GrantRow],
+    cells: &[Sending],
+) -> Share
+    ensures { result ≡ share_of names.now cycles grants.now cells.now supplier }
+{
+    let held = grants
+        .iter()
+        .filter(|grant| grant.supplier == supplier)
+        .count();
+    let sent = cells
+        .iter()
+        .filter(|cell| cell.supplier == supplier)
+        .count();
+    Share {
+        number: number_of(names, supplier),
+        supplier,
+        held,
+        sent,
+        room: (held as u64).saturating_mul(u64::from(cycles)),
+    }
+}
+
+/// The number of the supplier of this name, by which it has its colour and mark.
+pub(crate) fn number_of(names: &[Name], supplier: Name) -> usize
+    ensures { result ≡ number_of names.now supplier }
+{
+    match place_of(names, supplier) {
+        Some(number) => number,
+        None => 0,
+    }
+}
+
+// Where the name stands among them.
+fn place_of(names: &[Name], supplier: Name) -> Option<usize>
+    ensures { result ≡ position (λ name. same_text name supplier) names.now }
+{
+    names.iter().position(|name| *name == supplier)
+}
+
+/// Appends the mark of the supplier of this number: the letter of its colour, and how often the colours were used before it.
+#[tactic(auto, unfolding(crate::specs::Shares::mark_text))]
+pub(crate) fn push_mark(number: usize, out: &mut String) -> Result<(), NoMemory>
+    ensures { OnOk result (string_bytes out.new ≡ string_bytes out.old ++ mark_text number) }
+{
+    push(letter(number), out)?;
+    push_round(number / 8, out)
+}
+
+#[tactic(auto, unfolding(crate::specs::Shares::round_text))]
+fn push_round(round: usize, out: &mut String) -> Result<(), NoMemory>
+    ensures { OnOk result (string_bytes out.new ≡ string_bytes out.old ++ round_text round) }
+{
+    if round == 0 {
+        Ok(())
+    } else {
+        write!(out, "{round}")
+    }
+}
+
+/// Appends the legend: each supplier's colour, and how full its grants are.
+#[tactic(auto, unfolding(crate::specs::Shares::legend_text))]
+pub(crate) fn push_legend(shares: &[Share], out: &mut String) -> Result<(), NoMemory>
+    ensures { OnOk result (string_bytes out.new ≡ string_bytes out.old ++ legend_text shares.now) }
+{
+    for share in shares {
+        push_share(share, out)?;
+    }
+    Ok(())
+}
+
+#[tactic(auto, unfolding(crate::specs::Shares::share_text))]
+fn push_share(share: &Share, out: &mut String) -> Result<(), NoMemory>
+    ensures { OnOk result (string_bytes out.new ≡ string_bytes out.old ++ share_text share.now) }
+{
+    push_key(share.number % 8, out)?;
+    push_mark(share.number, out)?;
+    push_holds(share, percent(share.sent as u64, share.room), out)
+}
+
+#[tactic(auto, unfolding(crate::specs::Shares::key_text))]
+fn push_key(colour: usize, out: &mut String) -> Result<(), NoMemory>
+    ensures { OnOk result (string_bytes out.new ≡ string_bytes out.old ++ key_text colour) }
+{
+    write!(out, "<li><i class=c{colour}>")
+}
+
+#[tactic(auto, unfolding(crate::specs::Shares::holds_text))]
+fn push_holds(share: &Share, percent: u64, out: &mut String) -> Result<(), NoMemory>
+    ensures { OnOk result (string_bytes out.new ≡ string_bytes out.old ++ holds_text share.now percent) }
+{
+    let Share {
+        supplier,
+        held,
+        sent,
+        room,
+        ..
+    } = *share;
+    write!(
+        out,
+        "</i> {supplier}: lanes {held}, cells {room}, sent in {sent} of them ({percent} %)</li>\n"
+    )
+}
+
+// How many in a hundred the part is of the whole, rounded down.
+fn percent(part: u64, whole: u64) -> u64
+    ensures { result ≡ percent part whole }
+{
+    if whole == 0 {
+        0
+    } else {
+        part.saturating_mul(100) / whole
+    }
+}

@@ -1,0 +1,2 @@
+pub mod ReportLaws
+pub mod FrameLaws

@@ -1,0 +1,113 @@
+-- A request for a report changes nothing, and what its answer tells.
+use Rattle.std.proofs.Common.{◌≡◌, ◌⊎◌, Bool, Result, Ok, Err, IfOk, refl, sym, ap, subst, ◌∙◌, inl, inr}
+use Rattle.std.specs.Prelude.{List, ℕ, ⊤}
+use Rattle.fr_base.specs.Book.{Book}
+use Rattle.fr_base.specs.Checks.{check, name}
+use Rattle.fr_base.specs.Cluster.{Cluster}
+use Rattle.fr_base.specs.Queries.{reply}
+use Rattle.fr_base.specs.Sound.{IsSound}
+use Rattle.fr_base.specs.Step.{Outcome, act, knows, outcome, step}
+use Rattle.fr_base.specs.declared.actor.Actor.{Actor}
+use Rattle.fr_base.specs.declared.answer.Answer.{Answer}
+use Rattle.fr_base.specs.declared.answer.Answer.TheVariants.{Refused}
+use Rattle.fr_base.specs.declared.params.Params.{Params}
+use Rattle.fr_base.specs.declared.refusal.Refusal.{Refusal}
+use Rattle.fr_base.specs.declared.refusal.Refusal.TheVariants.{Unavailable}
+use Rattle.fr_base.specs.declared.request.Checked.{Checked}
+use Rattle.fr_base.specs.declared.request.Checked.TheVariants as checked
+use Rattle.fr_base.specs.declared.request.Request.{Request}
+use Rattle.fr_base.specs.declared.request.Request.TheVariants as request
+use Rattle.fr_base.proofs.SoundRefusing.{gives_each, gives_unless}
+use Rattle.fr_plans.specs.Reports.{Answered, MayRefuse, Reports, Standing, answer_to}
+
+-- ---- the book stays
+
+abbrev IsQuery : Checked → Type 0
+IsQuery (checked.Command command) = ⊥
+IsQuery (checked.Import i) = ⊥
+IsQuery (checked.Query query) = ⊤
+
+abbrev Same : Book → Outcome → Type 0
+Same b o = o.book ≡ b
+
+act_same : (c : Cluster) (b : Book) (actor : Actor) (what : Checked) → IsQuery what → IfOk (act c b actor what) (Same b)
+unfolding act
+act_same c b actor (checked.Command command) is = absurd is
+act_same c b actor (checked.Import i) is = absurd is
+act_same c b actor (checked.Query query) is = gives_each _ (reply c.params b actor query) _ (λ rows _. refl)
+
+outcome_same : (b : Book) (r : Result Outcome Refusal) → IfOk r (Same b) → Same b (outcome b r)
+unfolding outcome
+outcome_same b (Ok o) same = same
+outcome_same b (Err e) same = refl
+
+abbrev IsAsked : Request → Type 0
+IsAsked asked = (p : Params) (actor : Actor) → IfOk (check p actor asked) IsQuery
+
+stays : (asked : Request) → IsAsked asked → (c : Cluster) (b : Book) (actor : Actor) → (step c b actor asked).book ≡ b
+unfolding step
+stays asked queries c b actor = outcome_same b _ (
+    gives_unless _ _ (knows b actor) _ (λ _.
+    gives_each _ (check c.params actor asked) _ (λ what is. act_same c b actor what (subst (λ r. IfOk r IsQuery) is (queries c.params actor)))))
+
+pub grants_stay : (v : List ℕ) (c : Cluster) (b : Book) (actor : Actor) → (step c b actor (request.Grants v)).book ≡ b
+unfolding check
+grants_stay v = stays (request.Grants v) (λ p actor. gives_each _ (name v) _ (λ _ _. tt))
+
+pub frames_stay : (v : List ℕ) (c : Cluster) (b : Book) (actor : Actor) → (step c b actor (request.Frames v)).book ≡ b
+unfolding check
+frames_stay v = stays (request.Frames v) (λ p actor. gives_each _ (name v) _ (λ _ _. tt))
+
+pub schedule_stays : (v : List ℕ) (c : Cluster) (b : Book) (actor : Actor) → (step c b actor (request.Schedule v)).book ≡ b
+unfolding check
+schedule_stays v = stays (request.Schedule v) (λ p actor. gives_each _ (name v) _ (λ _ _. tt))
+
+pub gaps_stay : (v : List ℕ) (c : Cluster) (b : Book) (actor : Actor) → (step c b actor (request.Gaps v)).book ≡ b
+unfolding check
+gaps_stay v = stays (request.Gaps v) (λ p actor. gives_each _ (name v) _ (λ _ _. tt))
+
+pub layout_stays : (v f : List ℕ) (c : Cluster) (b : Book) (actor : Actor) → (step c b actor (request.Layout v f)).book ≡ b
+unfolding check
+layout_stays v f = stays (request.Layout v f) (λ p actor. gives_each _ (name v) _ (λ _ _. gives_each _ (name f) _ (λ _ _. tt)))
+
+-- ---- what its answer tells
+
+module _ {X : Type 0} (old new : Standing) (actor : Actor) (asked given : Request) (kind : Bool → X → Answer) (answer : Answer)
+    (same : (c : Cluster) (b : Book) (actor : Actor) → (step c b actor asked).book ≡ b) (alike : given ≡ asked) (answered : Answered old new actor given answer) where
+  told : (c : Cluster) (b : Book) → old c b → IsSound c b → new c b × ((answer ≡ Refused Unavailable) ⊎ (answer ≡ answer_to c b actor asked))
+  told c b stood sound =
+      let a = subst (λ request. Answered old new actor request answer) alike answered c b stood sound in
+      elim a.2 [
+        | inl lack ↦ (subst (λ k. new c k) lack.2 a.1, inl lack.1)
+        | inr did ↦ (subst (λ k. new c k) (did.1 ∙ same c b actor) a.1, inr did.0)
+      ]
+
+  -- its rows
+  pub reported : ((all : Bool) (rows : X) → kind all rows ≡ Refused Unavailable → ⊥) → (all : Bool) (rows copied : X) → answer ≡ kind all rows → copied ≡ rows
+      → Reports old new actor asked kind (Ok copied)
+  reported apart all rows copied is copies c b stood sound =
+      let a = told c b stood sound in (
+        a.0,
+        elim a.1 [
+          | inl lack ↦ absurd (apart all rows (sym is ∙ lack))
+          | inr did ↦ (all, sym did ∙ is ∙ ap (kind all) (sym copies))
+        ],
+      )
+
+  -- its refusal
+  pub refused : (e : Refusal) → MayRefuse answer e → Reports old new actor asked kind (Err e)
+  refused e may c b stood sound =
+      let a = told c b stood sound in (
+        a.0,
+        elim may [
+          | inl lacked ↦ inl lacked
+          | inr is ↦ elim a.1 [
+            | inl lack ↦ (let same : e ≡ Unavailable = cc in inl same)
+            | inr did ↦ inr (sym did ∙ is)
+          ]
+        ],
+      )
+
+  -- no memory for its rows
+  pub lacked : (r : Result X Refusal) → r ≡ Err Unavailable → Reports old new actor asked kind r
+  lacked r is = subst (λ r. Reports old new actor asked kind r) (sym is) (refused Unavailable (inl refl))

@@ -1,0 +1,64 @@
+#!/usr/bin/env python3
+"""Draws the plans of the examples, and one at the limits, with the built program: look.py PROGRAM [FOLDER]
+
+The pages go to FOLDER, out/look where none is named. Where there is chromium, a picture of each page and a file as it is printed stand beside it,
+and the cells of the rectangles that the browser has are counted: they are as many as the lines of the schedule. The last line is
+'N passed, M failed'."""
+import re
+import shutil
+import subprocess
+import sys
+import tempfile
+from pathlib import Path
+
+import picture
+from pictures import TOP, Register, counted, limits, see
+
+SECONDS = 600
+
+
+def plans():
+    """Cluster files and requests, by name."""
+    for script in sorted((TOP / "examples").glob("*.script")):
+        yield (script.stem, *script.read_text().split("---\n", 1))
+    yield ("limits", *limits()[:2])
+
+
+def browse(browser, page, *words):
+    """What the browser says of the page."""
+    command = [browser, "--headless", "--no-sandbox", "--disable-gpu", "--hide-scrollbars", *words, page.as_uri()]
+    return subprocess.run(command, stdout=subprocess.PIPE, stderr=subprocess.DEVNULL, text=True, timeout=SECONDS).stdout
+
+
+def look(browser, page, channels, cycles, lines):
+    """Pictures of the page, and its cells counted as the browser has them."""
+    browse(browser, page, "--window-size=1200,1600", f"--screenshot={page.with_suffix('.png')}")
+    browse(browser, page, "--no-pdf-header-footer", f"--print-to-pdf={page.with_suffix('.pdf')}")
+    lanes = picture.read(browse(browser, page, "--dump-dom"), channels, cycles)[1]
+    cells = sum(high for lane in lanes.values() for kind in lane.kinds for _, high in kind[4])
+    see(page.name, [] if cells == lines else [f"the browser has {cells} cells, the schedule {lines} lines"])
+    return sum(len(kind[4]) for lane in lanes.values() for kind in lane.kinds)
+
+
+def main():
+    program, folder = sys.argv[1], Path(sys.argv[2] if len(sys.argv) > 2 else TOP / "out/look").resolve()
+    folder.mkdir(parents=True, exist_ok=True)
+    browser = shutil.which("chromium") or shutil.which("chromium-browser")
+    if not browser:
+        print("there is no chromium: the pages are drawn, and nothing is counted")
+    for name, cluster, requests in plans():
+        with tempfile.TemporaryDirectory() as place:
+            register = Register(program, Path(place), cluster, requests)
+            for opened in register.done("open_variant"):
+                variant = opened["variant"]
+                page = folder / f"{name}-{variant}.html"
+                page.write_text(register.tell("picture", "car.db", variant))
+                lines = len(register.tell("schedule", "car.db", variant).splitlines())
+                drawn = look(browser, page, register.cluster["channels"], register.cluster.get("cycles", 64), lines) if browser else "?"
+                print(f"{page}: {page.stat().st_size} bytes, {lines} cells in {drawn} rectangles")
+    print(f"{counted[True]} passed, {counted[False]} failed")
+    return 1 if counted[False] else 0
+
+
+if __name__ == "__main__":
+    sys.exit(main())
