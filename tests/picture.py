@@ -6,8 +6,8 @@ from collections import Counter
 from html.parser import HTMLParser
 
 BOX = re.compile(r"M(\d+) (\d+)h(\d+)v(\d+)h-(\d+)z")
-TITLE = re.compile(r"(\w+), (\w+) of (\w+), slot (\d+) ([AB]), cycles((?: [\d/-]+)+)")
-HELD = re.compile(r"(\w+) of (\w+), slot (\d+) ([AB])")
+TITLE = re.compile(r"(\w+)\n(\w+) of (\w+)\n(\d+) ([AB]) (?:(\d+/\d+)|cycles((?: [\d-]+)+))")
+HELD = re.compile(r"(\w+) of (\w+)\n(\d+) ([AB])")
 UNHELD = re.compile(r"nobody holds (\d+)(?: to (\d+))?")
 KEY = re.compile(r"([a-h]\d?) (\w+): lanes (\d+), cells (\d+), sent in (\d+) of them \((\d+) %\)")
 # Where channel B stands further right, where the cluster has both.
@@ -23,20 +23,20 @@ def boxes(path):
 
 
 class Page(HTMLParser):
-    """The parts of a page. Each part of the drawing is a list of shapes: what it is, its attributes, title and text."""
+    """The parts of a page. Each part of the drawing is a list of lanes: the attributes of each, its title and its shapes, with their attributes, titles and texts."""
 
     def __init__(self, text):
         super().__init__()
         self.shapes = {}  # by their names, as lists of rectangles
-        self.parts, self.keys, self.rows, self.text, self.names, self.tags = [], [], [], "", [], {}
+        self.parts, self.keys, self.rows, self.text = [], [], [], ""
         self.open = []
-        self.shape = None
+        self.hatched = []  # the cycles, each by one more, that have a line across in a granted lane
+        self.lane = self.shape = None
         self.feed(text)
         self.close()
 
     def handle_starttag(self, tag, attributes):
         given = dict(attributes)
-        self.tags[tag] = self.tags.get(tag, 0) + 1
         assert not {"src", "onload", "onclick"} & set(given) and tag != "script", tag
         assert given.get("href", "#").startswith("#"), given
         # Tags that the page does not close end where the next of their kind begins.
@@ -47,11 +47,16 @@ class Page(HTMLParser):
             self.open.append(tag)
         if tag == "svg" and given.get("class") == "plan":
             self.parts.append([])
-        elif tag == "path" and given.get("id", "").startswith("r"):
+        elif tag == "path" and given.get("id", "").isdigit():
             self.shapes[given["id"]] = boxes(given["d"])
-        elif self.parts and tag in ("use", "path", "text") and not self.rows:
+        elif tag == "path" and "g" in self.open and not self.parts:
+            self.hatched += [int(y) for y in re.findall(r"M0 (\d+)l\d+-1", given["d"])]
+        elif self.parts and tag == "svg" and not self.rows:
+            self.lane = {"tag": tag, **given, "title": "", "shapes": []}
+            self.parts[-1].append(self.lane)
+        elif self.lane is not None and tag in ("use", "path", "text"):
             self.shape = {"tag": tag, **given, "title": "", "text": ""}
-            self.parts[-1].append(self.shape)
+            self.lane["shapes"].append(self.shape)
         elif tag == "li":
             self.keys.append("")
         elif tag == "tr":
@@ -61,8 +66,6 @@ class Page(HTMLParser):
         elif tag == "path" and self.rows:
             self.rows[-1].append(given["d"])
             self.rows[-1].append("")
-        elif tag == "br":
-            self.rows[-1][-1] += "\n"
 
     def handle_startendtag(self, tag, attributes):
         self.handle_starttag(tag, attributes)
@@ -73,6 +76,8 @@ class Page(HTMLParser):
             pass
         if tag in ("use", "path", "text"):
             self.shape = None
+        elif tag == "svg":
+            self.lane = None
 
     def handle_data(self, data):
         inside = self.open
@@ -82,6 +87,9 @@ class Page(HTMLParser):
             self.keys[-1] += data
         elif self.shape is not None:
             self.shape["title" if "title" in inside else "text"] += data
+        elif self.lane is not None:
+            assert "title" in inside, data
+            self.lane["title"] += data
         elif "style" not in inside:
             self.text += data
 
@@ -113,35 +121,38 @@ def read(text, channels, count):
     lanes, gaps, free = {}, set(), set()
     for part in page.parts:
         columns = {}
-        for shape in part:
-            if shape["tag"] == "text" and shape["text"].isdigit():
-                columns[int(shape["x"])] = int(shape["text"])
-        slot_at = lambda x: (columns[x], "B" if channels == "B" or x > SHIFT else "A")
-        end, label = 0, None
-        for shape in part:
-            x = int(shape.get("x", 0))
-            if shape["tag"] == "text" and UNHELD.fullmatch(shape["text"]):
-                first, last = UNHELD.fullmatch(shape["text"]).groups()
-                gaps.add((int(first), int(last or first)))
-            elif shape["tag"] == "text" and label is not None and shape.get("y") == "-1":
-                lanes[label].mark = shape["text"]
-            elif shape.get("href") == "#free":
-                free.add(slot_at(x))
-            elif shape.get("href") == "#held":
-                node, supplier, slot, channel = HELD.fullmatch(shape["title"]).groups()
-                label = (int(slot), channel)
-                assert slot_at(x) == label, (x, label)
-                lanes.setdefault(label, Lane()).holders.append((node, supplier))
-            elif "class" in shape and shape["class"][0] == "c":
-                frame, node, supplier, slot, channel, words = TITLE.fullmatch(shape["title"]).groups()
-                if shape["tag"] == "use":
-                    drawn = [(x + bx, int(shape["y"]) + by, bw, bh) for bx, by, bw, bh in page.shapes[shape["href"][1:]]]
-                else:
-                    drawn = boxes(shape["d"])
-                assert {slot_at(box[0]) for box in drawn} == {(int(slot), channel)}, shape
-                told = sorted(cycles_of(words, count))
-                assert told == sorted(c for _, y, _, high in drawn for c in range(y, y + high)), shape
-                lanes.setdefault((int(slot), channel), Lane()).kinds.append((frame, node, supplier, shape["class"], [(y, high) for _, y, _, high in drawn]))
+        for drawn in part:
+            for shape in drawn["shapes"]:
+                if shape["tag"] == "text" and shape["y"] == "-2":
+                    columns[int(drawn["x"])] = int(shape["text"])
+        # Lanes stand one beside the other, and have room for their rectangles.
+        places = sorted(int(drawn["x"]) for drawn in part)
+        for drawn in part:
+            x = int(drawn["x"])
+            here = (columns.get(x), "B" if channels == "B" or x > SHIFT else "A")
+            for shape in drawn["shapes"]:
+                if shape["tag"] == "text" and UNHELD.fullmatch(shape["text"]):
+                    first, last = UNHELD.fullmatch(shape["text"]).groups()
+                    gaps.add((int(first), int(last or first)))
+                elif shape["tag"] == "text" and shape["y"] == "-1":
+                    lanes[here].mark = shape["text"]
+                elif shape.get("href") == "#free":
+                    free.add(here)
+                elif shape.get("href") == "#held":
+                    node, supplier, slot, channel = HELD.fullmatch(drawn["title"]).groups()
+                    assert (int(slot), channel) == here, drawn
+                    lanes.setdefault(here, Lane()).holders.append((node, supplier))
+                elif shape["title"]:
+                    frame, node, supplier, slot, channel, repeated, single = TITLE.fullmatch(shape["title"]).groups()
+                    if shape["tag"] == "use":
+                        rectangles = [(bx, int(shape.get("y", 0)) + by, bw, bh) for bx, by, bw, bh in page.shapes[shape["href"][1:]]]
+                    else:
+                        rectangles = boxes(shape["d"])
+                    assert (int(slot), channel) == here, shape
+                    assert all(bx == 0 and not [at for at in places if x < at < x + bw] for bx, _, bw, _ in rectangles), shape
+                    told = sorted(cycles_of(repeated or single, count))
+                    assert told == sorted(c for _, y, _, high in rectangles for c in range(y, y + high)), shape
+                    lanes.setdefault(here, Lane()).kinds.append((frame, node, supplier, drawn["class"], [(y, high) for _, y, _, high in rectangles]))
     return page, lanes, gaps, free
 
 
@@ -171,6 +182,7 @@ def compare(text, plan):
         elif wanted != got:
             wrong.append(f"{what}: wanted {wanted!r}, got {got!r}")
 
+    same("the cycles in which a granted lane is hatched", list(range(1, plan["cycles"] + 1)), page.hatched)
     drawn = [(c, slot, channel, frame, node, supplier) for (slot, channel), lane in lanes.items() for frame, node, supplier, _, runs in lane.kinds for y, high in runs for c in range(y, y + high)]
     same("the cells", sorted(plan["cells"]), sorted(drawn))
     held = [(slot, channel, node, supplier) for (slot, channel), lane in lanes.items() for node, supplier in lane.holders]
@@ -209,12 +221,13 @@ def compare(text, plan):
     # The table: each frame with its placements, gap and signals, the worst first.
     head, *rows = page.rows
     got, gaps_told = [], []
-    for name, node, supplier, placed, gap, _, path, names in rows:
+    for name, node, supplier, placed, gap, _, *strip in rows:
+        path, names = strip or ("", "")
         placements = tuple(tuple(line.split()) for line in placed.split("\n") if line)
         signals = names.split()
         got.append((name, node, supplier, placements, gap.strip()))
         gaps_told.append(2**32 if gap.strip() == "never" else int(gap))
-        runs = [tuple(map(int, run)) for run in re.findall(r"M(\d+) [39]h(\d+)", path)]
+        runs = [tuple(map(int, run)) for run in re.findall(r"M(\d+),[39]h(\d+)", path)]
         filled = [bit for start, length in runs for bit in range(start, start + length)]
         layout = plan["layouts"].get((supplier, name), [])
         same(f"the signals of {supplier}'s {name}", [f"{n}:{s}+{l}{'big' if o == 'big' else ''}" for n, s, l, o in layout], signals)

@@ -2,8 +2,8 @@
 """Tries the pictures of the built program: pictures.py PROGRAM..
 
 The examples' requests are asked of register files. Each variant's page, the integrator's and each supplier's, is read without a browser
-and compared with the lines of the reports: the cells, grants, gaps, marks, and the table with placements, greatest gaps and payload bits. So is
-the page of a plan at the limits, which is made here; it has at most 2,000,000 bytes. The last line is 'N passed, M failed'."""
+and compared with the lines of the reports: the cells, grants, gaps, marks, and the table with placements, greatest gaps and payload bits. So are
+the pages of two plans at the limits, which are made here; each has at most 2,000,000 bytes. The last line is 'N passed, M failed'."""
 import json
 import subprocess
 import sys
@@ -80,11 +80,17 @@ class Register:
 
 
 def head_of(register, opened, supplier):
-    """The sentences above the drawing."""
-    variant, parent = opened["variant"], opened.get("from")
+    """The sentences above the drawing: the variant, and the cluster's figures."""
+    variant, parent, of = opened["variant"], opened.get("from"), register.cluster
     released = any(request["variant"] == variant for request in register.done("release"))
     told = f"Variant {variant} It was opened {'from ' + parent if parent else 'empty'}, and is {'released' if released else 'open'}."
-    return told + (f" This page shows what is {supplier}'s alone." if supplier else "")
+    return (
+        told
+        + (f" This page shows what is {supplier}'s alone. Where it says that nobody holds a slot, another supplier may hold it." if supplier else "")
+        + f" Channels {of['channels']}; {of.get('cycles', 64)} cycles of {of['macroticks_per_cycle']} macroticks; payload words {of['payload_words']}; "
+        + f"{of['static_slots']} static slots of {of['slot_macroticks']} macroticks, dynamic segment {of['dynamic_macroticks']}, "
+        + f"symbol window {of['symbol_macroticks']}, idle time {of['idle_macroticks']}."
+    )
 
 
 def examples(program):
@@ -107,9 +113,9 @@ def examples(program):
 # ---- a plan at the limits
 
 
-def limits(slots=1023, signals=8):
-    """A cluster file, its requests, and the plan that they make: 64 suppliers, both channels, 64 cycles. All lanes are granted. Two frames share
-    each, in alternate cycles, so all cells are used and no two can be joined. Each frame has so many signals."""
+def limits(share=2, signals=8, slots=1023):
+    """A cluster file, its requests, and the plan that they make: 64 suppliers, both channels, 64 cycles. All lanes are granted. So many frames
+    share each, one cycle after the other, so all cells are used and no two can be joined. Each frame has so many signals."""
     names = [f"supplier{number:02}" for number in range(64)]
     cluster = "\n".join(
         ['channels = "AB"', f"static_slots = {slots}", "slot_macroticks = 12", "dynamic_macroticks = 1000", "symbol_macroticks = 100", "idle_macroticks = 100"]
@@ -127,14 +133,14 @@ def limits(slots=1023, signals=8):
         slot, channel, name = lane // 2 + 1, "AB"[lane % 2], names[lane * 64 // (2 * slots)]
         ask("integrator1", "grant", variant="v1", slot=slot, channel=channel, supplier=name, node="node0")
         plan["grants"].append((slot, channel, "node0", name))
-        for base in range(2):
-            frame = f"frame{2 * lane + base}"
+        for base in range(share):
+            frame = f"frame{share * lane + base}"
             layout = [(f"signal{k}", 16 * k + 7 * (k % 4 == 3), 12, "big" if k % 4 == 3 else "little") for k in range(signals)]
-            placed[name].append(f"{frame},node0,{slot},{channel},{base},2")
+            placed[name].append(f"{frame},node0,{slot},{channel},{base},{share}")
             laid[name] += [f"{frame},{','.join(map(str, signal))}" for signal in layout]
-            plan["frames"].append((frame, "node0", name, [(str(slot), channel, f"{base}/2")], str(2 * (slots * 12 + 1200))))
+            plan["frames"].append((frame, "node0", name, [(str(slot), channel, f"{base}/{share}")], str(share * (slots * 12 + 1200))))
             plan["layouts"][name, frame] = layout
-            plan["cells"] += [(cycle, slot, channel, frame, "node0", name) for cycle in range(base, 64, 2)]
+            plan["cells"] += [(cycle, slot, channel, frame, "node0", name) for cycle in range(base, 64, share)]
     for name in names:
         for label, head, rows in ("frames", "frame,node,slot,channels,base,repetition", placed[name]), ("signals", "frame,signal,start,length,order", laid[name]):
             for first in range(0, len(rows), 512):
@@ -144,14 +150,15 @@ def limits(slots=1023, signals=8):
 
 
 def at_the_limits(program):
-    cluster, requests, plan = limits()
-    with tempfile.TemporaryDirectory() as folder:
-        register = Register(program, Path(folder), cluster, requests)
-        text = register.tell("picture", "car.db", "v1")
-    wrong = picture.compare(text, plan)
-    if len(text.encode()) > BYTES:
-        wrong.append(f"the page has {len(text.encode())} bytes")
-    see("at the limits", wrong)
+    for share, signals in (2, 8), (4, 2):
+        cluster, requests, plan = limits(share, signals)
+        with tempfile.TemporaryDirectory() as folder:
+            register = Register(program, Path(folder), cluster, requests)
+            text = register.tell("picture", "car.db", "v1")
+        wrong = picture.compare(text, plan)
+        if len(text.encode()) > BYTES:
+            wrong.append(f"the page has {len(text.encode())} bytes")
+        see(f"at the limits, {share} frames of {signals} signals in each lane", wrong)
 
 
 def main():

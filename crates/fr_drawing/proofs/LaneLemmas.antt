@@ -1,12 +1,12 @@
 -- Lanes of which one is changed.
-use Rattle.std.proofs.Common.{◌≡◌, Bool, ℕ, ◌+◌, ◌<◌, zero, suc, List, [], ◌∷◌, ◌++◌, length, get_or, take, refl, sym, ap, ◌∙◌, append_assoc, append-nil, arith, subst, zero-add}
+use Rattle.std.proofs.Common.{◌≡◌, Bool, ℕ, ◌+◌, ◌<◌, ◌≤◌, zero, suc, List, [], ◌∷◌, ◌++◌, length, get_or, take, refl, sym, ap, ◌∙◌, append_assoc, append-nil, arith, subst, zero-add}
 use Rattle.std.proofs.Math.ListN.{set}
 use Rattle.std.specs.List.{flat_map, All}
 use Rattle.std.proofs.lemmas.List.{take_more}
 use Rattle.std.proofs.lemmas.List.Elements.{All-push}
 use Rattle.fr_drawing.specs.Shown.{IsMarked, IsShown}
 use Rattle.fr_drawing.proofs.MarkLemmas.{all_shown}
-use Rattle.fr_drawing.specs.Places.{AreAt, AreHome, AreInOrder, IsHome, lane_of}
+use Rattle.fr_drawing.specs.Places.{AreAt, AreHome, AreInOrder, IsHome, IsWide, lane_of, place_on_a, place_on_b}
 use Rattle.fr_drawing.specs.declared.columns.Place.{Place}
 use Rattle.fr_drawing.specs.declared.rectangle.Rectangle.{Rectangle}
 use Rattle.std.proofs.lemmas.Grind.{flat_map-append}
@@ -15,6 +15,10 @@ use Rattle.std.specs.List.Sorted.{IsPermutation}
 use Rattle.std.proofs.lemmas.List.Sorted.{IsPermutation-refl, IsPermutation-trans, IsPermutation-append_left, IsPermutation-append_right, IsPermutation-append_comm}
 use Rattle.fr_base.specs.declared.answer.GrantRow.{GrantRow}
 use Rattle.fr_base.specs.declared.answer.Sending.{Sending}
+use Rattle.fr_base.specs.declared.channel.Channels.{Channels}
+use Rattle.fr_base.specs.declared.channel.Channels.TheVariants.{AB}
+use Rattle.fr_base.specs.declared.params.Params.{Params}
+use Rattle.fr_drawing.specs.declared.drawing.Drawing.{Drawing}
 use Rattle.fr_drawing.specs.declared.lane.Lane.{Lane}
 use Rattle.fr_drawing.specs.Lanes.{IsApart, IsDrawing, lane_cells, drawn_cells, drawn_grants}
 
@@ -89,36 +93,36 @@ apart-more ls new l after empty apart =
 
 -- ---- each where its column stands
 
-pub at_stays : (shift : ℕ) (columns : List Place) (ls : List Lane) (k : ℕ) (l d : Lane) → k < length ls → l.place ≡ (get_or ls k d).place
-    → AreAt shift columns ls → AreAt shift columns (set ls k l)
-at_stays shift [] [] k l d small e h = absurd (omega (arith, small))
-at_stays shift [] (m ∷ ls) k l d small e h = absurd h
-at_stays shift (p ∷ ps) [] k l d small e h = absurd h
-at_stays shift (p ∷ ps) (m ∷ []) k l d small e h = absurd h
-at_stays shift (p ∷ ps) (m ∷ n ∷ ls) zero l d small e h = (ap (λ q. q.x) e ∙ h.0, h.1, h.2)
-at_stays shift (p ∷ ps) (m ∷ n ∷ ls) (suc zero) l d small e h = (h.0, ap (λ q. q.x) e ∙ h.1, h.2)
-at_stays shift (p ∷ ps) (m ∷ n ∷ ls) (suc (suc k)) l d small e h = (h.0, h.1, at_stays shift ps ls k l d (omega (arith, small)) e h.2)
+pub at_stays : (channels : Channels) (shift : ℕ) (columns : List Place) (ls : List Lane) (k : ℕ) (l d : Lane) → k < length ls → l.place ≡ (get_or ls k d).place
+    → AreAt channels shift columns ls → AreAt channels shift columns (set ls k l)
+at_stays channels shift [] [] k l d small e h = absurd (omega (arith, small))
+at_stays channels shift [] (m ∷ ls) k l d small e h = absurd h
+at_stays channels shift (p ∷ ps) [] k l d small e h = absurd h
+at_stays channels shift (p ∷ ps) (m ∷ []) k l d small e h = absurd h
+at_stays channels shift (p ∷ ps) (m ∷ n ∷ ls) zero l d small e h = (e ∙ h.0, h.1, h.2)
+at_stays channels shift (p ∷ ps) (m ∷ n ∷ ls) (suc zero) l d small e h = (h.0, e ∙ h.1, h.2)
+at_stays channels shift (p ∷ ps) (m ∷ n ∷ ls) (suc (suc k)) l d small e h = (h.0, h.1, at_stays channels shift ps ls k l d (omega (arith, small)) e h.2)
 
-at-push : (shift : ℕ) (columns : List Place) (ls : List Lane) (p : Place) (a b : Lane) → a.place.x ≡ p.x → b.place.x ≡ p.x + shift
-    → AreAt shift columns ls → AreAt shift (columns ++ p ∷ []) (ls ++ a ∷ b ∷ [])
-at-push shift [] [] p a b ea eb h = (ea, eb, tt)
-at-push shift [] (m ∷ ls) p a b ea eb h = absurd h
-at-push shift (q ∷ qs) [] p a b ea eb h = absurd h
-at-push shift (q ∷ qs) (m ∷ []) p a b ea eb h = absurd h
-at-push shift (q ∷ qs) (m ∷ n ∷ ls) p a b ea eb h = (h.0, h.1, at-push shift qs ls p a b ea eb h.2)
+at-push : (channels : Channels) (shift : ℕ) (columns : List Place) (ls : List Lane) (p : Place) (a b : Lane) → a.place ≡ place_on_a channels p → b.place ≡ place_on_b channels shift p
+    → AreAt channels shift columns ls → AreAt channels shift (columns ++ p ∷ []) (ls ++ a ∷ b ∷ [])
+at-push channels shift [] [] p a b ea eb h = (ea, eb, tt)
+at-push channels shift [] (m ∷ ls) p a b ea eb h = absurd h
+at-push channels shift (q ∷ qs) [] p a b ea eb h = absurd h
+at-push channels shift (q ∷ qs) (m ∷ []) p a b ea eb h = absurd h
+at-push channels shift (q ∷ qs) (m ∷ n ∷ ls) p a b ea eb h = (h.0, h.1, at-push channels shift qs ls p a b ea eb h.2)
 
-pub at-more : (shift : ℕ) (columns : List Place) (ls mid new : List Lane) (p : Place) (a b : Lane) → mid ≡ ls ++ a ∷ [] → new ≡ mid ++ b ∷ [] → a.place.x ≡ p.x
-    → b.place.x ≡ p.x + shift → AreAt shift columns ls → AreAt shift (columns ++ p ∷ []) new
-at-more shift columns ls mid new p a b e1 e2 ea eb h =
-    subst (AreAt shift (columns ++ p ∷ [])) (sym (e2 ∙ ap (λ xs. xs ++ b ∷ []) e1 ∙ append_assoc ls (a ∷ []) (b ∷ []))) (at-push shift columns ls p a b ea eb h)
+pub at-more : (channels : Channels) (shift : ℕ) (columns : List Place) (ls mid new : List Lane) (p : Place) (a b : Lane) → mid ≡ ls ++ a ∷ [] → new ≡ mid ++ b ∷ []
+    → a.place ≡ place_on_a channels p → b.place ≡ place_on_b channels shift p → AreAt channels shift columns ls → AreAt channels shift (columns ++ p ∷ []) new
+at-more channels shift columns ls mid new p a b e1 e2 ea eb h =
+    subst (AreAt channels shift (columns ++ p ∷ [])) (sym (e2 ∙ ap (λ xs. xs ++ b ∷ []) e1 ∙ append_assoc ls (a ∷ []) (b ∷ []))) (at-push channels shift columns ls p a b ea eb h)
 
 -- a loop's step: the columns so far, and one more
-pub at_step : (shift : ℕ) (columns : List Place) (i : ℕ) (d : Place) (ls : List Lane) → i < length columns
-    → AreAt shift (take i columns ++ get_or columns i d ∷ []) ls → AreAt shift (take (i + 1) columns) ls
-at_step shift columns i d ls small h = subst (λ ps. AreAt shift ps ls) (sym (take_more columns i d small)) h
+pub at_step : (channels : Channels) (shift : ℕ) (columns : List Place) (i : ℕ) (d : Place) (ls : List Lane) → i < length columns
+    → AreAt channels shift (take i columns ++ get_or columns i d ∷ []) ls → AreAt channels shift (take (i + 1) columns) ls
+at_step channels shift columns i d ls small h = subst (λ ps. AreAt channels shift ps ls) (sym (take_more columns i d small)) h
 
-pub at-none : (shift : ℕ) → AreAt shift [] []
-at-none shift = tt
+pub at-none : (channels : Channels) (shift : ℕ) → AreAt channels shift [] []
+at-none channels shift = tt
 
 All-none : {X : Type 0} (P : X → Type 0) → All P []
 All-none P = λ k d small. absurd (omega (arith, small))
@@ -198,22 +202,29 @@ home-more ls new l after no_grants no_rectangles h =
     ) in
     subst (AreHome 0) (sym after) (home-push ls 0 l alone h)
 
-pub drawing_of : (columns listed : List Place) (shift : ℕ) (marks : List Bool) (holds : List GrantRow) (cells : List Sending) (empty held all : List Lane) → drawn_grants empty ≡ [] → drawn_cells empty ≡ [] → All IsApart empty → AreHome 0 empty → AreInOrder columns → listed ≡ columns → AreAt shift listed empty
+pub drawing_of : (p : Params) (d : Drawing) (columns listed : List Place) (channels : Channels) (shift end width : ℕ) (marks : List Bool) (holds : List GrantRow) (cells : List Sending) (empty held : List Lane)
+    → channels ≡ p.channels → (p.channels ≡ AB → shift ≡ end) → 2 ≤ width → d.scale ≡ record { cycles = p.cycles; height = p.cycles + 5; width = width }
+    → All (λ q. q.x + q.width ≤ end) columns → All (IsWide width) columns
+    → drawn_grants empty ≡ [] → drawn_cells empty ≡ [] → All IsApart empty → AreHome 0 empty → AreInOrder columns → listed ≡ columns → AreAt channels shift listed empty
     → ((n : ℕ) → IsMarked marks n → IsShown columns n) → All (λ g. IsMarked marks g.slot) holds → All (λ s. IsMarked marks s.slot) cells
     → IsPermutation (drawn_grants held) (drawn_grants empty ++ holds) → drawn_cells held ≡ drawn_cells empty → (All IsApart empty → All IsApart held) → (AreHome 0 empty → AreHome 0 held)
-    → ((n : ℕ) (ps : List Place) → AreAt n ps empty → AreAt n ps held)
-    → IsPermutation (drawn_cells all) (drawn_cells held ++ cells) → drawn_grants all ≡ drawn_grants held → (All IsApart held → All IsApart all) → (AreHome 0 held → AreHome 0 all)
-    → ((n : ℕ) (ps : List Place) → AreAt n ps held → AreAt n ps all)
-    → IsDrawing holds cells all
-drawing_of columns listed shift marks holds cells empty held all g0 c0 a0 h0 o0 e0 p0 shown m1 m2 g1 c1 a1 h1 p1 c2 g2 a2 h2 p2 = record {
+    → ((cs : Channels) (n : ℕ) (ps : List Place) → AreAt cs n ps empty → AreAt cs n ps held)
+    → IsPermutation (drawn_cells d.lanes.items) (drawn_cells held ++ cells) → drawn_grants d.lanes.items ≡ drawn_grants held → (All IsApart held → All IsApart d.lanes.items)
+    → (AreHome 0 held → AreHome 0 d.lanes.items) → ((cs : Channels) (n : ℕ) (ps : List Place) → AreAt cs n ps held → AreAt cs n ps d.lanes.items)
+    → IsDrawing p holds cells d
+drawing_of p d columns listed channels shift end width marks holds cells empty held own both least scaled ends wide g0 c0 a0 h0 o0 e0 p0 shown m1 m2 g1 c1 a1 h1 p1 c2 g2 a2 h2 p2 = record {
   grants = subst (λ xs. IsPermutation xs holds) (sym g2) (subst (λ xs. IsPermutation (drawn_grants held) (xs ++ holds)) g0 g1);
-  cells = subst (λ xs. IsPermutation (drawn_cells all) (xs ++ cells)) (c1 ∙ c0) c2;
+  cells = subst (λ xs. IsPermutation (drawn_cells d.lanes.items) (xs ++ cells)) (c1 ∙ c0) c2;
   apart = a2 (a1 a0);
   home = h2 (h1 h0);
   columns = columns;
   shift = shift;
   order = o0;
-  at = subst (λ ps. AreAt shift ps all) e0 (p2 shift listed (p1 shift listed p0));
+  at = subst (λ cs. AreAt cs shift columns d.lanes.items) own (subst (λ ps. AreAt channels shift ps d.lanes.items) e0 (p2 channels shift listed (p1 channels shift listed p0)));
+  beside = λ ab. subst (λ n. All (λ q. q.x + q.width ≤ n) columns) (sym (both ab)) ends;
+  wide = subst (λ n. All (IsWide n) columns) (sym (ap (λ s. s.width) scaled)) wide;
+  room = subst (λ n. 2 ≤ n) (sym (ap (λ s. s.width) scaled)) least;
+  high = (ap (λ s. s.cycles) scaled, ap (λ s. s.height) scaled);
   shown_grants = all_shown (λ g. g.slot) holds marks columns m1 shown;
   shown_cells = all_shown (λ s. s.slot) cells marks columns m2 shown;
 }

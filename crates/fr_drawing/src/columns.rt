@@ -1,8 +1,9 @@
 //! Where the lanes of a drawing stand.
 ghost use Rattle.std.specs.Prelude.{◌≡◌, ℕ, ◌+◌, ◌≤◌, false, IfOk};
+ghost use Rattle.fr_base.specs.declared.channel.Channels.TheVariants.{AB};
 ghost use Rattle.std.specs.List.{All};
 ghost use Rattle.std.specs.Vec.{vec_len};
-ghost use Rattle.fr_drawing.specs.Places.{AreInOrder};
+ghost use Rattle.fr_drawing.specs.Places.{AreInOrder, IsWide};
 ghost use Rattle.fr_drawing.specs.Shown.{IsMarked, IsShown};
 
 use crate::marks::{Marks, Shows};
@@ -47,13 +48,17 @@ pub(crate) struct Bands {
     end: u32,
     width: u32,
     ghost shift_in_range: { shift ≤ 68 },
-    ghost end_in_range: { end ≤ 136 },
-    ghost width_in_range: { width ≤ 12 },
+    ghost end_in_range: { (16 ≤ end) × (end ≤ 136) },
+    ghost width_in_range: { (2 ≤ width) × (width ≤ 12) },
 }
 
 impl Bands {
     /// The channels side by side. Lanes are wide where there are few.
-    pub(crate) fn of(params: &Params, marks: &Marks) -> Bands {
+    pub(crate) fn of(params: &Params, marks: &Marks) -> Bands
+        ensures channels { result.channels ≡ params.now.channels }
+        ensures beside { params.now.channels ≡ AB → result.shift ≡ result.end }
+        ensures room { 2 ≤ result.width }
+    {
         let channels = params.channels();
         let (end, shift) = match channels {
             Channels::AB => (68, 68),
@@ -68,7 +73,9 @@ impl Bands {
     }
 
     /// How large the drawing is.
-    pub(crate) fn scale(&self, params: &Params) -> Scale {
+    pub(crate) fn scale(&self, params: &Params) -> Scale
+        ensures { result ≡ record { cycles = params.now.cycles; height = params.now.cycles + 5; width = self.now.width } }
+    {
         Scale {
             cycles: params.cycles(),
             height: params.cycles() + 5,
@@ -78,7 +85,8 @@ impl Bands {
 
     // How wide what is shown is.
     fn width_of(&self, shows: Shows) -> u32
-        ensures { result ≤ 12 }
+        ensures small { result ≤ 12 }
+        ensures slot { (n : ℕ) → shows ≡ Shows.Slot n → result ≡ self.now.width }
     {
         match shows {
             Shows::Nothing => 0,
@@ -90,7 +98,8 @@ impl Bands {
 
 // How wide a lane is, where slots and gaps share this room: 2 to 12.
 fn lane_width(room: u32, last: u32, marks: &Marks) -> u32
-    ensures { result ≤ 12 }
+    ensures least { 2 ≤ result }
+    ensures most { result ≤ 12 }
 {
     let mut slots: u32 = 0;
     let mut gaps: u32 = 0;
@@ -106,8 +115,10 @@ fn lane_width(room: u32, last: u32, marks: &Marks) -> u32
 
 // The next column, which shows this, where the one before it ends here. A new part begins where it has no room in this one.
 fn column(bands: &Bands, end: u32, shows: Shows) -> Place
-    requires { end ≤ 136 }
+    requires { end ≤ bands.now.end }
     ensures shows { result.shows ≡ shows }
+    ensures wide { IsWide bands.now.width result }
+    ensures beside { result.x + result.width ≤ bands.now.end }
     ensures within { result.x + result.width ≤ 136 }
     ensures behind { result.opens ≡ false → result.x ≡ end }
 {
@@ -132,6 +143,8 @@ pub(crate) fn columns(
     ensures len { IfOk result (λ columns. vec_len columns ≡ 1023) }
     ensures order { IfOk result (λ columns. AreInOrder columns.items) }
     ensures shown { IfOk result (λ columns. (n : ℕ) → IsMarked marks.now.0 n → IsShown columns.items n) }
+    ensures wide { IfOk result (λ columns. All (IsWide bands.now.width) columns.items) }
+    ensures beside { IfOk result (λ columns. All (λ p. p.x + p.width ≤ bands.now.end) columns.items) }
     ensures within { IfOk result (λ columns. All (λ p. p.x + p.width ≤ 136) columns.items) }
 {
     let mut columns = Vec::new(alloc);

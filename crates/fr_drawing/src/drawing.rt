@@ -8,7 +8,7 @@ ghost use Rattle.fr_drawing.specs.Places.{AreAt, AreHome};
 use crate::columns::{Bands, Place, Scale, columns};
 use crate::lane::{Lane, empty_lanes, lane_number};
 use crate::marks::Marks;
-use fr_base::{GrantRow, NoMemory, Params, Sending};
+use fr_base::{Channels, GrantRow, NoMemory, Params, Sending};
 use std::alloc::Global;
 
 /// The lanes of a plan, and how large they are.
@@ -27,7 +27,7 @@ pub fn draw(
     grants: &[GrantRow],
     cells: &[Sending],
 ) -> Result<Drawing, NoMemory>
-    ensures { IfOk result (λ drawing. IsDrawing grants.now cells.now drawing.lanes.items) }
+    ensures { IfOk result (λ drawing. IsDrawing params.now grants.now cells.now drawing) }
 {
     let marks = Marks::of(grants, cells);
     let bands = Bands::of(params, &marks);
@@ -47,7 +47,7 @@ fn add_grants(lanes: &mut Vec<Lane>, grants: &[GrantRow]) -> Result<(), NoMemory
     ensures grants { OnOk result (IsPermutation (drawn_grants lanes.new.items) (drawn_grants lanes.old.items ++ grants.now)) }
     ensures cells { OnOk result (drawn_cells lanes.new.items ≡ drawn_cells lanes.old.items) }
     ensures apart { OnOk result (All IsApart lanes.old.items → All IsApart lanes.new.items) }
-    ensures at { OnOk result ((shift : ℕ) (columns : List Place) → AreAt shift columns lanes.old.items → AreAt shift columns lanes.new.items) }
+    ensures at { OnOk result ((channels : Channels) (shift : ℕ) (columns : List Place) → AreAt channels shift columns lanes.old.items → AreAt channels shift columns lanes.new.items) }
     ensures home { OnOk result (AreHome 0 lanes.old.items → AreHome 0 lanes.new.items) }
 {
     for grant in grants {
@@ -64,7 +64,7 @@ fn add_grant(lanes: &mut Vec<Lane>, grant: &GrantRow) -> Result<(), NoMemory>
     ensures grants { OnOk result (IsPermutation (drawn_grants lanes.new.items) (drawn_grants lanes.old.items ++ grant.now ∷ [])) }
     ensures cells { OnOk result (drawn_cells lanes.new.items ≡ drawn_cells lanes.old.items) }
     ensures apart { OnOk result (All IsApart lanes.old.items → All IsApart lanes.new.items) }
-    ensures at { OnOk result ((shift : ℕ) (columns : List Place) → AreAt shift columns lanes.old.items → AreAt shift columns lanes.new.items) }
+    ensures at { OnOk result ((channels : Channels) (shift : ℕ) (columns : List Place) → AreAt channels shift columns lanes.old.items → AreAt channels shift columns lanes.new.items) }
     ensures home { OnOk result (AreHome 0 lanes.old.items → AreHome 0 lanes.new.items) }
 {
     lanes[lane_number(grant.slot, grant.channel)].hold(grant)
@@ -78,7 +78,7 @@ fn add_cells(lanes: &mut Vec<Lane>, cells: &[Sending]) -> Result<(), NoMemory>
     ensures cells { OnOk result (IsPermutation (drawn_cells lanes.new.items) (drawn_cells lanes.old.items ++ cells.now)) }
     ensures grants { OnOk result (drawn_grants lanes.new.items ≡ drawn_grants lanes.old.items) }
     ensures apart { OnOk result (All IsApart lanes.old.items → All IsApart lanes.new.items) }
-    ensures at { OnOk result ((shift : ℕ) (columns : List Place) → AreAt shift columns lanes.old.items → AreAt shift columns lanes.new.items) }
+    ensures at { OnOk result ((channels : Channels) (shift : ℕ) (columns : List Place) → AreAt channels shift columns lanes.old.items → AreAt channels shift columns lanes.new.items) }
     ensures home { OnOk result (AreHome 0 lanes.old.items → AreHome 0 lanes.new.items) }
 {
     for cell in cells {
@@ -95,7 +95,7 @@ fn add_cell(lanes: &mut Vec<Lane>, cell: &Sending) -> Result<(), NoMemory>
     ensures cells { OnOk result (IsPermutation (drawn_cells lanes.new.items) (drawn_cells lanes.old.items ++ cell.now ∷ [])) }
     ensures grants { OnOk result (drawn_grants lanes.new.items ≡ drawn_grants lanes.old.items) }
     ensures apart { OnOk result (All IsApart lanes.old.items → All IsApart lanes.new.items) }
-    ensures at { OnOk result ((shift : ℕ) (columns : List Place) → AreAt shift columns lanes.old.items → AreAt shift columns lanes.new.items) }
+    ensures at { OnOk result ((channels : Channels) (shift : ℕ) (columns : List Place) → AreAt channels shift columns lanes.old.items → AreAt channels shift columns lanes.new.items) }
     ensures home { OnOk result (AreHome 0 lanes.old.items → AreHome 0 lanes.new.items) }
 {
     lanes[lane_number(cell.slot, cell.channel)].add(cell)

@@ -3,7 +3,7 @@ ghost use Rattle.std.specs.Prelude.{◌≡◌, List, ◌<◌, ◌≤◌, ◌++�
 ghost use Rattle.std.specs.List.{All};
 ghost use Rattle.std.specs.Vec.{vec_len};
 ghost use Rattle.fr_drawing.specs.Lanes.{IsApart, drawn_cells, drawn_grants, lane_cells};
-ghost use Rattle.fr_drawing.specs.Places.{AreAt, AreHome, lane_of};
+ghost use Rattle.fr_drawing.specs.Places.{AreAt, AreHome, lane_of, shown_on};
 ghost use Rattle.fr_drawing.specs.Rectangles.{AreApart, cells_in};
 
 use crate::columns::Place;
@@ -89,7 +89,9 @@ fn add_cell(rectangles: &mut Vec<Rectangle>, cell: &Sending) -> Result<(), NoMem
 }
 
 // What is shown in the lane of a channel, where the cluster has it.
-fn shown_on(channels: Channels, channel: Channel, shows: Shows) -> Shows {
+fn shown_on(channels: Channels, channel: Channel, shows: Shows) -> Shows
+    ensures { result ≡ shown_on channels channel shows }
+{
     if channels.has(channel) {
         shows
     } else {
@@ -112,7 +114,7 @@ pub(crate) fn empty_lanes(
     ensures cells { IfOk result (λ lanes. drawn_cells lanes.items ≡ []) }
     ensures apart { IfOk result (λ lanes. All IsApart lanes.items) }
     ensures home { IfOk result (λ lanes. AreHome 0 lanes.items) }
-    ensures at { IfOk result (λ lanes. AreAt shift columns.now lanes.items) }
+    ensures at { IfOk result (λ lanes. AreAt channels shift columns.now lanes.items) }
 {
     let mut lanes = Vec::new(alloc);
     for column in columns {
@@ -136,7 +138,7 @@ fn push_column(
     ensures cells { OnOk result (drawn_cells lanes.new.items ≡ drawn_cells lanes.old.items) }
     ensures apart { OnOk result (All IsApart lanes.old.items → All IsApart lanes.new.items) }
     ensures home { OnOk result (AreHome 0 lanes.old.items → AreHome 0 lanes.new.items) }
-    ensures at { OnOk result ((columns : List Place) → AreAt shift columns lanes.old.items → AreAt shift (columns ++ column.now ∷ []) lanes.new.items) }
+    ensures at { OnOk result ((columns : List Place) → AreAt channels shift columns lanes.old.items → AreAt channels shift (columns ++ column.now ∷ []) lanes.new.items) }
 {
     let a = Place {
         shows: shown_on(channels, Channel::A, column.shows),

@@ -30,7 +30,7 @@ number_more f n old front new before after =
 
 -- what is known of a page, for the plan's own rows
 pub page_of : (plan : Plan) (drawing : Drawing) (shares listed : List Share) (holds : List GrantRow) (cells : List Sending) (frames : List DrawnFrame) (names known : List Name) (count : ℕ) (text : List ℕ)
-    → holds ≡ plan.grants → cells ≡ plan.cells → frames ≡ plan.frames.items → IsDrawing holds cells drawing.lanes.items → names ≡ suppliers_of frames holds
+    → holds ≡ plan.grants → cells ≡ plan.cells → frames ≡ plan.frames.items → IsDrawing plan.params holds cells drawing → names ≡ suppliers_of frames holds
     → known ≡ names → count ≡ plan.params.cycles → shares ≡ map (share_of known count holds cells) known → listed ≡ shares
     → text ≡ page_text plan drawing known listed → IsPage plan text
 page_of plan drawing shares listed holds cells frames names known count text e1 e2 e3 drawn e4 e5 e6 e7 e8 e9 =
@@ -40,6 +40,6 @@ page_of plan drawing shares listed holds cells frames names known count text e1 
     ∙ ap (λ cs. map (share_of known plan.params.cycles plan.grants cs) known) e2 ∙ ap (λ ns. map (share_of ns plan.params.cycles plan.grants plan.cells) ns) own in
     record {
       drawing = drawing;
-      drawn = subst (λ cs. IsDrawing plan.grants cs drawing.lanes.items) e2 (subst (λ gs. IsDrawing gs cells drawing.lanes.items) e1 drawn);
+      drawn = subst (λ cs. IsDrawing plan.params plan.grants cs drawing) e2 (subst (λ gs. IsDrawing plan.params gs cells drawing) e1 drawn);
       is = e9 ∙ ap (λ ns. page_text plan drawing ns listed) own ∙ ap (λ ss. page_text plan drawing (names_of plan) ss) full;
     }

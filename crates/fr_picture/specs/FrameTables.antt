@@ -29,7 +29,7 @@ names_text frame node supplier =
 -- slot, channels, base and repetition
 unfoldable pub placement_text_of : ℕ → List ℕ → ℕ → ℕ → List ℕ
 placement_text_of slot channels base repetition =
-    together (decimal slot ∷ codes " " ∷ channels ∷ codes " " ∷ decimal base ∷ codes "/" ∷ decimal repetition ∷ codes "<br>" ∷ [])
+    together (decimal slot ∷ codes " " ∷ channels ∷ codes " " ∷ decimal base ∷ codes "/" ∷ decimal repetition ∷ codes "\n" ∷ [])
 
 unfoldable pub placement_text : Placement → List ℕ
 placement_text q = placement_text_of q.slot (text_of_channels q.channels) q.cycles.base q.cycles.repetition
@@ -38,7 +38,7 @@ unfoldable pub placements_text : List Placement → List ℕ
 placements_text placements = flat_map placement_text placements
 
 unfoldable pub number_text : ℕ → List ℕ
-number_text n = together (codes "<td>" ∷ decimal n ∷ codes " " ∷ [])
+number_text n = together (codes "<td>" ∷ decimal n ∷ [])
 
 -- a greatest gap, or that the frame is never sent
 unfoldable pub gap_word : Option ℕ → List ℕ

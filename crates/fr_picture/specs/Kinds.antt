@@ -1,6 +1,6 @@
 -- Kind: the rectangles of one frame in a lane. Whether they are just the cells of a base and a repetition. Their text:
 -- one shape, with frame, node, supplier, slot, channel and cycles as its title.
-use Rattle.std.specs.Prelude.{ℕ, ◌+◌, ◌-◌, ◌*◌, ◌/◌, ◌%◌, ◌==◌, ◌&&◌, nat_lt, max, length, Bool, true, List, [], ◌∷◌, ◌++◌, filter, codes, decimal, Option, Some, None, if◌then◌else◌}
+use Rattle.std.specs.Prelude.{ℕ, ◌+◌, ◌-◌, ◌*◌, ◌/◌, ◌==◌, ◌&&◌, nat_lt, max, length, Bool, true, List, [], ◌∷◌, ◌++◌, filter, codes, decimal, Option, Some, None, if◌then◌else◌}
 use Rattle.std.specs.List.{flat_map, list_any}
 use Rattle.fr_base.specs.Channels.{text_of_channel}
 use Rattle.fr_base.specs.Names.{same_text}
@@ -8,8 +8,7 @@ use Rattle.fr_base.specs.declared.answer.Sending.{Sending}
 use Rattle.fr_base.specs.declared.name.Name.{Name}
 use Rattle.fr_drawing.specs.declared.columns.Scale.{Scale}
 use Rattle.fr_drawing.specs.declared.rectangle.Rectangle.{Rectangle}
-use Rattle.fr_picture.specs.declared.texts.Fixed.TheVariants.{QuoteEnd, PathEnd, UseEnd}
-use Rattle.fr_picture.specs.Shares.{number_of}
+use Rattle.fr_picture.specs.declared.texts.Fixed.TheVariants.{CyclesStart, PathStart, QuoteEnd, PathEnd, UseEnd}
 use Rattle.fr_picture.specs.Texts.{together, fixed_text}
 
 -- of the same frame
@@ -44,17 +43,17 @@ set_of cycles base kind =
 -- ---- their text
 
 -- a rectangle as part of a path
-unfoldable pub box_text : ℕ → ℕ → ℕ → ℕ → List ℕ
-box_text x y width height =
-    together (codes "M" ∷ decimal x ∷ codes " " ∷ decimal y ∷ codes "h" ∷ decimal width ∷ codes "v" ∷ decimal height ∷ codes "h-" ∷ decimal width ∷ codes "z" ∷ [])
+unfoldable pub box_text : ℕ → ℕ → ℕ → List ℕ
+box_text y width height =
+    together (codes "M0 " ∷ decimal y ∷ codes "h" ∷ decimal width ∷ codes "v" ∷ decimal height ∷ codes "h-" ∷ decimal width ∷ codes "z" ∷ [])
 
-unfoldable pub boxes_text : ℕ → ℕ → List Rectangle → List ℕ
-boxes_text x width kind = flat_map (λ r. box_text x r.first.cycle width r.cycles) kind
+unfoldable pub boxes_text : ℕ → List Rectangle → List ℕ
+boxes_text width kind = flat_map (λ r. box_text r.first.cycle width r.cycles) kind
 
--- a title begins: frame, node, supplier, slot and channel
+-- a title begins: frame; node and supplier; slot and channel
 unfoldable pub names_text_of : Name → Name → Name → ℕ → List ℕ → List ℕ
 names_text_of frame node supplier slot channel =
-    together (codes "<title>" ∷ frame ∷ codes ", " ∷ node ∷ codes " of " ∷ supplier ∷ codes ", slot " ∷ decimal slot ∷ codes " " ∷ channel ∷ codes ", cycles" ∷ [])
+    together (codes "<title>" ∷ frame ∷ codes "\n" ∷ node ∷ codes " of " ∷ supplier ∷ codes "\n" ∷ decimal slot ∷ codes " " ∷ channel ∷ [])
 
 unfoldable pub names_text : Sending → List ℕ
 names_text s = names_text_of s.frame s.node s.supplier s.slot (text_of_channel s.channel)
@@ -72,44 +71,39 @@ span_text cycle count =
 unfoldable pub spans_text : List Rectangle → List ℕ
 spans_text kind = flat_map (λ r. span_text r.first.cycle r.cycles) kind
 
--- the shape of a repetition, in this colour, from x on and by the base further down
-unfoldable pub set_start : ℕ → ℕ → ℕ → ℕ → List ℕ
-set_start colour repetition x base =
-    together (codes "<use class=c" ∷ decimal colour ∷ codes " href=#r" ∷ decimal repetition ∷ codes " x=" ∷ decimal x ∷ codes " y=" ∷ decimal base ∷ codes ">" ∷ [])
+-- the shape of a repetition, by the base further down
+unfoldable pub set_start : ℕ → ℕ → List ℕ
+set_start repetition base =
+    if base == 0 then together (codes "<use href=#" ∷ decimal repetition ∷ codes ">" ∷ [])
+    else together (codes "<use href=#" ∷ decimal repetition ∷ codes " y=" ∷ decimal base ∷ codes ">" ∷ [])
 
-unfoldable pub set_text : ℕ → ℕ → ℕ → Rectangle → List ℕ
-set_text number repetition x r =
-    set_start (number % 8) repetition x r.first.cycle ++ names_text r.first ++ within_text r.first.cycle repetition ++ fixed_text UseEnd
+unfoldable pub set_text : ℕ → Rectangle → List ℕ
+set_text repetition r = set_start repetition r.first.cycle ++ names_text r.first ++ within_text r.first.cycle repetition ++ fixed_text UseEnd
 
-unfoldable pub path_start : ℕ → List ℕ
-path_start colour = together (codes "<path class=c" ∷ decimal colour ∷ codes " d=\"" ∷ [])
-
-unfoldable pub path_text : ℕ → ℕ → ℕ → List Rectangle → Rectangle → List ℕ
-path_text number x width kind r =
-    path_start (number % 8) ++ boxes_text x width kind ++ fixed_text QuoteEnd ++ names_text r.first ++ spans_text kind ++ fixed_text PathEnd
+unfoldable pub path_text : ℕ → List Rectangle → Rectangle → List ℕ
+path_text width kind r =
+    fixed_text PathStart ++ boxes_text width kind ++ fixed_text QuoteEnd ++ names_text r.first ++ fixed_text CyclesStart ++ spans_text kind ++ fixed_text PathEnd
 
 -- the frame's name, across or down, where there is room for it
-unfoldable pub label_text : ℕ → ℕ → Rectangle → List ℕ
-label_text x width r =
+unfoldable pub label_text : ℕ → Rectangle → List ℕ
+label_text width r =
     if nat_lt (length r.first.frame) (2 * width)
-    then together (codes "<text x=" ∷ decimal x ∷ codes " y=" ∷ decimal r.first.cycle ∷ codes ">" ∷ r.first.frame ∷ codes "</text>\n" ∷ [])
+    then together (codes "<text y=" ∷ decimal r.first.cycle ∷ codes ">" ∷ r.first.frame ∷ codes "</text>" ∷ [])
     else if nat_lt (length r.first.frame) (2 * r.cycles)
-    then together (codes "<text class=v x=" ∷ decimal x ∷ codes " y=" ∷ decimal r.first.cycle ∷ codes ">" ∷ r.first.frame ∷ codes "</text>\n" ∷ [])
-    else codes "\n"
+    then together (codes "<text class=v y=" ∷ decimal r.first.cycle ∷ codes ">" ∷ r.first.frame ∷ codes "</text>" ∷ [])
+    else []
 
-unfoldable pub kind_shape : ℕ → ℕ → ℕ → List Rectangle → Rectangle → Option ℕ → List ℕ
-kind_shape number x width kind r (Some repetition) = set_text number repetition x r
-kind_shape number x width kind r None = path_text number x width kind r
+unfoldable pub kind_shape : ℕ → List Rectangle → Rectangle → Option ℕ → List ℕ
+kind_shape width kind r (Some repetition) = set_text repetition r
+kind_shape width kind r None = path_text width kind r
 
 -- the rectangles of one frame, of which r is the first
-unfoldable pub kind_text : ℕ → Scale → ℕ → List Rectangle → Rectangle → List ℕ
-kind_text number scale x kind r =
-    kind_shape number x scale.width kind r (set_of scale.cycles r.first.cycle kind) ++ label_text x scale.width r
+unfoldable pub kind_text : Scale → List Rectangle → Rectangle → List ℕ
+kind_text scale kind r = kind_shape scale.width kind r (set_of scale.cycles r.first.cycle kind) ++ label_text scale.width r
 
 -- all rectangles of the frame, where r is the first of them
-unfoldable pub rectangle_text : List Name → Scale → ℕ → List Rectangle → Rectangle → List ℕ
-rectangle_text names scale x all r =
-    if is_again all r then [] else kind_text (number_of names r.first.supplier) scale x (filter (λ other. is_kin other r) all) r
+unfoldable pub rectangle_text : Scale → List Rectangle → Rectangle → List ℕ
+rectangle_text scale all r = if is_again all r then [] else kind_text scale (filter (λ other. is_kin other r) all) r
 
-unfoldable pub rectangles_text : List Name → Scale → ℕ → List Rectangle → List ℕ
-rectangles_text names scale x all = flat_map (rectangle_text names scale x all) all
+unfoldable pub rectangles_text : Scale → List Rectangle → List ℕ
+rectangles_text scale all = flat_map (rectangle_text scale all) all

@@ -40,7 +40,9 @@ state_text released = if released then codes " and is released." else codes " an
 
 unfoldable pub viewer_text : Option Name → List ℕ
 viewer_text None = []
-viewer_text (Some supplier) = together (codes " This page shows what is " ∷ supplier ∷ codes "'s alone." ∷ [])
+viewer_text (Some supplier) =
+    together (codes " This page shows what is " ∷ supplier
+    ∷ codes "'s alone. Where it says that nobody holds a slot, another supplier may hold it." ∷ [])
 
 unfoldable pub cycle_figures : List ℕ → RawParams → List ℕ
 cycle_figures names p =
@@ -103,5 +105,5 @@ shares_of plan = map (share_of (names_of plan) plan.params.cycles plan.grants pl
 -- The page of a plan: the text of a drawing that has exactly its grants and its cells, and of each of its suppliers and frames.
 pub record IsPage (plan : Plan) (text : List ℕ) : Type 0 where
   pub drawing : Drawing
-  pub drawn : IsDrawing plan.grants plan.cells drawing.lanes.items
+  pub drawn : IsDrawing plan.params plan.grants plan.cells drawing
   pub is : text ≡ page_text plan drawing (names_of plan) (shares_of plan)

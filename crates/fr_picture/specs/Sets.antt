@@ -24,16 +24,16 @@ unfoldable pub held_text : Scale → List ℕ
 held_text scale = hatches_text scale.width scale.cycles ++ fixed_text HeldEnd
 
 unfoldable pub set_start : ℕ → List ℕ
-set_start repetition = together (codes "<path id=r" ∷ decimal repetition ∷ codes " d=\"" ∷ [])
+set_start repetition = together (codes "<path id=" ∷ decimal repetition ∷ codes " d=\"" ∷ [])
 
 -- so many cells, one each repetition
 unfoldable pub repeated_text : ℕ → ℕ → ℕ → List ℕ
-repeated_text width repetition count = flat_map (λ k. box_text 0 (k * repetition) width 1) (range_with_len 0 count)
+repeated_text width repetition count = flat_map (λ k. box_text (k * repetition) width 1) (range_with_len 0 count)
 
 -- the cells of base 0 and this repetition: where it is 1, one rectangle of all cycles
 unfoldable pub rows_text : Scale → ℕ → List ℕ
 rows_text scale repetition =
-    if repetition == 1 then box_text 0 0 scale.width scale.cycles else repeated_text scale.width repetition (scale.cycles / repetition)
+    if repetition == 1 then box_text 0 scale.width scale.cycles else repeated_text scale.width repetition (scale.cycles / repetition)
 
 -- the shape of the repetition that is one greater, if it divides the count of cycles
 unfoldable pub set_path : Scale → ℕ → List ℕ

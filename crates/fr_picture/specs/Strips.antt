@@ -7,7 +7,7 @@ use Rattle.fr_base.specs.declared.signal.Order.{Order}
 use Rattle.fr_base.specs.declared.signal.Order.TheVariants.{Little, Big}
 use Rattle.fr_picture.specs.declared.signals.DrawnSignal.{DrawnSignal}
 use Rattle.fr_picture.specs.declared.signals.Run.{Run}
-use Rattle.fr_picture.specs.declared.texts.Fixed.TheVariants.{StripStart, StripEnd}
+use Rattle.fr_picture.specs.declared.texts.Fixed.TheVariants.{StripStart, StripEnd, NoStrip}
 use Rattle.fr_picture.specs.Texts.{together, fixed_text}
 
 -- the payload bits of runs
@@ -21,7 +21,7 @@ abbrev pub row_of : Bool → ℕ
 row_of upper = if upper then 3 else 9
 
 unfoldable pub run_text : ℕ → ℕ → ℕ → List ℕ
-run_text row start count = together (codes "M" ∷ decimal start ∷ codes " " ∷ decimal row ∷ codes "h" ∷ decimal count ∷ [])
+run_text row start count = together (codes "M" ∷ decimal start ∷ codes "," ∷ decimal row ∷ codes "h" ∷ decimal count ∷ [])
 
 unfoldable pub runs_text : ℕ → List Run → List ℕ
 runs_text row runs = flat_map (λ r. run_text row r.start r.length) runs
@@ -40,4 +40,5 @@ unfoldable pub signals_text : List DrawnSignal → List ℕ
 signals_text signals = flat_map (λ s. signal_text s.signal.name s.signal.start s.signal.length s.signal.order) signals
 
 unfoldable pub strip_text : List DrawnSignal → List ℕ
-strip_text signals = fixed_text StripStart ++ bars_text true signals ++ fixed_text StripEnd ++ signals_text signals
+strip_text [] = fixed_text NoStrip
+strip_text (s ∷ signals) = fixed_text StripStart ++ bars_text true (s ∷ signals) ++ fixed_text StripEnd ++ signals_text (s ∷ signals)

@@ -100,7 +100,7 @@ fn push_placement_of(
 ) -> Result<(), NoMemory>
     ensures { OnOk result (string_bytes out.new ≡ string_bytes out.old ++ placement_text_of slot channels.now base repetition) }
 {
-    write!(out, "{slot} {channels} {base}/{repetition}<br>")
+    write!(out, "{slot} {channels} {base}/{repetition}\n")
 }
 
 #[tactic(auto, unfolding(crate::specs::FrameTables::gap_word))]
@@ -117,5 +117,5 @@ fn push_gap(gap: Option<u32>, out: &mut String) -> Result<(), NoMemory>
 fn push_number(number: u32, out: &mut String) -> Result<(), NoMemory>
     ensures { OnOk result (string_bytes out.new ≡ string_bytes out.old ++ number_text number) }
 {
-    write!(out, "<td>{number} ")
+    write!(out, "<td>{number}")
 }

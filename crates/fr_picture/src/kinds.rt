@@ -2,9 +2,8 @@
 ghost use Rattle.std.specs.Prelude.{◌≡◌, ◌+◌, ◌*◌, ◌/◌, ◌<◌, ◌++◌, ◌&&◌, nat_lt, filter, max, length, OnOk, IfOk};
 ghost use Rattle.std.specs.List.{list_any};
 ghost use Rattle.std.specs.String.{string_bytes};
-ghost use Rattle.fr_picture.specs.Kinds.{box_text, boxes_text, follows, is_again, is_kin, is_set, is_whole, kind_shape, kind_text, label_text, names_text, names_text_of, path_start, path_text, rectangle_text, rectangles_text, set_of, set_start, set_text, span_text, spans_text, within_text};
+ghost use Rattle.fr_picture.specs.Kinds.{box_text, boxes_text, follows, is_again, is_kin, is_set, is_whole, kind_shape, kind_text, label_text, names_text, names_text_of, path_text, rectangle_text, rectangles_text, set_of, set_start, set_text, span_text, spans_text, within_text};
 
-use crate::shares::number_of;
 use crate::texts::{Fixed, push_fixed};
 use fr_base::{Name, NoMemory, Sending};
 use fr_drawing::{Rectangle, Scale};
@@ -76,20 +75,18 @@ fn set_of(cycles: u32, base: u8, kind: &[Rectangle]) -> Option<u32>
     None
 }
 
-/// Appends the rectangles of a lane, those of one frame together: from where on across, and how large.
+/// Appends the rectangles of a lane, those of one frame together.
 #[tactic(auto, unfolding(crate::specs::Kinds::rectangles_text))]
 pub(crate) fn push_rectangles(
     alloc: Global,
-    names: &[Name],
     scale: Scale,
-    x: u32,
     all: &[Rectangle],
     out: &mut String,
 ) -> Result<(), NoMemory>
-    ensures { OnOk result (string_bytes out.new ≡ string_bytes out.old ++ rectangles_text names.now scale x all.now) }
+    ensures { OnOk result (string_bytes out.new ≡ string_bytes out.old ++ rectangles_text scale all.now) }
 {
     for one in all {
-        push_rectangle(alloc, names, scale, x, all, one, out)?;
+        push_rectangle(alloc, scale, all, one, out)?;
     }
     Ok(())
 }
@@ -98,96 +95,72 @@ pub(crate) fn push_rectangles(
 #[tactic(auto, unfolding(crate::specs::Kinds::rectangle_text))]
 fn push_rectangle(
     alloc: Global,
-    names: &[Name],
     scale: Scale,
-    x: u32,
     all: &[Rectangle],
     one: &Rectangle,
     out: &mut String,
 ) -> Result<(), NoMemory>
-    ensures { OnOk result (string_bytes out.new ≡ string_bytes out.old ++ rectangle_text names.now scale x all.now one.now) }
+    ensures { OnOk result (string_bytes out.new ≡ string_bytes out.old ++ rectangle_text scale all.now one.now) }
 {
     if is_again(all, one) {
         return Ok(());
     }
     let kind = kin(alloc, all, one)?;
-    push_kind(
-        number_of(names, one.first.supplier),
-        scale,
-        x,
-        kind.as_slice(),
-        one,
-        out,
-    )
+    push_kind(scale, kind.as_slice(), one, out)
 }
 
-// Appends the rectangles of one frame, of which this is the first, in the colour of the supplier of this number.
+// Appends the rectangles of one frame, of which this is the first.
 #[tactic(auto, unfolding(crate::specs::Kinds::kind_text))]
 fn push_kind(
-    number: usize,
     scale: Scale,
-    x: u32,
     kind: &[Rectangle],
     one: &Rectangle,
     out: &mut String,
 ) -> Result<(), NoMemory>
-    ensures { OnOk result (string_bytes out.new ≡ string_bytes out.old ++ kind_text number scale x kind.now one.now) }
+    ensures { OnOk result (string_bytes out.new ≡ string_bytes out.old ++ kind_text scale kind.now one.now) }
 {
     let repetition = set_of(scale.cycles, one.first.cycle, kind);
-    push_shape(number, x, scale.width, kind, one, repetition, out)?;
-    push_label(x, scale.width, one, out)
+    push_shape(scale.width, kind, one, repetition, out)?;
+    push_label(scale.width, one, out)
 }
 
 #[tactic(auto, unfolding(crate::specs::Kinds::kind_shape))]
 fn push_shape(
-    number: usize,
-    x: u32,
     width: u32,
     kind: &[Rectangle],
     one: &Rectangle,
     repetition: Option<u32>,
     out: &mut String,
 ) -> Result<(), NoMemory>
-    ensures { OnOk result (string_bytes out.new ≡ string_bytes out.old ++ kind_shape number x width kind.now one.now repetition) }
+    ensures { OnOk result (string_bytes out.new ≡ string_bytes out.old ++ kind_shape width kind.now one.now repetition) }
 {
     match repetition {
-        Some(repetition) => push_set(number, repetition, x, one, out),
-        None => push_path(number, x, width, kind, one, out),
+        Some(repetition) => push_set(repetition, one, out),
+        None => push_path(width, kind, one, out),
     }
 }
 
 // Appends the cells of a base and a repetition, which are drawn elsewhere in the page.
 #[tactic(auto, unfolding(crate::specs::Kinds::set_text))]
-fn push_set(
-    number: usize,
-    repetition: u32,
-    x: u32,
-    one: &Rectangle,
-    out: &mut String,
-) -> Result<(), NoMemory>
-    ensures { OnOk result (string_bytes out.new ≡ string_bytes out.old ++ set_text number repetition x one.now) }
+fn push_set(repetition: u32, one: &Rectangle, out: &mut String) -> Result<(), NoMemory>
+    ensures { OnOk result (string_bytes out.new ≡ string_bytes out.old ++ set_text repetition one.now) }
 {
     let base = one.first.cycle;
-    push_set_start(number % 8, repetition, x, base, out)?;
+    push_set_start(repetition, base, out)?;
     push_names(&one.first, out)?;
     push_within(base, repetition, out)?;
     push_fixed(Fixed::UseEnd, out)
 }
 
 #[tactic(auto, unfolding(crate::specs::Kinds::set_start))]
-fn push_set_start(
-    colour: usize,
-    repetition: u32,
-    x: u32,
-    base: u8,
-    out: &mut String,
-) -> Result<(), NoMemory>
-    ensures { OnOk result (string_bytes out.new ≡ string_bytes out.old ++ set_start colour repetition x base) }
+fn push_set_start(repetition: u32, base: u8, out: &mut String) -> Result<(), NoMemory>
+    ensures { OnOk result (string_bytes out.new ≡ string_bytes out.old ++ set_start repetition base) }
 {
-    write!(
-        out,
-        "<use class=c{colour} href=#r{repetition} x={x} y={base}>"
-    )
+    if base == 0 {
+        write!(out, "<use href=#{repetition}>")
+    } else {
+        write!(out, "<use href=#{repetition} y={base}>")
+    }
 }
 
 #[tactic(auto, unfolding(crate::specs::Kinds::within_text))]
@@ -225,59 +198,45 @@ fn push_names_of(
 {
     write!(
         out,
-        "<title>{frame}, {node} of {supplier}, slot {slot} {channel}, cycles"
+        "<title>{frame}\n{node} of {supplier}\n{slot} {channel}"
     )
 }
 
 // Appends rectangles of one frame as one path.
 #[tactic(auto, unfolding(crate::specs::Kinds::path_text))]
 fn push_path(
-    number: usize,
-    x: u32,
     width: u32,
     kind: &[Rectangle],
     one: &Rectangle,
     out: &mut String,
 ) -> Result<(), NoMemory>
-    ensures { OnOk result (string_bytes out.new ≡ string_bytes out.old ++ path_text number x width kind.now one.now) }
+    ensures { OnOk result (string_bytes out.new ≡ string_bytes out.old ++ path_text width kind.now one.now) }
 {
-    push_path_start(number % 8, out)?;
-    push_boxes(x, width, kind, out)?;
+    push_fixed(Fixed::PathStart, out)?;
+    push_boxes(width, kind, out)?;
     push_fixed(Fixed::QuoteEnd, out)?;
     push_names(&one.first, out)?;
+    push_fixed(Fixed::CyclesStart, out)?;
     push_spans(kind, out)?;
     push_fixed(Fixed::PathEnd, out)
 }
 
-#[tactic(auto, unfolding(crate::specs::Kinds::path_start))]
-fn push_path_start(colour: usize, out: &mut String) -> Result<(), NoMemory>
-    ensures { OnOk result (string_bytes out.new ≡ string_bytes out.old ++ path_start colour) }
-{
-    write!(out, "<path class=c{colour} d=\"")
-}
-
 #[tactic(auto, unfolding(crate::specs::Kinds::boxes_text))]
-fn push_boxes(x: u32, width: u32, kind: &[Rectangle], out: &mut String) -> Result<(), NoMemory>
-    ensures { OnOk result (string_bytes out.new ≡ string_bytes out.old ++ boxes_text x width kind.now) }
+fn push_boxes(width: u32, kind: &[Rectangle], out: &mut String) -> Result<(), NoMemory>
+    ensures { OnOk result (string_bytes out.new ≡ string_bytes out.old ++ boxes_text width kind.now) }
 {
     for one in kind {
-        push_box(x, u32::from(one.first.cycle), width, one.cycles, out)?;
+        push_box(u32::from(one.first.cycle), width, one.cycles, out)?;
     }
     Ok(())
 }
 
-/// Appends a rectangle as part of a path: from where on, how wide and how high.
+/// Appends a rectangle as part of a path: in which cycle it begins, how wide and how high it is.
 #[tactic(auto, unfolding(crate::specs::Kinds::box_text))]
-pub(crate) fn push_box(
-    x: u32,
-    y: u32,
-    width: u32,
-    height: u32,
-    out: &mut String,
-) -> Result<(), NoMemory>
-    ensures { OnOk result (string_bytes out.new ≡ string_bytes out.old ++ box_text x y width height) }
+pub(crate) fn push_box(y: u32, width: u32, height: u32, out: &mut String) -> Result<(), NoMemory>
+    ensures { OnOk result (string_bytes out.new ≡ string_bytes out.old ++ box_text y width height) }
 {
-    write!(out, "M{x} {y}h{width}v{height}h-{width}z")
+    write!(out, "M0 {y}h{width}v{height}h-{width}z")
 }
 
 // Appends the cycles of rectangles: the first ones, and the last ones where there are more.
@@ -307,17 +266,17 @@ fn push_span(cycle: u64, cycles: u64, out: &mut String) -> Result<(), NoMemory>
 
 // Appends the frame's name in its first rectangle, across where there is room for it, else down.
 #[tactic(auto, unfolding(crate::specs::Kinds::label_text))]
-fn push_label(x: u32, width: u32, one: &Rectangle, out: &mut String) -> Result<(), NoMemory>
-    ensures { OnOk result (string_bytes out.new ≡ string_bytes out.old ++ label_text x width one.now) }
+fn push_label(width: u32, one: &Rectangle, out: &mut String) -> Result<(), NoMemory>
+    ensures { OnOk result (string_bytes out.new ≡ string_bytes out.old ++ label_text width one.now) }
 {
     let frame = one.first.frame;
     let cycle = one.first.cycle;
     let length = frame.as_str().len() as u64;
     if length < 2 * u64::from(width) {
-        write!(out, "<text x={x} y={cycle}>{frame}</text>\n")
+        write!(out, "<text y={cycle}>{frame}</text>")
     } else if length < 2 * u64::from(one.cycles) {
-        write!(out, "<text class=v x={x} y={cycle}>{frame}</text>\n")
+        write!(out, "<text class=v y={cycle}>{frame}</text>")
     } else {
-        write!(out, "\n")
+        Ok(())
     }
 }

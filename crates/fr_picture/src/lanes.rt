@@ -1,13 +1,13 @@
 //! The text of lanes.
 ghost use Rattle.std.specs.Prelude.{◌≡◌, ◌++◌, OnOk};
 ghost use Rattle.std.specs.String.{string_bytes};
-ghost use Rattle.fr_picture.specs.LaneTexts.{alone_text, free_text, grant_text, grants_text, holder_text, lane_text, lanes_text, opens_text, over_text, part_text, run_text, shows_text, ungranted_text, unheld_text};
+ghost use Rattle.fr_picture.specs.LaneTexts.{colour_of, drawn_text, free_text, grant_text, grants_text, holder_text, is_bare, lane_text, lanes_text, opens_text, part_text, shows_text, start_text, ungranted_text, unheld_text};
 
 use crate::kinds::push_rectangles;
 use crate::shares::{number_of, push_mark};
 use crate::texts::{Fixed, push_fixed};
 use fr_base::{GrantRow, Name, NoMemory};
-use fr_drawing::{Lane, Place, Scale, Shows};
+use fr_drawing::{Lane, Place, Rectangle, Scale, Shows};
 use std::alloc::Global;
 
 /// Appends the lanes, one after the other, with the suppliers' numbers as these names are in order.
@@ -37,12 +37,64 @@ fn push_lane(
 ) -> Result<(), NoMemory>
     ensures { OnOk result (string_bytes out.new ≡ string_bytes out.old ++ lane_text names.now scale lane.now) }
 {
-    let x = lane.place.x;
     push_opens(lane.place.opens, scale.height, out)?;
-    push_shows(x, lane.place.shows, out)?;
-    push_ungranted(lane.place, lane.grants.as_slice(), out)?;
-    push_grants(names, x, lane.grants.as_slice(), out)?;
-    push_rectangles(alloc, names, scale, x, lane.rectangles.as_slice(), out)
+    let grants = lane.grants.as_slice();
+    let rectangles = lane.rectangles.as_slice();
+    if is_bare(lane.place.shows, grants, rectangles) {
+        return Ok(());
+    }
+    push_drawn(alloc, names, scale, lane.place, grants, rectangles, out)
+}
+
+// Whether there is nothing to draw: the place is inside a gap.
+#[tactic(auto, unfolding(crate::specs::LaneTexts::is_bare))]
+fn is_bare(shows: Shows, grants: &[GrantRow], rectangles: &[Rectangle]) -> bool
+    ensures { result ≡ is_bare shows grants.now rectangles.now }
+{
+    match shows {
+        Shows::Nothing => grants.is_empty() && rectangles.is_empty(),
+        Shows::Slot(_) | Shows::Gap(_, _) => false,
+    }
+}
+
+// Appends what is drawn at a place, in the colour of who holds it.
+#[tactic(auto, unfolding(crate::specs::LaneTexts::drawn_text))]
+fn push_drawn(
+    alloc: Global,
+    names: &[Name],
+    scale: Scale,
+    place: Place,
+    grants: &[GrantRow],
+    rectangles: &[Rectangle],
+    out: &mut String,
+) -> Result<(), NoMemory>
+    ensures { OnOk result (string_bytes out.new ≡ string_bytes out.old ++ drawn_text names.now scale place grants.now rectangles.now) }
+{
+    push_start(colour_of(names, grants), place.x, out)?;
+    push_grants(names, grants, out)?;
+    push_shows(place.shows, out)?;
+    push_ungranted(place.shows, grants, out)?;
+    push_rectangles(alloc, scale, rectangles, out)?;
+    push_fixed(Fixed::LaneEnd, out)
+}
+
+// The colour of the first supplier that holds a lane. Only who holds it sends there.
+#[tactic(auto, unfolding(crate::specs::LaneTexts::colour_of))]
+fn colour_of(names: &[Name], grants: &[GrantRow]) -> usize
+    ensures { result ≡ colour_of names.now grants.now }
+{
+    match grants.first() {
+        Some(grant) => number_of(names, grant.supplier) % 8,
+        None => 0,
+    }
+}
+
+// Appends the beginning of a lane: its colour, and where it stands.
+#[tactic(auto, unfolding(crate::specs::LaneTexts::start_text))]
+fn push_start(colour: usize, x: u32, out: &mut String) -> Result<(), NoMemory>
+    ensures { OnOk result (string_bytes out.new ≡ string_bytes out.old ++ start_text colour x) }
+{
+    write!(out, "<svg class=c{colour} x={x}>")
 }
 
 // Appends the end of a part and the beginning of the next, where one begins.
@@ -69,123 +121,94 @@ fn push_part(height: u32, out: &mut String) -> Result<(), NoMemory>
 
 // Appends the number of a slot, or a gap.
 #[tactic(auto, unfolding(crate::specs::LaneTexts::shows_text))]
-fn push_shows(x: u32, shows: Shows, out: &mut String) -> Result<(), NoMemory>
-    ensures { OnOk result (string_bytes out.new ≡ string_bytes out.old ++ shows_text x shows) }
+fn push_shows(shows: Shows, out: &mut String) -> Result<(), NoMemory>
+    ensures { OnOk result (string_bytes out.new ≡ string_bytes out.old ++ shows_text shows) }
 {
     match shows {
         Shows::Nothing => Ok(()),
-        Shows::Slot(number) => write!(out, "<text x={x} y=-2>{number}</text>\n"),
-        Shows::Gap(first, last) => push_unheld(x, first, last, out),
+        Shows::Slot(number) => write!(out, "<text y=-2>{number}</text>"),
+        Shows::Gap(first, last) => push_unheld(first, last, out),
     }
 }
 
 // Appends a gap, and which slots nobody holds.
 #[tactic(auto, unfolding(crate::specs::LaneTexts::unheld_text))]
-fn push_unheld(x: u32, first: u32, last: u32, out: &mut String) -> Result<(), NoMemory>
-    ensures { OnOk result (string_bytes out.new ≡ string_bytes out.old ++ unheld_text x first last) }
+fn push_unheld(first: u32, last: u32, out: &mut String) -> Result<(), NoMemory>
+    ensures { OnOk result (string_bytes out.new ≡ string_bytes out.old ++ unheld_text first last) }
 {
     if first == last {
-        push_alone(x, first, out)
+        write!(
+            out,
+            "<use href=#gap /><text class=n y=0>nobody holds {first}</text>"
+        )
     } else {
-        push_run(x, first, last, out)
+        write!(
+            out,
+            "<use href=#gap /><text class=n y=0>nobody holds {first} to {last}</text>"
+        )
     }
-}
-
-#[tactic(auto, unfolding(crate::specs::LaneTexts::alone_text))]
-fn push_alone(x: u32, slot: u32, out: &mut String) -> Result<(), NoMemory>
-    ensures { OnOk result (string_bytes out.new ≡ string_bytes out.old ++ alone_text x slot) }
-{
-    write!(
-        out,
-        "<use href=#gap x={x} /><text class=v x={x} y=0>nobody holds {slot}</text>\n"
-    )
-}
-
-#[tactic(auto, unfolding(crate::specs::LaneTexts::run_text))]
-fn push_run(x: u32, first: u32, last: u32, out: &mut String) -> Result<(), NoMemory>
-    ensures { OnOk result (string_bytes out.new ≡ string_bytes out.old ++ run_text x first last) }
-{
-    write!(
-        out,
-        "<use href=#gap x={x} /><text class=v x={x} y=0>nobody holds {first} to {last}</text>\n"
-    )
 }
 
 // Appends a lane of a slot that is shown, if nobody holds it on this channel.
 #[tactic(auto, unfolding(crate::specs::LaneTexts::ungranted_text))]
-fn push_ungranted(place: Place, grants: &[GrantRow], out: &mut String) -> Result<(), NoMemory>
-    ensures { OnOk result (string_bytes out.new ≡ string_bytes out.old ++ ungranted_text place grants.now) }
+fn push_ungranted(shows: Shows, grants: &[GrantRow], out: &mut String) -> Result<(), NoMemory>
+    ensures { OnOk result (string_bytes out.new ≡ string_bytes out.old ++ ungranted_text shows grants.now) }
 {
     if grants.is_empty() {
-        push_free(place.x, place.shows, out)
+        push_free(shows, out)
     } else {
         Ok(())
     }
 }
 
 #[tactic(auto, unfolding(crate::specs::LaneTexts::free_text))]
-fn push_free(x: u32, shows: Shows, out: &mut String) -> Result<(), NoMemory>
-    ensures { OnOk result (string_bytes out.new ≡ string_bytes out.old ++ free_text x shows) }
+fn push_free(shows: Shows, out: &mut String) -> Result<(), NoMemory>
+    ensures { OnOk result (string_bytes out.new ≡ string_bytes out.old ++ free_text shows) }
 {
     match shows {
-        Shows::Slot(_) => write!(out, "<use href=#free x={x} />\n"),
+        Shows::Slot(_) => push_fixed(Fixed::Free, out),
         Shows::Nothing | Shows::Gap(_, _) => Ok(()),
     }
 }
 
 #[tactic(auto, unfolding(crate::specs::LaneTexts::grants_text))]
-fn push_grants(
-    names: &[Name],
-    x: u32,
-    grants: &[GrantRow],
-    out: &mut String,
-) -> Result<(), NoMemory>
-    ensures { OnOk result (string_bytes out.new ≡ string_bytes out.old ++ grants_text names.now x grants.now) }
+fn push_grants(names: &[Name], grants: &[GrantRow], out: &mut String) -> Result<(), NoMemory>
+    ensures { OnOk result (string_bytes out.new ≡ string_bytes out.old ++ grants_text names.now grants.now) }
 {
     for grant in grants {
-        push_grant(number_of(names, grant.supplier), x, grant, out)?;
+        push_grant(number_of(names, grant.supplier), grant, out)?;
     }
     Ok(())
 }
 
-// Appends a granted lane, hatched, and over it the mark of the supplier of this number.
+// Appends who holds a lane, the lane, hatched, and over it the mark of the supplier of this number.
 #[tactic(auto, unfolding(crate::specs::LaneTexts::grant_text))]
-fn push_grant(number: usize, x: u32, grant: &GrantRow, out: &mut String) -> Result<(), NoMemory>
-    ensures { OnOk result (string_bytes out.new ≡ string_bytes out.old ++ grant_text number x grant.now) }
+fn push_grant(number: usize, grant: &GrantRow, out: &mut String) -> Result<(), NoMemory>
+    ensures { OnOk result (string_bytes out.new ≡ string_bytes out.old ++ grant_text number grant.now) }
 {
     push_holder(
-        x,
         grant.node,
         grant.supplier,
         grant.slot.get(),
         grant.channel.as_str(),
         out,
     )?;
-    push_over(x, out)?;
     push_mark(number, out)?;
     push_fixed(Fixed::TextEnd, out)
 }
 
-#[tactic(auto, unfolding(crate::specs::LaneTexts::over_text))]
-fn push_over(x: u32, out: &mut String) -> Result<(), NoMemory>
-    ensures { OnOk result (string_bytes out.new ≡ string_bytes out.old ++ over_text x) }
-{
-    write!(out, "<text x={x} y=-1>")
-}
-
 #[tactic(auto, unfolding(crate::specs::LaneTexts::holder_text))]
 fn push_holder(
-    x: u32,
     node: Name,
     supplier: Name,
     slot: u32,
     channel: &str,
     out: &mut String,
 ) -> Result<(), NoMemory>
-    ensures { OnOk result (string_bytes out.new ≡ string_bytes out.old ++ holder_text x node supplier slot channel.now) }
+    ensures { OnOk result (string_bytes out.new ≡ string_bytes out.old ++ holder_text node supplier slot channel.now) }
 {
     write!(
         out,
-        "<use href=#held x={x}><title>{node} of {supplier}, slot {slot} {channel}</title></use>"
+        "<title>{node} of {supplier}\n{slot} {channel}</title><use href=#held /><text y=-1>"
     )
 }

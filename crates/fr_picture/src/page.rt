@@ -149,7 +149,10 @@ fn push_viewer(supplier: Option<Name>, out: &mut String) -> Result<(), NoMemory>
     ensures { OnOk result (string_bytes out.new ≡ string_bytes out.old ++ viewer_text supplier) }
 {
     match supplier {
-        Some(supplier) => write!(out, " This page shows what is {supplier}'s alone."),
+        Some(supplier) => write!(
+            out,
+            " This page shows what is {supplier}'s alone. Where it says that nobody holds a slot, another supplier may hold it."
+        ),
         None => Ok(()),
     }
 }

@@ -86,7 +86,7 @@ fn push_set(scale: Scale, less: u32, out: &mut String) -> Result<(), NoMemory>
 fn push_set_start(repetition: u32, out: &mut String) -> Result<(), NoMemory>
     ensures { OnOk result (string_bytes out.new ≡ string_bytes out.old ++ set_start repetition) }
 {
-    write!(out, "<path id=r{repetition} d=\"")
+    write!(out, "<path id={repetition} d=\"")
 }
 
 // Appends one rectangle where each cycle is repeated, and else one for each.
@@ -96,7 +96,7 @@ fn push_rows(scale: Scale, repetition: u32, out: &mut String) -> Result<(), NoMe
     ensures { OnOk result (string_bytes out.new ≡ string_bytes out.old ++ rows_text scale repetition) }
 {
     if repetition == 1 {
-        push_box(0, 0, scale.width, scale.cycles, out)
+        push_box(0, scale.width, scale.cycles, out)
     } else {
         push_repeated(scale.width, repetition, scale.cycles / repetition, out)
     }
@@ -108,7 +108,7 @@ fn push_repeated(width: u32, repetition: u32, count: u32, out: &mut String) -> R
     ensures { OnOk result (string_bytes out.new ≡ string_bytes out.old ++ repeated_text width repetition count) }
 {
     for row in 0..count {
-        push_box(0, row * repetition, width, 1, out)?;
+        push_box(row * repetition, width, 1, out)?;
     }
     Ok(())
 }

@@ -102,6 +102,9 @@ fn push_last(runs: &mut Vec<Run>, high: u64, left: u64) -> Result<(), NoMemory>
 pub(crate) fn push_strip(signals: &[DrawnSignal], out: &mut String) -> Result<(), NoMemory>
     ensures { OnOk result (string_bytes out.new ≡ string_bytes out.old ++ strip_text signals.now) }
 {
+    if signals.is_empty() {
+        return push_fixed(Fixed::NoStrip, out);
+    }
     push_fixed(Fixed::StripStart, out)?;
     push_bars(signals, out)?;
     push_fixed(Fixed::StripEnd, out)?;
@@ -141,7 +144,7 @@ fn push_runs(row: u32, runs: &[Run], out: &mut String) -> Result<(), NoMemory>
 fn push_run(row: u32, start: u64, length: u64, out: &mut String) -> Result<(), NoMemory>
     ensures { OnOk result (string_bytes out.new ≡ string_bytes out.old ++ run_text row start length) }
 {
-    write!(out, "M{start} {row}h{length}")
+    write!(out, "M{start},{row}h{length}")
 }
 
 // Appends the signals' names, with where they start, their lengths and orders.

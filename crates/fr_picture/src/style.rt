@@ -19,24 +19,30 @@ p{margin:.3em 0}
 .c7{fill:#BBBBBB;background:#BBBBBB}
 svg.defs{width:0;height:0;position:absolute}
 svg.plan{display:block;width:100%;margin:0 0 1em;break-inside:avoid}
-text{font-size:.85px;dominant-baseline:hanging;fill:#111}
-.v{writing-mode:vertical-rl;transform:translate(.5px,.3px);dominant-baseline:middle}
+svg.plan>svg{overflow:visible}
+text{font-size:.85px;dominant-baseline:hanging;fill:#111;transform:translate(.15px,.1px)}
+.v,.n{writing-mode:vertical-rl;transform:translate(.5px,.3px);dominant-baseline:middle}
 .names{text-anchor:end}
 .band{font-size:1.2px;font-weight:bold}
-[class^=c]{stroke:#222;stroke-width:.08px}
-[class^=c]+text{paint-order:stroke;stroke:#fff;stroke-width:.2px}
-#free,#gap{fill:#e4e4e4}
-#gap{stroke:#fff;stroke-width:.1px}
+path[id],.plan path{stroke:#222;stroke-width:.08px}
+use+text,path+text{paint-order:stroke;stroke:#fff;stroke-width:.2px}
+.n{stroke:none}
+#free{fill-opacity:.06;stroke:#000;stroke-opacity:.2;stroke-width:.05px}
+#gap{fill-opacity:.2}
+#free,#gap{fill:#000}
 #held{stroke:#777;stroke-width:.08px}
-#held rect{fill:#fff}
+#held rect{fill:none;pointer-events:all}
 ul{list-style:none;padding:0;columns:2}
 li{break-inside:avoid}
 i{display:inline-block;width:2.4em;border:1px solid #222;text-align:center;font-style:normal;text-shadow:0 0 2px #fff,0 0 2px #fff,0 0 2px #fff}
 table{border-collapse:collapse;width:100%;font-size:.85em}
 th,td{text-align:left;vertical-align:top;padding:.2em .5em;border-bottom:1px solid #ccc}
+td:nth-child(4){white-space:pre-line}
+th:nth-child(6){min-width:400px}
 td:nth-child(5),th:nth-child(5){text-align:right}
+td:nth-child(6){background:linear-gradient(#e4e4e4,#e4e4e4) .5em .2em/400px 12px no-repeat}
 tr{break-inside:avoid}
-td svg{display:block;width:400px;height:12px;background:#e4e4e4}
+td svg{display:block;width:400px;height:12px}
 td path{stroke:#0072B2;stroke-width:6px}
 *{-webkit-print-color-adjust:exact;print-color-adjust:exact}
 ";

@@ -23,8 +23,14 @@ pub(crate) enum Fixed {
     StripStart,
     /// The end of them.
     StripEnd,
+    /// A payload without signals.
+    NoStrip,
+    /// The beginning of a path's description.
+    PathStart,
     /// The end of a path's description.
     QuoteEnd,
+    /// The beginning of a title's cycles.
+    CyclesStart,
     /// The end of a path with a title.
     PathEnd,
     /// The end of a shape that is drawn again.
@@ -33,6 +39,10 @@ pub(crate) enum Fixed {
     TextEnd,
     /// The end of a shape without a title.
     ShapeEnd,
+    /// A lane that nobody holds.
+    Free,
+    /// The end of a lane.
+    LaneEnd,
     /// The end of a granted lane's shape.
     HeldEnd,
     /// The beginning of the shapes.
@@ -66,11 +76,16 @@ impl Fixed {
             Fixed::Never => NEVER,
             Fixed::StripStart => STRIP_START,
             Fixed::StripEnd => STRIP_END,
+            Fixed::NoStrip => NO_STRIP,
+            Fixed::PathStart => PATH_START,
             Fixed::QuoteEnd => QUOTE_END,
+            Fixed::CyclesStart => CYCLES_START,
             Fixed::PathEnd => PATH_END,
             Fixed::UseEnd => USE_END,
             Fixed::TextEnd => TEXT_END,
             Fixed::ShapeEnd => SHAPE_END,
+            Fixed::Free => FREE,
+            Fixed::LaneEnd => LANE_END,
             Fixed::HeldEnd => HELD_END,
             Fixed::ShapesStart => SHAPES_START,
             Fixed::NumbersStart => NUMBERS_START,
@@ -88,9 +103,19 @@ const OPENED_EMPTY: &str = "It was opened empty,";
 
 const NEVER: &str = "<td>never";
 
-const STRIP_START: &str = "<td><svg><path d=\"";
+const STRIP_START: &str = "<td><svg><path d=";
 
-const STRIP_END: &str = "\"/></svg>";
+const STRIP_END: &str = " /></svg>";
+
+const NO_STRIP: &str = "<td>";
+
+const PATH_START: &str = "<path d=\"";
+
+const CYCLES_START: &str = " cycles";
+
+const FREE: &str = "<use href=#free />";
+
+const LANE_END: &str = "</svg>\n";
 
 const QUOTE_END: &str = "\">";
 
@@ -98,7 +123,7 @@ const PATH_END: &str = "</title></path>";
 
 const USE_END: &str = "</title></use>";
 
-const TEXT_END: &str = "</text>\n";
+const TEXT_END: &str = "</text>";
 
 const SHAPE_END: &str = "\"/>\n";
 
@@ -118,7 +143,7 @@ const BANDS_AB: &str =
     "</g><g id=cycles><use href=#numbers /><use href=#numbers x=68 /><text class=band x=4 y=-3.6>channel A</text><text class=band x=72 y=-3.6>channel B</text></g></defs>\n";
 
 const LEGEND_START: &str =
-    "</svg>\n<h2>Suppliers</h2>\n<p>Cycles go down, slots go across. A lane is a slot on a channel. Above it stand the slot and the mark of the supplier that holds it. Nobody holds a grey lane. A hatched cell is granted, and nothing is sent in it. The title of a rectangle has its frame, node, supplier, slot, channel and cycles.</p>\n<ul>\n";
+    "</svg>\n<h2>Suppliers</h2>\n<p>Cycles go down, slots go across. A lane is a slot on a channel. Above it stand the slot and the mark of the supplier that holds it. Nobody holds a grey lane. A hatched cell is granted, and nothing is sent in it. The title of a rectangle has its frame, its node and supplier, its slot and channel, and its cycles; 1/4 is base 1 and repetition 4.</p>\n<ul>\n";
 
 const TABLE_START: &str =
     "</ul>\n<h2>Frames</h2>\n<p>The worst are first. A placement has its slot, its channels, and its base and repetition. A gap is in macroticks. A payload has its bits from 0 on, from left to right. A signal has the bit at which it starts, and its length in bits; big order is said.</p>\n<table>\n<tr><th>frame<th>node<th>supplier<th>placements<th>greatest gap<th>payload and signals\n";

@@ -1,6 +1,7 @@
 use Rattle.std.proofs.Common.{◌≡◌, ℕ, List, ◌++◌, take, vec_len}
 use Rattle.std.specs.List.{All}
 use Rattle.std.specs.List.Sorted.{IsPermutation}
+use Rattle.fr_base.specs.declared.channel.Channels.{Channels}
 use Rattle.fr_drawing.specs.Lanes.{IsApart, drawn_cells, drawn_grants}
 use Rattle.fr_drawing.specs.Places.{AreAt, AreHome}
 use Rattle.fr_drawing.specs.declared.columns.Place.{Place}
@@ -13,6 +14,6 @@ invariant-loop-cell l = record {
   drawn : IsPermutation (drawn_cells l.lanes.items) (drawn_cells l.initial.lanes.items ++ take l.cell-index l.cells);
   others : drawn_grants l.lanes.items ≡ drawn_grants l.initial.lanes.items;
   apart : All IsApart l.initial.lanes.items → All IsApart l.lanes.items;
-  at : (shift : ℕ) (columns : List Place) → AreAt shift columns l.initial.lanes.items → AreAt shift columns l.lanes.items;
+  at : (channels : Channels) (shift : ℕ) (columns : List Place) → AreAt channels shift columns l.initial.lanes.items → AreAt channels shift columns l.lanes.items;
   home : AreHome 0 l.initial.lanes.items → AreHome 0 l.lanes.items;
 }

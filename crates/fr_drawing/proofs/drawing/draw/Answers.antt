@@ -3,7 +3,8 @@ use Rattle.fr_drawing.proofs.drawing.draw.Goals as goal
 
 pub returns : goal.returns
 returns c =
-    drawing_of _ _ _ _ _ _ _ _ _ c.in_ok-lanes.ensures.grants c.in_ok-lanes.ensures.cells c.in_ok-lanes.ensures.apart c.in_ok-lanes.ensures.home
+    drawing_of _ _ _ _ _ _ _ _ _ _ _ _ _ c.of-bands.ensures.channels c.of-bands.ensures.beside c.of-bands.ensures.room c.scale-scale.ensures
+    c.in_ok-columns.ensures.beside c.in_ok-columns.ensures.wide c.in_ok-lanes.ensures.grants c.in_ok-lanes.ensures.cells c.in_ok-lanes.ensures.apart c.in_ok-lanes.ensures.home
     c.in_ok-columns.ensures.order c.as_slice.ensures.value c.in_ok-lanes.ensures.at
     c.in_ok-columns.ensures.shown c.of-marks.ensures.grants c.of-marks.ensures.cells
     c.in_ok-add_grants.ensures.grants c.in_ok-add_grants.ensures.cells c.in_ok-add_grants.ensures.apart c.in_ok-add_grants.ensures.home c.in_ok-add_grants.ensures.at

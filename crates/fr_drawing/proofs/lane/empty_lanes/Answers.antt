@@ -9,7 +9,7 @@ loop-column-preserved c = record {
   cells = c.in_ok-push_column.ensures.cells ∙ c.loop-column.invariant.cells;
   apart = c.in_ok-push_column.ensures.apart c.loop-column.invariant.apart;
   at =
-      at_step _ c.args.columns.now c.loop-column.column-index _ _ c.loop-column-test.true
+      at_step _ _ c.args.columns.now c.loop-column.column-index _ _ c.loop-column-test.true
       (c.in_ok-push_column.ensures.at _ c.loop-column.invariant.at);
   home = c.in_ok-push_column.ensures.home c.loop-column.invariant.home;
 }

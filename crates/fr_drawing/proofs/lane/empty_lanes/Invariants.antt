@@ -11,6 +11,6 @@ invariant-loop-column l = record {
   grants : drawn_grants l.lanes.items ≡ [];
   cells : drawn_cells l.lanes.items ≡ [];
   apart : All IsApart l.lanes.items;
-  at : AreAt l.shift (take l.column-index l.columns) l.lanes.items;
+  at : AreAt l.channels l.shift (take l.column-index l.columns) l.lanes.items;
   home : AreHome 0 l.lanes.items;
 }

@@ -1,4 +1,4 @@
-use Rattle.std.proofs.Common.{◌∙◌, ap}
+use Rattle.std.proofs.Common.{◌∙◌, ◌+◌, ap, false}
 use Rattle.fr_drawing.proofs.LaneLemmas.{drawn_grants-more, drawn_cells-more, apart-more, home-more, at-more}
 use Rattle.fr_drawing.proofs.lane.push_column.Goals as goal
 
@@ -20,4 +20,6 @@ returns-clause-home c =
 
 pub returns-clause-at : goal.returns-clause-at
 returns-clause-at c =
-    λ columns h. at-more _ columns _ _ _ _ _ _ c.in_ok-push.ensures.items c.in_ok-push-2.ensures.items (ap (λ p. p.x) c.new.ensures.place) (ap (λ p. p.x) c.new-2.ensures.place) h
+    λ columns h. at-more _ _ columns _ _ _ _ _ _ c.in_ok-push.ensures.items c.in_ok-push-2.ensures.items
+    (c.new.ensures.place ∙ ap (λ s. record c.args.column.now { shows = s }) c.shown_on.ensures)
+    (c.new-2.ensures.place ∙ ap (λ s. record c.args.column.now { opens = false; x = c.args.column.now.x + c.args.shift; shows = s }) c.shown_on-2.ensures) h

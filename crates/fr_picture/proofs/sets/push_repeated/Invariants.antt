@@ -6,4 +6,4 @@ use Rattle.fr_picture.proofs.sets.push_repeated.Given as goal
 
 -- the cells up to here
 abbrev pub invariant-loop-row : goal.invariant-loop-row
-invariant-loop-row l = string_bytes l.out ≡ string_bytes l.initial.out ++ flat_map (λ k. box_text 0 (k * l.repetition) l.width 1) (range_with_len 0 l.row)
+invariant-loop-row l = string_bytes l.out ≡ string_bytes l.initial.out ++ flat_map (λ k. box_text (k * l.repetition) l.width 1) (range_with_len 0 l.row)
