@@ -57,6 +57,8 @@ MALFORMED = [
     (head("GET", "/v1/variants/v1/schedule", "supplier01", *[f"x{n}: 1" for n in range(63)]) + b"x" * 10_000, engine("431 Request Header Fields Too Large")),
     (head("GET", "/v1/variants/v1/schedule?x=1", "supplier01"), SCHEDULED),
     (head("GET", "/v1/variants/v1/schedule?", "supplier01"), SCHEDULED),
+    (head("GET", "/v1/variants/v\u00fc/schedule", "supplier01"), engine("404 Not Found")),
+    (head("GET", "/v1/variants/v1/schedule", "supplier01").replace(b"v1/schedule", b"v\xff/schedule"), engine("400 Bad Request")),
 ]
 
 
@@ -133,17 +135,32 @@ def by_failing_reads(program, base, files, links):
             see(f"reads that end in {way} behind {room} bytes", (begun, ONE_FRAME, said), got)
 
 
-def by_failing_writes(program, base, files, links, ways):
+def by_failing_writes(program, base, files, links):
     """The frame is there exactly where the final reply was begun, and the client has what was written so far."""
     whole = CONTINUE + json(DONE)
-    for way in ways:
-        for room in range(len(whole)):
+    ends = 0, 1, len(CONTINUE) - 1, len(CONTINUE), len(CONTINUE) + 1, len(whole) - 1
+    for way, rooms in ("EPIPE", range(len(whole))), ("EINTR", ends), ("zero", ends):
+        for room in rooms:
             frames = TWO_FRAMES if room >= len(CONTINUE) else ONE_FRAME
             got = first_of(program, copied(base, files), links, ADD, SEND_ROOM=room, SEND_WAY=way)
             see(f"writes that end in {way} behind {room} bytes", (whole[:room], frames, b"slotplan: WriteFailed\n"), got)
+        got = first_of(program, copied(base, files), links, SCHEDULE, SEND_ROOM=0, SEND_WAY=way)
+        see(f"a report of which each write ends in {way}", (b"", ONE_FRAME, b"slotplan: WriteFailed\n"), got)
 
 
 def lost_replies(program, base, files, links):
+    """A frame whose reply is lost was added. When it comes again it is there already."""
+    for room in 0, 1, len(json(DONE)) - 1:
+        copied(base, files)
+        how = links.ending(SEND_ROOM=len(CONTINUE) + room, SEND_WAY="EPIPE")
+        (lost, again, frames), said = asked(program, files, [ADD, ADD, FRAMES], how)
+        wanted = (CONTINUE + json(DONE)[:room], CONTINUE + EXISTS, TWO_FRAMES, b"slotplan: WriteFailed\n")
+        see(f"a frame whose reply is lost behind {room} bytes", wanted, (lost, again, frames, said))
+        see("it came to that", True, links.has_acted())
+        sound(files)
+
+
+def lost_replies_of_imports(program, base, files, links):
     """An import whose reply is lost was carried out. It comes again, is answered, and nothing changes."""
     for room in 0, 1, len(IMPORTED) - 1:
         copied(base, files)
@@ -161,6 +178,20 @@ def interrupted_input(program, links):
     links.has_acted()
 
 
+def interrupted_words(program, files, links):
+    """Standard error is interrupted before each write: of each line 1,000 such writes are tried again, whatever the lines before it took.
+    A line is told in three writes. With 334 interruptions before each, the last of the first line meets 333 of them, and the line
+    ends so. The one that is left meets the second line, which then has 669 in all. The third is as the first."""
+    whole, cut_off = b"slotplan: Truncated\n", b"slotplan: Truncated"
+    for waits, lines in (333, 3 * whole), (334, cut_off + whole + cut_off):
+        with server_of(program, files, 3, links.ending(ERROR_WAITS=waits)) as (server, port):
+            for _ in range(3):
+                cut(port, ADD[:1], False)
+            see("the server ends", 0, server.wait(SECONDS))
+            see(f"lines with {waits} interruptions before each write", lines, server.stderr.read())
+        see("it came to that", True, links.has_acted())
+
+
 def tried(program, room):
     base, files = bases(program, room)[importing], room / "run"
     malformed(program, copied(base, files))
@@ -171,9 +202,11 @@ def tried(program, room):
     links = Links(room)
     by_one_byte(program, base, files, links)
     by_failing_reads(program, base, files, links)
-    by_failing_writes(program, base, files, links, ["EPIPE"])
+    by_failing_writes(program, base, files, links)
     lost_replies(program, base, files, links)
+    lost_replies_of_imports(program, base, files, links)
     interrupted_input(program, links)
+    interrupted_words(program, copied(base, files), links)
 
 
 def main(programs):

@@ -125,11 +125,12 @@ int rename(const char *from, const char *to) {
 """
 
 
-# Has the first connection that the program accepts, and its standard input, fail. RECV_ and SEND_ROOM say behind how many bytes
+# Has the first connection that the program accepts, its standard input and its standard error, fail. RECV_ and SEND_ROOM say behind how many bytes
 # that comes, RECV_ and SEND_PIECE how many bytes a call takes at most, RECV_ and SEND_WAY how each call then ends:
 #   EINTR, ECONNRESET, EPIPE  the call fails
 #   zero   nothing is taken
-# INPUT_WAY says so of each read of standard input. LINK_MARK is the path of a file that is made once it has come to that.
+# INPUT_WAY says so of each read of standard input. ERROR_WAITS says how often standard error is interrupted before each of its writes.
+# LINK_MARK is the path of a file that is made once it has come to that.
 LINKS = r"""
 #define _GNU_SOURCE
 #include <dlfcn.h>
@@ -198,6 +199,16 @@ ssize_t read(int fd, void *bytes, size_t n) {
     if (fd || !way) return real(fd, bytes, n);
     errno = EINTR;
     return -1;
+}
+ssize_t write(int fd, const void *bytes, size_t n) {
+    ssize_t (*real)(int, const void *, size_t) = dlsym(RTLD_NEXT, "write");
+    static size_t waited;
+    if (fd != 2 || waited == number("ERROR_WAITS", 0)) {
+        waited = fd == 2 ? 0 : waited;
+        return real(fd, bytes, n);
+    }
+    ++waited;
+    return ends("EINTR");
 }
 """
 

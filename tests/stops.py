@@ -7,7 +7,8 @@ nothing is left to stop. So it is done with a register that is made, one that is
 with requests to a server, of which each is asked once more where it is answered Unavailable. Every request that was answered otherwise
 is then in the file, and the one that was under way is there whole or not at all; the program and the SQLite of python3 read the same.
 A register whose migration was stopped is of schema 1 or of schema 2, with the same rows, and of schema 1 it can be migrated.
-Further a disk is full, on a small file system where root can mount one, and another process holds the file.
+Further a disk is full, on a small file system where root can mount one, another process holds the file, and a server's file is changed
+while it runs.
 
 The rows that are wanted were typed by hand from docs/FORMATS.md. With --step N only every Nth call is stopped, others in each
 way of stopping. The last line is 'N passed, M failed'."""
@@ -18,6 +19,7 @@ import socket
 import sqlite3
 import subprocess
 import sys
+import time
 from contextlib import closing, contextmanager
 from pathlib import Path
 from typing import NamedTuple
@@ -37,6 +39,7 @@ TABLES = "suppliers", "nodes", "variants", "grants", "frames", "placements", "si
 UNAVAILABLE = json(refused(28, "Unavailable"), "503 Service Unavailable")
 NOT_YOURS = json(refused(3, "NotYours"), "403 Forbidden")
 NOTHING = "no register"
+AT_REST = 0.5  # seconds, after which a server has ended a connection and waits for the next
 LOG_HEAD = 41  # how many bytes of a log say that it is one
 
 
@@ -481,8 +484,11 @@ def held(program, room, base):
     """A file that another process holds: each command says a word, and nothing is lost; nor by one that comes while the program has it."""
     files = copied(base, room / "run")
     commands = [
+        ["ask", "car.db"],
+        ["variants", "car.db"],
         ["schedule", "car.db", "v1"],
         ["gaps", "car.db", "v1"],
+        ["picture", "car.db", "v1"],
         ["import", "car.db", "supplier01", "v1", "a", "signals.csv"],
         ["serve", "car.db", "1024"],
         ["create", "car.db", "cluster.toml"],
@@ -510,6 +516,63 @@ def held(program, room, base):
     looked_at("a file that was held", program, files, {ALL})
 
 
+def moved_there(files):
+    os.rename(files / "other.db", files / "car.db")
+
+
+def written_over(files):
+    (files / "car.db").write_bytes((files / "other.db").read_bytes())
+
+
+def without_log(files):
+    (files / "car.db-wal").unlink()
+
+
+def cut_log(files):
+    os.truncate(files / "car.db-wal", os.path.getsize(files / "car.db-wal") - 512)
+
+
+def cut_file(files):
+    os.truncate(files / "car.db", os.path.getsize(files / "car.db") - 512)
+
+
+def removed(files):
+    (files / "car.db").unlink()
+
+
+def changed(program, room, base):
+    """A server's file that is changed by other programs than SQLite: the next request is answered Unavailable, or refused by its own text, and
+    the server ends with that word. A register that was moved to its place is whole."""
+    for change in moved_there, written_over, without_log, cut_log, cut_file, removed:
+        for asked, right in (REQUESTS[PLACED].data, UNAVAILABLE), (STRANGE, NOT_YOURS):
+            files = copied(base, room / "run")
+            (files / "other.db").unlink(missing_ok=True)
+            see("another register", (0, b"", b""), performed(program, ["create", "other.db", "cluster.toml"], files))
+            with server_of(program, files, 3) as (server, port):
+                see("a request before that", REQUESTS[PLACED].right, replied(port, REQUESTS[PLACED].data))
+                time.sleep(AT_REST)
+                change(files)
+                see(f"{change.__name__}: a request", right, replied(port, asked))
+                see(f"{change.__name__}: the server ends", 1, server.wait(SECONDS))
+                see(f"{change.__name__}: it says why", b"slotplan: Unavailable\n", server.stderr.read())
+            if change is moved_there:
+                see("the register that was moved there", (0, b"", b""), performed(program, ["variants", "car.db"], files))
+            if change is without_log:
+                looked_at("the log was removed", program, files, {PLACED + 1})
+
+
+def moved_back(program, room, base):
+    """A file that is moved away and back between two requests is the server's own."""
+    files = copied(base, room / "run")
+    with server_of(program, files, 2) as (server, port):
+        see("a request", REQUESTS[PLACED].right, replied(port, REQUESTS[PLACED].data))
+        time.sleep(AT_REST)
+        os.rename(files / "car.db", files / "away.db")
+        os.rename(files / "away.db", files / "car.db")
+        see("one more", REQUESTS[PLACED + 1].right, replied(port, REQUESTS[PLACED + 1].data))
+        see("the server ends", (0, b""), (server.wait(SECONDS), server.stderr.read()))
+
+
 def main():
     words = argparse.ArgumentParser(description=__doc__, formatter_class=argparse.RawDescriptionHelpFormatter)
     words.add_argument("--step", type=int, default=1)
@@ -520,6 +583,8 @@ def main():
             room = Path(folder)
             base = bases(program, room)[importing]
             held(program, room, base)
+            changed(program, room, base)
+            moved_back(program, room, base)
             full_disk(program, room, base)
             if preload.can_compile():
                 full_by_library(program, room, base)

@@ -1,5 +1,5 @@
 -- What is answered Done is a command; and what changes a register is that, or an import that is new.
-use Rattle.std.proofs.Common.{◌≡◌, ◌⊎◌, inl, inr, ℕ, Bool, true, false, true≢false, Option, Some, None, Result, Ok, Err, IfOk, refl, ap, subst}
+use Rattle.std.proofs.Common.{◌≡◌, ◌⊎◌, inl, inr, ℕ, Bool, true, false, true≢false, Option, Some, None, Result, Ok, Err, IfOk, refl, subst}
 use Rattle.fr_base.specs.Alone.{is_done}
 use Rattle.fr_base.specs.Book.{Book, Kept, Variant}
 use Rattle.fr_base.specs.Cluster.{Cluster}

@@ -32,6 +32,22 @@ pub fn answer<R: Records>(alloc: Global, records: &mut R, ask: &Ask) -> Answer
     }
 }
 
+/// What a request is answered while the records are not to be had: `UnknownKey` where who asks is not there; then what
+/// the request's own text refuses it for; else `Unavailable`.
+pub fn decline<R: Records>(records: &R, ask: &Ask) -> Answer
+    ensures refused { (refusal : Refusal) × (result ≡ Answer.Refused refusal) }
+    ensures answers { Answers (R.stands records.now) (R.stands records.now) ask.now result }
+{
+    let file = records.config();
+    if !is_known(file, &ask.actor) {
+        return Answer::Refused(Refusal::UnknownKey);
+    }
+    match check(&file.params(), &ask.actor, &ask.request) {
+        Ok(_valid) => Answer::Refused(Refusal::Unavailable),
+        Err(refusal) => Answer::Refused(refusal),
+    }
+}
+
 /// Whether who asks is there.
 pub(crate) fn is_known(config: &Config, actor: &Actor) -> bool
     ensures { result ≡ is_known config.now actor.now }

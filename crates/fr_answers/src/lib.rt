@@ -17,7 +17,7 @@ mod shelf;
 mod suppliers;
 mod warm;
 
-pub use answering::answer;
+pub use answering::{answer, decline};
 pub use laws::answers_are_kept;
 pub use listing::list_variants;
 pub use running::{Stopped, run};

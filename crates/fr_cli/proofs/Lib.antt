@@ -12,4 +12,5 @@ pub mod AskingLaws
 pub mod ReadingLaws
 pub mod ListingLaws
 pub mod PicturingLaws
+pub mod ServingLaws
 mod EachFault

@@ -17,6 +17,7 @@ pub mod Endings
 pub mod Performing
 pub mod RegisterFiles
 pub mod Incoming
+pub mod Serving
 pub mod Runs
 pub mod Checking
 pub mod Explaining

@@ -10,6 +10,7 @@ mod explaining;
 mod failure;
 mod fault;
 mod files;
+mod guarded;
 mod incoming;
 mod input;
 mod laws;
@@ -24,6 +25,7 @@ mod script;
 mod script_fault;
 mod serving;
 mod timed_stream;
+mod watch;
 mod words;
 
 pub use incoming::answer_input;

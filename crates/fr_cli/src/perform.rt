@@ -11,13 +11,14 @@ ghost use Rattle.fr_cli.specs.Explaining.{IsExplained};
 ghost use Rattle.fr_cli.specs.Faults.{IsNotImported, IsNotMade, IsNotMigrated, IsNotReported};
 ghost use Rattle.fr_cli.specs.Incoming.{IsAsked};
 ghost use Rattle.fr_cli.specs.Listing.{AreLines, variants_for};
-ghost use Rattle.fr_cli.specs.Performing.{Says, listening, of_script};
+ghost use Rattle.fr_cli.specs.Performing.{Says, of_script};
 ghost use Rattle.fr_cli.specs.Picturing.{plans_for};
 ghost use Rattle.fr_picture.specs.Pages.{IsPage};
 ghost use Rattle.fr_cli.specs.Queries.{named, report_of};
 ghost use Rattle.fr_cli.specs.Reading.{PrintsRead};
 ghost use Rattle.fr_cli.specs.RegisterFiles.{IsAnswerOfFile, IsMade, IsMoved, IsReadOfFile};
 ghost use Rattle.fr_cli.specs.Runs.{IsRunOf};
+ghost use Rattle.fr_cli.specs.Serving.{IsAnnounced, IsServed};
 ghost use Rattle.fr_cli.specs.declared.failure.Failure.{Failure as Ended};
 ghost use Rattle.fr_cli.specs.declared.fault.Fault.{Fault as Word};
 ghost use Rattle.fr_cli.specs.declared.query.Query.{Query};
@@ -84,7 +85,10 @@ pub fn perform<S: Start, R: Read, O: Write, E: Write>(
         × IsTold done (O.contents out.old) (O.contents out.new) (E.contents err.old) (E.contents err.new) result.0 }
     ensures explain { (word : Option (Bor (List ℕ))) → job.now ≡ Job.Explain word → (done : Result (Vec ℕ) Ended) × IsExplained word done
         × IsTold done (O.contents out.old) (O.contents out.new) (E.contents err.old) (E.contents err.new) result.0 }
-    ensures serve { (db : Bor (List ℕ)) (port count seconds : ℕ) → job.now ≡ Job.Serve db port count seconds → AppendsFront (O.contents out.old) (O.contents out.new) (listening port) }
+    ensures serve { (db : Bor (List ℕ)) (port count seconds : ℕ) → job.now ≡ Job.Serve db port count seconds → (done : Result ⊤ Word) × (result.0 ≡ status_of done)
+        × IsAnnounced port (O.contents out.old) (O.contents out.new) done
+        × ((told : Option (List ℕ)) × IsServed (image_at S.Start) result.1 count (O.contents out.old) (O.contents out.new) (E.contents err.old) told done
+        × Tells told (E.contents err.new) done) }
 {
     let mut err = Output::new(err);
     match *job {

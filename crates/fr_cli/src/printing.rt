@@ -1,11 +1,11 @@
 //! What is printed of a job on standard output and standard error, and its status.
-ghost use Rattle.std.specs.Prelude.{◌≡◌, OnOk};
+ghost use Rattle.std.specs.Prelude.{◌≡◌, ◌≤◌, OnOk};
 ghost use Rattle.std.specs.Io.KnownBytes.{Appends};
 ghost use Rattle.fr_cli.specs.Endings.{AppendsFront, IsPrinted, IsTold, Tells, status_of, word_line};
 
 use crate::failure::Failure;
 use crate::fault::Fault;
-use fr_http::{Output, WriteFailed};
+use fr_http::{Output, WRITE_RETRIES, WriteFailed};
 use std::io::Write;
 
 /// Prints the text of a job, or why it was not done, and gives its status.
@@ -60,11 +60,13 @@ pub fn print<W: Write>(text: &[u8], output: &mut Output<'_, W>) -> Result<(), Wr
     output.write_all(text)
 }
 
-/// Writes the line that names a fault.
+/// Writes the line that names a fault. The line has retries of its own.
 pub fn print_word<W: Write>(word: &str, output: &mut Output<'_, W>) -> Result<(), WriteFailed>
     ensures front { AppendsFront (W.contents output.old.writer.now) (W.contents output.new.writer.now) (word_line word.now) }
+    ensures retries { output.new.retries ≤ WRITE_RETRIES }
     ensures same { output.new.writer.ghost_name ≡ output.old.writer.ghost_name }
 {
+    output.renew();
     output.write_all(b"slotplan: ")?;
     output.write_all(word.as_bytes())?;
     output.write_all(b"\n")

@@ -1,14 +1,22 @@
 //! Serves a register file over HTTP: connections are accepted, served and closed, one after another.
-ghost use Rattle.std.specs.Prelude.{◌≡◌};
-ghost use Rattle.fr_cli.specs.Endings.{AppendsFront};
-ghost use Rattle.fr_cli.specs.Performing.{listening};
+ghost use Rattle.std.specs.Prelude.{◌≡◌, ◌⊎◌, ◌∷◌, [], false, IfErr, Result, ⊤};
+ghost use Rattle.sqlite_wal.specs.Files.{image_at};
+ghost use Rattle.fr_answers.specs.KeptPages.{StandsWarm};
+ghost use Rattle.fr_cli.specs.Serving.{HasServed, IsAnnounced, IsServed, ServesOne, TellsEach};
+ghost use Rattle.fr_http.specs.Outcome.{asked_before};
+ghost use Rattle.fr_http.specs.declared.fault.LinkFault.{LinkFault as Link};
 
 use crate::fault::{Fault, link_word};
+use crate::guarded::Guarded;
 use crate::printing::{print, print_word};
 use crate::timed_stream::TimedStream;
+use crate::watch::Watch;
 use fr_base::Desk;
 use fr_desks::{Left, file_desk};
 use fr_http::{LinkFault, Output, Served, serve_one};
+use fr_office::Office;
+use fr_records::Records;
+use fr_store::StoreFault;
 use sqlite::Start;
 use std::alloc::Global;
 use std::io::{self, Read, Write};
@@ -35,8 +43,9 @@ const REST_READS: u32 = 256;
 const REST_SECONDS: u64 = 1;
 
 /// Serves the register in the file at `db`, one connection after another, and ends after so many
-/// connections as the service has. A connection's fault is printed, and the next one is served. It gives what is left of the
-/// file, closed. `start` says what is supposed of it.
+/// connections as the service has. A connection's fault is printed, and the next one is served. Where another file stands in the
+/// place of the register's, a request is answered `Unavailable`, and the server ends so. It gives what is left of the file,
+/// closed. `start` says what is supposed of it.
 pub fn serve<S: Start, O: Write, E: Write>(
     rt: &HostRuntime,
     db: &str,
@@ -45,64 +54,118 @@ pub fn serve<S: Start, O: Write, E: Write>(
     out: &mut O,
     err: &mut Output<'_, E>,
 ) -> (Result<(), Fault>, Left<S>)
-    ensures front { AppendsFront (O.contents out.old) (O.contents out.new) (listening service.port) }
+    ensures announced { IsAnnounced service.port (O.contents out.old) (O.contents out.new) result.0 }
+    ensures served { IsServed (image_at S.Start) result.1 service.count (O.contents out.old) (O.contents out.new)
+        (E.contents err.old.writer.now) (E.contents err.new.writer.now) result.0 }
     ensures same { err.new.writer.ghost_name ≡ err.old.writer.ghost_name }
 {
     match file_desk::open(rt, db, start) {
-        Ok(mut desk) => {
-            let done = serve_desk(rt, &mut desk, service, out, err);
-            (done, Some(file_desk::close(desk)))
+        Ok(desk) => {
+            let (done, served) = serve_office(rt, db, desk, service, out, err);
+            (done, Some(file_desk::close(served)))
         }
         Err((fault, left)) => (Err(Fault::Register(fault)), left),
     }
 }
 
-// Listens, and serves as many connections as the service has.
-fn serve_desk<D: Desk, O: Write, E: Write>(
+// Serves the register, whose file is at `db`, and gives it back.
+fn serve_office<R: Records, O: Write, E: Write>(
     rt: &HostRuntime,
-    desk: &mut D,
+    db: &str,
+    office: Office<R>,
+    service: Service,
+    out: &mut O,
+    err: &mut Output<'_, E>,
+) -> (Result<(), Fault>, Office<R>)
+    ensures falls { R.clean result.1.records → R.clean office.records }
+    ensures announced { IsAnnounced service.port (O.contents out.old) (O.contents out.new) result.0 }
+    ensures served { HasServed (R.clean result.1.records) (StandsWarm R.stands office) (StandsWarm R.stands result.1) service.count
+        (E.contents err.old.writer.now) (E.contents err.new.writer.now) result.0 }
+    ensures same { err.new.writer.ghost_name ≡ err.old.writer.ghost_name }
+{
+    let Ok(watch) = Watch::new(rt, db) else {
+        return (Err(Fault::NoMemory), office);
+    };
+    let mut guarded = Guarded::new(office, watch);
+    let done = serve_guarded(rt, &mut guarded, service, out, err);
+    (done, guarded.into_office())
+}
+
+// Listens, and serves as many connections as the service has.
+fn serve_guarded<R: Records, O: Write, E: Write>(
+    rt: &HostRuntime,
+    guarded: &mut Guarded<'_, R>,
     service: Service,
     out: &mut O,
     err: &mut Output<'_, E>,
 ) -> Result<(), Fault>
-    ensures front { AppendsFront (O.contents out.old) (O.contents out.new) (listening service.port) }
+    ensures falls { R.clean guarded.new.office.records → R.clean guarded.old.office.records }
+    ensures announced { IsAnnounced service.port (O.contents out.old) (O.contents out.new) result }
+    ensures served { HasServed (R.clean guarded.new.office.records) (StandsWarm R.stands guarded.old.office) (StandsWarm R.stands guarded.new.office)
+        service.count (E.contents err.old.writer.now) (E.contents err.new.writer.now) result }
     ensures same { err.new.writer.ghost_name ≡ err.old.writer.ghost_name }
 {
     let listener = TcpListener::bind(rt, (Ipv4Addr::LOCALHOST, service.port)).map_err(
         |_| Fault::CannotListen,
     )?;
     announce(rt.alloc(), service.port, out)?;
-    answer_all(rt, &listener, &service, desk, err)
+    answer_all(rt, &listener, &service, guarded, err)
 }
 
 // Prints where it listens.
 fn announce<O: Write>(alloc: Global, port: u16, out: &mut O) -> Result<(), Fault>
-    ensures front { AppendsFront (O.contents out.old) (O.contents out.new) (listening port) }
+    ensures announced { IsAnnounced port (O.contents out.old) (O.contents out.new) result }
+    ensures fault { IfErr result (λ fault. (fault ≡ Fault.NoMemory) ⊎ (fault ≡ Fault.WriteFailed)) }
 {
     let line = format!(in alloc; "listening on 127.0.0.1:{port}\n").map_err(|_| Fault::NoMemory)?;
     Ok(print(line.as_bytes(), &mut Output::new(out))?)
 }
 
-// Serves so many connections.
-fn answer_all<D: Desk, E: Write>(
+// Serves so many connections, or fewer, where another file stands in the place of the register's.
+fn answer_all<R: Records, E: Write>(
     rt: &HostRuntime,
     listener: &TcpListener,
     service: &Service,
-    desk: &mut D,
+    guarded: &mut Guarded<'_, R>,
     err: &mut Output<'_, E>,
 ) -> Result<(), Fault>
+    ensures falls { R.clean guarded.new.office.records → R.clean guarded.old.office.records }
+    ensures served { HasServed (R.clean guarded.new.office.records) (StandsWarm R.stands guarded.old.office) (StandsWarm R.stands guarded.new.office)
+        service.now.count (E.contents err.old.writer.now) (E.contents err.new.writer.now) result }
     ensures same { err.new.writer.ghost_name ≡ err.old.writer.ghost_name }
 {
     for _ in 0..service.count {
         let (stream, _) = listener.accept().map_err(|_| Fault::CannotListen)?;
-        if let Err(fault) = serve_stream(rt, &stream, service.seconds, desk) {
-            let _ = print_word(link_word(fault), err);
+        answer_stream(rt, &stream, service.seconds, guarded, err);
+        if !guarded.holds() {
+            return Err(Fault::Register(StoreFault::Unavailable));
         }
     }
     Ok(())
 }
 
-/// Serves one connection within so many seconds.
+// Serves one connection, and tells of its fault.
+fn answer_stream<D: Desk, E: Write>(
+    rt: &HostRuntime,
+    stream: &TcpStream,
+    seconds: u32,
+    desk: &mut D,
+    err: &mut Output<'_, E>,
+)
+    ensures falls { D.clean desk.new → D.clean desk.old }
+    ensures served { (end : Result ⊤ Link) × ServesOne (D.clean desk.new) (D.stands desk.old) (D.stands desk.new) end
+        × TellsEach (E.contents err.old.writer.now) (E.contents err.new.writer.now) (end ∷ []) }
+    ensures same { err.new.writer.ghost_name ≡ err.old.writer.ghost_name }
+{
+    match serve_stream(rt, stream, seconds, desk) {
+        Ok(()) => {}
+        Err(fault) => {
+            let _ = print_word(link_word(fault), err);
+        }
+    }
+}
+
+/// Serves one connection within so many seconds: one exchange with the register, which then stands for the book after it.
 pub fn serve_stream<D: Desk>(
     rt: &HostRuntime,
     stream: &TcpStream,
@@ -110,6 +173,10 @@ pub fn serve_stream<D: Desk>(
     desk: &mut D,
 ) -> Result<(), LinkFault>
     ensures falls { D.clean desk.new → D.clean desk.old }
+    ensures served { ServesOne (D.clean desk.new) (D.stands desk.old) (D.stands desk.new) result }
+
+    // Where the register was not asked it is as it was.
+    ensures stays { IfErr result (λ fault. asked_before fault ≡ false → desk.new ≡ desk.old) }
 {
     let time = Duration::from_secs(u64::from(seconds));
     let Ok(mut client) = TimedStream::new(rt, stream, time) else {

@@ -1,5 +1,5 @@
 -- What is opened of files, and what is left of them.
-use Rattle.std.proofs.Common.{◌≡◌, ◌⊎◌, inl, inr, List, [], ◌∷◌, IsTrue, subst, sym}
+use Rattle.std.proofs.Common.{inl, inr, List, [], ◌∷◌, IsTrue, subst, sym}
 use Rattle.std.proofs.Math.Logic.{∥∥₁_map}
 use Rattle.sqlite.specs.State.{State}
 use Rattle.sqlite.specs.Tree.{Trees}
@@ -9,10 +9,10 @@ use Rattle.sqlite_wal.specs.Reads.{AreClean}
 use Rattle.sqlite_wal.specs.Recovery.{Image}
 use Rattle.fr_base.specs.Book.{Book}
 use Rattle.fr_base.specs.Cluster.{Cluster, ClusterFile}
-use Rattle.fr_records.specs.Held.{Standing}
+use Rattle.fr_records.specs.Held.{Leaving, Standing}
 use Rattle.fr_answers.specs.Crashed.{EachBook, IsOrNext, WasLacking}
 use Rattle.fr_answers.proofs.CrashedLaws.{is_found, were_kept}
-use Rattle.fr_store.specs.Crashes.{IsForOne, Serves, StoredLeaves}
+use Rattle.fr_store.specs.Crashes.{IsForOne}
 use Rattle.fr_store.specs.Store.{IsRegisterFor}
 use Rattle.fr_store.specs.StoreFiles.{HoldsBook, IsHeld, database_of}
 use Rattle.fr_store.specs.Stored.{StandsStored}
@@ -37,10 +37,10 @@ one_of c P (b ∷ books) db each (inl this) = (b, each.0, this)
 one_of c P (b ∷ books) db each (inr other) = one_of c P books db each.1 other
 
 -- what is opened of files that were given up
-pub crash_found : {D Desk Found : Type 0} (g : Ghosts D) (stands : Desk → Standing) (state : Desk → State) (held : Image) (clean : Found → Type 0) (finds : Found → Standing)
-    → ((desk : Desk) (c : Cluster) (b : Book) → Serves (state desk) → stands desk c b → StoredLeaves (state desk) c (b ∷ [])) → CrashIsFound g stands state held clean finds
-crash_found {D} {Desk} g stands state held clean finds settled c b first last asks answers files found stood sound serves asked given are crash finds_left is_clean =
-    let kept = were_kept stands (λ (desk : Desk). StoredLeaves (state desk)) c b first last asks answers asked stood sound (settled first c b serves stood) in
-    ∥∥₁_map (given are held crash c kept.books kept.left.left) (λ one.
+pub crash_found : {D Desk Found : Type 0} (g : Ghosts D) (stands : Desk → Standing) (serves : Desk → Type 0) (leaves : Desk → Leaving) (held : Image) (clean : Found → Type 0)
+    (finds : Found → Standing) → ((desk : Desk) (c : Cluster) (b : Book) → serves desk → stands desk c b → leaves desk c (b ∷ [])) → CrashIsFound g stands serves leaves held clean finds
+crash_found {D} {Desk} g stands serves leaves held clean finds settled c b first last asks answers files found stood sound up asked given are crash finds_left is_clean =
+    let kept = were_kept stands leaves c b first last asks answers asked stood sound (settled first c b up stood) in
+    ∥∥₁_map (given are held crash c kept.books kept.left) (λ one.
     let x = one_of c (IsOrNext c (WasLacking asks answers) kept.last) kept.books one.0 kept.each one.2 in
     is_found (finds found c) c b kept.last x.0 asks answers sound kept.run x.1 (finds_left is_clean c x.0 one.0 one.1 x.2))

@@ -3,7 +3,6 @@
 -- a crash leaves of it.
 use Rattle.std.specs.Prelude.{◌≡◌, ◌⊎◌, List, ⊤}
 use Rattle.sqlite.specs.Files.{HoldsDatabase, image_of}
-use Rattle.sqlite.specs.State.{State}
 use Rattle.sqlite.specs.Tree.{Trees}
 use Rattle.sqlite.specs.declared.file.Leftover.{Leftover}
 use Rattle.sqlite.specs.declared.file.Leftover.TheVariants as left
@@ -14,8 +13,8 @@ use Rattle.sqlite_wal.specs.Reads.{AreClean}
 use Rattle.sqlite_wal.specs.Recovery.{Image}
 use Rattle.fr_base.specs.Book.{Book}
 use Rattle.fr_base.specs.Cluster.{Cluster}
-use Rattle.fr_records.specs.Held.{Standing}
-use Rattle.fr_store.specs.Crashes.{HoldsOne, LeavesOnly}
+use Rattle.fr_records.specs.Held.{Leaving, Standing}
+use Rattle.fr_store.specs.Crashes.{HoldsOne}
 use Rattle.fr_store.specs.Store.{IsRegisterFor}
 use Rattle.fr_store.specs.StoreFiles.{HoldsBook, database_of}
 
@@ -43,8 +42,8 @@ abbrev pub FindsLeft : Image → Type 0 → Standing → Type 0
 FindsLeft held clean stands = clean → (c : Cluster) (b : Book) (db : Trees) → HoldsDatabase held db → IsRegisterFor c b (database_of db) → stands c b
 
 -- What a crash leaves of files that were given up is a register that it would have left before.
-abbrev pub AreGivenUp : {D : Type 0} → Ghosts D → State → Files D → Type 0
-AreGivenUp g s files = AreClean g files.log files.db → (image : Image) → outcomes g files.log files.db image → (c : Cluster) (books : List Book) → LeavesOnly s c books
+abbrev pub AreGivenUp : {D : Type 0} → Ghosts D → Leaving → Files D → Type 0
+AreGivenUp g leaves files = AreClean g files.log files.db → (image : Image) → outcomes g files.log files.db image → (c : Cluster) (books : List Book) → leaves c books
     → ∥ HoldsOne c books image ∥₁
 
 -- What is opened is what the files hold, or what a crash leaves of them.

@@ -1,7 +1,6 @@
 -- Laws: files that were left with a book are opened with it. A register that is made and then opened has the book of a
 -- new register.
 use Rattle.std.specs.Prelude.{List}
-use Rattle.sqlite.specs.State.{State}
 use Rattle.sqlite_disk.specs.declared.Disk.{Ghosts}
 use Rattle.sqlite_disk.specs.declared.Files.{Files}
 use Rattle.sqlite_wal.specs.Files.{outcomes}
@@ -12,9 +11,8 @@ use Rattle.fr_base.specs.Cluster.{Cluster, ClusterFile}
 use Rattle.fr_base.specs.Sound.{IsSound}
 use Rattle.fr_base.specs.declared.answer.Answer.{Answer}
 use Rattle.fr_base.specs.declared.request.Ask.{Ask}
-use Rattle.fr_records.specs.Held.{Standing}
+use Rattle.fr_records.specs.Held.{Leaving, Standing}
 use Rattle.fr_answers.specs.Crashed.{IsFound, WereAsked}
-use Rattle.fr_store.specs.Crashes.{Serves, StoredLeaves}
 use Rattle.fr_desks.specs.FileDesk.{AreGivenUp, FindsHeld, FindsLeft, IsLeftBy, LeavesBook}
 
 -- Where nobody else writes to them, files that were left with a book are opened with this book, after a crash too.
@@ -30,8 +28,8 @@ MadeIsFound {D} {Desk} g held clean stands = (files : Files D) (desk : Desk) (f 
 -- Whatever was asked of a desk that was opened over files, with a sound book, and wherever a crash falls: where nobody else writes to the
 -- files, what is opened afterwards is the register after all that was answered, or after one request more, which had been answered
 -- Unavailable; and it is as promised.
-abbrev pub CrashIsFound : {D Desk Found : Type 0} → Ghosts D → (Desk → Standing) → (Desk → State) → Image → (Found → Type 0) → (Found → Standing) → Type 0
-CrashIsFound {D} {Desk} {Found} g stands state held clean finds =
-    (c : Cluster) (b : Book) (first last : Desk) (asks : List Ask) (answers : List Answer) (files : Files D) (found : Found) → stands first c b → IsSound c b → Serves (state first)
-    → WereAsked stands (λ desk. StoredLeaves (state desk)) first asks answers last → AreGivenUp g (state last) files → AreClean g files.log files.db → outcomes g files.log files.db held
+abbrev pub CrashIsFound : {D Desk Found : Type 0} → Ghosts D → (Desk → Standing) → (Desk → Type 0) → (Desk → Leaving) → Image → (Found → Type 0) → (Found → Standing) → Type 0
+CrashIsFound {D} {Desk} {Found} g stands serves leaves held clean finds =
+    (c : Cluster) (b : Book) (first last : Desk) (asks : List Ask) (answers : List Answer) (files : Files D) (found : Found) → stands first c b → IsSound c b → serves first
+    → WereAsked stands leaves first asks answers last → AreGivenUp g (leaves last) files → AreClean g files.log files.db → outcomes g files.log files.db held
     → FindsLeft held (clean found) (finds found) → clean found → ∥ IsFound (finds found c) c b asks answers ∥₁

@@ -4,19 +4,19 @@ ghost use Rattle.fr_base.specs.Book.{Book, opening};
 ghost use Rattle.fr_base.specs.Cluster.{Cluster};
 ghost use Rattle.fr_desks.specs.FileDesk.{FindsHeld, FindsLeft, IsLeftWith, LeavesBook};
 ghost use Rattle.fr_store.specs.Before.{HoldsBookBefore};
-ghost use Rattle.fr_store.specs.Crashes.{Serves};
 ghost use Rattle.fr_store.specs.Opening.{Explains, Refuses};
 ghost use Rattle.fr_store.specs.Store.{MayForbid};
 ghost use Rattle.fr_store.specs.StoreFiles.{HoldsBook, IsHeld, image_left};
 ghost use Rattle.fr_store.specs.declared.fault.StoreFault.TheVariants.{NotARegister, NotEmpty, Unavailable, WrongSchema};
 ghost use Rattle.fr_tables.specs.Asking.{old_schema_number};
 ghost use Rattle.sqlite.specs.Effect.{IsDatabase};
-ghost use Rattle.sqlite.specs.Files.{HoldsDatabase, IsCleanLeft, file_state};
+ghost use Rattle.sqlite.specs.Files.{HoldsDatabase, IsCleanLeft};
 ghost use Rattle.sqlite_wal.specs.Files.{image_at};
 ghost use Rattle.sqlite_wal.specs.Reads.{AreClean};
 
 use fr_base::{Config, Desk};
 use fr_office::Office;
+use fr_records::Records;
 use fr_store::{Store, StoreFault, migrate_at};
 use sqlite::{FileFrom, FileStore, Files, Leftover, Start};
 use sqlite_disk::Disk;
@@ -101,7 +101,7 @@ pub fn migrate<S: Start>(
 pub fn open<S: Start>(rt: &HostRuntime, path: &str, start: S) -> Result<FileDesk<S>, FileFault<S>>
     ensures found { IfOk result (λ desk. FindsHeld (image_at S.Start) (⟦<FileDesk<S> as Desk>⟧.clean desk) (⟦<FileDesk<S> as Desk>⟧.stands desk)) }
     ensures left { IfOk result (λ desk. FindsLeft (image_at S.Start) (⟦<FileDesk<S> as Desk>⟧.clean desk) (⟦<FileDesk<S> as Desk>⟧.stands desk)) }
-    ensures serves { IfOk result (λ desk. ⟦<FileDesk<S> as Desk>⟧.clean desk → Serves (file_state desk.records.conn)) }
+    ensures serves { IfOk result (λ desk. ⟦<FileDesk<S> as Desk>⟧.clean desk → ⟦<Store<FileStore<FileFrom<S>>> as Records>⟧.serves desk.records) }
     ensures told { IfErr result (λ e. IfSome e.1 (λ left. IsCleanLeft left → (d : _) → IsDatabase d → HoldsDatabase (image_at S.Start) d.trees → Explains d e.0)) }
     ensures known { IfErr result (λ e. IfSome e.1 (λ left. IsCleanLeft left → (c : Cluster) (b : Book) → HoldsBook c b (image_at S.Start) → e.0 ≡ Unavailable)) }
     ensures not_made { IfErr result (λ e. e.0 ≢ NotEmpty) }

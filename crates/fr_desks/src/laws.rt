@@ -1,11 +1,11 @@
 //! Laws of registers in files: one that was made, or closed, and is opened then has the same book.
 ghost use Rattle.fr_desks.specs.Laws.{CrashIsFound, LeftIsFound, MadeIsFound};
-ghost use Rattle.sqlite.specs.Files.{file_state};
 ghost use Rattle.sqlite_wal.specs.Files.{image_at};
 
 use crate::file_desk::FileDesk;
 use fr_base::Desk;
 use fr_office::Office;
+use fr_records::Records;
 use fr_store::Store;
 use sqlite::{FileStore, Start};
 use sqlite_disk::Disk;
@@ -24,5 +24,6 @@ pub fn made_is_found<D: Disk, S: Start>()
 /// all that was answered, or after one request more, which had been answered `Unavailable`; each supplier was answered
 /// as if it were alone, and at most one frame is sent in a cell.
 pub fn crash_is_found<D: Disk, S: Start>()
-    ensures { CrashIsFound D.Disk ⟦<Office<Store<FileStore<D>>> as Desk>⟧.stands (λ desk. file_state desk.records.conn) (image_at S.Start) ⟦<FileDesk<S> as Desk>⟧.clean ⟦<FileDesk<S> as Desk>⟧.stands }
+    ensures { CrashIsFound D.Disk ⟦<Office<Store<FileStore<D>>> as Desk>⟧.stands (λ desk. ⟦<Store<FileStore<D>> as Records>⟧.serves desk.records)
+        (λ desk. ⟦<Store<FileStore<D>> as Records>⟧.leaves desk.records) (image_at S.Start) ⟦<FileDesk<S> as Desk>⟧.clean ⟦<FileDesk<S> as Desk>⟧.stands }
 {}

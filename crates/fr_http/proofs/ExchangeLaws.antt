@@ -1,5 +1,5 @@
 -- Exchanges that are a supplier's, with the register of the supplier alone; and what asks nothing.
-use Rattle.std.proofs.Common.{◌≡◌, ◌≢◌, inl, inr, ℕ, true, false, true≢false, List, [], ◌∷◌, Option, Some, None, Result, Ok, Err, sym, ap, ◌∙◌, subst}
+use Rattle.std.proofs.Common.{◌≡◌, ◌≢◌, inl, inr, ℕ, zero, suc, take, drop, true, false, true≢false, List, [], ◌∷◌, Option, Some, None, Result, Ok, Err, refl, sym, ap, ◌∙◌, subst}
 use Rattle.std.proofs.lemmas.Bool.{cases_Bool}
 use Rattle.fr_base.specs.Actors.{actor_of}
 use Rattle.fr_base.specs.Alone.{is_mine, rows_of}
@@ -121,6 +121,15 @@ replied-alike c d b e x replied known = record {
 
 -- ---- a connection
 
+module _ (c : Cluster) (b last : Book) where
+  step-keeps : IsSound c b → (ask : Ask) (answer : Answer) → IsRun c b (ask ∷ []) (answer ∷ []) last → IsSound c last
+  step-keeps sound ask answer (inl lacks) = subst (IsSound c) (sym lacks.2) sound
+  step-keeps sound ask answer (inr steps) = subst (IsSound c) (sym steps.1) (step-sound c b sound ask.actor ask.request)
+
+  asks-sound : (x : Exchange) (a : Option (Asked × Answer)) → IsSound c b → Asks c b x a last → IsSound c last
+  asks-sound x None sound so = subst (IsSound c) (sym so.0) sound
+  asks-sound x (Some (asked, answer)) sound so = step-keeps sound asked.ask answer so.step
+
 module _ (s : Name) (c : Cluster) (b last : Book) where
   step-own : IsSound c b → (ask : Ask) (answer : Answer) → is_mine s ask.actor ask.request answer ≡ true → IsRun c b (ask ∷ []) (answer ∷ []) last →
       IsRun c (rows_of s b) (ask ∷ []) (answer ∷ []) (rows_of s last)
@@ -151,14 +160,6 @@ module _ (s : Name) (c : Cluster) (b last : Book) where
   asks-other x None other so = ap (rows_of s) so.0
   asks-other x (Some (asked, answer)) other so = step-other asked.ask answer other so.step
 
-  step-keeps : IsSound c b → (ask : Ask) (answer : Answer) → IsRun c b (ask ∷ []) (answer ∷ []) last → IsSound c last
-  step-keeps sound ask answer (inl lacks) = subst (IsSound c) (sym lacks.2) sound
-  step-keeps sound ask answer (inr steps) = subst (IsSound c) (sym steps.1) (step-sound c b sound ask.actor ask.request)
-
-  asks-sound : (x : Exchange) (a : Option (Asked × Answer)) → IsSound c b → Asks c b x a last → IsSound c last
-  asks-sound x None sound so = subst (IsSound c) (sym so.0) sound
-  asks-sound x (Some (asked, answer)) sound so = step-keeps sound asked.ask answer so.step
-
 -- ---- connections one after another
 
 pub exchanges-alone : (c : Cluster) (b last : Book) (xs : List Exchange) (s : Name) → IsSound c b → AreExchanged c b xs last →
@@ -166,8 +167,23 @@ pub exchanges-alone : (c : Cluster) (b last : Book) (xs : List Exchange) (s : Na
 exchanges-alone c b last [] s sound so = ap (rows_of s) so
 exchanges-alone c b last (x ∷ xs) s sound so =
     let next : Book = so.0 in
-    let rest = exchanges-alone c next last xs s (asks-sound s c b next x x.asked sound so.1.1) so.2 in
+    let rest = exchanges-alone c next last xs s (asks-sound c b next x x.asked sound so.1.1) so.2 in
     elim (cases_Bool (is_own s x.asked)) [
       | inl own ↦ rw own (rows_of s next, (so.1.0, asks-own s c b next x x.asked sound own so.1.1), rest)
       | inr other ↦ rw other (subst (λ d. AreExchanged c d (own_exchanges s xs) (rows_of s last)) (asks-other s c b next x x.asked other so.1.1) rest)
     ]
+
+-- Exchanges leave a sound book sound.
+pub exchanges-sound : (c : Cluster) (b last : Book) (xs : List Exchange) → IsSound c b → AreExchanged c b xs last → IsSound c last
+exchanges-sound c b last [] sound so = subst (IsSound c) (sym so) sound
+exchanges-sound c b last (x ∷ xs) sound so = exchanges-sound c so.0 last xs (asks-sound c b so.0 x x.asked sound so.1.1) so.2
+
+-- Exchanges go through sound books.
+pub fronts-sound : (c : Cluster) (b last : Book) (xs : List Exchange) (n : ℕ) → IsSound c b → AreExchanged c b xs last →
+    (mid : Book) × IsSound c mid × AreExchanged c b (take n xs) mid × AreExchanged c mid (drop n xs) last
+fronts-sound c b last [] zero sound so = (b, sound, refl, so)
+fronts-sound c b last [] (suc n) sound so = (b, sound, refl, so)
+fronts-sound c b last (x ∷ xs) zero sound so = (b, sound, refl, so)
+fronts-sound c b last (x ∷ xs) (suc n) sound so =
+    let rest = fronts-sound c so.0 last xs n (asks-sound c b so.0 x x.asked sound so.1.1) so.2 in
+    (rest.0, rest.1, (so.0, so.1, rest.2), rest.3)

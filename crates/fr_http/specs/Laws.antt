@@ -1,6 +1,6 @@
--- Laws: the exchanges that are a supplier's are those with the register that holds it alone. What asks nothing has the
--- same reply from every register, unless its key is nobody's.
-use Rattle.std.specs.Prelude.{◌≢◌, List}
+-- Laws: the exchanges that are a supplier's are those with the register that holds it alone. A sound register is sound
+-- after each exchange. What asks nothing has the same reply from every register, unless its key is nobody's.
+use Rattle.std.specs.Prelude.{◌≢◌, ℕ, List, take, drop}
 use Rattle.fr_base.specs.Alone.{rows_of}
 use Rattle.fr_base.specs.Book.{Book}
 use Rattle.fr_base.specs.Cluster.{Cluster}
@@ -16,6 +16,11 @@ use Rattle.fr_http.specs.declared.fault.Unasked.TheVariants.{Refused}
 abbrev pub ExchangesAreAlone : Type 0
 ExchangesAreAlone = (c : Cluster) (b last : Book) (xs : List Exchange) (s : Name) →
     IsSound c b → AreExchanged c b xs last → AreExchanged c (rows_of s b) (own_exchanges s xs) (rows_of s last)
+
+-- And it is sound after each of them: each front of the connections leads to a sound book, and what is left of them is served from there.
+abbrev pub ExchangesAreSoundThroughout : Type 0
+ExchangesAreSoundThroughout = (c : Cluster) (b last : Book) (xs : List Exchange) (n : ℕ) → IsSound c b → AreExchanged c b xs last →
+    (mid : Book) × IsSound c mid × AreExchanged c b (take n xs) mid × AreExchanged c mid (drop n xs) last
 
 -- What asks nothing has the same reply from every register, unless its key is nobody's.
 abbrev pub UnaskedIsAlike : Type 0

@@ -20,7 +20,7 @@ mod serve;
 pub use fault::{LinkFault, Rejection};
 pub use head::{MAX_FIELDS, MAX_HEAD};
 pub use input::MAX_READS;
-pub use laws::{exchanges_are_alone, unasked_is_alike};
+pub use laws::{exchanges_are_alone, exchanges_are_sound_throughout, unasked_is_alike};
 pub use method::Method;
 pub use output::{Output, WRITE_RETRIES, WriteFailed};
 pub use plan::MAX_BODY;

@@ -14,7 +14,7 @@ pub const WRITE_RETRIES: u32 = 1_000;
 pub struct WriteFailed;
 
 /// A writer, and how many more of its interrupted writes are tried again. It alone has the writer, so all
-/// that is written shares these retries.
+/// that is written shares these retries, until [`Output::renew`] gives new ones.
 #[derive(Drop)]
 pub struct Output<'a, W> {
     writer: &'a mut W,
@@ -32,6 +32,14 @@ impl<'a, W: Write> Output<'a, W> {
             writer,
             retries: WRITE_RETRIES,
         }
+    }
+
+    /// Gives what is written from here on [`WRITE_RETRIES`] retries of its own.
+    pub fn renew(&mut self)
+        ensures retries { self.new.retries ≡ WRITE_RETRIES }
+        ensures same { self.new.writer ≡ self.old.writer }
+    {
+        self.retries = WRITE_RETRIES;
     }
 
     /// Writes all the bytes. A write that is interrupted is tried again, as long as a retry is left.

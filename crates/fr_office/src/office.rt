@@ -13,7 +13,7 @@ ghost use Rattle.fr_records.specs.Held.{LeavesNoMore};
 
 mod stored;
 
-use fr_answers::{Stopped, Warm, answer, list_variants, run};
+use fr_answers::{Stopped, Warm, answer, decline, list_variants, run};
 use fr_base::{Actor, Answer, Ask, Desk, Params, Refusal};
 use fr_records::Records;
 use fr_world::VariantRow;
@@ -94,6 +94,15 @@ impl<R: Records> Office<R> {
         ensures durable { R.clean self.new.records → KeepsChange (StandsWarm R.stands self.old) (R.leaves self.new.records) ask.now result }
     {
         answer(alloc, &mut self.warm, ask)
+    }
+
+    /// What a request is answered while the register's rows are not to be had: `UnknownKey` where who asks is not
+    /// there; then what the request's own text refuses it for; else `Unavailable`.
+    pub fn decline(&self, ask: &Ask) -> Answer
+        ensures refused { (refusal : Refusal) × (result ≡ Answer.Refused refusal) }
+        ensures answers { Answers (StandsWarm R.stands self.now) (StandsWarm R.stands self.now) ask.now result }
+    {
+        decline(&self.warm, ask)
     }
 
     /// The parameters of the register's cluster.

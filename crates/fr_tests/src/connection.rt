@@ -329,6 +329,7 @@ fn a_request_is_asked_once_it_is_whole(rt: HostRuntime) -> Result<(), Fail> {
             assert_eq!(rt; done, Err(fault));
             let interim = if end < head { "" } else { CONTINUE };
             assert_eq!(rt; writer.taken.as_slice(), interim.as_bytes());
+            assert_eq!(rt; writer.flushed, writer.taken.len());
         }
     }
     assert_eq!(rt; desk.asked, 0);

@@ -10,6 +10,7 @@ use Rattle.fr_picture.specs.Pages.{IsPage}
 use Rattle.fr_cli.specs.Queries.{named, report_of}
 use Rattle.fr_cli.specs.Reading.{PrintsRead}
 use Rattle.fr_cli.specs.RegisterFiles.{IsAnswerOfFile, IsReadOfFile}
+use Rattle.fr_cli.specs.Serving.{IsAnnounced, IsServed}
 use Rattle.fr_cli.specs.declared.asking.ImportWords.{ImportWords}
 use Rattle.fr_cli.specs.declared.query.Query.{Query}
 use Rattle.fr_cli.specs.declared.words.Job.{Job}
@@ -60,3 +61,26 @@ returns-in-Picture-clause-picture g c db variant supplier is =
     let says = subst (λ view. PrintsRead IsNotReported (IsReadOfFile (image_at g.S.Start) c.picture_file-done.result.1 (plans_for (named view.1) view.0.now)) IsPage c.picture_file-done.result.0)
     (ap (view_in (variant, supplier)) (sym c.in-Picture.is ∙ is)) c.picture_file-done.ensures in
     (c.picture_file-done.result.0, says, search rules)
+
+-- the port and the count of a server's job
+port_in : Job → ℕ
+port_in (job.Serve db port count seconds) = port
+port_in _ = 0
+
+count_in : Job → ℕ
+count_in (job.Serve db port count seconds) = count
+count_in _ = 0
+
+pub returns-in-Serve-clause-serve : goal.returns-in-Serve-clause-serve
+unfolding port_in count_in
+returns-in-Serve-clause-serve g c db port count seconds is =
+    let done = c.serve-done.result.0 in
+    let same = sym c.in-Serve.is ∙ is in
+    let out = g.O.Write.contents c.args.out.now in
+    let out' = g.O.Write.contents c.serve-done.new.out in
+    let told = g.E.Write.contents c.serve-done.new.err.writer.now in
+    let announced = subst (λ p. IsAnnounced p out out' done) (ap port_in same) c.serve-done.ensures.announced in
+    let served = subst (λ n. IsServed (image_at g.S.Start) c.serve-done.result.1 n out out' (g.E.Write.contents c.new-err.result.writer.now) told done) (ap count_in same)
+    c.serve-done.ensures.served in
+    let from = subst (λ e. IsServed (image_at g.S.Start) c.serve-done.result.1 count out out' (g.E.Write.contents e) told done) c.new-err.ensures.holds served in
+    (done, search rules, announced, (told, from, search rules))

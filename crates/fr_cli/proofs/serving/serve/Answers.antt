@@ -1,0 +1,13 @@
+use Rattle.std.proofs.Common.{refl, inl}
+use Rattle.std.proofs.KnownBytes.{Keeps-refl}
+use Rattle.fr_cli.proofs.ServingLaws.{served_file}
+use Rattle.fr_cli.proofs.serving.serve.Goals as goal
+
+pub returns-in-Ok-clause-served : goal.returns-in-Ok-clause-served
+returns-in-Ok-clause-served g c =
+    served_file _ _ _ _ _ _ _ _ _ _ _ c.serve_office-done.result.0 c.close.ensures.clean c.serve_office-done.ensures.falls c.in-Ok.ensures.found c.close.ensures.book
+    c.serve_office-done.ensures.served
+
+pub returns-in-Err-clause-served : goal.returns-in-Err-clause-served
+returns-in-Err-clause-served g c =
+    inl (_, refl, c.in-Err.ensures.not_made, Keeps-refl (g.O.Write.contents c.args.out.now), Keeps-refl (g.E.Write.contents c.args.err.now.writer.now))
