@@ -5,7 +5,7 @@
 #               Run it when a contract has changed; no part of the gate
 # make tables   writes the tables of files in docs/MAP.md and docs/DEFINITIONS.md from the heads of the files; the gate compares them
 # make try      tries the built program alone, as the gate does: rows, examples, faults, limits, counts of cycles, register files and
-#               their migration, the server, the commands of docs/TUTORIAL.md, docs/openapi.yaml, and pictures of plans
+#               their migration, the server, the commands of docs/TUTORIAL.md and README.md, docs/openapi.yaml, and pictures of plans
 # make look     draws the plans of the examples and one at the limits into out/look; where there is chromium, it takes screenshots of the
 #               pages, and counts their cells as the browser has them
 # make hostile  stops the built program at each of its calls on files, gives it files cut and changed at many places, and
@@ -26,7 +26,7 @@ build_log := out/build.log
 try_log := out/try.log
 sources := -name out -prune -o \( -name '*.rt' -o -name '*.antt' -o -name crates.txt \)
 
-.PHONY: run try-run test edits try look hostile refuse store install bench build toolchain
+.PHONY: run try-run test edits tables try look hostile refuse store install bench build toolchain
 
 # The proved program is there where no source is newer. `rt try` compiles without proof, and keeps no program; the answers come when
 # the script has ended.

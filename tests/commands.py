@@ -505,6 +505,7 @@ def requests():
     yield head("GET", schedule, "nobody123"), UNKNOWN
     yield head("GET", schedule, "supplier01", "x-office-key: supplier01"), UNKNOWN
     yield command("supplier01", b'{"do":"release","variant":"v1"}'), json(refused(3, "NotYours"), "403 Forbidden")
+    yield command("supplier01", b'{"do":"grant","variant":"v1","slot":2,"channel":"A","supplier":"s1","node":"n1"}'), json(refused(3, "NotYours"), "403 Forbidden")
     yield command("supplier01", b'{"do":"schedule","variant":"1v"}'), json(refused(4, "BadName"), "422 Unprocessable Entity")
     yield command("supplier01", b"\xff"), json(refused(1, "BadText"), "400 Bad Request")
     yield command("supplier01", b""), json(refused(1, "BadText"), "400 Bad Request")

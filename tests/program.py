@@ -76,6 +76,41 @@ Example:
   slotplan run < first.script
 """
 
+CREATE_HELP = b"""\
+Makes a register file of a cluster file
+
+Usage: slotplan create <DB> <CONFIG>
+
+Arguments:
+  <DB>      The register file (an SQLite database)
+  <CONFIG>  The cluster file (TOML), at most 1,048,576 bytes
+
+Options:
+  -h, --help  Print help
+
+Example:
+  slotplan create car.db cluster.toml
+"""
+
+MIGRATE_HELP = b"""\
+Brings a register file of schema 1 to schema 2, with all that it holds
+
+Usage: slotplan migrate <DB>
+
+Arguments:
+  <DB>  The register file (an SQLite database)
+
+Options:
+  -h, --help  Print help
+
+End the server of the file first, and keep a copy of the file. A file of schema 2 is left as it
+is: WrongSchema.
+
+Example:
+  cp car.db car.backup.db
+  slotplan migrate car.db
+"""
+
 SERVE_HELP = b"""\
 Serves a register file over HTTP
 
@@ -153,6 +188,69 @@ Example:
   slotplan grants car.db v1 --supplier s1
 """
 
+FRAMES_HELP = b"""\
+Prints a variant's frames, with their nodes and placements
+
+Usage: slotplan frames [OPTIONS] <DB> <VARIANT>
+
+Arguments:
+  <DB>       The register file (an SQLite database)
+  <VARIANT>  The variant's name
+
+Options:
+      --supplier <NAME>  Prints what this supplier sees; without it, what the integrator sees
+  -h, --help             Print help
+
+A line for each frame: FRAME, frame, node, supplier. With --supplier the last is left
+out. Behind it a line for each placement: AT, slot, channels, base, repetition.
+
+Example:
+  slotplan frames car.db v1
+  slotplan frames car.db v1 --supplier s1
+"""
+
+SCHEDULE_HELP = b"""\
+Prints a variant's schedule: what is sent in which cycle, slot and channel
+
+Usage: slotplan schedule [OPTIONS] <DB> <VARIANT>
+
+Arguments:
+  <DB>       The register file (an SQLite database)
+  <VARIANT>  The variant's name
+
+Options:
+      --supplier <NAME>  Prints what this supplier sees; without it, what the integrator sees
+  -h, --help             Print help
+
+Each line: cycle, slot, channel, frame, node, supplier. With --supplier the last is
+left out.
+
+Example:
+  slotplan schedule car.db v1
+  slotplan schedule car.db v1 --supplier s1
+"""
+
+GAPS_HELP = b"""\
+Prints the greatest gap between two sendings of each frame of a variant, in macroticks
+
+Usage: slotplan gaps [OPTIONS] <DB> <VARIANT>
+
+Arguments:
+  <DB>       The register file (an SQLite database)
+  <VARIANT>  The variant's name
+
+Options:
+      --supplier <NAME>  Prints what this supplier sees; without it, what the integrator sees
+  -h, --help             Print help
+
+Each line: GAP, macroticks or never, frame, supplier. With --supplier the last is left
+out.
+
+Example:
+  slotplan gaps car.db v1
+  slotplan gaps car.db v1 --supplier s1
+"""
+
 PICTURE_HELP = b"""\
 Draws a variant's plan as a page of HTML, for a browser or a printer
 
@@ -197,6 +295,25 @@ Example:
   slotplan layout car.db v1 f1 --supplier s1
 """
 
+IMPORT_HELP = b"""\
+Carries out a supplier's import: a CSV file of placements or signals, all rows or none
+
+Usage: slotplan import <DB> <KEY> <VARIANT> <LABEL> <FILE>
+
+Arguments:
+  <DB>       The register file (an SQLite database)
+  <KEY>      The supplier's key
+  <VARIANT>  The variant's name
+  <LABEL>    The import's label: sent again, it has the same answer
+  <FILE>     The file (CSV), at most 65,536 bytes
+
+Options:
+  -h, --help  Print help
+
+Example:
+  slotplan import car.db supplier01 v1 week47 placements.csv
+"""
+
 CHECK_HELP = b"""\
 Says what is wrong with a cluster file and where, or prints its figures
 
@@ -226,6 +343,22 @@ Options:
 Example:
   slotplan explain CellTaken
 """
+
+HELP_OF = {
+    "create": CREATE_HELP,
+    "migrate": MIGRATE_HELP,
+    "ask": ASK_HELP,
+    "variants": VARIANTS_HELP,
+    "grants": GRANTS_HELP,
+    "frames": FRAMES_HELP,
+    "schedule": SCHEDULE_HELP,
+    "gaps": GAPS_HELP,
+    "layout": LAYOUT_HELP,
+    "picture": PICTURE_HELP,
+    "import": IMPORT_HELP,
+    "check": CHECK_HELP,
+    "explain": EXPLAIN_HELP,
+}
 
 NOT_UTF8 = b"""\
 error: a word is not UTF-8 text
@@ -291,8 +424,7 @@ def words():
     for name, text in ("run", RUN_HELP), ("serve", SERVE_HELP):
         for given in (name, "--help"), (name, "-h"), ("help", name):
             yield Case(f"the words {given}", written=text, words=given)
-    by_name = ("ask", ASK_HELP), ("variants", VARIANTS_HELP), ("grants", GRANTS_HELP), ("layout", LAYOUT_HELP), ("picture", PICTURE_HELP), ("check", CHECK_HELP), ("explain", EXPLAIN_HELP)
-    for name, text in by_name:
+    for name, text in HELP_OF.items():
         yield Case(f"the help of {name}", written=text, words=(name, "--help"))
     yield Case("no words", said=HELP, status=2, words=())
     called = ("Usage: slotplan <COMMAND>", "")

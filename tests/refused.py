@@ -135,6 +135,7 @@ OF_INTEGRATOR = {
     "open_variant": b'{"do":"open_variant","variant":"v2"}',
     "open_variant from": b'{"do":"open_variant","variant":"v2","from":"v0"}',
     "release": b'{"do":"release","variant":"v1"}',
+    "add_supplier": b'{"do":"add_supplier","supplier":"s3","key":"supplier03"}',
     "add_node": b'{"do":"add_node","supplier":"s2","node":"n2"}',
     "grant": b'{"do":"grant","variant":"v1","slot":3,"channel":"B","supplier":"s1","node":"n1"}',
     "revoke": b'{"do":"revoke","variant":"v1","slot":2,"channel":"A","supplier":"s1"}',
@@ -248,6 +249,7 @@ def ask_each(registers, refuser, calls, name, data, right):
 COMMANDS = [
     (["schedule", "car.db", "v1"], b"00 0001 A f1 n1 s1\n", False),
     (["gaps", "car.db", "v1"], b"GAP    6400 f1 s1\n", False),
+    (["variants", "car.db"], b"v0 - 1 released\nv1 - 1 open\n", False),
     (["import", "car.db", "supplier01", "v1", "week1", "rows.csv"], b'{"ok":"imported","rows":2}\n', False),
     (["create", "new.db", "cluster.toml"], b"", True),
 ]

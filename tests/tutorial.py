@@ -1,9 +1,10 @@
 #!/usr/bin/env python3
-"""Follows docs/TUTORIAL.md with the built program: tutorial.py PROGRAM.. [--print]
+"""Follows docs/TUTORIAL.md and README.md with the built program: tutorial.py PROGRAM.. [--print]
 
 A block behind the words "Save this as `NAME`:" is saved under that name. In a block of the console each line that begins with
-'$ ' is a command, and the lines behind it are what it prints. All commands run in one shell, in a folder that begins empty, and
-what they print is compared with the page. --print writes the page with what they printed. The last line is 'N passed, M failed'."""
+'$ ' is a command, and the lines behind it are what it prints. All commands of a page run in one shell, in a folder that begins
+empty, that of the README with examples/ in it. What they print is compared with the page. --print writes the pages with what
+they printed. The last line is 'N passed, M failed'."""
 import re
 import select
 import shutil
@@ -12,10 +13,12 @@ import subprocess
 import sys
 import tempfile
 import time
+from itertools import product
 from pathlib import Path
 
 TOP = Path(__file__).resolve().parent.parent
-PAGE = TOP / "docs/TUTORIAL.md"
+# The pages, each with what of the repository lies in the folder where it begins.
+PAGES = {TOP / "docs/TUTORIAL.md": (), TOP / "README.md": ("examples",)}
 PORT = "8080"
 SECONDS = 30
 BLOCK = re.compile(r"(?P<before>[^\n]*)\n\n```(?P<kind>\w+)\n(?P<text>.*?)```\n", re.DOTALL)
@@ -71,12 +74,14 @@ def steps(block):
         yield command, printed
 
 
-def follow(program, page):
-    """Follows the page. Gives it with what was printed, and the steps at which something else was."""
+def follow(program, page, there):
+    """Follows the page, in a folder where this is there. Gives it with what was printed, and the steps at which something else was."""
     port, wrong, passed = free_port(), [], 0
     with tempfile.TemporaryDirectory(prefix="slotplan-tutorial-") as at:
         folder = Path(at) / "plan"
         folder.mkdir()
+        for name in there:
+            shutil.copytree(TOP / name, folder / name)
         shell = Shell(program, folder)
 
         def tried(found):
@@ -107,21 +112,20 @@ def main():
     if not programs:
         sys.exit(__doc__)
     if not shutil.which("curl"):
-        print("there is no curl, so docs/TUTORIAL.md was not followed")
+        print("there is no curl, so the pages were not followed")
         print("0 passed, 0 failed")
         return 0
     passed, failed = 0, 0
-    for program in programs:
-        written, wrong, right = follow(program, PAGE.read_text())
+    for program, (page, there) in product(programs, PAGES.items()):
+        written, wrong, right = follow(program, page.read_text(), there)
         if "--print" in sys.argv:
             print(written, end="")
-            return 0
+            continue
         for step in wrong:
-            print(f"{program}: {step}")
-        passed, failed = passed + right, failed + len(wrong)
-    if passed + failed == 0:
-        print("the page has no command")
-        failed = 1
+            print(f"{program}: {page.name}: {step}")
+        if not wrong and not right:
+            print(f"{page.name} has no command")
+        passed, failed = passed + right, failed + (len(wrong) or not right)
     print(f"{passed} passed, {failed} failed")
     return 1 if failed else 0
 
