@@ -27,6 +27,13 @@ impl Image {
         }
     }
 
+    /// A database's file of these bytes, and an empty log.
+    pub(crate) fn of_bytes(alloc: Global, bytes: &[u8]) -> Result<Image, Fail> {
+        let mut image = Image::empty(alloc);
+        image.db.extend_from_slice(bytes)?;
+        Ok(image)
+    }
+
     /// What the files hold.
     pub(crate) fn of(alloc: Global, files: &Files<Fused>) -> Result<Image, Fail> {
         let mut image = Image::empty(alloc);

@@ -8,6 +8,8 @@ mod asks;
 #[cfg(test)]
 mod deeds;
 #[cfg(test)]
+mod foreign;
+#[cfg(test)]
 mod fused;
 #[cfg(test)]
 mod joining;

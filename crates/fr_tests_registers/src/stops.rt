@@ -97,7 +97,7 @@ impl Deed for Asking {
 fn asked(alloc: Global, store: Store<FileStore<Fused>>, lines: &[Line]) -> Result<Left, Fail> {
     let (count, store) = counted(alloc, store, lines)?;
     Ok(Left {
-        files: files_left(store.into_connection()),
+        files: store.give_up(),
         done: count.saturating_add(1),
         is_stopped: count < lines.len(),
     })
