@@ -7,7 +7,7 @@ use Rattle.fr_base.specs.Cells.{cluster_cells}
 use Rattle.fr_base.specs.Cluster.{Cluster}
 use Rattle.fr_base.specs.Names.{same_text}
 use Rattle.fr_base.specs.Refusing.{◌>>◌, refuse◌when◌}
-use Rattle.fr_base.specs.Queries.{frame_row, frames_of, gap_row, gaps_of, grants_of, named, reply, shown, signal_rows, signals_of, variant_asked}
+use Rattle.fr_base.specs.Queries.{frame_row, frames_of, gap_row, gaps_of, grants_of, named, reply, shown, signal_rows, signals_of}
 use Rattle.fr_base.specs.Sound.{IsSound}
 use Rattle.fr_base.specs.Tables.{contains, get, len, only}
 use Rattle.fr_base.specs.declared.actor.Actor.TheVariants.{Integrator}
@@ -23,7 +23,8 @@ use Rattle.fr_base.specs.declared.params.Params.{Params}
 use Rattle.fr_base.specs.declared.refusal.Refusal.{Refusal}
 use Rattle.fr_base.specs.declared.refusal.Refusal.TheVariants.{NoFrame, NoVariant, Unavailable}
 use Rattle.fr_base.specs.declared.request.Query.{Query}
-use Rattle.fr_base.specs.declared.request.Query.TheVariants.{Grants, Frames, Schedule, Gaps, Layout}
+use Rattle.fr_base.specs.declared.report.Report.{Report}
+use Rattle.fr_base.specs.declared.report.Report.TheVariants.{Grants, Frames, Schedule, Gaps, Layout}
 use Rattle.fr_base.proofs.SoundTables.{value_of}
 use Rattle.fr_answers.specs.Carried.{Replies}
 use Rattle.fr_records.specs.Held.{Standing}
@@ -100,7 +101,7 @@ module _ (c : Cluster) (b : Book) (v : Name) (x : Variant) (sound : IsSound c b)
 
 module _ (old new : Standing) (v : Name) (suppliers : List Name) (known : (c : Cluster) (b : Book) → old c b → suppliers ≡ supplier_names b) where
   pub all-grants : (rows : List GrantRow) →
-      Gathers old new (Ok rows) v (λ p x rows. rows ≡ grants_of (grants_among suppliers x.grants)) → ShowsAll old new (Grants v) (Ok (answer.Grants true rows))
+      Gathers old new (Ok rows) v (λ p x rows. rows ≡ grants_of (grants_among suppliers x.grants)) → ShowsAll old new v Grants (Ok (answer.Grants true rows))
   unfolding shown
   all-grants rows gathers c b stood sound =
       let told = gathers c b stood in (
@@ -110,7 +111,7 @@ module _ (old new : Standing) (v : Name) (suppliers : List Name) (known : (c : C
       )
 
   pub all-frames : (rows : List FrameRow) →
-      Gathers old new (Ok rows) v (λ p x rows. rows ≡ flat_map (λ s. frames_of (own s x.frames)) suppliers) → ShowsAll old new (Frames v) (Ok (answer.Frames true rows))
+      Gathers old new (Ok rows) v (λ p x rows. rows ≡ flat_map (λ s. frames_of (own s x.frames)) suppliers) → ShowsAll old new v Frames (Ok (answer.Frames true rows))
   unfolding shown
   all-frames rows gathers c b stood sound =
       let told = gathers c b stood in (
@@ -120,7 +121,7 @@ module _ (old new : Standing) (v : Name) (suppliers : List Name) (known : (c : C
       )
 
   pub all-gaps : (rows : List GapRow) →
-      Gathers old new (Ok rows) v (λ p x rows. rows ≡ flat_map (λ s. gaps_of p (own s x.frames)) suppliers) → ShowsAll old new (Gaps v) (Ok (answer.Gaps true rows))
+      Gathers old new (Ok rows) v (λ p x rows. rows ≡ flat_map (λ s. gaps_of p (own s x.frames)) suppliers) → ShowsAll old new v Gaps (Ok (answer.Gaps true rows))
   unfolding shown
   all-gaps rows gathers c b stood sound =
       let told = gathers c b stood in (
@@ -130,7 +131,7 @@ module _ (old new : Standing) (v : Name) (suppliers : List Name) (known : (c : C
       )
 
   pub all-schedule : (p : Params) (rows : List Sending) → ((c : Cluster) (b : Book) → old c b → p ≡ c.params) →
-      Gathers old new (Ok rows) v (λ _ x rows. rows ≡ sent_in (placements_among suppliers x) (cluster_cells p)) → ShowsAll old new (Schedule v) (Ok (answer.Schedule true rows))
+      Gathers old new (Ok rows) v (λ _ x rows. rows ≡ sent_in (placements_among suppliers x) (cluster_cells p)) → ShowsAll old new v Schedule (Ok (answer.Schedule true rows))
   unfolding shown
   all-schedule p rows of_p gathers c b stood sound =
       let told = gathers c b stood in (
@@ -144,7 +145,7 @@ module _ (old new : Standing) (v : Name) (suppliers : List Name) (known : (c : C
   named-known f c b x stood sound there = ap (λ ss. frames_named f ss x) (known c b stood) ∙ named-all c b v x sound there f
 
   pub all-layout : (f : Name) (rows : List SignalRow) →
-      Gathers old new (Ok (Some rows)) v (λ p x found. AreSignals f suppliers x found) → ShowsAll old new (Layout v f) (Ok (answer.Layout true rows))
+      Gathers old new (Ok (Some rows)) v (λ p x found. AreSignals f suppliers x found) → ShowsAll old new v (Layout f) (Ok (answer.Layout true rows))
   unfolding shown signals_of len ◌>>◌ refuse◌when◌
   all-layout f rows gathers c b stood sound =
       let told = gathers c b stood in (
@@ -157,7 +158,7 @@ module _ (old new : Standing) (v : Name) (suppliers : List Name) (known : (c : C
       )
 
   pub all-no_frame : (f : Name) →
-      Gathers {X = Option (List SignalRow)} old new (Ok None) v (λ p x found. AreSignals f suppliers x found) → ShowsAll old new (Layout v f) (Err NoFrame)
+      Gathers {X = Option (List SignalRow)} old new (Ok None) v (λ p x found. AreSignals f suppliers x found) → ShowsAll old new v (Layout f) (Err NoFrame)
   unfolding shown len ◌>>◌ refuse◌when◌
   all-no_frame f gathers c b stood sound =
       let told = gathers c b stood in (
@@ -167,40 +168,21 @@ module _ (old new : Standing) (v : Name) (suppliers : List Name) (known : (c : C
             inr (ap (λ t. (refuse NoFrame when t) >> Ok (answer.Layout true (signals_of (named f x.frames)))) (ap (λ (rs : List ((Name × Name) × Frame)). length rs == 0) none)),
       )
 
--- ---- nothing was gathered
-
-there_or_not : (o : Option Variant) (x : Variant) → o ≡ None → o ≡ Some x → ⊥
-there_or_not o x none some = let no : None ≡ Some x = sym none ∙ some in cc
-
-module _ {X : Type 0} (old new : Standing) (query : Query) (says : Params → Variant → X → Type 0) where
-  pub all-stops : (r : Result Answer Refusal) (e : Refusal) → r ≡ Err e → Gathers old new (Err e) (variant_asked query) says → ShowsAll old new query r
-  all-stops r e is gathers c b stood sound =
-      let told = gathers c b stood in (
-        told.0,
-        λ x there. rw is (elim told.1 [
-          | inl lacks ↦ inl lacks
-          | inr none ↦ absurd (there_or_not _ x none.1 there)
-        ]),
-      )
-
-  pub all-lacks : (r : Result Answer Refusal) (found : X) → r ≡ Err Unavailable → Gathers old new (Ok found) (variant_asked query) says → ShowsAll old new query r
-  all-lacks r found is gathers c b stood sound = ((gathers c b stood).0, λ x there. rw is (inl refl))
-
 -- ---- the answer to the integrator
 
 module _ (old mid : Standing) (query : Query) (has : Bool)
-    (told : (c : Cluster) (b : Book) → old c b → mid c b × (has ≡ contains b.variants (variant_asked query))) where
-  pub all-replied : (new : Standing) (r : Result Answer Refusal) → has ≡ true → ShowsAll mid new query r → Replies old new r (λ c b. reply c.params b Integrator query)
+    (told : (c : Cluster) (b : Book) → old c b → mid c b × (has ≡ contains b.variants query.variant)) where
+  pub all-replied : (new : Standing) (r : Result Answer Refusal) → has ≡ true → ShowsAll mid new query.variant query.report r → Replies old new r (λ c b. reply c.params b Integrator query)
   all-replied new r is shows c b stood sound =
       let first = told c b stood in
-      let found = value_of (get b.variants (variant_asked query)) (sym first.1 ∙ is) in
+      let found = value_of (get b.variants query.variant) (sym first.1 ∙ is) in
       let last = shows c b first.0 sound in
       (last.0, subst (Said r) (sym (reply-there c.params b Integrator query found.0 found.1)) (last.1 found.0 found.1))
 
   pub none-replied : has ≡ false → Replies old mid (Err NoVariant) (λ c b. reply c.params b Integrator query)
   none-replied is c b stood sound =
       let first = told c b stood in
-      (first.0, inr (reply-none c.params b Integrator query (none_of (get b.variants (variant_asked query)) (sym first.1 ∙ is))))
+      (first.0, inr (reply-none c.params b Integrator query (none_of (get b.variants query.variant) (sym first.1 ∙ is))))
     where
       none_of : (o : Option Variant) → is_some o ≡ false → o ≡ None
       none_of None e = refl

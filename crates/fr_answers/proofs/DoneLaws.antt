@@ -4,7 +4,7 @@ use Rattle.fr_base.specs.Alone.{is_done}
 use Rattle.fr_base.specs.Book.{Book, Kept, Variant}
 use Rattle.fr_base.specs.Cluster.{Cluster}
 use Rattle.fr_base.specs.Checks.{check}
-use Rattle.fr_base.specs.Queries.{reply, shown, variant_asked}
+use Rattle.fr_base.specs.Queries.{reply, shown}
 use Rattle.fr_base.specs.Refusing.{◌or◌}
 use Rattle.fr_base.specs.Sound.{IsSound}
 use Rattle.fr_base.specs.Step.{Outcome, RefusedAt, act, add_node, add_supplier, change_rows, common, done, import, imported, knows, outcome, perform, step}
@@ -22,7 +22,8 @@ use Rattle.fr_base.specs.declared.request.Checked.{Checked}
 use Rattle.fr_base.specs.declared.request.Checked.TheVariants as checked
 use Rattle.fr_base.specs.declared.request.Import.{Import}
 use Rattle.fr_base.specs.declared.request.Query.{Query}
-use Rattle.fr_base.specs.declared.request.Query.TheVariants.{Grants, Frames, Schedule, Gaps, Layout}
+use Rattle.fr_base.specs.declared.report.Report.{Report}
+use Rattle.fr_base.specs.declared.report.Report.TheVariants.{Grants, Frames, Schedule, Gaps, Layout}
 use Rattle.fr_base.proofs.SoundRefusing.{gives_bind, gives_each, gives_unless, gives_when}
 use Rattle.fr_answers.specs.Answering.{AfterAct, WhereChanged}
 use Rattle.fr_records.specs.Held.{Standing}
@@ -43,17 +44,17 @@ module _ (p : Params) (b : Book) (i : Import) where
   import-told (Some one) = gives_unless _ _ _ _ (λ _. refl)
 
 module _ (p : Params) (actor : Actor) where
-  shown-told : (variant : Variant) (query : Query) → IfOk (shown p actor variant query) (λ a. is_done a ≡ false)
+  shown-told : (variant : Variant) (report : Report Name) → IfOk (shown p actor variant report) (λ a. is_done a ≡ false)
   unfolding shown
-  shown-told variant (Grants v) = refl
-  shown-told variant (Frames v) = refl
-  shown-told variant (Schedule v) = refl
-  shown-told variant (Gaps v) = refl
-  shown-told variant (Layout v f) = gives_when _ _ _ _ (λ _. refl)
+  shown-told variant Grants = refl
+  shown-told variant Frames = refl
+  shown-told variant Schedule = refl
+  shown-told variant Gaps = refl
+  shown-told variant (Layout f) = gives_when _ _ _ _ (λ _. refl)
 
   reply-told : (b : Book) (query : Query) → IfOk (reply p b actor query) (λ a. is_done a ≡ false)
   unfolding reply
-  reply-told b query = gives_each _ (get b.variants (variant_asked query) or NoVariant) _ (λ variant _. shown-told variant query)
+  reply-told b query = gives_each _ (get b.variants query.variant or NoVariant) _ (λ variant _. shown-told variant query.report)
 
 -- ---- what changes a register
 

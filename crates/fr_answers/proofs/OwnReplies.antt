@@ -4,7 +4,7 @@ use Rattle.std.specs.Prelude.{MatchResult}
 use Rattle.fr_base.specs.Book.{Book, Variant}
 use Rattle.fr_base.specs.Cluster.{Cluster}
 use Rattle.fr_base.specs.Refusing.{◌>>=◌, ◌>>◌, ◌or◌, refuse◌when◌}
-use Rattle.fr_base.specs.Queries.{frames_of, gaps_of, grants_of, named, reply, sendings_of, shown, signals_of, variant_asked}
+use Rattle.fr_base.specs.Queries.{frames_of, gaps_of, grants_of, named, reply, sendings_of, shown, signals_of}
 use Rattle.fr_base.specs.Step.{OwnRows, own_rows}
 use Rattle.fr_base.specs.Tables.{get, len}
 use Rattle.fr_base.specs.declared.actor.Actor.{Actor}
@@ -21,7 +21,8 @@ use Rattle.fr_base.specs.declared.params.Params.{Params}
 use Rattle.fr_base.specs.declared.refusal.Refusal.{Refusal}
 use Rattle.fr_base.specs.declared.refusal.Refusal.TheVariants.{NoFrame, NoVariant, Unavailable}
 use Rattle.fr_base.specs.declared.request.Query.{Query}
-use Rattle.fr_base.specs.declared.request.Query.TheVariants.{Grants, Frames, Schedule, Gaps, Layout}
+use Rattle.fr_base.specs.declared.report.Report.{Report}
+use Rattle.fr_base.specs.declared.report.Report.TheVariants.{Grants, Frames, Schedule, Gaps, Layout}
 use Rattle.fr_answers.specs.Carried.{Replies}
 use Rattle.fr_records.specs.Held.{Keeps, Standing, page_of}
 use Rattle.fr_base.proofs.SoundTables.{same_some}
@@ -32,32 +33,32 @@ use Rattle.fr_world.proofs.PageLaws.{rows-registers}
 
 -- ---- what is shown on a page
 
-module _ (page : PageData) (v : Name) where
-  pub shows-grants : (rows : List GrantRow) → rows ≡ grants_of (own_rows_of page).grants → ShowsOwn page (Grants v) (Ok (answer.Grants false rows))
+module _ (page : PageData) where
+  pub shows-grants : (rows : List GrantRow) → rows ≡ grants_of (own_rows_of page).grants → ShowsOwn page Grants (Ok (answer.Grants false rows))
   unfolding shown own_rows
   shows-grants rows e b x same = ap (λ rs. Ok (answer.Grants false rs)) (sym (e ∙ ap (λ (r : OwnRows). grants_of r.grants) same))
 
-  pub shows-frames : (rows : List FrameRow) → rows ≡ frames_of (own_rows_of page).frames → ShowsOwn page (Frames v) (Ok (answer.Frames false rows))
+  pub shows-frames : (rows : List FrameRow) → rows ≡ frames_of (own_rows_of page).frames → ShowsOwn page Frames (Ok (answer.Frames false rows))
   unfolding shown own_rows
   shows-frames rows e b x same = ap (λ rs. Ok (answer.Frames false rs)) (sym (e ∙ ap (λ (r : OwnRows). frames_of r.frames) same))
 
-  pub shows-schedule : (rows : List Sending) → rows ≡ sendings_of page.params (own_rows_of page).frames → ShowsOwn page (Schedule v) (Ok (answer.Schedule false rows))
+  pub shows-schedule : (rows : List Sending) → rows ≡ sendings_of page.params (own_rows_of page).frames → ShowsOwn page Schedule (Ok (answer.Schedule false rows))
   unfolding shown own_rows
   shows-schedule rows e b x same = ap (λ rs. Ok (answer.Schedule false rs)) (sym (e ∙ ap (λ (r : OwnRows). sendings_of page.params r.frames) same))
 
-  pub shows-gaps : (rows : List GapRow) → rows ≡ gaps_of page.params (own_rows_of page).frames → ShowsOwn page (Gaps v) (Ok (answer.Gaps false rows))
+  pub shows-gaps : (rows : List GapRow) → rows ≡ gaps_of page.params (own_rows_of page).frames → ShowsOwn page Gaps (Ok (answer.Gaps false rows))
   unfolding shown own_rows
   shows-gaps rows e b x same = ap (λ rs. Ok (answer.Gaps false rs)) (sym (e ∙ ap (λ (r : OwnRows). gaps_of page.params r.frames) same))
 
   pub shows-layout : (f : Name) (rows : List SignalRow) → rows ≡ signals_of (named f (own_rows_of page).frames) → (len (named f (own_rows_of page).frames) == 0) ≡ false →
-      ShowsOwn page (Layout v f) (Ok (answer.Layout false rows))
+      ShowsOwn page (Layout f) (Ok (answer.Layout false rows))
   unfolding shown own_rows ◌>>◌ refuse◌when◌
   shows-layout f rows e some b x same =
       ap (λ t. (refuse NoFrame when t) >> Ok (answer.Layout false (signals_of (named f (own_rows page.params b page.supplier x).frames))))
       (ap (λ (r : OwnRows). len (named f r.frames) == 0) (sym same) ∙ some)
       ∙ ap (λ rs. Ok (answer.Layout false rs)) (sym (e ∙ ap (λ (r : OwnRows). signals_of (named f r.frames)) same))
 
-  pub shows-no_frame : (f : Name) → (len (named f (own_rows_of page).frames) == 0) ≡ true → ShowsOwn page (Layout v f) (Err NoFrame)
+  pub shows-no_frame : (f : Name) → (len (named f (own_rows_of page).frames) == 0) ≡ true → ShowsOwn page (Layout f) (Err NoFrame)
   unfolding shown own_rows ◌>>◌ refuse◌when◌
   shows-no_frame f none b x same =
       inr (ap (λ t. (refuse NoFrame when t) >> Ok (answer.Layout false (signals_of (named f (own_rows page.params b page.supplier x).frames))))
@@ -95,23 +96,23 @@ finds-kept old mid new s v page finds keeps c b stood =
 abbrev pub Said : Result Answer Refusal → Result Answer Refusal → Type 0
 Said r t = MatchResult r (λ answer. t ≡ Ok answer) (λ e. (e ≡ Unavailable) ⊎ (t ≡ Err e))
 
-pub reply-there : (p : Params) (b : Book) (a : Actor) (query : Query) (x : Variant) → get b.variants (variant_asked query) ≡ Some x → reply p b a query ≡ shown p a x query
+pub reply-there : (p : Params) (b : Book) (a : Actor) (query : Query) (x : Variant) → get b.variants query.variant ≡ Some x → reply p b a query ≡ shown p a x query.report
 unfolding reply ◌or◌ ◌>>=◌
-reply-there p b a query x there = ap (λ o. (o or NoVariant) >>= λ variant. shown p a variant query) there
+reply-there p b a query x there = ap (λ o. (o or NoVariant) >>= λ variant. shown p a variant query.report) there
 
-pub reply-none : (p : Params) (b : Book) (a : Actor) (query : Query) → get b.variants (variant_asked query) ≡ None → reply p b a query ≡ Err NoVariant
+pub reply-none : (p : Params) (b : Book) (a : Actor) (query : Query) → get b.variants query.variant ≡ None → reply p b a query ≡ Err NoVariant
 unfolding reply ◌or◌ ◌>>=◌
-reply-none p b a query none = ap (λ o. (o or NoVariant) >>= λ variant. shown p a variant query) none
+reply-none p b a query none = ap (λ o. (o or NoVariant) >>= λ variant. shown p a variant query.report) none
 
 module _ (old new : Standing) (s : Name) (query : Query) where
-  pub replies-own : (page : PageData) (r : Result Answer Refusal) → FindsPage old new (Ok page) s (variant_asked query) → ShowsOwn page query r → Replies old new r (λ c b. reply c.params b (Supplier s) query)
+  pub replies-own : (page : PageData) (r : Result Answer Refusal) → FindsPage old new (Ok page) s query.variant → ShowsOwn page query.report r → Replies old new r (λ c b. reply c.params b (Supplier s) query)
   replies-own page r finds shows c b stood sound =
       let found = finds c b stood in
       let x = found.1.0 in
-      let own : ShowsOwn (page_in c.params b s (variant_asked query) x) query r = subst (λ p. ShowsOwn p query r) found.1.2 shows in
-      (found.0, subst (Said r) (sym (reply-there c.params b (Supplier s) query x found.1.1)) (own b x (rows-registers c b s (variant_asked query) x)))
+      let own : ShowsOwn (page_in c.params b s query.variant x) query.report r = subst (λ p. ShowsOwn p query.report r) found.1.2 shows in
+      (found.0, subst (Said r) (sym (reply-there c.params b (Supplier s) query x found.1.1)) (own b x (rows-registers c b s query.variant x)))
 
-  pub replies-none : (r : Result Answer Refusal) (e : Refusal) → r ≡ Err e → FindsPage old new (Err e) s (variant_asked query) → Replies old new r (λ c b. reply c.params b (Supplier s) query)
+  pub replies-none : (r : Result Answer Refusal) (e : Refusal) → r ≡ Err e → FindsPage old new (Err e) s query.variant → Replies old new r (λ c b. reply c.params b (Supplier s) query)
   replies-none r e is finds c b stood sound =
       let found = finds c b stood in (
         found.0,

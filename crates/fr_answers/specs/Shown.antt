@@ -1,10 +1,10 @@
--- Shown: what is read to answer a query, of one supplier's page or of all, and that the query shows what the definition
--- has.
+-- Shown: what is read to answer a query, of one supplier's page or of all, and that the report shows what the
+-- definition has.
 use Rattle.std.specs.List.{flat_map}
 use Rattle.std.specs.Prelude.{◌≡◌, ◌<◌, ◌⊎◌, List, [], length, Option, Some, None, Result, Ok, Err, MatchResult}
 use Rattle.fr_base.specs.Book.{Book, Frame, Variant, own}
 use Rattle.fr_base.specs.Cluster.{Cluster}
-use Rattle.fr_base.specs.Queries.{named, shown, signal_rows, variant_asked}
+use Rattle.fr_base.specs.Queries.{named, shown, signal_rows}
 use Rattle.fr_base.specs.Sound.{IsSound}
 use Rattle.fr_base.specs.Step.{own_rows}
 use Rattle.fr_base.specs.Tables.{get}
@@ -15,7 +15,7 @@ use Rattle.fr_base.specs.declared.name.Name.{Name}
 use Rattle.fr_base.specs.declared.params.Params.{Params}
 use Rattle.fr_base.specs.declared.refusal.Refusal.{Refusal}
 use Rattle.fr_base.specs.declared.refusal.Refusal.TheVariants.{NoVariant, Unavailable}
-use Rattle.fr_base.specs.declared.request.Query.{Query}
+use Rattle.fr_base.specs.declared.report.Report.{Report}
 use Rattle.fr_records.specs.Held.{Standing}
 use Rattle.fr_world.specs.Pages.{PageData, own_rows_of, page_in}
 
@@ -26,11 +26,11 @@ FindsPage old new r s v = (c : Cluster) (b : Book) → old c b → new c b × Ma
     (λ page. (x : Variant) × (get b.variants v ≡ Some x) × (page ≡ page_in c.params b s v x))
     (λ e. (e ≡ Unavailable) ⊎ ((e ≡ NoVariant) × (get b.variants v ≡ None)))
 
--- The query shows the page's supplier what it shows it of any variant of which the page is its rows; or the answer is Unavailable.
-abbrev pub ShowsOwn : PageData → Query → Result Answer Refusal → Type 0
-ShowsOwn page query r = (b : Book) (x : Variant) → own_rows_of page ≡ own_rows page.params b page.supplier x → MatchResult r
-    (λ answer. shown page.params (Supplier page.supplier) x query ≡ Ok answer)
-    (λ e. (e ≡ Unavailable) ⊎ (shown page.params (Supplier page.supplier) x query ≡ Err e))
+-- The report shows the page's supplier what it shows it of any variant of which the page is its rows; or the answer is Unavailable.
+abbrev pub ShowsOwn : PageData → Report Name → Result Answer Refusal → Type 0
+ShowsOwn page report r = (b : Book) (x : Variant) → own_rows_of page ≡ own_rows page.params b page.supplier x → MatchResult r
+    (λ answer. shown page.params (Supplier page.supplier) x report ≡ Ok answer)
+    (λ e. (e ≡ Unavailable) ⊎ (shown page.params (Supplier page.supplier) x report ≡ Err e))
 
 -- What was gathered of the variant, if it is there, is this; or it is not there, or the answer is Unavailable. The records stand for
 -- the same book as before.
@@ -39,12 +39,12 @@ Gathers old new r v says = (c : Cluster) (b : Book) → old c b → new c b × M
     (λ found. (x : Variant) → get b.variants v ≡ Some x → says c.params x found)
     (λ e. (e ≡ Unavailable) ⊎ ((e ≡ NoVariant) × (get b.variants v ≡ None)))
 
--- The query shows the integrator, of the variant if it is there, what the definition has; or the answer is Unavailable. The records
+-- The report shows the integrator, of the variant if it is there, what the definition has; or the answer is Unavailable. The records
 -- stand for the same book as before.
-abbrev pub ShowsAll : Standing → Standing → Query → Result Answer Refusal → Type 0
-ShowsAll old new query r = (c : Cluster) (b : Book) → old c b → IsSound c b → new c b × ((x : Variant) → get b.variants (variant_asked query) ≡ Some x → MatchResult r
-    (λ answer. shown c.params Integrator x query ≡ Ok answer)
-    (λ e. (e ≡ Unavailable) ⊎ (shown c.params Integrator x query ≡ Err e)))
+abbrev pub ShowsAll : Standing → Standing → Name → Report Name → Result Answer Refusal → Type 0
+ShowsAll old new v report r = (c : Cluster) (b : Book) → old c b → IsSound c b → new c b × ((x : Variant) → get b.variants v ≡ Some x → MatchResult r
+    (λ answer. shown c.params Integrator x report ≡ Ok answer)
+    (λ e. (e ≡ Unavailable) ⊎ (shown c.params Integrator x report ≡ Err e)))
 
 -- the frames of this name of these suppliers in the variant, one supplier's after another's
 abbrev pub frames_named : Name → List Name → Variant → List ((Name × Name) × Frame)

@@ -1,6 +1,6 @@
 //! Answers queries: from one supplier's page, or gathered from all.
 ghost use Rattle.std.specs.Prelude.{◌≡◌, IfOk};
-ghost use Rattle.fr_base.specs.Queries.{reply, variant_asked};
+ghost use Rattle.fr_base.specs.Queries.{reply};
 ghost use Rattle.fr_base.specs.declared.actor.Actor.TheVariants.{Integrator, Supplier};
 ghost use Rattle.fr_answers.specs.Carried.{Replies};
 ghost use Rattle.fr_answers.specs.Shown.{FindsPage, ShowsAll, ShowsOwn};
@@ -19,7 +19,7 @@ use crate::queries::grants::{gather_grants, page_grants};
 use crate::queries::layout::{gather_signals, push_signals};
 use crate::queries::schedule::{gather_schedule, page_schedule};
 use crate::queries::suppliers::supplier_names;
-use fr_base::{Actor, Answer, Name, Query, Refusal, Rows};
+use fr_base::{Actor, Answer, Name, Query, Refusal, Report, Rows};
 use fr_records::Records;
 use fr_world::Page;
 use std::alloc::Global;
@@ -53,40 +53,44 @@ fn reply_to_integrator<R: Records>(
     ensures leaves { R.clean records.new → LeavesNoMore (R.leaves records.old) (R.leaves records.new) }
     ensures replies { R.clean records.new → Replies (R.stands records.old) (R.stands records.new) result (λ c b. reply c.params b Integrator query.now) }
 {
-    if records.has_variant(variant_asked(query))? {
-        show_all(alloc, records, query)
+    if records.has_variant(query.variant)? {
+        show_all(alloc, records, query.variant, &query.report)
     } else {
         Err(Refusal::NoVariant)
     }
 }
 
-// What the query shows the integrator of the variant, which is there.
-fn show_all<R: Records>(alloc: Global, records: &mut R, query: &Query) -> Result<Answer, Refusal>
+// What the report shows the integrator of the variant, which is there.
+fn show_all<R: Records>(
+    alloc: Global,
+    records: &mut R,
+    variant: Name,
+    report: &Report<Name>,
+) -> Result<Answer, Refusal>
     ensures falls { R.clean records.new → R.clean records.old }
     ensures leaves { R.clean records.new → LeavesNoMore (R.leaves records.old) (R.leaves records.new) }
-    ensures shows { R.clean records.new → ShowsAll (R.stands records.old) (R.stands records.new) query.now result }
+    ensures shows { R.clean records.new → ShowsAll (R.stands records.old) (R.stands records.new) variant report.now result }
 {
     let params = records.config().params();
     let suppliers = supplier_names(alloc, records.config())?;
-    let variant = variant_asked(query);
-    match query {
-        Query::Grants { .. } => {
+    match report {
+        Report::Grants => {
             let rows = gather_grants(alloc, records, &suppliers, variant)?;
             Ok(Answer::Grants { all: true, rows })
         }
-        Query::Frames { .. } => {
+        Report::Frames => {
             let rows = gather_frames(alloc, records, &suppliers, variant)?;
             Ok(Answer::Frames { all: true, rows })
         }
-        Query::Schedule { .. } => {
+        Report::Schedule => {
             let rows = gather_schedule(alloc, records, &params, &suppliers, variant)?;
             Ok(Answer::Schedule { all: true, rows })
         }
-        Query::Gaps { .. } => {
+        Report::Gaps => {
             let rows = gather_gaps(alloc, records, &suppliers, variant)?;
             Ok(Answer::Gaps { all: true, rows })
         }
-        Query::Layout { frame, .. } => {
+        Report::Layout { frame } => {
             match gather_signals(alloc, records, &suppliers, variant, *frame)? {
                 Some(rows) => Ok(Answer::Layout { all: true, rows }),
                 None => Err(Refusal::NoFrame),
@@ -106,8 +110,8 @@ fn reply_to_supplier<R: Records>(
     ensures leaves { R.clean records.new → LeavesNoMore (R.leaves records.old) (R.leaves records.new) }
     ensures replies { R.clean records.new → Replies (R.stands records.old) (R.stands records.new) result (λ c b. reply c.params b (Supplier supplier) query.now) }
 {
-    let page = find_page(alloc, records, supplier, variant_asked(query))?;
-    let answer = show(alloc, &page, query);
+    let page = find_page(alloc, records, supplier, query.variant)?;
+    let answer = show(alloc, &page, &query.report);
     records.keep(page);
     answer
 }
@@ -130,48 +134,35 @@ pub(crate) fn find_page<R: Records>(
     }
 }
 
-// What the query shows the page's supplier.
-fn show(alloc: Global, page: &Page, query: &Query) -> Result<Answer, Refusal>
-    ensures { ShowsOwn page.now query.now result }
+// What the report shows the page's supplier.
+fn show(alloc: Global, page: &Page, report: &Report<Name>) -> Result<Answer, Refusal>
+    ensures { ShowsOwn page.now report.now result }
 {
-    match query {
-        Query::Grants { .. } => Ok(Answer::Grants {
+    match report {
+        Report::Grants => Ok(Answer::Grants {
             all: false,
             rows: page_grants(alloc, page)?,
         }),
-        Query::Frames { .. } => {
+        Report::Frames => {
             let mut rows = Rows::new(alloc);
             push_frames(alloc, page, &mut rows)?;
             Ok(Answer::Frames { all: false, rows })
         }
-        Query::Schedule { .. } => Ok(Answer::Schedule {
+        Report::Schedule => Ok(Answer::Schedule {
             all: false,
             rows: page_schedule(alloc, page)?,
         }),
-        Query::Gaps { .. } => {
+        Report::Gaps => {
             let mut rows = Rows::new(alloc);
             push_gaps(page, &mut rows)?;
             Ok(Answer::Gaps { all: false, rows })
         }
-        Query::Layout { frame, .. } => {
+        Report::Layout { frame } => {
             let mut rows = Rows::new(alloc);
             if !push_signals(page, *frame, &mut rows)? {
                 return Err(Refusal::NoFrame);
             }
             Ok(Answer::Layout { all: false, rows })
         }
-    }
-}
-
-// The variant that the query asks about.
-fn variant_asked(query: &Query) -> Name
-    ensures { result ≡ variant_asked query.now }
-{
-    match query {
-        Query::Grants { variant } => *variant,
-        Query::Frames { variant } => *variant,
-        Query::Schedule { variant } => *variant,
-        Query::Gaps { variant } => *variant,
-        Query::Layout { variant, .. } => *variant,
     }
 }

@@ -10,7 +10,8 @@ use Rattle.fr_base.specs.declared.answer.Answer.TheVariants.{Done, Refused, Sche
 use Rattle.fr_base.specs.declared.channel.Channel.TheVariants as ch
 use Rattle.fr_base.specs.declared.refusal.Refusal.TheVariants.{UnknownKey, Limit, Taken, KeyTaken}
 use Rattle.fr_base.specs.declared.request.Ask.{Ask}
-use Rattle.fr_base.specs.declared.request.Request.TheVariants.{OpenVariant, AddSupplier, AddNode, Grant, AddFrame, Place, Schedule}
+use Rattle.fr_base.specs.declared.request.Request.TheVariants.{OpenVariant, AddSupplier, AddNode, Grant, AddFrame, Place, Query}
+use Rattle.fr_base.specs.declared.report.Report.TheVariants.{Schedule}
 use Rattle.fr_base.proofs.WorkedRows.{file, full_file, answers, a_small_register, integrator, s1, s2, s3}
 
 -- what the rows below unfold
@@ -42,7 +43,7 @@ planned =
 
 -- the schedule of `s1`
 unfoldable pub asked : List Ask
-asked = s1 (Schedule (codes "v1")) ∷ []
+asked = s1 (Query (codes "v1") Schedule) ∷ []
 
 unfoldable pub answered : List Answer
 answered =
@@ -93,11 +94,11 @@ taken_beside = (refl, refl)
 -- what a supplier asked before it joined is UnknownKey alone too
 unfoldable pub s3_joins : List Ask
 s3_joins =
-    s3 (Schedule (codes "v1"))
+    s3 (Query (codes "v1") Schedule)
     ∷ integrator (AddSupplier (codes "s3") (codes "supplier01"))
     ∷ integrator (AddSupplier (codes "s3") (codes "supplier03"))
     ∷ integrator (OpenVariant (codes "v1") None)
-    ∷ s3 (Schedule (codes "v1"))
+    ∷ s3 (Query (codes "v1") Schedule)
     ∷ []
 
 pub joined_alone :

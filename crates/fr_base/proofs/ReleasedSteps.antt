@@ -10,7 +10,7 @@ use Rattle.fr_base.specs.Cluster.{Cluster}
 use Rattle.fr_base.specs.Names.{same_text}
 use Rattle.fr_base.specs.Book.{Frame, Variant, Kept, Book}
 use Rattle.fr_base.specs.ImportRows.{rows_of_body}
-use Rattle.fr_base.specs.Queries.{shown, reply, variant_asked}
+use Rattle.fr_base.specs.Queries.{shown, reply}
 use Rattle.fr_base.specs.Step.{Outcome, knows, with_variant, begun, common, add_supplier, add_node, own_rows, shared_by, admits, change_rows, done, perform, RefusedAt, frame_at, with_frame, act_row, act_rows, imported, import, act, outcome, step}
 use Rattle.fr_base.specs.Run.{IsRun}
 use Rattle.fr_base.specs.declared.key.Key.{Key}
@@ -177,9 +177,9 @@ run-keeps_released c b last asks answers v x there frozen run = run-stays c b la
 -- ---- queries
 
 -- where the variant that is asked about is the same, the reply is
-reply-alike : (p : Params) (b d : Book) (actor : Actor) (query : Query) → get d.variants (variant_asked query) ≡ get b.variants (variant_asked query) → reply p d actor query ≡ reply p b actor query
+reply-alike : (p : Params) (b d : Book) (actor : Actor) (query : Query) → get d.variants query.variant ≡ get b.variants query.variant → reply p d actor query ≡ reply p b actor query
 unfolding reply
-reply-alike p b d actor query same = ap (λ o. (o or NoVariant) >>= (λ x. shown p actor x query)) same
+reply-alike p b d actor query same = ap (λ o. (o or NoVariant) >>= (λ x. shown p actor x query.report)) same
 
 answer-of : (b d : Book) (r : Result Answer Refusal) → (outcome d (r >>= (λ rows. Ok (record { book = d; answer = rows })))).answer ≡ (outcome b (r >>= (λ rows. Ok (record { book = b; answer = rows })))).answer
 unfolding outcome ◌>>=◌
@@ -188,13 +188,13 @@ answer-of b d (Err e) = refl
 
 -- a request that is a query is answered alike where its sender is known and the variant that it asks about is the same
 query-alike : (c : Cluster) (b d : Book) (actor : Actor) (request : Request) (query : Query) → check c.params actor request ≡ Ok (checked.Query query) → IsTrue (knows b actor) → IsTrue (knows d actor) →
-    get d.variants (variant_asked query) ≡ get b.variants (variant_asked query) → (step c d actor request).answer ≡ (step c b actor request).answer
+    get d.variants query.variant ≡ get b.variants query.variant → (step c d actor request).answer ≡ (step c b actor request).answer
 unfolding step act outcome ◌>>=◌ ◌>>◌ refuse◌when◌
 query-alike c b d actor request query passed was is same =
     rw (was, is, passed) (ap (λ r. (outcome d (r >>= (λ rows. Ok (record { book = d; answer = rows })))).answer) (reply-alike c.params b d actor query same) ∙ answer-of b d (reply c.params b actor query))
 
 pub run-keeps_answers : (c : Cluster) (b last : Book) (asks : List Ask) (answers : List Answer) (v : Name) (x : Variant) → get b.variants v ≡ Some x → IsTrue x.released → IsRun c b asks answers last →
-    (actor : Actor) (request : Request) (query : Query) → IsTrue (knows b actor) → check c.params actor request ≡ Ok (checked.Query query) → variant_asked query ≡ v → (step c last actor request).answer ≡ (step c b actor request).answer
+    (actor : Actor) (request : Request) (query : Query) → IsTrue (knows b actor) → check c.params actor request ≡ Ok (checked.Query query) → query.variant ≡ v → (step c last actor request).answer ≡ (step c b actor request).answer
 run-keeps_answers c b last asks answers v x there frozen run actor request query known passed about =
     query-alike c b last actor request query passed known (run-knows c b last asks answers actor known run)
     (ap (get last.variants) about ∙ run-stays c b last asks answers v x there frozen run ∙ sym (ap (get b.variants) about ∙ there))

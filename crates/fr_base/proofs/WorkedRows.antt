@@ -7,7 +7,7 @@ use Rattle.fr_base.specs.Tables.{empty, get, len, insert, only, remove, from_row
 use Rattle.fr_base.specs.Keys.{numbers, names, channel_order, channels_order, owned, channel_slots, placement_order}
 use Rattle.fr_base.specs.Names.{is_name, is_key}
 use Rattle.fr_base.specs.Cycles.{Cycles, is_cycle_count, is_repetition, is_cycle_set, all_cycles, cycles_of, has_cycle, first_common}
-use Rattle.fr_base.specs.Checks.{asking, key, name, cycles, slot, channel, channels, placement, signal, parent_name, check}
+use Rattle.fr_base.specs.Checks.{asking, key, name, cycles, slot, channel, channels, placement, signal, parent_name, report, check}
 use Rattle.fr_base.specs.Cells.{cells_of, has_cell, cluster_cells}
 use Rattle.fr_base.specs.Schedule.{fill, first_taken, entries}
 use Rattle.fr_base.specs.Cluster.{ClusterFile}
@@ -28,7 +28,8 @@ use Rattle.fr_base.specs.declared.refusal.Refusal.TheVariants.{UnknownKey, NotYo
 use Rattle.fr_base.specs.declared.actor.Actor.TheVariants.{Integrator, Supplier}
 use Rattle.fr_base.specs.declared.request.Ask.{Ask}
 use Rattle.fr_base.specs.declared.request.Request.{Request}
-use Rattle.fr_base.specs.declared.request.Request.TheVariants.{OpenVariant, Release, AddNode, Grant, Revoke, AddFrame, DropFrame, Place, Unplace, AddSignal, DropSignal, Grants, Frames, Schedule, Gaps, Layout, AddSupplier}
+use Rattle.fr_base.specs.declared.request.Request.TheVariants.{OpenVariant, Release, AddNode, Grant, Revoke, AddFrame, DropFrame, Place, Unplace, AddSignal, DropSignal, AddSupplier, Query}
+use Rattle.fr_base.specs.declared.report.Report.TheVariants.{Grants, Frames, Schedule, Gaps, Layout}
 use Rattle.fr_base.specs.declared.signal.Order.TheVariants as order
 
 -- the most that a register holds: suppliers, nodes of a supplier, variants, depth, frames of a supplier, placements and signals of
@@ -96,7 +97,7 @@ answers asks = answers_to file.cluster (opening file) asks
 
 -- what the rows below unfold
 unfoldable pub a_small_register : ⊤
-unfolding file answers ◌>>=◌ ◌>>◌ ◌or◌ refuse◌when◌ empty get len insert only remove from_rows settle numbers names channel_order channels_order owned channel_slots placement_order is_name is_key all_cycles cycles_of asking key name cycles slot channel channels placement signal parent_name check cells_of has_cell cluster_cells fill first_taken entries empty_variant suppliers_of opening granted placements_of schedule_of begun common has_key add_supplier add_node own_rows shared_by in_use cell_taken admits_frame admits grants_after frame_after frames_after changed change_rows done perform grants_of frames_of sendings_of gaps_of named signals_of shown reply ring moment moments gaps greatest_gap bits_of layouts.first_taken_bit layouts.admits_signal act outcome step
+unfolding file answers ◌>>=◌ ◌>>◌ ◌or◌ refuse◌when◌ empty get len insert only remove from_rows settle numbers names channel_order channels_order owned channel_slots placement_order is_name is_key all_cycles cycles_of asking key name cycles slot channel channels placement signal parent_name report check cells_of has_cell cluster_cells fill first_taken entries empty_variant suppliers_of opening granted placements_of schedule_of begun common has_key add_supplier add_node own_rows shared_by in_use cell_taken admits_frame admits grants_after frame_after frames_after changed change_rows done perform grants_of frames_of sendings_of gaps_of named signals_of shown reply ring moment moments gaps greatest_gap bits_of layouts.first_taken_bit layouts.admits_signal act outcome step
 a_small_register = tt
 
 abbrev pub integrator : Request → Ask
@@ -116,9 +117,9 @@ pub the_first_script :
     ∷ integrator (Grant (codes "v1") 1 (codes "A") (codes "s1") (codes "n1"))
     ∷ s1 (AddFrame (codes "v1") (codes "f1") (codes "n1"))
     ∷ s1 (Place (codes "v1") (codes "f1") 1 (codes "A") 0 64)
-    ∷ s1 (Schedule (codes "v1"))
-    ∷ integrator (Schedule (codes "v1"))
-    ∷ s2 (Schedule (codes "v1"))
+    ∷ s1 (Query (codes "v1") Schedule)
+    ∷ integrator (Query (codes "v1") Schedule)
+    ∷ s2 (Query (codes "v1") Schedule)
     ∷ [])
     ≡ Done ∷ Done ∷ Done ∷ Done ∷ Done
     ∷ Sent false (record { cycle = 0; slot = 1; channel = ch.A; frame = codes "f1"; node = codes "n1"; supplier = codes "s1" } ∷ [])
@@ -199,7 +200,7 @@ pub refused_lines :
     ∷ s1 (Place (codes "v1") (codes "f1") 0 (codes "A") 0 64)
     ∷ s1 (Place (codes "v1") (codes "f1") 5 (codes "A") 0 64)
     ∷ s1 (Place (codes "v1") (codes "f1") 1 (codes "AA") 0 64)
-    ∷ s1 (Schedule (codes "v9"))
+    ∷ s1 (Query (codes "v9") Schedule)
     ∷ [])
     ≡ Done ∷ Refused NotYours ∷ Refused NotYours ∷ Refused BadName ∷ Refused BadSlot ∷ Refused BadSlot ∷ Refused BadChannel ∷ Refused NoVariant ∷ []
 unfolding a_small_register
@@ -259,7 +260,7 @@ pub gap_of_two_slots :
     ∷ s1 (AddFrame (codes "v1") (codes "f") (codes "n1"))
     ∷ s1 (Place (codes "v1") (codes "f") 1 (codes "A") 0 4)
     ∷ s1 (Place (codes "v1") (codes "f") 3 (codes "A") 2 4)
-    ∷ s1 (Gaps (codes "v1"))
+    ∷ s1 (Query (codes "v1") Gaps)
     ∷ [])
     ≡ Done
     ∷ Done
@@ -309,8 +310,8 @@ pub ten_cycles :
     ∷ s1 (Place (codes "v1") (codes "f") 1 (codes "A") 1 5)
     ∷ s1 (Place (codes "v1") (codes "f") 1 (codes "A") 0 4)
     ∷ s1 (Place (codes "v1") (codes "f") 1 (codes "A") 0 64)
-    ∷ s1 (Gaps (codes "v1"))
-    ∷ s1 (Schedule (codes "v1"))
+    ∷ s1 (Query (codes "v1") Gaps)
+    ∷ s1 (Query (codes "v1") Schedule)
     ∷ [])
     ≡ Done ∷ Done ∷ Done ∷ Done ∷ Done
     ∷ Refused BadCycles
@@ -338,7 +339,7 @@ pub gaps_alone_mixed_never :
     ∷ s1 (Place (codes "v1") (codes "f") 1 (codes "A") 1 64)
     ∷ s1 (Place (codes "v1") (codes "g") 2 (codes "A") 0 2)
     ∷ s1 (Place (codes "v1") (codes "g") 4 (codes "A") 1 64)
-    ∷ s1 (Gaps (codes "v1"))
+    ∷ s1 (Query (codes "v1") Gaps)
     ∷ [])
     ≡ Done
     ∷ Done
@@ -374,7 +375,7 @@ pub a_grant_revoked :
     ∷ integrator (Revoke (codes "v1") 2 (codes "B") (codes "s1"))
     ∷ integrator (Revoke (codes "v1") 5 (codes "A") (codes "s9"))
     ∷ integrator (Revoke (codes "v1") 2 (codes "A") (codes "s9"))
-    ∷ integrator (Grants (codes "v1"))
+    ∷ integrator (Query (codes "v1") Grants)
     ∷ [])
     ≡ Done
     ∷ Done
@@ -404,10 +405,10 @@ pub a_frame_dropped :
     ∷ integrator (Grant (codes "v1") 1 (codes "A") (codes "s1") (codes "n1"))
     ∷ s1 (AddFrame (codes "v1") (codes "f1") (codes "n1"))
     ∷ s1 (Place (codes "v1") (codes "f1") 1 (codes "A") 0 64)
-    ∷ s1 (Frames (codes "v1"))
+    ∷ s1 (Query (codes "v1") Frames)
     ∷ s1 (Unplace (codes "v1") (codes "f1") 1 (codes "A") 0 32)
     ∷ s1 (DropFrame (codes "v1") (codes "f1"))
-    ∷ s1 (Schedule (codes "v1"))
+    ∷ s1 (Query (codes "v1") Schedule)
     ∷ s1 (DropFrame (codes "v1") (codes "f1"))
     ∷ s1 (Unplace (codes "v1") (codes "f1") 1 (codes "A") 0 64)
     ∷ [])
@@ -440,14 +441,14 @@ pub a_variant_released :
     ∷ integrator (Release (codes "v1"))
     ∷ integrator (OpenVariant (codes "v2") (Some (codes "v1")))
     ∷ s1 (DropFrame (codes "v2") (codes "f1"))
-    ∷ s1 (Schedule (codes "v1"))
-    ∷ s1 (Schedule (codes "v2"))
+    ∷ s1 (Query (codes "v1") Schedule)
+    ∷ s1 (Query (codes "v2") Schedule)
     ∷ integrator (OpenVariant (codes "v3") (Some (codes "v2")))
     ∷ integrator (OpenVariant (codes "v3") (Some (codes "v9")))
     ∷ integrator (OpenVariant (codes "v2") (Some (codes "v1")))
     ∷ s1 (AddFrame (codes "v2") (codes "f2") (codes "n1"))
     ∷ s1 (Place (codes "v2") (codes "f2") 1 (codes "A") 0 64)
-    ∷ s1 (Schedule (codes "v2"))
+    ∷ s1 (Query (codes "v2") Schedule)
     ∷ [])
     ≡ Done
     ∷ Done
@@ -556,7 +557,7 @@ pub signals_refused :
     ∷ s1 (AddFrame (codes "v1") (codes "f") (codes "n1"))
     ∷ s1 (AddSignal (codes "v1") (codes "f") (codes "y") 3 8 (codes "big"))
     ∷ s1 (AddSignal (codes "v1") (codes "f") (codes "x") 4 8 (codes "little"))
-    ∷ s1 (Layout (codes "v1") (codes "f"))
+    ∷ s1 (Query (codes "v1") (Layout (codes "f")))
     ∷ s1 (AddSignal (codes "v1") (codes "f") (codes "z") 11 1 (codes "little"))
     ∷ s1 (AddSignal (codes "v1") (codes "f") (codes "z") 0 16 (codes "little"))
     ∷ s1 (AddSignal (codes "v1") (codes "f") (codes "x") 0 1 (codes "little"))
@@ -568,9 +569,9 @@ pub signals_refused :
     ∷ s1 (AddSignal (codes "v1") (codes "f") (codes "z") 0 1 (codes "middle"))
     ∷ s1 (AddSignal (codes "v1") (codes "g") (codes "z") 0 1 (codes "little"))
     ∷ s1 (DropSignal (codes "v1") (codes "f") (codes "y"))
-    ∷ s1 (Layout (codes "v1") (codes "f"))
+    ∷ s1 (Query (codes "v1") (Layout (codes "f")))
     ∷ s1 (AddSignal (codes "v1") (codes "f") (codes "z") 15 1 (codes "little"))
-    ∷ s1 (Layout (codes "v1") (codes "g"))
+    ∷ s1 (Query (codes "v1") (Layout (codes "g")))
     ∷ [])
     ≡ Done
     ∷ Done
@@ -610,9 +611,9 @@ joining =
     ∷ integrator (Grant (codes "v1") 1 (codes "A") (codes "s1") (codes "n1"))
     ∷ s1 (AddFrame (codes "v1") (codes "f1") (codes "n1"))
     ∷ s1 (Place (codes "v1") (codes "f1") 1 (codes "A") 0 64)
-    ∷ s3 (Schedule (codes "v1"))
+    ∷ s3 (Query (codes "v1") Schedule)
     ∷ integrator (AddSupplier (codes "s3") (codes "supplier03"))
-    ∷ s3 (Schedule (codes "v1"))
+    ∷ s3 (Query (codes "v1") Schedule)
     ∷ integrator (AddSupplier (codes "s3") (codes "supplier01"))
     ∷ integrator (AddSupplier (codes "s4") (codes "supplier03"))
     ∷ integrator (AddSupplier (codes "s4") (codes "integrator1"))

@@ -23,7 +23,8 @@ use Rattle.fr_base.specs.declared.request.Command.TheVariants.{Common, AddSuppli
 use Rattle.fr_base.specs.declared.request.CommonCommand.TheVariants.{OpenVariant, Release}
 use Rattle.fr_base.specs.declared.request.Change.TheVariants.{Grant, Revoke, Frame}
 use Rattle.fr_base.specs.declared.request.FrameChange.TheVariants.{Add, Drop, Place, Unplace, AddSignal, DropSignal}
-use Rattle.fr_base.specs.declared.request.Query.TheVariants.{Grants, Frames, Schedule, Gaps, Layout}
+use Rattle.fr_base.specs.declared.report.Report.{Report}
+use Rattle.fr_base.specs.declared.report.Report.TheVariants.{Grants, Frames, Schedule, Gaps, Layout}
 use Rattle.fr_base.specs.declared.request.Checked.{Checked}
 use Rattle.fr_base.specs.declared.request.Checked.TheVariants as checked
 
@@ -89,6 +90,16 @@ parent_name None = Ok None
 parent_name (Some text) = do
   parent ← name text
   Ok (Some parent)
+
+-- a report, with the name of its frame, if it is of one
+unfoldable pub report : Report (List ℕ) → Result (Report Name) Refusal
+report Grants = Ok Grants
+report Frames = Ok Frames
+report Schedule = Ok Schedule
+report Gaps = Ok Gaps
+report (Layout frame) = do
+  f ← name frame
+  Ok (Layout f)
 
 -- the request with checked values
 unfoldable pub check : Params → Actor → Request → Result Checked Refusal
@@ -167,19 +178,7 @@ check p actor (request.Import variant label body) = do
   v ← name variant
   l ← name label
   Ok (checked.Import (record { supplier = s; variant = v; label = l; body = body }))
-check p actor (request.Grants variant) = do
+check p actor (request.Query variant asked) = do
   v ← name variant
-  Ok (checked.Query (Grants v))
-check p actor (request.Frames variant) = do
-  v ← name variant
-  Ok (checked.Query (Frames v))
-check p actor (request.Schedule variant) = do
-  v ← name variant
-  Ok (checked.Query (Schedule v))
-check p actor (request.Gaps variant) = do
-  v ← name variant
-  Ok (checked.Query (Gaps v))
-check p actor (request.Layout variant frame) = do
-  v ← name variant
-  f ← name frame
-  Ok (checked.Query (Layout v f))
+  r ← report asked
+  Ok (checked.Query (record { variant = v; report = r }))

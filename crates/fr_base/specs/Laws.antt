@@ -14,7 +14,6 @@ use Rattle.fr_base.specs.Checks.{check}
 use Rattle.fr_base.specs.Cluster.{Cluster, ClusterFile, IsWellFormed}
 use Rattle.fr_base.specs.Names.{is_name, same_text}
 use Rattle.fr_base.specs.Book.{Frame, Variant, Book, opening, granted, schedule_of}
-use Rattle.fr_base.specs.Queries.{variant_asked}
 use Rattle.fr_base.specs.Step.{knows, step}
 use Rattle.fr_base.specs.Run.{IsRun}
 use Rattle.fr_base.specs.Sound.{IsSent, IsSound}
@@ -80,7 +79,7 @@ abbrev pub ReleasedAnswersStay : Type 0
 ReleasedAnswersStay = (c : Cluster) (b last : Book) (asks : List Ask) (answers : List Answer) (v : Name) (variant : Variant) →
     get b.variants v ≡ Some variant → IsTrue variant.released → IsRun c b asks answers last →
     (actor : Actor) (request : Request) (query : Query) → IsTrue (knows b actor) →
-    check c.params actor request ≡ Ok (checked.Query query) → variant_asked query ≡ v →
+    check c.params actor request ≡ Ok (checked.Query query) → query.variant ≡ v →
     (step c last actor request).answer ≡ (step c b actor request).answer
 
 -- ---- what is refused

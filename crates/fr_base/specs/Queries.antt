@@ -1,6 +1,6 @@
 -- Query: an actor sees of a variant its own rows, and the integrator those of all suppliers. They are grants, frames,
 -- schedule, gaps and layouts, each in its order.
-use Rattle.std.specs.Prelude.{ℕ, ◌==◌, List, map, Result, Ok}
+use Rattle.std.specs.Prelude.{ℕ, ◌==◌, List, map, codes, Result, Ok}
 use Rattle.std.specs.List.{flat_map}
 use Rattle.fr_base.specs.Refusing.{◌>>=◌, ◌>>◌, ◌or◌, refuse◌when◌}
 use Rattle.fr_base.specs.Tables.{Table, get, len, only}
@@ -27,7 +27,16 @@ use Rattle.fr_base.specs.declared.refusal.Refusal.TheVariants.{NoVariant, NoFram
 use Rattle.fr_base.specs.declared.actor.Actor.{Actor}
 use Rattle.fr_base.specs.declared.actor.Actor.TheVariants.{Integrator, Supplier}
 use Rattle.fr_base.specs.declared.request.Query.{Query}
-use Rattle.fr_base.specs.declared.request.Query.TheVariants.{Grants, Frames, Schedule, Gaps, Layout}
+use Rattle.fr_base.specs.declared.report.Report.{Report}
+use Rattle.fr_base.specs.declared.report.Report.TheVariants.{Grants, Frames, Schedule, Gaps, Layout}
+
+-- the word by which a report is asked for
+abbrev pub word_of : {F : Type 0} → Report F → List ℕ
+word_of Grants = codes "grants"
+word_of Frames = codes "frames"
+word_of Schedule = codes "schedule"
+word_of Gaps = codes "gaps"
+word_of (Layout frame) = codes "layout"
 
 -- the grants that the actor sees: a supplier its own, the integrator those of all
 abbrev pub seen_grants : Actor → Table channel_slots Holder → Table channel_slots Holder
@@ -87,26 +96,18 @@ signals_of frames = flat_map signal_rows frames.rows
 
 -- ---- answers
 
--- what the actor is shown of the variant
-unfoldable pub shown : Params → Actor → Variant → Query → Result Answer Refusal
-shown p actor variant (Grants v) = Ok (answer.Grants (is_integrator actor) (grants_of (seen_grants actor variant.grants)))
-shown p actor variant (Frames v) = Ok (answer.Frames (is_integrator actor) (frames_of (seen_frames actor variant.frames)))
-shown p actor variant (Schedule v) = Ok (answer.Schedule (is_integrator actor) (sendings_of p (seen_frames actor variant.frames)))
-shown p actor variant (Gaps v) = Ok (answer.Gaps (is_integrator actor) (gaps_of p (seen_frames actor variant.frames)))
-shown p actor variant (Layout v f) = do
+-- what a report shows the actor of the variant
+unfoldable pub shown : Params → Actor → Variant → Report Name → Result Answer Refusal
+shown p actor variant Grants = Ok (answer.Grants (is_integrator actor) (grants_of (seen_grants actor variant.grants)))
+shown p actor variant Frames = Ok (answer.Frames (is_integrator actor) (frames_of (seen_frames actor variant.frames)))
+shown p actor variant Schedule = Ok (answer.Schedule (is_integrator actor) (sendings_of p (seen_frames actor variant.frames)))
+shown p actor variant Gaps = Ok (answer.Gaps (is_integrator actor) (gaps_of p (seen_frames actor variant.frames)))
+shown p actor variant (Layout f) = do
   refuse NoFrame when len (named f (seen_frames actor variant.frames)) == 0
   Ok (answer.Layout (is_integrator actor) (signals_of (named f (seen_frames actor variant.frames))))
-
--- the variant that the query asks about
-abbrev pub variant_asked : Query → Name
-variant_asked (Grants v) = v
-variant_asked (Frames v) = v
-variant_asked (Schedule v) = v
-variant_asked (Gaps v) = v
-variant_asked (Layout v f) = v
 
 -- the answer to a query
 unfoldable pub reply : Params → Book → Actor → Query → Result Answer Refusal
 reply p b actor query = do
-  variant ← get b.variants (variant_asked query) or NoVariant
-  shown p actor variant query
+  variant ← get b.variants query.variant or NoVariant
+  shown p actor variant query.report

@@ -4,7 +4,7 @@ ghost use Rattle.std.specs.List.{list_all};
 ghost use Rattle.fr_base.specs.Channels.{channels_in, has_channel};
 ghost use Rattle.fr_base.specs.Refusing.{refuse◌when◌};
 ghost use Rattle.fr_base.specs.declared.request.Request.TheVariants as request;
-ghost use Rattle.fr_base.specs.Checks.{asking, is_integrator, check, key, name, cycles, slot, channel, channels, placement, signal, parent_name};
+ghost use Rattle.fr_base.specs.Checks.{asking, is_integrator, check, key, name, cycles, slot, channel, channels, placement, signal, parent_name, report};
 
 use crate::actor::Actor;
 use crate::body::{Body, BodyRef};
@@ -15,6 +15,7 @@ use crate::name::Name;
 use crate::params::Params;
 use crate::placement::Placement;
 use crate::refusal::Refusal;
+use crate::report::Report;
 use crate::request::{
     Change, Checked, Command, CommonCommand, FrameChange, Import, Query, Request,
 };
@@ -97,11 +98,7 @@ pub fn check<'a>(
             label,
             body,
         } => import(actor, variant, label, body),
-        Request::Grants { variant } => grants(variant),
-        Request::Frames { variant } => frames(variant),
-        Request::Schedule { variant } => schedule(variant),
-        Request::Gaps { variant } => gaps(variant),
-        Request::Layout { variant, frame } => layout(variant, frame),
+        Request::Query { variant, report } => query(variant, report),
     }
 }
 
@@ -288,43 +285,11 @@ fn import<'a>(
 }
 
 #[tactic(auto, unfolding(crate::proofs::ChecksLemmas::checks_open))]
-fn grants(variant: &Text) -> Result<Checked<'static>, Refusal>
-    ensures { (p : Params) (actor : Actor) → result ≡ check p actor (request.Grants variant.now) }
+fn query(variant: &Text, asked: &Report<Text>) -> Result<Checked<'static>, Refusal>
+    ensures { (p : Params) (actor : Actor) → result ≡ check p actor (request.Query variant.now asked.now) }
 {
-    let variant = name(variant)?;
-    Ok(Checked::Query(Query::Grants { variant }))
-}
-
-#[tactic(auto, unfolding(crate::proofs::ChecksLemmas::checks_open))]
-fn frames(variant: &Text) -> Result<Checked<'static>, Refusal>
-    ensures { (p : Params) (actor : Actor) → result ≡ check p actor (request.Frames variant.now) }
-{
-    let variant = name(variant)?;
-    Ok(Checked::Query(Query::Frames { variant }))
-}
-
-#[tactic(auto, unfolding(crate::proofs::ChecksLemmas::checks_open))]
-fn schedule(variant: &Text) -> Result<Checked<'static>, Refusal>
-    ensures { (p : Params) (actor : Actor) → result ≡ check p actor (request.Schedule variant.now) }
-{
-    let variant = name(variant)?;
-    Ok(Checked::Query(Query::Schedule { variant }))
-}
-
-#[tactic(auto, unfolding(crate::proofs::ChecksLemmas::checks_open))]
-fn gaps(variant: &Text) -> Result<Checked<'static>, Refusal>
-    ensures { (p : Params) (actor : Actor) → result ≡ check p actor (request.Gaps variant.now) }
-{
-    let variant = name(variant)?;
-    Ok(Checked::Query(Query::Gaps { variant }))
-}
-
-#[tactic(auto, unfolding(crate::proofs::ChecksLemmas::checks_open))]
-fn layout(variant: &Text, frame: &Text) -> Result<Checked<'static>, Refusal>
-    ensures { (p : Params) (actor : Actor) → result ≡ check p actor (request.Layout variant.now frame.now) }
-{
-    let (variant, frame) = (name(variant)?, name(frame)?);
-    Ok(Checked::Query(Query::Layout { variant, frame }))
+    let (variant, report) = (name(variant)?, report(asked)?);
+    Ok(Checked::Query(Query { variant, report }))
 }
 
 // Whether the integrator asks.
@@ -469,6 +434,23 @@ fn parent_name(parent: &Option<Text>) -> Result<Option<Name>, Refusal>
     match parent {
         Some(text) => Ok(Some(name(text)?)),
         None => Ok(None),
+    }
+}
+
+// The report, with the name of its frame, if it is of one.
+#[tactic(auto, unfolding(crate::proofs::ChecksLemmas::checks_open))]
+fn report(asked: &Report<Text>) -> Result<Report<Name>, Refusal>
+    ensures { result ≡ report asked.now }
+{
+    match asked {
+        Report::Grants => Ok(Report::Grants),
+        Report::Frames => Ok(Report::Frames),
+        Report::Schedule => Ok(Report::Schedule),
+        Report::Gaps => Ok(Report::Gaps),
+        Report::Layout { frame } => {
+            let frame = name(frame)?;
+            Ok(Report::Layout { frame })
+        }
     }
 }
 

@@ -20,6 +20,7 @@ mod name;
 mod params;
 mod placement;
 mod refusal;
+mod report;
 mod request;
 mod rows;
 mod signal;
@@ -51,6 +52,7 @@ pub use name::Name;
 pub use params::{ParamFault, Params, RawParams};
 pub use placement::Placement;
 pub use refusal::Refusal;
+pub use report::Report;
 pub use request::{
     Ask, Change, Checked, Command, CommonCommand, FrameChange, Import, Query, Request,
 };

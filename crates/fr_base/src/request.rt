@@ -5,6 +5,7 @@ use crate::channel::Channel;
 use crate::key::Key;
 use crate::name::Name;
 use crate::placement::Placement;
+use crate::report::Report;
 use crate::signal::Signal;
 use crate::slot::Slot;
 use crate::text::Text;
@@ -97,26 +98,10 @@ pub enum Request {
         label: Text,
         body: Body,
     },
-    /// Which node holds which slot and channel.
-    Grants {
+    /// A report of a variant is asked for, by the integrator or by a supplier.
+    Query {
         variant: Text,
-    },
-    /// The frames, with their nodes and placements.
-    Frames {
-        variant: Text,
-    },
-    /// Which frame is sent in which cycle, slot and channel.
-    Schedule {
-        variant: Text,
-    },
-    /// The greatest gap of each frame.
-    Gaps {
-        variant: Text,
-    },
-    /// The signals of a frame.
-    Layout {
-        variant: Text,
-        frame: Text,
+        report: Report<Text>,
     },
 }
 
@@ -128,11 +113,7 @@ impl Drop for Request {
                 variant: _,
                 parent: _,
             } => {}
-            Request::Release { variant: _ }
-            | Request::Grants { variant: _ }
-            | Request::Frames { variant: _ }
-            | Request::Schedule { variant: _ }
-            | Request::Gaps { variant: _ } => {}
+            Request::Release { variant: _ } => {}
             Request::AddSupplier {
                 supplier: _,
                 key: _,
@@ -160,10 +141,6 @@ impl Drop for Request {
                 node: _,
             } => {}
             Request::DropFrame {
-                variant: _,
-                frame: _,
-            }
-            | Request::Layout {
                 variant: _,
                 frame: _,
             } => {}
@@ -200,6 +177,10 @@ impl Drop for Request {
                 variant: _,
                 label: _,
                 body: _,
+            } => {}
+            Request::Query {
+                variant: _,
+                report: _,
             } => {}
         }
     }
@@ -292,14 +273,11 @@ pub struct Import<'a> {
     pub body: BodyRef<'a>,
 }
 
-/// A request that only reads, with checked values.
+/// A request that only reads, with checked values: a report of a variant.
 #[derive(Clone, Copy, PartialEq, Eq)]
-pub enum Query {
-    Grants { variant: Name },
-    Frames { variant: Name },
-    Schedule { variant: Name },
-    Gaps { variant: Name },
-    Layout { variant: Name, frame: Name },
+pub struct Query {
+    pub variant: Name,
+    pub report: Report<Name>,
 }
 
 /// A request whose own texts and numbers are in order.

@@ -19,6 +19,7 @@ use Rattle.fr_base.specs.declared.params.Params.{Params}
 use Rattle.fr_base.specs.declared.refusal.Refusal.{Refusal}
 use Rattle.fr_base.specs.declared.refusal.Refusal.TheVariants.{Unavailable, UnknownKey}
 use Rattle.fr_base.specs.declared.request.Request.{Request}
+use Rattle.fr_base.specs.declared.report.Report.TheVariants.{Grants, Schedule}
 use Rattle.fr_base.specs.declared.request.Request.TheVariants as request
 use Rattle.fr_world.specs.BookEdits.{variants_in}
 use Rattle.fr_world.specs.declared.variants.VariantRow.{VariantRow}
@@ -66,7 +67,7 @@ module _ (b : Book) (reader : Actor) where
   pub rows_refused : (c : Cluster) (variant : List ℕ) (e : Refusal) → MayTell b reader (Err e) → MayRefusePlan c b reader variant e
   rows_refused c variant e (inl told) =
       let so = unknown_so (knows b reader) refl e told in
-      inr (request.Grants variant, inl refl, subst (λ (r : Refusal). answer_to c b reader (request.Grants variant) ≡ Refused r) (sym so.0) (unknown_answer c (request.Grants variant) so.1))
+      inr (request.Query variant Grants, inl refl, subst (λ (r : Refusal). answer_to c b reader (request.Query variant Grants) ≡ Refused r) (sym so.0) (unknown_answer c (request.Query variant Grants) so.1))
   rows_refused c variant e (inr lacked) = inl (let is = lacked.1 in cc)
 
 -- ---- the row
@@ -115,18 +116,18 @@ module _ (reader : Actor) (variant : List ℕ) where
 
   module _ (s0 s1 : Standing) where
     -- its grants were refused
-    pub grants_refused : (r : Result Plan Refusal) (e : Refusal) → r ≡ Err e → Reports {X = List GrantRow} s0 s1 reader (request.Grants variant) answer.Grants (Err e)
+    pub grants_refused : (r : Result Plan Refusal) (e : Refusal) → r ≡ Err e → Reports {X = List GrantRow} s0 s1 reader (request.Query variant Grants) answer.Grants (Err e)
         → Reads s0 s1 r (λ c b plan. IsPlan c b reader variant plan) (λ c b e. MayRefusePlan c b reader variant e)
-    grants_refused r e is grants = plan_refused s0 s1 r e is (report_refused s0 s1 (request.Grants variant) answer.Grants e (inl refl) grants)
+    grants_refused r e is grants = plan_refused s0 s1 r e is (report_refused s0 s1 (request.Query variant Grants) answer.Grants e (inl refl) grants)
 
-    module _ (grants : List GrantRow) (granted : Reports s0 s1 reader (request.Grants variant) answer.Grants (Ok grants)) (s2 : Standing) where
+    module _ (grants : List GrantRow) (granted : Reports s0 s1 reader (request.Query variant Grants) answer.Grants (Ok grants)) (s2 : Standing) where
       -- its cells were refused
-      pub cells_refused : (r : Result Plan Refusal) (e : Refusal) → r ≡ Err e → Reports {X = List Sending} s1 s2 reader (request.Schedule variant) answer.Schedule (Err e)
+      pub cells_refused : (r : Result Plan Refusal) (e : Refusal) → r ≡ Err e → Reports {X = List Sending} s1 s2 reader (request.Query variant Schedule) answer.Schedule (Err e)
           → Reads s0 s2 r (λ c b plan. IsPlan c b reader variant plan) (λ c b e. MayRefusePlan c b reader variant e)
       cells_refused r e is cells = plan_refused s0 s2 r e is (λ c b stood sound.
-          report_refused s1 s2 (request.Schedule variant) answer.Schedule e (inr (inl refl)) cells c b (granted c b stood sound).0 sound)
+          report_refused s1 s2 (request.Query variant Schedule) answer.Schedule e (inr (inl refl)) cells c b (granted c b stood sound).0 sound)
 
-      module _ (cells : List Sending) (scheduled : Reports s1 s2 reader (request.Schedule variant) answer.Schedule (Ok cells)) (s3 : Standing) where
+      module _ (cells : List Sending) (scheduled : Reports s1 s2 reader (request.Query variant Schedule) answer.Schedule (Ok cells)) (s3 : Standing) where
         -- its frames were refused
         pub frames_refused : (r : Result Plan Refusal) (e : Refusal) → r ≡ Err e → Keeps s2 s3 (λ c b. MayRefusePlan c b reader variant e)
             → Reads s0 s3 r (λ c b plan. IsPlan c b reader variant plan) (λ c b e. MayRefusePlan c b reader variant e)

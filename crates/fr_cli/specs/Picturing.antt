@@ -8,6 +8,7 @@ use Rattle.fr_base.specs.declared.actor.Actor.TheVariants.{Integrator, Supplier}
 use Rattle.fr_base.specs.declared.answer.Answer.TheVariants as answer
 use Rattle.fr_base.specs.declared.name.Name.{Name}
 use Rattle.fr_base.specs.declared.refusal.Refusal.TheVariants.{UnknownKey}
+use Rattle.fr_base.specs.declared.report.Report.TheVariants.{Grants, Schedule}
 use Rattle.fr_base.specs.declared.request.Request.TheVariants as request
 use Rattle.fr_world.specs.BookEdits.{variants_in}
 use Rattle.fr_world.specs.declared.variants.VariantRow.{VariantRow}
@@ -30,8 +31,8 @@ pub record IsPlan (c : Cluster) (b : Book) (reader : Actor) (variant : List ℕ)
   pub listed : Contains (variants_in b) row
   pub same : (row.variant ≡ plan.variant) × (row.parent ≡ plan.parent) × (row.released ≡ plan.released)
   pub viewer : plan.supplier ≡ supplier_of reader
-  pub grants : (all : Bool) × (answer_to c b reader (request.Grants variant) ≡ answer.Grants all plan.grants)
-  pub cells : (all : Bool) × (answer_to c b reader (request.Schedule variant) ≡ answer.Schedule all plan.cells)
+  pub grants : (all : Bool) × (answer_to c b reader (request.Query variant Grants) ≡ answer.Grants all plan.grants)
+  pub cells : (all : Bool) × (answer_to c b reader (request.Query variant Schedule) ≡ answer.Schedule all plan.cells)
   pub frames : AreFrames c b reader variant plan.frames.items
 
 -- This may be drawn for a reader: the variant's plan, or why there is none; nobody is refused.

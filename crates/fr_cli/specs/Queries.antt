@@ -6,15 +6,15 @@ use Rattle.fr_base.specs.declared.actor.Actor.{Actor}
 use Rattle.fr_base.specs.declared.actor.Actor.TheVariants.{Integrator, Supplier}
 use Rattle.fr_base.specs.declared.answer.Answer.{Answer}
 use Rattle.fr_base.specs.declared.answer.Answer.TheVariants as answer
+use Rattle.fr_base.specs.declared.report.Report.{Report}
+use Rattle.fr_base.specs.declared.report.Report.TheVariants.{Grants, Frames, Schedule, Gaps, Layout}
 use Rattle.fr_base.specs.declared.request.Request.{Request}
 use Rattle.fr_base.specs.declared.request.Request.TheVariants as request
 use Rattle.fr_text.specs.AnswerText.{report_of as lines_of}
 use Rattle.fr_cli.specs.declared.query.Query.{Query}
-use Rattle.fr_cli.specs.declared.query.Report.{Report}
-use Rattle.fr_cli.specs.declared.query.Report.TheVariants.{Grants, Frames, Schedule, Gaps, Layout}
 
 -- whether the answer is the report's
-abbrev pub is_in : Report → Answer → Bool
+abbrev pub is_in : Report (Bor (List ℕ)) → Answer → Bool
 is_in Grants (answer.Grants all rows) = true
 is_in Frames (answer.Frames all rows) = true
 is_in Schedule (answer.Schedule all rows) = true
@@ -23,7 +23,7 @@ is_in (Layout frame) (answer.Layout all rows) = true
 is_in _ _ = false
 
 -- the report's lines in an answer, each with a line feed behind it; an answer of another kind has none
-abbrev pub report_of : Report → Answer → List ℕ
+abbrev pub report_of : Report (Bor (List ℕ)) → Answer → List ℕ
 report_of report answer = if is_in report answer then lines_of answer else []
 
 -- who asks: the integrator where no supplier is named, else the supplier of this name; a text that is no name is nobody's
@@ -34,13 +34,14 @@ named (Some name) = if is_name name.now then Some (Supplier name.now) else None
 abbrev pub reader_of : Query → Option Actor
 reader_of query = named query.supplier
 
--- what is asked
-abbrev pub request_of : Report → List ℕ → Request
-request_of Grants variant = request.Grants variant
-request_of Frames variant = request.Frames variant
-request_of Schedule variant = request.Schedule variant
-request_of Gaps variant = request.Gaps variant
-request_of (Layout frame) variant = request.Layout variant frame.now
+-- the report that is asked for
+abbrev pub report_asked : Report (Bor (List ℕ)) → Report (List ℕ)
+report_asked Grants = Grants
+report_asked Frames = Frames
+report_asked Schedule = Schedule
+report_asked Gaps = Gaps
+report_asked (Layout frame) = Layout frame.now
 
+-- what is asked
 abbrev pub request_for : Query → Request
-request_for query = request_of query.report query.variant.now
+request_for query = request.Query query.variant.now (report_asked query.report)

@@ -3,27 +3,20 @@ use Rattle.std.specs.Prelude.{◌≡◌, ◌≤◌, ℕ, List, Option, Some, cod
 use Rattle.std.specs.Borrow.{Bor}
 use Rattle.clap.specs.Walk.{Row, Text, first_of}
 use Rattle.clap.specs.Words.{subcommand_of}
+use Rattle.fr_base.specs.Queries.{word_of}
+use Rattle.fr_base.specs.declared.report.Report.{Report}
+use Rattle.fr_base.specs.declared.report.Report.TheVariants.{Layout}
 use Rattle.fr_cli.specs.Commands.{slotplan}
 use Rattle.fr_cli.specs.declared.words.Job.{Job}
 use Rattle.fr_cli.specs.declared.words.Job.TheVariants.{Run, Create, Migrate, Serve, Ask, Variants, Report as ReportOn, Picture, Import, Check, Explain}
 use Rattle.fr_cli.specs.declared.query.Query.{Query}
-use Rattle.fr_cli.specs.declared.query.Report.{Report}
-use Rattle.fr_cli.specs.declared.query.Report.TheVariants.{Grants, Frames, Schedule, Gaps, Layout}
 
 -- The word at this place is this text.
 abbrev pub Has : Text → List Row → Text → Type 0
 Has name rows text = first_of name rows ≡ Some text
 
--- the subcommand of a report
-abbrev pub name_of : Report → Text
-name_of Grants = codes "grants"
-name_of Frames = codes "frames"
-name_of Schedule = codes "schedule"
-name_of Gaps = codes "gaps"
-name_of (Layout frame) = codes "layout"
-
 -- The frame of a layout is the word at its place.
-abbrev pub HasFrame : Report → List Row → Type 0
+abbrev pub HasFrame : Report (Bor (List ℕ)) → List Row → Type 0
 HasFrame (Layout frame) rows = Has (codes "FRAME") rows frame.now
 HasFrame _ rows = ⊤
 
@@ -45,7 +38,7 @@ IsJobOf (Serve db port count seconds) name rows = (name ≡ codes "serve") × Ha
     × (1 ≤ port) × (port ≤ 65535) × (1 ≤ count) × (count ≤ 1000000) × (1 ≤ seconds) × (seconds ≤ 3600)
 IsJobOf (Ask db) name rows = (name ≡ codes "ask") × Has (codes "DB") rows db.now
 IsJobOf (Variants db supplier) name rows = (name ≡ codes "variants") × Has (codes "DB") rows db.now × IsOfSupplier supplier rows
-IsJobOf (ReportOn db query) name rows = (name ≡ name_of query.report) × Has (codes "DB") rows db.now × IsQueryIn rows query
+IsJobOf (ReportOn db query) name rows = (name ≡ word_of query.report) × Has (codes "DB") rows db.now × IsQueryIn rows query
 IsJobOf (Picture db variant supplier) name rows = (name ≡ codes "picture") × Has (codes "DB") rows db.now × Has (codes "VARIANT") rows variant.now
     × IsOfSupplier supplier rows
 IsJobOf (Import db key variant label file) name rows = (name ≡ codes "import") × Has (codes "DB") rows db.now × Has (codes "KEY") rows key.now

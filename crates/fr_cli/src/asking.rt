@@ -22,7 +22,7 @@ pub fn report_on<D: Desk>(alloc: Global, desk: &mut D, query: Query<'_>) -> Resu
     if is_refusal(&answer) {
         return Err(refused(alloc, &answer));
     }
-    Ok(query.report.lines(alloc, &answer)?)
+    Ok(query.lines(alloc, &answer)?)
 }
 
 /// What the command line says of an import.

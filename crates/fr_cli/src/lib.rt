@@ -29,7 +29,7 @@ mod watch;
 mod words;
 
 pub use incoming::answer_input;
-pub use query::{Query, Report};
+pub use query::Query;
 pub use script::run_script;
 pub use script_fault::ScriptFault;
 pub use serving::serve_stream;

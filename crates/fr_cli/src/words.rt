@@ -2,12 +2,14 @@
 ghost use Rattle.std.specs.Prelude.{◌≡◌, ◌≤◌, codes, map, string_bytes, IfOk, IfSome, List, Some};
 ghost use Rattle.clap.specs.Walk.{Row, Text, rows_of};
 ghost use Rattle.clap.specs.Words.{found_of, subcommand_rows_of};
-ghost use Rattle.fr_cli.specs.Words.{AskFor, Has, HasFrame, IsJobOf, IsOfSupplier, name_of};
+ghost use Rattle.fr_base.specs.Queries.{word_of};
+ghost use Rattle.fr_cli.specs.Words.{AskFor, Has, HasFrame, IsJobOf, IsOfSupplier};
 
 use crate::commands::{MAX_CONNECTIONS, MAX_SECONDS, program};
-use crate::query::{Query, Report};
+use crate::query::Query;
 use clap::error::ErrorKind;
 use clap::{ArgMatches, Error};
+use fr_base::Report;
 use std::alloc::Global;
 
 /// What the program is to do.
@@ -187,8 +189,8 @@ fn variants_job<'a>(found: &ArgMatches<'a>) -> Option<Job<'a>>
     })
 }
 
-fn report_job<'a>(found: &ArgMatches<'a>, report: Report<'a>) -> Option<Job<'a>>
-    ensures { IfSome result (λ job. HasFrame report.entry (rows_of (found_of found.now)) → IsJobOf job (name_of report.entry) (rows_of (found_of found.now))) }
+fn report_job<'a>(found: &ArgMatches<'a>, report: Report<&'a str>) -> Option<Job<'a>>
+    ensures { IfSome result (λ job. HasFrame report.entry (rows_of (found_of found.now)) → IsJobOf job (word_of report.entry) (rows_of (found_of found.now))) }
 {
     let db = word(found, "DB")?;
     let query = Query {

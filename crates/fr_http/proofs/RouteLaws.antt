@@ -18,7 +18,8 @@ use Rattle.matchit.specs.declared.error.InsertError.{InsertError}
 use Rattle.matchit.specs.Route.{Scan}
 use Rattle.fr_http.specs.Routes.{part, router, with_read, with_route}
 use Rattle.fr_http.specs.declared.routes.Route.{Route}
-use Rattle.fr_http.specs.declared.routes.Route.TheVariants.{Commands, Import, Grants, Frames, Schedule, Gaps, Layout}
+use Rattle.fr_base.specs.declared.report.Report.TheVariants.{Grants, Frames, Schedule, Gaps, Layout}
+use Rattle.fr_http.specs.declared.routes.Route.TheVariants.{Commands, Import, Query}
 
 place_of : (b : Bool) (k at : ℕ) → cond {A = Option ℕ} b (Some k) None ≡ Some at → k ≡ at
 place_of true k at e = grind (arith, e)
@@ -60,19 +61,19 @@ inserted text route old new (Err e) fine h = grind (arith, fine)
 pub built : (r0 r1 r2 r3 r4 r5 r6 r7 : RowsOf (RouteOf Route)) → r0 ≡ []
     → r1 ≡ with_route r0 (codes "/v1/commands", Commands)
     → r2 ≡ with_route r1 (codes "/v1/variants/{variant}/imports/{label}", Import)
-    → r3 ≡ with_route r2 (codes "/v1/variants/{variant}/grants", Grants)
-    → r4 ≡ with_route r3 (codes "/v1/variants/{variant}/frames", Frames)
-    → r5 ≡ with_route r4 (codes "/v1/variants/{variant}/schedule", Schedule)
-    → r6 ≡ with_route r5 (codes "/v1/variants/{variant}/gaps", Gaps)
-    → r7 ≡ with_route r6 (codes "/v1/variants/{variant}/frames/{frame}/layout", Layout)
+    → r3 ≡ with_route r2 (codes "/v1/variants/{variant}/grants", Query Grants)
+    → r4 ≡ with_route r3 (codes "/v1/variants/{variant}/frames", Query Frames)
+    → r5 ≡ with_route r4 (codes "/v1/variants/{variant}/schedule", Query Schedule)
+    → r6 ≡ with_route r5 (codes "/v1/variants/{variant}/gaps", Query Gaps)
+    → r7 ≡ with_route r6 (codes "/v1/variants/{variant}/frames/{frame}/layout", Query (Layout 5))
     → r7 ≡ router
 unfolding router
 built r0 r1 r2 r3 r4 r5 r6 r7 e0 e1 e2 e3 e4 e5 e6 e7 =
-    e7 ∙ ap (λ r. with_route r (codes "/v1/variants/{variant}/frames/{frame}/layout", Layout)) (
-    e6 ∙ ap (λ r. with_route r (codes "/v1/variants/{variant}/gaps", Gaps)) (
-    e5 ∙ ap (λ r. with_route r (codes "/v1/variants/{variant}/schedule", Schedule)) (
-    e4 ∙ ap (λ r. with_route r (codes "/v1/variants/{variant}/frames", Frames)) (
-    e3 ∙ ap (λ r. with_route r (codes "/v1/variants/{variant}/grants", Grants)) (
+    e7 ∙ ap (λ r. with_route r (codes "/v1/variants/{variant}/frames/{frame}/layout", Query (Layout 5))) (
+    e6 ∙ ap (λ r. with_route r (codes "/v1/variants/{variant}/gaps", Query Gaps)) (
+    e5 ∙ ap (λ r. with_route r (codes "/v1/variants/{variant}/schedule", Query Schedule)) (
+    e4 ∙ ap (λ r. with_route r (codes "/v1/variants/{variant}/frames", Query Frames)) (
+    e3 ∙ ap (λ r. with_route r (codes "/v1/variants/{variant}/grants", Query Grants)) (
     e2 ∙ ap (λ r. with_route r (codes "/v1/variants/{variant}/imports/{label}", Import)) (
     e1 ∙ ap (λ r. with_route r (codes "/v1/commands", Commands)) e0))))))
 

@@ -23,7 +23,8 @@ use Rattle.fr_http.specs.declared.fault.Rejection.TheVariants.{BadRequest, NotFo
 use Rattle.fr_http.specs.declared.fault.Unasked.TheVariants.{Refused, Fault}
 use Rattle.fr_http.specs.declared.fault.LinkFault.TheVariants.{Truncated}
 use Rattle.fr_http.specs.declared.method.Method.TheVariants.{Get, Post}
-use Rattle.fr_http.specs.declared.routes.Route.TheVariants.{Commands, Import, Grants, Frames, Schedule, Gaps, Layout}
+use Rattle.fr_base.specs.declared.report.Report.TheVariants.{Grants, Frames, Schedule, Gaps, Layout}
+use Rattle.fr_http.specs.declared.routes.Route.TheVariants.{Commands, Import, Query}
 
 -- what an answer unfolds to compute these definitions
 unfoldable rows : ⊤
@@ -38,7 +39,7 @@ pub routes :
     codes "/v1/commands" ∷ codes "/v1/variants/v1/imports/a" ∷ codes "/v1/variants/v1/grants" ∷ codes "/v1/variants/v1/frames"
     ∷ codes "/v1/variants/v1/schedule" ∷ codes "/v1/variants/v1/gaps" ∷ codes "/v1/variants/v1/frames/f1/layout" ∷ codes "/v1/variants/1%20v/gaps" ∷ []
     )
-    ≡ Some Commands ∷ Some Import ∷ Some Grants ∷ Some Frames ∷ Some Schedule ∷ Some Gaps ∷ Some Layout ∷ Some Gaps ∷ []
+    ≡ Some Commands ∷ Some Import ∷ Some (Query Grants) ∷ Some (Query Frames) ∷ Some (Query Schedule) ∷ Some (Query Gaps) ∷ Some (Query (Layout 5)) ∷ Some (Query Gaps) ∷ []
 unfolding rows
 routes = refl
 
@@ -52,10 +53,10 @@ no_routes = refl
 
 pub requests :
     request_by Import (codes "/v1/variants/v1/imports/a") (codes "x")
-    ∷ request_by Schedule (codes "/v1/variants/v1/schedule") []
-    ∷ request_by Layout (codes "/v1/variants/v1/frames/f1/layout") []
+    ∷ request_by (Query Schedule) (codes "/v1/variants/v1/schedule") []
+    ∷ request_by (Query (Layout 5)) (codes "/v1/variants/v1/frames/f1/layout") []
     ∷ []
-    ≡ Some (request.Import (codes "v1") (codes "a") (codes "x")) ∷ Some (request.Schedule (codes "v1")) ∷ Some (request.Layout (codes "v1") (codes "f1")) ∷ []
+    ≡ Some (request.Import (codes "v1") (codes "a") (codes "x")) ∷ Some (request.Query (codes "v1") Schedule) ∷ Some (request.Query (codes "v1") (Layout (codes "f1"))) ∷ []
 unfolding rows
 requests = refl
 
@@ -91,7 +92,7 @@ pub plans :
     command (length_field (codes "65536") ∷ []) ∷ command (length_field (codes "007") ∷ [])
     ∷ head (codes "GET") (codes "/v1/variants/v1/gaps?x=1") (length_field (codes "1a") ∷ []) ∷ []
     )
-    ≡ Ok (record { route = Commands; length = 65536 }) ∷ Ok (record { route = Commands; length = 7 }) ∷ Ok (record { route = Gaps; length = 0 }) ∷ []
+    ≡ Ok (record { route = Commands; length = 65536 }) ∷ Ok (record { route = Commands; length = 7 }) ∷ Ok (record { route = Query Gaps; length = 0 }) ∷ []
 unfolding rows
 plans = refl
 
@@ -116,7 +117,7 @@ who key = if same_text key (codes "supplier01") then Some (actor.Supplier (codes
 
 pub asks_schedule :
     outcome_of who (head (codes "GET") (codes "/v1/variants/v1/schedule") ((codes "Host", codes "localhost") ∷ (codes "X-Office-Key", codes "supplier01") ∷ [])) []
-    ≡ Ok (record { ask = record { actor = actor.Supplier (codes "s1"); request = request.Schedule (codes "v1") }; method = Get })
+    ≡ Ok (record { ask = record { actor = actor.Supplier (codes "s1"); request = request.Query (codes "v1") Schedule }; method = Get })
 unfolding rows
 asks_schedule = refl
 

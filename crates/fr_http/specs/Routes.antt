@@ -9,13 +9,15 @@ use Rattle.matchit.specs.Router.{RouteOf, route_from}
 use Rattle.matchit.specs.Rows.{RowsOf}
 use Rattle.matchit.specs.Seek.{first}
 use Rattle.matchit.specs.declared.error.InsertError.{InsertError}
+use Rattle.fr_base.specs.declared.report.Report.{Report}
+use Rattle.fr_base.specs.declared.report.Report.TheVariants.{Grants, Frames, Schedule, Gaps, Layout}
 use Rattle.fr_base.specs.declared.request.Request.{Request}
 use Rattle.fr_base.specs.declared.request.Request.TheVariants as request
 use Rattle.fr_text.specs.RequestText.{request_of}
 use Rattle.fr_http.specs.declared.method.Method.{Method}
 use Rattle.fr_http.specs.declared.method.Method.TheVariants.{Get, Post}
 use Rattle.fr_http.specs.declared.routes.Route.{Route}
-use Rattle.fr_http.specs.declared.routes.Route.TheVariants.{Commands, Import, Grants, Frames, Schedule, Gaps, Layout}
+use Rattle.fr_http.specs.declared.routes.Route.TheVariants.{Commands, Import, Query}
 
 -- a method as a request spells it
 abbrev pub text_of_method : Method → List ℕ
@@ -26,22 +28,18 @@ text_of_method Post = codes "POST"
 abbrev pub method_of : Route → Method
 method_of Commands = Post
 method_of Import = Post
-method_of Grants = Get
-method_of Frames = Get
-method_of Schedule = Get
-method_of Gaps = Get
-method_of Layout = Get
+method_of (Query asked) = Get
 
--- the routes
+-- the routes; a frame's name is the part of the path after five slashes
 abbrev pub table : List (List ℕ × Route)
 table =
     (codes "/v1/commands", Commands)
     ∷ (codes "/v1/variants/{variant}/imports/{label}", Import)
-    ∷ (codes "/v1/variants/{variant}/grants", Grants)
-    ∷ (codes "/v1/variants/{variant}/frames", Frames)
-    ∷ (codes "/v1/variants/{variant}/schedule", Schedule)
-    ∷ (codes "/v1/variants/{variant}/gaps", Gaps)
-    ∷ (codes "/v1/variants/{variant}/frames/{frame}/layout", Layout)
+    ∷ (codes "/v1/variants/{variant}/grants", Query Grants)
+    ∷ (codes "/v1/variants/{variant}/frames", Query Frames)
+    ∷ (codes "/v1/variants/{variant}/schedule", Query Schedule)
+    ∷ (codes "/v1/variants/{variant}/gaps", Query Gaps)
+    ∷ (codes "/v1/variants/{variant}/frames/{frame}/layout", Query (Layout 5))
     ∷ []
 
 -- one more route, as `matchit` reads its text and keeps it
@@ -72,12 +70,16 @@ route_of path = if list_all is_ascii path then matched path else None
 unfoldable pub part : ℕ → List ℕ → List ℕ
 part n path = unwrap_or (slice_get (slice_split (λ b. b == 47) path) n) []
 
+-- the report, with the name of its frame, if it is of one
+abbrev pub report_in : List ℕ → Report ℕ → Report (List ℕ)
+report_in path Grants = Grants
+report_in path Frames = Frames
+report_in path Schedule = Schedule
+report_in path Gaps = Gaps
+report_in path (Layout slashes) = Layout (part slashes path)
+
 -- the request for a route: its names are parts of the path, and a command's text or an import's file is the body
 unfoldable pub request_by : Route → List ℕ → List ℕ → Option Request
 request_by Commands path body = request_of body
 request_by Import path body = Some (request.Import (part 3 path) (part 5 path) body)
-request_by Grants path body = Some (request.Grants (part 3 path))
-request_by Frames path body = Some (request.Frames (part 3 path))
-request_by Schedule path body = Some (request.Schedule (part 3 path))
-request_by Gaps path body = Some (request.Gaps (part 3 path))
-request_by Layout path body = Some (request.Layout (part 3 path) (part 5 path))
+request_by (Query asked) path body = Some (request.Query (part 3 path) (report_in path asked))

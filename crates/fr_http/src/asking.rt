@@ -1,13 +1,13 @@
 //! Makes what is asked of a head and a body: the request, and who asks it.
 ghost use Rattle.std.specs.Prelude.{◌≡◌, IfOk};
 ghost use Rattle.fr_http.specs.Asking.{FindsActor, MakesCommand, MakesRequest, unasked_by};
-ghost use Rattle.fr_http.specs.Routes.{part};
+ghost use Rattle.fr_http.specs.Routes.{part, report_in};
 
 use crate::fault::{LinkFault, Unasked};
 use crate::head::Received;
 use crate::plan::Plan;
 use crate::routes::{Route, part};
-use fr_base::{Actor, Body, Desk, NoMemory, Refusal, Request, Text};
+use fr_base::{Actor, Body, Desk, NoMemory, Refusal, Report, Request, Text};
 use fr_text::read_command;
 use std::alloc::Global;
 use std::str;
@@ -24,21 +24,9 @@ pub(crate) fn request(alloc: Global, plan: &Plan<'_>, body: &[u8]) -> Result<Req
             label: name(alloc, plan, 5)?,
             body: Body::copy(alloc, body)?,
         }),
-        Route::Grants => Ok(Request::Grants {
+        Route::Query(asked) => Ok(Request::Query {
             variant: name(alloc, plan, 3)?,
-        }),
-        Route::Frames => Ok(Request::Frames {
-            variant: name(alloc, plan, 3)?,
-        }),
-        Route::Schedule => Ok(Request::Schedule {
-            variant: name(alloc, plan, 3)?,
-        }),
-        Route::Gaps => Ok(Request::Gaps {
-            variant: name(alloc, plan, 3)?,
-        }),
-        Route::Layout => Ok(Request::Layout {
-            variant: name(alloc, plan, 3)?,
-            frame: name(alloc, plan, 5)?,
+            report: report(alloc, plan, asked)?,
         }),
     }
 }
@@ -50,6 +38,22 @@ fn command(alloc: Global, body: &[u8]) -> Result<Request, Unasked>
     match read_command(alloc, body) {
         Ok(request) => Ok(request),
         Err(refusal) => Err(refused(refusal)),
+    }
+}
+
+// The report, with the name of its frame, which the path has.
+fn report(alloc: Global, plan: &Plan<'_>, asked: Report<usize>) -> Result<Report<Text>, NoMemory>
+    ensures { IfOk result (λ report. report ≡ report_in plan.now.path.now asked) }
+{
+    match asked {
+        Report::Grants => Ok(Report::Grants),
+        Report::Frames => Ok(Report::Frames),
+        Report::Schedule => Ok(Report::Schedule),
+        Report::Gaps => Ok(Report::Gaps),
+        Report::Layout { frame } => {
+            let frame = name(alloc, plan, frame)?;
+            Ok(Report::Layout { frame })
+        }
     }
 }
 

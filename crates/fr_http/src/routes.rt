@@ -6,7 +6,7 @@ ghost use Rattle.std.specs.Option.{option_map};
 ghost use Rattle.fr_http.specs.Routes.{matched, method_of, part, path_of, router, with_route};
 
 use crate::method::Method;
-use fr_base::NoMemory;
+use fr_base::{NoMemory, Report};
 use matchit::Router;
 use std::alloc::{AllocError, Global};
 use std::str;
@@ -18,11 +18,8 @@ pub enum Route {
     Commands,
     /// The body is an import's file.
     Import,
-    Grants,
-    Frames,
-    Schedule,
-    Gaps,
-    Layout,
+    /// A report of a variant. A frame is named by how many slashes of the path stand before its name.
+    Query(Report<usize>),
 }
 
 impl Route {
@@ -32,8 +29,7 @@ impl Route {
     {
         match self {
             Route::Commands | Route::Import => Method::Post,
-            Route::Grants | Route::Frames | Route::Schedule | Route::Gaps | Route::Layout =>
-                Method::Get,
+            Route::Query(_) => Method::Get,
         }
     }
 }
@@ -95,18 +91,30 @@ fn router(alloc: Global) -> Result<Router<Route>, NoMemory>
         "/v1/variants/{variant}/imports/{label}",
         Route::Import,
     )?;
-    add(&mut router, "/v1/variants/{variant}/grants", Route::Grants)?;
-    add(&mut router, "/v1/variants/{variant}/frames", Route::Frames)?;
+    add(
+        &mut router,
+        "/v1/variants/{variant}/grants",
+        Route::Query(Report::Grants),
+    )?;
+    add(
+        &mut router,
+        "/v1/variants/{variant}/frames",
+        Route::Query(Report::Frames),
+    )?;
     add(
         &mut router,
         "/v1/variants/{variant}/schedule",
-        Route::Schedule,
+        Route::Query(Report::Schedule),
     )?;
-    add(&mut router, "/v1/variants/{variant}/gaps", Route::Gaps)?;
+    add(
+        &mut router,
+        "/v1/variants/{variant}/gaps",
+        Route::Query(Report::Gaps),
+    )?;
     add(
         &mut router,
         "/v1/variants/{variant}/frames/{frame}/layout",
-        Route::Layout,
+        Route::Query(Report::Layout { frame: 5 }),
     )?;
     Ok(router)
 }

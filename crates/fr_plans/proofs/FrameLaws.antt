@@ -16,13 +16,14 @@ use Rattle.fr_base.specs.declared.answer.SignalRow.{SignalRow}
 use Rattle.fr_base.specs.declared.refusal.Refusal.{Refusal}
 use Rattle.fr_base.specs.declared.refusal.Refusal.TheVariants.{Unavailable}
 use Rattle.fr_base.specs.declared.request.Request.{Request}
+use Rattle.fr_base.specs.declared.report.Report.TheVariants.{Frames, Gaps, Layout}
 use Rattle.fr_base.specs.declared.request.Request.TheVariants as request
 use Rattle.fr_picture.specs.FrameTables.{AreWorstFirst}
 use Rattle.fr_picture.specs.declared.frames.DrawnFrame.{DrawnFrame}
 use Rattle.fr_picture.specs.declared.signals.DrawnSignal.{DrawnSignal}
 use Rattle.fr_plans.specs.Frames.{AreDrawn, AreDrawnOf, AreFrames, AreSignals, IsDrawn, IsOfPlan, MayRefusePlan}
 use Rattle.fr_plans.specs.Reports.{Answered, MayRefuse, Reads, Reports, Standing, answer_to}
-use Rattle.fr_plans.proofs.ReportLaws.{layout_stays, refused, reported}
+use Rattle.fr_plans.proofs.ReportLaws.{report_stays, refused, reported}
 
 module _ (c : Cluster) (b : Book) (variant : List ℕ) (row : FrameRow) (gap : GapRow) (frame : DrawnFrame) (is : IsDrawn c b variant row gap.gap frame) where
   -- one frame more
@@ -39,13 +40,13 @@ module _ (c : Cluster) (b : Book) (variant : List ℕ) (row : FrameRow) (gap : G
 
 -- ---- signals
 
-module _ (old new : Standing) (variant : List ℕ) (row : FrameRow) (given : Request) (answer : Answer) (alike : given ≡ request.Layout variant row.frame)
+module _ (old new : Standing) (variant : List ℕ) (row : FrameRow) (given : Request) (answer : Answer) (alike : given ≡ request.Query variant (Layout row.frame))
     (answered : Answered old new (Supplier row.supplier) given answer) where
   -- the signals of the answer
   pub signals_read : (all : Bool) (rows : List SignalRow) (signals : List DrawnSignal) → answer ≡ answers.Layout all rows → map (λ s. s.signal) signals ≡ map (λ r. r.signal) rows
       → Reads old new (Ok signals) (λ c b signals. AreSignals c b variant row signals) (λ c b e. e ≡ Unavailable)
   signals_read all rows signals is same c b stood sound =
-      let r = reported old new (Supplier row.supplier) (request.Layout variant row.frame) given answers.Layout answer (layout_stays variant row.frame) alike answered (λ all rows e. cc) all rows rows is refl c b stood sound in
+      let r = reported old new (Supplier row.supplier) (request.Query variant (Layout row.frame)) given answers.Layout answer (report_stays variant (Layout row.frame)) alike answered (λ all rows e. cc) all rows rows is refl c b stood sound in
       (r.0, (r.1.0, rows, r.1.1, same))
 
   -- or none
@@ -53,7 +54,7 @@ module _ (old new : Standing) (variant : List ℕ) (row : FrameRow) (given : Req
   no_signals r is =
       subst (λ r. Reads old new r (λ c b signals. AreSignals c b variant row signals) (λ c b e. e ≡ Unavailable)) (sym is)
       (λ c b stood sound.
-      let t = refused {X = List SignalRow} old new (Supplier row.supplier) (request.Layout variant row.frame) given answers.Layout answer (layout_stays variant row.frame) alike answered Unavailable (inl refl) c b stood sound in
+      let t = refused {X = List SignalRow} old new (Supplier row.supplier) (request.Query variant (Layout row.frame)) given answers.Layout answer (report_stays variant (Layout row.frame)) alike answered Unavailable (inl refl) c b stood sound in
       (t.0, refl))
 
 -- ---- the frames of a plan
@@ -68,7 +69,7 @@ refuses_plan c b reader variant asked e of may =
 
 module _ (old mid new : Standing) (reader : Actor) (variant : List ℕ) where
   -- the rows were reported, and then drawn
-  pub frames_read : (rows : List FrameRow) (r : Result (Vec DrawnFrame Global) Refusal) → Reports old mid reader (request.Frames variant) answers.Frames (Ok rows)
+  pub frames_read : (rows : List FrameRow) (r : Result (Vec DrawnFrame Global) Refusal) → Reports old mid reader (request.Query variant Frames) answers.Frames (Ok rows)
       → Reads mid new r (λ c b frames. AreDrawnOf c b reader variant rows frames.items) (λ c b e. MayRefusePlan c b reader variant e)
       → Reads old new r (λ c b frames. AreFrames c b reader variant frames.items) (λ c b e. MayRefusePlan c b reader variant e)
   frames_read rows (Ok frames) reports reads c b stood sound =
@@ -78,7 +79,7 @@ module _ (old mid new : Standing) (reader : Actor) (variant : List ℕ) where
   frames_read rows (Err e) reports reads c b stood sound = reads c b (reports c b stood sound).0 sound
 
   -- the gaps were reported, and then the rows drawn with them, and put in order
-  pub drawn_of : (rows : List FrameRow) (gaps : List GapRow) (listed frames : List DrawnFrame) → IsPermutation listed frames → AreWorstFirst frames → Reports old mid reader (request.Gaps variant) answers.Gaps (Ok gaps)
+  pub drawn_of : (rows : List FrameRow) (gaps : List GapRow) (listed frames : List DrawnFrame) → IsPermutation listed frames → AreWorstFirst frames → Reports old mid reader (request.Query variant Gaps) answers.Gaps (Ok gaps)
       → ((c : Cluster) (b : Book) → mid c b → IsSound c b → new c b × AreDrawn c b variant rows gaps listed)
       → (c : Cluster) (b : Book) → old c b → IsSound c b → new c b × AreDrawnOf c b reader variant rows frames
   drawn_of rows gaps listed frames same ordered reports reads c b stood sound =

@@ -2,7 +2,7 @@
 use Rattle.std.proofs.Common.{◌≡◌, ◌⊎◌, Bool, Result, Ok, Err, IfOk, refl, sym, ap, subst, ◌∙◌, inl, inr}
 use Rattle.std.specs.Prelude.{List, ℕ, ⊤}
 use Rattle.fr_base.specs.Book.{Book}
-use Rattle.fr_base.specs.Checks.{check, name}
+use Rattle.fr_base.specs.Checks.{check, name, report}
 use Rattle.fr_base.specs.Cluster.{Cluster}
 use Rattle.fr_base.specs.Queries.{reply}
 use Rattle.fr_base.specs.Sound.{IsSound}
@@ -16,6 +16,7 @@ use Rattle.fr_base.specs.declared.refusal.Refusal.TheVariants.{Unavailable}
 use Rattle.fr_base.specs.declared.request.Checked.{Checked}
 use Rattle.fr_base.specs.declared.request.Checked.TheVariants as checked
 use Rattle.fr_base.specs.declared.request.Request.{Request}
+use Rattle.fr_base.specs.declared.report.Report.{Report}
 use Rattle.fr_base.specs.declared.request.Request.TheVariants as request
 use Rattle.fr_base.proofs.SoundRefusing.{gives_each, gives_unless}
 use Rattle.fr_plans.specs.Reports.{Answered, MayRefuse, Reports, Standing, answer_to}
@@ -50,25 +51,9 @@ stays asked queries c b actor = outcome_same b _ (
     gives_unless _ _ (knows b actor) _ (λ _.
     gives_each _ (check c.params actor asked) _ (λ what is. act_same c b actor what (subst (λ r. IfOk r IsQuery) is (queries c.params actor)))))
 
-pub grants_stay : (v : List ℕ) (c : Cluster) (b : Book) (actor : Actor) → (step c b actor (request.Grants v)).book ≡ b
+pub report_stays : (v : List ℕ) (asked : Report (List ℕ)) (c : Cluster) (b : Book) (actor : Actor) → (step c b actor (request.Query v asked)).book ≡ b
 unfolding check
-grants_stay v = stays (request.Grants v) (λ p actor. gives_each _ (name v) _ (λ _ _. tt))
-
-pub frames_stay : (v : List ℕ) (c : Cluster) (b : Book) (actor : Actor) → (step c b actor (request.Frames v)).book ≡ b
-unfolding check
-frames_stay v = stays (request.Frames v) (λ p actor. gives_each _ (name v) _ (λ _ _. tt))
-
-pub schedule_stays : (v : List ℕ) (c : Cluster) (b : Book) (actor : Actor) → (step c b actor (request.Schedule v)).book ≡ b
-unfolding check
-schedule_stays v = stays (request.Schedule v) (λ p actor. gives_each _ (name v) _ (λ _ _. tt))
-
-pub gaps_stay : (v : List ℕ) (c : Cluster) (b : Book) (actor : Actor) → (step c b actor (request.Gaps v)).book ≡ b
-unfolding check
-gaps_stay v = stays (request.Gaps v) (λ p actor. gives_each _ (name v) _ (λ _ _. tt))
-
-pub layout_stays : (v f : List ℕ) (c : Cluster) (b : Book) (actor : Actor) → (step c b actor (request.Layout v f)).book ≡ b
-unfolding check
-layout_stays v f = stays (request.Layout v f) (λ p actor. gives_each _ (name v) _ (λ _ _. gives_each _ (name f) _ (λ _ _. tt)))
+report_stays v asked = stays (request.Query v asked) (λ p actor. gives_each _ (name v) _ (λ _ _. gives_each _ (report asked) _ (λ _ _. tt)))
 
 -- ---- what its answer tells
 

@@ -11,6 +11,7 @@ use Rattle.fr_base.specs.declared.answer.SignalRow.{SignalRow}
 use Rattle.fr_base.specs.declared.refusal.Refusal.{Refusal}
 use Rattle.fr_base.specs.declared.refusal.Refusal.TheVariants.{Unavailable}
 use Rattle.fr_base.specs.declared.request.Request.{Request}
+use Rattle.fr_base.specs.declared.report.Report.TheVariants.{Grants, Frames, Schedule, Gaps, Layout}
 use Rattle.fr_base.specs.declared.request.Request.TheVariants as request
 use Rattle.fr_picture.specs.FrameTables.{AreWorstFirst}
 use Rattle.fr_picture.specs.declared.frames.DrawnFrame.{DrawnFrame}
@@ -20,7 +21,7 @@ use Rattle.fr_plans.specs.Reports.{answer_to}
 -- The signals are those of the supplier's frame.
 abbrev pub AreSignals : Cluster → Book → List ℕ → FrameRow → List DrawnSignal → Type 0
 AreSignals c b variant row signals = (all : Bool) × (rows : List SignalRow)
-    × (answer_to c b (Supplier row.supplier) (request.Layout variant row.frame) ≡ answer.Layout all rows) × (map (λ s. s.signal) signals ≡ map (λ r. r.signal) rows)
+    × (answer_to c b (Supplier row.supplier) (request.Query variant (Layout row.frame)) ≡ answer.Layout all rows) × (map (λ s. s.signal) signals ≡ map (λ r. r.signal) rows)
 
 -- The frame is drawn with this row, this gap, and its signals.
 abbrev pub IsDrawn : Cluster → Book → List ℕ → FrameRow → Option ℕ → DrawnFrame → Type 0
@@ -35,17 +36,17 @@ AreDrawn c b variant _ _ _ = ⊥
 -- The rows are drawn with their gaps, of which the reader is told, and their signals, in the order of the page.
 abbrev pub AreDrawnOf : Cluster → Book → Actor → List ℕ → List FrameRow → List DrawnFrame → Type 0
 AreDrawnOf c b reader variant rows frames = (listed : List DrawnFrame) × (gaps : List GapRow) × IsPermutation listed frames × AreWorstFirst frames
-    × ((all : Bool) × (answer_to c b reader (request.Gaps variant) ≡ answer.Gaps all gaps)) × AreDrawn c b variant rows gaps listed
+    × ((all : Bool) × (answer_to c b reader (request.Query variant Gaps) ≡ answer.Gaps all gaps)) × AreDrawn c b variant rows gaps listed
 
 -- The frames are those of the variant that the reader sees, with their gaps and signals, in the order of the page.
 abbrev pub AreFrames : Cluster → Book → Actor → List ℕ → List DrawnFrame → Type 0
 AreFrames c b reader variant frames = (rows : List FrameRow)
-    × ((all : Bool) × (answer_to c b reader (request.Frames variant) ≡ answer.Frames all rows)) × AreDrawnOf c b reader variant rows frames
+    × ((all : Bool) × (answer_to c b reader (request.Query variant Frames) ≡ answer.Frames all rows)) × AreDrawnOf c b reader variant rows frames
 
 -- a report from which a plan is drawn
 abbrev pub IsOfPlan : List ℕ → Request → Type 0
 IsOfPlan variant asked =
-    (asked ≡ request.Grants variant) ⊎ (asked ≡ request.Schedule variant) ⊎ (asked ≡ request.Frames variant) ⊎ (asked ≡ request.Gaps variant)
+    (asked ≡ request.Query variant Grants) ⊎ (asked ≡ request.Query variant Schedule) ⊎ (asked ≡ request.Query variant Frames) ⊎ (asked ≡ request.Query variant Gaps)
 
 -- The reader is refused one of these reports so; or it is Unavailable.
 abbrev pub MayRefusePlan : Cluster → Book → Actor → List ℕ → Refusal → Type 0

@@ -8,7 +8,8 @@ ghost use Rattle.fr_plans.specs.Reports.{Reads};
 use crate::reports::{ask, copy, gaps, refusal_in};
 use crate::view::View;
 use fr_base::{
-    Actor, Answer, Desk, FrameRow, GapRow, NoMemory, Refusal, Request, Rows, SignalRow, Text,
+    Actor, Answer, Desk, FrameRow, GapRow, NoMemory, Refusal, Report, Request, Rows, SignalRow,
+    Text,
 };
 use fr_picture::{DrawnFrame, DrawnSignal, worst_first};
 use std::alloc::Global;
@@ -26,7 +27,8 @@ pub fn frames<D: Desk>(
         (λ c b e. MayRefusePlan c b view.now.reader view.now.variant.now e) }
 {
     let variant = Text::copy(alloc, view.variant)?;
-    match &ask(alloc, desk, view.reader, Request::Frames { variant }) {
+    let report = Report::Frames;
+    match &ask(alloc, desk, view.reader, Request::Query { variant, report }) {
         Answer::Frames { rows, .. } => frames_of(alloc, desk, view, rows.as_slice()),
         answer => Err(refusal_in(answer)),
     }
@@ -107,10 +109,10 @@ fn draw_signals<D: Desk>(
     ensures reads { D.clean desk.new → Reads (D.stands desk.old) (D.stands desk.new) result
         (λ c b signals. AreSignals c b variant.now row.now signals) (λ c b e. e ≡ Unavailable) }
 {
-    let request = Request::Layout {
-        variant: Text::copy(alloc, variant)?,
-        frame: Text::copy(alloc, row.frame.as_str())?,
-    };
+    let variant = Text::copy(alloc, variant)?;
+    let frame = Text::copy(alloc, row.frame.as_str())?;
+    let report = Report::Layout { frame };
+    let request = Request::Query { variant, report };
     match &ask(alloc, desk, Actor::Supplier(row.supplier), request) {
         Answer::Layout { rows, .. } => Ok(drawn(alloc, rows.as_slice())?),
         _ => Err(Refusal::Unavailable),

@@ -1,12 +1,14 @@
 //! The rows of each report, asked of a desk.
 ghost use Rattle.std.specs.Prelude.{◌≡◌, IfOk};
 ghost use Rattle.fr_base.specs.declared.answer.Answer.TheVariants as answer;
+ghost use Rattle.fr_base.specs.declared.report.Report.TheVariants.{Grants, Schedule, Gaps};
 ghost use Rattle.fr_base.specs.declared.request.Request.TheVariants as request;
 ghost use Rattle.fr_plans.specs.Reports.{Answered, MayRefuse, Reports};
 
 use crate::view::View;
 use fr_base::{
-    Actor, Answer, Ask, Desk, GapRow, GrantRow, NoMemory, Refusal, Request, Rows, Sending, Text,
+    Actor, Answer, Ask, Desk, GapRow, GrantRow, NoMemory, Refusal, Report, Request, Rows, Sending,
+    Text,
 };
 use std::alloc::Global;
 
@@ -17,10 +19,11 @@ pub fn grants<D: Desk>(
     view: &View<'_>,
 ) -> Result<Rows<GrantRow>, Refusal>
     ensures falls { D.clean desk.new → D.clean desk.old }
-    ensures reports { D.clean desk.new → Reports (D.stands desk.old) (D.stands desk.new) view.now.reader (request.Grants view.now.variant.now) answer.Grants result }
+    ensures reports { D.clean desk.new → Reports (D.stands desk.old) (D.stands desk.new) view.now.reader (request.Query view.now.variant.now Grants) answer.Grants result }
 {
     let variant = Text::copy(alloc, view.variant)?;
-    match &ask(alloc, desk, view.reader, Request::Grants { variant }) {
+    let report = Report::Grants;
+    match &ask(alloc, desk, view.reader, Request::Query { variant, report }) {
         Answer::Grants { rows, .. } => Ok(copy(alloc, rows.as_slice())?),
         answer => Err(refusal_in(answer)),
     }
@@ -33,10 +36,11 @@ pub fn schedule<D: Desk>(
     view: &View<'_>,
 ) -> Result<Rows<Sending>, Refusal>
     ensures falls { D.clean desk.new → D.clean desk.old }
-    ensures reports { D.clean desk.new → Reports (D.stands desk.old) (D.stands desk.new) view.now.reader (request.Schedule view.now.variant.now) answer.Schedule result }
+    ensures reports { D.clean desk.new → Reports (D.stands desk.old) (D.stands desk.new) view.now.reader (request.Query view.now.variant.now Schedule) answer.Schedule result }
 {
     let variant = Text::copy(alloc, view.variant)?;
-    match &ask(alloc, desk, view.reader, Request::Schedule { variant }) {
+    let report = Report::Schedule;
+    match &ask(alloc, desk, view.reader, Request::Query { variant, report }) {
         Answer::Schedule { rows, .. } => Ok(copy(alloc, rows.as_slice())?),
         answer => Err(refusal_in(answer)),
     }
@@ -49,10 +53,11 @@ pub(crate) fn gaps<D: Desk>(
     view: &View<'_>,
 ) -> Result<Rows<GapRow>, Refusal>
     ensures falls { D.clean desk.new → D.clean desk.old }
-    ensures reports { D.clean desk.new → Reports (D.stands desk.old) (D.stands desk.new) view.now.reader (request.Gaps view.now.variant.now) answer.Gaps result }
+    ensures reports { D.clean desk.new → Reports (D.stands desk.old) (D.stands desk.new) view.now.reader (request.Query view.now.variant.now Gaps) answer.Gaps result }
 {
     let variant = Text::copy(alloc, view.variant)?;
-    match &ask(alloc, desk, view.reader, Request::Gaps { variant }) {
+    let report = Report::Gaps;
+    match &ask(alloc, desk, view.reader, Request::Query { variant, report }) {
         Answer::Gaps { rows, .. } => Ok(copy(alloc, rows.as_slice())?),
         answer => Err(refusal_in(answer)),
     }

@@ -2,7 +2,8 @@
 //! writes that are tried again too seldom, too often, or after another error. Replies are typed by hand from the
 //! formats.
 use fr_base::{
-    Actor, Answer, Ask, Channel, Desk, Name, NoMemory, Refusal, Request, Rows, Sending, Slot,
+    Actor, Answer, Ask, Channel, Desk, Name, NoMemory, Refusal, Report, Request, Rows, Sending,
+    Slot,
 };
 use fr_http::{LinkFault, Served, serve_one};
 use std::alloc::Global;
@@ -60,7 +61,10 @@ impl Desk for Counter {
     fn ask(&mut self, alloc: Global, ask: &Ask) -> Answer {
         self.asked = self.asked.saturating_add(1);
         match ask.request {
-            Request::Schedule { .. } => self
+            Request::Query {
+                report: Report::Schedule,
+                ..
+            } => self
                 .schedule(alloc)
                 .unwrap_or(Answer::Refused(Refusal::Unavailable)),
             _ => Answer::Done,

@@ -3,9 +3,10 @@ use Rattle.std.proofs.Common.{◌≡◌, ◌^◌, Bool, true, false, ◌&&◌, S
 use Rattle.std.specs.Prelude.{nat_lt}
 use Rattle.std.specs.List.{list_all}
 use Rattle.fr_base.specs.declared.request.Request.{Request}
-use Rattle.fr_base.specs.declared.request.Request.TheVariants.{OpenVariant, Release, AddSupplier, AddNode, Grant, Revoke, AddFrame, DropFrame, Place, Unplace, AddSignal, DropSignal, Import, Grants, Frames, Schedule, Gaps, Layout}
+use Rattle.fr_base.specs.declared.request.Request.TheVariants.{OpenVariant, Release, AddSupplier, AddNode, Grant, Revoke, AddFrame, DropFrame, Place, Unplace, AddSignal, DropSignal, Import, Query}
+use Rattle.fr_base.specs.declared.report.Report.TheVariants.{Grants, Frames, Schedule, Gaps, Layout}
 use Rattle.fr_text.specs.Fields.{value_of, text, text_or_null, whole, only, is_among}
-use Rattle.fr_text.specs.RequestText.{open_variant, release, add_supplier, add_node, grant, revoke, add_frame, drop_frame, place, unplace, add_signal, drop_signal, import, grants, frames, schedule, gaps, layout, readers, request_in, request_of}
+use Rattle.fr_text.specs.RequestText.{open_variant, release, add_supplier, add_node, grant, revoke, add_frame, drop_frame, place, unplace, add_signal, drop_signal, import, report, layout, readers, request_in, request_of}
 use Rattle.fr_text.specs.Laws.{fields_of, numbers_of, WrittenIsReadBack}
 
 -- what two tests say that both pass
@@ -15,7 +16,7 @@ both false y h = cc
 
 -- the fields of a request are read as it
 pub fields_read : (r : Request) → IsTrue (list_all (λ n. nat_lt n (2 ^ 32)) (numbers_of r)) → request_in (fields_of r) ≡ Some r
-unfolding request_in readers open_variant release add_supplier add_node grant revoke add_frame drop_frame place unplace add_signal drop_signal import grants frames schedule gaps layout fields_of text text_or_null whole only is_among
+unfolding request_in readers open_variant release add_supplier add_node grant revoke add_frame drop_frame place unplace add_signal drop_signal import report layout fields_of text text_or_null whole only is_among
 fields_read (OpenVariant v None) fit = refl
 fields_read (OpenVariant v (Some parent)) fit = refl
 fields_read (Release v) fit = refl
@@ -38,11 +39,11 @@ fields_read (AddSignal v f x start length order) fit =
     rw (first.0, (both (nat_lt length (2 ^ 32)) _ first.1).0) refl
 fields_read (DropSignal v f x) fit = refl
 fields_read (Import v label body) fit = refl
-fields_read (Grants v) fit = refl
-fields_read (Frames v) fit = refl
-fields_read (Schedule v) fit = refl
-fields_read (Gaps v) fit = refl
-fields_read (Layout v f) fit = refl
+fields_read (Query v Grants) fit = refl
+fields_read (Query v Frames) fit = refl
+fields_read (Query v Schedule) fit = refl
+fields_read (Query v Gaps) fit = refl
+fields_read (Query v (Layout f)) fit = refl
 
 pub written_is_read_back : WrittenIsReadBack
 unfolding request_of value_of

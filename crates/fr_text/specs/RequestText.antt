@@ -6,7 +6,9 @@ use Rattle.std.specs.Str.{bytes_eq}
 use Rattle.serde_json.specs.Data.{Members}
 use Rattle.serde_json.specs.Find.{as_object}
 use Rattle.fr_base.specs.declared.request.Request.{Request}
-use Rattle.fr_base.specs.declared.request.Request.TheVariants.{OpenVariant, Release, AddSupplier, AddNode, Grant, Revoke, AddFrame, DropFrame, Place, Unplace, AddSignal, DropSignal, Import, Grants, Frames, Schedule, Gaps, Layout}
+use Rattle.fr_base.specs.declared.request.Request.TheVariants.{OpenVariant, Release, AddSupplier, AddNode, Grant, Revoke, AddFrame, DropFrame, Place, Unplace, AddSignal, DropSignal, Import, Query}
+use Rattle.fr_base.specs.declared.report.Report.{Report}
+use Rattle.fr_base.specs.declared.report.Report.TheVariants.{Grants, Frames, Schedule, Gaps, Layout}
 use Rattle.fr_text.specs.Fields.{◌>>=◌, ◌>>◌, provided, value_of, only, text, text_or_null, whole}
 
 -- ---- the integrator's
@@ -125,36 +127,20 @@ import fields = do
 
 -- ---- queries
 
-unfoldable pub grants : Members → Option Request
-grants fields = do
+-- a report that names no frame
+unfoldable pub report : Report (List ℕ) → Members → Option Request
+report asked fields = do
   provided (only (codes "do" ∷ codes "variant" ∷ []) fields)
   variant ← text (codes "variant") fields
-  Some (Grants variant)
+  Some (Query variant asked)
 
-unfoldable pub frames : Members → Option Request
-frames fields = do
-  provided (only (codes "do" ∷ codes "variant" ∷ []) fields)
-  variant ← text (codes "variant") fields
-  Some (Frames variant)
-
-unfoldable pub schedule : Members → Option Request
-schedule fields = do
-  provided (only (codes "do" ∷ codes "variant" ∷ []) fields)
-  variant ← text (codes "variant") fields
-  Some (Schedule variant)
-
-unfoldable pub gaps : Members → Option Request
-gaps fields = do
-  provided (only (codes "do" ∷ codes "variant" ∷ []) fields)
-  variant ← text (codes "variant") fields
-  Some (Gaps variant)
-
+-- the layout of a frame
 unfoldable pub layout : Members → Option Request
 layout fields = do
   provided (only (codes "do" ∷ codes "variant" ∷ codes "frame" ∷ []) fields)
   variant ← text (codes "variant") fields
   frame ← text (codes "frame") fields
-  Some (Layout variant frame)
+  Some (Query variant (Layout frame))
 
 -- ---- the request
 
@@ -174,10 +160,10 @@ readers =
     ∷ (codes "add_signal", add_signal)
     ∷ (codes "drop_signal", drop_signal)
     ∷ (codes "import", import)
-    ∷ (codes "grants", grants)
-    ∷ (codes "frames", frames)
-    ∷ (codes "schedule", schedule)
-    ∷ (codes "gaps", gaps)
+    ∷ (codes "grants", report Grants)
+    ∷ (codes "frames", report Frames)
+    ∷ (codes "schedule", report Schedule)
+    ∷ (codes "gaps", report Gaps)
     ∷ (codes "layout", layout)
     ∷ []
 

@@ -8,7 +8,7 @@ mod queries;
 mod supplier;
 
 use crate::fields::{Fields, read_json, text_in};
-use fr_base::{Refusal, Request};
+use fr_base::{Refusal, Report, Request};
 use std::alloc::Global;
 
 /// Reads a request. What is no request is `BadText`; want of memory is `Unavailable`.
@@ -42,10 +42,10 @@ fn request_in(alloc: Global, fields: &Fields) -> Result<Request, Refusal>
         "add_signal" => supplier::add_signal(alloc, fields),
         "drop_signal" => supplier::drop_signal(alloc, fields),
         "import" => supplier::import(alloc, fields),
-        "grants" => queries::grants(alloc, fields),
-        "frames" => queries::frames(alloc, fields),
-        "schedule" => queries::schedule(alloc, fields),
-        "gaps" => queries::gaps(alloc, fields),
+        "grants" => queries::report(alloc, fields, Report::Grants),
+        "frames" => queries::report(alloc, fields, Report::Frames),
+        "schedule" => queries::report(alloc, fields, Report::Schedule),
+        "gaps" => queries::report(alloc, fields, Report::Gaps),
         "layout" => queries::layout(alloc, fields),
         _ => Err(Refusal::BadText),
     }

@@ -1,17 +1,11 @@
 use Rattle.std.proofs.Common.{◌≡◌, ◌∙◌, Bool, ap}
 use Rattle.fr_base.specs.Book.{Book}
 use Rattle.fr_base.specs.Cluster.{Cluster}
-use Rattle.fr_base.specs.Queries.{variant_asked}
 use Rattle.fr_base.specs.Tables.{contains}
 use Rattle.fr_base.specs.declared.name.Name.{Name}
 use Rattle.fr_records.specs.Held.{Standing}
 use Rattle.fr_answers.proofs.AllReplies.{all-replied, none-replied}
 use Rattle.fr_answers.proofs.queries.reply_to_integrator.Goals as goal
-
--- what was told of the variant asked about
-asked : (old mid : Standing) (has : Bool) (v w : Name) → v ≡ w → ((c : Cluster) (b : Book) → old c b → mid c b × (has ≡ contains b.variants v)) →
-    (c : Cluster) (b : Book) → old c b → mid c b × (has ≡ contains b.variants w)
-asked old mid has v w e told c b stood = ((told c b stood).0, (told c b stood).1 ∙ ap (λ v. contains b.variants v) e)
 
 pub returns-then-branch-clause-replies : goal.returns-then-branch-clause-replies
 returns-then-branch-clause-replies g c = λ now.
@@ -19,7 +13,7 @@ returns-then-branch-clause-replies g c = λ now.
     let old = records.stands c.args.records.now in
     let mid = records.stands c.has_variant.new.self in
     let has = c.in_ok-has_variant.field-0 in
-    all-replied old mid c.args.query.now has (asked old mid has c.variant_asked.result (variant_asked c.args.query.now) c.variant_asked.ensures (c.in_ok-has_variant.ensures.has (c.show_all.ensures.falls now)))
+    all-replied old mid c.args.query.now has (c.in_ok-has_variant.ensures.has (c.show_all.ensures.falls now))
     (records.stands c.show_all.new.records) c.show_all.result c.if-branch.true (c.show_all.ensures.shows now)
 
 pub returns-else-branch-clause-replies : goal.returns-else-branch-clause-replies
@@ -28,4 +22,4 @@ returns-else-branch-clause-replies g c = λ now.
     let old = records.stands c.args.records.now in
     let mid = records.stands c.has_variant.new.self in
     let has = c.in_ok-has_variant.field-0 in
-    none-replied old mid c.args.query.now has (asked old mid has c.variant_asked.result (variant_asked c.args.query.now) c.variant_asked.ensures (c.in_ok-has_variant.ensures.has now)) c.if-branch.false
+    none-replied old mid c.args.query.now has (c.in_ok-has_variant.ensures.has now) c.if-branch.false

@@ -8,12 +8,12 @@ returns-in_err-page-clause-replies g c = λ clean.
     let old = g.R.Records.stands c.args.records.now in
     let new = g.R.Records.stands c.find_page.new.records in
     replies-none old new c.args.supplier c.args.query.now c.from_residual.result c.in_err-page.field-0.0 (search rules)
-    (subst (λ v. FindsPage old new (Err c.in_err-page.field-0.0) c.args.supplier v) c.variant_asked.ensures (c.in_err-page.ensures.page clean))
+    (c.in_err-page.ensures.page clean)
 
 pub returns-clause-replies : goal.returns-clause-replies
 returns-clause-replies g c = λ clean.
     let old = g.R.Records.stands c.args.records.now in
     let mid = g.R.Records.stands c.find_page.new.records in
     let new = g.R.Records.stands c.keep.new.self in
-    let finds = subst (λ v. FindsPage old mid (Ok c.in_ok-page.page) c.args.supplier v) c.variant_asked.ensures (c.in_ok-page.ensures.page (c.keep.ensures.falls clean)) in
+    let finds = c.in_ok-page.ensures.page (c.keep.ensures.falls clean) in
     replies-own old new c.args.supplier c.args.query.now c.in_ok-page.page c.show-answer.result (finds-kept _ _ _ _ _ _ finds (c.keep.ensures.keeps clean)) c.show-answer.ensures

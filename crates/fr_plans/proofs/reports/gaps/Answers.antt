@@ -1,26 +1,27 @@
 use Rattle.std.proofs.Common.{rules, ap}
 use Rattle.fr_base.specs.declared.answer.Answer.TheVariants as answer
+use Rattle.fr_base.specs.declared.report.Report.TheVariants.{Gaps}
 use Rattle.fr_base.specs.declared.request.Request.TheVariants as request
-use Rattle.fr_plans.proofs.ReportLaws.{gaps_stay, lacked, refused, reported}
+use Rattle.fr_plans.proofs.ReportLaws.{lacked, refused, report_stays, reported}
 use Rattle.fr_plans.proofs.reports.gaps.Goals as goal
 
 pub returns-in_err-copy-in-Gaps-clause-reports : goal.returns-in_err-copy-in-Gaps-clause-reports
 returns-in_err-copy-in-Gaps-clause-reports g c = λ clean.
-    lacked (g.D.Desk.stands c.args.desk.now) (g.D.Desk.stands c.ask.new.desk) c.args.view.now.reader (request.Gaps c.args.view.now.variant.now) (request.Gaps c.in_ok-variant.variant) answer.Gaps c.ask.result
-    (gaps_stay c.args.view.now.variant.now) (ap request.Gaps c.in_ok-variant.ensures) (c.ask.ensures.answered clean)
+    lacked (g.D.Desk.stands c.args.desk.now) (g.D.Desk.stands c.ask.new.desk) c.args.view.now.reader (request.Query c.args.view.now.variant.now Gaps) (request.Query c.in_ok-variant.variant Gaps) answer.Gaps c.ask.result
+    (report_stays c.args.view.now.variant.now Gaps) (ap (λ v. request.Query v Gaps) c.in_ok-variant.ensures) (c.ask.ensures.answered clean)
     c.from_residual-in_err-copy-in-Gaps.result (search rules)
 
 pub returns-in-Gaps-clause-reports : goal.returns-in-Gaps-clause-reports
 returns-in-Gaps-clause-reports g c = λ clean.
-    reported (g.D.Desk.stands c.args.desk.now) (g.D.Desk.stands c.ask.new.desk) c.args.view.now.reader (request.Gaps c.args.view.now.variant.now) (request.Gaps c.in_ok-variant.variant) answer.Gaps c.ask.result
-    (gaps_stay c.args.view.now.variant.now) (ap request.Gaps c.in_ok-variant.ensures) (c.ask.ensures.answered clean)
+    reported (g.D.Desk.stands c.args.desk.now) (g.D.Desk.stands c.ask.new.desk) c.args.view.now.reader (request.Query c.args.view.now.variant.now Gaps) (request.Query c.in_ok-variant.variant Gaps) answer.Gaps c.ask.result
+    (report_stays c.args.view.now.variant.now Gaps) (ap (λ v. request.Query v Gaps) c.in_ok-variant.ensures) (c.ask.ensures.answered clean)
     (λ all rows e. cc) c.in-Gaps.all c.in-Gaps.rows c.in_ok-copy-in-Gaps.field-0 c.in-Gaps.is (search rules)
 
 pub returns : goal.returns
 returns g c = record {
   falls = c.ask.ensures.falls;
   reports = λ clean.
-      refused (g.D.Desk.stands c.args.desk.now) (g.D.Desk.stands c.ask.new.desk) c.args.view.now.reader (request.Gaps c.args.view.now.variant.now) (request.Gaps c.in_ok-variant.variant) answer.Gaps c.ask.result
-      (gaps_stay c.args.view.now.variant.now) (ap request.Gaps c.in_ok-variant.ensures) (c.ask.ensures.answered clean)
+      refused (g.D.Desk.stands c.args.desk.now) (g.D.Desk.stands c.ask.new.desk) c.args.view.now.reader (request.Query c.args.view.now.variant.now Gaps) (request.Query c.in_ok-variant.variant Gaps) answer.Gaps c.ask.result
+      (report_stays c.args.view.now.variant.now Gaps) (ap (λ v. request.Query v Gaps) c.in_ok-variant.ensures) (c.ask.ensures.answered clean)
       c.refusal_in.result c.refusal_in.ensures;
 }

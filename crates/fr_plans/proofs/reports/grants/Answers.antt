@@ -1,26 +1,27 @@
 use Rattle.std.proofs.Common.{rules, ap}
 use Rattle.fr_base.specs.declared.answer.Answer.TheVariants as answer
+use Rattle.fr_base.specs.declared.report.Report.TheVariants.{Grants}
 use Rattle.fr_base.specs.declared.request.Request.TheVariants as request
-use Rattle.fr_plans.proofs.ReportLaws.{grants_stay, lacked, refused, reported}
+use Rattle.fr_plans.proofs.ReportLaws.{lacked, refused, report_stays, reported}
 use Rattle.fr_plans.proofs.reports.grants.Goals as goal
 
 pub returns-in_err-copy-in-Grants-clause-reports : goal.returns-in_err-copy-in-Grants-clause-reports
 returns-in_err-copy-in-Grants-clause-reports g c = λ clean.
-    lacked (g.D.Desk.stands c.args.desk.now) (g.D.Desk.stands c.ask.new.desk) c.args.view.now.reader (request.Grants c.args.view.now.variant.now) (request.Grants c.in_ok-variant.variant) answer.Grants c.ask.result
-    (grants_stay c.args.view.now.variant.now) (ap request.Grants c.in_ok-variant.ensures) (c.ask.ensures.answered clean)
+    lacked (g.D.Desk.stands c.args.desk.now) (g.D.Desk.stands c.ask.new.desk) c.args.view.now.reader (request.Query c.args.view.now.variant.now Grants) (request.Query c.in_ok-variant.variant Grants) answer.Grants c.ask.result
+    (report_stays c.args.view.now.variant.now Grants) (ap (λ v. request.Query v Grants) c.in_ok-variant.ensures) (c.ask.ensures.answered clean)
     c.from_residual-in_err-copy-in-Grants.result (search rules)
 
 pub returns-in-Grants-clause-reports : goal.returns-in-Grants-clause-reports
 returns-in-Grants-clause-reports g c = λ clean.
-    reported (g.D.Desk.stands c.args.desk.now) (g.D.Desk.stands c.ask.new.desk) c.args.view.now.reader (request.Grants c.args.view.now.variant.now) (request.Grants c.in_ok-variant.variant) answer.Grants c.ask.result
-    (grants_stay c.args.view.now.variant.now) (ap request.Grants c.in_ok-variant.ensures) (c.ask.ensures.answered clean)
+    reported (g.D.Desk.stands c.args.desk.now) (g.D.Desk.stands c.ask.new.desk) c.args.view.now.reader (request.Query c.args.view.now.variant.now Grants) (request.Query c.in_ok-variant.variant Grants) answer.Grants c.ask.result
+    (report_stays c.args.view.now.variant.now Grants) (ap (λ v. request.Query v Grants) c.in_ok-variant.ensures) (c.ask.ensures.answered clean)
     (λ all rows e. cc) c.in-Grants.all c.in-Grants.rows c.in_ok-copy-in-Grants.field-0 c.in-Grants.is (search rules)
 
 pub returns : goal.returns
 returns g c = record {
   falls = c.ask.ensures.falls;
   reports = λ clean.
-      refused (g.D.Desk.stands c.args.desk.now) (g.D.Desk.stands c.ask.new.desk) c.args.view.now.reader (request.Grants c.args.view.now.variant.now) (request.Grants c.in_ok-variant.variant) answer.Grants c.ask.result
-      (grants_stay c.args.view.now.variant.now) (ap request.Grants c.in_ok-variant.ensures) (c.ask.ensures.answered clean)
+      refused (g.D.Desk.stands c.args.desk.now) (g.D.Desk.stands c.ask.new.desk) c.args.view.now.reader (request.Query c.args.view.now.variant.now Grants) (request.Query c.in_ok-variant.variant Grants) answer.Grants c.ask.result
+      (report_stays c.args.view.now.variant.now Grants) (ap (λ v. request.Query v Grants) c.in_ok-variant.ensures) (c.ask.ensures.answered clean)
       c.refusal_in.result c.refusal_in.ensures;
 }
