@@ -12,6 +12,7 @@ use Rattle.fr_base.specs.Tables.{get}
 use Rattle.fr_base.specs.declared.actor.Actor.{Actor}
 use Rattle.fr_base.specs.declared.answer.Answer.{Answer}
 use Rattle.fr_base.specs.declared.answer.Answer.TheVariants.{Done, Imported, Grants as ToldGrants, Frames as ToldFrames, Schedule as ToldSchedule, Gaps as ToldGaps, Layout as ToldLayout, Refused, RefusedRow}
+use Rattle.fr_base.specs.declared.name.Name.{Name}
 use Rattle.fr_base.specs.declared.params.Params.{Params}
 use Rattle.fr_base.specs.declared.refusal.Refusal.{Refusal}
 use Rattle.fr_base.specs.declared.refusal.Refusal.TheVariants.{NoVariant}

@@ -1,10 +1,8 @@
 -- Lemmas on cycle sets.
-use Rattle.std.proofs.Common.{◌≡◌, ◌≢◌, ℕ, zero, suc, ◌+◌, ◌%◌, ◌<◌, ◌≤◌, Bool, true, false, ◌&&◌, ◌||◌, not, eqb, leb, List, [], ◌∷◌, Option, Some, None, refl, sym, ◌∙◌, ap, subst, ◌⊎◌, inl, inr, arith, IsTrue}
-use Rattle.std.proofs.Math.Nat.{mod-mod_of_dvd, mod-eq_of_lt}
+use Rattle.std.proofs.Common.{◌≡◌, ◌≢◌, ℕ, zero, suc, ◌+◌, ◌%◌, ◌<◌, ◌≤◌, Bool, true, false, ◌&&◌, eqb, leb, List, [], ◌∷◌, Option, Some, None, refl, sym, ◌∙◌, ap, subst, ◌⊎◌, inl, inr, arith, IsTrue}
 use Rattle.std.proofs.lemmas.Nat.Gcd.{dvd_of_mod-eq-zero, le_of_dvd}
-use Rattle.std.proofs.lemmas.Bool.{eqb-true, eqb-false, eq-eqb, ne_eqb, ltb-true, leb-true, le-leb, and_parts, and_from, and_left, and_right, cases_Bool, cases_eq, cases_lt, true≢false}
+use Rattle.std.proofs.lemmas.Bool.{eqb-true, eq-eqb, ne_eqb, ltb-true, leb-true, and_parts, and_from, and_left, cases_Bool, cases_eq, cases_lt, true≢false}
 use Rattle.std.proofs.Math.Bool.{and_comm}
-use Rattle.std.specs.Bool.{then_some}
 use Rattle.std.specs.List.{filter, find, list_all, list_any, range_with_len}
 use Rattle.fr_base.specs.Cycles.{Cycles, is_cycle_count, is_repetition, are_cycles, selects, all_cycles, cycles_of, has_cycle, first_common}
 

@@ -5,9 +5,8 @@ use Rattle.std.specs.Int.{bit_at, trailing_zeros}
 use Rattle.std.specs.List.{list_all, range_with_len}
 use Rattle.std.proofs.lemmas.Bool.{and_parts, cases_lt, eqb-true, leb-true}
 use Rattle.std.proofs.lemmas.Nat.Bits.{bit_at_above, bit_at_and, bit_at-lt, bit_at-zero, bit_at-trailing_zeros}
-use Rattle.fr_base.specs.Cycles.{Cycles, are_cycles, first_common, has_cycle, is_bit_set, is_cycle_count, is_cycle_set, is_repetition}
-use Rattle.fr_base.proofs.CycleLemmas.{IsFirstCommon, all-range, both_have, first_common_is, first_common_nowhere, has_cycle-in, has_cycle-out, within}
-use Rattle.std.proofs.Math.Nat.{mod-lt}
+use Rattle.fr_base.specs.Cycles.{Cycles, are_cycles, first_common, has_cycle, is_bit_set, is_cycle_count, is_repetition}
+use Rattle.fr_base.proofs.CycleLemmas.{all-range, both_have, first_common_is, first_common_nowhere, has_cycle-in, has_cycle-out, within}
 
 -- of so many ones as the count is, the first of each repetition, from the base on
 abbrev pub word_of : ℕ → ℕ → ℕ → ℕ

@@ -2,7 +2,6 @@
 use Rattle.std.proofs.Common.{◌≡◌, true, refl}
 use Rattle.std.specs.Prelude.{codes}
 use Rattle.fr_base.specs.Refusals.{name_of}
-use Rattle.fr_base.specs.declared.params.ParamFault.{ParamFault}
 use Rattle.fr_base.specs.declared.params.ParamFault.TheVariants.{BadSlots, BadPayload, BadMacroticks, BadSum, BadCycleCount}
 use Rattle.fr_base.specs.declared.refusal.Refusal.{Refusal}
 use Rattle.fr_base.specs.declared.refusal.Refusal.TheVariants as refusal

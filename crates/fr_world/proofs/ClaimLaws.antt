@@ -1,5 +1,5 @@
 -- A placement takes its cells of a slot's table, cycle by cycle.
-use Rattle.std.proofs.Common.{◌≡◌, ℕ, suc, ◌+◌, ◌*◌, ◌/◌, ◌%◌, ◌≤◌, ◌<◌, true, false, ◌&&◌, cond, eqb, List, length, get_or, set, Option, Some, None, refl, sym, ap, ◌∙◌, inl, inr, arith}
+use Rattle.std.proofs.Common.{◌≡◌, ℕ, suc, ◌+◌, ◌*◌, ◌/◌, ◌%◌, ◌≤◌, ◌<◌, true, false, ◌&&◌, cond, List, length, get_or, set, Option, Some, None, refl, sym, ap, ◌∙◌, inl, inr, arith}
 use Rattle.std.specs.Option.{option_or}
 use Rattle.std.proofs.Math.Nat.{add-mod_right, mod-eq_of_lt, mul-le-mul_right, suc-mul}
 use Rattle.std.proofs.lemmas.Bool.{and_right, cases_lt, cases_order, eq-eqb, ne_eqb}

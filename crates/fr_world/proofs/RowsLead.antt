@@ -1,6 +1,5 @@
 -- A page takes the edits that rows are decided to, each of which changes a frame.
 use Rattle.std.proofs.Common.{◌≡◌, ◌≤◌, ◌++◌, List, [], ◌∷◌, Option, Some, None, Ok, IfOk, refl, sym, subst}
-use Rattle.std.specs.Prelude.{⊤}
 use Rattle.std.specs.List.{AllByRecursion}
 use Rattle.std.proofs.lemmas.List.Elements.{recursion_from_All}
 use Rattle.fr_base.specs.Tables.{get}

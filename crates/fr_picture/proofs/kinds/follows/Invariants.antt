@@ -1,4 +1,4 @@
-use Rattle.std.proofs.Common.{◌≡◌, ℕ, ◌+◌, ◌*◌, ◌<◌, ◌^◌, drop}
+use Rattle.std.proofs.Common.{◌≡◌, ◌<◌, ◌^◌, drop}
 use Rattle.fr_picture.specs.Kinds.{follows}
 use Rattle.fr_picture.proofs.kinds.follows.Given as goal
 
