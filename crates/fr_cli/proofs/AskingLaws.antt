@@ -17,7 +17,6 @@ use Rattle.sqlite_disk.specs.declared.Disk.{Ghosts}
 use Rattle.sqlite_wal.specs.Recovery.{Image}
 use Rattle.fr_cli.specs.Asked.{asked_by}
 use Rattle.fr_cli.specs.Asking.{IsAnswer, IsRefusedBy, Prints, is_refusal}
-use Rattle.fr_cli.specs.Faults.{IsNotImported}
 use Rattle.fr_cli.specs.Performing.{Says}
 use Rattle.fr_cli.specs.RegisterFiles.{IsAnswerOfFile, IsLeftNew, IsMade}
 use Rattle.fr_cli.specs.declared.fault.Fault.{Fault}
@@ -66,9 +65,9 @@ module _ {D : Type 0} {g : Ghosts D} where
   is_made rest (Err e) text f is made = tt
 
 -- a file that cannot be read is no import
-pub not_imported : (fault : Fault) → (fault ≡ CannotOpen) ⊎ (fault ≡ NoMemory) → IsNotImported fault
-not_imported fault (inl is) = inr is
-not_imported fault (inr is) = inl (inr is)
+pub not_imported : (Refused : Type 0) (fault : Fault) → (fault ≡ CannotOpen) ⊎ (fault ≡ NoMemory) → (Refused ⊎ (fault ≡ NoMemory)) ⊎ (fault ≡ CannotOpen)
+not_imported Refused fault (inl is) = inr is
+not_imported Refused fault (inr is) = inl (inr is)
 
 -- the same was asked by the same
 pub asks_same : (clean : Type 0) (old new : Standing) (by who : Option Actor) (request asks : Request) (answer : Answer) → by ≡ who → request ≡ asks

@@ -10,6 +10,7 @@ pub mod RunLaws
 pub mod EndingLaws
 pub mod AskingLaws
 pub mod ReadingLaws
+pub mod RefusedFiles
 pub mod ListingLaws
 pub mod PicturingLaws
 pub mod ServingLaws

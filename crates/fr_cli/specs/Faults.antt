@@ -1,10 +1,17 @@
--- Job's faults: the word of each fault that ends a job or a connection, and which of them may end which job.
-use Rattle.std.specs.Prelude.{◌≡◌, ◌≢◌, ◌⊎◌, ℕ, List, codes, ⊤}
+-- Job's faults: the word of each fault that ends a job or a connection, which of them may end which job, and for what
+-- cause a register's file is refused.
+use Rattle.std.specs.Prelude.{◌≡◌, ◌≢◌, ◌⊎◌, ℕ, List, Option, Some, None, codes, ⊤}
+use Rattle.sqlite.specs.Files.{IsCleanLeft}
+use Rattle.sqlite.specs.declared.file.Leftover.{Leftover}
+use Rattle.sqlite_disk.specs.declared.Disk.{Ghosts}
+use Rattle.sqlite_wal.specs.Recovery.{Image}
+use Rattle.fr_desks.specs.FileDesk.{BarsMigration, HoldStill}
 use Rattle.fr_cli.specs.ScriptFault.{script_fault_word}
 use Rattle.fr_cli.specs.declared.fault.Fault.{Fault}
 use Rattle.fr_cli.specs.declared.fault.Fault.TheVariants.{Script, Config, Register, CannotOpen, CannotListen, NoMemory, WriteFailed}
 use Rattle.fr_http.specs.declared.fault.LinkFault.{LinkFault}
 use Rattle.fr_http.specs.declared.fault.LinkFault.TheVariants as link
+use Rattle.fr_store.specs.Opening.{ExplainsFiles, ForbidsFiles}
 use Rattle.fr_store.specs.declared.fault.StoreFault.{StoreFault}
 use Rattle.fr_store.specs.declared.fault.StoreFault.TheVariants as store
 use Rattle.fr_text.specs.ClusterFile.{config_fault_word}
@@ -34,29 +41,48 @@ fault_word CannotListen = codes "CannotListen"
 fault_word NoMemory = codes "NoMemory"
 fault_word WriteFailed = codes "WriteFailed"
 
--- For this a register's file is not made: the cluster file is none or cannot be read, the file has a register's tables, or
--- making it failed.
-abbrev pub IsNotMade : Fault → Type 0
-IsNotMade (Config fault) = ⊤
-IsNotMade (Register fault) = (fault ≡ store.NotEmpty) ⊎ (fault ≡ store.Unavailable)
-IsNotMade CannotOpen = ⊤
-IsNotMade NoMemory = ⊤
-IsNotMade _ = ⊥
+-- For this a cluster file is not read: it is none, or cannot be had.
+abbrev pub IsNotRead : Fault → Type 0
+IsNotRead (Config fault) = ⊤
+IsNotRead CannotOpen = ⊤
+IsNotRead NoMemory = ⊤
+IsNotRead _ = ⊥
 
--- For this a register's file is not migrated: it is no register, or one of another schema than 1, or migrating it failed.
-abbrev pub IsNotMigrated : Fault → Type 0
-IsNotMigrated (Register fault) = fault ≢ store.NotEmpty
-IsNotMigrated _ = ⊥
+-- A fault for which no file need be there.
+abbrev pub NeedsNone : StoreFault → Type 0
+NeedsNone fault = (fault ≡ store.Unavailable) ⊎ (fault ≡ store.NotARegister)
 
--- For this a register's file is not opened.
-abbrev pub IsNotOpened : Fault → Type 0
-IsNotOpened (Register fault) = fault ≢ store.NotEmpty
-IsNotOpened _ = ⊥
+-- What holds where nothing is left of files, or of what is left.
+abbrev pub IfLeft : {D : Type 0} {g : Ghosts D} → Option (Leftover D g) → Type 0 → (Leftover D g → Type 0) → Type 0
+IfLeft None P Q = P
+IfLeft (Some left) P Q = Q left
 
--- For this no report is given: the register is not opened, or memory is wanting.
-abbrev pub IsNotReported : Fault → Type 0
-IsNotReported fault = IsNotOpened fault ⊎ (fault ≡ NoMemory)
+-- Of the files that held this, and of what is left of them, each fault of a job. As long as nobody else wrote to them.
+module _ {D : Type 0} {g : Ghosts D} (held : Image) (rest : Option (Leftover D g)) where
+  -- Where files are left clean the fault came for such a cause, and but for Unavailable they still hold their database. Where nothing is left
+  -- the fault is such a one.
+  abbrev pub IsCaused : (Image → StoreFault → Type 0) → (StoreFault → Type 0) → StoreFault → Type 0
+  IsCaused Why Without fault = IfLeft rest (Without fault) (λ left. IsCleanLeft left → Why held fault × (fault ≢ store.Unavailable → HoldStill held left))
 
--- For this an import is not carried out: no report would be given, or its file cannot be read.
-abbrev pub IsNotImported : Fault → Type 0
-IsNotImported fault = IsNotReported fault ⊎ (fault ≡ CannotOpen)
+  -- For this a register's file is not made: the cluster file is not read, the file has a table, or making it failed.
+  abbrev pub IsNotMade : Fault → Type 0
+  IsNotMade fault = IsNotRead fault ⊎ ((of : StoreFault) × (fault ≡ Register of) × ((of ≡ store.NotEmpty) ⊎ (of ≡ store.Unavailable))
+      × IsCaused ForbidsFiles (λ f. f ≡ store.Unavailable) of)
+
+  -- For this a register's file is not migrated: it is no register, or one of another schema than 1, or migrating it failed.
+  abbrev pub IsNotMigrated : Fault → Type 0
+  IsNotMigrated (Register fault) = (fault ≢ store.NotEmpty) × IsCaused BarsMigration NeedsNone fault
+  IsNotMigrated _ = ⊥
+
+  -- For this a register's file is not opened: it is no register, or one of another schema than 2, or opening it failed.
+  abbrev pub IsNotOpened : Fault → Type 0
+  IsNotOpened (Register fault) = (fault ≢ store.NotEmpty) × IsCaused ExplainsFiles NeedsNone fault
+  IsNotOpened _ = ⊥
+
+  -- For this no report is given: the register is not opened, or memory is wanting.
+  abbrev pub IsNotReported : Fault → Type 0
+  IsNotReported fault = IsNotOpened fault ⊎ (fault ≡ NoMemory)
+
+  -- For this an import is not carried out: no report would be given, or its file cannot be read.
+  abbrev pub IsNotImported : Fault → Type 0
+  IsNotImported fault = IsNotReported fault ⊎ (fault ≡ CannotOpen)

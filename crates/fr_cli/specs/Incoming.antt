@@ -48,6 +48,6 @@ pub record HasAnswered (clean : Type 0) (old new : Standing) (input a b : Option
 -- answered: as long as nobody else wrote to the file, from the book that it held, and what is left holds the book after them.
 abbrev pub IsAsked : {D : Type 0} {g : Ghosts D} → Image → Option (Leftover D g) → Option (List ℕ) → Option (List ℕ) → Option (List ℕ) → Option (List ℕ) → Result ⊤ Fault → Type 0
 IsAsked {D} {g} file rest input left a b done =
-    ((fault : Fault) × (done ≡ Err fault) × IsNotOpened fault × Keeps input left × Keeps a b)
+    ((fault : Fault) × (done ≡ Err fault) × IsNotOpened file rest fault × Keeps input left × Keeps a b)
     ⊎ ((asked : Result ⊤ ScriptFault) × (last : Leftover D g) × (rest ≡ Some last) × (done ≡ of_script asked) × OnOk asked (IsAtEnd left)
     × HasAnswered (IsCleanLeft last) (Held file) (IsLeftWith last) input a b asked)

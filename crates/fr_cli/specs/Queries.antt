@@ -1,30 +1,14 @@
--- Report: what is asked for a report, by whom, and its lines in the answer.
-use Rattle.std.specs.Prelude.{ℕ, List, [], Bool, true, false, Option, Some, None, if◌then◌else◌}
+-- Report: what is asked for a report, and by whom.
+use Rattle.std.specs.Prelude.{ℕ, List, Option, Some, None, if◌then◌else◌}
 use Rattle.std.specs.Borrow.{Bor}
 use Rattle.fr_base.specs.Names.{is_name}
 use Rattle.fr_base.specs.declared.actor.Actor.{Actor}
 use Rattle.fr_base.specs.declared.actor.Actor.TheVariants.{Integrator, Supplier}
-use Rattle.fr_base.specs.declared.answer.Answer.{Answer}
-use Rattle.fr_base.specs.declared.answer.Answer.TheVariants as answer
 use Rattle.fr_base.specs.declared.report.Report.{Report}
 use Rattle.fr_base.specs.declared.report.Report.TheVariants.{Grants, Frames, Schedule, Gaps, Layout}
 use Rattle.fr_base.specs.declared.request.Request.{Request}
 use Rattle.fr_base.specs.declared.request.Request.TheVariants as request
-use Rattle.fr_text.specs.AnswerText.{report_of as lines_of}
 use Rattle.fr_cli.specs.declared.query.Query.{Query}
-
--- whether the answer is the report's
-abbrev pub is_in : Report (Bor (List ℕ)) → Answer → Bool
-is_in Grants (answer.Grants all rows) = true
-is_in Frames (answer.Frames all rows) = true
-is_in Schedule (answer.Schedule all rows) = true
-is_in Gaps (answer.Gaps all rows) = true
-is_in (Layout frame) (answer.Layout all rows) = true
-is_in _ _ = false
-
--- the report's lines in an answer, each with a line feed behind it; an answer of another kind has none
-abbrev pub report_of : Report (Bor (List ℕ)) → Answer → List ℕ
-report_of report answer = if is_in report answer then lines_of answer else []
 
 -- who asks: the integrator where no supplier is named, else the supplier of this name; a text that is no name is nobody's
 abbrev pub named : Option (Bor (List ℕ)) → Option Actor

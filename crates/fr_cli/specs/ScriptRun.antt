@@ -1,5 +1,5 @@
 -- Run of lines: how lines may be answered one after another. What a line asks is a step, and a line that asks nothing
--- is refused. What answered lines ask. Which of them are one supplier's: those with its key, unless they were answered
+-- is refused. What answered lines ask. Which of them are one supplier's: those with its key once it is there, unless they were answered
 -- `Unavailable`, and the integrator's that were done and are common or name it. When the supplier is answered as if it
 -- were alone: a new register of the cluster file with this supplier alone gives these lines, one after another, the
 -- same answers, and ends with the same rows of the supplier.

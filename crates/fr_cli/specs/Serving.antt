@@ -64,5 +64,5 @@ IsAnnounced port a b done = AppendsFront a b (listening port) × OnOk done (Appe
 abbrev pub IsServed : {D : Type 0} {g : Ghosts D} → Image → Option (Leftover D g) → ℕ → Option (List ℕ) → Option (List ℕ) → Option (List ℕ) → Option (List ℕ)
     → Result ⊤ Fault → Type 0
 IsServed {D} {g} file rest count out out' a b done =
-    ((fault : Fault) × (done ≡ Err fault) × IsNotOpened fault × Keeps out out' × Keeps a b)
+    ((fault : Fault) × (done ≡ Err fault) × IsNotOpened file rest fault × Keeps out out' × Keeps a b)
     ⊎ ((last : Leftover D g) × (rest ≡ Some last) × HasServed (IsCleanLeft last) (Held file) (IsLeftWith last) count a b done)

@@ -1,28 +1,29 @@
 //! Asks a register for a report or an import, and gives the text of its answer.
 ghost use Rattle.std.specs.Prelude.{◌≡◌, IfOk};
 ghost use Rattle.fr_base.specs.Actors.{actor_of};
+ghost use Rattle.fr_text.specs.AnswerText.{report_of};
 ghost use Rattle.fr_cli.specs.Asked.{asked_by};
 ghost use Rattle.fr_cli.specs.Asking.{IsAnswer, IsRefusedBy, Prints, import_of, import_request, is_refusal, line_of, query_of};
-ghost use Rattle.fr_cli.specs.Queries.{report_of};
 
 use crate::failure::Failure;
 use crate::fault::Fault;
 use crate::lines_out::line_of;
 use crate::query::Query;
 use fr_base::{Actor, Answer, Ask, Body, Desk, NoMemory, Refusal, Request, Text};
+use fr_text::write_lines;
 use std::alloc::Global;
 
 /// The report of a variant, as who asks reads it.
 pub fn report_on<D: Desk>(alloc: Global, desk: &mut D, query: Query<'_>) -> Result<Vec<u8>, Failure>
     ensures falls { D.clean desk.new → D.clean desk.old }
-    ensures prints { Prints (IsAnswer (D.clean desk.new) (D.stands desk.old) (D.stands desk.new) (query_of query.entry)) (report_of query.entry.report) result }
+    ensures prints { Prints (IsAnswer (D.clean desk.new) (D.stands desk.old) (D.stands desk.new) (query_of query.entry)) report_of result }
 {
     let request = query.request(alloc)?;
     let answer = ask_as(alloc, desk, query.reader(), request);
     if is_refusal(&answer) {
         return Err(refused(alloc, &answer));
     }
-    Ok(query.lines(alloc, &answer)?)
+    Ok(write_lines(alloc, &answer)?)
 }
 
 /// What the command line says of an import.

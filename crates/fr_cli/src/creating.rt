@@ -1,7 +1,8 @@
 //! Makes a register file.
 ghost use Rattle.std.specs.Prelude.{◌≡◌, ℕ, List, IfErr, IfOk, Ok, OnOk};
+ghost use Rattle.sqlite_wal.specs.Files.{image_at};
 ghost use Rattle.fr_text.specs.ClusterFile.{config_of};
-ghost use Rattle.fr_cli.specs.Faults.{IsNotMade};
+ghost use Rattle.fr_cli.specs.Faults.{IsNotMade, IsNotRead};
 ghost use Rattle.fr_cli.specs.RegisterFiles.{IsLeftNew, IsMade};
 
 use crate::fault::Fault;
@@ -22,7 +23,7 @@ pub fn create<S: Start>(
     config: &str,
     start: S,
 ) -> (Result<(), Fault>, Left<S>)
-    ensures fault { IfErr result.0 IsNotMade }
+    ensures fault { IfErr result.0 (IsNotMade (image_at S.Start) result.1) }
     ensures made { IsMade result.1 result.0 }
 {
     match read_cluster(rt, config) {
@@ -38,7 +39,7 @@ fn make<S: Start>(
     config: &Config,
     start: S,
 ) -> (Result<(), Fault>, Left<S>)
-    ensures fault { IfErr result.0 IsNotMade }
+    ensures fault { IfErr result.0 (IsNotMade (image_at S.Start) result.1) }
     ensures made { OnOk result.0 (IsLeftNew result.1 config.now) }
 {
     match file_desk::create(rt, db, config, start) {
@@ -50,7 +51,7 @@ fn make<S: Start>(
 // What the cluster file at a path says.
 fn read_cluster(rt: &HostRuntime, path: &str) -> Result<Config, Fault>
     ensures read { IfOk result (λ config. (text : List ℕ) × (config_of text ≡ Ok config)) }
-    ensures fault { IfErr result IsNotMade }
+    ensures fault { IfErr result IsNotRead }
 {
     let text = read_file(rt, path, CONFIG_BYTES)?;
     Ok(read_config(rt.alloc(), &text)?)

@@ -4,6 +4,7 @@ ghost use Rattle.std.specs.Borrow.{Bor};
 ghost use Rattle.std.specs.Global.{Vec};
 ghost use Rattle.std.specs.Io.KnownBytes.{Appends, Keeps};
 ghost use Rattle.sqlite_wal.specs.Files.{image_at};
+ghost use Rattle.fr_text.specs.AnswerText.{report_of};
 ghost use Rattle.fr_cli.specs.Asking.{import_of, line_of, query_of};
 ghost use Rattle.fr_cli.specs.Checking.{IsCheckedFile};
 ghost use Rattle.fr_cli.specs.Endings.{AppendsFront, IsPrinted, IsTold, Tells, status_of};
@@ -14,7 +15,7 @@ ghost use Rattle.fr_cli.specs.Listing.{AreLines, variants_for};
 ghost use Rattle.fr_cli.specs.Performing.{Says, of_script};
 ghost use Rattle.fr_cli.specs.Picturing.{plans_for};
 ghost use Rattle.fr_picture.specs.Pages.{IsPage};
-ghost use Rattle.fr_cli.specs.Queries.{named, report_of};
+ghost use Rattle.fr_cli.specs.Queries.{named};
 ghost use Rattle.fr_cli.specs.Reading.{PrintsRead};
 ghost use Rattle.fr_cli.specs.RegisterFiles.{IsAnswerOfFile, IsMade, IsMoved, IsReadOfFile};
 ghost use Rattle.fr_cli.specs.Runs.{IsRunOf};
@@ -64,22 +65,22 @@ pub fn perform<S: Start, R: Read, O: Write, E: Write>(
         × Tells (E.contents err.old) (E.contents err.new) (of_script done)
         × IsRunOf (R.remaining input.old) (R.remaining input.new) (O.contents out.old) (O.contents out.new) done }
     ensures create { (db config : Bor (List ℕ)) → job.now ≡ Job.Create db config → (done : Result ⊤ Word) × (result.0 ≡ status_of done)
-        × IfErr done IsNotMade × IsMade result.1 done
+        × IfErr done (IsNotMade (image_at S.Start) result.1) × IsMade result.1 done
         × Keeps (O.contents out.old) (O.contents out.new) × Tells (E.contents err.old) (E.contents err.new) done }
     ensures migrate { (db : Bor (List ℕ)) → job.now ≡ Job.Migrate db → (done : Result ⊤ Word) × (result.0 ≡ status_of done)
-        × IfErr done IsNotMigrated × IsMoved (image_at S.Start) result.1 done
+        × IfErr done (IsNotMigrated (image_at S.Start) result.1) × IsMoved (image_at S.Start) result.1 done
         × Keeps (O.contents out.old) (O.contents out.new) × Tells (E.contents err.old) (E.contents err.new) done }
     ensures ask { (db : Bor (List ℕ)) → job.now ≡ Job.Ask db → (done : Result ⊤ Word) × (result.0 ≡ status_of done)
         × Tells (E.contents err.old) (E.contents err.new) done
         × IsAsked (image_at S.Start) result.1 (R.remaining input.old) (R.remaining input.new) (O.contents out.old) (O.contents out.new) done }
-    ensures variants { (db : Bor (List ℕ)) (supplier : Option (Bor (List ℕ))) → job.now ≡ Job.Variants db supplier → (done : Result (Vec ℕ) Ended) × PrintsRead IsNotReported (IsReadOfFile (image_at S.Start) result.1 (variants_for (named supplier))) AreLines done
+    ensures variants { (db : Bor (List ℕ)) (supplier : Option (Bor (List ℕ))) → job.now ≡ Job.Variants db supplier → (done : Result (Vec ℕ) Ended) × PrintsRead (IsNotReported (image_at S.Start) result.1) (IsReadOfFile (image_at S.Start) result.1 (variants_for (named supplier))) AreLines done
         × IsTold done (O.contents out.old) (O.contents out.new) (E.contents err.old) (E.contents err.new) result.0 }
-    ensures report { (db : Bor (List ℕ)) (query : Query) → job.now ≡ Job.Report db query → (done : Result (Vec ℕ) Ended) × Says IsNotReported (IsAnswerOfFile (image_at S.Start) result.1 (query_of query)) (report_of query.report) done
+    ensures report { (db : Bor (List ℕ)) (query : Query) → job.now ≡ Job.Report db query → (done : Result (Vec ℕ) Ended) × Says (IsNotReported (image_at S.Start) result.1) (IsAnswerOfFile (image_at S.Start) result.1 (query_of query)) report_of done
         × IsTold done (O.contents out.old) (O.contents out.new) (E.contents err.old) (E.contents err.new) result.0 }
-    ensures picture { (db variant : Bor (List ℕ)) (supplier : Option (Bor (List ℕ))) → job.now ≡ Job.Picture db variant supplier → (done : Result (Vec ℕ) Ended) × PrintsRead IsNotReported (IsReadOfFile (image_at S.Start) result.1 (plans_for (named supplier) variant.now)) IsPage done
+    ensures picture { (db variant : Bor (List ℕ)) (supplier : Option (Bor (List ℕ))) → job.now ≡ Job.Picture db variant supplier → (done : Result (Vec ℕ) Ended) × PrintsRead (IsNotReported (image_at S.Start) result.1) (IsReadOfFile (image_at S.Start) result.1 (plans_for (named supplier) variant.now)) IsPage done
         × IsTold done (O.contents out.old) (O.contents out.new) (E.contents err.old) (E.contents err.new) result.0 }
     ensures import { (db key variant label file : Bor (List ℕ)) → job.now ≡ Job.Import db key variant label file → (body : List ℕ) × (done : Result (Vec ℕ) Ended)
-        × Says IsNotImported (IsAnswerOfFile (image_at S.Start) result.1 (import_of (record { key = key; variant = variant; label = label }) body)) line_of done
+        × Says (IsNotImported (image_at S.Start) result.1) (IsAnswerOfFile (image_at S.Start) result.1 (import_of (record { key = key; variant = variant; label = label }) body)) line_of done
         × IsTold done (O.contents out.old) (O.contents out.new) (E.contents err.old) (E.contents err.new) result.0 }
     ensures check { (config : Bor (List ℕ)) → job.now ≡ Job.Check config → (done : Result (Vec ℕ) Ended) × IsCheckedFile done
         × IsTold done (O.contents out.old) (O.contents out.new) (E.contents err.old) (E.contents err.new) result.0 }
@@ -220,7 +221,7 @@ fn of_script(done: Result<(), ScriptFault>) -> Result<(), Fault>
 
 // Migrates the register in a file.
 fn migrate_file<S: Start>(rt: &HostRuntime, db: &str, start: S) -> (Result<(), Fault>, Left<S>)
-    ensures fault { IfErr result.0 IsNotMigrated }
+    ensures fault { IfErr result.0 (IsNotMigrated (image_at S.Start) result.1) }
     ensures moved { IsMoved (image_at S.Start) result.1 result.0 }
 {
     match file_desk::migrate(rt, db, start) {
@@ -236,7 +237,7 @@ fn list_file<S: Start>(
     start: S,
     supplier: Option<&str>,
 ) -> (Result<Vec<u8>, Failure>, Left<S>)
-    ensures { PrintsRead IsNotReported (IsReadOfFile (image_at S.Start) result.1 (variants_for (named supplier.entry))) AreLines result.0 }
+    ensures { PrintsRead (IsNotReported (image_at S.Start) result.1) (IsReadOfFile (image_at S.Start) result.1 (variants_for (named supplier.entry))) AreLines result.0 }
 {
     match file_desk::open(rt, db, start) {
         Ok(mut desk) => {
@@ -254,7 +255,7 @@ fn report_file<S: Start>(
     start: S,
     query: Query<'_>,
 ) -> (Result<Vec<u8>, Failure>, Left<S>)
-    ensures { Says IsNotReported (IsAnswerOfFile (image_at S.Start) result.1 (query_of query.entry)) (report_of query.entry.report) result.0 }
+    ensures { Says (IsNotReported (image_at S.Start) result.1) (IsAnswerOfFile (image_at S.Start) result.1 (query_of query.entry)) report_of result.0 }
 {
     match file_desk::open(rt, db, start) {
         Ok(mut desk) => {
@@ -273,7 +274,7 @@ fn picture_file<S: Start>(
     variant: &str,
     supplier: Option<&str>,
 ) -> (Result<Vec<u8>, Failure>, Left<S>)
-    ensures { PrintsRead IsNotReported (IsReadOfFile (image_at S.Start) result.1 (plans_for (named supplier.entry) variant.now)) IsPage result.0 }
+    ensures { PrintsRead (IsNotReported (image_at S.Start) result.1) (IsReadOfFile (image_at S.Start) result.1 (plans_for (named supplier.entry) variant.now)) IsPage result.0 }
 {
     match file_desk::open(rt, db, start) {
         Ok(mut desk) => {
@@ -292,7 +293,7 @@ fn import_file<S: Start>(
     words: ImportWords<'_>,
     file: &str,
 ) -> (Result<Vec<u8>, Failure>, Left<S>)
-    ensures { (body : List ℕ) × Says IsNotImported (IsAnswerOfFile (image_at S.Start) result.1 (import_of words.entry body)) line_of result.0 }
+    ensures { (body : List ℕ) × Says (IsNotImported (image_at S.Start) result.1) (IsAnswerOfFile (image_at S.Start) result.1 (import_of words.entry body)) line_of result.0 }
 {
     match read_front(rt, file, IMPORT_BYTES) {
         Ok(body) => import_body(rt, db, start, words, &body),
@@ -308,7 +309,7 @@ fn import_body<S: Start>(
     words: ImportWords<'_>,
     body: &[u8],
 ) -> (Result<Vec<u8>, Failure>, Left<S>)
-    ensures { Says IsNotImported (IsAnswerOfFile (image_at S.Start) result.1 (import_of words.entry body.now)) line_of result.0 }
+    ensures { Says (IsNotImported (image_at S.Start) result.1) (IsAnswerOfFile (image_at S.Start) result.1 (import_of words.entry body.now)) line_of result.0 }
 {
     match file_desk::open(rt, db, start) {
         Ok(mut desk) => {

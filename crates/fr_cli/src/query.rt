@@ -1,9 +1,8 @@
-//! A report of a variant, who asks for it, and its lines.
+//! A report of a variant, and who asks for it.
 ghost use Rattle.std.specs.Prelude.{◌≡◌, IfOk};
-ghost use Rattle.fr_cli.specs.Queries.{is_in, named, reader_of, report_asked, report_of, request_for};
+ghost use Rattle.fr_cli.specs.Queries.{named, reader_of, report_asked, request_for};
 
-use fr_base::{Actor, Answer, Name, NoMemory, Report, Request, Text};
-use fr_text::write_lines;
+use fr_base::{Actor, Name, NoMemory, Report, Request, Text};
 use std::alloc::Global;
 
 /// A report of a variant, as the integrator reads it, or the supplier of this name.
@@ -34,16 +33,6 @@ impl Query<'_> {
             report: copy(alloc, self.report)?,
         })
     }
-
-    /// Its lines in an answer, each with a line feed behind it. An answer of another kind has none.
-    pub fn lines(self, alloc: Global, answer: &Answer) -> Result<Vec<u8>, NoMemory>
-        ensures { IfOk result (λ text. text.items ≡ report_of self.entry.report answer.now) }
-    {
-        if is_in(self.report, answer) {
-            return write_lines(alloc, answer);
-        }
-        Ok(Vec::new(alloc))
-    }
 }
 
 // The same report, its frame with a text of its own.
@@ -59,20 +48,6 @@ fn copy(alloc: Global, report: Report<&str>) -> Result<Report<Text>, NoMemory>
             let frame = Text::copy(alloc, frame)?;
             Ok(Report::Layout { frame })
         }
-    }
-}
-
-// Whether the answer has the report's lines.
-fn is_in(report: Report<&str>, answer: &Answer) -> bool
-    ensures { result ≡ is_in report.entry answer.now }
-{
-    match (report, answer) {
-        (Report::Grants, Answer::Grants { .. })
-        | (Report::Frames, Answer::Frames { .. })
-        | (Report::Schedule, Answer::Schedule { .. })
-        | (Report::Gaps, Answer::Gaps { .. })
-        | (Report::Layout { .. }, Answer::Layout { .. }) => true,
-        _ => false,
     }
 }
 

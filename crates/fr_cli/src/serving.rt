@@ -2,7 +2,7 @@
 ghost use Rattle.std.specs.Prelude.{◌≡◌, ◌⊎◌, ◌∷◌, [], false, IfErr, Result, ⊤};
 ghost use Rattle.sqlite_wal.specs.Files.{image_at};
 ghost use Rattle.fr_answers.specs.KeptPages.{StandsWarm};
-ghost use Rattle.fr_cli.specs.Serving.{HasServed, IsAnnounced, IsServed, ServesOne, TellsEach};
+ghost use Rattle.fr_cli.specs.Serving.{HasServed, IsAnnounced, IsServed, ServesOne, StopsServing, TellsEach};
 ghost use Rattle.fr_http.specs.Outcome.{asked_before};
 ghost use Rattle.fr_http.specs.declared.fault.LinkFault.{LinkFault as Link};
 
@@ -19,7 +19,7 @@ use fr_records::Records;
 use fr_store::StoreFault;
 use sqlite::Start;
 use std::alloc::Global;
-use std::io::{self, Read, Write};
+use std::io::{self, ErrorKind, Read, Write};
 use std::net::{Ipv4Addr, Shutdown, TcpListener, TcpStream};
 use std::time::Duration;
 
@@ -83,12 +83,23 @@ fn serve_office<R: Records, O: Write, E: Write>(
         (E.contents err.old.writer.now) (E.contents err.new.writer.now) result.0 }
     ensures same { err.new.writer.ghost_name ≡ err.old.writer.ghost_name }
 {
-    let Ok(watch) = Watch::new(rt, db) else {
-        return (Err(Fault::NoMemory), office);
+    let watch = match Watch::new(rt, db) {
+        Ok(watch) => watch,
+        Err(error) => return (Err(watch_fault(&error)), office),
     };
     let mut guarded = Guarded::new(office, watch);
     let done = serve_guarded(rt, &mut guarded, service, out, err);
     (done, guarded.into_office())
+}
+
+// Why files are not watched: memory is short, or they are not where they were opened.
+fn watch_fault(error: &io::Error) -> Fault
+    ensures { StopsServing result }
+{
+    match error.kind() {
+        ErrorKind::OutOfMemory => Fault::NoMemory,
+        _ => Fault::Register(StoreFault::Unavailable),
+    }
 }
 
 // Listens, and serves as many connections as the service has.

@@ -1,17 +1,18 @@
 //! The files at a served register's path: whether they are still those that were there.
 
-use std::alloc::AllocError;
 use std::fs;
 use std::io::{self, ErrorKind};
 use std::os::unix::fs::MetadataExt;
+use std::path::PathBuf;
 
-/// The database file and the log at a register's path, and what was seen of them as they were written last.
+/// The database file and the log at a register's path, which files they are, and what was seen of them as they were written
+/// last.
 #[derive(Drop)]
 pub(crate) struct Watch<'a> {
     rt: &'a HostRuntime,
-    db: &'a str,
+    db: PathBuf,
     log: String,
-    seen: Option<Sight>,
+    seen: Sight,
 }
 
 /// What is seen of a register's files. None is seen where there is no such file.
@@ -32,39 +33,40 @@ struct Mark {
 }
 
 impl<'a> Watch<'a> {
-    /// Watches the files at this path from now on.
-    pub fn new(rt: &'a HostRuntime, db: &'a str) -> Result<Watch<'a>, AllocError> {
-        let log = format!(in rt.alloc(); "{db}-wal")?;
-        let mut watch = Watch {
-            rt,
-            db,
-            log,
-            seen: None,
-        };
-        watch.renew();
-        Ok(watch)
+    /// Watches the files at this path from now on. Where a link stands at the path, they are where it leads.
+    pub fn new(rt: &'a HostRuntime, db: &str) -> io::Result<Watch<'a>> {
+        let db = fs::canonicalize(rt, db)?;
+        let log = format!(in rt.alloc(); "{}-wal", db.as_str())?;
+        let seen = look(rt, db.as_str(), log.as_str())?;
+        Ok(Watch { rt, db, log, seen })
     }
 
-    /// Takes the files as they are now: what was written to them is the register's own.
+    /// Takes the files' lengths and times as they are now: what was written to them is the register's own. A file that was
+    /// put in another's place stays another. Where they cannot be looked at, they stay as they were seen.
     pub fn renew(&mut self) {
-        self.seen = self.look().ok();
+        if let Ok(now) = look(self.rt, self.db.as_str(), self.log.as_str()) {
+            self.seen = Sight {
+                db: same_file(self.seen.db, now.db),
+                log: same_file(self.seen.log, now.log),
+            };
+        }
     }
 
     /// Whether the files are those that were seen last, as they were then. Where they cannot be looked at, nothing
     /// tells against it.
     pub fn holds(&self) -> bool {
-        match (self.look(), self.seen) {
-            (Ok(now), Some(seen)) => now == seen,
-            _ => true,
+        match look(self.rt, self.db.as_str(), self.log.as_str()) {
+            Ok(now) => now == self.seen,
+            Err(_) => true,
         }
     }
+}
 
-    fn look(&self) -> io::Result<Sight> {
-        Ok(Sight {
-            db: mark_at(self.rt, self.db)?,
-            log: mark_at(self.rt, &self.log)?,
-        })
-    }
+fn look(rt: &HostRuntime, db: &str, log: &str) -> io::Result<Sight> {
+    Ok(Sight {
+        db: mark_at(rt, db)?,
+        log: mark_at(rt, log)?,
+    })
 }
 
 // What is seen at a path.
@@ -79,5 +81,19 @@ fn mark_at(rt: &HostRuntime, path: &str) -> io::Result<Option<Mark>> {
         })),
         Err(fault) if fault.kind() == ErrorKind::NotFound => Ok(None),
         Err(fault) => Err(fault),
+    }
+}
+
+// The file that was seen before, with the length and the time that are seen now. The first file at a path is the one that is
+// looked for from then on.
+fn same_file(seen: Option<Mark>, now: Option<Mark>) -> Option<Mark> {
+    match (seen, now) {
+        (Some(seen), Some(now)) => Some(Mark {
+            device: seen.device,
+            inode: seen.inode,
+            ..now
+        }),
+        (None, now) => now,
+        (Some(seen), None) => Some(seen),
     }
 }

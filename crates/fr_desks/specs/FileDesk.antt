@@ -1,7 +1,8 @@
 -- Left, found: as long as nobody else writes to the files, those that are left hold a book, and so does whatever a
 -- crash leaves of them. What is found stands for the book that the files held. What is opened is what was left, or what
--- a crash leaves of it.
+-- a crash leaves of it. Why files are not migrated, and that files still hold the database that they held.
 use Rattle.std.specs.Prelude.{◌≡◌, ◌⊎◌, List, ⊤}
+use Rattle.sqlite.specs.Effect.{Database, IsDatabase}
 use Rattle.sqlite.specs.Files.{HoldsDatabase, image_of}
 use Rattle.sqlite.specs.Tree.{Trees}
 use Rattle.sqlite.specs.declared.file.Leftover.{Leftover}
@@ -15,8 +16,11 @@ use Rattle.fr_base.specs.Book.{Book}
 use Rattle.fr_base.specs.Cluster.{Cluster}
 use Rattle.fr_records.specs.Held.{Leaving, Standing}
 use Rattle.fr_store.specs.Crashes.{HoldsOne}
+use Rattle.fr_store.specs.Opening.{RefusesFiles}
 use Rattle.fr_store.specs.Store.{IsRegisterFor}
-use Rattle.fr_store.specs.StoreFiles.{HoldsBook, database_of}
+use Rattle.fr_store.specs.StoreFiles.{HoldsBook, IsHeld, database_of, image_left}
+use Rattle.fr_store.specs.declared.fault.StoreFault.{StoreFault}
+use Rattle.fr_tables.specs.Asking.{old_schema_number}
 
 -- As long as nobody else has written to the files, they hold the book, and so does whatever a crash leaves of them.
 abbrev pub LeavesBook : {D : Type 0} → Ghosts D → Files D → Cluster → Book → Type 0
@@ -28,6 +32,14 @@ abbrev pub IsLeftWith : {D : Type 0} {g : Ghosts D} → Leftover D g → Standin
 IsLeftWith {D} {g} (left.Files files) c b = LeavesBook g files c b
 IsLeftWith (left.Unopened files) c b = ⊤
 IsLeftWith (left.Store it) c b = ⊤
+
+-- If files held a database, those that are left still hold it.
+abbrev pub HoldStill : {D : Type 0} {g : Ghosts D} → Image → Leftover D g → Type 0
+HoldStill held left = (d : Database) → IsDatabase d → HoldsDatabase held d.trees → IsHeld (image_left left) d
+
+-- why files are not migrated, whatever they hold
+abbrev pub BarsMigration : Image → StoreFault → Type 0
+BarsMigration = RefusesFiles old_schema_number
 
 -- the book that files hold
 abbrev pub Held : Image → Standing

@@ -1,5 +1,5 @@
 -- Laws: files that were left with a book are opened with it. A register that is made and then opened has the book of a
--- new register.
+-- new register. What is opened after a crash is the register after all that was answered, or after one request more.
 use Rattle.std.specs.Prelude.{List}
 use Rattle.sqlite_disk.specs.declared.Disk.{Ghosts}
 use Rattle.sqlite_disk.specs.declared.Files.{Files}

@@ -2,11 +2,11 @@
 ghost use Rattle.std.specs.Prelude.{◌≡◌, ◌≢◌, ◌⊎◌, IfErr, IfOk, IfSome, None};
 ghost use Rattle.fr_base.specs.Book.{Book, opening};
 ghost use Rattle.fr_base.specs.Cluster.{Cluster};
-ghost use Rattle.fr_desks.specs.FileDesk.{FindsHeld, FindsLeft, IsLeftWith, LeavesBook};
+ghost use Rattle.fr_desks.specs.FileDesk.{BarsMigration, FindsHeld, FindsLeft, HoldStill, IsLeftWith, LeavesBook};
 ghost use Rattle.fr_store.specs.Before.{HoldsBookBefore};
-ghost use Rattle.fr_store.specs.Opening.{Explains, Refuses};
+ghost use Rattle.fr_store.specs.Opening.{Explains, ExplainsFiles, ForbidsFiles, Refuses};
 ghost use Rattle.fr_store.specs.Store.{MayForbid};
-ghost use Rattle.fr_store.specs.StoreFiles.{HoldsBook, IsHeld, image_left};
+ghost use Rattle.fr_store.specs.StoreFiles.{HoldsBook, image_left};
 ghost use Rattle.fr_store.specs.declared.fault.StoreFault.TheVariants.{NotARegister, NotEmpty, Unavailable, WrongSchema};
 ghost use Rattle.fr_tables.specs.Asking.{old_schema_number};
 ghost use Rattle.sqlite.specs.Effect.{IsDatabase};
@@ -41,7 +41,8 @@ pub fn create<S: Start>(
 ) -> Result<Files<FileFrom<S>>, FileFault<S>>
     ensures book { IfOk result (λ files. LeavesBook ⟦<FileFrom<S> as Disk>⟧ files config.now.cluster (opening config.now)) }
     ensures told { IfErr result (λ e. IfSome e.1 (λ left. IsCleanLeft left → (d : _) → IsDatabase d → HoldsDatabase (image_at S.Start) d.trees → MayForbid d.schema e.0)) }
-    ensures untouched { IfErr result (λ e. e.0 ≡ NotEmpty → IfSome e.1 (λ left. IsCleanLeft left → (d : _) → IsDatabase d → HoldsDatabase (image_at S.Start) d.trees → IsHeld (image_left left) d)) }
+    ensures cause { IfErr result (λ e. IfSome e.1 (λ left. IsCleanLeft left → ForbidsFiles (image_at S.Start) e.0)) }
+    ensures untouched { IfErr result (λ e. e.0 ≡ NotEmpty → IfSome e.1 (λ left. IsCleanLeft left → HoldStill (image_at S.Start) left)) }
     ensures fault { IfErr result (λ e. (e.0 ≡ NotEmpty) ⊎ (e.0 ≡ Unavailable)) }
     ensures lost { IfErr result (λ e. e.1 ≡ None → e.0 ≡ Unavailable) }
 {
@@ -61,7 +62,8 @@ fn new_desk<S: Start>(
 ) -> Result<FileDesk<S>, FileFault<S>>
     ensures stands { IfOk result (λ desk. ⟦<FileDesk<S> as Desk>⟧.clean desk → ⟦<FileDesk<S> as Desk>⟧.stands desk config.now.cluster (opening config.now)) }
     ensures told { IfErr result (λ e. IfSome e.1 (λ left. IsCleanLeft left → (d : _) → IsDatabase d → HoldsDatabase (image_at S.Start) d.trees → MayForbid d.schema e.0)) }
-    ensures untouched { IfErr result (λ e. e.0 ≡ NotEmpty → IfSome e.1 (λ left. IsCleanLeft left → (d : _) → IsDatabase d → HoldsDatabase (image_at S.Start) d.trees → IsHeld (image_left left) d)) }
+    ensures cause { IfErr result (λ e. IfSome e.1 (λ left. IsCleanLeft left → ForbidsFiles (image_at S.Start) e.0)) }
+    ensures untouched { IfErr result (λ e. e.0 ≡ NotEmpty → IfSome e.1 (λ left. IsCleanLeft left → HoldStill (image_at S.Start) left)) }
     ensures fault { IfErr result (λ e. (e.0 ≡ NotEmpty) ⊎ (e.0 ≡ Unavailable)) }
     ensures lost { IfErr result (λ e. e.1 ≡ None → e.0 ≡ Unavailable) }
 {
@@ -82,8 +84,9 @@ pub fn migrate<S: Start>(
 ) -> Result<Leftover<FileFrom<S>>, FileFault<S>>
     ensures migrated { IfOk result (λ left. IsCleanLeft left → (c : Cluster) (b : Book) → HoldsBookBefore c b (image_at S.Start) → HoldsBook c b (image_left left)) }
     ensures told { IfErr result (λ e. IfSome e.1 (λ left. IsCleanLeft left → (d : _) → IsDatabase d → HoldsDatabase (image_at S.Start) d.trees → Refuses old_schema_number d e.0)) }
+    ensures cause { IfErr result (λ e. IfSome e.1 (λ left. IsCleanLeft left → BarsMigration (image_at S.Start) e.0)) }
     ensures known { IfErr result (λ e. IfSome e.1 (λ left. IsCleanLeft left → (c : Cluster) (b : Book) → HoldsBookBefore c b (image_at S.Start) → e.0 ≡ Unavailable)) }
-    ensures untouched { IfErr result (λ e. e.0 ≢ Unavailable → IfSome e.1 (λ left. IsCleanLeft left → (d : _) → IsDatabase d → HoldsDatabase (image_at S.Start) d.trees → IsHeld (image_left left) d)) }
+    ensures untouched { IfErr result (λ e. e.0 ≢ Unavailable → IfSome e.1 (λ left. IsCleanLeft left → HoldStill (image_at S.Start) left)) }
     ensures not_made { IfErr result (λ e. e.0 ≢ NotEmpty) }
     ensures lost { IfErr result (λ e. e.1 ≡ None → (e.0 ≡ Unavailable) ⊎ (e.0 ≡ NotARegister)) }
 {
@@ -103,7 +106,9 @@ pub fn open<S: Start>(rt: &HostRuntime, path: &str, start: S) -> Result<FileDesk
     ensures left { IfOk result (λ desk. FindsLeft (image_at S.Start) (⟦<FileDesk<S> as Desk>⟧.clean desk) (⟦<FileDesk<S> as Desk>⟧.stands desk)) }
     ensures serves { IfOk result (λ desk. ⟦<FileDesk<S> as Desk>⟧.clean desk → ⟦<Store<FileStore<FileFrom<S>>> as Records>⟧.serves desk.records) }
     ensures told { IfErr result (λ e. IfSome e.1 (λ left. IsCleanLeft left → (d : _) → IsDatabase d → HoldsDatabase (image_at S.Start) d.trees → Explains d e.0)) }
+    ensures cause { IfErr result (λ e. IfSome e.1 (λ left. IsCleanLeft left → ExplainsFiles (image_at S.Start) e.0)) }
     ensures known { IfErr result (λ e. IfSome e.1 (λ left. IsCleanLeft left → (c : Cluster) (b : Book) → HoldsBook c b (image_at S.Start) → e.0 ≡ Unavailable)) }
+    ensures untouched { IfErr result (λ e. e.0 ≢ Unavailable → IfSome e.1 (λ left. IsCleanLeft left → HoldStill (image_at S.Start) left)) }
     ensures not_made { IfErr result (λ e. e.0 ≢ NotEmpty) }
     ensures lost { IfErr result (λ e. e.1 ≡ None → (e.0 ≡ Unavailable) ⊎ (e.0 ≡ NotARegister)) }
 {

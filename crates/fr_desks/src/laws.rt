@@ -1,4 +1,5 @@
-//! Laws of registers in files: one that was made, or closed, and is opened then has the same book.
+//! Laws of registers in files: one that was made, or closed, and is opened then has the same book. One that is opened after
+//! a crash is the register after all that was answered, or after one request more.
 ghost use Rattle.fr_desks.specs.Laws.{CrashIsFound, LeftIsFound, MadeIsFound};
 ghost use Rattle.sqlite_wal.specs.Files.{image_at};
 

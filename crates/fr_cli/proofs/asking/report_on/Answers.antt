@@ -2,7 +2,7 @@ use Rattle.std.proofs.Common.{◌∙◌, sym}
 use Rattle.fr_cli.proofs.AskingLaws.{refused_prints, asks_same}
 use Rattle.fr_cli.proofs.asking.report_on.Goals as goal
 use Rattle.fr_cli.specs.Asking.{IsAnswer, query_of}
-use Rattle.fr_cli.specs.Queries.{report_of}
+use Rattle.fr_text.specs.AnswerText.{report_of}
 
 pub returns-then-is_refusal-clause-prints : goal.returns-then-is_refusal-clause-prints
 returns-then-is_refusal-clause-prints g c =
@@ -11,11 +11,11 @@ returns-then-is_refusal-clause-prints g c =
     asks_same _ _ _ _ _ _ _ _ c.reader.ensures c.in_ok-request.ensures c.ask_as-answer.ensures.answers in
     refused_prints
     (IsAnswer (g.D.Desk.clean c.ask_as-answer.new.desk) (g.D.Desk.stands c.args.desk.now) (g.D.Desk.stands c.ask_as-answer.new.desk) (query_of c.args.query))
-    (report_of c.args.query.report) c.ask_as-answer.result c.refused.result is (sym c.is_refusal.ensures ∙ c.if-is_refusal.true) c.refused.ensures
+    report_of c.ask_as-answer.result c.refused.result is (sym c.is_refusal.ensures ∙ c.if-is_refusal.true) c.refused.ensures
 
 pub returns-clause-prints : goal.returns-clause-prints
 returns-clause-prints g c =
     let is : IsAnswer (g.D.Desk.clean c.ask_as-answer.new.desk) (g.D.Desk.stands c.args.desk.now) (g.D.Desk.stands c.ask_as-answer.new.desk)
     (query_of c.args.query) c.ask_as-answer.result =
     asks_same _ _ _ _ _ _ _ _ c.reader.ensures c.in_ok-request.ensures c.ask_as-answer.ensures.answers in
-    (c.ask_as-answer.result, is, sym c.is_refusal.ensures ∙ c.if-is_refusal.false, c.in_ok-lines.ensures)
+    (c.ask_as-answer.result, is, sym c.is_refusal.ensures ∙ c.if-is_refusal.false, c.in_ok-write_lines.ensures)

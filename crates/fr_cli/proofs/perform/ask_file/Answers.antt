@@ -1,6 +1,7 @@
 use Rattle.std.proofs.Common.{refl, inl}
 use Rattle.std.proofs.KnownBytes.{Keeps-refl}
 use Rattle.fr_cli.proofs.IncomingLaws.{asked_file}
+use Rattle.fr_cli.proofs.RefusedFiles.{not_opened}
 use Rattle.fr_cli.proofs.perform.ask_file.Goals as goal
 
 pub returns-in-Ok : goal.returns-in-Ok
@@ -9,4 +10,4 @@ returns-in-Ok g c =
     c.of_script.ensures c.answer_input-asked.ensures.end c.answer_input-asked.ensures.answered
 
 pub returns-in-Err : goal.returns-in-Err
-returns-in-Err g c = inl (_, refl, c.in-Err.ensures.not_made, Keeps-refl (g.R.Read.remaining c.args.input.now), Keeps-refl (g.O.Write.contents c.args.out.now))
+returns-in-Err g c = inl (_, refl, not_opened _ _ _ c.in-Err.ensures.not_made c.in-Err.ensures.cause c.in-Err.ensures.untouched c.in-Err.ensures.lost, Keeps-refl (g.R.Read.remaining c.args.input.now), Keeps-refl (g.O.Write.contents c.args.out.now))

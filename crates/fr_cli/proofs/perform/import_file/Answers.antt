@@ -6,4 +6,4 @@ pub returns-in-Ok : goal.returns-in-Ok
 returns-in-Ok g c = (_, c.import_body.ensures)
 
 pub returns-in-Err : goal.returns-in-Err
-returns-in-Err g c = ([], not_imported c.in-Err.fault c.in-Err.ensures.fault)
+returns-in-Err g c = ([], not_imported _ c.in-Err.fault c.in-Err.ensures.fault)

@@ -1,13 +1,14 @@
 use Rattle.std.proofs.Common.{rules, ◌∙◌, List, ℕ, Option, ap, subst, sym}
 use Rattle.std.specs.Borrow.{Bor}
 use Rattle.sqlite_wal.specs.Files.{image_at}
+use Rattle.fr_text.specs.AnswerText.{report_of}
 use Rattle.fr_cli.specs.Asking.{import_of, line_of, query_of}
 use Rattle.fr_cli.specs.Faults.{IsNotImported, IsNotReported}
 use Rattle.fr_cli.specs.Listing.{AreLines, variants_for}
 use Rattle.fr_cli.specs.Performing.{Says}
 use Rattle.fr_cli.specs.Picturing.{plans_for}
 use Rattle.fr_picture.specs.Pages.{IsPage}
-use Rattle.fr_cli.specs.Queries.{named, report_of}
+use Rattle.fr_cli.specs.Queries.{named}
 use Rattle.fr_cli.specs.Reading.{PrintsRead}
 use Rattle.fr_cli.specs.RegisterFiles.{IsAnswerOfFile, IsReadOfFile}
 use Rattle.fr_cli.specs.Serving.{IsAnnounced, IsServed}
@@ -24,7 +25,7 @@ supplier_in supplier _ = supplier
 
 pub returns-in-Variants-clause-variants : goal.returns-in-Variants-clause-variants
 returns-in-Variants-clause-variants g c db supplier is =
-    let says = subst (λ given. PrintsRead IsNotReported (IsReadOfFile (image_at g.S.Start) c.list_file-done.result.1 (variants_for (named given))) AreLines c.list_file-done.result.0)
+    let says = subst (λ given. PrintsRead (IsNotReported (image_at g.S.Start) c.list_file-done.result.1) (IsReadOfFile (image_at g.S.Start) c.list_file-done.result.1 (variants_for (named given))) AreLines c.list_file-done.result.0)
     (ap (supplier_in supplier) (sym c.in-Variants.is ∙ is)) c.list_file-done.ensures in
     (c.list_file-done.result.0, says, search rules)
 
@@ -35,7 +36,7 @@ query_in query _ = query
 
 pub returns-in-Report-clause-report : goal.returns-in-Report-clause-report
 returns-in-Report-clause-report g c db query is =
-    let says = subst (λ asked. Says IsNotReported (IsAnswerOfFile (image_at g.S.Start) c.report_file-done.result.1 (query_of asked)) (report_of asked.report) c.report_file-done.result.0)
+    let says = subst (λ asked. Says (IsNotReported (image_at g.S.Start) c.report_file-done.result.1) (IsAnswerOfFile (image_at g.S.Start) c.report_file-done.result.1 (query_of asked)) report_of c.report_file-done.result.0)
     (ap (query_in query) (sym c.in-Report.is ∙ is)) c.report_file-done.ensures in
     (c.report_file-done.result.0, says, search rules)
 
@@ -47,7 +48,7 @@ words_in words _ = words
 pub returns-in-Import-clause-import : goal.returns-in-Import-clause-import
 returns-in-Import-clause-import g c db key variant label file is =
     let said = c.import_file-done.ensures in
-    let says = subst (λ words. Says IsNotImported (IsAnswerOfFile (image_at g.S.Start) c.import_file-done.result.1 (import_of words said.0)) line_of c.import_file-done.result.0)
+    let says = subst (λ words. Says (IsNotImported (image_at g.S.Start) c.import_file-done.result.1) (IsAnswerOfFile (image_at g.S.Start) c.import_file-done.result.1 (import_of words said.0)) line_of c.import_file-done.result.0)
     (ap (words_in (record { key = key; variant = variant; label = label })) (sym c.in-Import.is ∙ is)) said.1 in
     (said.0, c.import_file-done.result.0, says, search rules)
 
@@ -58,7 +59,7 @@ view_in view _ = view
 
 pub returns-in-Picture-clause-picture : goal.returns-in-Picture-clause-picture
 returns-in-Picture-clause-picture g c db variant supplier is =
-    let says = subst (λ view. PrintsRead IsNotReported (IsReadOfFile (image_at g.S.Start) c.picture_file-done.result.1 (plans_for (named view.1) view.0.now)) IsPage c.picture_file-done.result.0)
+    let says = subst (λ view. PrintsRead (IsNotReported (image_at g.S.Start) c.picture_file-done.result.1) (IsReadOfFile (image_at g.S.Start) c.picture_file-done.result.1 (plans_for (named view.1) view.0.now)) IsPage c.picture_file-done.result.0)
     (ap (view_in (variant, supplier)) (sym c.in-Picture.is ∙ is)) c.picture_file-done.ensures in
     (c.picture_file-done.result.0, says, search rules)
 

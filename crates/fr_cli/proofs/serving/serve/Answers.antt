@@ -1,5 +1,6 @@
 use Rattle.std.proofs.Common.{refl, inl}
 use Rattle.std.proofs.KnownBytes.{Keeps-refl}
+use Rattle.fr_cli.proofs.RefusedFiles.{not_opened}
 use Rattle.fr_cli.proofs.ServingLaws.{served_file}
 use Rattle.fr_cli.proofs.serving.serve.Goals as goal
 
@@ -10,4 +11,4 @@ returns-in-Ok-clause-served g c =
 
 pub returns-in-Err-clause-served : goal.returns-in-Err-clause-served
 returns-in-Err-clause-served g c =
-    inl (_, refl, c.in-Err.ensures.not_made, Keeps-refl (g.O.Write.contents c.args.out.now), Keeps-refl (g.E.Write.contents c.args.err.now.writer.now))
+    inl (_, refl, not_opened _ _ _ c.in-Err.ensures.not_made c.in-Err.ensures.cause c.in-Err.ensures.untouched c.in-Err.ensures.lost, Keeps-refl (g.O.Write.contents c.args.out.now), Keeps-refl (g.E.Write.contents c.args.err.now.writer.now))
