@@ -49,8 +49,8 @@ const UNAVAILABLE: Topic = Topic {
     about: "refusal 28, and a fault of a register. Memory or its file failed, or another program has the file.",
     help: "\
 As a fault: another program, as a server, has the file open; or memory, the disk or the rows give no register.
-For `slotplan create` the file DB may also be no database, or have another table.
-As a refusal: there was no memory, the file failed, or a row in it has not its form. Nothing has changed,
+For `create` the file DB may also be no database, or have another table. For `serve` other files may stand there.
+As a refusal: there was no memory, the file failed, or a row in it does not have its form. Nothing has changed,
 but for one case: a disk that failed may have kept the change all the same.
 End the other program, see to memory and disk, and ask for a report before you send a command again.
 ",
