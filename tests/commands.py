@@ -12,6 +12,7 @@ import sqlite3
 import subprocess
 import sys
 import tempfile
+import time
 from contextlib import closing, contextmanager
 from pathlib import Path
 from threading import Lock
@@ -24,6 +25,7 @@ TOP = Path(__file__).resolve().parent.parent
 CLUSTER, REQUESTS = (TOP / "examples/first.script").read_bytes().split(b"---\n")
 SECONDS = 60
 KILLS = 50
+DELAYS = 0, 0, 0.5, 1, 2  # from a whole line to the kill behind it, by the time that the line before took
 
 DONE = b'{"ok":"done"}'
 SIGNALS = b"frame,signal,start,length,order\nf1,speed,0,8,little\n"
@@ -400,6 +402,37 @@ def asking_killed(program, folder):
             see("a line without an end is not answered", b"", asks.stdout.read())
     names = {name for (name,) in rows_of(folder, "SELECT name FROM frames WHERE name LIKE 'k%'", "asked.db")}
     see("frames in the file", answered, names)
+    sound(folder, "asked.db")
+
+
+SIGNAL = b'supplier01 {"do":"add_signal","variant":"v1","frame":"%s","signal":"%s","start":%d,"length":8,"order":"little"}'
+DROP = b'supplier01 {"do":"drop_frame","variant":"v1","frame":"%s"}'
+
+
+def killed_behind(program, folder, frame, turn):
+    """A frame with two signals is added, a whole line drops it, and then comes the kill. Gives what was answered to the drop."""
+    with subprocess.Popen([program, "ask", "asked.db"], cwd=folder, stdin=subprocess.PIPE, stdout=subprocess.PIPE, bufsize=0) as asks:
+        for line in LINE % frame, SIGNAL % (frame, b"x", 0), SIGNAL % (frame, b"y", 8):
+            begun = time.monotonic()
+            asks.stdin.write(line + b"\n")
+            see("a frame and its signals are added", DONE + b"\n", asks.stdout.readline())
+        took = time.monotonic() - begun
+        asks.stdin.write(DROP % frame + b"\n")
+        time.sleep(took * DELAYS[turn % len(DELAYS)])
+        asks.send_signal((signal.SIGKILL, signal.SIGTERM)[turn % 2])
+        see("it is ended by the signal", True, asks.wait(SECONDS) < 0)
+        return asks.stdout.read()
+
+
+def asking_killed_behind(program, folder):
+    """It is ended by a signal right behind a whole line: that line is in the file whole or not at all, and whole if it was answered."""
+    answers = {f"w{turn}": killed_behind(program, folder, b"w%d" % turn, turn) for turn in range(KILLS)}
+    see("what else is answered than that it is done", set(), set(answers.values()) - {b"", DONE + b"\n"})
+    left = {frame: [] for (frame,) in rows_of(folder, "SELECT name FROM frames WHERE name LIKE 'w%'", "asked.db")}
+    for frame, name in rows_of(folder, "SELECT frame, name FROM signals WHERE frame LIKE 'w%' ORDER BY frame, name", "asked.db"):
+        left.setdefault(frame, []).append(name)
+    see("frames of which a part is gone", {}, {frame: signals for frame, signals in left.items() if signals != ["x", "y"]})
+    see("frames that were dropped, as was answered, and are there", set(), {frame for frame, answer in answers.items() if answer} & set(left))
     sound(folder, "asked.db")
 
 
@@ -822,7 +855,7 @@ def main(programs):
             (Path(folder) / "cluster.toml").write_bytes(CLUSTER)
             for part in (
                 creating, checking, explaining, version, opening, serving, cutting, killing, reports, asking, drawing, asking_ends, asking_killed,
-                differences, overlaid, made_whole, opened_again, joined, counted_cycles,
+                asking_killed_behind, differences, overlaid, made_whole, opened_again, joined, counted_cycles,
             ):
                 part(program, Path(folder))
     print(f"{counted[True]} passed, {counted[False]} failed")

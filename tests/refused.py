@@ -10,7 +10,8 @@ line as the register without that request does; or it ends with NoMemory after w
 nothing written where the register could not be made. The reply to a request is the right one, and the register is the one after
 it; or it is Unavailable, and the register is the one before it; or there is none, the word NoMemory is said, and the register is
 one of the two. Then the server answers the next request. A command prints the right text, or ends with status 1 and a word or the
-refusal Unavailable, and leaves the file's register as it was or as it is after. With --step N every Nth allocation is refused.
+refusal Unavailable, and leaves the file's register as it was or as it is after. So does `ask`: a line is Unavailable, and changes nothing,
+or a word ends it, and what was answered stays. With --step N every Nth allocation is refused.
 
 The answers that are right are those that were typed by hand beside the scripts, or, without a request, those of naive.py, a
 register that python3's sqlite3 keeps. The last line is 'N passed, M failed'."""
@@ -25,8 +26,10 @@ import sys
 from contextlib import closing
 from itertools import count
 from pathlib import Path
+from typing import NamedTuple
 
 import commands
+import picture
 import preload
 import schema1
 import stops
@@ -194,8 +197,8 @@ class Registers:
             file.unlink()
         shutil.copy(self.kept, self.folder / "car.db")
 
-    def ended(self, words, more=None):
-        got = subprocess.run([self.program, *words], cwd=self.folder, env=with_more(more), stdin=subprocess.DEVNULL, capture_output=True, timeout=SECONDS)
+    def ended(self, words, more=None, given=b""):
+        got = subprocess.run([self.program, *words], cwd=self.folder, env=with_more(more), input=given, capture_output=True, timeout=SECONDS)
         return got.returncode, got.stdout, got.stderr
 
     def replies(self, requests, more=None):
@@ -216,10 +219,10 @@ class Registers:
         replies, ended = self.replies([data, FRAMES], more)
         return replies, ended, rows_in(self.folder / "car.db")
 
-    def perform(self, words, more=None):
+    def perform(self, words, more=None, given=b""):
         """What a command prints, and the rows."""
         self.anew()
-        return self.ended(words, more), rows_in(self.folder / "car.db")
+        return self.ended(words, more, given), rows_in(self.folder / "car.db")
 
 
 def ask_each(registers, refuser, calls, name, data, right):
@@ -255,6 +258,28 @@ COMMANDS = [
 ]
 
 
+PICTURE = ["picture", "car.db", "v1"]
+
+# What its page shows of the base, as picture.compare takes it.
+PLAN = {
+    "channels": "AB",
+    "slots": 4,
+    "cycles": 64,
+    "grants": [(1, "A", "n1", "s1"), (2, "A", "n1", "s1")],
+    "cells": [(0, 1, "A", "f1", "n1", "s1")],
+    "frames": [("f1", "n1", "s1", [("1", "A", "0/64")], "6400")],
+    "layouts": {("s1", "f1"): [("speed", 0, 8, "little")]},
+}
+
+
+def drawn(registers):
+    """The page of the base: how it looks is no format, so it is the one that shows this plan where memory is ample."""
+    registers.anew()
+    page = registers.ended(PICTURE)[1]
+    see("what is wrong with the page", [], picture.compare(page.decode(), PLAN))
+    return page
+
+
 def perform_each(registers, refuser, calls, words, right, makes):
     """Refuses the allocations of a command; `makes` is whether it makes a file of its own."""
     registers.anew()
@@ -274,6 +299,65 @@ def perform_each(registers, refuser, calls, words, right, makes):
         failed += ended[0] != 0
         if makes:
             look_made(registers, ended)
+
+
+class Line(NamedTuple):
+    """A line of `ask`, what is answered to it, and the row that it adds to a table."""
+
+    line: bytes
+    answer: bytes
+    table: str = None
+    row: tuple = None
+
+
+ADDS = Line(b'supplier01 {"do":"add_frame","variant":"v1","frame":"f2","node":"n1"}\n', DONE + b"\n", "frames", ("v1", "s1", "f2", "n1"))
+PLACES = Line(
+    b'supplier01 {"do":"place","variant":"v1","frame":"f1","slot":1,"channels":"A","base":1,"repetition":64}\n',
+    DONE + b"\n",
+    "placements",
+    ("v1", "s1", "f1", 1, "A", 1, 64),
+)
+SHOWS = Line(b'supplier01 {"do":"schedule","variant":"v1"}\n', b'{"lines":["00 0001 A f1 n1","01 0001 A f1 n1"],"ok":"schedule"}\n')
+SHOWS_ONE = SHOWS._replace(answer=b'{"lines":["00 0001 A f1 n1"],"ok":"schedule"}\n')  # where nothing was placed
+LINES = [ADDS, PLACES, SHOWS, Line(b'supplier01 {"do":"add_frame","variant":"v1","frame":"f1","node":"n1"}\n', refused(19, "Exists") + b"\n")]
+ANSWERED = (0, b"".join(line.answer for line in LINES), b"")
+
+
+def rows_behind(rows, lines):
+    """The rows behind these lines, from those before them."""
+    is_sound, tables = rows
+    return is_sound, {table: sorted(has + [line.row for line in lines if line.table == table], key=repr) for table, has in tables.items()}
+
+
+def asked_states(before):
+    """How `ask` may end where an allocation is refused, each with what the register may then be: one line is Unavailable; or a fault
+    ends it behind whole answers, and the line that it then was at is carried out or not; or the register was not opened."""
+    states = {ANSWERED: [rows_behind(before, LINES)], (1, b"", NOT_MADE): [before]}
+    for at, line in enumerate(LINES):
+        others = [SHOWS_ONE if other is SHOWS and line is PLACES else other for other in LINES]
+        answers = [UNAVAILABLE + b"\n" if other is line else other.answer for other in others]
+        states[0, b"".join(answers), b""] = [rows_behind(before, LINES[:at] + LINES[at + 1 :])]
+        written = b"".join(other.answer for other in LINES[:at])
+        states[1, written, NO_MEMORY] = [rows_behind(before, LINES[:at]), rows_behind(before, LINES[: at + 1])]
+    return states
+
+
+def ask_lines_each(registers, refuser, calls):
+    """Refuses the allocations of `ask`: what it answered as done is in the file, and of the line that it was at all or nothing."""
+    given = b"".join(line.line for line in LINES)
+    registers.anew()
+    states = asked_states(rows_in(registers.folder / "car.db"))
+    ended, rows = registers.perform(["ask", "car.db"], given=given)
+    see("ask", (ANSWERED, states[ANSWERED]), (ended, [rows]))
+    unavailable = failed = 0
+    for tried, call in enumerate(calls):
+        ended, rows = registers.perform(["ask", "car.db"], refuser.refusing(call), given)
+        if not refuser.has_acted():
+            see("ask is refused memory", (True, ANSWERED), (tried > 0, ended))
+            print(f"ask: {tried} allocations refused, {unavailable} answers were Unavailable, {failed} runs ended for want of one", flush=True)
+            return
+        see(f"ask, allocation {call} refused", True, rows in states.get(ended, []) or (ended, rows))
+        unavailable, failed = unavailable + (UNAVAILABLE in ended[1]), failed + (ended[0] != 0)
 
 
 def migrate_each(registers, refuser, calls):
@@ -323,6 +407,10 @@ def refuse_each(program, room, step, turn, only):
     for words, right, makes in COMMANDS:
         if only in words[0]:
             perform_each(registers, refuser, calls(), words, right, makes)
+    if only in "picture":
+        perform_each(registers, refuser, calls(), PICTURE, drawn(registers), False)
+    if only in "ask":
+        ask_lines_each(registers, refuser, calls())
     if only in "migrate":
         migrate_each(registers, refuser, calls())
 

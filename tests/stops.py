@@ -3,8 +3,8 @@
 
 A small library that cc makes, loaded before the C library, ends the program in place of the Nth call that writes, syncs, cuts
 or renames a file, or half-way through it, or lets it fail with EIO or ENOSPC, or has it write a part; N is 1, 2, .. until
-nothing is left to stop. So it is done with a register that is made, one that is opened, one that is migrated, with an import, and
-with requests to a server, of which each is asked once more where it is answered Unavailable. Every request that was answered otherwise
+nothing is left to stop. So it is done with a register that is made, one that is opened, one that is migrated, with an import, and with
+requests to `ask` and to a server, of which each is asked once more where it is answered Unavailable. Every request that was answered otherwise
 is then in the file, and the one that was under way is there whole or not at all; the program and the SQLite of python3 read the same.
 A register whose migration was stopped is of schema 1 or of schema 2, with the same rows, and of schema 1 it can be migrated.
 Further a disk is full, on a small file system where root can mount one, another process holds the file, and a server's file is changed
@@ -20,6 +20,7 @@ import sqlite3
 import subprocess
 import sys
 import time
+from concurrent.futures import ThreadPoolExecutor
 from contextlib import closing, contextmanager
 from pathlib import Path
 from typing import NamedTuple
@@ -51,10 +52,17 @@ class Request(NamedTuple):
     again: bytes  # what is replied where it comes once more
     adds: list
     takes: list = []
+    line: bytes = b""  # as `ask` reads it
 
 
 def order(key, line, again, *adds, takes=()):
-    return Request(command(key, line), json(DONE), again, list(adds), list(takes))
+    return Request(command(key, line), json(DONE), again, list(adds), list(takes), key.encode() + b" " + line + b"\n")
+
+
+def lined(request):
+    """The request as `ask` reads and answers it: a reply's body is the answer, on a line."""
+    right, again = (reply.partition(b"\r\n\r\n")[2] + b"\n" for reply in (request.right, request.again))
+    return request._replace(data=request.line, right=right, again=again)
 
 
 EXISTS = json(refused(19, "Exists"), "409 Conflict")
@@ -78,6 +86,7 @@ REQUESTS = [
         IMPORTED,
         IMPORTED,
         [("signals", ("v1", "s1", "f1", "x", 0, 8, 0)), ("imports", ("s1", "a", "v1", BODY, 1))],
+        line=rb'supplier01 {"do":"import","variant":"v1","label":"a","body":"\ufeffframe,signal,start,length,order\r\n\"f1\",\"x\",0,8,little\r\n"}' + b"\n",
     ),
     order(
         "integrator1", b'{"do":"release","variant":"v1"}', RELEASED, ("variants", ("v1", None, 1, 1, 0)), takes=[("variants", ("v1", None, 1, 0, 0))]
@@ -217,24 +226,25 @@ def server_of(program, files, connections, more=None):
 
 
 class Client:
-    """Asks requests one after another, each a second time where the first is answered Unavailable. It stops where the server
+    """Asks requests one after another, each a second time where the first is answered Unavailable. It stops where the program
     has ended, or where Unavailable is all that it gets."""
 
-    def __init__(self, port):
-        self.port, self.asked, self.carried, self.unavailable, self.under_way = port, 0, 0, 0, False
+    def __init__(self, answered, lacks):
+        self.answered, self.lacks = answered, lacks  # what is answered to some bytes, and what is where that is Unavailable
+        self.asked, self.carried, self.unavailable, self.under_way = 0, 0, 0, False
 
     def ask(self, data):
         self.asked += 1
-        return replied(self.port, data)
+        return self.answered(data)
 
     def ask_all(self, requests):
         for request in requests:
             got = self.ask(request.data)
             rights = [request.right]
-            if got == UNAVAILABLE:
+            if got == self.lacks:
                 self.unavailable += 1
                 got, rights = self.ask(request.data), [request.right, request.again]
-            if got in (b"", UNAVAILABLE):
+            if got in (b"", self.lacks):
                 self.under_way = True
                 return got != b""
             see("what is answered", True, got in rights or got)
@@ -248,13 +258,42 @@ def serve(program, files, begun, more=None):
     requests = REQUESTS[begun:]
     connections = len(requests) + 2
     with server_of(program, files, connections, more) as (server, port):
-        client = Client(port)
+        client = Client(lambda data: replied(port, data), UNAVAILABLE)
         if port and client.ask_all(requests):
             for _ in range(connections - client.asked):
                 see("what no supplier may ask", NOT_YOURS, client.ask(STRANGE))
         ended = server.wait(SECONDS), server.stderr.read()
     carried = begun + client.carried
     return ended, {carried, carried + client.under_way}, client.unavailable
+
+
+# ---- the command that asks
+
+
+def answered(asks, line):
+    """What is answered to a line, with its line feed: nothing where the program ends."""
+    try:
+        asks.stdin.write(line)
+    except BrokenPipeError:
+        return b""
+    return asks.stdout.readline()
+
+
+def ask_lines(program, files, begun, more=None):
+    """Has `ask` carry out the requests behind the first so many, as `serve` does."""
+    words = [program, "ask", "car.db"]
+    pipes = dict.fromkeys(("stdin", "stdout", "stderr"), subprocess.PIPE)
+    with subprocess.Popen(words, cwd=files, env=with_more(more), bufsize=0, **pipes) as asks:
+        try:
+            client = Client(lambda line: answered(asks, line), refused(28, "Unavailable") + b"\n")
+            has_answered = client.ask_all(map(lined, REQUESTS[begun:]))
+            rest, said = asks.communicate(timeout=SECONDS)
+        finally:
+            asks.kill()
+    see("what is answered to no line", b"", rest)
+    see("a line without an answer, where it ends well", False, asks.returncode == 0 and not has_answered)
+    carried = begun + client.carried
+    return (asks.returncode, said), {carried, carried + client.under_way}, client.unavailable
 
 
 # ---- what is stopped
@@ -284,6 +323,13 @@ def importing(program, files, more):
     return ended, {PLACED + 1} if ended[0] == 0 else {PLACED, PLACED + 1}
 
 
+def asking(program, files, more):
+    """The requests behind the first five are asked on standard input, each once the one before it is answered."""
+    ended, counts, unavailable = ask_lines(program, files, PLACED, more)
+    late[more["STOP_WAY"]] += unavailable
+    return ended, counts
+
+
 def serving(program, files, more):
     """A server of a new register gets every request."""
     ended, counts, unavailable = serve(program, files, 0, more)
@@ -296,13 +342,14 @@ late = dict.fromkeys(WAYS, 0)
 MIGRATE = ["migrate", "car.db"]
 WRONG_SCHEMA = (1, b"", b"slotplan: WrongSchema\n")
 
-# How each command may end where a call failed: well, or with a word. A server ends well, whatever failed behind its start.
+# How each command may end where a call failed: well, or with a word. A server ends well, whatever failed behind its start; so does `ask`.
 WORD = (1, b"", b"slotplan: Unavailable\n")
 WELL = {
     making: [(0, b"", b"")],
     reading: [(0, b"00 0001 A f1 n1 s1\n", b"")],
     migrating: [(0, b"", b"")],
     importing: [(0, b'{"ok":"imported","rows":1}\n', b"")],
+    asking: [(0, b"")],
     serving: [(0, b"")],
 }
 FAILED = {
@@ -310,6 +357,7 @@ FAILED = {
     migrating: [WORD],
     reading: [WORD, (1, b"", refused(28, "Unavailable") + b"\n")],
     importing: [WORD, (1, b"", refused(28, "Unavailable") + b"\n")],
+    asking: [(1, b"slotplan: Unavailable\n")],
     serving: [(1, b"slotplan: Unavailable\n")],
 }
 
@@ -367,7 +415,7 @@ def bases(program, room):
             see("the base", [request.right] * 2, [replied(port, request.data), replied(its, request.data)])
         see("the base is closed", 0, server.wait(SECONDS))
     see("what the log has of the file that was closed, and of the one that was not", [False, True], [has_frames(folder) for folder in (placed, logged)])
-    return {making: none, reading: logged, migrating: old, importing: placed, serving: new}
+    return {making: none, reading: logged, migrating: old, importing: placed, asking: placed, serving: new}
 
 
 def stops(program, room, step, turn):
@@ -516,6 +564,14 @@ def held(program, room, base):
     looked_at("a file that was held", program, files, {ALL})
 
 
+def beside_another(program, base, room):
+    """The files of a register, beside which a new one stands."""
+    files = copied(base, room / "run")
+    (files / "other.db").unlink(missing_ok=True)
+    see("another register", (0, b"", b""), performed(program, ["create", "other.db", "cluster.toml"], files))
+    return files
+
+
 def moved_there(files):
     os.rename(files / "other.db", files / "car.db")
 
@@ -545,9 +601,7 @@ def changed(program, room, base):
     the server ends with that word. A register that was moved to its place is whole."""
     for change in moved_there, written_over, without_log, cut_log, cut_file, removed:
         for asked, right in (REQUESTS[PLACED].data, UNAVAILABLE), (STRANGE, NOT_YOURS):
-            files = copied(base, room / "run")
-            (files / "other.db").unlink(missing_ok=True)
-            see("another register", (0, b"", b""), performed(program, ["create", "other.db", "cluster.toml"], files))
+            files = beside_another(program, base, room)
             with server_of(program, files, 3) as (server, port):
                 see("a request before that", REQUESTS[PLACED].right, replied(port, REQUESTS[PLACED].data))
                 time.sleep(AT_REST)
@@ -559,6 +613,40 @@ def changed(program, room, base):
                 see("the register that was moved there", (0, b"", b""), performed(program, ["variants", "car.db"], files))
             if change is without_log:
                 looked_at("the log was removed", program, files, {PLACED + 1})
+
+
+def moved_during(program, room, base):
+    """A register that is moved to a server's file while a request is carried out: the request is answered, for the server looks behind it
+    again. Then the server ends with Unavailable and takes no more, and the register that was moved there is a new one, whole."""
+    files, holder = beside_another(program, base, room), Stopper(room)
+    with server_of(program, files, 3, holder.holding()) as (server, port), ThreadPoolExecutor() as clients:
+        see("a request before that", REQUESTS[PLACED].right, replied(port, REQUESTS[PLACED].data))
+        time.sleep(AT_REST)
+        holder.mark.touch()
+        request = clients.submit(replied, port, REQUESTS[PLACED + 1].data)
+        time.sleep(AT_REST)
+        see("a request is carried out", False, request.done())
+        moved_there(files)
+        holder.mark.unlink()
+        see("it is answered", REQUESTS[PLACED + 1].right, request.result())
+        see("the next request finds no server", b"", replied(port, REQUESTS[PLACED + 2].data))
+        see("the server ends", (1, b"slotplan: Unavailable\n"), (server.wait(SECONDS), server.stderr.read()))
+    looked_at("the register that was moved there", program, files, {0})
+
+
+def linked(program, room, base):
+    """A register to which a link leads has its log beside it, not beside the link, and a server sees that the log is cut."""
+    files = copied(base, room / "run")
+    (files / "car.db").rename(files / "real.db")
+    (files / "car.db").symlink_to("real.db")
+    with server_of(program, files, 3) as (server, port):
+        see("a request over a link", REQUESTS[PLACED].right, replied(port, REQUESTS[PLACED].data))
+        time.sleep(AT_REST)
+        os.truncate(files / "real.db-wal", os.path.getsize(files / "real.db-wal") - 512)
+        see("the log behind a link is cut: a request", UNAVAILABLE, replied(port, REQUESTS[PLACED + 1].data))
+        see("the log behind a link is cut: the server ends", (1, b"slotplan: Unavailable\n"), (server.wait(SECONDS), server.stderr.read()))
+    for name in "car.db", "real.db", "real.db-wal":
+        (files / name).unlink(missing_ok=True)
 
 
 def moved_back(program, room, base):
@@ -585,9 +673,11 @@ def main():
             held(program, room, base)
             changed(program, room, base)
             moved_back(program, room, base)
+            linked(program, room, base)
             full_disk(program, room, base)
             if preload.can_compile():
                 full_by_library(program, room, base)
+                moved_during(program, room, base)
         if preload.can_compile():
             with folder_in_memory() as folder:
                 stops(program, Path(folder), given.step, turn)
