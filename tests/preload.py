@@ -42,7 +42,7 @@ int accept4(int socket, struct sockaddr *address, socklen_t *length, int flags) 
 #   EIO, ENOSPC  the call fails
 #   short  of what is written half is, which is no failure; other calls are not counted
 #   full   from then on nothing is written behind a file's end, until STOP_MARK is gone
-#   hold   each call waits while STOP_MARK is there, and is carried out then
+#   hold   each call waits while STOP_MARK is there, and is carried out then; STOP_HELD is the path of a file that is made once one waits
 # STOP_MARK is the path of a file that is made once the call has come.
 STOPPER = r"""
 #define _GNU_SOURCE
@@ -61,7 +61,10 @@ static int is(const char *way) { const char *given = getenv("STOP_WAY"); return 
 static void end(void) { kill(getpid(), SIGKILL); for (;;) pause(); }
 static int comes(void) {
     const char *nth = getenv("STOP_CALL");
-    while (is("hold") && access(getenv("STOP_MARK"), F_OK) == 0) usleep(1000);
+    while (is("hold") && access(getenv("STOP_MARK"), F_OK) == 0) {
+        close(open(getenv("STOP_HELD"), O_CREAT | O_WRONLY, 0600));
+        usleep(1000);
+    }
     if (!nth || ++calls != atol(nth)) return 0;
     close(open(getenv("STOP_MARK"), O_CREAT | O_WRONLY, 0600));
     return 1;
@@ -272,6 +275,7 @@ class Refuser(Library):
 class Stopper(Library):
     def __init__(self, room):
         super().__init__(room, "stopper", STOPPER)
+        self.held = self.mark.with_suffix(".held")
 
     def stopping(self, call, way):
         """What a program's environment has more, so that this call on files is met so, counted from 1."""
@@ -279,7 +283,7 @@ class Stopper(Library):
 
     def holding(self):
         """What a program's environment has more, so that each call on files waits while the mark is there."""
-        return {"LD_PRELOAD": str(self.path), "STOP_WAY": "hold", "STOP_MARK": str(self.mark)}
+        return {"LD_PRELOAD": str(self.path), "STOP_WAY": "hold", "STOP_MARK": str(self.mark), "STOP_HELD": str(self.held)}
 
 
 class Links(Library):
