@@ -1,16 +1,21 @@
 -- Lanes of which one is changed.
-use Rattle.std.proofs.Common.{◌≡◌, Bool, ℕ, ◌+◌, ◌<◌, ◌≤◌, zero, suc, List, [], ◌∷◌, ◌++◌, length, get_or, take, refl, sym, ap, ◌∙◌, append_assoc, append-nil, arith, subst, zero-add}
+use Rattle.std.proofs.Common.{◌≡◌, ◌≢◌, ◌⊎◌, inl, inr, cond, Bool, true, false, ℕ, ◌+◌, ◌<◌, ◌≤◌, zero, suc, List, [], ◌∷◌, ◌++◌, length, get_or, take, refl, sym, ap, ◌∙◌, append_assoc, append-nil, arith, subst, zero-add}
 use Rattle.std.proofs.Math.ListN.{set}
 use Rattle.std.specs.List.{flat_map, All}
-use Rattle.std.proofs.lemmas.List.{take_more}
-use Rattle.std.proofs.lemmas.List.Elements.{All-push}
+use Rattle.std.specs.Vec.{vec_len}
+use Rattle.std.proofs.lemmas.List.{take_more, get_or_default, get_or-set_same, get_or-set_other}
+use Rattle.std.proofs.lemmas.Bool.{cases_eq}
+use Rattle.std.proofs.lemmas.Bool.Decides.{eqb_tells}
+use Rattle.std.proofs.lemmas.List.Elements.{filter-append}
+use Rattle.std.proofs.Math.Dec.{eqb}
+use Rattle.std.proofs.lemmas.List.Elements.{All-nil, All-push}
 use Rattle.fr_drawing.specs.Shown.{IsMarked, IsShown}
 use Rattle.fr_drawing.proofs.MarkLemmas.{all_shown}
-use Rattle.fr_drawing.specs.Places.{AreAt, AreHome, AreInOrder, IsHome, IsWide, lane_of, place_on_a, place_on_b}
+use Rattle.fr_drawing.specs.Places.{AreAt, AreHome, AreInOrder, AreNumbered, IsHome, IsWide, OpensFirst, shift_of, lane_of, place_on_a, place_on_b}
 use Rattle.fr_drawing.specs.declared.columns.Place.{Place}
 use Rattle.fr_drawing.specs.declared.rectangle.Rectangle.{Rectangle}
 use Rattle.std.proofs.lemmas.Grind.{flat_map-append}
-use Rattle.fr_drawing.specs.Rectangles.{AreApart, cells_in, cells_of}
+use Rattle.fr_drawing.specs.Rectangles.{AreApart, AreFilled, cells_in, cells_of}
 use Rattle.std.specs.List.Sorted.{IsPermutation}
 use Rattle.std.proofs.lemmas.List.Sorted.{IsPermutation-refl, IsPermutation-trans, IsPermutation-append_left, IsPermutation-append_right, IsPermutation-append_comm}
 use Rattle.fr_base.specs.declared.answer.GrantRow.{GrantRow}
@@ -20,7 +25,7 @@ use Rattle.fr_base.specs.declared.channel.Channels.TheVariants.{AB}
 use Rattle.fr_base.specs.declared.params.Params.{Params}
 use Rattle.fr_drawing.specs.declared.drawing.Drawing.{Drawing}
 use Rattle.fr_drawing.specs.declared.lane.Lane.{Lane}
-use Rattle.fr_drawing.specs.Lanes.{IsApart, IsDrawing, lane_cells, drawn_cells, drawn_grants}
+use Rattle.fr_drawing.specs.Lanes.{HaveMore, HaveStill, IsApart, IsDrawing, IsFilled, sent_in, lane_cells, drawn_cells, drawn_grants}
 
 same : {X : Type 0} (xs ys : List X) → xs ≡ ys → IsPermutation xs ys
 same xs ys e = subst (λ zs. IsPermutation xs zs) e (IsPermutation-refl xs)
@@ -91,6 +96,11 @@ apart-more ls new l after empty apart =
     let alone : IsApart l = subst AreApart (sym empty) tt in
     subst (λ ms. All IsApart ms) (sym after) (All-push IsApart ls l apart alone)
 
+pub filled-more : (ls new : List Lane) (l : Lane) → new ≡ ls ++ l ∷ [] → l.rectangles.items ≡ [] → All IsFilled ls → All IsFilled new
+filled-more ls new l after empty filled =
+    let alone : IsFilled l = subst AreFilled (sym empty) (All-nil (λ r. 1 ≤ r.cycles)) in
+    subst (λ ms. All IsFilled ms) (sym after) (All-push IsFilled ls l filled alone)
+
 -- ---- each where its column stands
 
 pub at_stays : (channels : Channels) (shift : ℕ) (columns : List Place) (ls : List Lane) (k : ℕ) (l d : Lane) → k < length ls → l.place ≡ (get_or ls k d).place
@@ -124,9 +134,6 @@ at_step channels shift columns i d ls small h = subst (λ ps. AreAt channels shi
 pub at-none : (channels : Channels) (shift : ℕ) → AreAt channels shift [] []
 at-none channels shift = tt
 
-All-none : {X : Type 0} (P : X → Type 0) → All P []
-All-none P = λ k d small. absurd (omega (arith, small))
-
 pub home-none : AreHome 0 []
 home-none = tt
 
@@ -155,7 +162,71 @@ pub cells_stay : (ls : List Lane) (k : ℕ) (l d : Lane) → k < length ls → l
 unfolding drawn_cells
 cells_stay ls k l d small e = none_more lane_cells ls k l d small (ap (λ g. cells_in g.items) e)
 
-pub ruleset perms = (perm_none, perm_more)
+-- ---- the cells of each lane, in order
+
+still_case : (ls : List Lane) (i k : ℕ) (l d e : Lane) → i < length ls → l.rectangles ≡ (get_or ls i d).rectangles → (k ≡ i) ⊎ (k ≡ i → ⊥)
+    → lane_cells (get_or (set ls i l) k e) ≡ lane_cells (get_or ls k e)
+still_case ls i k l d e small same (inl here) =
+    ap (λ j. lane_cells (get_or (set ls i l) j e)) here ∙ ap lane_cells (get_or-set_same ls i l e small) ∙ ap (λ rs. cells_in rs.items) same
+    ∙ ap lane_cells (get_or_default ls i d e small) ∙ ap (λ j. lane_cells (get_or ls j e)) (sym here)
+still_case ls i k l d e small same (inr other) = ap lane_cells (get_or-set_other ls i k l e other)
+
+pub still_one : (ls : List Lane) (i k : ℕ) (l d e : Lane) → i < length ls → l.rectangles ≡ (get_or ls i d).rectangles
+    → lane_cells (get_or (set ls i l) k e) ≡ lane_cells (get_or ls k e)
+still_one ls i k l d e small same = still_case ls i k l d e small same (cases_eq k i)
+
+turn_case : (ls : List Lane) (i k : ℕ) (l d e : Lane) (x : Sending) → i < length ls → i ≡ lane_of x.slot x.channel → lane_cells l ≡ lane_cells (get_or ls i d) ++ x ∷ []
+    → ((eqb (lane_of x.slot x.channel) k ≡ true) × (lane_of x.slot x.channel ≡ k)) ⊎ ((eqb (lane_of x.slot x.channel) k ≡ false) × (lane_of x.slot x.channel ≢ k))
+    → lane_cells (get_or (set ls i l) k e) ≡ lane_cells (get_or ls k e) ++ sent_in k (x ∷ [])
+unfolding sent_in
+turn_case ls i k l d e x small here more (inl own) =
+    let at : k ≡ i = sym (here ∙ own.1) in
+    ap (λ j. lane_cells (get_or (set ls i l) j e)) at ∙ ap lane_cells (get_or-set_same ls i l e small) ∙ more
+    ∙ ap (λ m. lane_cells m ++ x ∷ []) (get_or_default ls i d e small ∙ ap (λ j. get_or ls j e) (sym at))
+    ∙ ap (λ b. lane_cells (get_or ls k e) ++ cond b (x ∷ []) []) (sym own.0)
+turn_case ls i k l d e x small here more (inr other) =
+    ap lane_cells (get_or-set_other ls i k l e (λ at. other.1 (sym (at ∙ here)))) ∙ sym (append-nil (lane_cells (get_or ls k e)))
+    ∙ ap (λ b. lane_cells (get_or ls k e) ++ cond b (x ∷ []) []) (sym other.0)
+
+pub turn_one : (ls : List Lane) (i k : ℕ) (l d e : Lane) (x : Sending) → i < length ls → i ≡ lane_of x.slot x.channel → lane_cells l ≡ lane_cells (get_or ls i d) ++ x ∷ []
+    → lane_cells (get_or (set ls i l) k e) ≡ lane_cells (get_or ls k e) ++ sent_in k (x ∷ [])
+turn_one ls i k l d e x small here more = turn_case ls i k l d e x small here more (eqb_tells (lane_of x.slot x.channel) k)
+
+-- a loop's step: the cells so far, and one more
+pub turn_none : (ls : List Lane) (rows : List Sending) → HaveMore ls (take 0 rows) ls
+unfolding sent_in
+turn_none ls rows = λ k l small. sym (append-nil (lane_cells (get_or ls k l)))
+
+pub turn_more : (old ls new : List Lane) (rows : List Sending) (i : ℕ) (x : Sending) → i < length rows → x ≡ get_or rows i x → HaveMore old (take i rows) ls → HaveMore ls (x ∷ []) new
+    → HaveMore old (take (i + 1) rows) new
+unfolding sent_in
+turn_more old ls new rows i x small read before now = λ k l within.
+    let had = lane_cells (get_or old k l) in
+    now k l within ∙ ap (λ t. t ++ sent_in k (x ∷ [])) (before k l within) ∙ append_assoc had (sent_in k (take i rows)) (sent_in k (x ∷ []))
+    ∙ ap (λ t. had ++ t) (sym (filter-append (λ s. eqb (lane_of s.slot s.channel) k) (take i rows) (x ∷ [])))
+    ∙ ap (λ t. had ++ sent_in k t) (sym (take_more rows i x small ∙ ap (λ y. take i rows ++ y ∷ []) (sym read)))
+
+pub ruleset perms = (perm_none, perm_more, turn_none, turn_more)
+
+-- what all have none of, each has none of
+left_none : {X : Type 0} (xs ys : List X) → xs ++ ys ≡ [] → xs ≡ []
+left_none [] ys e = refl
+left_none (x ∷ xs) ys e = absurd (omega (arith, ap length e))
+
+right_none : {X : Type 0} (xs ys : List X) → xs ++ ys ≡ [] → ys ≡ []
+right_none [] ys e = e
+right_none (x ∷ xs) ys e = absurd (omega (arith, ap length e))
+
+each_none : {L X : Type 0} (f : L → List X) (ls : List L) (k : ℕ) (d : L) → k < length ls → flat_map f ls ≡ [] → f (get_or ls k d) ≡ []
+each_none f [] k d small e = absurd (omega (arith, small))
+each_none f (m ∷ ms) zero d small e = left_none (f m) (flat_map f ms) e
+each_none f (m ∷ ms) (suc k) d small e = each_none f ms k d (omega (arith, small)) (right_none (f m) (flat_map f ms) e)
+
+in_turn_of : (empty held full : List Lane) (sendings : List Sending) → length empty ≡ 2046 → length full ≡ 2046 → drawn_cells empty ≡ [] → HaveStill empty held → HaveMore held sendings full
+    → (k : ℕ) (l : Lane) → k < length full → lane_cells (get_or full k l) ≡ sent_in k sendings
+unfolding drawn_cells
+in_turn_of empty held full sendings len0 len2 none still more k l small =
+    more k l (omega (arith, small, len2)) ∙ ap (λ t. t ++ sent_in k sendings) (still k l ∙ each_none lane_cells empty k l (omega (arith, small, len0, len2)) none)
 
 -- ---- each in the lane of its slot and channel
 
@@ -197,29 +268,36 @@ home-push (n ∷ ls) j l at h = (h.0, home-push ls (suc j) l at h.1)
 pub home-more : (ls new : List Lane) (l : Lane) → new ≡ ls ++ l ∷ [] → l.grants.items ≡ [] → l.rectangles.items ≡ [] → AreHome 0 ls → AreHome 0 new
 home-more ls new l after no_grants no_rectangles h =
     let alone : (k : ℕ) → IsHome k l = λ k. (
-      subst (All (λ g. lane_of g.slot g.channel ≡ k)) (sym no_grants) (All-none (λ g. lane_of g.slot g.channel ≡ k)),
-      subst (All (λ s. lane_of s.slot s.channel ≡ k)) (sym (nothing l.rectangles.items no_rectangles)) (All-none (λ s. lane_of s.slot s.channel ≡ k)),
+      subst (All (λ g. lane_of g.slot g.channel ≡ k)) (sym no_grants) (All-nil (λ g. lane_of g.slot g.channel ≡ k)),
+      subst (All (λ s. lane_of s.slot s.channel ≡ k)) (sym (nothing l.rectangles.items no_rectangles)) (All-nil (λ s. lane_of s.slot s.channel ≡ k)),
     ) in
     subst (AreHome 0) (sym after) (home-push ls 0 l alone h)
 
 pub drawing_of : (p : Params) (d : Drawing) (columns listed : List Place) (channels : Channels) (shift end width : ℕ) (marks : List Bool) (holds : List GrantRow) (cells : List Sending) (empty held : List Lane)
-    → channels ≡ p.channels → (p.channels ≡ AB → shift ≡ end) → 2 ≤ width → d.scale ≡ record { cycles = p.cycles; height = p.cycles + 5; width = width }
-    → All (λ q. q.x + q.width ≤ end) columns → All (IsWide width) columns
-    → drawn_grants empty ≡ [] → drawn_cells empty ≡ [] → All IsApart empty → AreHome 0 empty → AreInOrder columns → listed ≡ columns → AreAt channels shift listed empty
+    → channels ≡ p.channels → shift ≡ shift_of p.channels → end + shift ≡ 136 → (p.channels ≡ AB → shift ≡ end) → 2 ≤ width → d.scale ≡ record { cycles = p.cycles; height = p.cycles + 5; width = width }
+    → All (λ q. 4 ≤ q.x) columns → All (λ q. q.x + q.width ≤ end) columns → All (IsWide width) columns
+    → drawn_grants empty ≡ [] → drawn_cells empty ≡ [] → All IsApart empty → All IsFilled empty → AreHome 0 empty → length empty ≡ 2046 → vec_len d.lanes ≡ 2046 → HaveStill empty held → HaveMore held cells d.lanes.items → AreInOrder columns → AreNumbered 1 columns → OpensFirst columns → listed ≡ columns → AreAt channels shift listed empty
     → ((n : ℕ) → IsMarked marks n → IsShown columns n) → All (λ g. IsMarked marks g.slot) holds → All (λ s. IsMarked marks s.slot) cells
-    → IsPermutation (drawn_grants held) (drawn_grants empty ++ holds) → drawn_cells held ≡ drawn_cells empty → (All IsApart empty → All IsApart held) → (AreHome 0 empty → AreHome 0 held)
+    → IsPermutation (drawn_grants held) (drawn_grants empty ++ holds) → drawn_cells held ≡ drawn_cells empty → (All IsApart empty → All IsApart held) → (All IsFilled empty → All IsFilled held) → (AreHome 0 empty → AreHome 0 held)
     → ((cs : Channels) (n : ℕ) (ps : List Place) → AreAt cs n ps empty → AreAt cs n ps held)
-    → IsPermutation (drawn_cells d.lanes.items) (drawn_cells held ++ cells) → drawn_grants d.lanes.items ≡ drawn_grants held → (All IsApart held → All IsApart d.lanes.items)
+    → IsPermutation (drawn_cells d.lanes.items) (drawn_cells held ++ cells) → drawn_grants d.lanes.items ≡ drawn_grants held → (All IsApart held → All IsApart d.lanes.items) → (All IsFilled held → All IsFilled d.lanes.items)
     → (AreHome 0 held → AreHome 0 d.lanes.items) → ((cs : Channels) (n : ℕ) (ps : List Place) → AreAt cs n ps held → AreAt cs n ps d.lanes.items)
     → IsDrawing p holds cells d
-drawing_of p d columns listed channels shift end width marks holds cells empty held own both least scaled ends wide g0 c0 a0 h0 o0 e0 p0 shown m1 m2 g1 c1 a1 h1 p1 c2 g2 a2 h2 p2 = record {
+drawing_of p d columns listed channels shift end width marks holds cells empty held own by whole both least scaled from ends wide g0 c0 a0 f0 h0 n0 n2 t1 t2 o0 b0 s0 e0 p0 shown m1 m2 g1 c1 a1 f1 h1 p1 c2 g2 a2 f2 h2 p2 = record {
   grants = subst (λ xs. IsPermutation xs holds) (sym g2) (subst (λ xs. IsPermutation (drawn_grants held) (xs ++ holds)) g0 g1);
   cells = subst (λ xs. IsPermutation (drawn_cells d.lanes.items) (xs ++ cells)) (c1 ∙ c0) c2;
+  in_turn = in_turn_of empty held d.lanes.items cells n0 (omega (arith, d.lanes.ok, n2)) c0 t1 t2;
   apart = a2 (a1 a0);
+  filled = f2 (f1 f0);
   home = h2 (h1 h0);
   columns = columns;
   shift = shift;
+  shifted = by;
+  from = from;
+  within = λ k q small. omega (arith, ends k q small, whole);
   order = o0;
+  numbered = b0;
+  opened = s0;
   at = subst (λ cs. AreAt cs shift columns d.lanes.items) own (subst (λ ps. AreAt channels shift ps d.lanes.items) e0 (p2 channels shift listed (p1 channels shift listed p0)));
   beside = λ ab. subst (λ n. All (λ q. q.x + q.width ≤ n) columns) (sym (both ab)) ends;
   wide = subst (λ n. All (IsWide n) columns) (sym (ap (λ s. s.width) scaled)) wide;

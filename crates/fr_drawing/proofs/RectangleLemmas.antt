@@ -1,10 +1,12 @@
 -- Rectangles that grow, and lists of rectangles that a cell is added to.
-use Rattle.std.proofs.Common.{◌≡◌, true, false, ◌+◌, List, [], ◌∷◌, ◌++◌, sym, ap, ◌∙◌, append_assoc, append-nil, arith, subst, zero-add}
+use Rattle.std.proofs.Common.{◌≡◌, true, false, ◌+◌, ◌≤◌, List, [], ◌∷◌, ◌++◌, sym, ap, ◌∙◌, append_assoc, append-nil, arith, subst, zero-add}
 use Rattle.std.proofs.lemmas.Grind.{flat_map-append}
+use Rattle.std.proofs.lemmas.List.Elements.{All-push}
+use Rattle.std.proofs.lemmas.List.{get_or_append_left, length-append}
 use Rattle.std.proofs.lemmas.List.FromFn.{map-range_with_len_more}
 use Rattle.fr_base.specs.declared.answer.Sending.{Sending}
 use Rattle.fr_drawing.specs.declared.rectangle.Rectangle.{Rectangle}
-use Rattle.fr_drawing.specs.Rectangles.{later, cells_of, cells_in, Meets, AreApart}
+use Rattle.fr_drawing.specs.Rectangles.{later, cells_of, cells_in, Meets, AreApart, AreFilled}
 
 -- a rectangle with one cycle more
 abbrev pub grown : Rectangle → Rectangle
@@ -85,3 +87,12 @@ apart_another old rest mid new last r s before between after one alone apart =
     let first : r.first ≡ s = ap (λ t. t.first) one in
     let unmet : ¬ Meets last r.first = λ m. let both : false ≡ true = alone (sym first ∙ m) in cc in
     subst AreApart (sym (after ∙ ap (λ rs. rs ++ r ∷ []) between)) (AreApart-more rest last r (subst AreApart before apart) unmet)
+
+-- the last rectangle may grow: those before it stay as they are
+pub filled_longer : (old rest new : List Rectangle) (last long : Rectangle) → old ≡ rest ++ last ∷ [] → new ≡ rest ++ long ∷ []
+    → long ≡ grown last → AreFilled old → AreFilled new
+filled_longer old rest new last long before after grows filled =
+    let whole : AreFilled (rest ++ last ∷ []) = subst AreFilled before filled in
+    let kept : AreFilled rest = λ k d small.
+    subst (λ r. 1 ≤ r.cycles) (get_or_append_left rest (last ∷ []) d k small) (whole k d (omega (arith, length-append rest (last ∷ []), small))) in
+    subst AreFilled (sym after) (All-push (λ r. 1 ≤ r.cycles) rest long kept (omega (arith, ap (λ r. r.cycles) grows)))

@@ -4,12 +4,13 @@ use Rattle.std.specs.Prelude.{◌≡◌, ℕ, suc, ◌+◌, ◌-◌, ◌*◌, �
 use Rattle.std.specs.List.{All}
 use Rattle.fr_base.specs.Channels.{has_channel}
 use Rattle.fr_base.specs.declared.channel.Channels.{Channels}
+use Rattle.fr_base.specs.declared.channel.Channels.TheVariants as channels
 use Rattle.fr_base.specs.declared.channel.Channel.{Channel}
 use Rattle.fr_base.specs.declared.channel.Channel.TheVariants.{A, B}
 use Rattle.fr_drawing.specs.declared.columns.Place.{Place}
 use Rattle.fr_drawing.specs.declared.lane.Lane.{Lane}
 use Rattle.fr_drawing.specs.declared.marks.Shows.{Shows}
-use Rattle.fr_drawing.specs.declared.marks.Shows.TheVariants.{Nothing, Slot}
+use Rattle.fr_drawing.specs.declared.marks.Shows.TheVariants.{Nothing, Slot, Gap}
 use Rattle.fr_drawing.specs.Rectangles.{cells_in}
 
 -- the number of a lane: by slot, A before B
@@ -36,6 +37,12 @@ AreInOrder (p ∷ q ∷ columns) = (q.opens ≡ false → p.x + p.width ≤ q.x)
 abbrev pub shown_on : Channels → Channel → Shows → Shows
 shown_on channels channel shows = if has_channel channels channel then shows else Nothing
 
+-- by how much channel B stands further right than channel A
+abbrev pub shift_of : Channels → ℕ
+shift_of channels.A = 0
+shift_of channels.AB = 68
+shift_of channels.B = 0
+
 -- where the lanes of a column stand: that of channel B so much further right
 abbrev pub place_on_a : Channels → Place → Place
 place_on_a channels p = record p { shows = shown_on channels A p.shows }
@@ -52,6 +59,26 @@ AreAt channels shift (p ∷ columns) (a ∷ []) = ⊥
 AreAt channels shift (p ∷ columns) (a ∷ b ∷ lanes) =
     (a.place ≡ place_on_a channels p) × (b.place ≡ place_on_b channels shift p) × AreAt channels shift columns lanes
 
--- the column of a slot is this wide
+-- how wide a column is that shows this, where a lane is this wide
+abbrev pub width_of : ℕ → Shows → ℕ
+width_of width Nothing = 0
+width_of width (Slot slot) = width
+width_of width (Gap first last) = 1
+
+-- the column is as wide as what it shows
 abbrev pub IsWide : ℕ → Place → Type 0
-IsWide width p = (slot : ℕ) → p.shows ≡ Slot slot → p.width ≡ width
+IsWide width p = p.width ≡ width_of width p.shows
+
+-- before the first column that opens a part each shows nothing
+abbrev pub OpensFirst : List Place → Type 0
+OpensFirst [] = Unit {0}
+OpensFirst (p ∷ columns) = p.opens ≡ false → (p.shows ≡ Nothing) × OpensFirst columns
+
+-- the column of this slot shows no other slot's number, and a gap only where the slot is the last of it
+abbrev pub IsNumbered : ℕ → Place → Type 0
+IsNumbered s p = ((n : ℕ) → p.shows ≡ Slot n → n ≡ s) × ((first last : ℕ) → p.shows ≡ Gap first last → last ≡ s)
+
+-- from slot s on
+abbrev pub AreNumbered : ℕ → List Place → Type 0
+AreNumbered s [] = Unit {0}
+AreNumbered s (p ∷ columns) = IsNumbered s p × AreNumbered (suc s) columns

@@ -1,7 +1,7 @@
 -- Rectangle: it has a first cell, and the same frame's cells in the next cycles, so many. Two rectangles could be one
 -- where the second begins in the cell behind the first's last.
-use Rattle.std.specs.Prelude.{◌≡◌, ℕ, ◌+◌, List, [], ◌∷◌, map}
-use Rattle.std.specs.List.{flat_map, range_with_len}
+use Rattle.std.specs.Prelude.{◌≡◌, ℕ, ◌+◌, ◌≤◌, List, [], ◌∷◌, map}
+use Rattle.std.specs.List.{flat_map, range_with_len, All}
 use Rattle.fr_base.specs.declared.answer.Sending.{Sending}
 use Rattle.fr_drawing.specs.declared.rectangle.Rectangle.{Rectangle}
 
@@ -26,3 +26,7 @@ abbrev pub AreApart : List Rectangle → Type 0
 AreApart [] = Unit {0}
 AreApart (r ∷ []) = Unit {0}
 AreApart (r ∷ s ∷ rs) = ¬ Meets r s.first × AreApart (s ∷ rs)
+
+-- each rectangle has one cycle at least
+abbrev pub AreFilled : List Rectangle → Type 0
+AreFilled rs = All (λ r. 1 ≤ r.cycles) rs

@@ -3,7 +3,7 @@ ghost use Rattle.std.specs.Prelude.{◌≡◌, ℕ, ◌+◌, ◌≤◌, false, I
 ghost use Rattle.fr_base.specs.declared.channel.Channels.TheVariants.{AB};
 ghost use Rattle.std.specs.List.{All};
 ghost use Rattle.std.specs.Vec.{vec_len};
-ghost use Rattle.fr_drawing.specs.Places.{AreInOrder, IsWide};
+ghost use Rattle.fr_drawing.specs.Places.{AreInOrder, AreNumbered, IsWide, OpensFirst, shift_of, width_of};
 ghost use Rattle.fr_drawing.specs.Shown.{IsMarked, IsShown};
 
 use crate::marks::{Marks, Shows};
@@ -56,6 +56,8 @@ impl Bands {
     /// The channels side by side. Lanes are wide where there are few.
     pub(crate) fn of(params: &Params, marks: &Marks) -> Bands
         ensures channels { result.channels ≡ params.now.channels }
+        ensures shift { result.shift ≡ shift_of params.now.channels }
+        ensures whole { result.end + result.shift ≡ 136 }
         ensures beside { params.now.channels ≡ AB → result.shift ≡ result.end }
         ensures room { 2 ≤ result.width }
     {
@@ -86,7 +88,8 @@ impl Bands {
     // How wide what is shown is.
     fn width_of(&self, shows: Shows) -> u32
         ensures small { result ≤ 12 }
-        ensures slot { (n : ℕ) → shows ≡ Shows.Slot n → result ≡ self.now.width }
+        ensures value { result ≡ width_of self.now.width shows }
+        ensures nothing { result ≡ 0 → shows ≡ Shows.Nothing }
     {
         match shows {
             Shows::Nothing => 0,
@@ -118,9 +121,11 @@ fn column(bands: &Bands, end: u32, shows: Shows) -> Place
     requires { end ≤ bands.now.end }
     ensures shows { result.shows ≡ shows }
     ensures wide { IsWide bands.now.width result }
+    ensures from { 4 ≤ end → 4 ≤ result.x }
     ensures beside { result.x + result.width ≤ bands.now.end }
     ensures within { result.x + result.width ≤ 136 }
     ensures behind { result.opens ≡ false → result.x ≡ end }
+    ensures unopened { end ≡ bands.now.end → result.opens ≡ false → (result.shows ≡ Shows.Nothing) × (result.x + result.width ≡ bands.now.end) }
 {
     let width = bands.width_of(shows);
     let opens = width > 0 && end + width > bands.end;
@@ -143,7 +148,10 @@ pub(crate) fn columns(
     ensures len { IfOk result (λ columns. vec_len columns ≡ 1023) }
     ensures order { IfOk result (λ columns. AreInOrder columns.items) }
     ensures shown { IfOk result (λ columns. (n : ℕ) → IsMarked marks.now.0 n → IsShown columns.items n) }
+    ensures numbered { IfOk result (λ columns. AreNumbered 1 columns.items) }
+    ensures opened { IfOk result (λ columns. OpensFirst columns.items) }
     ensures wide { IfOk result (λ columns. All (IsWide bands.now.width) columns.items) }
+    ensures from { IfOk result (λ columns. All (λ p. 4 ≤ p.x) columns.items) }
     ensures beside { IfOk result (λ columns. All (λ p. p.x + p.width ≤ bands.now.end) columns.items) }
     ensures within { IfOk result (λ columns. All (λ p. p.x + p.width ≤ 136) columns.items) }
 {

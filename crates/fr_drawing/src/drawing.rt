@@ -2,7 +2,7 @@
 ghost use Rattle.std.specs.Prelude.{◌≡◌, ℕ, List, ◌++◌, ◌∷◌, [], OnOk, IfOk, IsPermutation};
 ghost use Rattle.std.specs.List.{All};
 ghost use Rattle.std.specs.Vec.{vec_len};
-ghost use Rattle.fr_drawing.specs.Lanes.{IsApart, IsDrawing, drawn_cells, drawn_grants};
+ghost use Rattle.fr_drawing.specs.Lanes.{HaveMore, HaveStill, IsApart, IsDrawing, IsFilled, drawn_cells, drawn_grants};
 ghost use Rattle.fr_drawing.specs.Places.{AreAt, AreHome};
 
 use crate::columns::{Bands, Place, Scale, columns};
@@ -46,7 +46,9 @@ fn add_grants(lanes: &mut Vec<Lane>, grants: &[GrantRow]) -> Result<(), NoMemory
     ensures len { vec_len lanes.new ≡ 2046 }
     ensures grants { OnOk result (IsPermutation (drawn_grants lanes.new.items) (drawn_grants lanes.old.items ++ grants.now)) }
     ensures cells { OnOk result (drawn_cells lanes.new.items ≡ drawn_cells lanes.old.items) }
+    ensures still { OnOk result (HaveStill lanes.old.items lanes.new.items) }
     ensures apart { OnOk result (All IsApart lanes.old.items → All IsApart lanes.new.items) }
+    ensures filled { OnOk result (All IsFilled lanes.old.items → All IsFilled lanes.new.items) }
     ensures at { OnOk result ((channels : Channels) (shift : ℕ) (columns : List Place) → AreAt channels shift columns lanes.old.items → AreAt channels shift columns lanes.new.items) }
     ensures home { OnOk result (AreHome 0 lanes.old.items → AreHome 0 lanes.new.items) }
 {
@@ -57,13 +59,15 @@ fn add_grants(lanes: &mut Vec<Lane>, grants: &[GrantRow]) -> Result<(), NoMemory
 }
 
 // Draws one grant.
-#[tactic(auto, using(crate::proofs::LaneLemmas::grant_more, crate::proofs::LaneLemmas::cells_stay, crate::proofs::LaneLemmas::grant_home, crate::proofs::LaneLemmas::at_stays))]
+#[tactic(auto, using(crate::proofs::LaneLemmas::grant_more, crate::proofs::LaneLemmas::cells_stay, crate::proofs::LaneLemmas::still_one, crate::proofs::LaneLemmas::grant_home, crate::proofs::LaneLemmas::at_stays))]
 fn add_grant(lanes: &mut Vec<Lane>, grant: &GrantRow) -> Result<(), NoMemory>
     requires { vec_len lanes.old ≡ 2046 }
     ensures len { vec_len lanes.new ≡ 2046 }
     ensures grants { OnOk result (IsPermutation (drawn_grants lanes.new.items) (drawn_grants lanes.old.items ++ grant.now ∷ [])) }
     ensures cells { OnOk result (drawn_cells lanes.new.items ≡ drawn_cells lanes.old.items) }
+    ensures still { OnOk result (HaveStill lanes.old.items lanes.new.items) }
     ensures apart { OnOk result (All IsApart lanes.old.items → All IsApart lanes.new.items) }
+    ensures filled { OnOk result (All IsFilled lanes.old.items → All IsFilled lanes.new.items) }
     ensures at { OnOk result ((channels : Channels) (shift : ℕ) (columns : List Place) → AreAt channels shift columns lanes.old.items → AreAt channels shift columns lanes.new.items) }
     ensures home { OnOk result (AreHome 0 lanes.old.items → AreHome 0 lanes.new.items) }
 {
@@ -76,8 +80,10 @@ fn add_cells(lanes: &mut Vec<Lane>, cells: &[Sending]) -> Result<(), NoMemory>
     requires { vec_len lanes.old ≡ 2046 }
     ensures len { vec_len lanes.new ≡ 2046 }
     ensures cells { OnOk result (IsPermutation (drawn_cells lanes.new.items) (drawn_cells lanes.old.items ++ cells.now)) }
+    ensures in_turn { OnOk result (HaveMore lanes.old.items cells.now lanes.new.items) }
     ensures grants { OnOk result (drawn_grants lanes.new.items ≡ drawn_grants lanes.old.items) }
     ensures apart { OnOk result (All IsApart lanes.old.items → All IsApart lanes.new.items) }
+    ensures filled { OnOk result (All IsFilled lanes.old.items → All IsFilled lanes.new.items) }
     ensures at { OnOk result ((channels : Channels) (shift : ℕ) (columns : List Place) → AreAt channels shift columns lanes.old.items → AreAt channels shift columns lanes.new.items) }
     ensures home { OnOk result (AreHome 0 lanes.old.items → AreHome 0 lanes.new.items) }
 {
@@ -88,13 +94,15 @@ fn add_cells(lanes: &mut Vec<Lane>, cells: &[Sending]) -> Result<(), NoMemory>
 }
 
 // Draws one cell.
-#[tactic(auto, using(crate::proofs::LaneLemmas::cell_more, crate::proofs::LaneLemmas::grants_stay, crate::proofs::LaneLemmas::cell_home, crate::proofs::LaneLemmas::at_stays))]
+#[tactic(auto, using(crate::proofs::LaneLemmas::cell_more, crate::proofs::LaneLemmas::turn_one, crate::proofs::LaneLemmas::grants_stay, crate::proofs::LaneLemmas::cell_home, crate::proofs::LaneLemmas::at_stays))]
 fn add_cell(lanes: &mut Vec<Lane>, cell: &Sending) -> Result<(), NoMemory>
     requires { vec_len lanes.old ≡ 2046 }
     ensures len { vec_len lanes.new ≡ 2046 }
     ensures cells { OnOk result (IsPermutation (drawn_cells lanes.new.items) (drawn_cells lanes.old.items ++ cell.now ∷ [])) }
+    ensures in_turn { OnOk result (HaveMore lanes.old.items (cell.now ∷ []) lanes.new.items) }
     ensures grants { OnOk result (drawn_grants lanes.new.items ≡ drawn_grants lanes.old.items) }
     ensures apart { OnOk result (All IsApart lanes.old.items → All IsApart lanes.new.items) }
+    ensures filled { OnOk result (All IsFilled lanes.old.items → All IsFilled lanes.new.items) }
     ensures at { OnOk result ((channels : Channels) (shift : ℕ) (columns : List Place) → AreAt channels shift columns lanes.old.items → AreAt channels shift columns lanes.new.items) }
     ensures home { OnOk result (AreHome 0 lanes.old.items → AreHome 0 lanes.new.items) }
 {

@@ -2,9 +2,9 @@
 ghost use Rattle.std.specs.Prelude.{◌≡◌, List, ◌<◌, ◌≤◌, ◌++◌, ◌∷◌, [], OnOk, IfOk, ◌+◌, length};
 ghost use Rattle.std.specs.List.{All};
 ghost use Rattle.std.specs.Vec.{vec_len};
-ghost use Rattle.fr_drawing.specs.Lanes.{IsApart, drawn_cells, drawn_grants, lane_cells};
+ghost use Rattle.fr_drawing.specs.Lanes.{IsApart, IsFilled, drawn_cells, drawn_grants, lane_cells};
 ghost use Rattle.fr_drawing.specs.Places.{AreAt, AreHome, lane_of, shown_on};
-ghost use Rattle.fr_drawing.specs.Rectangles.{AreApart, cells_in};
+ghost use Rattle.fr_drawing.specs.Rectangles.{AreApart, AreFilled, cells_in};
 
 use crate::columns::Place;
 use crate::marks::Shows;
@@ -55,6 +55,7 @@ impl Lane {
         ensures grants { self.new.grants ≡ self.old.grants }
         ensures place { self.new.place ≡ self.old.place }
         ensures apart { OnOk result (IsApart self.old → IsApart self.new) }
+        ensures filled { OnOk result (IsFilled self.old → IsFilled self.new) }
     {
         add_cell(&mut self.rectangles, cell)
     }
@@ -74,6 +75,7 @@ impl Lane {
 fn add_cell(rectangles: &mut Vec<Rectangle>, cell: &Sending) -> Result<(), NoMemory>
     ensures cells { OnOk result (cells_in rectangles.new.items ≡ cells_in rectangles.old.items ++ cell.now ∷ []) }
     ensures apart { OnOk result (AreApart rectangles.old.items → AreApart rectangles.new.items) }
+    ensures filled { OnOk result (AreFilled rectangles.old.items → AreFilled rectangles.new.items) }
 {
     let Some(last) = rectangles.pop() else {
         rectangles.push(Rectangle::of(*cell))?;
@@ -113,6 +115,7 @@ pub(crate) fn empty_lanes(
     ensures grants { IfOk result (λ lanes. drawn_grants lanes.items ≡ []) }
     ensures cells { IfOk result (λ lanes. drawn_cells lanes.items ≡ []) }
     ensures apart { IfOk result (λ lanes. All IsApart lanes.items) }
+    ensures filled { IfOk result (λ lanes. All IsFilled lanes.items) }
     ensures home { IfOk result (λ lanes. AreHome 0 lanes.items) }
     ensures at { IfOk result (λ lanes. AreAt channels shift columns.now lanes.items) }
 {
@@ -137,6 +140,7 @@ fn push_column(
     ensures grants { OnOk result (drawn_grants lanes.new.items ≡ drawn_grants lanes.old.items) }
     ensures cells { OnOk result (drawn_cells lanes.new.items ≡ drawn_cells lanes.old.items) }
     ensures apart { OnOk result (All IsApart lanes.old.items → All IsApart lanes.new.items) }
+    ensures filled { OnOk result (All IsFilled lanes.old.items → All IsFilled lanes.new.items) }
     ensures home { OnOk result (AreHome 0 lanes.old.items → AreHome 0 lanes.new.items) }
     ensures at { OnOk result ((columns : List Place) → AreAt channels shift columns lanes.old.items → AreAt channels shift (columns ++ column.now ∷ []) lanes.new.items) }
 {

@@ -37,7 +37,9 @@ impl Marks {
     #[tactic(auto, unfolding(crate::specs::Shown::IsMarked))]
     pub(crate) fn shows(&self, last: u32, free: u32, slot: u32) -> Shows
         requires { slot < 1024 }
-        ensures { IsMarked self.now.0 slot → result ≡ Shows.Slot slot }
+        ensures marked { IsMarked self.now.0 slot → result ≡ Shows.Slot slot }
+        ensures slot { (n : ℕ) → result ≡ Shows.Slot n → n ≡ slot }
+        ensures gap { (first last : ℕ) → result ≡ Shows.Gap first last → (first ≡ free) × (last ≡ slot) }
     {
         let here = slot as usize;
         if self.0[here] {

@@ -2,7 +2,8 @@
 -- greatest gap, and its payload.
 use Rattle.std.specs.Prelude.{ℕ, ◌-◌, ◌^◌, List, [], ◌∷◌, ◌++◌, codes, decimal, Option, Some, None}
 use Rattle.std.specs.List.{flat_map}
-use Rattle.std.specs.List.Sorted.{IsNonDecreasingBy}
+use Rattle.std.specs.List.Sorted.{IsNonDecreasingBy, IsStableByKey}
+use Rattle.std.specs.Ordering.{nat_cmp}
 use Rattle.fr_base.specs.Channels.{text_of_channels}
 use Rattle.fr_base.specs.declared.name.Name.{Name}
 use Rattle.fr_base.specs.declared.placement.Placement.{Placement}
@@ -19,6 +20,10 @@ urgency (Some gap) = 2 ^ 32 - gap
 -- the frames that are never sent come first, and then those of greater gaps
 abbrev pub AreWorstFirst : List DrawnFrame → Type 0
 AreWorstFirst frames = IsNonDecreasingBy (λ f. urgency f.gap) frames
+
+-- Frames that are as bad stay in the order in which they were.
+abbrev pub KeepTies : List DrawnFrame → List DrawnFrame → Type 0
+KeepTies old new = IsStableByKey (λ f. urgency f.gap) nat_cmp old new
 
 -- ---- its text
 

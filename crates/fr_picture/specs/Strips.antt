@@ -1,7 +1,8 @@
 -- Strip: the payload bits of a signal's runs. The text of a payload: each signal's bits, and its name, start, length
 -- and order.
-use Rattle.std.specs.Prelude.{ℕ, Bool, not, List, [], ◌∷◌, ◌++◌, codes, decimal, true, if◌then◌else◌}
+use Rattle.std.specs.Prelude.{ℕ, Bool, not, List, [], ◌∷◌, ◌++◌, codes, decimal, true, if◌then◌else◌, IsPermutation}
 use Rattle.std.specs.List.{flat_map, range_with_len}
+use Rattle.fr_base.specs.Bits.{bits_of}
 use Rattle.fr_base.specs.declared.name.Name.{Name}
 use Rattle.fr_base.specs.declared.signal.Order.{Order}
 use Rattle.fr_base.specs.declared.signal.Order.TheVariants.{Little, Big}
@@ -13,6 +14,10 @@ use Rattle.fr_picture.specs.Texts.{together, fixed_text}
 -- the payload bits of runs
 unfoldable pub bits_in : List Run → List ℕ
 bits_in runs = flat_map (λ r. range_with_len r.start r.length) runs
+
+-- What is drawn of a signal are its bits, each once.
+abbrev pub HasItsBits : DrawnSignal → Type 0
+HasItsBits s = IsPermutation (bits_in s.runs.items) (bits_of s.signal)
 
 -- ---- its text
 

@@ -2,11 +2,10 @@
 --
 -- A name stands in a page as it is. It has letters, digits and underscores alone (`Names.antt` of `fr_base`), so no character of a name
 -- means anything in HTML.
-use Rattle.std.specs.Prelude.{ℕ, List}
+use Rattle.std.specs.Prelude.{ℕ, List, codes}
 use Rattle.std.specs.List.{flat_map}
 use Rattle.fr_picture.specs.declared.texts.Fixed.{Fixed}
 use Rattle.fr_picture.specs.declared.texts.Fixed.TheVariants.{OpenedEmpty, Never, StripStart, StripEnd, NoStrip, PathStart, QuoteEnd, CyclesStart, PathEnd, UseEnd, TextEnd, ShapeEnd, Free, LaneEnd, HeldEnd, ShapesStart, NumbersStart, BandA, BandB, BandsAB, LegendStart, TableStart, PageEnd}
-use Rattle.fr_picture.specs.declared.texts.TheConstants.{OPENED_EMPTY, NEVER, STRIP_START, STRIP_END, NO_STRIP, PATH_START, QUOTE_END, CYCLES_START, PATH_END, USE_END, TEXT_END, SHAPE_END, FREE, LANE_END, HELD_END, SHAPES_START, NUMBERS_START, BAND_A, BAND_B, BANDS_AB, LEGEND_START, TABLE_START, PAGE_END}
 
 -- the texts, one behind the other
 abbrev pub together : List (List ℕ) → List ℕ
@@ -14,26 +13,26 @@ together texts = flat_map (λ text. text) texts
 
 -- the texts that are always the same
 unfoldable pub fixed_text : Fixed → List ℕ
-fixed_text OpenedEmpty = OPENED_EMPTY.now
-fixed_text Never = NEVER.now
-fixed_text StripStart = STRIP_START.now
-fixed_text StripEnd = STRIP_END.now
-fixed_text NoStrip = NO_STRIP.now
-fixed_text PathStart = PATH_START.now
-fixed_text QuoteEnd = QUOTE_END.now
-fixed_text CyclesStart = CYCLES_START.now
-fixed_text PathEnd = PATH_END.now
-fixed_text UseEnd = USE_END.now
-fixed_text TextEnd = TEXT_END.now
-fixed_text ShapeEnd = SHAPE_END.now
-fixed_text Free = FREE.now
-fixed_text LaneEnd = LANE_END.now
-fixed_text HeldEnd = HELD_END.now
-fixed_text ShapesStart = SHAPES_START.now
-fixed_text NumbersStart = NUMBERS_START.now
-fixed_text BandA = BAND_A.now
-fixed_text BandB = BAND_B.now
-fixed_text BandsAB = BANDS_AB.now
-fixed_text LegendStart = LEGEND_START.now
-fixed_text TableStart = TABLE_START.now
-fixed_text PageEnd = PAGE_END.now
+fixed_text OpenedEmpty = codes "It was opened empty,"
+fixed_text Never = codes "<td>never"
+fixed_text StripStart = codes "<td><svg><path d="
+fixed_text StripEnd = codes " /></svg>"
+fixed_text NoStrip = codes "<td>"
+fixed_text PathStart = codes "<path d=\""
+fixed_text QuoteEnd = codes "\">"
+fixed_text CyclesStart = codes " cycles"
+fixed_text PathEnd = codes "</title></path>"
+fixed_text UseEnd = codes "</title></use>"
+fixed_text TextEnd = codes "</text>"
+fixed_text ShapeEnd = codes "\"/>\n"
+fixed_text Free = codes "<use href=#free />"
+fixed_text LaneEnd = codes "</svg>\n"
+fixed_text HeldEnd = codes "\"/></g>\n"
+fixed_text ShapesStart = codes "<svg class=defs><defs>\n"
+fixed_text NumbersStart = codes "<g id=numbers>"
+fixed_text BandA = codes "</g><g id=cycles><use href=#numbers /><text class=band x=4 y=-3.6>channel A</text></g></defs>\n"
+fixed_text BandB = codes "</g><g id=cycles><use href=#numbers /><text class=band x=4 y=-3.6>channel B</text></g></defs>\n"
+fixed_text BandsAB = codes "</g><g id=cycles><use href=#numbers /><use href=#numbers x=68 /><text class=band x=4 y=-3.6>channel A</text><text class=band x=72 y=-3.6>channel B</text></g></defs>\n"
+fixed_text LegendStart = codes "</svg>\n<h2>Suppliers</h2>\n<p>Cycles go down, slots go across. A lane is a slot on a channel. Above it stand the slot and the mark of the supplier that holds it. Nobody holds a grey lane. A hatched cell is granted, and nothing is sent in it. The title of a rectangle has its frame, its node and supplier, its slot and channel, and its cycles; 1/4 is base 1 and repetition 4.</p>\n<ul>\n"
+fixed_text TableStart = codes "</ul>\n<h2>Frames</h2>\n<p>The worst are first. A placement has its slot, its channels, and its base and repetition. A gap is in macroticks. A payload has its bits from 0 on, from left to right. A signal has the bit at which it starts, and its length in bits; big order is said.</p>\n<table>\n<tr><th>frame<th>node<th>supplier<th>placements<th>greatest gap<th>payload and signals\n"
+fixed_text PageEnd = codes "</table>\n</html>\n"

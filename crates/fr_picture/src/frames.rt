@@ -1,7 +1,7 @@
 //! The table of frames: where they are sent, their greatest gaps, and their payloads.
 ghost use Rattle.std.specs.Prelude.{◌≡◌, ◌++◌, OnErr, OnOk, IfOk, IsPermutation};
 ghost use Rattle.std.specs.String.{string_bytes};
-ghost use Rattle.fr_picture.specs.FrameTables.{AreWorstFirst, frame_text, frames_text, gap_word, names_text, number_text, placement_text, placement_text_of, placements_text, urgency};
+ghost use Rattle.fr_picture.specs.FrameTables.{AreWorstFirst, KeepTies, frame_text, frames_text, gap_word, names_text, number_text, placement_text, placement_text_of, placements_text, urgency};
 
 use crate::signals::{DrawnSignal, push_strip};
 use crate::texts::{Fixed, push_fixed};
@@ -23,6 +23,7 @@ pub struct DrawnFrame {
 pub fn worst_first(frames: &mut Vec<DrawnFrame>) -> Result<(), NoMemory>
     ensures same { IsPermutation frames.old.items frames.new.items }
     ensures sorted { OnOk result (AreWorstFirst frames.new.items) }
+    ensures stable { KeepTies frames.old.items frames.new.items }
     ensures err { OnErr result (frames.new.items ≡ frames.old.items) }
 {
     frames.sort_by_key(|frame| urgency(frame.gap))?;

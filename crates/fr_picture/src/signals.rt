@@ -2,8 +2,8 @@
 ghost use Rattle.std.specs.Prelude.{◌≡◌, ℕ, List, ◌+◌, ◌*◌, ◌<◌, ◌≤◌, ◌%◌, ◌^◌, ◌++◌, IsPermutation, OnOk, IfOk, true};
 ghost use Rattle.std.specs.List.{range_with_len};
 ghost use Rattle.std.specs.String.{string_bytes};
-ghost use Rattle.fr_base.specs.Bits.{bits_of, run_big, run_of};
-ghost use Rattle.fr_picture.specs.Strips.{bars_text, bits_in, row_of, run_text, runs_text, signal_text, signals_text, strip_text};
+ghost use Rattle.fr_base.specs.Bits.{run_big, run_of};
+ghost use Rattle.fr_picture.specs.Strips.{HasItsBits, bars_text, bits_in, row_of, run_text, runs_text, signal_text, signals_text, strip_text};
 
 use crate::texts::{Fixed, push_fixed};
 use fr_base::{Name, NoMemory, Order, Signal};
@@ -32,7 +32,7 @@ impl DrawnSignal {
     #[tactic(auto, using(crate::proofs::RunLemmas::signal_bits))]
     pub fn of(alloc: Global, signal: Signal) -> Result<DrawnSignal, NoMemory>
         ensures signal { IfOk result (λ drawn. drawn.signal ≡ signal) }
-        ensures bits { IfOk result (λ drawn. IsPermutation (bits_in drawn.runs.items) (bits_of signal)) }
+        ensures bits { IfOk result HasItsBits }
     {
         let runs = runs_of(alloc, signal.order(), signal.start(), signal.length())?;
         Ok(DrawnSignal { signal, runs })

@@ -1,6 +1,6 @@
 -- Frames that are drawn one after another, their signals, and why there are none.
 use Rattle.std.proofs.Common.{◌≡◌, ℕ, Bool, List, [], ◌∷◌, ◌++◌, Some, Result, Ok, Err, zero, suc, length, map, refl, sym, subst, arith, inl, inr}
-use Rattle.std.specs.List.{slice_get}
+use Rattle.std.specs.List.{All, slice_get}
 use Rattle.std.specs.Prelude.{IsPermutation, Vec}
 use Rattle.std.specs.declared.alloc.Global.{Global}
 use Rattle.fr_base.specs.Book.{Book}
@@ -18,7 +18,8 @@ use Rattle.fr_base.specs.declared.refusal.Refusal.TheVariants.{Unavailable}
 use Rattle.fr_base.specs.declared.request.Request.{Request}
 use Rattle.fr_base.specs.declared.report.Report.TheVariants.{Frames, Gaps, Layout}
 use Rattle.fr_base.specs.declared.request.Request.TheVariants as request
-use Rattle.fr_picture.specs.FrameTables.{AreWorstFirst}
+use Rattle.fr_picture.specs.FrameTables.{AreWorstFirst, KeepTies}
+use Rattle.fr_picture.specs.Strips.{HasItsBits}
 use Rattle.fr_picture.specs.declared.frames.DrawnFrame.{DrawnFrame}
 use Rattle.fr_picture.specs.declared.signals.DrawnSignal.{DrawnSignal}
 use Rattle.fr_plans.specs.Frames.{AreDrawn, AreDrawnOf, AreFrames, AreSignals, IsDrawn, IsOfPlan, MayRefusePlan}
@@ -43,11 +44,11 @@ module _ (c : Cluster) (b : Book) (variant : List ℕ) (row : FrameRow) (gap : G
 module _ (old new : Standing) (variant : List ℕ) (row : FrameRow) (given : Request) (answer : Answer) (alike : given ≡ request.Query variant (Layout row.frame))
     (answered : Answered old new (Supplier row.supplier) given answer) where
   -- the signals of the answer
-  pub signals_read : (all : Bool) (rows : List SignalRow) (signals : List DrawnSignal) → answer ≡ answers.Layout all rows → map (λ s. s.signal) signals ≡ map (λ r. r.signal) rows
+  pub signals_read : (all : Bool) (rows : List SignalRow) (signals : List DrawnSignal) → answer ≡ answers.Layout all rows → map (λ s. s.signal) signals ≡ map (λ r. r.signal) rows → All HasItsBits signals
       → Reads old new (Ok signals) (λ c b signals. AreSignals c b variant row signals) (λ c b e. e ≡ Unavailable)
-  signals_read all rows signals is same c b stood sound =
+  signals_read all rows signals is same bits c b stood sound =
       let r = reported old new (Supplier row.supplier) (request.Query variant (Layout row.frame)) given answers.Layout answer (report_stays variant (Layout row.frame)) alike answered (λ all rows e. cc) all rows rows is refl c b stood sound in
-      (r.0, (r.1.0, rows, r.1.1, same))
+      (r.0, (r.1.0, rows, r.1.1, same, bits))
 
   -- or none
   pub no_signals : (r : Result (List DrawnSignal) Refusal) → r ≡ Err Unavailable → Reads old new r (λ c b signals. AreSignals c b variant row signals) (λ c b e. e ≡ Unavailable)
@@ -79,10 +80,10 @@ module _ (old mid new : Standing) (reader : Actor) (variant : List ℕ) where
   frames_read rows (Err e) reports reads c b stood sound = reads c b (reports c b stood sound).0 sound
 
   -- the gaps were reported, and then the rows drawn with them, and put in order
-  pub drawn_of : (rows : List FrameRow) (gaps : List GapRow) (listed frames : List DrawnFrame) → IsPermutation listed frames → AreWorstFirst frames → Reports old mid reader (request.Query variant Gaps) answers.Gaps (Ok gaps)
+  pub drawn_of : (rows : List FrameRow) (gaps : List GapRow) (listed frames : List DrawnFrame) → IsPermutation listed frames → AreWorstFirst frames → KeepTies listed frames → Reports old mid reader (request.Query variant Gaps) answers.Gaps (Ok gaps)
       → ((c : Cluster) (b : Book) → mid c b → IsSound c b → new c b × AreDrawn c b variant rows gaps listed)
       → (c : Cluster) (b : Book) → old c b → IsSound c b → new c b × AreDrawnOf c b reader variant rows frames
-  drawn_of rows gaps listed frames same ordered reports reads c b stood sound =
+  drawn_of rows gaps listed frames same ordered ties reports reads c b stood sound =
       let told = reports c b stood sound in
       let drawn = reads c b told.0 sound in
-      (drawn.0, (listed, gaps, same, ordered, told.1, drawn.1))
+      (drawn.0, (listed, gaps, same, ordered, ties, told.1, drawn.1))

@@ -1,5 +1,6 @@
 -- Frames: when frames are drawn with the rows, gaps and signals that the reports have. Why a plan may be refused.
 use Rattle.std.specs.Prelude.{◌≡◌, ◌⊎◌, ℕ, Bool, List, [], ◌∷◌, map, Option, IsPermutation, ⊤}
+use Rattle.std.specs.List.{All}
 use Rattle.fr_base.specs.Book.{Book}
 use Rattle.fr_base.specs.Cluster.{Cluster}
 use Rattle.fr_base.specs.declared.actor.Actor.{Actor}
@@ -13,15 +14,17 @@ use Rattle.fr_base.specs.declared.refusal.Refusal.TheVariants.{Unavailable}
 use Rattle.fr_base.specs.declared.request.Request.{Request}
 use Rattle.fr_base.specs.declared.report.Report.TheVariants.{Grants, Frames, Schedule, Gaps, Layout}
 use Rattle.fr_base.specs.declared.request.Request.TheVariants as request
-use Rattle.fr_picture.specs.FrameTables.{AreWorstFirst}
+use Rattle.fr_picture.specs.FrameTables.{AreWorstFirst, KeepTies}
+use Rattle.fr_picture.specs.Strips.{HasItsBits}
 use Rattle.fr_picture.specs.declared.frames.DrawnFrame.{DrawnFrame}
 use Rattle.fr_picture.specs.declared.signals.DrawnSignal.{DrawnSignal}
 use Rattle.fr_plans.specs.Reports.{answer_to}
 
--- The signals are those of the supplier's frame.
+-- The signals are those of the supplier's frame, each drawn with its bits.
 abbrev pub AreSignals : Cluster → Book → List ℕ → FrameRow → List DrawnSignal → Type 0
 AreSignals c b variant row signals = (all : Bool) × (rows : List SignalRow)
     × (answer_to c b (Supplier row.supplier) (request.Query variant (Layout row.frame)) ≡ answer.Layout all rows) × (map (λ s. s.signal) signals ≡ map (λ r. r.signal) rows)
+    × All HasItsBits signals
 
 -- The frame is drawn with this row, this gap, and its signals.
 abbrev pub IsDrawn : Cluster → Book → List ℕ → FrameRow → Option ℕ → DrawnFrame → Type 0
@@ -33,9 +36,11 @@ AreDrawn c b variant [] gaps [] = ⊤
 AreDrawn c b variant (row ∷ rows) (gap ∷ gaps) (frame ∷ frames) = IsDrawn c b variant row gap.gap frame × AreDrawn c b variant rows gaps frames
 AreDrawn c b variant _ _ _ = ⊥
 
--- The rows are drawn with their gaps, of which the reader is told, and their signals, in the order of the page.
+-- The rows are drawn with their gaps, of which the reader is told, and their signals, in the order of the page. Those that are as bad stand as
+-- they are listed.
 abbrev pub AreDrawnOf : Cluster → Book → Actor → List ℕ → List FrameRow → List DrawnFrame → Type 0
 AreDrawnOf c b reader variant rows frames = (listed : List DrawnFrame) × (gaps : List GapRow) × IsPermutation listed frames × AreWorstFirst frames
+    × KeepTies listed frames
     × ((all : Bool) × (answer_to c b reader (request.Query variant Gaps) ≡ answer.Gaps all gaps)) × AreDrawn c b variant rows gaps listed
 
 -- The frames are those of the variant that the reader sees, with their gaps and signals, in the order of the page.

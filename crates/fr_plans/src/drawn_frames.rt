@@ -1,7 +1,8 @@
 //! The frames of a plan, with their gaps and signals.
-ghost use Rattle.std.specs.List.{slice_get};
+ghost use Rattle.std.specs.List.{All, slice_get};
 ghost use Rattle.std.specs.Prelude.{◌≡◌, map, IfOk};
 ghost use Rattle.fr_base.specs.declared.refusal.Refusal.TheVariants.{Unavailable};
+ghost use Rattle.fr_picture.specs.Strips.{HasItsBits};
 ghost use Rattle.fr_plans.specs.Frames.{AreDrawn, AreDrawnOf, AreFrames, AreSignals, IsDrawn, MayRefusePlan};
 ghost use Rattle.fr_plans.specs.Reports.{Reads};
 
@@ -121,7 +122,8 @@ fn draw_signals<D: Desk>(
 
 // The signals of these rows.
 fn drawn(alloc: Global, rows: &[SignalRow]) -> Result<Rows<DrawnSignal>, NoMemory>
-    ensures { IfOk result (λ signals. map (λ s. s.signal) signals ≡ map (λ r. r.signal) rows.now) }
+    ensures signals { IfOk result (λ signals. map (λ s. s.signal) signals ≡ map (λ r. r.signal) rows.now) }
+    ensures bits { IfOk result (λ signals. All HasItsBits signals) }
 {
     let mut signals = Rows::new(alloc);
     for row in rows {

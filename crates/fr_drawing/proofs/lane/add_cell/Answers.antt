@@ -1,5 +1,5 @@
 use Rattle.std.proofs.Common.{refl}
-use Rattle.fr_drawing.proofs.RectangleLemmas.{adds_first, adds_longer, apart_longer, adds_another, apart_another}
+use Rattle.fr_drawing.proofs.RectangleLemmas.{adds_first, adds_longer, apart_longer, filled_longer, adds_another, apart_another}
 use Rattle.fr_drawing.proofs.lane.add_cell.Goals as goal
 
 pub returns-in_default-clause-cells : goal.returns-in_default-clause-cells
@@ -12,6 +12,10 @@ returns-then-meets-clause-cells c =
 pub returns-then-meets-clause-apart : goal.returns-then-meets-clause-apart
 returns-then-meets-clause-apart c =
     apart_longer _ _ _ _ _ c.in-Some.ensures.items c.in_ok-push-2.ensures.items c.longer.ensures.value
+
+pub returns-then-meets-clause-filled : goal.returns-then-meets-clause-filled
+returns-then-meets-clause-filled c =
+    filled_longer _ _ _ _ _ c.in-Some.ensures.items c.in_ok-push-2.ensures.items c.longer.ensures.value
 
 pub returns-clause-cells : goal.returns-clause-cells
 returns-clause-cells c =

@@ -1,6 +1,6 @@
 use Rattle.std.proofs.Common.{◌≡◌, ◌+◌, [], take, vec_len}
 use Rattle.std.specs.List.{All}
-use Rattle.fr_drawing.specs.Lanes.{IsApart, drawn_cells, drawn_grants}
+use Rattle.fr_drawing.specs.Lanes.{IsApart, IsFilled, drawn_cells, drawn_grants}
 use Rattle.fr_drawing.specs.Places.{AreAt, AreHome}
 use Rattle.fr_drawing.proofs.lane.empty_lanes.Given as goal
 
@@ -11,6 +11,7 @@ invariant-loop-column l = record {
   grants : drawn_grants l.lanes.items ≡ [];
   cells : drawn_cells l.lanes.items ≡ [];
   apart : All IsApart l.lanes.items;
+  filled : All IsFilled l.lanes.items;
   at : AreAt l.channels l.shift (take l.column-index l.columns) l.lanes.items;
   home : AreHome 0 l.lanes.items;
 }

@@ -1,5 +1,5 @@
 use Rattle.std.proofs.Common.{◌∙◌, ◌+◌, ap, false}
-use Rattle.fr_drawing.proofs.LaneLemmas.{drawn_grants-more, drawn_cells-more, apart-more, home-more, at-more}
+use Rattle.fr_drawing.proofs.LaneLemmas.{drawn_grants-more, drawn_cells-more, apart-more, filled-more, home-more, at-more}
 use Rattle.fr_drawing.proofs.lane.push_column.Goals as goal
 
 pub returns-clause-grants : goal.returns-clause-grants
@@ -13,6 +13,10 @@ returns-clause-cells c =
 pub returns-clause-apart : goal.returns-clause-apart
 returns-clause-apart c =
     λ h. apart-more _ _ _ c.in_ok-push-2.ensures.items c.new-2.ensures.rectangles (apart-more _ _ _ c.in_ok-push.ensures.items c.new.ensures.rectangles h)
+
+pub returns-clause-filled : goal.returns-clause-filled
+returns-clause-filled c =
+    λ h. filled-more _ _ _ c.in_ok-push-2.ensures.items c.new-2.ensures.rectangles (filled-more _ _ _ c.in_ok-push.ensures.items c.new.ensures.rectangles h)
 
 pub returns-clause-home : goal.returns-clause-home
 returns-clause-home c =

@@ -14,7 +14,7 @@ pub returns-in-Layout-clause-reads : goal.returns-in-Layout-clause-reads
 returns-in-Layout-clause-reads g c = λ clean.
     signals_read (g.D.Desk.stands c.args.desk.now) (g.D.Desk.stands c.ask.new.desk) c.args.variant.now c.args.row.now (request.Query c.in_ok-variant.variant (Layout c.in_ok-frame.frame)) c.ask.result
     (search rules) (c.ask.ensures.answered clean)
-    c.in-Layout.all c.in-Layout.rows c.in_ok-drawn-in-Layout.field-0 c.in-Layout.is (search rules)
+    c.in-Layout.all c.in-Layout.rows c.in_ok-drawn-in-Layout.field-0 c.in-Layout.is (search rules) c.in_ok-drawn-in-Layout.ensures.bits
 
 pub returns : goal.returns
 returns g c = record {
