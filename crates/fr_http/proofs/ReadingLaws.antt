@@ -1,5 +1,5 @@
 -- Laws of what is read of a connection.
-use Rattle.std.proofs.Common.{◌≡◌, ℕ, ◌<◌, ◌≤◌, ◌+◌, List, [], ◌++◌, length, take, map, Some, None, refl, sym, ap, ◌∙◌, subst, arith, append-nil, append_assoc, length-append}
+use Rattle.std.proofs.Common.{◌≡◌, ℕ, ◌<◌, ◌≤◌, ◌+◌, ◌-◌, List, [], ◌++◌, length, take, map, Some, None, refl, sym, ap, ◌∙◌, subst, arith, append-nil, append_assoc, length-append}
 use Rattle.std.proofs.lemmas.List.{take_all, length-map, length-take}
 use Rattle.std.proofs.lemmas.Bool.{le-leb, lt-leb}
 use Rattle.httparse.specs.Grammar.{HasNoRequest, NeverHasRequest, RequestHead, print_request}
@@ -37,6 +37,10 @@ receives bytes fields spans size room within (h, at) =
     let lines : length h.fields ≤ max_fields = omega (arith, sym (length-map (take spans.headers fields) (header_bytes bytes)) ∙ count ∙ length-map h.fields name_and_value, length-take spans.headers fields, room) in
     (h, record { reads = at.reads; size = omega (arith, at.len, within.section.len_fits, size); lines = lines }, received_at bytes fields spans h at)
 
+-- what is read into the room that is left stays within the bound
+pub within_room : (k n : ℕ) (bytes piece : List ℕ) → length bytes ≤ k → length piece ≡ k - length bytes → length (bytes ++ take n piece) ≤ k
+within_room k n bytes piece size room = omega (arith, size, room, length-append bytes (take n piece), length-take n piece)
+
 -- ---- bodies
 
 whole : (n : ℕ) (bytes : List ℕ) → length (take n bytes) < n → take n bytes ≡ bytes
@@ -59,3 +63,10 @@ longer n begun read more body is short room =
     let all : body ≡ begun ++ read = is ∙ whole n (begun ++ read) (subst (λ b. length b < n) is short) in
     let both : body ++ more ≡ begun ++ (read ++ more) = ap (λ b. b ++ more) all ∙ append_assoc begun read more in
     both ∙ sym (take_all n (begun ++ (read ++ more)) (omega (arith, ap length both, length-append body more, room)))
+
+-- no more came than the body still wanted
+pub enough : (n : ℕ) (begun read more body : List ℕ) → body ≡ take n (begun ++ read) → length body < n → length body + length more ≤ n
+    → length (read ++ more) ≤ n - length begun
+enough n begun read more body is short room =
+    let all : body ≡ begun ++ read = is ∙ whole n (begun ++ read) (subst (λ b. length b < n) is short) in
+    omega (arith, room, ap length all, length-append begun read, length-append read more)

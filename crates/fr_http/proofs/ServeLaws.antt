@@ -1,5 +1,5 @@
 -- Laws of a connection's outcome.
-use Rattle.std.proofs.Common.{◌≡◌, ◌≢◌, ℕ, Bool, true, false, List, [], ◌++◌, Option, Some, None, Result, Ok, Err, refl, sym, ap, ◌∙◌, subst, append_assoc, inl, inr, arith}
+use Rattle.std.proofs.Common.{◌≡◌, ℕ, Bool, true, false, List, [], ◌∷◌, ◌++◌, length, ◌≤◌, ◌-◌, Option, Some, None, Result, Ok, Err, refl, sym, ap, ◌∙◌, subst, append_assoc, length-append, inl, inr, arith}
 use Rattle.std.proofs.KnownBytes.{Appends-kept, Appends-nil, Appends-trans, Consumes-trans, Keeps-refl}
 use Rattle.std.specs.Io.KnownBytes.{Appends, Consumes, Keeps}
 use Rattle.httparse.specs.Grammar.{RequestHead}
@@ -16,10 +16,10 @@ use Rattle.fr_http.specs.Reply.{Reply, answer_reply, print}
 use Rattle.fr_http.specs.Replying.{IsReply}
 use Rattle.fr_http.specs.declared.reply.ReplyText.{ReplyText}
 use Rattle.fr_http.specs.declared.serve.Served.{Served}
-use Rattle.fr_http.specs.Connection.{HasAnswered, HasReplied, HasSent, HasTaken, IsConnection, InSound, IsInterim, Takes, is_silent}
-use Rattle.fr_http.specs.Exchanges.{IsExchange, unasked_reply}
-use Rattle.fr_http.specs.Head.{BeginsWith, HeadData, key_of, said}
-use Rattle.fr_http.specs.Outcome.{IsOutcome, Wanted, asked_before, continue_if, due, front, holder, interim, outcome_of, plan_of}
+use Rattle.fr_http.specs.Connection.{AppendsFront, HasAnswered, HasReplied, HasSent, HasTaken, IsConnection, InSound, ReadsNoMore, Takes}
+use Rattle.fr_http.specs.Exchanges.{IsBrokenOff, IsExchange, IsFront, IsInterim, IsUnasked, unasked_reply}
+use Rattle.fr_http.specs.Head.{BeginsWith, HeadData, key_of, max_head, said}
+use Rattle.fr_http.specs.Outcome.{IsOutcome, Wanted, asked_before, continue_if, continue_reply, due, front, holder, interim, outcome_of, plan_of}
 use Rattle.fr_http.specs.Planning.{Plans}
 use Rattle.fr_http.specs.Reading.{HasReceived, LacksBody}
 use Rattle.fr_http.specs.Routes.{method_of, path_of, request_by}
@@ -72,66 +72,71 @@ begins_more bytes more rest h begins = record {
   lines = begins.lines;
 }
 
+-- what is written is the interim reply to this head
+only_interim : (bytes written : List ℕ) (h : RequestHead) (rest : List ℕ) → BeginsWith bytes h rest → written ≡ interim (said h) → IsInterim bytes written
+only_interim bytes [] h rest begins is = tt
+only_interim bytes (w ∷ ws) h rest begins is = (h, rest, begins, is)
+
 -- ---- the ways on which nothing is asked
 
 -- no head was received
 pub received_nothing : (stands : Standing) (input left held : Option (List ℕ)) (unasked : Unasked) → HasReceived input left (Err unasked)
     → HasTaken stands input left held held (Err unasked)
-received_nothing stands input left held (Engine r) (bytes, consumed, fails) = record {
+received_nothing stands input left held (Engine r) (bytes, consumed, fails, size) = record {
   bytes = bytes;
   written = [];
   consumed = consumed;
   appended = Appends-nil held;
-  takes = (inl refl, λ c b s i. inr (record { none = fails.none; unasked = Engine r; fails = fails.fails; asks = refl; interim = refl }));
+  takes = (tt, λ c b s i. inr (record { none = fails.none; unasked = Engine r; fails = fails.fails; asks = refl; interim = refl }));
+  bound = inl size;
 }
-received_nothing stands input left held (Refused refusal) (bytes, consumed, fails) = absurd fails
-received_nothing stands input left held (Fault Truncated) (bytes, consumed, fails) = record {
+received_nothing stands input left held (Refused refusal) (bytes, consumed, fails, size) = absurd fails
+received_nothing stands input left held (Fault Truncated) (bytes, consumed, fails, size) = record {
   bytes = bytes;
   written = [];
   consumed = consumed;
   appended = Appends-nil held;
-  takes = (inl refl, fails.1, λ who. inr (record { none = fails.0.none; unasked = Fault Truncated; fails = fails.0.fails; asks = refl; interim = refl }));
+  takes = (tt, fails.1, λ who. inr (record { none = fails.0.none; unasked = Fault Truncated; fails = fails.0.fails; asks = refl; interim = refl }));
+  bound = inl size;
 }
-received_nothing stands input left held (Fault ReadFailed) (bytes, consumed, fails) = record {
+received_nothing stands input left held (Fault ReadFailed) (bytes, consumed, fails, size) = record {
   bytes = bytes;
   written = [];
   consumed = consumed;
   appended = Appends-nil held;
-  takes = (fails, λ _. inl refl);
+  takes = (fails, tt);
+  bound = inl size;
 }
-received_nothing stands input left held (Fault TooManyReads) (bytes, consumed, fails) = record {
+received_nothing stands input left held (Fault TooManyReads) (bytes, consumed, fails, size) = record {
   bytes = bytes;
   written = [];
   consumed = consumed;
   appended = Appends-nil held;
-  takes = (fails, λ _. inl refl);
+  takes = (fails, tt);
+  bound = inl size;
 }
-received_nothing stands input left held (Fault (WriteFailed asked)) (bytes, consumed, fails) = record {
+received_nothing stands input left held (Fault (WriteFailed asked)) (bytes, consumed, fails, size) = absurd fails
+received_nothing stands input left held (Fault (NoMemory asked)) (bytes, consumed, fails, size) = record {
   bytes = bytes;
   written = [];
   consumed = consumed;
   appended = Appends-nil held;
-  takes = (fails, λ _. inl refl);
-}
-received_nothing stands input left held (Fault (NoMemory asked)) (bytes, consumed, fails) = record {
-  bytes = bytes;
-  written = [];
-  consumed = consumed;
-  appended = Appends-nil held;
-  takes = (fails, λ _. inl refl);
+  takes = (fails, tt);
+  bound = inl size;
 }
 
 -- the engine answers to the head, or memory was wanting
 pub planned_nothing : (stands : Standing) (input left held : Option (List ℕ)) (received : HeadData × List ℕ) (unasked : Unasked) → HasReceived input left (Ok received)
     → Plans received.0 (Err unasked) → HasTaken stands input left held held (Err unasked)
-planned_nothing stands input left held received unasked (bytes, consumed, (h, begins, head)) (inl lacks) = record {
+planned_nothing stands input left held received unasked (bytes, consumed, (h, begins, head), size) (inl lacks) = record {
   bytes = bytes;
   written = [];
   consumed = consumed;
   appended = Appends-nil held;
-  takes = subst (λ u. Takes stands bytes [] left (Err u)) (sym lacks) (refl, λ _. inl refl);
+  takes = subst (λ u. Takes stands bytes [] left (Err u)) (sym lacks) (refl, tt);
+  bound = inl size;
 }
-planned_nothing stands input left held received unasked (bytes, consumed, (h, begins, head)) (inr (r, is, plan)) = record {
+planned_nothing stands input left held received unasked (bytes, consumed, (h, begins, head), size) (inr (r, is, plan)) = record {
   bytes = bytes;
   written = [];
   consumed = consumed;
@@ -139,7 +144,7 @@ planned_nothing stands input left held received unasked (bytes, consumed, (h, be
   takes =
       let plan_h : plan_of (said h) ≡ Err r = ap plan_of (sym head) ∙ plan in
       subst (λ u. Takes stands bytes [] left (Err u)) (sym is) (
-        inl refl,
+        tt,
         λ c b s i.
             inl (record {
               head = h;
@@ -149,9 +154,33 @@ planned_nothing stands input left held received unasked (bytes, consumed, (h, be
               interim = sym (interim_none (said h) r plan_h);
             }),
       );
+  bound = inl size;
+}
+
+-- the interim reply was not written whole
+pub not_invited : (stands : Standing) (input left held now : Option (List ℕ)) (received : HeadData × List ℕ) (w : Wanted) (fault : LinkFault) → HasReceived input left (Ok received)
+    → plan_of received.0 ≡ Ok w → fault ≡ WriteFailed false → due w.length received.0 ≡ true → AppendsFront held now continue_reply
+    → HasTaken stands input left held now (Err (Fault fault))
+not_invited stands input left held now received w fault (bytes, consumed, (h, begins, head), size) plan is is_due (written, front, appended) = record {
+  bytes = bytes;
+  written = written;
+  consumed = consumed;
+  appended = appended;
+  takes = subst (λ f. Takes stands bytes written left (Err (Fault f))) (sym is) (
+    refl,
+    (h, received.1, begins, ap interim (sym head) ∙ interim_planned received.0 w plan ∙ ap continue_if is_due, front),
+  );
+  bound = inl size;
 }
 
 -- ---- behind the head
+
+-- behind the bytes that came with a head no more was read than the body still wants
+no_more : (more bytes : List ℕ) (h : RequestHead) (rest : List ℕ) (w : Wanted) → BeginsWith bytes h rest → plan_of (said h) ≡ Ok w → length bytes ≤ max_head
+    → length more ≤ w.length - length rest → ReadsNoMore (bytes ++ more)
+no_more [] bytes h rest w begins plan size bound = inl (omega (arith, size, length-append bytes []))
+no_more (x ∷ xs) bytes h rest w begins plan size bound =
+    inr (h, rest ++ x ∷ xs, w, begins_more bytes (x ∷ xs) rest h begins, plan, omega (arith, bound, length-append rest (x ∷ xs)))
 
 -- what is known once a body is to be read: the head, what it wants, and what was written
 pub record Invited (input mid held now : Option (List ℕ)) (received : HeadData × List ℕ) (w : Wanted) : Type 0 where
@@ -159,19 +188,27 @@ pub record Invited (input mid held now : Option (List ℕ)) (received : HeadData
   pub plan : plan_of received.0 ≡ Ok w
   pub written : Appends held now (continue_if (due w.length received.0))
 
-abbrev pub Behind : Option (List ℕ) → Option (List ℕ) → List ℕ → Type 0
-Behind mid left more = Consumes mid left more
+-- what was read behind the head and all that came with it: no more than the body still wants
+pub record Behind (mid left : Option (List ℕ)) (received : HeadData × List ℕ) (w : Wanted) (more : List ℕ) : Type 0 where
+  pub consumed : Consumes mid left more
+  pub bound : length more ≤ w.length - length received.1
 
 module _ (stands : Standing) (input mid left held now : Option (List ℕ)) (received : HeadData × List ℕ) (w : Wanted) (more : List ℕ) where
+  reads_no_more : (invited : Invited input mid held now received w) → Behind mid left received w more → ReadsNoMore (invited.has.0 ++ more)
+  reads_no_more invited behind =
+      let (h, begins, head) = invited.has.2 in
+      no_more more invited.has.0 h received.1 w begins (ap plan_of (sym head) ∙ invited.plan) invited.has.3 behind.bound
+
   -- where the outcome with the head and all that came behind it is this one
-  pub by_head : (invited : Invited input mid held now received w) → Behind mid left more → (outcome : Result Asked Unasked)
+  pub by_head : (invited : Invited input mid held now received w) → Behind mid left received w more → (outcome : Result Asked Unasked)
       → Takes stands (invited.has.0 ++ more) (continue_if (due w.length received.0)) left outcome → HasTaken stands input left held now outcome
   by_head invited behind outcome takes = record {
     bytes = invited.has.0 ++ more;
     written = continue_if (due w.length received.0);
-    consumed = Consumes-trans _ _ _ _ _ invited.has.1 behind;
+    consumed = Consumes-trans _ _ _ _ _ invited.has.1 behind.consumed;
     appended = invited.written;
     takes = takes;
+    bound = reads_no_more invited behind;
   }
 
   pub outcome_with : (invited : Invited input mid held now received w) (who : List ℕ → Option Actor) (outcome : Result Asked Unasked)
@@ -189,31 +226,22 @@ module _ (stands : Standing) (input mid left held now : Option (List ℕ)) (rece
   pub is_interim : (invited : Invited input mid held now received w) → IsInterim (invited.has.0 ++ more) (continue_if (due w.length received.0))
   is_interim invited =
       let (h, begins, head) = invited.has.2 in
-      inr (h, received.1 ++ more, begins_more invited.has.0 more received.1 h begins, sym (interim_planned received.0 w invited.plan) ∙ ap interim head)
-
-  -- a fault that says nothing of the bytes
-  pub faulted : (invited : Invited input mid held now received w) → Behind mid left more → (fault : LinkFault) → fault ≢ Truncated → asked_before fault ≡ false
-      → HasTaken stands input left held now (Err (Fault fault))
-  faulted invited behind Truncated other unasked = absurd (other refl)
-  faulted invited behind ReadFailed other unasked = by_head invited behind _ (unasked, λ _. is_interim invited)
-  faulted invited behind TooManyReads other unasked = by_head invited behind _ (unasked, λ _. is_interim invited)
-  faulted invited behind (WriteFailed asked) other unasked = by_head invited behind _ (unasked, λ _. is_interim invited)
-  faulted invited behind (NoMemory asked) other unasked = by_head invited behind _ (unasked, λ _. is_interim invited)
+      only_interim _ _ h (received.1 ++ more) (begins_more invited.has.0 more received.1 h begins) (sym (interim_planned received.0 w invited.plan) ∙ ap interim head)
 
   -- the body is not whole
-  pub no_body : (invited : Invited input mid held now received w) → Behind mid left more → (fault : LinkFault) → LacksBody w.length (received.1 ++ more) left fault
+  pub no_body : (invited : Invited input mid held now received w) → Behind mid left received w more → (fault : LinkFault) → LacksBody w.length (received.1 ++ more) left fault
       → HasTaken stands input left held now (Err (Fault fault))
   no_body invited behind Truncated (none, end) = by_head invited behind _ (is_interim invited, end, λ who. outcome_with invited who _ (cut who received.0 (received.1 ++ more) w invited.plan none))
-  no_body invited behind ReadFailed lacks = faulted invited behind ReadFailed (λ e. grind (arith, e)) lacks
-  no_body invited behind TooManyReads lacks = faulted invited behind TooManyReads (λ e. grind (arith, e)) lacks
-  no_body invited behind (WriteFailed asked) lacks = faulted invited behind (WriteFailed asked) (λ e. grind (arith, e)) lacks
-  no_body invited behind (NoMemory asked) lacks = faulted invited behind (NoMemory asked) (λ e. grind (arith, e)) lacks
+  no_body invited behind ReadFailed lacks = by_head invited behind _ (lacks, is_interim invited)
+  no_body invited behind TooManyReads lacks = by_head invited behind _ (lacks, is_interim invited)
+  no_body invited behind (WriteFailed asked) lacks = absurd lacks
+  no_body invited behind (NoMemory asked) lacks = by_head invited behind _ (lacks, is_interim invited)
 
   -- the request's text is none, or memory was wanting
-  pub no_request : (invited : Invited input mid held now received w) → Behind mid left more → (body : List ℕ) → front w.length (received.1 ++ more) ≡ Some body
+  pub no_request : (invited : Invited input mid held now received w) → Behind mid left received w more → (body : List ℕ) → front w.length (received.1 ++ more) ≡ Some body
       → (unasked : Unasked) → MakesRequest w.route (path_of received.0.target) body (Err unasked) → HasTaken stands input left held now (Err unasked)
   no_request invited behind body there unasked (inl lacks) =
-      subst (λ u. HasTaken stands input left held now (Err u)) (sym lacks) (faulted invited behind (NoMemory false) (λ e. grind (arith, e)) refl)
+      subst (λ u. HasTaken stands input left held now (Err u)) (sym lacks) (by_head invited behind _ (refl, is_interim invited))
   no_request invited behind body there unasked (inr (is, none)) =
       subst (λ u. HasTaken stands input left held now (Err u)) (sym is) (by_head invited behind _ (
         is_interim invited,
@@ -222,7 +250,7 @@ module _ (stands : Standing) (input mid left held now : Option (List ℕ)) (rece
       ))
 
   -- the key is nobody's
-  pub no_actor : (invited : Invited input mid held now received w) → Behind mid left more → (body : List ℕ) → front w.length (received.1 ++ more) ≡ Some body
+  pub no_actor : (invited : Invited input mid held now received w) → Behind mid left received w more → (body : List ℕ) → front w.length (received.1 ++ more) ≡ Some body
       → (request : Request) → request_by w.route (path_of received.0.target) body ≡ Some request → FindsActor stands received.0 None
       → HasTaken stands input left held now (Err (Refused UnknownKey))
   no_actor invited behind body there request made none =
@@ -233,7 +261,7 @@ module _ (stands : Standing) (input mid left held now : Option (List ℕ)) (rece
       )
 
   -- the register is to be asked
-  pub to_ask : (invited : Invited input mid held now received w) → Behind mid left more → (body : List ℕ) → front w.length (received.1 ++ more) ≡ Some body
+  pub to_ask : (invited : Invited input mid held now received w) → Behind mid left received w more → (body : List ℕ) → front w.length (received.1 ++ more) ≡ Some body
       → (request : Request) → request_by w.route (path_of received.0.target) body ≡ Some request → (actor : Actor) → FindsActor stands received.0 (Some actor)
       → HasTaken stands input left held now (Ok (record { ask = record { actor = actor; request = request }; method = method_of w.route }))
   to_ask invited behind body there request made actor found =
@@ -250,11 +278,15 @@ pub replied : {E : Type 0} (reply : Result ReplyText E) (expected : Reply) (aske
     → HasReplied expected asked held now done
 replied (Ok r) expected asked held now (Ok served) is sent none =
     (subst (Appends held now) is.bytes sent.0, sent.1 ∙ is.status, sent.2)
-replied (Ok r) expected asked held now (Err fault) is sent none = inr sent
+replied (Ok r) expected asked held now (Err fault) is (failed, front) none = inr (failed, subst (AppendsFront held now) is.bytes front)
 replied (Err e) expected asked held now done is sent none =
     subst (HasReplied expected asked held now) (sym none.0) (inl (refl, subst (Keeps held) (sym none.1) (Keeps-refl held)))
 
 -- ---- connections
+
+-- a front of a text is one behind another text
+front_behind : (before text front : List ℕ) → IsFront front text → IsFront (before ++ front) (before ++ text)
+front_behind before text front (missing, is) = (missing, ap (λ t. before ++ t) is ∙ sym (append_assoc before front missing))
 
 module _ (clean : Type 0) (old new : Standing) (input left held mid now : Option (List ℕ)) where
   -- the register was asked
@@ -270,14 +302,15 @@ module _ (clean : Type 0) (old new : Standing) (input left held mid now : Option
         (Some (asked, h.answer), last, (h.reply.2, record { before = t.written; outcome = t.takes.1 c b s i; step = run; told = (refl, h.reply.1) }), stands);
     truncated = λ e. grind (arith, e);
     silent = tt;
+    bound = t.bound;
   }
   served_asked asked (Err fault) t h = unanswered h.reply
     where
-      exchanged : (f : LinkFault) (written : List ℕ) → asked_before f ≡ true → clean → InSound old (λ c b. (a : Option (Asked × Answer)) × (last : Book)
+      exchanged : (f : LinkFault) (written : List ℕ) → asked_before f ≡ true → IsBrokenOff f written t.written (answer_reply asked.method h.answer) → clean → InSound old (λ c b. (a : Option (Asked × Answer)) × (last : Book)
           × IsExchange c b (record { read = t.bytes; written = written; done = Err f; asked = a }) last × new c last)
-      exchanged f written before cl c b s i =
+      exchanged f written before broken cl c b s i =
           let (last, run, stands) = h.step cl c b s i in
-          (Some (asked, h.answer), last, (before, record { before = t.written; outcome = t.takes.1 c b s i; step = run; told = tt }), stands)
+          (Some (asked, h.answer), last, (before, record { before = t.written; outcome = t.takes.1 c b s i; step = run; told = broken }), stands)
 
       unanswered : HasReplied (answer_reply asked.method h.answer) true mid now (Err fault) → IsConnection clean old new input left held now (Err fault)
       unanswered (inl (is, keeps)) = subst (λ f. IsConnection clean old new input left held now (Err f)) (sym is) (record {
@@ -285,25 +318,28 @@ module _ (clean : Type 0) (old new : Standing) (input left held mid now : Option
         written = t.written;
         consumed = t.consumed;
         appended = Appends-kept _ _ _ _ t.appended keeps;
-        exchanged = exchanged (NoMemory true) t.written refl;
+        exchanged = exchanged (NoMemory true) t.written refl refl;
         truncated = λ e. grind (arith, e);
         silent = λ _. t.takes.0;
+        bound = t.bound;
       })
-      unanswered (inr (is, (w, appended))) = subst (λ f. IsConnection clean old new input left held now (Err f)) (sym is) (record {
+      unanswered (inr (is, (w, front, appended))) = subst (λ f. IsConnection clean old new input left held now (Err f)) (sym is) (record {
         bytes = t.bytes;
         written = t.written ++ w;
         consumed = t.consumed;
         appended = Appends-trans _ _ _ _ _ t.appended appended;
-        exchanged = exchanged (WriteFailed true) (t.written ++ w) refl;
+        exchanged = exchanged (WriteFailed true) (t.written ++ w) refl (front_behind t.written _ w front);
         truncated = λ e. grind (arith, e);
         silent = λ e. grind (arith, e);
+        bound = t.bound;
       })
 
 module _ (clean : Type 0) (old : Standing) (input left held mid now : Option (List ℕ)) where
   -- nothing was asked, and no reply was written whole
-  not_asked : (bytes written : List ℕ) (fault : LinkFault) → asked_before fault ≡ false → clean → InSound old (λ c b. (a : Option (Asked × Answer)) × (last : Book)
-      × IsExchange c b (record { read = bytes; written = written; done = Err fault; asked = a }) last × old c last)
-  not_asked bytes written fault before cl c b s i = (None, b, (before, (refl, tt)), s)
+  not_asked : (bytes written : List ℕ) (fault : LinkFault) → asked_before fault ≡ false
+      → InSound old (λ c b. IsUnasked c b (record { read = bytes; written = written; done = Err fault; asked = None }) (Err fault)) → clean
+      → InSound old (λ c b. (a : Option (Asked × Answer)) × (last : Book) × IsExchange c b (record { read = bytes; written = written; done = Err fault; asked = a }) last × old c last)
+  not_asked bytes written fault before unasked cl c b s i = (None, b, (before, (refl, unasked c b s i)), s)
 
   -- a reply was to be written without asking
   pub served_unasked : (unasked : Unasked) (reply : Reply) (done : Result Served LinkFault) (t : HasTaken old input left held mid (Err unasked))
@@ -318,37 +354,29 @@ module _ (clean : Type 0) (old : Standing) (input left held mid now : Option (Li
         (None, b, (h.2, (refl, record { before = t.written; unasked = unasked; outcome = outcome c b s i; reply = reply; is_reply = is_reply; told = (refl, h.1) })), s);
     truncated = λ e. grind (arith, e);
     silent = tt;
+    bound = t.bound;
   }
   served_unasked unasked reply (Err fault) t only outcome is_reply (inl (is, keeps)) = subst (λ f. IsConnection clean old old input left held now (Err f)) (sym is) (record {
     bytes = t.bytes;
     written = t.written;
     consumed = t.consumed;
     appended = Appends-kept _ _ _ _ t.appended keeps;
-    exchanged = not_asked t.bytes t.written (NoMemory false) refl;
+    exchanged = not_asked t.bytes t.written (NoMemory false) refl (λ c b s i. only);
     truncated = λ e. grind (arith, e);
     silent = λ _. only;
+    bound = t.bound;
   })
-  served_unasked unasked reply (Err fault) t only outcome is_reply (inr (is, (w, appended))) = subst (λ f. IsConnection clean old old input left held now (Err f)) (sym is) (record {
+  served_unasked unasked reply (Err fault) t only outcome is_reply (inr (is, (w, front, appended))) = subst (λ f. IsConnection clean old old input left held now (Err f)) (sym is) (record {
     bytes = t.bytes;
     written = t.written ++ w;
     consumed = t.consumed;
     appended = Appends-trans _ _ _ _ _ t.appended appended;
-    exchanged = not_asked t.bytes (t.written ++ w) (WriteFailed false) refl;
+    exchanged = not_asked t.bytes (t.written ++ w) (WriteFailed false) refl (λ c b s i.
+        inl (record { before = t.written; unasked = unasked; outcome = outcome c b s i; reply = reply; is_reply = is_reply; told = front_behind t.written _ w front }));
     truncated = λ e. grind (arith, e);
     silent = λ e. grind (arith, e);
+    bound = t.bound;
   })
-
-  other : (fault : LinkFault) (t : HasTaken old input left held mid (Err (Fault fault))) → (asked_before fault ≡ false) × (is_silent fault ≡ true → IsInterim t.bytes t.written)
-      → fault ≢ Truncated → IsConnection clean old old input left held mid (Err fault)
-  other fault t takes differs = record {
-    bytes = t.bytes;
-    written = t.written;
-    consumed = t.consumed;
-    appended = t.appended;
-    exchanged = not_asked t.bytes t.written fault takes.0;
-    truncated = λ e. absurd (differs (grind (arith, e)));
-    silent = takes.1;
-  }
 
   -- a fault came before
   pub served_fault : (fault : LinkFault) → HasTaken old input left held mid (Err (Fault fault)) → IsConnection clean old old input left held mid (Err fault)
@@ -357,11 +385,48 @@ module _ (clean : Type 0) (old : Standing) (input left held mid now : Option (Li
     written = t.written;
     consumed = t.consumed;
     appended = t.appended;
-    exchanged = not_asked t.bytes t.written Truncated refl;
+    exchanged = not_asked t.bytes t.written Truncated refl (λ c b s i. t.takes.0);
     truncated = λ _. (t.takes.1, t.takes.2);
     silent = λ _. t.takes.0;
+    bound = t.bound;
   }
-  served_fault ReadFailed t = other ReadFailed t t.takes (λ e. grind (arith, e))
-  served_fault TooManyReads t = other TooManyReads t t.takes (λ e. grind (arith, e))
-  served_fault (WriteFailed asked) t = other (WriteFailed asked) t t.takes (λ e. grind (arith, e))
-  served_fault (NoMemory asked) t = other (NoMemory asked) t t.takes (λ e. grind (arith, e))
+  served_fault (WriteFailed asked) t = record {
+    bytes = t.bytes;
+    written = t.written;
+    consumed = t.consumed;
+    appended = t.appended;
+    exchanged = not_asked t.bytes t.written (WriteFailed asked) t.takes.0 (λ c b s i. inr t.takes.1);
+    truncated = λ e. grind (arith, e);
+    silent = λ e. grind (arith, e);
+    bound = t.bound;
+  }
+  served_fault ReadFailed t = record {
+    bytes = t.bytes;
+    written = t.written;
+    consumed = t.consumed;
+    appended = t.appended;
+    exchanged = not_asked t.bytes t.written ReadFailed t.takes.0 (λ c b s i. t.takes.1);
+    truncated = λ e. grind (arith, e);
+    silent = λ _. t.takes.1;
+    bound = t.bound;
+  }
+  served_fault TooManyReads t = record {
+    bytes = t.bytes;
+    written = t.written;
+    consumed = t.consumed;
+    appended = t.appended;
+    exchanged = not_asked t.bytes t.written TooManyReads t.takes.0 (λ c b s i. t.takes.1);
+    truncated = λ e. grind (arith, e);
+    silent = λ _. t.takes.1;
+    bound = t.bound;
+  }
+  served_fault (NoMemory asked) t = record {
+    bytes = t.bytes;
+    written = t.written;
+    consumed = t.consumed;
+    appended = t.appended;
+    exchanged = not_asked t.bytes t.written (NoMemory asked) t.takes.0 (λ c b s i. t.takes.1);
+    truncated = λ e. grind (arith, e);
+    silent = λ _. t.takes.1;
+    bound = t.bound;
+  }

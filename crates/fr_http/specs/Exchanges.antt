@@ -1,7 +1,8 @@
 -- Exchange: what happened on a connection: the bytes read and written, and what the register was asked, with its
 -- answer. When that is an exchange with a register from a book, and when a list of them is one after another. Which of
 -- them are one supplier's.
-use Rattle.std.specs.Prelude.{◌≡◌, ℕ, Bool, false, List, [], ◌∷◌, ◌++◌, filter, Option, Some, None, is_some, Result, Ok, Err, IfOk}
+use Rattle.std.specs.Prelude.{◌≡◌, ◌⊎◌, ⊤, ℕ, Bool, false, List, [], ◌∷◌, ◌++◌, filter, Option, Some, None, is_some, Result, Ok, Err, MatchResult}
+use Rattle.httparse.specs.Grammar.{RequestHead}
 use Rattle.fr_base.specs.Actors.{actor_of}
 use Rattle.fr_base.specs.Alone.{is_mine}
 use Rattle.fr_base.specs.Book.{Book}
@@ -10,10 +11,12 @@ use Rattle.fr_base.specs.Run.{IsRun}
 use Rattle.fr_base.specs.declared.answer.Answer.{Answer}
 use Rattle.fr_base.specs.declared.answer.Answer.TheVariants as answer
 use Rattle.fr_base.specs.declared.name.Name.{Name}
-use Rattle.fr_http.specs.Outcome.{IsOutcome, asked_before}
+use Rattle.fr_http.specs.Head.{BeginsWith, said}
+use Rattle.fr_http.specs.Outcome.{IsOutcome, asked_before, continue_reply, interim}
 use Rattle.fr_http.specs.Reply.{Reply, answer_reply, engine_reply, print}
 use Rattle.fr_http.specs.declared.asked.Asked.{Asked}
 use Rattle.fr_http.specs.declared.fault.LinkFault.{LinkFault}
+use Rattle.fr_http.specs.declared.fault.LinkFault.TheVariants.{WriteFailed}
 use Rattle.fr_http.specs.declared.fault.Unasked.{Unasked}
 use Rattle.fr_http.specs.declared.fault.Unasked.TheVariants.{Engine, Refused, Fault}
 use Rattle.fr_http.specs.declared.method.Method.TheVariants.{Post}
@@ -40,9 +43,20 @@ unasked_reply (Engine rejection) = Some (engine_reply rejection)
 unasked_reply (Refused refusal) = Some (answer_reply Post (answer.Refused refusal))
 unasked_reply (Fault fault) = None
 
--- Where the connection was served this was written before the body was read, and then the reply, whose status was told.
+-- The text begins so.
+abbrev pub IsFront : List ℕ → List ℕ → Type 0
+IsFront front text = (missing : List ℕ) × (text ≡ front ++ missing)
+
+-- A fault came. Where a write failed, a front of the interim reply and the reply was written. Else the interim reply alone was.
+abbrev pub IsBrokenOff : LinkFault → List ℕ → List ℕ → Reply → Type 0
+IsBrokenOff (WriteFailed _) written before reply = IsFront written (before ++ print reply)
+IsBrokenOff _ written before reply = written ≡ before
+
+-- Where the connection was served, this interim reply was written and then the reply, whose status was told. Else they were broken off.
 abbrev pub IsTold : Exchange → List ℕ → Reply → Type 0
-IsTold x before reply = IfOk x.done (λ served. (x.written ≡ before ++ print reply) × (served.status ≡ reply.status))
+IsTold x before reply = MatchResult x.done
+    (λ served. (x.written ≡ before ++ print reply) × (served.status ≡ reply.status))
+    (λ fault. IsBrokenOff fault x.written before reply)
 
 -- From this book the bytes read ask this. The register answered so by one step, to the last book, and that was the reply.
 pub record IsAnswered (c : Cluster) (b : Book) (x : Exchange) (asked : Asked) (answer : Answer) (last : Book) : Type 0 where
@@ -60,10 +74,27 @@ pub record IsReplied (c : Cluster) (b : Book) (x : Exchange) : Type 0 where
   pub is_reply : unasked_reply unasked ≡ Some reply
   pub told : IsTold x before reply
 
+-- Nothing but an interim reply that is due was written.
+abbrev pub IsInterim : List ℕ → List ℕ → Type 0
+IsInterim bytes [] = ⊤
+IsInterim bytes (w ∷ ws) = (h : RequestHead) × (rest : List ℕ) × BeginsWith bytes h rest × (w ∷ ws ≡ interim (said h))
+
+-- An interim reply is due, and a front of it was written.
+abbrev pub IsInterimFront : List ℕ → List ℕ → Type 0
+IsInterimFront bytes written =
+    (h : RequestHead) × (rest : List ℕ) × BeginsWith bytes h rest × (interim (said h) ≡ continue_reply) × IsFront written continue_reply
+
+-- Nothing was asked, by how the connection ended. Where it was served, there was a reply. Where a write failed, that was a write of the reply,
+-- or of the interim reply. Where another fault came, no more than the interim reply was written.
+abbrev pub IsUnasked : Cluster → Book → Exchange → Result Served LinkFault → Type 0
+IsUnasked c b x (Ok _) = IsReplied c b x
+IsUnasked c b x (Err (WriteFailed _)) = IsReplied c b x ⊎ IsInterimFront x.read x.written
+IsUnasked c b x (Err _) = IsInterim x.read x.written
+
 -- The register was asked, and answered; or it was not, and the book stays.
 abbrev pub Asks : Cluster → Book → Exchange → Option (Asked × Answer) → Book → Type 0
 Asks c b x (Some (asked, answer)) last = IsAnswered c b x asked answer last
-Asks c b x None last = (last ≡ b) × IfOk x.done (λ _. IsReplied c b x)
+Asks c b x None last = (last ≡ b) × IsUnasked c b x x.done
 
 -- From this book a connection may be served so, and then the book is the last.
 abbrev pub IsExchange : Cluster → Book → Exchange → Book → Type 0

@@ -73,7 +73,7 @@ continue_reply = codes "HTTP/1.1 100 Continue\r\n\r\n"
 abbrev pub continue_if : Bool → List ℕ
 continue_if due = if due then continue_reply else []
 
--- what is written before the body is read
+-- the interim reply that is due, by what a head asks for
 abbrev pub interim_to : Result Wanted Rejection → HeadData → List ℕ
 interim_to (Ok wanted) head = continue_if (due wanted.length head)
 interim_to (Err _) head = []
@@ -120,7 +120,7 @@ HeadFails bytes (Engine HeadTooLarge) = (max_head ≤ length bytes) ⊎ RequestE
 HeadFails bytes (Fault Truncated) = length bytes < max_head
 HeadFails bytes _ = ⊥
 
--- The bytes have this outcome by the head with which they begin, before which this was written.
+-- The bytes have this outcome by the head with which they begin, and this interim reply.
 pub record HeadOutcome (who : List ℕ → Option Actor) (bytes written : List ℕ) (outcome : Result Asked Unasked) : Type 0 where
   pub head : RequestHead
   pub rest : List ℕ
@@ -128,7 +128,7 @@ pub record HeadOutcome (who : List ℕ → Option Actor) (bytes written : List �
   pub asks : outcome ≡ outcome_of who (said head) rest
   pub interim : written ≡ interim (said head)
 
--- The bytes have this outcome without a head.
+-- The bytes have this outcome without a head, and no interim reply.
 pub record NoHeadOutcome (bytes written : List ℕ) (outcome : Result Asked Unasked) : Type 0 where
   pub none : HasNoHead bytes
   pub unasked : Unasked
@@ -136,6 +136,6 @@ pub record NoHeadOutcome (bytes written : List ℕ) (outcome : Result Asked Unas
   pub asks : outcome ≡ Err unasked
   pub interim : written ≡ []
 
--- The bytes of a connection have this outcome, before which this was written.
+-- The bytes of a connection have this outcome, and this interim reply.
 abbrev pub IsOutcome : (List ℕ → Option Actor) → List ℕ → List ℕ → Result Asked Unasked → Type 0
 IsOutcome who bytes written outcome = HeadOutcome who bytes written outcome ⊎ NoHeadOutcome bytes written outcome

@@ -1,12 +1,12 @@
 -- What is known of the bytes that were read, on the way to an outcome: whether a head came, and a whole body.
 use Rattle.std.specs.Global.{Vec}
-use Rattle.std.specs.Prelude.{ℕ, ◌≡◌, false, List, ◌++◌, Option, Some, None, Result, MatchResult}
+use Rattle.std.specs.Prelude.{ℕ, ◌≡◌, ◌≤◌, ◌-◌, false, List, ◌++◌, length, Option, Some, None, Result, MatchResult}
 use Rattle.std.specs.Io.KnownBytes.{Consumes, IsAtEnd}
 use Rattle.httparse.specs.Grammar.{RequestHead}
-use Rattle.fr_http.specs.Head.{BeginsWith, HasNoHead, HeadData, said}
+use Rattle.fr_http.specs.Head.{BeginsWith, HasNoHead, HeadData, max_head, said}
 use Rattle.fr_http.specs.Outcome.{HeadFails, asked_before, front}
 use Rattle.fr_http.specs.declared.fault.LinkFault.{LinkFault}
-use Rattle.fr_http.specs.declared.fault.LinkFault.TheVariants.{Truncated}
+use Rattle.fr_http.specs.declared.fault.LinkFault.TheVariants.{Truncated, WriteFailed}
 use Rattle.fr_http.specs.declared.fault.Unasked.{Unasked}
 use Rattle.fr_http.specs.declared.fault.Unasked.TheVariants.{Engine, Refused, Fault}
 
@@ -25,18 +25,22 @@ abbrev pub FailsToReceive : List ℕ → Option (List ℕ) → Unasked → Type 
 FailsToReceive bytes left (Engine rejection) = Fails bytes (Engine rejection)
 FailsToReceive bytes left (Refused _) = ⊥
 FailsToReceive bytes left (Fault Truncated) = Fails bytes (Fault Truncated) × IsAtEnd left
+FailsToReceive bytes left (Fault (WriteFailed _)) = ⊥
 FailsToReceive bytes left (Fault fault) = asked_before fault ≡ false
 
--- What was read of the input, by whether a head was received.
+-- What was read of the input, by whether a head was received: no more than a head may have.
 abbrev pub HasReceived : Option (List ℕ) → Option (List ℕ) → Result (HeadData × List ℕ) Unasked → Type 0
 HasReceived input left result = (bytes : List ℕ) × Consumes input left bytes × MatchResult result (Receives bytes) (FailsToReceive bytes left)
+    × (length bytes ≤ max_head)
 
 -- There is no whole body: the bytes are cut short, and the input ended; or a fault came that says nothing of them.
 abbrev pub LacksBody : ℕ → List ℕ → Option (List ℕ) → LinkFault → Type 0
 LacksBody n bytes left Truncated = (front n bytes ≡ None) × IsAtEnd left
+LacksBody n bytes left (WriteFailed _) = ⊥
 LacksBody n bytes left fault = asked_before fault ≡ false
 
--- What was read of the input behind these bytes, by whether the body was whole.
+-- What was read of the input behind these bytes, by whether the body was whole: no more than the body still wants.
 abbrev pub HasBody : ℕ → List ℕ → Option (List ℕ) → Option (List ℕ) → Result (Vec ℕ) LinkFault → Type 0
 HasBody n begun input left result = (bytes : List ℕ) × Consumes input left bytes
     × MatchResult result (λ body. front n (begun ++ bytes) ≡ Some body.items) (LacksBody n (begun ++ bytes) left)
+    × (length bytes ≤ n - length begun)

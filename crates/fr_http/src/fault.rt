@@ -5,7 +5,7 @@ use fr_base::{NoMemory, Refusal};
 /// What the engine answers itself.
 #[derive(Clone, Copy, PartialEq, Eq)]
 pub enum Rejection {
-    /// The bytes are no head and can't become one, or the body's length is no number.
+    /// The bytes are no head and can't become one; or the body's length is no number, or two fields have it.
     BadRequest,
     /// The path has no route.
     NotFound,
@@ -21,7 +21,7 @@ pub enum Rejection {
     NotImplemented,
 }
 
-/// Why a connection had no final reply, or not a whole one. `asked` says whether the register was asked.
+/// Why a connection had no final reply, or may not have a whole one. `asked` says whether the register was asked.
 #[derive(Clone, Copy, Debug, PartialEq, Eq)]
 pub enum LinkFault {
     /// The input ended before a whole request had come.
@@ -30,7 +30,8 @@ pub enum LinkFault {
     ReadFailed,
     /// The request did not come in as many reads as the bound.
     TooManyReads,
-    /// A write failed, took nothing of a piece that is not empty, or was interrupted too often.
+    /// A write failed, took nothing of a piece that is not empty, or was interrupted too often; or a flush
+    /// failed, after all was written.
     WriteFailed { asked: bool },
     /// There was no memory for the request, or for the final reply.
     NoMemory { asked: bool },

@@ -39,6 +39,9 @@ impl<'a, R: Read> Input<'a, R> {
         ensures fault { IfErr result (λ fault. (fault ≡ LinkFault.ReadFailed) ⊎ (fault ≡ LinkFault.TooManyReads)) }
         ensures spent { IsErrOf result LinkFault.TooManyReads → self.new.reads ≡ 0 }
         ensures reads { self.new.reads ≤ self.old.reads }
+
+        // A read that succeeds counts.
+        ensures counted { IfOk result (λ _. self.new.reads < self.old.reads) }
         ensures same { self.new.reader.ghost_name ≡ self.old.reader.ghost_name }
     {
         while self.reads > 0 {

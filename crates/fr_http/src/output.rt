@@ -9,7 +9,7 @@ use std::io::{Error, ErrorKind, Write};
 pub const WRITE_RETRIES: u32 = 1_000;
 
 /// A text was not written whole: a write failed, took nothing of a piece that is not empty, or was
-/// interrupted when no retry was left.
+/// interrupted when no retry was left. Or a flush failed, after all was written.
 #[derive(Clone, Copy, Debug, PartialEq, Eq)]
 pub struct WriteFailed;
 

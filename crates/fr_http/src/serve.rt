@@ -1,10 +1,10 @@
 //! Serves one connection: what it asks is taken, the register asked, the reply written.
-ghost use Rattle.std.specs.Prelude.{◌≡◌, ℕ, List, Err, IfOk, IfErr, OnOk, OnErr, false};
+ghost use Rattle.std.specs.Prelude.{◌≡◌, ◌≤◌, Err, IfOk, IfErr, OnOk, OnErr, true, false};
 ghost use Rattle.std.specs.List.{list_any};
 ghost use Rattle.std.specs.Io.KnownBytes.{Appends};
-ghost use Rattle.fr_http.specs.Connection.{HasAnswered, HasSent, HasTaken, IsConnection};
+ghost use Rattle.fr_http.specs.Connection.{AppendsFront, HasAnswered, HasSent, HasTaken, IsConnection};
 ghost use Rattle.fr_http.specs.Exchanges.{was_asked};
-ghost use Rattle.fr_http.specs.Outcome.{continue_if, due, is_continue};
+ghost use Rattle.fr_http.specs.Outcome.{continue_if, continue_reply, due, is_continue};
 
 use crate::asked::Asked;
 use crate::asking::{actor, request};
@@ -59,6 +59,7 @@ fn serve<R: Read, W: Write, D: Desk>(
         (W.contents output.old.writer.now) (W.contents output.new.writer.now) result }
     ensures stays { was_asked result ≡ false → desk.new ≡ desk.old }
     ensures same_input { input.new.reader.ghost_name ≡ input.old.reader.ghost_name }
+    ensures retries { output.new.retries ≤ output.old.retries }
     ensures same_output { output.new.writer.ghost_name ≡ output.old.writer.ghost_name }
 {
     match take(alloc, input, output, desk) {
@@ -83,6 +84,7 @@ fn take<R: Read, W: Write, D: Desk>(
     ensures taken { HasTaken (D.stands desk.now) (R.remaining input.old.reader.now) (R.remaining input.new.reader.now)
         (W.contents output.old.writer.now) (W.contents output.new.writer.now) result }
     ensures same_input { input.new.reader.ghost_name ≡ input.old.reader.ghost_name }
+    ensures retries { output.new.retries ≤ output.old.retries }
     ensures same_output { output.new.writer.ghost_name ≡ output.old.writer.ghost_name }
 {
     let received = receive(alloc, input)?;
@@ -105,8 +107,9 @@ fn invite<W: Write>(
 ) -> Result<(), LinkFault>
     ensures ok { OnOk result (Appends
         (W.contents output.old.writer.now) (W.contents output.new.writer.now) (continue_if (due plan.now.length received.now.0))) }
-    ensures err { IfErr result (λ fault. (fault ≡ LinkFault.WriteFailed false)
-        × ((written : List ℕ) × Appends (W.contents output.old.writer.now) (W.contents output.new.writer.now) written)) }
+    ensures err { IfErr result (λ fault. (fault ≡ LinkFault.WriteFailed false) × (due plan.now.length received.now.0 ≡ true)
+        × AppendsFront (W.contents output.old.writer.now) (W.contents output.new.writer.now) continue_reply) }
+    ensures retries { output.new.retries ≤ output.old.retries }
     ensures same { output.new.writer.ghost_name ≡ output.old.writer.ghost_name }
 {
     if is_due(received, plan.length) {
@@ -147,6 +150,7 @@ fn answer<W: Write, D: Desk>(
     ensures falls { D.clean desk.new → D.clean desk.old }
     ensures answered { HasAnswered (D.clean desk.new) (D.stands desk.old) (D.stands desk.new) asked.now
         (W.contents output.old.writer.now) (W.contents output.new.writer.now) result }
+    ensures retries { output.new.retries ≤ output.old.retries }
     ensures same { output.new.writer.ghost_name ≡ output.old.writer.ghost_name }
 {
     let answer = desk.ask(alloc, &asked.ask);
@@ -161,6 +165,7 @@ fn send<W: Write>(
 ) -> Result<Served, LinkFault>
     ensures sent { IfOk reply (λ r. HasSent r asked (W.contents output.old.writer.now) (W.contents output.new.writer.now) result) }
     ensures none { OnErr reply ((result ≡ Err (LinkFault.NoMemory asked)) × (W.contents output.new.writer.now ≡ W.contents output.old.writer.now)) }
+    ensures retries { output.new.retries ≤ output.old.retries }
     ensures same { output.new.writer.ghost_name ≡ output.old.writer.ghost_name }
 {
     let reply = reply.map_err(|_| LinkFault::NoMemory { asked })?;
@@ -175,7 +180,8 @@ fn send<W: Write>(
 fn write<W: Write>(bytes: &[u8], output: &mut Output<'_, W>, asked: bool) -> Result<(), LinkFault>
     ensures ok { OnOk result (Appends (W.contents output.old.writer.now) (W.contents output.new.writer.now) bytes.now) }
     ensures err { IfErr result (λ fault. (fault ≡ LinkFault.WriteFailed asked)
-        × ((written : List ℕ) × Appends (W.contents output.old.writer.now) (W.contents output.new.writer.now) written)) }
+        × AppendsFront (W.contents output.old.writer.now) (W.contents output.new.writer.now) bytes.now) }
+    ensures retries { output.new.retries ≤ output.old.retries }
     ensures same { output.new.writer.ghost_name ≡ output.old.writer.ghost_name }
 {
     match write_out(bytes, output) {
@@ -187,7 +193,8 @@ fn write<W: Write>(bytes: &[u8], output: &mut Output<'_, W>, asked: bool) -> Res
 // Writes all the bytes, and hands them on.
 fn write_out<W: Write>(bytes: &[u8], output: &mut Output<'_, W>) -> Result<(), WriteFailed>
     ensures ok { OnOk result (Appends (W.contents output.old.writer.now) (W.contents output.new.writer.now) bytes.now) }
-    ensures err { OnErr result ((written : List ℕ) × Appends (W.contents output.old.writer.now) (W.contents output.new.writer.now) written) }
+    ensures err { OnErr result (AppendsFront (W.contents output.old.writer.now) (W.contents output.new.writer.now) bytes.now) }
+    ensures retries { output.new.retries ≤ output.old.retries }
     ensures same { output.new.writer.ghost_name ≡ output.old.writer.ghost_name }
 {
     output.write_all(bytes)?;

@@ -1,7 +1,7 @@
 use Rattle.std.proofs.Common.{rules, ◌≡◌, ◌<◌, ◌≤◌, ◌+◌, ◌++◌, ap, ◌∙◌, take, length}
 use Rattle.std.proofs.lemmas.List.{take-append-le}
 use Rattle.std.proofs.KnownBytes.{Consumes-trans}
-use Rattle.fr_http.proofs.ReadingLaws.{longer}
+use Rattle.fr_http.proofs.ReadingLaws.{enough, longer}
 use Rattle.fr_http.proofs.body.read_body.Goals as goal
 
 pub loop-piece-preserved : goal.loop-piece-preserved
@@ -18,11 +18,17 @@ loop-piece-preserved g c =
       read = l.invariant.read ++ more;
       consumed = Consumes-trans _ _ _ _ _ l.invariant.consumed c.in_ok-n.ensures.bytes;
       front = items ∙ longer c.args.length c.args.begun.now l.invariant.read more l.body.items l.invariant.front short room;
+      few = enough c.args.length c.args.begun.now l.invariant.read more l.body.items l.invariant.front short room;
     }
 
 pub returns-in_err-extend_from_slice-2-clause-body : goal.returns-in_err-extend_from_slice-2-clause-body
-returns-in_err-extend_from_slice-2-clause-body g c = (
-  c.loop-piece.invariant.read ++ take c.in_ok-n.n c.read.new.piece,
-  Consumes-trans _ _ _ _ _ c.loop-piece.invariant.consumed c.in_ok-n.ensures.bytes,
-  search rules,
-)
+returns-in_err-extend_from_slice-2-clause-body g c =
+    let l = c.loop-piece in
+    let more = take c.in_ok-n.n c.read.new.piece in
+    let short : length l.body.items < c.args.length = search rules in
+    let room : length l.body.items + length more ≤ c.args.length = search rules in (
+      l.invariant.read ++ more,
+      Consumes-trans _ _ _ _ _ l.invariant.consumed c.in_ok-n.ensures.bytes,
+      search rules,
+      enough c.args.length c.args.begun.now l.invariant.read more l.body.items l.invariant.front short room,
+    )

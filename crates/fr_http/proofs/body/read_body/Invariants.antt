@@ -1,5 +1,5 @@
 -- The body so far is what came of it.
-use Rattle.std.proofs.Common.{◌≡◌, ◌≤◌, ◌-◌, ◌++◌, List, ℕ, take, vec_len}
+use Rattle.std.proofs.Common.{◌≡◌, ◌≤◌, ◌-◌, ◌++◌, List, ℕ, length, take, vec_len}
 use Rattle.std.specs.Io.KnownBytes.{Consumes}
 use Rattle.fr_http.proofs.body.read_body.Given as goal
 
@@ -10,6 +10,7 @@ invariant-loop-piece g l = record {
   read : List ℕ;
   consumed : Consumes (g.R.Read.remaining l.initial.input.reader.now) (g.R.Read.remaining l.input.reader.now) read;
   front : l.body.items ≡ take l.length (l.begun ++ read);
+  few : length read ≤ l.length - length l.begun;
 }
 
 abbrev pub decreases-loop-piece : goal.decreases-loop-piece

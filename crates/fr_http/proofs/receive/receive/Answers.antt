@@ -1,11 +1,11 @@
-use Rattle.std.proofs.Common.{rules, ◌≡◌, ◌≤◌, ◌++◌, refl, sym, ap, ◌∙◌, subst, take, length, inr}
+use Rattle.std.proofs.Common.{rules, ◌≡◌, ◌≤◌, ◌-◌, ◌++◌, refl, sym, ap, ◌∙◌, subst, take, length, inr}
 use Rattle.std.proofs.KnownBytes.{Consumes-trans}
 use Rattle.std.proofs.lemmas.List.{take-append-le}
 use Rattle.std.specs.Io.KnownBytes.{Consumes}
-use Rattle.httparse.specs.Grammar.{HasNoRequest}
+use Rattle.httparse.specs.Grammar.{HasNoRequest, NeverHasRequest}
 use Rattle.httparse.specs.Spans.{IsRequestOf, IsRequestWithin, RequestExceeds, RequestOverflows}
 use Rattle.fr_http.specs.Reading.{Receives}
-use Rattle.fr_http.proofs.ReadingLaws.{crowded_head, no_request_at_first, receives}
+use Rattle.fr_http.proofs.ReadingLaws.{crowded_head, never_head, no_request_at_first, receives, within_room}
 use Rattle.fr_http.proofs.receive.receive.Goals as goal
 
 pub loop-fields-init : goal.loop-fields-init
@@ -33,14 +33,34 @@ returns-in-Ok-Complete-clause-received g c =
     let of : IsRequestOf seen fields spans = search (rules, c.in-Ok-Complete.ensures.complete) in
     let size : length bytes ≤ 8192 = search rules in
     let room : length fields ≡ 64 = search rules in
-    (bytes, subst (Consumes _ _) (sym items) before, subst (Receives bytes) (sym c.new.ensures) (receives bytes fields spans size room (subst (λ b. IsRequestWithin b fields spans) same within) (subst (λ b. IsRequestOf b fields spans) same of)))
+    (bytes, subst (Consumes _ _) (sym items) before, subst (Receives bytes) (sym c.new.ensures) (receives bytes fields spans size room (subst (λ b. IsRequestWithin b fields spans) same within) (subst (λ b. IsRequestOf b fields spans) same of)), size)
 
 pub returns-in_err-extend_from_slice-clause-received : goal.returns-in_err-extend_from_slice-clause-received
-returns-in_err-extend_from_slice-clause-received g c = (
-  c.loop-fields.bytes.items ++ take c.in_ok-n.n c.read.new.piece,
-  Consumes-trans _ _ _ _ _ c.loop-fields.invariant.consumed c.in_ok-n.ensures.bytes,
-  search rules,
-)
+returns-in_err-extend_from_slice-clause-received g c =
+    let l = c.loop-fields in
+    let size : length l.bytes.items ≤ 8192 = search rules in
+    let room : length c.read.new.piece ≡ 8192 - length l.bytes.items = search rules in (
+      l.bytes.items ++ take c.in_ok-n.n c.read.new.piece,
+      Consumes-trans _ _ _ _ _ l.invariant.consumed c.in_ok-n.ensures.bytes,
+      search rules,
+      within_room 8192 c.in_ok-n.n l.bytes.items c.read.new.piece size room,
+    )
+
+pub returns-in-Err : goal.returns-in-Err
+returns-in-Err g c =
+    let l = c.loop-fields in
+    let bytes = c.extend_from_slice.new.self.items in
+    let more = take c.in_ok-n.n c.read.new.piece in
+    let items : bytes ≡ l.bytes.items ++ more = c.in_ok-extend_from_slice.ensures.items ∙ ap (λ t. l.bytes.items ++ t) (take-append-le c.in_ok-n.n c.read.new.piece _ c.in_ok-n.ensures.bound) in
+    let before : Consumes (g.R.Read.remaining c.args.input.now.reader.now) (g.R.Read.remaining c.read.new.self.reader.now) (l.bytes.items ++ more) =
+    Consumes-trans _ _ _ _ _ l.invariant.consumed c.in_ok-n.ensures.bytes in
+    let seen : NeverHasRequest c.deref.result.now = search rules in
+    let never : NeverHasRequest bytes = subst NeverHasRequest c.deref.ensures.value seen in
+    let size : length bytes ≤ 8192 = search rules in
+    record {
+      received = (bytes, subst (Consumes _ _) (sym items) before, record { none = never_head bytes never; fails = never }, size);
+      same = c.in_ok-n.ensures.same ∙ l.invariant.same;
+    }
 
 pub returns-in-Err-TooManyHeaders-clause-received : goal.returns-in-Err-TooManyHeaders-clause-received
 returns-in-Err-TooManyHeaders-clause-received g c =
@@ -54,4 +74,5 @@ returns-in-Err-TooManyHeaders-clause-received g c =
     let over : RequestOverflows 64 bytes = subst (λ b. RequestOverflows 64 b) same (subst (λ k. RequestOverflows k c.deref.result.now) l.invariant.room c.in-Err-TooManyHeaders.ensures.no_room) in
     let many : RequestExceeds (length l.fields) c.deref.result.now = search (rules, c.in-Err-TooManyHeaders.ensures.too_many) in
     let exceeds : RequestExceeds 64 bytes = subst (λ b. RequestExceeds 64 b) same (subst (λ k. RequestExceeds k c.deref.result.now) l.invariant.room many) in
-    (bytes, subst (Consumes _ _) (sym items) before, record { none = crowded_head bytes over; fails = inr exceeds })
+    let size : length bytes ≤ 8192 = search rules in
+    (bytes, subst (Consumes _ _) (sym items) before, record { none = crowded_head bytes over; fails = inr exceeds }, size)

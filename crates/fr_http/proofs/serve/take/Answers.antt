@@ -1,4 +1,4 @@
-use Rattle.std.proofs.Common.{rules, ◌≡◌, ◌++◌, Err, Ok, None, Some, sym, subst, ap, ◌∙◌}
+use Rattle.std.proofs.Common.{rules, ◌≡◌, ◌++◌, Err, Ok, None, Some, sym, length, ◌≤◌, ◌-◌, subst, ap, ◌∙◌}
 use Rattle.fr_base.specs.declared.refusal.Refusal.TheVariants.{UnknownKey}
 use Rattle.fr_http.specs.Asking.{FindsActor, MakesRequest}
 use Rattle.fr_http.specs.Connection.{HasTaken}
@@ -6,7 +6,7 @@ use Rattle.fr_http.specs.Outcome.{Wanted, front}
 use Rattle.fr_http.specs.Reading.{LacksBody}
 use Rattle.fr_http.specs.Routes.{path_of, request_by}
 use Rattle.fr_http.specs.declared.fault.Unasked.TheVariants.{Fault, Refused}
-use Rattle.fr_http.proofs.ServeLaws.{no_actor, no_body, no_request, planned_nothing, received_nothing, to_ask}
+use Rattle.fr_http.proofs.ServeLaws.{no_actor, no_body, no_request, not_invited, planned_nothing, received_nothing, to_ask}
 use Rattle.fr_http.proofs.serve.take.Goals as goal
 
 pub returns-in_err-received-clause-taken : goal.returns-in_err-received-clause-taken
@@ -21,6 +21,16 @@ returns-in_err-plan-clause-taken g c =
     let is : c.from_residual-in_err-plan.result ≡ Err unasked = search rules in
     subst (HasTaken _ _ _ _ _) (sym is) (planned_nothing _ _ _ _ c.in_ok-received.received unasked c.in_ok-received.ensures.received c.in_err-plan.ensures)
 
+pub returns-in_err-invite-clause-taken : goal.returns-in_err-invite-clause-taken
+returns-in_err-invite-clause-taken g c =
+    let received = c.in_ok-received.received in
+    let plan = c.in_ok-plan.plan in
+    let w : Wanted = record { route = plan.route; length = plan.length } in
+    let fault = c.in_err-invite.field-0.0 in
+    let is : c.from_residual-in_err-invite.result ≡ Err (Fault fault) = search rules in
+    let (failed, is_due, front) = c.in_err-invite.ensures.err in
+    subst (HasTaken _ _ _ _ _) (sym is) (not_invited _ _ _ _ _ received w fault c.in_ok-received.ensures.received c.in_ok-plan.ensures.0 failed is_due front)
+
 pub returns-in_err-body-clause-taken : goal.returns-in_err-body-clause-taken
 returns-in_err-body-clause-taken g c =
     let received = c.in_ok-received.received in
@@ -28,10 +38,10 @@ returns-in_err-body-clause-taken g c =
     let w : Wanted = record { route = plan.route; length = plan.length } in
     let fault = c.in_err-body.field-0.0 in
     let is : c.from_residual-in_err-body.result ≡ Err (Fault fault) = search rules in
-    let (more, consumed, lacks) = c.in_err-body.ensures.body in
+    let (more, consumed, lacks, few) = c.in_err-body.ensures.body in
     let left = g.R.Read.remaining c.read_body.new.input.reader.now in
     subst (HasTaken _ _ _ _ _) (sym is) (
-    no_body _ _ _ left _ _ received w more (record { has = c.in_ok-received.ensures.received; plan = c.in_ok-plan.ensures.0; written = c.in_ok-invite.ensures.ok }) consumed fault
+    no_body _ _ _ left _ _ received w more (record { has = c.in_ok-received.ensures.received; plan = c.in_ok-plan.ensures.0; written = c.in_ok-invite.ensures.ok }) (record { consumed = consumed; bound = subst (λ r. length more ≤ plan.length - length r) c.rest.ensures few }) fault
     (subst (λ r. LacksBody plan.length (r ++ more) left fault) c.rest.ensures lacks)
     )
 
@@ -42,13 +52,13 @@ returns-in_err-request-clause-taken g c =
     let w : Wanted = record { route = plan.route; length = plan.length } in
     let unasked = c.in_err-request.field-0.0 in
     let is : c.from_residual-in_err-request.result ≡ Err unasked = search rules in
-    let (more, consumed, there) = c.in_ok-body.ensures.body in
+    let (more, consumed, there, few) = c.in_ok-body.ensures.body in
     let body = c.in_ok-body.body.items in
     let makes : MakesRequest plan.route (path_of received.0.target) body (Err unasked) =
     subst (λ b. MakesRequest plan.route (path_of received.0.target) b (Err unasked)) c.deref.ensures.value
     (subst (λ p. MakesRequest plan.route p c.deref.result.now (Err unasked)) c.in_ok-plan.ensures.1 c.in_err-request.ensures) in
     subst (HasTaken _ _ _ _ _) (sym is) (
-    no_request _ _ _ _ _ _ received w more (record { has = c.in_ok-received.ensures.received; plan = c.in_ok-plan.ensures.0; written = c.in_ok-invite.ensures.ok }) consumed body
+    no_request _ _ _ _ _ _ received w more (record { has = c.in_ok-received.ensures.received; plan = c.in_ok-plan.ensures.0; written = c.in_ok-invite.ensures.ok }) (record { consumed = consumed; bound = subst (λ r. length more ≤ plan.length - length r) c.rest.ensures few }) body
     (subst (λ r. front plan.length (r ++ more) ≡ Some body) c.rest.ensures there) unasked makes
     )
 
@@ -58,14 +68,14 @@ returns-in_err-actor-clause-taken g c =
     let plan = c.in_ok-plan.plan in
     let w : Wanted = record { route = plan.route; length = plan.length } in
     let is : c.from_residual-in_err-actor.result ≡ Err (Refused UnknownKey) = search rules in
-    let (more, consumed, there) = c.in_ok-body.ensures.body in
+    let (more, consumed, there, few) = c.in_ok-body.ensures.body in
     let body = c.in_ok-body.body.items in
     let request = c.in_ok-request.request in
     let makes : request_by plan.route (path_of received.0.target) body ≡ Some request =
     ap (λ p. request_by plan.route p body) (sym c.in_ok-plan.ensures.1) ∙ ap (request_by plan.route plan.path.now) (sym c.deref.ensures.value) ∙ c.in_ok-request.ensures in
     let nobody : c.actor.result ≡ None = search rules in
     subst (HasTaken _ _ _ _ _) (sym is) (
-    no_actor _ _ _ _ _ _ received w more (record { has = c.in_ok-received.ensures.received; plan = c.in_ok-plan.ensures.0; written = c.in_ok-invite.ensures.ok }) consumed body
+    no_actor _ _ _ _ _ _ received w more (record { has = c.in_ok-received.ensures.received; plan = c.in_ok-plan.ensures.0; written = c.in_ok-invite.ensures.ok }) (record { consumed = consumed; bound = subst (λ r. length more ≤ plan.length - length r) c.rest.ensures few }) body
     (subst (λ r. front plan.length (r ++ more) ≡ Some body) c.rest.ensures there) request makes (subst (FindsActor _ received.0) nobody c.actor.ensures)
     )
 
@@ -74,7 +84,7 @@ returns-clause-taken g c =
     let received = c.in_ok-received.received in
     let plan = c.in_ok-plan.plan in
     let w : Wanted = record { route = plan.route; length = plan.length } in
-    let (more, consumed, there) = c.in_ok-body.ensures.body in
+    let (more, consumed, there, few) = c.in_ok-body.ensures.body in
     let body = c.in_ok-body.body.items in
     let request = c.in_ok-request.request in
     let actor = c.in_ok-actor.actor in
@@ -83,6 +93,6 @@ returns-clause-taken g c =
     let found : c.actor.result ≡ Some actor = search rules in
     subst (λ m. HasTaken (g.D.Desk.stands c.args.desk.now) (g.R.Read.remaining c.args.input.now.reader.now) (g.R.Read.remaining c.read_body.new.input.reader.now)
     (g.W.Write.contents c.args.output.now.writer.now) (g.W.Write.contents c.invite.new.output.writer.now) (Ok (record { ask = record { actor = actor; request = request }; method = m }))) (sym c.method.ensures) (
-    to_ask _ _ _ _ _ _ received w more (record { has = c.in_ok-received.ensures.received; plan = c.in_ok-plan.ensures.0; written = c.in_ok-invite.ensures.ok }) consumed body
+    to_ask _ _ _ _ _ _ received w more (record { has = c.in_ok-received.ensures.received; plan = c.in_ok-plan.ensures.0; written = c.in_ok-invite.ensures.ok }) (record { consumed = consumed; bound = subst (λ r. length more ≤ plan.length - length r) c.rest.ensures few }) body
     (subst (λ r. front plan.length (r ++ more) ≡ Some body) c.rest.ensures there) request makes actor (subst (FindsActor _ received.0) found c.actor.ensures)
     )

@@ -1,0 +1,12 @@
+use Rattle.std.proofs.Common.{rules, drop, sym, take}
+use Rattle.std.proofs.lemmas.List.{take-append-drop}
+use Rattle.fr_http.specs.Connection.{AppendsFront}
+use Rattle.fr_http.proofs.serve.write_out.Goals as goal
+
+pub returns-in_err-write_all-clause-err : goal.returns-in_err-write_all-clause-err
+returns-in_err-write_all-clause-err g c =
+    let bytes = c.args.bytes.now in
+    let (n, short, appended) = c.in_err-write_all.ensures.err in
+    let front : AppendsFront (g.W.Write.contents c.args.output.now.writer.now) (g.W.Write.contents c.write_all.new.self.writer.now) bytes =
+    (take n bytes, (drop n bytes, sym (take-append-drop n bytes)), appended) in
+    search (rules, front)
