@@ -1,6 +1,7 @@
 -- Left, found: as long as nobody else writes to the files, those that are left hold a book, and so does whatever a
--- crash leaves of them. What is found stands for the book that the files held. What is opened is what was left, or what
--- a crash leaves of it. Why files are not migrated, and that files still hold the database that they held.
+-- crash leaves of them. What is found stands for the book that the files held, and is a register that was in them. What
+-- is opened is what was left, or what a crash leaves of it. Why files are not migrated, and that files still hold the
+-- database that they held.
 use Rattle.std.specs.Prelude.{◌≡◌, ◌⊎◌, List, ⊤}
 use Rattle.sqlite.specs.Effect.{Database, IsDatabase}
 use Rattle.sqlite.specs.Files.{HoldsDatabase, image_of}
@@ -13,12 +14,12 @@ use Rattle.sqlite_wal.specs.Files.{outcomes}
 use Rattle.sqlite_wal.specs.Reads.{AreClean}
 use Rattle.sqlite_wal.specs.Recovery.{Image}
 use Rattle.fr_base.specs.Book.{Book}
-use Rattle.fr_base.specs.Cluster.{Cluster}
+use Rattle.fr_base.specs.Cluster.{Cluster, ClusterFile}
 use Rattle.fr_records.specs.Held.{Leaving, Standing}
 use Rattle.fr_store.specs.Crashes.{HoldsOne}
 use Rattle.fr_store.specs.Opening.{RefusesFiles}
-use Rattle.fr_store.specs.Store.{IsRegisterFor}
-use Rattle.fr_store.specs.StoreFiles.{HoldsBook, IsHeld, database_of, image_left}
+use Rattle.fr_store.specs.Store.{IsRegisterFor, IsRegisterOf}
+use Rattle.fr_store.specs.StoreFiles.{HoldsBook, IsFound, IsHeld, database_of, image_left}
 use Rattle.fr_store.specs.declared.fault.StoreFault.{StoreFault}
 use Rattle.fr_tables.specs.Asking.{old_schema_number}
 
@@ -52,6 +53,11 @@ FindsHeld held clean stands = clean → (c : Cluster) (b : Book) → Held held c
 -- So where all that is known of what they held is that its tables stood for the book.
 abbrev pub FindsLeft : Image → Type 0 → Standing → Type 0
 FindsLeft held clean stands = clean → (c : Cluster) (b : Book) (db : Trees) → HoldsDatabase held db → IsRegisterFor c b (database_of db) → stands c b
+
+-- What is found in files that are opened is a register of some cluster. Where the desk stands for a cluster and a book, so do its tables.
+abbrev pub FindsRegister : Image → Type 0 → Standing → Type 0
+FindsRegister held clean stands =
+    clean → (f : ClusterFile) × (db : Database) × IsFound held db × IsRegisterOf f db × ((c : Cluster) (b : Book) → stands c b → IsRegisterFor c b db)
 
 -- What a crash leaves of files that were given up is a register that it would have left before.
 abbrev pub AreGivenUp : {D : Type 0} → Ghosts D → Leaving → Files D → Type 0

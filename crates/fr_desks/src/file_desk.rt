@@ -2,9 +2,9 @@
 ghost use Rattle.std.specs.Prelude.{◌≡◌, ◌≢◌, ◌⊎◌, IfErr, IfOk, IfSome, None};
 ghost use Rattle.fr_base.specs.Book.{Book, opening};
 ghost use Rattle.fr_base.specs.Cluster.{Cluster};
-ghost use Rattle.fr_desks.specs.FileDesk.{BarsMigration, FindsHeld, FindsLeft, HoldStill, IsLeftWith, LeavesBook};
+ghost use Rattle.fr_desks.specs.FileDesk.{BarsMigration, FindsHeld, FindsLeft, FindsRegister, HoldStill, IsLeftWith, LeavesBook};
 ghost use Rattle.fr_store.specs.Before.{HoldsBookBefore};
-ghost use Rattle.fr_store.specs.Opening.{Explains, ExplainsFiles, ForbidsFiles, Refuses};
+ghost use Rattle.fr_store.specs.Opening.{AllowsCreation, AllowsMigration, Explains, ExplainsFiles, ForbidsFiles, Refuses};
 ghost use Rattle.fr_store.specs.Store.{MayForbid};
 ghost use Rattle.fr_store.specs.StoreFiles.{HoldsBook, image_left};
 ghost use Rattle.fr_store.specs.declared.fault.StoreFault.TheVariants.{NotARegister, NotEmpty, Unavailable, WrongSchema};
@@ -40,6 +40,7 @@ pub fn create<S: Start>(
     start: S,
 ) -> Result<Files<FileFrom<S>>, FileFault<S>>
     ensures book { IfOk result (λ files. LeavesBook ⟦<FileFrom<S> as Disk>⟧ files config.now.cluster (opening config.now)) }
+    ensures bare { IfOk result (λ files. AreClean ⟦<FileFrom<S> as Disk>⟧ files.log files.db → AllowsCreation (image_at S.Start)) }
     ensures told { IfErr result (λ e. IfSome e.1 (λ left. IsCleanLeft left → (d : _) → IsDatabase d → HoldsDatabase (image_at S.Start) d.trees → MayForbid d.schema e.0)) }
     ensures cause { IfErr result (λ e. IfSome e.1 (λ left. IsCleanLeft left → ForbidsFiles (image_at S.Start) e.0)) }
     ensures untouched { IfErr result (λ e. e.0 ≡ NotEmpty → IfSome e.1 (λ left. IsCleanLeft left → HoldStill (image_at S.Start) left)) }
@@ -61,6 +62,7 @@ fn new_desk<S: Start>(
     start: S,
 ) -> Result<FileDesk<S>, FileFault<S>>
     ensures stands { IfOk result (λ desk. ⟦<FileDesk<S> as Desk>⟧.clean desk → ⟦<FileDesk<S> as Desk>⟧.stands desk config.now.cluster (opening config.now)) }
+    ensures bare { IfOk result (λ desk. ⟦<FileDesk<S> as Desk>⟧.clean desk → AllowsCreation (image_at S.Start)) }
     ensures told { IfErr result (λ e. IfSome e.1 (λ left. IsCleanLeft left → (d : _) → IsDatabase d → HoldsDatabase (image_at S.Start) d.trees → MayForbid d.schema e.0)) }
     ensures cause { IfErr result (λ e. IfSome e.1 (λ left. IsCleanLeft left → ForbidsFiles (image_at S.Start) e.0)) }
     ensures untouched { IfErr result (λ e. e.0 ≡ NotEmpty → IfSome e.1 (λ left. IsCleanLeft left → HoldStill (image_at S.Start) left)) }
@@ -83,6 +85,7 @@ pub fn migrate<S: Start>(
     start: S,
 ) -> Result<Leftover<FileFrom<S>>, FileFault<S>>
     ensures migrated { IfOk result (λ left. IsCleanLeft left → (c : Cluster) (b : Book) → HoldsBookBefore c b (image_at S.Start) → HoldsBook c b (image_left left)) }
+    ensures ready { IfOk result (λ left. IsCleanLeft left → AllowsMigration (image_at S.Start)) }
     ensures told { IfErr result (λ e. IfSome e.1 (λ left. IsCleanLeft left → (d : _) → IsDatabase d → HoldsDatabase (image_at S.Start) d.trees → Refuses old_schema_number d e.0)) }
     ensures cause { IfErr result (λ e. IfSome e.1 (λ left. IsCleanLeft left → BarsMigration (image_at S.Start) e.0)) }
     ensures known { IfErr result (λ e. IfSome e.1 (λ left. IsCleanLeft left → (c : Cluster) (b : Book) → HoldsBookBefore c b (image_at S.Start) → e.0 ≡ Unavailable)) }
@@ -104,6 +107,7 @@ pub fn migrate<S: Start>(
 pub fn open<S: Start>(rt: &HostRuntime, path: &str, start: S) -> Result<FileDesk<S>, FileFault<S>>
     ensures found { IfOk result (λ desk. FindsHeld (image_at S.Start) (⟦<FileDesk<S> as Desk>⟧.clean desk) (⟦<FileDesk<S> as Desk>⟧.stands desk)) }
     ensures left { IfOk result (λ desk. FindsLeft (image_at S.Start) (⟦<FileDesk<S> as Desk>⟧.clean desk) (⟦<FileDesk<S> as Desk>⟧.stands desk)) }
+    ensures reads { IfOk result (λ desk. FindsRegister (image_at S.Start) (⟦<FileDesk<S> as Desk>⟧.clean desk) (⟦<FileDesk<S> as Desk>⟧.stands desk)) }
     ensures serves { IfOk result (λ desk. ⟦<FileDesk<S> as Desk>⟧.clean desk → ⟦<Store<FileStore<FileFrom<S>>> as Records>⟧.serves desk.records) }
     ensures told { IfErr result (λ e. IfSome e.1 (λ left. IsCleanLeft left → (d : _) → IsDatabase d → HoldsDatabase (image_at S.Start) d.trees → Explains d e.0)) }
     ensures cause { IfErr result (λ e. IfSome e.1 (λ left. IsCleanLeft left → ExplainsFiles (image_at S.Start) e.0)) }
@@ -121,8 +125,8 @@ pub fn open<S: Start>(rt: &HostRuntime, path: &str, start: S) -> Result<FileDesk
     }
 }
 
-/// Closes the register, and gives what is left of the files: they hold its book, the database file alone.
-/// Where they fail to close, a log stays beside the file, which every SQLite reads along: so nothing is lost.
+/// Closes the register, and gives what is left of the files. Where they close, they hold its book as long as nobody else
+/// writes to them, and so does what a crash leaves of them. Where they fail to close, nothing is said of what they hold.
 pub fn close<S: Start>(desk: FileDesk<S>) -> Leftover<FileFrom<S>>
     ensures clean { IsCleanLeft result → ⟦<FileDesk<S> as Desk>⟧.clean desk }
     ensures book { (c : Cluster) (b : Book) → ⟦<FileDesk<S> as Desk>⟧.stands desk c b → IsLeftWith result c b }

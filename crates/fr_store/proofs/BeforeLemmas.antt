@@ -1,5 +1,5 @@
 -- What a migration makes of a register of the schema before.
-use Rattle.std.proofs.Common.{◌≡◌, ◌∙◌, pos, List, [], ◌∷◌, map, filter, inl, inr, arith, Result, Ok, Err, OnErr, IfErr, IsTrue, refl, sym, ap, subst}
+use Rattle.std.proofs.Common.{◌≡◌, ◌∙◌, pos, List, [], ◌∷◌, map, filter, inl, inr, arith, Result, Ok, Err, OnOk, OnErr, IfErr, IsTrue, refl, sym, ap, subst}
 use Rattle.sqlite.specs.Order.{Row}
 use Rattle.sqlite.specs.Effect.{Database, IsDatabase}
 use Rattle.sqlite.specs.Files.{HoldsDatabase}
@@ -13,7 +13,7 @@ use Rattle.fr_base.specs.Book.{Book}
 use Rattle.fr_base.specs.declared.key.Key.{Key}
 use Rattle.fr_base.specs.declared.params.RawParams.{RawParams}
 use Rattle.fr_tables.specs.Rows.{RegisterRow, ClusterRow}
-use Rattle.fr_tables.specs.Tables.{Tables, HasOldTables, AreOrderedBefore, tables_in}
+use Rattle.fr_tables.specs.Tables.{Tables, HasOldTables, HasSomeTables, AreOrderedBefore, tables_in}
 use Rattle.fr_tables.specs.Schema.{old_schema}
 use Rattle.fr_tables.proofs.TypedLemmas.{has_before}
 use Rattle.fr_tables.specs.Changes.{Changes, Stays, AreListed, tables_of}
@@ -23,11 +23,11 @@ use Rattle.fr_tables.specs.Making.{IsRenewed}
 use Rattle.fr_store.specs.Applying.{GoesOn}
 use Rattle.fr_store.specs.Owning.{IsStoredSo}
 use Rattle.fr_store.specs.Before.{StoodFor, StandsBefore, HoldsBookBefore, LeavesMigrated, HasOldIfBefore, database_before, moved}
-use Rattle.fr_store.specs.Opening.{Refuses}
+use Rattle.fr_store.specs.Opening.{AllowsMigration, Refuses}
 use Rattle.fr_store.specs.Reading.{Stands}
 use Rattle.fr_store.specs.StandsFor.{StandsFor}
 use Rattle.fr_store.specs.Store.{IsRegisterFor}
-use Rattle.fr_store.specs.StoreFiles.{IsHeld, HoldsBook}
+use Rattle.fr_store.specs.StoreFiles.{IsFound, IsHeld, HoldsBook}
 use Rattle.fr_store.specs.declared.fault.StoreFault.{StoreFault}
 use Rattle.fr_store.specs.declared.fault.StoreFault.TheVariants.{Unavailable}
 use Rattle.fr_store.proofs.AgainLemmas.{holds_book, refused_alone, refused_alone_files}
@@ -159,6 +159,10 @@ pub on_error : {X E P : Type 0} (r : Result X E) → P → OnErr r P
 on_error (Ok x) h = tt
 on_error (Err e) h = h
 
+pub on_ok : {X E P : Type 0} (r : Result X E) → P → OnOk r P
+on_ok (Ok x) h = h
+on_ok (Err e) h = tt
+
 -- the fault that is handed on
 pub same_fault : {X : Type 0} (r : Result X StoreFault) (e : StoreFault) → r ≡ Err e → e ≡ Unavailable → IfErr r (λ f. f ≡ Unavailable)
 same_fault r e is h = subst (λ r. IfErr r (λ f. f ≡ Unavailable)) (sym is) h
@@ -205,3 +209,10 @@ found_before image s c b sound holds h = held_before image s c b h (found_databa
 -- tables in order, of the schema before, are such as its version writes
 pub old_if_before : (s : State) → IsDatabase s.now → (s.now.schema ≡ old_schema → AreOrderedBefore s.now.trees) → HasOldIfBefore s.now
 old_if_before s sound ordered schema = has_before s.now sound schema (ordered schema)
+
+-- such tables, found in files, are those of a register of the schema before by the number too that they say
+pub allowed_opened : (image : Image) (s : State) → IsFound image s.now → (s.now.schema ≡ old_schema → AreOrderedBefore s.now.trees) → s.now.schema ≡ old_schema → (HasSomeTables s.now → HasNumber s.now old_schema_number)
+    → AllowsMigration image
+allowed_opened image s found ordered schema number =
+    let has = old_if_before s found.sound ordered schema in
+    (s.now, found, has, number (inr has))

@@ -1,12 +1,13 @@
 -- Opening: why a database is not opened or not migrated, whatever its schema. Why files are not, and why no register is
--- made in them, whatever they hold.
-use Rattle.std.specs.Prelude.{◌≢◌, ◌⊎◌, ℤ, IsTrue, ⊤}
+-- made in them, whatever they hold. What is found in files that are migrated, or in which a register is made.
+use Rattle.std.specs.Prelude.{◌≡◌, ◌≢◌, ◌⊎◌, ℤ, IsTrue, ⊤}
 use Rattle.sqlite.specs.Effect.{Database}
 use Rattle.sqlite.specs.Files.{HoldsDatabase}
 use Rattle.sqlite.specs.Tree.{Trees}
 use Rattle.sqlite_wal.specs.Recovery.{Image}
-use Rattle.fr_tables.specs.Tables.{HasSomeTables}
-use Rattle.fr_tables.specs.Asking.{our_schema_number, HasNumber, SaysNumber, SaysNoNumber}
+use Rattle.fr_tables.specs.Schema.{schema_of}
+use Rattle.fr_tables.specs.Tables.{HasOldTables, HasSomeTables}
+use Rattle.fr_tables.specs.Asking.{our_schema_number, old_schema_number, HasNumber, SaysNumber, SaysNoNumber}
 use Rattle.fr_store.specs.Store.{has_table}
 use Rattle.fr_store.specs.StoreFiles.{IsFound}
 use Rattle.fr_store.specs.declared.fault.StoreFault.{StoreFault}
@@ -34,9 +35,17 @@ RefusesFiles wanted image Unavailable = ⊤
 abbrev pub ExplainsFiles : Image → StoreFault → Type 0
 ExplainsFiles = RefusesFiles our_schema_number
 
+-- What is found in files that are migrated: the tables of the schema before, which say the number of that schema.
+abbrev pub AllowsMigration : Image → Type 0
+AllowsMigration image = (db : Database) × IsFound image db × HasOldTables db × HasNumber db old_schema_number
+
 -- why no register is made in files, whatever they hold
 abbrev pub ForbidsFiles : Image → StoreFault → Type 0
 ForbidsFiles image NotEmpty = (db : Database) × IsFound image db × IsTrue (has_table db.schema)
 ForbidsFiles image NotARegister = ⊥
 ForbidsFiles image WrongSchema = ⊥
 ForbidsFiles image Unavailable = ⊤
+
+-- What is found in files in which a register is made: a database with no table, no index and no view.
+abbrev pub AllowsCreation : Image → Type 0
+AllowsCreation image = (db : Database) × IsFound image db × (db.schema ≡ schema_of 0 0)

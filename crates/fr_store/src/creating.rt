@@ -107,6 +107,7 @@ impl<S: Alter + Drop> Store<S> {
         ensures open { IfOk result (λ s. HasCleanDisk (state S.Store s.conn) → IsTrue (state S.Store s.conn).is_open) }
         ensures durable { IfOk result (λ s. HasCleanDisk (state S.Store s.conn) → LeavesOnly (state S.Store s.conn) config.now.cluster (opening config.now ∷ [])) }
         ensures config { IfOk result (λ s. s.config ≡ config.now) }
+        ensures bare { IfOk result (λ _. (state S.Store conn).now.schema ≡ schema_of 0 0) }
         ensures outside { IfOk result (λ s. s.conn.in_transaction ≡ false) }
         ensures survives { IfOk result (λ s. Survives (state S.Store conn) (state S.Store s.conn) (λ db. IsRegisterFor config.now.cluster (opening config.now) (database_of db))) }
         ensures told { IfErr result (λ e. Forbids (state S.Store conn).now.schema e.0) }

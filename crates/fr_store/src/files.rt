@@ -8,7 +8,7 @@ ghost use Rattle.sqlite.specs.State.{HasCleanDisk, Opens, IsLive};
 ghost use Rattle.sqlite.specs.Files.{file_state, image_of, HoldsDatabase};
 ghost use Rattle.fr_base.specs.Book.{opening};
 ghost use Rattle.fr_tables.specs.Schema.{register_schema, old_schema};
-ghost use Rattle.fr_store.specs.Opening.{Explains, ExplainsFiles, ForbidsFiles};
+ghost use Rattle.fr_store.specs.Opening.{AllowsCreation, Explains, ExplainsFiles, ForbidsFiles};
 ghost use Rattle.fr_tables.specs.Changes.{tables_of};
 ghost use Rattle.fr_store.specs.Reading.{Stands, TellsOpened};
 ghost use Rattle.fr_tables.specs.Tables.{AreOrdered, AreOrderedBefore};
@@ -90,8 +90,7 @@ impl<D: Disk + Drop> Store<FileStore<D>> {
         }
     }
 
-    /// Gives the files back as they are, with nothing written. What a crash leaves of them holds a register that it
-    /// might have left before.
+    /// Gives the files back as they are. What a crash leaves of them holds a register that it might have left before.
     pub fn give_up(self) -> Files<D>
         ensures left { AreClean D.Disk result.log result.db → (image : _) → outcomes D.Disk result.log result.db image → (c : _) (books : _)
             → LeavesOnly (file_state self.conn) c books → ∥ HoldsOne c books image ∥₁ }
@@ -116,6 +115,7 @@ impl<D: Disk + Drop> Store<FileStore<D>> {
         ensures open { IfOk result (λ s. HasCleanDisk (file_state s.conn) → IsTrue (file_state s.conn).is_open) }
         ensures durable { IfOk result (λ s. HasCleanDisk (file_state s.conn) → LeavesOnly (file_state s.conn) config.now.cluster (opening config.now ∷ [])) }
         ensures config { IfOk result (λ s. s.config ≡ config.now) }
+        ensures bare { IfOk result (λ s. HasCleanDisk (file_state s.conn) → AllowsCreation (image_of D.Disk files)) }
         ensures honest { IfOk result (λ s. HasCleanDisk (file_state s.conn) → AreClean D.Disk files.log files.db) }
         ensures outside { IfOk result (λ s. s.conn.in_transaction ≡ false) }
         ensures survives { IfOk result (λ s. SurvivesSince (image_of D.Disk files) s.conn (λ db. IsRegisterFor config.now.cluster (opening config.now) (database_of db))) }
@@ -157,6 +157,7 @@ impl<D: Disk + Drop> Store<FileStore<D>> {
             → ((file_state s.conn).now ≡ database_of db) × ((file_state s.conn).committed ≡ database_of db)) }
         ensures committed { IfOk result (λ s. HasCleanDisk (file_state s.conn) → (file_state s.conn).committed ≡ (file_state s.conn).now) }
         ensures serves { IfOk result (λ s. HasCleanDisk (file_state s.conn) → Serves (file_state s.conn)) }
+        ensures reads { IfOk result (λ s. HasCleanDisk (file_state s.conn) → IsFound (image_of D.Disk files) (file_state s.conn).now) }
         ensures variants { IfOk result (λ s. HasCleanDisk (file_state s.conn) → TellsOpened (tables_of (file_state s.conn))) }
         ensures again { IfOk result (λ s. HasCleanDisk (file_state s.conn) → FindsBook (image_of D.Disk files) (file_state s.conn) s.config) }
         ensures left { IfOk result (λ s. HasCleanDisk (file_state s.conn) → FindsLeft (image_of D.Disk files) (file_state s.conn) s.config) }

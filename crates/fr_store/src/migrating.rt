@@ -3,9 +3,9 @@
 ghost use Rattle.std.specs.Prelude.{◌≡◌, ◌≢◌, IfErr, OnErr, OnOk, false};
 ghost use Rattle.sqlite.specs.State.{HasCleanDisk, IsUnchanged, Survives};
 ghost use Rattle.sqlite.specs.Held.{state};
-ghost use Rattle.fr_tables.specs.Asking.{AreAsBefore, old_schema_number};
+ghost use Rattle.fr_tables.specs.Asking.{AreAsBefore, HasNumber, old_schema_number};
 ghost use Rattle.fr_tables.specs.Schema.{old_schema};
-ghost use Rattle.fr_tables.specs.Tables.{HasOldTables};
+ghost use Rattle.fr_tables.specs.Tables.{HasOldTables, HasSomeTables};
 ghost use Rattle.fr_store.specs.Applying.{StaysInside};
 ghost use Rattle.fr_store.specs.Before.{StandsBefore, MovesCluster, Migrates, KeepsBefore, LeavesMigrated, HasOldIfBefore};
 ghost use Rattle.fr_store.specs.Opening.{Refuses};
@@ -97,6 +97,7 @@ pub fn migrate_on<S: Alter>(alloc: Global, conn: &mut Connection<S>) -> Result<(
     ensures migrated { HasCleanDisk (state S.Store conn.new) → (c : _) (b : _) → StandsBefore (state S.Store conn.old) c b → OnOk result (Stands (state S.Store conn.new) c b) }
     ensures committed { HasCleanDisk (state S.Store conn.new) → OnOk result ((state S.Store conn.new).committed ≡ (state S.Store conn.new).now) }
     ensures before { OnOk result ((state S.Store conn.old).now.schema ≡ old_schema) }
+    ensures numbered { HasCleanDisk (state S.Store conn.new) → OnOk result (HasSomeTables (state S.Store conn.old).now → HasNumber (state S.Store conn.old).now old_schema_number) }
     ensures told { HasCleanDisk (state S.Store conn.new) → IfErr result (Refuses old_schema_number (state S.Store conn.old).now) }
     ensures known { HasCleanDisk (state S.Store conn.new) → (c : _) (b : _) → StandsBefore (state S.Store conn.old) c b → IfErr result (λ e. e ≡ fault.Unavailable) }
     ensures not_made { IfErr result (λ e. e ≢ fault.NotEmpty) }

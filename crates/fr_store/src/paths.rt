@@ -7,7 +7,7 @@ ghost use Rattle.sqlite.specs.Effect.{IsDatabase};
 ghost use Rattle.sqlite.specs.Files.{file_state, HoldsDatabase, IsCleanLeft};
 ghost use Rattle.fr_base.specs.Book.{opening};
 ghost use Rattle.fr_store.specs.Crashes.{LeavesOnly, Serves};
-ghost use Rattle.fr_store.specs.Opening.{Explains, ExplainsFiles, ForbidsFiles};
+ghost use Rattle.fr_store.specs.Opening.{AllowsCreation, Explains, ExplainsFiles, ForbidsFiles};
 ghost use Rattle.fr_tables.specs.Changes.{tables_of};
 ghost use Rattle.fr_store.specs.Reading.{Stands, TellsOpened};
 ghost use Rattle.fr_tables.specs.Schema.{register_schema, old_schema};
@@ -69,6 +69,7 @@ impl<S: Start> Store<FileStore<FileFrom<S>>> {
         ensures open { IfOk result (λ s. HasCleanDisk (file_state s.conn) → IsTrue (file_state s.conn).is_open) }
         ensures durable { IfOk result (λ s. HasCleanDisk (file_state s.conn) → LeavesOnly (file_state s.conn) config.now.cluster (opening config.now ∷ [])) }
         ensures config { IfOk result (λ s. s.config ≡ config.now) }
+        ensures bare { IfOk result (λ s. HasCleanDisk (file_state s.conn) → AllowsCreation (image_at S.Start)) }
         ensures survives { IfOk result (λ s. SurvivesSince (image_at S.Start) s.conn (λ db. IsRegisterFor config.now.cluster (opening config.now) (database_of db))) }
         ensures outside { IfOk result (λ s. s.conn.in_transaction ≡ false) }
         ensures told { IfErr result (λ e. IfSome e.1 (λ left. IsCleanLeft left → (d : _) → IsDatabase d → HoldsDatabase (image_at S.Start) d.trees → MayForbid d.schema e.0)) }
@@ -107,6 +108,7 @@ impl<S: Start> Store<FileStore<FileFrom<S>>> {
             → ((file_state s.conn).now ≡ database_of db) × ((file_state s.conn).committed ≡ database_of db)) }
         ensures committed { IfOk result (λ s. HasCleanDisk (file_state s.conn) → (file_state s.conn).committed ≡ (file_state s.conn).now) }
         ensures serves { IfOk result (λ s. HasCleanDisk (file_state s.conn) → Serves (file_state s.conn)) }
+        ensures reads { IfOk result (λ s. HasCleanDisk (file_state s.conn) → IsFound (image_at S.Start) (file_state s.conn).now) }
         ensures variants { IfOk result (λ s. HasCleanDisk (file_state s.conn) → TellsOpened (tables_of (file_state s.conn))) }
         ensures again { IfOk result (λ s. HasCleanDisk (file_state s.conn) → FindsBook (image_at S.Start) (file_state s.conn) s.config) }
         ensures left { IfOk result (λ s. HasCleanDisk (file_state s.conn) → FindsLeft (image_at S.Start) (file_state s.conn) s.config) }

@@ -86,8 +86,7 @@ fn change_rows<S: Alter>(
     }
 }
 
-/// Carries the edit out, of a variant that is stored over its parent where `overlay` says so. It answers
-/// how many rows its last statement wrote.
+/// Carries the edit out, of a variant that is stored over its parent where `overlay` says so.
 pub fn carry_out<S: Alter>(
     tx: &mut Transaction<'_, S>,
     edit: &Edit,

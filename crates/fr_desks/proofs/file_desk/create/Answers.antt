@@ -4,3 +4,6 @@ use Rattle.fr_desks.proofs.file_desk.create.Goals as goal
 pub returns-in-Ok-clause-book : goal.returns-in-Ok-clause-book
 returns-in-Ok-clause-book g c are =
     c.in-Ok.ensures.book c.args.config.now.cluster (opening c.args.config.now) (c.in_ok-desk.ensures.stands (c.in-Ok.ensures.clean are)) are
+
+pub returns-in-Ok-clause-bare : goal.returns-in-Ok-clause-bare
+returns-in-Ok-clause-bare g c are = c.in_ok-desk.ensures.bare (c.in-Ok.ensures.clean are)

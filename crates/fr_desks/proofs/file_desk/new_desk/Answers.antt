@@ -16,3 +16,6 @@ returns-in-Ok-clause-stands g c clean =
       rows = λ _. (c.in-Ok.ensures.stands kept, c.in-Ok.ensures.committed kept);
     } in
     c.new.ensures.stands file.cluster (opening file) stands
+
+pub returns-in-Ok-clause-bare : goal.returns-in-Ok-clause-bare
+returns-in-Ok-clause-bare g c clean = c.in-Ok.ensures.bare (subst (λ w. HasCleanDisk (file_state w.records.conn)) c.new.ensures.value clean)

@@ -33,3 +33,17 @@ returns-in-Ok-clause-serves g c clean =
     let store = c.in-Ok.store in
     let kept : HasCleanDisk (file_state store.conn) = subst (λ w. HasCleanDisk (file_state w.records.conn)) c.new.ensures.value clean in
     subst (λ w. Serves (file_state w.records.conn)) (sym c.new.ensures.value) (c.in-Ok.ensures.serves kept)
+
+pub returns-in-Ok-clause-reads : goal.returns-in-Ok-clause-reads
+returns-in-Ok-clause-reads g c clean =
+    let store = c.in-Ok.store in
+    let kept : HasCleanDisk (file_state store.conn) = subst (λ w. HasCleanDisk (file_state w.records.conn)) c.new.ensures.value clean in (
+      store.config,
+      (file_state store.conn).now,
+      c.in-Ok.ensures.reads kept,
+      c.in-Ok.ensures.stands kept,
+      λ k b stood.
+          let there : StandsStored store.config (file_state store.conn) k b = subst (λ w. StandsStored w.records.config (file_state w.records.conn) k b) c.new.ensures.value stood.0 in
+          let rows = (there.rows (c.in-Ok.ensures.open kept)).0 in
+          record { has = rows.has; for = rows.for },
+    )

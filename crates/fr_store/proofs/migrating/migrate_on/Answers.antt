@@ -3,7 +3,7 @@ use Rattle.sqlite.specs.State.{HasCleanDisk}
 use Rattle.sqlite.specs.Held.{state}
 use Rattle.fr_tables.specs.Schema.{old_schema}
 use Rattle.fr_tables.specs.Tables.{HasOldTables}
-use Rattle.fr_store.proofs.BeforeLemmas.{still_before, same_after, migration_survives, as_before_then, undone_then, on_error, same_fault, only_unavailable_before}
+use Rattle.fr_store.proofs.BeforeLemmas.{still_before, same_after, migration_survives, as_before_then, undone_then, on_error, on_ok, same_fault, only_unavailable_before}
 use Rattle.fr_store.proofs.migrating.migrate_on.Goals as goal
 
 pub returns-clause-survives : goal.returns-clause-survives
@@ -51,3 +51,11 @@ returns-in_err-expect_number-clause-known g c clean cluster b stands =
     let is : c.from_residual.result ≡ Err c.in_err-expect_number.field-0.0 = search rules in
     same_fault c.from_residual.result c.in_err-expect_number.field-0.0 is
     (only_unavailable_before (state g.S.Store c.args.conn.now) cluster b c.in_err-expect_number.field-0.0 stands (c.in_err-expect_number.ensures.told clean))
+
+pub returns-clause-numbered : goal.returns-clause-numbered
+returns-clause-numbered g c clean =
+    let mid = state g.S.Store c.expect_number.new.conn in
+    let late = state g.S.Store c.see_open.new.conn in
+    let clean_late : HasCleanDisk late = omega (arith, c.in_one.ensures.survives.clean, clean) in
+    let clean_mid : HasCleanDisk mid = omega (arith, c.see_open.ensures.survives.clean, clean_late) in
+    on_ok c.in_one.result (c.in_ok-expect_number.ensures.found clean_mid)

@@ -41,3 +41,8 @@ returns-in-Some-clause-survives_still g c refused clean image may d is held =
     let opens = c.in-Ok.ensures.opens before in
     let same : (file_state c.in-Ok.conn).now ≡ d = same_database (file_state c.in-Ok.conn).now d (opens.1 opens.0.is_open).0 is (c.in-Ok.ensures.found before d.trees held) in
     subst (IsHeld image) ((c.in-Err-create_on.ensures.unharmed late up).2 ∙ sym opens.0.clean ∙ same) (c.in-Some.ensures.left clean image may)
+
+pub returns-in-Ok-create_on-clause-bare : goal.returns-in-Ok-create_on-clause-bare
+returns-in-Ok-create_on-clause-bare g c clean =
+    let before : HasCleanDisk (file_state c.in-Ok.conn) = omega (arith, c.in-Ok-create_on.ensures.survives.clean, clean) in
+    ((file_state c.in-Ok.conn).now, c.in-Ok.ensures.reads before, c.in-Ok-create_on.ensures.bare)

@@ -5,7 +5,7 @@ use Rattle.sqlite.specs.Files.{file_state, image_of}
 use Rattle.fr_tables.specs.Asking.{our_schema_number}
 use Rattle.fr_tables.specs.Schema.{register_schema}
 use Rattle.fr_store.specs.Opening.{Explains}
-use Rattle.fr_store.specs.StoreFiles.{database_of}
+use Rattle.fr_store.specs.StoreFiles.{IsFound, database_of}
 use Rattle.fr_store.proofs.FileLemmas.{held_as, refused_opened, refused_unopened, same_database, found_database}
 use Rattle.fr_store.proofs.AgainLemmas.{held_stands, left_stands, only_unavailable_files}
 use Rattle.fr_store.proofs.files.Store+FileStore+D.open.Goals as goal
@@ -110,3 +110,9 @@ returns-in-Ok-open_on-clause-committed g c clean =
     let same = c.in-Ok-open_on.ensures.opened clean in
     let is = c.in-Ok.ensures.opens before in
     same.1 ∙ sym is.0.clean ∙ sym same.0
+
+pub returns-in-Ok-open_on-clause-reads : goal.returns-in-Ok-open_on-clause-reads
+returns-in-Ok-open_on-clause-reads g c clean =
+    let before : HasCleanDisk (file_state c.in-Ok.conn) = omega (arith, c.in-Ok-open_on.ensures.survives.clean, clean) in
+    let same = c.in-Ok-open_on.ensures.opened clean in
+    subst (IsFound (image_of g.D.Disk c.args.files)) (sym same.0) (c.in-Ok.ensures.reads before)

@@ -5,7 +5,7 @@ use Rattle.sqlite.specs.Files.{file_state, image_of}
 use Rattle.fr_tables.specs.Asking.{old_schema_number}
 use Rattle.fr_store.specs.Opening.{Refuses}
 use Rattle.fr_store.specs.StoreFiles.{IsHeld}
-use Rattle.fr_store.proofs.BeforeLemmas.{found_before, old_if_before, committed_held, only_unavailable_held}
+use Rattle.fr_store.proofs.BeforeLemmas.{allowed_opened, found_before, old_if_before, committed_held, only_unavailable_held}
 use Rattle.fr_store.proofs.FileLemmas.{held_as, refused_opened, refused_unopened, same_database}
 use Rattle.fr_store.proofs.migrating.files.migrate.Goals as goal
 
@@ -38,6 +38,13 @@ returns-in-Ok-told-clause-survives g c clean image left k b holds =
     let opens = c.in-Ok.ensures.opens before in
     let stands = found_before (image_of g.D.Disk c.args.files) (file_state c.in-Ok.conn) k b (opens.1 opens.0.is_open).0 (c.in-Ok.ensures.found before) holds in
     committed_held image (file_state c.migrate_on-told.new.conn) k b (c.in-Ok-told.ensures.migrated late k b stands) (c.in-Ok-told.ensures.committed late) (c.in-Some.ensures.left clean image left)
+
+pub returns-in-Ok-told-clause-ready : goal.returns-in-Ok-told-clause-ready
+returns-in-Ok-told-clause-ready g c clean =
+    let late = (c.in-Some.ensures.clean clean).0 in
+    let before : HasCleanDisk (file_state c.in-Ok.conn) = omega (arith, c.migrate_on-told.ensures.survives.clean, late) in
+    allowed_opened (image_of g.D.Disk c.args.files) (file_state c.in-Ok.conn) (c.in-Ok.ensures.reads before) (c.in-Ok.ensures.ordered_before before) c.in-Ok-told.ensures.before
+    (c.in-Ok-told.ensures.numbered late)
 
 -- ---- one that is refused
 

@@ -51,3 +51,11 @@ returns-in-Some-clause-survives_still g c refused clean image may d is held =
     let trees = ap (λ (e : Database). e.trees) opens.0.clean ∙ (c.in-Ok.ensures.found before).holds d.trees held in
     let same : (file_state c.in-Ok.conn).now ≡ d = same_database (file_state c.in-Ok.conn).now d (opens.1 opens.0.is_open).0 is trees in
     held_as image _ d ((c.in-Err-create_on.ensures.unharmed late up).2 ∙ sym opens.0.clean ∙ same) (c.in-Some.ensures.left clean image may)
+
+pub returns-in-Ok-create_on-clause-bare : goal.returns-in-Ok-create_on-clause-bare
+returns-in-Ok-create_on-clause-bare g c clean =
+    let before : HasCleanDisk (file_state c.in-Ok.conn) = omega (arith, c.in-Ok-create_on.ensures.survives.clean, clean) in
+    let opens = c.in-Ok.ensures.opened before in
+    let finds = c.in-Ok.ensures.found before in
+    let found = found_opened (image_at g.S.Start) (file_state c.in-Ok.conn) opens.0.is_open opens.1 (file_state c.in-Ok.conn).committed.trees (ap (λ (e : Database). e.trees) opens.0.clean) finds.reads finds.holds in
+    ((file_state c.in-Ok.conn).now, found, c.in-Ok-create_on.ensures.bare)

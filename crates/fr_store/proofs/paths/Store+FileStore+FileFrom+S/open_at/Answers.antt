@@ -7,7 +7,7 @@ use Rattle.sqlite.specs.Files.{file_state}
 use Rattle.fr_tables.specs.Asking.{our_schema_number}
 use Rattle.fr_tables.specs.Schema.{register_schema}
 use Rattle.fr_store.specs.Opening.{Explains}
-use Rattle.fr_store.specs.StoreFiles.{database_of}
+use Rattle.fr_store.specs.StoreFiles.{IsFound, database_of}
 use Rattle.fr_store.proofs.FileLemmas.{held_as, refused_opened, refused_unopened, same_database, found_database}
 use Rattle.fr_store.proofs.AgainLemmas.{held_stands, left_stands, only_unavailable_files}
 use Rattle.fr_store.proofs.paths.Store+FileStore+FileFrom+S.open_at.Goals as goal
@@ -114,3 +114,9 @@ returns-in-Ok-open_on-clause-committed g c clean =
     let same = c.in-Ok-open_on.ensures.opened clean in
     let is = c.in-Ok.ensures.opens before in
     same.1 ∙ sym is.0.clean ∙ sym same.0
+
+pub returns-in-Ok-open_on-clause-reads : goal.returns-in-Ok-open_on-clause-reads
+returns-in-Ok-open_on-clause-reads g c clean =
+    let before : HasCleanDisk (file_state c.in-Ok.conn) = omega (arith, c.in-Ok-open_on.ensures.survives.clean, clean) in
+    let same = c.in-Ok-open_on.ensures.opened clean in
+    subst (IsFound (image_at g.S.Start)) (sym same.0) (c.in-Ok.ensures.reads before)
