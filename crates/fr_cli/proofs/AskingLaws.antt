@@ -1,5 +1,5 @@
 -- What is printed of an answer that refuses what was asked.
-use Rattle.std.proofs.Common.{◌≡◌, ◌⊎◌, List, ℕ, Ok, Err, OnOk, Option, Some, Result, inl, inr, refl, true, subst, sym}
+use Rattle.std.proofs.Common.{◌≡◌, ◌⊎◌, ◌∙◌, List, None, ℕ, Ok, Err, OnOk, Option, Some, Result, inl, inr, refl, true, subst, sym}
 use Rattle.std.specs.Prelude.{⊤}
 use Rattle.fr_base.specs.Book.{Book}
 use Rattle.fr_base.specs.Cluster.{Cluster, ClusterFile}
@@ -7,7 +7,10 @@ use Rattle.fr_base.specs.declared.actor.Actor.{Actor}
 use Rattle.fr_base.specs.declared.answer.Answer.{Answer}
 use Rattle.fr_base.specs.declared.refusal.Refusal.{Refusal}
 use Rattle.fr_base.specs.declared.request.Ask.{Ask}
+use Rattle.fr_base.specs.declared.report.Report.{Report}
 use Rattle.fr_base.specs.declared.request.Request.{Request}
+use Rattle.fr_base.specs.declared.request.Request.TheVariants as request
+use Rattle.fr_plans.proofs.ReportLaws.{report_stays}
 use Rattle.fr_desks.specs.FileDesk.{FindsHeld, IsLeftWith}
 use Rattle.fr_http.specs.Asking.{Standing}
 use Rattle.fr_text.specs.ClusterFile.{config_of}
@@ -16,8 +19,12 @@ use Rattle.sqlite.specs.declared.file.Leftover.{Leftover}
 use Rattle.sqlite_disk.specs.declared.Disk.{Ghosts}
 use Rattle.sqlite_wal.specs.Recovery.{Image}
 use Rattle.fr_cli.specs.Asked.{asked_by}
-use Rattle.fr_cli.specs.Asking.{IsAnswer, IsRefusedBy, Prints, is_refusal}
+use Rattle.fr_cli.specs.Asking.{IsAnswer, IsRefusedBy, Leads, Prints, is_refusal, query_of}
 use Rattle.fr_cli.specs.Performing.{Says}
+use Rattle.fr_cli.specs.Queries.{reader_of, report_asked}
+use Rattle.fr_cli.specs.Reading.{Stays}
+use Rattle.fr_cli.specs.ScriptRun.{Replied}
+use Rattle.fr_cli.specs.declared.query.Query.{Query}
 use Rattle.fr_cli.specs.RegisterFiles.{IsAnswerOfFile, IsLeftNew, IsMade}
 use Rattle.fr_cli.specs.declared.fault.Fault.{Fault}
 use Rattle.fr_cli.specs.declared.fault.Fault.TheVariants.{CannotOpen, NoMemory}
@@ -60,17 +67,41 @@ module _ {D : Type 0} {g : Ghosts D} where
       (λ answer is. asks_file held left clean before old new asks answer closes falls finds leaves is) may p
 
   -- a register that was made of a cluster file that was read
-  pub is_made : (rest : Option (Leftover D g)) (done : Result ⊤ Fault) (text : List ℕ) (f : ClusterFile) → config_of text ≡ Ok f → OnOk done (IsLeftNew rest f) → IsMade rest done
-  is_made rest (Ok x) text f is made = (text, f, is, made)
-  is_made rest (Err e) text f is made = tt
+  pub is_made : (held : Image) (rest : Option (Leftover D g)) (done : Result ⊤ Fault) (text : List ℕ) (f : ClusterFile) → config_of text ≡ Ok f → OnOk done (IsLeftNew held rest f) → IsMade held rest done
+  is_made held rest (Ok x) text f is made = (text, f, is, made)
+  is_made held rest (Err e) text f is made = tt
 
 -- a file that cannot be read is no import
-pub not_imported : (Refused : Type 0) (fault : Fault) → (fault ≡ CannotOpen) ⊎ (fault ≡ NoMemory) → (Refused ⊎ (fault ≡ NoMemory)) ⊎ (fault ≡ CannotOpen)
-not_imported Refused fault (inl is) = inr is
-not_imported Refused fault (inr is) = inl (inr is)
+pub not_imported : (Refused Closed : Type 0) (fault : Fault) → Closed → (fault ≡ CannotOpen) ⊎ (fault ≡ NoMemory)
+    → (Refused ⊎ (fault ≡ NoMemory)) ⊎ ((fault ≡ CannotOpen) × Closed)
+not_imported Refused Closed fault closed (inl is) = inr (is, closed)
+not_imported Refused Closed fault closed (inr is) = inl (inr is)
 
 -- the same was asked by the same
 pub asks_same : (clean : Type 0) (old new : Standing) (by who : Option Actor) (request asks : Request) (answer : Answer) → by ≡ who → request ≡ asks
     → IsAnswer clean old new (λ c b. asked_by by request) answer → IsAnswer clean old new (λ c b. asked_by who asks) answer
 asks_same clean old new by who request asks answer e f is =
     subst (λ r. IsAnswer clean old new (λ c b. asked_by who r) answer) f (subst (λ w. IsAnswer clean old new (λ c b. asked_by w request) answer) e is)
+
+-- ---- the book after what was asked
+
+replied_stays : (c : Cluster) (b : Book) (who : Option Actor) (v : List ℕ) (report : Report (List ℕ)) (answer : Answer) (last : Book)
+    → Replied c b (asked_by who (request.Query v report)) answer last → last ≡ b
+replied_stays c b None v report answer last refused = refused.1
+replied_stays c b (Some actor) v report answer last (inl lacked) = lacked.2
+replied_stays c b (Some actor) v report answer last (inr did) = did.1 ∙ report_stays v report c b actor
+
+-- a query leaves the book
+pub query_stays : (clean : Type 0) (old new : Standing) (query : Query) (answer : Answer) → IsAnswer clean old new (query_of query) answer → Stays clean old new
+query_stays clean old new query answer asked = λ is c b stands sound.
+    let (last, replied, after) = asked is c b stands sound in
+    subst (λ (d : Book). new c d) (replied_stays c b (reader_of query) query.variant.now (report_asked query.report) answer last replied) after
+
+-- what was asked leads to the book after it
+pub leads_on : (clean : Type 0) (old new : Standing) (asks : Cluster → Book → Result Ask Refusal) (answer : Answer) → IsAnswer clean old new asks answer → Leads clean old new asks
+leads_on clean old new asks answer asked = λ is c b stands sound.
+    let (last, replied, after) = asked is c b stands sound in (last, inr (answer, replied), after)
+
+-- where nothing was asked the book is the same
+pub leads_nowhere : (clean : Type 0) (s : Standing) (asks : Cluster → Book → Result Ask Refusal) → Leads clean s s asks
+leads_nowhere clean s asks = λ is c b stands sound. (b, inl refl, stands)

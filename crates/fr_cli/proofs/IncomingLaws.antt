@@ -1,5 +1,5 @@
 -- Requests that come in piece by piece: which lines of the input they are.
-use Rattle.std.proofs.Common.{◌≡◌, ℕ, ◌<◌, List, [], ◌∷◌, ◌++◌, length, Option, Some, None, IfSome, Result, Ok, Err, refl, sym, ap, ◌∙◌, subst, append_assoc, append-nil, arith, length-append, inl, inr}
+use Rattle.std.proofs.Common.{◌≡◌, ℕ, ◌<◌, ◌≤◌, List, [], ◌∷◌, ◌++◌, length, Option, Some, None, IfSome, Result, Ok, Err, refl, sym, ap, ◌∙◌, subst, append_assoc, append-nil, arith, length-append, inl, inr}
 use Rattle.std.specs.Prelude.{◌⊎◌, OnOk, ⊤}
 use Rattle.std.specs.Io.KnownBytes.{Appends, Consumes, IsAtEnd}
 use Rattle.std.proofs.KnownBytes.{Appends-trans}
@@ -14,13 +14,13 @@ use Rattle.fr_records.specs.Held.{Standing}
 use Rattle.fr_cli.specs.Answering.{AnswersLines, BeginWith, GoOnBehind, HasWritten, WasCutShort}
 use Rattle.fr_cli.specs.Incoming.{AreFirstOf, AreFirstOfAll, EndsLines, HasAnswered, IsAsked}
 use Rattle.fr_cli.specs.Performing.{of_script}
-use Rattle.fr_cli.specs.Script.{max_script, request_lines}
+use Rattle.fr_cli.specs.Script.{HasNo, max_script, request_lines}
 use Rattle.fr_cli.specs.ScriptFault.{script_fault_of}
 use Rattle.fr_cli.specs.declared.fault.Fault.{Fault}
 use Rattle.fr_cli.specs.declared.input.InputFault.{InputFault}
 use Rattle.fr_cli.specs.declared.input.InputFault.TheVariants.{NoMemory as Wanting}
 use Rattle.fr_cli.specs.declared.script_fault.ScriptFault.{ScriptFault}
-use Rattle.fr_cli.specs.declared.script_fault.ScriptFault.TheVariants.{NoMemory, TooLong, WriteFailed}
+use Rattle.fr_cli.specs.declared.script_fault.ScriptFault.TheVariants.{NoMemory, ReadFailed, TooLong, TooManyReads, WriteFailed}
 use Rattle.fr_cli.proofs.AnsweringLaws.{cut_after, cut_here, cut_moved, lines_moved, lines_then}
 use Rattle.fr_cli.proofs.EndedLines.{requests-append}
 use Rattle.fr_cli.proofs.LineLemmas.{request_lines-none}
@@ -99,13 +99,15 @@ split_then front begun piece more rest e = append_assoc front begun piece ∙ ap
 pub cut_between : (clean : Type 0) (old new : Standing) (input left a b : Option (List ℕ)) (front begun written : List ℕ) (fault : ScriptFault) (of : InputFault)
     → fault ≡ script_fault_of of → Consumes input left (front ++ begun) → EndsLines front → Appends a b written
     → AnswersLines clean old new (request_lines front) written → (fault ≡ TooLong → IfSome input (λ bytes. max_script < length bytes))
-    → HasAnswered clean old new input a b (Err fault)
-cut_between clean old new input left a b front begun written fault of is taken ends appended answered long =
+    → ((fault ≡ ReadFailed) ⊎ (fault ≡ TooManyReads) → HasNo 10 begun)
+    → HasAnswered clean old new input left a b (Err fault)
+cut_between clean old new input left a b front begun written fault of is taken ends appended answered long open_ended =
     let first : IfSome input (AreFirstOf (request_lines front)) =
     on_input (AreFirstOf (request_lines front)) input left (front ++ begun) taken (first_whole front begun ends) in
     record {
       all = tt;
       early = cut_here clean clean old new (λ lines. IfSome input (AreFirstOf lines)) (λ lines. IfSome input (AreFirstOf lines)) a b fault (request_lines front) written (λ is. is) answered appended first first;
+      unread = λ e. (front, begun, written, taken, ends, open_ended e, appended, answered);
       too_long = λ e. long cc;
       faults = inr (of, is);
     }
@@ -116,11 +118,18 @@ of_line : (input : Option (List ℕ)) (fault : ScriptFault) → (fault ≡ NoMem
 of_line input fault (inl none) = (λ e. absurd cc, inr (Wanting, none))
 of_line input fault (inr failed) = (λ e. absurd cc, inl failed)
 
+-- and it is no fault of reading
+of_line-read : (fault : ScriptFault) → (fault ≡ NoMemory) ⊎ (fault ≡ WriteFailed) → (fault ≡ ReadFailed) ⊎ (fault ≡ TooManyReads) → ⊥
+of_line-read fault (inl none) (inl e) = absurd cc
+of_line-read fault (inl none) (inr e) = absurd cc
+of_line-read fault (inr failed) (inl e) = absurd cc
+of_line-read fault (inr failed) (inr e) = absurd cc
+
 -- A fault comes within a piece.
 pub cut_within : (clean first : Type 0) (old mid new : Standing) (input left a m b : Option (List ℕ)) (front bytes written : List ℕ) (fault : ScriptFault)
     → (clean → first) → Consumes input left (front ++ bytes) → EndsLines front → Appends a m written → AnswersLines first old mid (request_lines front) written
     → WasCutShort clean mid new (AreFirstOfAll bytes) (AreFirstOfAll bytes) m b fault → (fault ≡ NoMemory) ⊎ (fault ≡ WriteFailed)
-    → HasAnswered clean old new input a b (Err fault)
+    → HasAnswered clean old new input left a b (Err fault)
 cut_within clean first old mid new input left a m b front bytes written fault falls taken ends appended answered short of =
     let is_first : (k : List (List ℕ)) → AreFirstOfAll bytes k → IfSome input (AreFirstOf (request_lines front ++ k)) =
     λ k so. on_input (AreFirstOf (request_lines front ++ k)) input left (front ++ bytes) taken (first_then front bytes k ends so) in
@@ -129,29 +138,31 @@ cut_within clean first old mid new input left a m b front bytes written fault fa
       all = tt;
       early = cut_after clean first old mid new (AreFirstOfAll bytes) (AreFirstOfAll bytes) (λ lines. IfSome input (AreFirstOf lines)) (λ lines. IfSome input (AreFirstOf lines)) a m b fault
           (request_lines front) written falls answered appended is_first is_first short;
+      unread = λ e. absurd (of_line-read fault of e);
       too_long = λ e. said.0 cc;
       faults = said.1;
     }
 
 -- The input has ended, and what was begun are its last lines.
 pub at_end : (clean first : Type 0) (old mid new : Standing) (input left a m b : Option (List ℕ)) (front begun written : List ℕ) (done : Result ⊤ ScriptFault)
-    → (clean → first) → Consumes input left (front ++ begun) → IsAtEnd left → EndsLines front → Appends a m written
-    → AnswersLines first old mid (request_lines front) written → HasWritten clean mid new (request_lines begun) m b done → HasAnswered clean old new input a b done
-at_end clean first old mid new input left a m b front begun written (Ok x) falls taken end ends appended answered has =
+    → (clean → first) → Consumes input left (front ++ begun) → IsAtEnd left → length (front ++ begun) ≤ max_script → EndsLines front → Appends a m written
+    → AnswersLines first old mid (request_lines front) written → HasWritten clean mid new (request_lines begun) m b done → HasAnswered clean old new input left a b done
+at_end clean first old mid new input left a m b front begun written (Ok x) falls taken end fits ends appended answered has =
     let (more, then, last) = has.all in
     record {
       all = (
         request_lines (front ++ begun),
         written ++ more,
-        on_whole (λ bytes. request_lines (front ++ begun) ≡ request_lines bytes) input left (front ++ begun) taken end refl,
+        on_whole (λ bytes. (request_lines (front ++ begun) ≡ request_lines bytes) × (length bytes ≤ max_script)) input left (front ++ begun) taken end (refl, fits),
         Appends-trans a m b written more appended then,
         heard_more clean first old mid new front begun written more falls ends answered last,
       );
       early = tt;
+      unread = tt;
       too_long = λ e. absurd cc;
       faults = tt;
     }
-at_end clean first old mid new input left a m b front begun written (Err fault) falls taken end ends appended answered has =
+at_end clean first old mid new input left a m b front begun written (Err fault) falls taken end fits ends appended answered has =
     let is_first : (k rest : List (List ℕ)) → request_lines begun ≡ k ++ rest → IfSome input (AreFirstOf (request_lines front ++ k)) =
     λ k rest split. on_whole (AreFirstOf (request_lines front ++ k)) input left (front ++ begun) taken end
     (rest, ends begun ∙ ap (λ l. request_lines front ++ l) split ∙ sym (append_assoc (request_lines front) k rest)) in
@@ -160,6 +171,7 @@ at_end clean first old mid new input left a m b front begun written (Err fault) 
       all = tt;
       early = cut_after clean first old mid new (BeginWith (request_lines begun)) (GoOnBehind (request_lines begun)) (λ lines. IfSome input (AreFirstOf lines)) (λ lines. IfSome input (AreFirstOf lines))
           a m b fault (request_lines front) written falls answered appended (λ k so. is_first k so.0 so.1) (λ k so. is_first k (so.0 ∷ so.1) so.2) has.early;
+      unread = λ e. absurd (of_line-read fault has.faults e);
       too_long = λ e. said.0 cc;
       faults = said.1;
     }
@@ -170,7 +182,7 @@ module _ {D : Type 0} {g : Ghosts D} where
   -- What was asked of a register that stands for what a file held, and was closed, was asked of the file.
   pub asked_file : (file : Image) (rest : Leftover D g) (clean before : Type 0) (old new : Standing) (input left a b : Option (List ℕ)) (asked : Result ⊤ ScriptFault) (done : Result ⊤ Fault)
       → (IsCleanLeft rest → clean) → (clean → before) → FindsHeld file before old → ((c : Cluster) (b : Book) → new c b → IsLeftWith rest c b) → done ≡ of_script asked
-      → OnOk asked (IsAtEnd left) → HasAnswered clean old new input a b asked → IsAsked file (Some rest) input left a b done
+      → OnOk asked (IsAtEnd left) → HasAnswered clean old new input left a b asked → IsAsked file (Some rest) input left a b done
   asked_file file rest clean before old new input left a b (Ok x) done closes falls finds leaves is end has =
       let (lines, written, all, appended, answered) = has.all in
       inr (
@@ -188,6 +200,7 @@ module _ {D : Type 0} {g : Ghosts D} where
             lines_moved (IsCleanLeft rest) clean (Held file) old new (IsLeftWith rest) lines written closes (λ up. finds (falls up)) leaves answered,
           );
           early = tt;
+          unread = tt;
           too_long = λ e. absurd cc;
           faults = tt;
         },
@@ -201,6 +214,17 @@ module _ {D : Type 0} {g : Ghosts D} where
     record {
       all = tt;
       early = cut_moved (IsCleanLeft rest) clean (Held file) old new (IsLeftWith rest) _ _ a b fault closes (λ up. finds (falls up)) leaves has.early;
+      unread = λ e.
+          let (front, begun, written, taken, ends, open_ended, appended, answered) = has.unread e in (
+            front,
+            begun,
+            written,
+            taken,
+            ends,
+            open_ended,
+            appended,
+            lines_moved (IsCleanLeft rest) clean (Held file) old new (IsLeftWith rest) (request_lines front) written closes (λ up. finds (falls up)) leaves answered,
+          );
       too_long = has.too_long;
       faults = has.faults;
     },

@@ -2,6 +2,9 @@ mod LineLemmas
 mod EndedLines
 pub mod IncomingLaws
 mod CommandLaws
+mod NumberLaws
+mod WordLaws
+mod WordRows
 pub mod ScriptRunLaws
 mod ScriptRows
 pub mod AnsweringLaws

@@ -2,18 +2,14 @@
 use Rattle.std.proofs.Common.{◌≡◌, ℕ, suc, ◌+◌, ◌-◌, ◌<◌, Bool, true, false, ◌||◌, cond, List, [], ◌∷◌, ◌++◌, length, take, drop, refl, sym, ap, ◌∙◌, arith, subst, Option, Some, None, one-add, add-one, append_assoc, append-nil, inl, inr, length-append}
 use Rattle.std.proofs.Math.Seq.{take-append_seam}
 use Rattle.std.proofs.lemmas.Bool.{cases_Bool, eqb-true, lt-ltb, ltb-true, ltb-false, le-ltb, ne_eqb}
-use Rattle.std.specs.List.{AllByRecursion, list_any, concat, before_first, after_first, slice_split, position, position_or_len, filter}
+use Rattle.std.specs.List.{list_any, concat, before_first, after_first, slice_split, position, position_or_len, filter}
 use Rattle.std.specs.Option.{option_map}
 use Rattle.std.specs.Str.{bytes_eq}
 use Rattle.std.specs.Str.Lines.{lines, lines_of_parts, strip_carriage_return}
 use Rattle.std.proofs.lemmas.List.Splits.{slice_split_at, slice_split_none, length-slice_split}
 use Rattle.std.proofs.lemmas.List.Elements.{All-from_recursion}
 use Rattle.std.specs.Prelude.{nat_lt, ◌==◌, codes}
-use Rattle.fr_cli.specs.Script.{onto_first_line, ended_lines, is_separator, parts_of, request_lines, parts_around}
-
--- no byte of the list is c
-abbrev pub HasNo : ℕ → List ℕ → Type 0
-HasNo c = AllByRecursion (λ b. (b == c) ≡ false)
+use Rattle.fr_cli.specs.Script.{HasNo, onto_first_line, ended_lines, is_separator, parts_of, request_lines, parts_around}
 
 -- ---- the first line
 
@@ -240,3 +236,11 @@ split_of bytes line after parts found e = (subst (Around 10 bytes) (sym e) found
 -- a line feed ends it, and what follows it is left
 pub split_by : (bytes line after : List ℕ) → Some (line, after) ≡ parts_around 10 bytes → bytes ≡ line ++ 10 ∷ after
 split_by bytes line after e = split_of bytes line after (parts_around 10 bytes) (around 10 bytes) e
+
+-- no line feed is left
+pub no_feed : (bytes : List ℕ) → None ≡ parts_around 10 bytes → HasNo 10 bytes
+no_feed bytes e = subst (Around 10 bytes) (sym e) (around 10 bytes)
+
+pub has_no-append : (c : ℕ) (xs ys : List ℕ) → HasNo c xs → HasNo c ys → HasNo c (xs ++ ys)
+has_no-append c [] ys p q = q
+has_no-append c (x ∷ xs) ys p q = (p.0, has_no-append c xs ys p.1 q)

@@ -13,7 +13,7 @@ use Rattle.sqlite.specs.declared.file.Leftover.{Leftover}
 use Rattle.sqlite_disk.specs.declared.Disk.{Ghosts}
 use Rattle.sqlite_wal.specs.Recovery.{Image}
 use Rattle.fr_cli.specs.Asking.{IsRefusedBy}
-use Rattle.fr_cli.specs.Reading.{IsRead, PrintsRead, Reading}
+use Rattle.fr_cli.specs.Reading.{IsRead, PrintsRead, Reading, Stays}
 use Rattle.fr_cli.specs.RegisterFiles.{IsReadOfFile}
 use Rattle.fr_cli.specs.declared.failure.Failure.{Failure}
 use Rattle.fr_cli.specs.declared.failure.Failure.TheVariants as failure
@@ -21,6 +21,10 @@ use Rattle.fr_cli.specs.declared.fault.Fault.{Fault}
 use Rattle.fr_cli.specs.declared.fault.Fault.TheVariants.{NoMemory}
 
 module _ {X : Type 0} where
+  -- the book that is read stays
+  pub reads_stay : (clean : Type 0) (old new : Standing) (may : Reading X) (r : Result X Refusal) → IsRead clean old new may r → Stays clean old new
+  reads_stay clean old new may r read = λ is c b stands sound. (read is c b stands sound).0
+
   -- what one reader is told is told to another that is the same
   pub read_same : (clean : Type 0) (old new : Standing) (may : Option Actor → Reading X) (reader wanted : Option Actor) (r : Result X Refusal) → reader ≡ wanted
       → IsRead clean old new (may reader) r → IsRead clean old new (may wanted) r

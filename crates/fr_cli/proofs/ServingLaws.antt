@@ -1,5 +1,5 @@
 -- Connections are served, and then one more; what is told of their ends; and what that is for the file of the register.
-use Rattle.std.proofs.Common.{◌≡◌, inr, ℕ, List, [], ◌∷◌, ◌++◌, Option, Some, None, Result, Ok, Err, refl, sym, ap, ap₂, ◌∙◌, subst, arith}
+use Rattle.std.proofs.Common.{◌≡◌, inl, inr, ℕ, List, [], ◌∷◌, ◌++◌, Option, Some, None, Result, Ok, Err, refl, sym, ap, ap₂, ◌∙◌, subst, arith}
 use Rattle.std.specs.Prelude.{⊤}
 use Rattle.std.specs.Io.KnownBytes.{Appends, Keeps}
 use Rattle.std.proofs.KnownBytes.{Keeps-trans, Keeps-refl}
@@ -20,6 +20,7 @@ use Rattle.fr_http.proofs.ExchangeLaws.{exchanges-sound}
 use Rattle.fr_records.specs.Held.{Standing}
 use Rattle.fr_cli.specs.Endings.{AppendsFront, word_line}
 use Rattle.fr_cli.specs.Faults.{link_word}
+use Rattle.fr_cli.specs.Performing.{listening}
 use Rattle.fr_cli.specs.Serving.{HasServed, IsServed, ServesAll, ServesOne, StopsServing, TellsEach, ending}
 use Rattle.fr_cli.specs.declared.fault.Fault.{Fault}
 
@@ -83,25 +84,39 @@ tells_then a b c (Err fault ∷ ends) more p q = (p.0, p.1, tells_then p.0 b c e
 -- ---- how a server ends
 
 -- A fault came before a connection was served.
-pub served_early : (clean : Type 0) (s : Standing) (count : ℕ) (a : Option (List ℕ)) (done : Result ⊤ Fault) (fault : Fault) → done ≡ Err fault → StopsServing fault
-    → HasServed clean s s count a a done
-served_early clean s count a done fault is stops = subst (HasServed clean s s count a a) (sym is) (record {
+pub served_early : (clean : Type 0) (s : Standing) (count : ℕ) (said : Type 0) (a : Option (List ℕ)) (done : Result ⊤ Fault) (fault : Fault) → done ≡ Err fault → StopsServing [] fault
+    → HasServed clean s s count said a a done
+served_early clean s count said a done fault is stops = subst (HasServed clean s s count said a a) (sym is) (record {
   ends = [];
   served = serves_none clean s;
   told = Keeps-refl a;
   all = tt;
   few = omega arith;
   fault = stops;
+  first = inl refl;
 })
+
+-- What connections are served is said of the server.
+pub served_said : (clean : Type 0) (old new : Standing) (count : ℕ) (said : Type 0) (a b : Option (List ℕ)) (done : Result ⊤ Fault) → said
+    → HasServed clean old new count ⊤ a b done → HasServed clean old new count said a b done
+served_said clean old new count said a b done is has = record {
+  ends = has.ends;
+  served = has.served;
+  told = has.told;
+  all = has.all;
+  few = has.few;
+  fault = has.fault;
+  first = inr is;
+}
 
 -- ---- over a file
 
 module _ {D : Type 0} {g : Ghosts D} where
   -- What was served by a register that stands for what a file held, and was closed, was served from the file.
-  pub served_file : (file : Image) (rest : Leftover D g) (clean before : Type 0) (old new : Standing) (count : ℕ) (out out' a b : Option (List ℕ)) (done : Result ⊤ Fault)
+  pub served_file : (file : Image) (rest : Leftover D g) (clean before : Type 0) (old new : Standing) (port count : ℕ) (out out' a b : Option (List ℕ)) (done : Result ⊤ Fault)
       → (IsCleanLeft rest → clean) → (clean → before) → FindsHeld file before old → ((c : Cluster) (b : Book) → new c b → IsLeftWith rest c b)
-      → HasServed clean old new count a b done → IsServed file (Some rest) count out out' a b done
-  served_file file rest clean before old new count out out' a b done closes falls finds leaves has = inr (
+      → HasServed clean old new count (Appends out out' (listening port)) a b done → IsServed file (Some rest) port count out out' a b done
+  served_file file rest clean before old new port count out out' a b done closes falls finds leaves has = inr (
     rest,
     refl,
     record {
@@ -113,5 +128,6 @@ module _ {D : Type 0} {g : Ghosts D} where
       all = has.all;
       few = has.few;
       fault = has.fault;
+      first = has.first;
     },
   )

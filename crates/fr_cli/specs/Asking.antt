@@ -1,6 +1,6 @@
 -- Report, import: what a command asks of a register, and what it prints of the answer. That is the report, the answer's
 -- line, or the line of one that refuses.
-use Rattle.std.specs.Prelude.{◌≡◌, ◌++◌, ℕ, List, Bool, true, false, Result, Ok, Err, codes}
+use Rattle.std.specs.Prelude.{◌≡◌, ◌⊎◌, ◌++◌, ℕ, List, Bool, true, false, Result, Ok, Err, codes}
 use Rattle.std.specs.Global.{Vec}
 use Rattle.fr_base.specs.Actors.{actor_of}
 use Rattle.fr_base.specs.Book.{Book}
@@ -49,6 +49,10 @@ line_of answer = text_of answer ++ codes "\n"
 -- after it.
 abbrev pub IsAnswer : Type 0 → Standing → Standing → (Cluster → Book → Result Ask Refusal) → Answer → Type 0
 IsAnswer clean old new asks answer = clean → InSound old (λ c b. (last : Book) × Replied c b (asks c b) answer last × new c last)
+
+-- The register stands for the same book, or for the one after this was asked.
+abbrev pub Leads : Type 0 → Standing → Standing → (Cluster → Book → Result Ask Refusal) → Type 0
+Leads clean old new asks = clean → InSound old (λ c b. (last : Book) × ((last ≡ b) ⊎ ((answer : Answer) × Replied c b (asks c b) answer last)) × new c last)
 
 -- What is printed is this text of the answer; where it is a refusal, its line; or memory was wanting.
 abbrev pub Prints : (Answer → Type 0) → (Answer → List ℕ) → Result (Vec ℕ) Failure → Type 0

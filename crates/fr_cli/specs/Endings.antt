@@ -1,5 +1,5 @@
 -- Ending: the status with which a job ends, and what standard output and standard error get.
-use Rattle.std.specs.Prelude.{◌≡◌, ◌⊎◌, ℕ, List, ◌++◌, codes, Option, Result, Ok, Err, ⊤}
+use Rattle.std.specs.Prelude.{◌≡◌, ◌≢◌, ◌⊎◌, [], ℕ, List, ◌++◌, codes, Option, Result, Ok, Err, ⊤}
 use Rattle.std.specs.Global.{Vec}
 use Rattle.std.specs.Io.KnownBytes.{Appends, Keeps}
 use Rattle.fr_cli.specs.Faults.{fault_word}
@@ -21,16 +21,20 @@ word_line word = codes "slotplan: " ++ word ++ codes "\n"
 abbrev pub AppendsFront : Option (List ℕ) → Option (List ℕ) → List ℕ → Type 0
 AppendsFront old new text = (written : List ℕ) × (missing : List ℕ) × (text ≡ written ++ missing) × Appends old new written
 
+-- A front of the text was written, and not all of it.
+abbrev pub AppendsLess : Option (List ℕ) → Option (List ℕ) → List ℕ → Type 0
+AppendsLess old new text = (written : List ℕ) × (missing : List ℕ) × (text ≡ written ++ missing) × (missing ≢ []) × Appends old new written
+
 -- Nothing is said of what was done; of a fault its line, as far as it can be written.
 abbrev pub Tells : Option (List ℕ) → Option (List ℕ) → Result ⊤ Fault → Type 0
 Tells old new (Ok _) = Keeps old new
 Tells old new (Err fault) = AppendsFront old new (word_line (fault_word fault))
 
--- The text was printed; or standard output failed, and that is said.
+-- The text was printed; or standard output took less of it, and that is said.
 abbrev pub IsPrinted : List ℕ → Option (List ℕ) → Option (List ℕ) → Option (List ℕ) → Option (List ℕ) → ℕ → Type 0
 IsPrinted text out out' err err' status =
     ((status ≡ 0) × Appends out out' text × Keeps err err')
-    ⊎ ((status ≡ 1) × AppendsFront out out' text × AppendsFront err err' (word_line (fault_word WriteFailed)))
+    ⊎ ((status ≡ 1) × AppendsLess out out' text × AppendsFront err err' (word_line (fault_word WriteFailed)))
 
 -- What a job gives is printed. Of one that is not done its refusal's line is said, or its fault's, as far as it can be written.
 abbrev pub IsTold : Result (Vec ℕ) Failure → Option (List ℕ) → Option (List ℕ) → Option (List ℕ) → Option (List ℕ) → ℕ → Type 0

@@ -1,6 +1,6 @@
 -- Job's faults: the word of each fault that ends a job or a connection, which of them may end which job, and for what
 -- cause a register's file is refused.
-use Rattle.std.specs.Prelude.{◌≡◌, ◌≢◌, ◌⊎◌, ℕ, List, Option, Some, None, codes, ⊤}
+use Rattle.std.specs.Prelude.{◌≡◌, ◌≢◌, ◌⊎◌, ℕ, List, Option, Some, None, codes, Err, ⊤}
 use Rattle.sqlite.specs.Files.{IsCleanLeft}
 use Rattle.sqlite.specs.declared.file.Leftover.{Leftover}
 use Rattle.sqlite_disk.specs.declared.Disk.{Ghosts}
@@ -14,7 +14,8 @@ use Rattle.fr_http.specs.declared.fault.LinkFault.TheVariants as link
 use Rattle.fr_store.specs.Opening.{ExplainsFiles, ForbidsFiles}
 use Rattle.fr_store.specs.declared.fault.StoreFault.{StoreFault}
 use Rattle.fr_store.specs.declared.fault.StoreFault.TheVariants as store
-use Rattle.fr_text.specs.ClusterFile.{config_fault_word}
+use Rattle.fr_text.specs.ClusterFile.{config_fault_word, config_of}
+use Rattle.fr_text.specs.declared.cluster_file.ConfigFault.TheVariants as config
 
 -- a register's
 abbrev pub store_word : StoreFault → List ℕ
@@ -41,9 +42,14 @@ fault_word CannotListen = codes "CannotListen"
 fault_word NoMemory = codes "NoMemory"
 fault_word WriteFailed = codes "WriteFailed"
 
+-- The fault is the first one of a cluster file with these bytes, or memory is wanting.
+abbrev pub IsClusterFault : List ℕ → Fault → Type 0
+IsClusterFault text (Config fault) = (fault ≡ config.NoMemory) ⊎ (config_of text ≡ Err fault)
+IsClusterFault text _ = ⊥
+
 -- For this a cluster file is not read: it is none, or cannot be had.
 abbrev pub IsNotRead : Fault → Type 0
-IsNotRead (Config fault) = ⊤
+IsNotRead (Config fault) = (text : List ℕ) × IsClusterFault text (Config fault)
 IsNotRead CannotOpen = ⊤
 IsNotRead NoMemory = ⊤
 IsNotRead _ = ⊥
@@ -64,9 +70,9 @@ module _ {D : Type 0} {g : Ghosts D} (held : Image) (rest : Option (Leftover D g
   abbrev pub IsCaused : (Image → StoreFault → Type 0) → (StoreFault → Type 0) → StoreFault → Type 0
   IsCaused Why Without fault = IfLeft rest (Without fault) (λ left. IsCleanLeft left → Why held fault × (fault ≢ store.Unavailable → HoldStill held left))
 
-  -- For this a register's file is not made: the cluster file is not read, the file has a table, or making it failed.
+  -- For this a register's file is not made: the cluster file is not read, and then nothing is opened; or the file has a table, or making it failed.
   abbrev pub IsNotMade : Fault → Type 0
-  IsNotMade fault = IsNotRead fault ⊎ ((of : StoreFault) × (fault ≡ Register of) × ((of ≡ store.NotEmpty) ⊎ (of ≡ store.Unavailable))
+  IsNotMade fault = (IsNotRead fault × (rest ≡ None)) ⊎ ((of : StoreFault) × (fault ≡ Register of) × ((of ≡ store.NotEmpty) ⊎ (of ≡ store.Unavailable))
       × IsCaused ForbidsFiles (λ f. f ≡ store.Unavailable) of)
 
   -- For this a register's file is not migrated: it is no register, or one of another schema than 1, or migrating it failed.
@@ -83,6 +89,6 @@ module _ {D : Type 0} {g : Ghosts D} (held : Image) (rest : Option (Leftover D g
   abbrev pub IsNotReported : Fault → Type 0
   IsNotReported fault = IsNotOpened fault ⊎ (fault ≡ NoMemory)
 
-  -- For this an import is not carried out: no report would be given, or its file cannot be read.
+  -- For this an import is not carried out: no report would be given; or its file cannot be read, and then the register's is not opened.
   abbrev pub IsNotImported : Fault → Type 0
-  IsNotImported fault = IsNotReported fault ⊎ (fault ≡ CannotOpen)
+  IsNotImported fault = IsNotReported fault ⊎ ((fault ≡ CannotOpen) × (rest ≡ None))

@@ -1,7 +1,7 @@
 -- Requests that come in: all requests of an input are answered, or the first of them before a fault comes. Those of a
 -- register in a file are answered from the book that the file held, and what is left holds the book after them.
-use Rattle.std.specs.Prelude.{◌≡◌, ◌⊎◌, ◌<◌, ℕ, List, ◌++◌, length, Option, Some, Result, Err, IfErr, IfSome, IsErrOf, OnOk, ⊤}
-use Rattle.std.specs.Io.KnownBytes.{Appends, IsAtEnd, Keeps}
+use Rattle.std.specs.Prelude.{◌≡◌, ◌⊎◌, ◌<◌, ◌≤◌, ℕ, List, ◌++◌, length, Option, Some, Result, Err, IfErr, IfSome, IsErrOf, OnOk, ⊤}
+use Rattle.std.specs.Io.KnownBytes.{Appends, Consumes, IsAtEnd, Keeps}
 use Rattle.sqlite.specs.Files.{IsCleanLeft}
 use Rattle.sqlite.specs.declared.file.Leftover.{Leftover}
 use Rattle.sqlite_disk.specs.declared.Disk.{Ghosts}
@@ -11,12 +11,12 @@ use Rattle.fr_records.specs.Held.{Standing}
 use Rattle.fr_cli.specs.Answering.{AnswersLines, WasCutShort}
 use Rattle.fr_cli.specs.Faults.{IsNotOpened}
 use Rattle.fr_cli.specs.Performing.{of_script}
-use Rattle.fr_cli.specs.Script.{max_script, request_lines}
+use Rattle.fr_cli.specs.Script.{HasNo, max_script, request_lines}
 use Rattle.fr_cli.specs.ScriptFault.{script_fault_of}
 use Rattle.fr_cli.specs.declared.fault.Fault.{Fault}
 use Rattle.fr_cli.specs.declared.input.InputFault.{InputFault}
 use Rattle.fr_cli.specs.declared.script_fault.ScriptFault.{ScriptFault}
-use Rattle.fr_cli.specs.declared.script_fault.ScriptFault.TheVariants.{TooLong, WriteFailed}
+use Rattle.fr_cli.specs.declared.script_fault.ScriptFault.TheVariants.{ReadFailed, TooLong, TooManyReads, WriteFailed}
 
 -- These are the first requests of the input.
 abbrev pub AreFirstOf : List (List ℕ) → List ℕ → Type 0
@@ -30,17 +30,25 @@ AreFirstOfAll bytes lines = (more : List ℕ) → AreFirstOf lines (bytes ++ mor
 abbrev pub EndsLines : List ℕ → Type 0
 EndsLines bytes = (more : List ℕ) → request_lines (bytes ++ more) ≡ request_lines bytes ++ request_lines more
 
--- Of these bytes the lines that have an end were answered, and the others begin the next line; or a fault came.
+-- Of these bytes the lines that have an end were answered, and the others begin the next line, which has no end yet; or a
+-- fault came.
 pub record HasHeard (clean : Type 0) (old new : Standing) (bytes begun : List ℕ) (a b : Option (List ℕ)) (done : Result ⊤ ScriptFault) : Type 0 where
   pub heard : OnOk done ((front : List ℕ) × (written : List ℕ) × (bytes ≡ front ++ begun) × EndsLines front
-      × Appends a b written × AnswersLines clean old new (request_lines front) written)
+      × HasNo 10 begun × Appends a b written × AnswersLines clean old new (request_lines front) written)
   pub early : IfErr done (WasCutShort clean old new (AreFirstOfAll bytes) (AreFirstOfAll bytes) a b)
 
--- The input's requests were all answered; or the first of them were, and a fault came.
-pub record HasAnswered (clean : Type 0) (old new : Standing) (input a b : Option (List ℕ)) (done : Result ⊤ ScriptFault) : Type 0 where
-  pub all : OnOk done ((lines : List (List ℕ)) × (written : List ℕ) × IfSome input (λ bytes. lines ≡ request_lines bytes)
+-- What was taken of the input is whole lines, which were answered and no others, and behind them bytes with no line's end.
+abbrev pub AnswersEnded : Type 0 → Standing → Standing → Option (List ℕ) → Option (List ℕ) → Option (List ℕ) → Option (List ℕ) → Type 0
+AnswersEnded clean old new input left a b = (front : List ℕ) × (begun : List ℕ) × (written : List ℕ) × Consumes input left (front ++ begun)
+    × EndsLines front × HasNo 10 begun × Appends a b written × AnswersLines clean old new (request_lines front) written
+
+-- The input's requests were all answered, and it is not too long; or the first of them were, and a fault came. Where it was a fault of
+-- reading, each line whose end was taken was answered.
+pub record HasAnswered (clean : Type 0) (old new : Standing) (input left a b : Option (List ℕ)) (done : Result ⊤ ScriptFault) : Type 0 where
+  pub all : OnOk done ((lines : List (List ℕ)) × (written : List ℕ) × IfSome input (λ bytes. (lines ≡ request_lines bytes) × (length bytes ≤ max_script))
       × Appends a b written × AnswersLines clean old new lines written)
   pub early : IfErr done (WasCutShort clean old new (λ lines. IfSome input (AreFirstOf lines)) (λ lines. IfSome input (AreFirstOf lines)) a b)
+  pub unread : IfErr done (λ fault. (fault ≡ ReadFailed) ⊎ (fault ≡ TooManyReads) → AnswersEnded clean old new input left a b)
   pub too_long : IsErrOf done TooLong → IfSome input (λ bytes. max_script < length bytes)
   pub faults : IfErr done (λ fault. (fault ≡ WriteFailed) ⊎ ((of : InputFault) × (fault ≡ script_fault_of of)))
 
@@ -50,4 +58,4 @@ abbrev pub IsAsked : {D : Type 0} {g : Ghosts D} → Image → Option (Leftover 
 IsAsked {D} {g} file rest input left a b done =
     ((fault : Fault) × (done ≡ Err fault) × IsNotOpened file rest fault × Keeps input left × Keeps a b)
     ⊎ ((asked : Result ⊤ ScriptFault) × (last : Leftover D g) × (rest ≡ Some last) × (done ≡ of_script asked) × OnOk asked (IsAtEnd left)
-    × HasAnswered (IsCleanLeft last) (Held file) (IsLeftWith last) input a b asked)
+    × HasAnswered (IsCleanLeft last) (Held file) (IsLeftWith last) input left a b asked)

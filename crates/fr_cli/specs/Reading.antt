@@ -21,6 +21,10 @@ Reading X = Cluster → Book → Result X Refusal → Type 0
 abbrev pub IsRead : {X : Type 0} → Type 0 → Standing → Standing → Reading X → Result X Refusal → Type 0
 IsRead clean old new may read = clean → InSound old (λ c b. new c b × may c b read)
 
+-- The register stands for the same book as before.
+abbrev pub Stays : Type 0 → Standing → Standing → Type 0
+Stays clean old new = clean → InSound old (λ c b. new c b)
+
 -- What is printed is such a text of what was read; where that was refused, the refusal's line; or such a fault ended it.
 abbrev pub PrintsRead : {X : Type 0} → (Fault → Type 0) → (Result X Refusal → Type 0) → (X → List ℕ → Type 0) → Result (Vec ℕ) Failure → Type 0
 PrintsRead {X} May Is IsText (Ok text) = (x : X) × Is (Ok x) × IsText x text.items

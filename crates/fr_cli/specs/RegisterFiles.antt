@@ -15,6 +15,7 @@ use Rattle.fr_base.specs.declared.refusal.Refusal.{Refusal}
 use Rattle.fr_base.specs.declared.request.Ask.{Ask}
 use Rattle.fr_desks.specs.FileDesk.{Held, IsLeftWith, LeavesBook}
 use Rattle.fr_store.specs.Before.{HoldsBookBefore}
+use Rattle.fr_store.specs.Opening.{AllowsCreation, AllowsMigration}
 use Rattle.fr_store.specs.StoreFiles.{HoldsBook, image_left}
 use Rattle.fr_text.specs.ClusterFile.{config_of}
 use Rattle.fr_cli.specs.Asking.{IsAnswer}
@@ -32,15 +33,17 @@ module _ {D : Type 0} {g : Ghosts D} where
   abbrev pub IsReadOfFile : {X : Type 0} → Image → Option (Leftover D g) → Reading X → Result X Refusal → Type 0
   IsReadOfFile held rest may read = (last : Leftover D g) × (rest ≡ Some last) × IsRead (IsCleanLeft last) (Held held) (IsLeftWith last) may read
 
-  -- The files that are left hold the book of a new register of this cluster file.
-  abbrev pub IsLeftNew : Option (Leftover D g) → ClusterFile → Type 0
-  IsLeftNew rest f = (files : Files D) × (rest ≡ Some (left.Files files)) × LeavesBook g files f.cluster (opening f)
+  -- The files that are left hold the book of a new register of this cluster file. The file held no table before.
+  abbrev pub IsLeftNew : Image → Option (Leftover D g) → ClusterFile → Type 0
+  IsLeftNew held rest f = (files : Files D) × (rest ≡ Some (left.Files files)) × LeavesBook g files f.cluster (opening f)
+      × (IsCleanLeft {g = g} (left.Files files) → AllowsCreation held)
 
   -- Where it was done, a cluster file was read that says this, and such a register was made of it.
-  abbrev pub IsMade : Option (Leftover D g) → Result ⊤ Fault → Type 0
-  IsMade rest done = OnOk done ((text : List ℕ) × (f : ClusterFile) × (config_of text ≡ Ok f) × IsLeftNew rest f)
+  abbrev pub IsMade : Image → Option (Leftover D g) → Result ⊤ Fault → Type 0
+  IsMade held rest done = OnOk done ((text : List ℕ) × (f : ClusterFile) × (config_of text ≡ Ok f) × IsLeftNew held rest f)
 
-  -- Where it was done, what is left holds the book that the file held in schema 1.
+  -- Where it was done, the file held a register of schema 1, and what is left holds its book.
   abbrev pub IsMoved : Image → Option (Leftover D g) → Result ⊤ Fault → Type 0
   IsMoved held rest done = OnOk done ((last : Leftover D g) × (rest ≡ Some last)
-      × (IsCleanLeft last → (c : Cluster) (b : Book) → HoldsBookBefore c b held → HoldsBook c b (image_left last)))
+      × (IsCleanLeft last → (c : Cluster) (b : Book) → HoldsBookBefore c b held → HoldsBook c b (image_left last))
+      × (IsCleanLeft last → AllowsMigration held))

@@ -1,6 +1,6 @@
 -- Run of a script: it ends with the script's output, or with a fault. What the fault says of the script, and what was
 -- written before it.
-use Rattle.std.specs.Prelude.{◌≡◌, ◌⊎◌, ◌<◌, ℕ, List, length, Option, Some, None, Result, Ok, Err, IfSome, IsErrOf, OnOk, ⊤}
+use Rattle.std.specs.Prelude.{◌≡◌, ◌⊎◌, ◌<◌, ◌≤◌, ℕ, List, length, Option, Some, None, Result, Ok, Err, IfSome, IsErrOf, OnOk, ⊤}
 use Rattle.std.specs.Io.KnownBytes.{Appends, IsAtEnd, Keeps}
 use Rattle.fr_base.specs.Cluster.{ClusterFile, IsWellFormed}
 use Rattle.fr_text.specs.declared.cluster_file.ConfigFault.{ConfigFault}
@@ -21,10 +21,10 @@ pub record IsRunOf (script left old new : Option (List ℕ)) (done : Result ⊤ 
   pub too_long : IsErrOf done TooLong → Keeps old new × IfSome script (λ s. max_script < length s)
   pub too_many_reads : IsErrOf done TooManyReads → Keeps old new
   pub read_failed : IsErrOf done ReadFailed → Keeps old new
-  pub no_separator : IsErrOf done NoSeparator → Keeps old new × IsAtEnd left × IfSome script (λ s. cluster_in s ≡ None)
-  pub config : (fault : ConfigFault) → IsErrOf done (Config fault) →
-      Keeps old new × IfSome script (λ s. (cluster_in s ≡ Some (Err fault)) ⊎ (fault ≡ cluster.NoMemory))
+  pub no_separator : IsErrOf done NoSeparator → Keeps old new × IsAtEnd left × IfSome script (λ s. (length s ≤ max_script) × (cluster_in s ≡ None))
+  pub config : (fault : ConfigFault) → IsErrOf done (Config fault) → Keeps old new × IsAtEnd left
+      × IfSome script (λ s. (length s ≤ max_script) × ((cluster_in s ≡ Some (Err fault)) ⊎ (fault ≡ cluster.NoMemory)))
   pub no_memory : IsErrOf done NoMemory → Keeps old new
       ⊎ IfSome script (λ s. (written : List ℕ) × Appends old new written × LacksMemory s written)
   pub write_failed : IsErrOf done WriteFailed → IfSome script (λ s. (written : List ℕ) × Appends old new written × IsCutShort s written)
-  pub unavailable : IsErrOf done Unavailable → Keeps old new × IsAtEnd left × IfSome script HasCluster
+  pub unavailable : IsErrOf done Unavailable → Keeps old new × IsAtEnd left × IfSome script (λ s. (length s ≤ max_script) × HasCluster s)

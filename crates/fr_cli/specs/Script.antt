@@ -1,7 +1,7 @@
 -- Script: all before the first line `---` is the cluster file; each later line that is not empty is a request, its key
 -- before the first space and its text after it.
-use Rattle.std.specs.Prelude.{ℕ, ◌==◌, nat_lt, Bool, if◌then◌else◌, Option, Some, None, List, [], ◌∷◌, length, filter, codes}
-use Rattle.std.specs.List.{list_any, concat, before_first, after_first}
+use Rattle.std.specs.Prelude.{ℕ, ◌≡◌, ◌==◌, nat_lt, Bool, false, if◌then◌else◌, Option, Some, None, List, [], ◌∷◌, length, filter, codes}
+use Rattle.std.specs.List.{AllByRecursion, list_any, concat, before_first, after_first}
 use Rattle.std.specs.Str.{bytes_eq}
 use Rattle.std.specs.Str.Lines.{lines}
 
@@ -32,6 +32,10 @@ parts_of bytes =
 -- the requests after the separator's line: the lines that are not empty, without their ends
 unfoldable pub request_lines : List ℕ → List (List ℕ)
 request_lines bytes = filter (λ line. nat_lt 0 (length line)) (lines bytes)
+
+-- no byte of the list is c
+abbrev pub HasNo : ℕ → List ℕ → Type 0
+HasNo c = AllByRecursion (λ b. (b == c) ≡ false)
 
 -- what stands before the first such byte and after it, if there is one
 abbrev pub parts_around : ℕ → List ℕ → Option (List ℕ × List ℕ)

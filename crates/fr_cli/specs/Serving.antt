@@ -42,27 +42,32 @@ TellsEach old new [] = Keeps old new
 TellsEach old new (Ok _ ∷ ends) = TellsEach old new ends
 TellsEach old new (Err fault ∷ ends) = (mid : Option (List ℕ)) × AppendsFront old mid (word_line (link_word fault)) × TellsEach mid new ends
 
--- For this a server that has opened its register ends early. Unavailable it is where the register's files are not those at its path.
-abbrev pub StopsServing : Fault → Type 0
-StopsServing fault = (fault ≡ CannotListen) ⊎ (fault ≡ Register Unavailable) ⊎ (fault ≡ NoMemory) ⊎ (fault ≡ WriteFailed)
+-- For this a server that has opened its register ends early, behind connections that ended so. For want of memory, or because its line cannot
+-- be printed, it ends only before the first of them.
+abbrev pub StopsServing : List (Result ⊤ LinkFault) → Fault → Type 0
+StopsServing ends fault = (fault ≡ CannotListen) ⊎ (fault ≡ Register Unavailable)
+    ⊎ ((ends ≡ []) × ((fault ≡ NoMemory) ⊎ (fault ≡ WriteFailed)))
 
--- Connections were served one after another: all that were to be, or fewer, and a fault came. The ends of those that failed were told.
-pub record HasServed (clean : Type 0) (old new : Standing) (count : ℕ) (a b : Option (List ℕ)) (done : Result ⊤ Fault) : Type 0 where
+-- Connections were served one after another: all that were to be, or fewer, and a fault came. The ends of those that failed were told. None was
+-- served before this was said of the server.
+pub record HasServed (clean : Type 0) (old new : Standing) (count : ℕ) (said : Type 0) (a b : Option (List ℕ)) (done : Result ⊤ Fault) : Type 0 where
   pub ends : List (Result ⊤ LinkFault)
   pub served : ServesAll clean old new ends
   pub told : TellsEach a b ends
   pub all : OnOk done (length ends ≡ count)
   pub few : length ends ≤ count
-  pub fault : IfErr done StopsServing
+  pub fault : IfErr done (StopsServing ends)
+  pub first : (ends ≡ []) ⊎ said
 
 -- The line that says where the server listens was printed, or where a fault ended it a front of it.
 abbrev pub IsAnnounced : ℕ → Option (List ℕ) → Option (List ℕ) → Result ⊤ Fault → Type 0
 IsAnnounced port a b done = AppendsFront a b (listening port) × OnOk done (Appends a b (listening port))
 
--- The register was not opened, and nothing was printed or told; or its file was opened and closed, and connections were served: as long as
--- nobody else wrote to the file, from the book that it held, and what is left holds the book after them.
-abbrev pub IsServed : {D : Type 0} {g : Ghosts D} → Image → Option (Leftover D g) → ℕ → Option (List ℕ) → Option (List ℕ) → Option (List ℕ) → Option (List ℕ)
+-- The register was not opened, and nothing was printed or told; or its file was opened, and connections were served: as long as nobody else
+-- wrote to the file, from the book that it held, and what is left holds the book after them. The line that says where the server listens was
+-- printed before.
+abbrev pub IsServed : {D : Type 0} {g : Ghosts D} → Image → Option (Leftover D g) → ℕ → ℕ → Option (List ℕ) → Option (List ℕ) → Option (List ℕ) → Option (List ℕ)
     → Result ⊤ Fault → Type 0
-IsServed {D} {g} file rest count out out' a b done =
+IsServed {D} {g} file rest port count out out' a b done =
     ((fault : Fault) × (done ≡ Err fault) × IsNotOpened file rest fault × Keeps out out' × Keeps a b)
-    ⊎ ((last : Leftover D g) × (rest ≡ Some last) × HasServed (IsCleanLeft last) (Held file) (IsLeftWith last) count a b done)
+    ⊎ ((last : Leftover D g) × (rest ≡ Some last) × HasServed (IsCleanLeft last) (Held file) (IsLeftWith last) count (Appends out out' (listening port)) a b done)

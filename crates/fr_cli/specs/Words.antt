@@ -1,19 +1,36 @@
--- Program's words: which job the words of the command line name.
-use Rattle.std.specs.Prelude.{◌≡◌, ◌≤◌, ℕ, List, Option, Some, codes, option_map, ⊤}
+-- Program's words: which job the words of the command line name, and which number a word is. When `clap` takes them; and
+-- why they are refused: they ask for help, have another fault, or name no job.
+use Rattle.std.specs.Prelude.{◌≡◌, ◌≢◌, ◌≤◌, ◌⊎◌, [], ℕ, List, None, Option, Some, codes, option_map, ⊤}
 use Rattle.std.specs.Borrow.{Bor}
-use Rattle.clap.specs.Walk.{Row, Text, first_of}
-use Rattle.clap.specs.Words.{subcommand_of}
+use Rattle.std.specs.Str.Parse.{IsNumeral, digits_value, without_leading_plus}
+use Rattle.clap.specs.Walk.{Row, Text, first_of, one_of}
+use Rattle.clap.specs.Words.{IsAmong, fault_of, subcommand_of}
+use Rattle.clap.specs.declared.error.kind.ErrorKind.{ErrorKind}
+use Rattle.clap.specs.declared.error.kind.ErrorKind.TheVariants.{DisplayHelp, DisplayVersion, OutOfMemory, ValueValidation}
 use Rattle.fr_base.specs.Queries.{word_of}
 use Rattle.fr_base.specs.declared.report.Report.{Report}
 use Rattle.fr_base.specs.declared.report.Report.TheVariants.{Layout}
 use Rattle.fr_cli.specs.Commands.{slotplan}
 use Rattle.fr_cli.specs.declared.words.Job.{Job}
 use Rattle.fr_cli.specs.declared.words.Job.TheVariants.{Run, Create, Migrate, Serve, Ask, Variants, Report as ReportOn, Picture, Import, Check, Explain}
+use Rattle.fr_cli.specs.declared.words.WordFault.{WordFault}
+use Rattle.fr_cli.specs.declared.words.WordFault.TheVariants.{Help, Usage, NoMemory}
 use Rattle.fr_cli.specs.declared.query.Query.{Query}
 
 -- The word at this place is this text.
 abbrev pub Has : Text → List Row → Text → Type 0
 Has name rows text = first_of name rows ≡ Some text
+
+-- The word at this place is this number, 1 to `most`, in decimal digits. A plus before them is passed over. So is a minus, but `clap`
+-- refuses such a word.
+abbrev pub HasNumber : Text → ℕ → List Row → ℕ → Type 0
+HasNumber name most rows number = (text : Text) × (one_of name rows ≡ Some text) × IsNumeral 10 (without_leading_plus text)
+    × (number ≡ digits_value 10 (without_leading_plus text)) × (1 ≤ number) × (number ≤ most)
+
+-- The number is the one at this place. Where none is given, none from 1 to `most` stands there.
+abbrev pub IsNumberIn : Option ℕ → Text → ℕ → List Row → Type 0
+IsNumberIn (Some number) name most rows = HasNumber name most rows number
+IsNumberIn None name most rows = (number : ℕ) → HasNumber name most rows number → ⊥
 
 -- The frame of a layout is the word at its place.
 abbrev pub HasFrame : Report (Bor (List ℕ)) → List Row → Type 0
@@ -35,7 +52,8 @@ IsJobOf Run name rows = name ≡ codes "run"
 IsJobOf (Create db config) name rows = (name ≡ codes "create") × Has (codes "DB") rows db.now × Has (codes "CONFIG") rows config.now
 IsJobOf (Migrate db) name rows = (name ≡ codes "migrate") × Has (codes "DB") rows db.now
 IsJobOf (Serve db port count seconds) name rows = (name ≡ codes "serve") × Has (codes "DB") rows db.now
-    × (1 ≤ port) × (port ≤ 65535) × (1 ≤ count) × (count ≤ 1000000) × (1 ≤ seconds) × (seconds ≤ 3600)
+    × HasNumber (codes "PORT") 65535 rows port × HasNumber (codes "count") 1000000 rows count
+    × HasNumber (codes "seconds") 3600 rows seconds
 IsJobOf (Ask db) name rows = (name ≡ codes "ask") × Has (codes "DB") rows db.now
 IsJobOf (Variants db supplier) name rows = (name ≡ codes "variants") × Has (codes "DB") rows db.now × IsOfSupplier supplier rows
 IsJobOf (ReportOn db query) name rows = (name ≡ word_of query.report) × Has (codes "DB") rows db.now × IsQueryIn rows query
@@ -46,6 +64,41 @@ IsJobOf (Import db key variant label file) name rows = (name ≡ codes "import")
 IsJobOf (Check config) name rows = (name ≡ codes "check") × Has (codes "CONFIG") rows config.now
 IsJobOf (Explain word) name rows = (name ≡ codes "explain") × (option_map (λ w. w.now) word ≡ first_of (codes "WORD") rows)
 
+-- The job is that of the subcommand of this name with these words. Where none is given, the subcommand has none with them.
+abbrev pub IsJobIn : Option Job → Text → List Row → Type 0
+IsJobIn (Some job) name rows = IsJobOf job name rows
+IsJobIn None name rows = (job : Job) → IsJobOf job name rows → ⊥
+
+-- The same of the subcommand that was found, if one was.
+abbrev pub IsJobFound : Option Job → Option (Text × List Row) → Type 0
+IsJobFound job (Some found) = IsJobIn job found.0 found.1
+IsJobFound job None = job ≡ None
+
 -- The words ask for the job: it is that of the subcommand that `clap` finds in them.
 abbrev pub AskFor : List Text → Job → Type 0
-AskFor words job = (name : Text) × (rows : List Row) × (subcommand_of slotplan words ≡ Some (name, rows)) × IsJobOf job name rows
+AskFor words job = IsJobFound (Some job) (subcommand_of slotplan words)
+
+-- The words ask for no job.
+abbrev pub AskForNone : List Text → Type 0
+AskForNone words = IsJobFound None (subcommand_of slotplan words)
+
+-- `clap` finds no fault in the words.
+abbrev pub AreTaken : List Text → Type 0
+AreTaken words = fault_of slotplan words ≡ []
+
+-- An error of this kind may refuse the words. Memory ran out; or `clap` finds a fault of this kind in them; or it finds none, and they ask for
+-- no job.
+abbrev pub MayRefuse : List Text → ErrorKind → Type 0
+MayRefuse words kind = (kind ≡ OutOfMemory) ⊎ (IsAmong kind (fault_of slotplan words)
+    ⊎ ((kind ≡ ValueValidation) × AreTaken words × AskForNone words))
+
+-- An error of this kind is told as this fault. Help is for help and for the version. The usage is for all other kinds but want of memory.
+-- `NoMemory` may be for any, since the text takes memory.
+abbrev pub IsOfKind : ErrorKind → WordFault → Type 0
+IsOfKind kind (Help text) = (kind ≡ DisplayHelp) ⊎ (kind ≡ DisplayVersion)
+IsOfKind kind (Usage text) = (kind ≢ DisplayHelp) × (kind ≢ DisplayVersion) × (kind ≢ OutOfMemory)
+IsOfKind kind NoMemory = ⊤
+
+-- The words have this fault: an error tells it that may refuse them.
+abbrev pub IsFaultOf : List Text → WordFault → Type 0
+IsFaultOf words fault = (kind : ErrorKind) × MayRefuse words kind × IsOfKind kind fault

@@ -3,7 +3,8 @@ ghost use Rattle.std.specs.Prelude.{◌≡◌, IfOk};
 ghost use Rattle.fr_base.specs.Actors.{actor_of};
 ghost use Rattle.fr_text.specs.AnswerText.{report_of};
 ghost use Rattle.fr_cli.specs.Asked.{asked_by};
-ghost use Rattle.fr_cli.specs.Asking.{IsAnswer, IsRefusedBy, Prints, import_of, import_request, is_refusal, line_of, query_of};
+ghost use Rattle.fr_cli.specs.Reading.{Stays};
+ghost use Rattle.fr_cli.specs.Asking.{IsAnswer, IsRefusedBy, Leads, Prints, import_of, import_request, is_refusal, line_of, query_of};
 
 use crate::failure::Failure;
 use crate::fault::Fault;
@@ -17,6 +18,7 @@ use std::alloc::Global;
 pub fn report_on<D: Desk>(alloc: Global, desk: &mut D, query: Query<'_>) -> Result<Vec<u8>, Failure>
     ensures falls { D.clean desk.new → D.clean desk.old }
     ensures prints { Prints (IsAnswer (D.clean desk.new) (D.stands desk.old) (D.stands desk.new) (query_of query.entry)) report_of result }
+    ensures stays { Stays (D.clean desk.new) (D.stands desk.old) (D.stands desk.new) }
 {
     let request = query.request(alloc)?;
     let answer = ask_as(alloc, desk, query.reader(), request);
@@ -59,6 +61,7 @@ pub fn import<D: Desk>(
 ) -> Result<Vec<u8>, Failure>
     ensures falls { D.clean desk.new → D.clean desk.old }
     ensures prints { Prints (IsAnswer (D.clean desk.new) (D.stands desk.old) (D.stands desk.new) (import_of words.entry body.now)) line_of result }
+    ensures leads { Leads (D.clean desk.new) (D.stands desk.old) (D.stands desk.new) (import_of words.entry body.now) }
 {
     let request = words.request(alloc, body)?;
     let answer = ask_by(alloc, desk, words.key, request);

@@ -4,8 +4,11 @@ ghost use Rattle.clap.specs.Words.{Text, new_app, rule_of};
 ghost use Rattle.fr_cli.specs.Commands as app;
 ghost use Rattle.fr_cli.specs.Commands.{IsReadAs};
 
-use clap::{Arg, ArgAction, Command, Error, value_parser};
-use std::alloc::Global;
+use clap::{Arg, ArgAction, Command, value_parser};
+use std::alloc::{AllocError, Global};
+
+/// The greatest port of TCP.
+pub const MAX_PORT: u32 = 65_535;
 
 /// How many connections are served at most, and where no number is given.
 pub const MAX_CONNECTIONS: u32 = 1_000_000;
@@ -14,7 +17,7 @@ pub const MAX_CONNECTIONS: u32 = 1_000_000;
 pub const MAX_SECONDS: u32 = 3_600;
 
 /// The program's command line: a subcommand for each thing that it does.
-pub fn program<'a>(alloc: Global) -> Result<Command<'a>, Error>
+pub fn program<'a>(alloc: Global) -> Result<Command<'a>, AllocError>
     ensures { IfOk result (IsReadAs app.slotplan) }
 {
     let program = settings(Command::new(alloc, "slotplan").bin_name("slotplan")?)
@@ -57,7 +60,7 @@ fn run<'a>(alloc: Global) -> Command<'a>
         .after_help(RUN_HELP)
 }
 
-fn create<'a>(alloc: Global) -> Result<Command<'a>, Error>
+fn create<'a>(alloc: Global) -> Result<Command<'a>, AllocError>
     ensures { IfOk result (IsReadAs app.create) }
 {
     let command = Command::new(alloc, "create")
@@ -72,7 +75,7 @@ fn create<'a>(alloc: Global) -> Result<Command<'a>, Error>
     Ok(command)
 }
 
-fn migrate<'a>(alloc: Global) -> Result<Command<'a>, Error>
+fn migrate<'a>(alloc: Global) -> Result<Command<'a>, AllocError>
     ensures { IfOk result (IsReadAs app.migrate) }
 {
     let command = Command::new(alloc, "migrate")
@@ -82,7 +85,7 @@ fn migrate<'a>(alloc: Global) -> Result<Command<'a>, Error>
     Ok(command)
 }
 
-fn serve<'a>(alloc: Global) -> Result<Command<'a>, Error>
+fn serve<'a>(alloc: Global) -> Result<Command<'a>, AllocError>
     ensures { IfOk result (IsReadAs app.serve) }
 {
     let command = Command::new(alloc, "serve")
@@ -128,7 +131,7 @@ fn seconds<'a>(alloc: Global) -> Arg<'a>
         .value_parser(value_parser!(u32).range(1..=3_600))
 }
 
-fn ask<'a>(alloc: Global) -> Result<Command<'a>, Error>
+fn ask<'a>(alloc: Global) -> Result<Command<'a>, AllocError>
     ensures { IfOk result (IsReadAs app.ask) }
 {
     let command = Command::new(alloc, "ask")
@@ -138,7 +141,7 @@ fn ask<'a>(alloc: Global) -> Result<Command<'a>, Error>
     Ok(command)
 }
 
-fn variants<'a>(alloc: Global) -> Result<Command<'a>, Error>
+fn variants<'a>(alloc: Global) -> Result<Command<'a>, AllocError>
     ensures { IfOk result (IsReadAs app.variants) }
 {
     let command = Command::new(alloc, "variants")
@@ -154,7 +157,7 @@ fn report<'a>(
     name: &'a str,
     about: &'a str,
     help: &'a str,
-) -> Result<Command<'a>, Error>
+) -> Result<Command<'a>, AllocError>
     ensures { IfOk result (IsReadAs (app.report name.entry.now)) }
 {
     let command = Command::new(alloc, name)
@@ -167,7 +170,7 @@ fn report<'a>(
 }
 
 // The report of one frame.
-fn layout<'a>(alloc: Global) -> Result<Command<'a>, Error>
+fn layout<'a>(alloc: Global) -> Result<Command<'a>, AllocError>
     ensures { IfOk result (IsReadAs app.layout) }
 {
     let command = report(alloc, "layout", LAYOUT_ABOUT, LAYOUT_HELP)?.arg(word(
@@ -178,7 +181,7 @@ fn layout<'a>(alloc: Global) -> Result<Command<'a>, Error>
     Ok(command)
 }
 
-fn import<'a>(alloc: Global) -> Result<Command<'a>, Error>
+fn import<'a>(alloc: Global) -> Result<Command<'a>, AllocError>
     ensures { IfOk result (IsReadAs app.import_words) }
 {
     let command = Command::new(alloc, "import")
@@ -198,7 +201,7 @@ fn import<'a>(alloc: Global) -> Result<Command<'a>, Error>
     Ok(command)
 }
 
-fn check<'a>(alloc: Global) -> Result<Command<'a>, Error>
+fn check<'a>(alloc: Global) -> Result<Command<'a>, AllocError>
     ensures { IfOk result (IsReadAs app.check) }
 {
     let command = Command::new(alloc, "check")
@@ -212,7 +215,7 @@ fn check<'a>(alloc: Global) -> Result<Command<'a>, Error>
     Ok(command)
 }
 
-fn explain<'a>(alloc: Global) -> Result<Command<'a>, Error>
+fn explain<'a>(alloc: Global) -> Result<Command<'a>, AllocError>
     ensures { IfOk result (IsReadAs app.explain) }
 {
     let command = Command::new(alloc, "explain")

@@ -2,7 +2,7 @@
 ghost use Rattle.std.specs.Prelude.{◌≡◌, ℕ, List, IfErr, IfOk, Ok, OnOk};
 ghost use Rattle.sqlite_wal.specs.Files.{image_at};
 ghost use Rattle.fr_text.specs.ClusterFile.{config_of};
-ghost use Rattle.fr_cli.specs.Faults.{IsNotMade, IsNotRead};
+ghost use Rattle.fr_cli.specs.Faults.{IsClusterFault, IsNotMade, IsNotRead};
 ghost use Rattle.fr_cli.specs.RegisterFiles.{IsLeftNew, IsMade};
 
 use crate::fault::Fault;
@@ -11,6 +11,7 @@ use fr_base::Config;
 use fr_desks::{Left, file_desk};
 use fr_text::read_config;
 use sqlite::{Leftover, Start};
+use std::alloc::Global;
 
 /// The most bytes that a cluster file may have.
 pub const CONFIG_BYTES: usize = 1_048_576;
@@ -24,7 +25,7 @@ pub fn create<S: Start>(
     start: S,
 ) -> (Result<(), Fault>, Left<S>)
     ensures fault { IfErr result.0 (IsNotMade (image_at S.Start) result.1) }
-    ensures made { IsMade result.1 result.0 }
+    ensures made { IsMade (image_at S.Start) result.1 result.0 }
 {
     match read_cluster(rt, config) {
         Ok(config) => make(rt, db, &config, start),
@@ -40,7 +41,7 @@ fn make<S: Start>(
     start: S,
 ) -> (Result<(), Fault>, Left<S>)
     ensures fault { IfErr result.0 (IsNotMade (image_at S.Start) result.1) }
-    ensures made { OnOk result.0 (IsLeftNew result.1 config.now) }
+    ensures made { OnOk result.0 (IsLeftNew (image_at S.Start) result.1 config.now) }
 {
     match file_desk::create(rt, db, config, start) {
         Ok(files) => (Ok(()), Some(Leftover::Files(files))),
@@ -54,5 +55,13 @@ fn read_cluster(rt: &HostRuntime, path: &str) -> Result<Config, Fault>
     ensures fault { IfErr result IsNotRead }
 {
     let text = read_file(rt, path, CONFIG_BYTES)?;
-    Ok(read_config(rt.alloc(), &text)?)
+    cluster_in(rt.alloc(), &text)
+}
+
+// What the bytes of a cluster file say.
+fn cluster_in(alloc: Global, text: &[u8]) -> Result<Config, Fault>
+    ensures read { IfOk result (λ config. config_of text.now ≡ Ok config) }
+    ensures fault { IfErr result (IsClusterFault text.now) }
+{
+    Ok(read_config(alloc, text)?)
 }

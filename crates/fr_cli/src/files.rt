@@ -1,5 +1,6 @@
 //! The files of the command line that are texts: cluster files and imports.
-ghost use Rattle.std.specs.Prelude.{◌≡◌, ◌⊎◌, ◌≤◌, vec_len, IfErr, IfOk};
+ghost use Rattle.std.specs.Io.KnownBytes.{IsAtEnd};
+ghost use Rattle.std.specs.Prelude.{◌≡◌, ◌⊎◌, ◌≤◌, vec_len, IfErr, IfOk, IfSome, OnOk};
 
 use crate::fault::Fault;
 use crate::input::{InputFault, ReadBounds, read_within};
@@ -39,6 +40,8 @@ fn open(rt: &HostRuntime, path: &str) -> Result<File, Fault>
 
 // Reads a reader to its end, within bounds.
 fn read_whole<R: Read>(rt: &HostRuntime, reader: &mut R, bytes: usize) -> Result<Vec<u8>, Fault>
+    ensures whole { IfOk result (λ text. IfSome (R.remaining reader.old) (λ all. text.items ≡ all)) }
+    ensures end { OnOk result (IsAtEnd (R.remaining reader.new)) }
     ensures bound { IfOk result (λ text. vec_len text ≤ bytes) }
     ensures fault { IfErr result (λ fault. (fault ≡ Fault.CannotOpen) ⊎ (fault ≡ Fault.NoMemory)) }
 {

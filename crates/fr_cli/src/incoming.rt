@@ -2,6 +2,7 @@
 ghost use Rattle.std.specs.Prelude.{◌≡◌, ◌⊎◌, ◌++◌, IfErr, OnOk};
 ghost use Rattle.std.specs.Io.KnownBytes.{IsAtEnd};
 ghost use Rattle.fr_cli.specs.Incoming.{HasAnswered, HasHeard};
+ghost use Rattle.fr_cli.specs.Script.{HasNo};
 ghost use Rattle.fr_cli.specs.ScriptFault.{script_fault_of};
 ghost use Rattle.fr_cli.specs.declared.input.InputFault.{InputFault};
 
@@ -25,7 +26,7 @@ pub fn answer_input<D: Desk, R: Read, W: Write>(
     writer: &mut W,
 ) -> Result<(), ScriptFault>
     ensures falls { D.clean desk.new → D.clean desk.old }
-    ensures answered { HasAnswered (D.clean desk.new) (D.stands desk.old) (D.stands desk.new) (R.remaining reader.old) (W.contents writer.old) (W.contents writer.new) result }
+    ensures answered { HasAnswered (D.clean desk.new) (D.stands desk.old) (D.stands desk.new) (R.remaining reader.old) (R.remaining reader.new) (W.contents writer.old) (W.contents writer.new) result }
     ensures end { OnOk result (IsAtEnd (R.remaining reader.new)) }
 {
     let mut output = Output::new(writer);
@@ -40,7 +41,7 @@ fn answer_pieces<D: Desk, R: Read, W: Write>(
     output: &mut Output<'_, W>,
 ) -> Result<(), ScriptFault>
     ensures falls { D.clean desk.new → D.clean desk.old }
-    ensures answered { HasAnswered (D.clean desk.new) (D.stands desk.old) (D.stands desk.new) (R.remaining reader.old)
+    ensures answered { HasAnswered (D.clean desk.new) (D.stands desk.old) (D.stands desk.new) (R.remaining reader.old) (R.remaining reader.new)
         (W.contents output.old.writer.now) (W.contents output.new.writer.now) result }
     ensures end { OnOk result (IsAtEnd (R.remaining reader.new)) }
     ensures same { output.new.writer.ghost_name ≡ output.old.writer.ghost_name }
@@ -62,7 +63,7 @@ fn answer_pieces<D: Desk, R: Read, W: Write>(
 }
 
 // Answers each line that the piece ends, the first of which was begun before. What follows the last of them
-// begins the next line.
+// begins the next line. What is begun has no line's end in it, before and after.
 fn answer_piece<D: Desk, W: Write>(
     alloc: Global,
     desk: &mut D,
@@ -70,6 +71,7 @@ fn answer_piece<D: Desk, W: Write>(
     piece: &[u8],
     output: &mut Output<'_, W>,
 ) -> Result<(), ScriptFault>
+    requires { HasNo 10 begun.old.items }
     ensures falls { D.clean desk.new → D.clean desk.old }
     ensures heard { HasHeard (D.clean desk.new) (D.stands desk.old) (D.stands desk.new) (begun.old.items ++ piece.now) begun.new.items
         (W.contents output.old.writer.now) (W.contents output.new.writer.now) result }

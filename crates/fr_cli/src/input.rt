@@ -16,7 +16,7 @@ pub const SCRIPT_BYTES: usize = 16_777_216;
 /// The most reads in which a script is read, interrupted ones and the one that meets its end included.
 pub const SCRIPT_READS: u32 = 20_000_000;
 
-//// How many bytes one read asks for.
+/// How many bytes one read asks for.
 pub const PIECE_BYTES: usize = 8192;
 
 /// How much of an input is read.

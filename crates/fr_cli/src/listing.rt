@@ -3,7 +3,7 @@ ghost use Rattle.std.specs.Prelude.{◌≡◌, Ok, Err, MatchResult};
 ghost use Rattle.fr_answers.specs.KeptPages.{StandsWarm};
 ghost use Rattle.fr_cli.specs.Listing.{AreLines, variants_for};
 ghost use Rattle.fr_cli.specs.Queries.{named};
-ghost use Rattle.fr_cli.specs.Reading.{IsRead, PrintsRead};
+ghost use Rattle.fr_cli.specs.Reading.{IsRead, PrintsRead, Stays};
 ghost use Rattle.fr_cli.specs.declared.fault.Fault.TheVariants.{NoMemory as Lacking};
 
 use crate::asking::refused;
@@ -24,6 +24,7 @@ pub fn list<R: Records>(
 ) -> Result<Vec<u8>, Failure>
     ensures falls { R.clean office.new.records → R.clean office.old.records }
     ensures prints { PrintsRead (λ fault. fault ≡ Lacking) (IsRead (R.clean office.new.records) (StandsWarm R.stands office.old) (StandsWarm R.stands office.new) (variants_for (named supplier.entry))) AreLines result }
+    ensures stays { Stays (R.clean office.new.records) (StandsWarm R.stands office.old) (StandsWarm R.stands office.new) }
 {
     match variants_for(alloc, office, named(supplier)) {
         Ok(variants) => Ok(write_variants(alloc, &variants)?),

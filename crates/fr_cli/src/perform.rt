@@ -1,5 +1,5 @@
 //! Does a job, and says how it ended: what is printed of it, and its status.
-ghost use Rattle.std.specs.Prelude.{◌≡◌, ◌⊎◌, Option, Result, IfErr, ⊤, List, ℕ};
+ghost use Rattle.std.specs.Prelude.{◌≡◌, ◌⊎◌, Err, Option, Result, IfErr, ⊤, List, ℕ};
 ghost use Rattle.std.specs.Borrow.{Bor};
 ghost use Rattle.std.specs.Global.{Vec};
 ghost use Rattle.std.specs.Io.KnownBytes.{Appends, Keeps};
@@ -65,7 +65,7 @@ pub fn perform<S: Start, R: Read, O: Write, E: Write>(
         × Tells (E.contents err.old) (E.contents err.new) (of_script done)
         × IsRunOf (R.remaining input.old) (R.remaining input.new) (O.contents out.old) (O.contents out.new) done }
     ensures create { (db config : Bor (List ℕ)) → job.now ≡ Job.Create db config → (done : Result ⊤ Word) × (result.0 ≡ status_of done)
-        × IfErr done (IsNotMade (image_at S.Start) result.1) × IsMade result.1 done
+        × IfErr done (IsNotMade (image_at S.Start) result.1) × IsMade (image_at S.Start) result.1 done
         × Keeps (O.contents out.old) (O.contents out.new) × Tells (E.contents err.old) (E.contents err.new) done }
     ensures migrate { (db : Bor (List ℕ)) → job.now ≡ Job.Migrate db → (done : Result ⊤ Word) × (result.0 ≡ status_of done)
         × IfErr done (IsNotMigrated (image_at S.Start) result.1) × IsMoved (image_at S.Start) result.1 done
@@ -88,7 +88,7 @@ pub fn perform<S: Start, R: Read, O: Write, E: Write>(
         × IsTold done (O.contents out.old) (O.contents out.new) (E.contents err.old) (E.contents err.new) result.0 }
     ensures serve { (db : Bor (List ℕ)) (port count seconds : ℕ) → job.now ≡ Job.Serve db port count seconds → (done : Result ⊤ Word) × (result.0 ≡ status_of done)
         × IsAnnounced port (O.contents out.old) (O.contents out.new) done
-        × ((told : Option (List ℕ)) × IsServed (image_at S.Start) result.1 count (O.contents out.old) (O.contents out.new) (E.contents err.old) told done
+        × ((told : Option (List ℕ)) × IsServed (image_at S.Start) result.1 port count (O.contents out.old) (O.contents out.new) (E.contents err.old) told done
         × Tells told (E.contents err.new) done) }
 {
     let mut err = Output::new(err);
@@ -156,13 +156,15 @@ pub fn perform<S: Start, R: Read, O: Write, E: Write>(
     }
 }
 
-/// Says why words name no job, and gives the status: 0 where help or the version was asked for, 1 where there was no
-/// memory, 2 where the program was called otherwise.
+/// Says why words name no job, and gives the status: 0 where help or the version was asked for and is printed; 1 where it
+/// cannot be printed, or there was no memory; 2 where the program was called otherwise.
 pub fn explain<O: Write, E: Write>(fault: &WordFault, out: &mut O, err: &mut E) -> u8
     ensures help { (text : _) → fault.now ≡ WordFault.Help text
         → IsPrinted text.bytes.items (O.contents out.old) (O.contents out.new) (E.contents err.old) (E.contents err.new) result }
     ensures usage { (text : _) → fault.now ≡ WordFault.Usage text → (result ≡ 2) × Keeps (O.contents out.old) (O.contents out.new)
         × AppendsFront (E.contents err.old) (E.contents err.new) text.bytes.items }
+    ensures memory { fault.now ≡ WordFault.NoMemory → (result ≡ 1) × Keeps (O.contents out.old) (O.contents out.new)
+        × Tells (E.contents err.old) (E.contents err.new) (Err Fault.NoMemory) }
 {
     let mut err = Output::new(err);
     match fault {

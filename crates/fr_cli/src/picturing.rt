@@ -7,7 +7,7 @@ ghost use Rattle.fr_plans.specs.Reports.{Reads};
 ghost use Rattle.fr_world.specs.BookEdits.{variants_in};
 ghost use Rattle.fr_cli.specs.Picturing.{IsPlan, plans_for, supplier_of};
 ghost use Rattle.fr_cli.specs.Queries.{named};
-ghost use Rattle.fr_cli.specs.Reading.{IsRead, PrintsRead};
+ghost use Rattle.fr_cli.specs.Reading.{IsRead, PrintsRead, Stays};
 ghost use Rattle.fr_cli.specs.declared.fault.Fault.TheVariants.{NoMemory as Lacking};
 
 use crate::asking::refused;
@@ -30,6 +30,7 @@ pub fn picture<R: Records>(
 ) -> Result<Vec<u8>, Failure>
     ensures falls { R.clean office.new.records → R.clean office.old.records }
     ensures prints { PrintsRead (λ fault. fault ≡ Lacking) (IsRead (R.clean office.new.records) (StandsWarm R.stands office.old) (StandsWarm R.stands office.new) (plans_for (named supplier.entry) variant.now)) IsPage result }
+    ensures stays { Stays (R.clean office.new.records) (StandsWarm R.stands office.old) (StandsWarm R.stands office.new) }
 {
     match plan_for(alloc, office, variant, named(supplier)) {
         Ok(plan) => Ok(write_page(alloc, &plan)?.into_bytes()),

@@ -1,7 +1,7 @@
 //! What is printed of a job on standard output and standard error, and its status.
-ghost use Rattle.std.specs.Prelude.{◌≡◌, ◌≤◌, OnOk};
+ghost use Rattle.std.specs.Prelude.{◌≡◌, ◌≤◌, OnErr, OnOk};
 ghost use Rattle.std.specs.Io.KnownBytes.{Appends};
-ghost use Rattle.fr_cli.specs.Endings.{AppendsFront, IsPrinted, IsTold, Tells, status_of, word_line};
+ghost use Rattle.fr_cli.specs.Endings.{AppendsFront, AppendsLess, IsPrinted, IsTold, Tells, status_of, word_line};
 
 use crate::failure::Failure;
 use crate::fault::Fault;
@@ -54,6 +54,7 @@ pub fn end<E: Write>(done: Result<(), Fault>, err: &mut Output<'_, E>) -> u8
 /// Writes the text.
 pub fn print<W: Write>(text: &[u8], output: &mut Output<'_, W>) -> Result<(), WriteFailed>
     ensures ok { OnOk result (Appends (W.contents output.old.writer.now) (W.contents output.new.writer.now) text.now) }
+    ensures err { OnErr result (AppendsLess (W.contents output.old.writer.now) (W.contents output.new.writer.now) text.now) }
     ensures front { AppendsFront (W.contents output.old.writer.now) (W.contents output.new.writer.now) text.now }
     ensures same { output.new.writer.ghost_name ≡ output.old.writer.ghost_name }
 {

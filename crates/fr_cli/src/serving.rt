@@ -1,7 +1,9 @@
 //! Serves a register file over HTTP: connections are accepted, served and closed, one after another.
 ghost use Rattle.std.specs.Prelude.{◌≡◌, ◌⊎◌, ◌∷◌, [], false, IfErr, Result, ⊤};
+ghost use Rattle.std.specs.Io.KnownBytes.{Appends};
 ghost use Rattle.sqlite_wal.specs.Files.{image_at};
 ghost use Rattle.fr_answers.specs.KeptPages.{StandsWarm};
+ghost use Rattle.fr_cli.specs.Performing.{listening};
 ghost use Rattle.fr_cli.specs.Serving.{HasServed, IsAnnounced, IsServed, ServesOne, StopsServing, TellsEach};
 ghost use Rattle.fr_http.specs.Outcome.{asked_before};
 ghost use Rattle.fr_http.specs.declared.fault.LinkFault.{LinkFault as Link};
@@ -55,7 +57,7 @@ pub fn serve<S: Start, O: Write, E: Write>(
     err: &mut Output<'_, E>,
 ) -> (Result<(), Fault>, Left<S>)
     ensures announced { IsAnnounced service.port (O.contents out.old) (O.contents out.new) result.0 }
-    ensures served { IsServed (image_at S.Start) result.1 service.count (O.contents out.old) (O.contents out.new)
+    ensures served { IsServed (image_at S.Start) result.1 service.port service.count (O.contents out.old) (O.contents out.new)
         (E.contents err.old.writer.now) (E.contents err.new.writer.now) result.0 }
     ensures same { err.new.writer.ghost_name ≡ err.old.writer.ghost_name }
 {
@@ -80,7 +82,7 @@ fn serve_office<R: Records, O: Write, E: Write>(
     ensures falls { R.clean result.1.records → R.clean office.records }
     ensures announced { IsAnnounced service.port (O.contents out.old) (O.contents out.new) result.0 }
     ensures served { HasServed (R.clean result.1.records) (StandsWarm R.stands office) (StandsWarm R.stands result.1) service.count
-        (E.contents err.old.writer.now) (E.contents err.new.writer.now) result.0 }
+        (Appends (O.contents out.old) (O.contents out.new) (listening service.port)) (E.contents err.old.writer.now) (E.contents err.new.writer.now) result.0 }
     ensures same { err.new.writer.ghost_name ≡ err.old.writer.ghost_name }
 {
     let watch = match Watch::new(rt, db) {
@@ -94,7 +96,7 @@ fn serve_office<R: Records, O: Write, E: Write>(
 
 // Why files are not watched: memory is short, or they are not where they were opened.
 fn watch_fault(error: &io::Error) -> Fault
-    ensures { StopsServing result }
+    ensures { StopsServing [] result }
 {
     match error.kind() {
         ErrorKind::OutOfMemory => Fault::NoMemory,
@@ -113,7 +115,8 @@ fn serve_guarded<R: Records, O: Write, E: Write>(
     ensures falls { R.clean guarded.new.office.records → R.clean guarded.old.office.records }
     ensures announced { IsAnnounced service.port (O.contents out.old) (O.contents out.new) result }
     ensures served { HasServed (R.clean guarded.new.office.records) (StandsWarm R.stands guarded.old.office) (StandsWarm R.stands guarded.new.office)
-        service.count (E.contents err.old.writer.now) (E.contents err.new.writer.now) result }
+        service.count (Appends (O.contents out.old) (O.contents out.new) (listening service.port))
+        (E.contents err.old.writer.now) (E.contents err.new.writer.now) result }
     ensures same { err.new.writer.ghost_name ≡ err.old.writer.ghost_name }
 {
     let listener = TcpListener::bind(rt, (Ipv4Addr::LOCALHOST, service.port)).map_err(
@@ -142,7 +145,8 @@ fn answer_all<R: Records, E: Write>(
 ) -> Result<(), Fault>
     ensures falls { R.clean guarded.new.office.records → R.clean guarded.old.office.records }
     ensures served { HasServed (R.clean guarded.new.office.records) (StandsWarm R.stands guarded.old.office) (StandsWarm R.stands guarded.new.office)
-        service.now.count (E.contents err.old.writer.now) (E.contents err.new.writer.now) result }
+        service.now.count ⊤ (E.contents err.old.writer.now) (E.contents err.new.writer.now) result }
+    ensures fault { IfErr result (λ fault. (fault ≡ Fault.CannotListen) ⊎ (fault ≡ Fault.Register StoreFault.Unavailable)) }
     ensures same { err.new.writer.ghost_name ≡ err.old.writer.ghost_name }
 {
     for _ in 0..service.count {
@@ -168,11 +172,17 @@ fn answer_stream<D: Desk, E: Write>(
         × TellsEach (E.contents err.old.writer.now) (E.contents err.new.writer.now) (end ∷ []) }
     ensures same { err.new.writer.ghost_name ≡ err.old.writer.ghost_name }
 {
-    match serve_stream(rt, stream, seconds, desk) {
-        Ok(()) => {}
-        Err(fault) => {
-            let _ = print_word(link_word(fault), err);
-        }
+    let done = serve_stream(rt, stream, seconds, desk);
+    tell_end(done, err);
+}
+
+// Tells the fault of a connection, if one ended it.
+fn tell_end<E: Write>(done: Result<(), LinkFault>, err: &mut Output<'_, E>)
+    ensures told { TellsEach (E.contents err.old.writer.now) (E.contents err.new.writer.now) (done ∷ []) }
+    ensures same { err.new.writer.ghost_name ≡ err.old.writer.ghost_name }
+{
+    if let Err(fault) = done {
+        let _ = print_word(link_word(fault), err);
     }
 }
 

@@ -1,11 +1,11 @@
 //! The words of the command line, and the job for which they ask.
-ghost use Rattle.std.specs.Prelude.{◌≡◌, ◌≤◌, codes, map, string_bytes, IfOk, IfSome, List, Some};
-ghost use Rattle.clap.specs.Walk.{Row, Text, rows_of};
-ghost use Rattle.clap.specs.Words.{found_of, subcommand_rows_of};
+ghost use Rattle.std.specs.Prelude.{◌≡◌, codes, map, option_map, string_bytes, IfErr, IfOk, OnOk};
+ghost use Rattle.clap.specs.Walk.{first_of, rows_of};
+ghost use Rattle.clap.specs.Words.{found_of, kind_of, subcommand_rows_of};
 ghost use Rattle.fr_base.specs.Queries.{word_of};
-ghost use Rattle.fr_cli.specs.Words.{AskFor, Has, HasFrame, IsJobOf, IsOfSupplier};
+ghost use Rattle.fr_cli.specs.Words.{AreTaken, AskFor, HasFrame, IsFaultOf, IsJobFound, IsJobIn, IsJobOf, IsNumberIn, IsOfKind, MayRefuse};
 
-use crate::commands::{MAX_CONNECTIONS, MAX_SECONDS, program};
+use crate::commands::{MAX_CONNECTIONS, MAX_PORT, MAX_SECONDS, program};
 use crate::query::Query;
 use clap::error::ErrorKind;
 use clap::{ArgMatches, Error};
@@ -85,16 +85,21 @@ pub enum WordFault {
 
 /// The job that the words after the program's name ask for.
 pub fn read_words<'a>(alloc: Global, words: &'a [String]) -> Result<Job<'a>, WordFault>
-    ensures { IfOk result (AskFor (map string_bytes words.entry.now)) }
+    ensures taken { OnOk result (AreTaken (map string_bytes words.entry.now)) }
+    ensures job { IfOk result (AskFor (map string_bytes words.entry.now)) }
+    ensures fault { IfErr result (IsFaultOf (map string_bytes words.entry.now)) }
 {
     match read(alloc, words) {
         Ok(job) => Ok(job),
-        Err(error) => Err(fault_of(alloc, &error)),
+        Err(error) => Err(word_fault(alloc, &error)),
     }
 }
 
+// The job that the words ask for, or the parser's error.
 fn read<'a>(alloc: Global, words: &'a [String]) -> Result<Job<'a>, Error>
-    ensures { IfOk result (AskFor (map string_bytes words.entry.now)) }
+    ensures taken { OnOk result (AreTaken (map string_bytes words.entry.now)) }
+    ensures job { IfOk result (AskFor (map string_bytes words.entry.now)) }
+    ensures fault { IfErr result (λ error. MayRefuse (map string_bytes words.entry.now) (kind_of error)) }
 {
     let mut program = program(alloc)?;
     let matches = program.try_get_matches_from_mut(words)?;
@@ -106,7 +111,7 @@ fn read<'a>(alloc: Global, words: &'a [String]) -> Result<Job<'a>, Error>
 
 // The job of the subcommand that was found.
 fn job_of<'a>(matches: &ArgMatches<'a>) -> Option<Job<'a>>
-    ensures { IfSome result (λ job. (name : Text) × (rows : List Row) × (subcommand_rows_of matches.now ≡ Some (name, rows)) × IsJobOf job name rows) }
+    ensures { IsJobFound result (subcommand_rows_of matches.now) }
 {
     let (name, found) = matches.subcommand()?;
     named_job(name, found)
@@ -114,7 +119,7 @@ fn job_of<'a>(matches: &ArgMatches<'a>) -> Option<Job<'a>>
 
 // The job of the subcommand of this name, with the words that it takes.
 fn named_job<'a>(name: &str, found: &ArgMatches<'a>) -> Option<Job<'a>>
-    ensures { IfSome result (λ job. IsJobOf job name.now (rows_of (found_of found.now))) }
+    ensures { IsJobIn result name.now (rows_of (found_of found.now)) }
 {
     match name {
         "run" => Some(Job::Run),
@@ -137,7 +142,7 @@ fn named_job<'a>(name: &str, found: &ArgMatches<'a>) -> Option<Job<'a>>
 }
 
 fn create_job<'a>(found: &ArgMatches<'a>) -> Option<Job<'a>>
-    ensures { IfSome result (λ job. IsJobOf job (codes "create") (rows_of (found_of found.now))) }
+    ensures { IsJobIn result (codes "create") (rows_of (found_of found.now)) }
 {
     Some(Job::Create {
         db: word(found, "DB")?,
@@ -146,7 +151,7 @@ fn create_job<'a>(found: &ArgMatches<'a>) -> Option<Job<'a>>
 }
 
 fn migrate_job<'a>(found: &ArgMatches<'a>) -> Option<Job<'a>>
-    ensures { IfSome result (λ job. IsJobOf job (codes "migrate") (rows_of (found_of found.now))) }
+    ensures { IsJobIn result (codes "migrate") (rows_of (found_of found.now)) }
 {
     Some(Job::Migrate {
         db: word(found, "DB")?,
@@ -154,26 +159,18 @@ fn migrate_job<'a>(found: &ArgMatches<'a>) -> Option<Job<'a>>
 }
 
 fn serve_job<'a>(found: &ArgMatches<'a>) -> Option<Job<'a>>
-    ensures { IfSome result (λ job. IsJobOf job (codes "serve") (rows_of (found_of found.now))) }
+    ensures { IsJobIn result (codes "serve") (rows_of (found_of found.now)) }
 {
-    let db = word(found, "DB")?;
-    let port = found.get_one::<u16>("PORT").filter(|port| *port > 0)?;
-    let count = found
-        .get_one::<u32>("count")
-        .filter(|count| (1..=MAX_CONNECTIONS).contains(count))?;
-    let seconds = found
-        .get_one::<u32>("seconds")
-        .filter(|seconds| (1..=MAX_SECONDS).contains(seconds))?;
     Some(Job::Serve {
-        db,
-        port,
-        count,
-        seconds,
+        db: word(found, "DB")?,
+        port: u16::try_from(number(found, "PORT", MAX_PORT)?).ok()?,
+        count: number(found, "count", MAX_CONNECTIONS)?,
+        seconds: number(found, "seconds", MAX_SECONDS)?,
     })
 }
 
 fn ask_job<'a>(found: &ArgMatches<'a>) -> Option<Job<'a>>
-    ensures { IfSome result (λ job. IsJobOf job (codes "ask") (rows_of (found_of found.now))) }
+    ensures { IsJobIn result (codes "ask") (rows_of (found_of found.now)) }
 {
     Some(Job::Ask {
         db: word(found, "DB")?,
@@ -181,45 +178,45 @@ fn ask_job<'a>(found: &ArgMatches<'a>) -> Option<Job<'a>>
 }
 
 fn variants_job<'a>(found: &ArgMatches<'a>) -> Option<Job<'a>>
-    ensures { IfSome result (λ job. IsJobOf job (codes "variants") (rows_of (found_of found.now))) }
+    ensures { IsJobIn result (codes "variants") (rows_of (found_of found.now)) }
 {
     Some(Job::Variants {
         db: word(found, "DB")?,
-        supplier: supplier(found),
+        supplier: word(found, "supplier"),
     })
 }
 
 fn report_job<'a>(found: &ArgMatches<'a>, report: Report<&'a str>) -> Option<Job<'a>>
-    ensures { IfSome result (λ job. HasFrame report.entry (rows_of (found_of found.now)) → IsJobOf job (word_of report.entry) (rows_of (found_of found.now))) }
+    ensures { HasFrame report.entry (rows_of (found_of found.now)) → IsJobIn result (word_of report.entry) (rows_of (found_of found.now)) }
 {
     let db = word(found, "DB")?;
     let query = Query {
         variant: word(found, "VARIANT")?,
         report,
-        supplier: supplier(found),
+        supplier: word(found, "supplier"),
     };
     Some(Job::Report { db, query })
 }
 
 fn layout_job<'a>(found: &ArgMatches<'a>) -> Option<Job<'a>>
-    ensures { IfSome result (λ job. IsJobOf job (codes "layout") (rows_of (found_of found.now))) }
+    ensures { IsJobIn result (codes "layout") (rows_of (found_of found.now)) }
 {
     let frame = word(found, "FRAME")?;
     report_job(found, Report::Layout { frame })
 }
 
 fn picture_job<'a>(found: &ArgMatches<'a>) -> Option<Job<'a>>
-    ensures { IfSome result (λ job. IsJobOf job (codes "picture") (rows_of (found_of found.now))) }
+    ensures { IsJobIn result (codes "picture") (rows_of (found_of found.now)) }
 {
     Some(Job::Picture {
         db: word(found, "DB")?,
         variant: word(found, "VARIANT")?,
-        supplier: supplier(found),
+        supplier: word(found, "supplier"),
     })
 }
 
 fn import_job<'a>(found: &ArgMatches<'a>) -> Option<Job<'a>>
-    ensures { IfSome result (λ job. IsJobOf job (codes "import") (rows_of (found_of found.now))) }
+    ensures { IsJobIn result (codes "import") (rows_of (found_of found.now)) }
 {
     Some(Job::Import {
         db: word(found, "DB")?,
@@ -231,7 +228,7 @@ fn import_job<'a>(found: &ArgMatches<'a>) -> Option<Job<'a>>
 }
 
 fn check_job<'a>(found: &ArgMatches<'a>) -> Option<Job<'a>>
-    ensures { IfSome result (λ job. IsJobOf job (codes "check") (rows_of (found_of found.now))) }
+    ensures { IsJobIn result (codes "check") (rows_of (found_of found.now)) }
 {
     Some(Job::Check {
         config: word(found, "CONFIG")?,
@@ -242,29 +239,39 @@ fn explain_job<'a>(found: &ArgMatches<'a>) -> Job<'a>
     ensures { IsJobOf result (codes "explain") (rows_of (found_of found.now)) }
 {
     Job::Explain {
-        word: found.get_str("WORD"),
+        word: word(found, "WORD"),
     }
 }
 
-// The word at this place.
+// The word at this place, if one stands there.
 fn word<'a>(found: &ArgMatches<'a>, name: &str) -> Option<&'a str>
-    ensures { IfSome result (λ text. Has name.now (rows_of (found_of found.now)) text.now) }
+    ensures { option_map (λ text. text.now) result ≡ first_of name.now (rows_of (found_of found.now)) }
 {
     found.get_str(name)
 }
 
-// The supplier that is named, if one is.
-fn supplier<'a>(found: &ArgMatches<'a>) -> Option<&'a str>
-    ensures { IsOfSupplier result (rows_of (found_of found.now)) }
+// The number at this place, if it is 1 to `most`.
+fn number(found: &ArgMatches<'_>, name: &str, most: u32) -> Option<u32>
+    ensures { IsNumberIn result name.now most (rows_of (found_of found.now)) }
 {
-    found.get_str("supplier")
+    let read = found.get_one::<u32>(name)?;
+    if (1..=most).contains(&read) {
+        Some(read)
+    } else {
+        None
+    }
 }
 
-// What an error of the parse is.
-fn fault_of(alloc: Global, error: &Error) -> WordFault {
-    match (error.kind(), error.to_string(alloc)) {
-        (ErrorKind::OutOfMemory, _) | (_, Err(_)) => WordFault::NoMemory,
-        (ErrorKind::DisplayHelp | ErrorKind::DisplayVersion, Ok(text)) => WordFault::Help { text },
-        (_, Ok(text)) => WordFault::Usage { text },
+// What the program makes of the parser's error.
+fn word_fault(alloc: Global, error: &Error) -> WordFault
+    ensures { IsOfKind (kind_of error.now) result }
+{
+    let Ok(text) = error.to_string(alloc) else {
+        return WordFault::NoMemory;
+    };
+    match error.kind() {
+        ErrorKind::OutOfMemory => WordFault::NoMemory,
+        ErrorKind::DisplayHelp | ErrorKind::DisplayVersion => WordFault::Help { text },
+        _ => WordFault::Usage { text },
     }
 }

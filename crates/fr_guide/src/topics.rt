@@ -1,4 +1,4 @@
-//! The words that are explained, in the order of the table of refusals, then faults by what they are of.
+//! The words that are explained, in the order in which they are listed.
 ghost use Rattle.std.specs.Prelude.{◌≡◌, ◌++◌, IfOk, OnOk};
 ghost use Rattle.fr_guide.specs.Topics.{explained, words_of};
 

@@ -26,8 +26,8 @@ use toml::{Table, Value};
 pub enum ConfigFault {
     /// The bytes are no TOML document.
     BadToml,
-    /// A key is missing, another key is there, a value is of another kind, a number is below 0 or
-    /// above 4,294,967,295, or `channels` is not `A`, `B` or `AB`.
+    /// A key other than `cycles` is missing, another key is there, a value is of another kind, a number is
+    /// below 0 or above 4,294,967,295, or `channels` is not `A`, `B` or `AB`.
     BadField,
     /// The parameters make no cluster.
     Params(ParamFault),
@@ -355,7 +355,8 @@ fn keys_differ(key: Key, suppliers: &[Supplier]) -> bool
 ///
 /// The file is a TOML document whose table has exactly these keys: `channels`, which is `"A"`, `"B"` or
 /// `"AB"`; the numbers of [`RawParams`], each by its field's name; `integrator`, the integrator's key;
-/// and `suppliers`, a table from each supplier's name to its key, which may be empty.
+/// and `suppliers`, a table from each supplier's name to its key, which may be empty. `cycles` alone may
+/// be left out; then it is 64.
 #[tactic(auto, unfolding(crate::proofs::ClusterFileLemmas::config_of_open))]
 pub fn read_config(alloc: Global, bytes: &[u8]) -> Result<Config, ConfigFault>
     ensures read { IfOk result (λ config. config_of bytes.now ≡ Ok config) }

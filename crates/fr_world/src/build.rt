@@ -16,8 +16,9 @@ use std::alloc::Global;
 impl Page {
     /// The page of these rows. `None` where they are not a page's: more than 64 nodes or 256 frames, or
     /// in a frame more than 8 placements, a layout of another payload than the cluster's, a placement
-    /// past the static slots, on a channel the cluster does not have, or without a grant to the frame's
-    /// node; or a cell in two placements. Without a page the rows are given up.
+    /// past the static slots, of another count of cycles than the cluster's, on a channel that it does
+    /// not have, or without a grant to the frame's node; or a cell in two placements. Without a page the
+    /// rows are given up.
     pub fn build(alloc: Global, rows: PageRows) -> Result<Option<Page>, NoMemory>
         ensures page { IfOk result (λ built. IfSome built (λ page. page ≡ rows_data rows)) }
         ensures kept { IfOk result (λ built. IfSome built (λ page. IsKept (rows_data rows))) }

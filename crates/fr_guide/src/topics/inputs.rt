@@ -21,7 +21,8 @@ const TOO_LONG: Topic = Topic {
     word: "TooLong",
     about: "a fault of `run` and `ask`. Standard input has more than 16777216 bytes.",
     help: "\
-`run` has answered nothing. `ask` has answered the lines before, and what they did is in the file.
+`run` has answered nothing. `ask` has answered the lines before, and what they did is in the file;
+but not those of the last 8192 bytes or less that it read at once.
 A script's register ends with the script, so a second script would begin anew.
 For many requests make a register file by `slotplan create`, and `ask` them in several parts.
 ",

@@ -1,18 +1,19 @@
-use Rattle.std.proofs.Common.{◌≡◌, ◌++◌, ◌∷◌, [], Err, refl, sym, ap, ◌∙◌, subst, append_assoc, rules}
+use Rattle.std.proofs.Common.{◌≡◌, ◌++◌, ◌∷◌, [], None, Err, refl, sym, ap, ◌∙◌, subst, append_assoc, rules}
 use Rattle.std.proofs.KnownBytes.{Appends-nil, Appends-trans}
 use Rattle.fr_cli.specs.Answering.{AnswersLines}
 use Rattle.fr_cli.specs.Incoming.{AreFirstOfAll, EndsLines, HasHeard}
-use Rattle.fr_cli.specs.Script.{request_lines}
+use Rattle.fr_cli.specs.Script.{HasNo, parts_around, request_lines}
 use Rattle.fr_cli.specs.declared.script_fault.ScriptFault.TheVariants.{NoMemory}
 use Rattle.fr_cli.proofs.AnsweringLaws.{cut_after, cut_here, no_lines}
 use Rattle.fr_cli.proofs.EndedLines.{requests-append}
 use Rattle.fr_cli.proofs.IncomingLaws.{ends-none, ends-then, first_begin, first_then, first_whole, heard_more}
-use Rattle.fr_cli.proofs.LineLemmas.{request_lines-none, split_by}
+use Rattle.fr_cli.proofs.LineLemmas.{has_no-append, no_feed, request_lines-none, split_by}
 use Rattle.fr_cli.proofs.incoming.answer_piece.Goals as goal
 
 pub loop-line-init : goal.loop-line-init
 loop-line-init g c = record {
   same = refl;
+  open_ended = c.requires;
   falls = λ clean. clean;
   front = [];
   split = refl;
@@ -89,6 +90,7 @@ loop-line-preserved g c =
       front = l.front ++ chunk;
       split = l.split ∙ ap (λ r. l.front ++ r) same ∙ sym (append_assoc l.front chunk after) ∙ ap (λ b. (l.front ++ chunk) ++ (b ++ after)) (sym none);
       ends = ends-then l.front chunk l.ends ends;
+      open_ended = subst (HasNo 10) (sym none) tt;
       written = l.written ++ written;
       appended = Appends-trans _ _ _ l.written written l.appended appended;
       answered = heard_more _ _ _ _ _ l.front chunk l.written written c.write_answers.ensures.falls l.ends l.answered answered;
@@ -108,4 +110,7 @@ pub returns-clause-heard : goal.returns-clause-heard
 returns-clause-heard g c =
     let l = c.loop-line.invariant in
     let more : c.extend_from_slice-2.new.self.items ≡ c.loop-line.begun.items ++ c.loop-line.rest.now = search rules in
-    record { heard = (l.front, l.written, l.split ∙ ap (λ r. l.front ++ r) (sym more), l.ends, l.appended, l.answered); early = tt }
+    let left : None ≡ parts_around 10 c.loop-line.rest.now = search rules in
+    let rest : HasNo 10 c.loop-line.rest.now = no_feed c.loop-line.rest.now left in
+    let open_ended : HasNo 10 c.extend_from_slice-2.new.self.items = subst (HasNo 10) (sym more) (has_no-append 10 c.loop-line.begun.items c.loop-line.rest.now l.open_ended rest) in
+    record { heard = (l.front, l.written, l.split ∙ ap (λ r. l.front ++ r) (sym more), l.ends, open_ended, l.appended, l.answered); early = tt }

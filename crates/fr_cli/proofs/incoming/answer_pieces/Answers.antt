@@ -1,9 +1,9 @@
-use Rattle.std.proofs.Common.{◌≡◌, ◌++◌, ◌+◌, ◌<◌, [], ℕ, List, Err, length, refl, sym, ap, ◌∙◌, subst, append_assoc, append-nil, take, arith, rules, length-append}
+use Rattle.std.proofs.Common.{◌≡◌, ◌++◌, ◌+◌, ◌<◌, ◌≤◌, [], ℕ, List, Err, length, refl, sym, ap, ◌∙◌, subst, append_assoc, append-nil, take, arith, rules, length-append, inl, inr}
 use Rattle.std.specs.Io.KnownBytes.{Consumes, IsAtEnd}
 use Rattle.std.proofs.KnownBytes.{Appends-nil, Appends-trans, Consumes-nil, Consumes-trans}
 use Rattle.fr_cli.specs.Answering.{AnswersLines, HasWritten}
 use Rattle.fr_cli.specs.Incoming.{HasAnswered}
-use Rattle.fr_cli.specs.Script.{max_script, request_lines}
+use Rattle.fr_cli.specs.Script.{HasNo, max_script, request_lines}
 use Rattle.fr_cli.specs.declared.input.InputFault.TheVariants.{ReadFailed, TooLong, TooManyReads}
 use Rattle.fr_cli.specs.declared.script_fault.ScriptFault.TheVariants as fault
 use Rattle.fr_cli.proofs.AnsweringLaws.{no_lines}
@@ -23,6 +23,7 @@ loop-init g c =
       taken = subst (Consumes (g.R.Read.remaining c.args.reader.now) (g.R.Read.remaining c.args.reader.now)) (sym c.new-begun.ensures.items) (Consumes-nil (g.R.Read.remaining c.args.reader.now));
       room = ap (λ (bytes : List ℕ). max_script + length bytes) c.new-begun.ensures.items;
       ends = ends-none;
+      open_ended = subst (HasNo 10) (sym c.new-begun.ensures.items) tt;
       written = [];
       appended = Appends-nil (g.W.Write.contents c.args.output.now.writer.now);
       answered = subst (λ l. AnswersLines clean stands stands l []) (sym (request_lines-none [] refl)) (no_lines clean stands);
@@ -43,10 +44,11 @@ returns-in-Ok-eq0-clause-answered g c =
     (contents c.loop.output.writer.now) (contents c.write_answers.new.output.writer.now) c.write_answers.result =
     subst (λ b. HasWritten (clean c.write_answers.new.desk) (stands c.loop.desk) (stands c.write_answers.new.desk) (request_lines b)
     (contents c.loop.output.writer.now) (contents c.write_answers.new.output.writer.now) c.write_answers.result) c.deref.ensures.value c.write_answers.ensures.written in
+    let fits : length (l.front ++ c.loop.begun.items) ≤ max_script = omega (arith, l.room) in
     at_end (clean c.write_answers.new.desk) (clean c.loop.desk) (stands c.args.desk.now) (stands c.loop.desk) (stands c.write_answers.new.desk)
     (remaining c.args.reader.now) (remaining c.read.new.self)
     (contents c.args.output.now.writer.now) (contents c.loop.output.writer.now) (contents c.write_answers.new.output.writer.now)
-    l.front c.loop.begun.items l.written c.write_answers.result c.write_answers.ensures.falls taken end l.ends l.appended l.answered has
+    l.front c.loop.begun.items l.written c.write_answers.result c.write_answers.ensures.falls taken end fits l.ends l.appended l.answered has
 
 pub returns-in_err-room-in-Ok-clause-answered : goal.returns-in_err-room-in-Ok-clause-answered
 returns-in_err-room-in-Ok-clause-answered g c =
@@ -60,12 +62,16 @@ returns-in_err-room-in-Ok-clause-answered g c =
     Consumes-trans _ _ _ _ _ l.taken c.in-Ok.ensures.bytes.0 in
     let long : max_script < length ((l.front ++ c.loop.begun.items) ++ piece) =
     omega (arith, less, size, l.room, length-append (l.front ++ c.loop.begun.items) piece) in
-    subst (HasAnswered (g.D.Desk.clean c.loop.desk) (g.D.Desk.stands c.args.desk.now) (g.D.Desk.stands c.loop.desk) (remaining c.args.reader.now)
+    subst (HasAnswered (g.D.Desk.clean c.loop.desk) (g.D.Desk.stands c.args.desk.now) (g.D.Desk.stands c.loop.desk) (remaining c.args.reader.now) (remaining c.read.new.self)
     (g.W.Write.contents c.args.output.now.writer.now) (g.W.Write.contents c.loop.output.writer.now)) (sym is)
     (cut_between (g.D.Desk.clean c.loop.desk) (g.D.Desk.stands c.args.desk.now) (g.D.Desk.stands c.loop.desk) (remaining c.args.reader.now) (remaining c.read.new.self)
     (g.W.Write.contents c.args.output.now.writer.now) (g.W.Write.contents c.loop.output.writer.now) l.front (c.loop.begun.items ++ piece) l.written fault.TooLong TooLong refl
     (subst (Consumes _ _) (append_assoc l.front c.loop.begun.items piece) taken) l.ends l.appended l.answered
-    (λ is. on_long max_script (remaining c.args.reader.now) (remaining c.read.new.self) ((l.front ++ c.loop.begun.items) ++ piece) taken long))
+    (λ is. on_long max_script (remaining c.args.reader.now) (remaining c.read.new.self) ((l.front ++ c.loop.begun.items) ++ piece) taken long)
+    (λ is. elim is [
+      | inl e ↦ absurd cc
+      | inr e ↦ absurd cc
+    ]))
 
 pub returns-in_err-answer_piece-in-Ok-clause-answered : goal.returns-in_err-answer_piece-in-Ok-clause-answered
 returns-in_err-answer_piece-in-Ok-clause-answered g c =
@@ -78,7 +84,7 @@ returns-in_err-answer_piece-in-Ok-clause-answered g c =
     let is : c.from_residual-in_err-answer_piece-in-Ok.result ≡ Err c.in_err-answer_piece-in-Ok.field-0.0 = search rules in
     let taken : Consumes (remaining c.args.reader.now) (remaining c.read.new.self) (l.front ++ bytes) =
     subst (Consumes _ _) (append_assoc l.front c.loop.begun.items (take c.in-Ok.n c.read.new.buf)) (Consumes-trans _ _ _ _ _ l.taken c.in-Ok.ensures.bytes.0) in
-    subst (HasAnswered (clean c.answer_piece.new.desk) (stands c.args.desk.now) (stands c.answer_piece.new.desk) (remaining c.args.reader.now)
+    subst (HasAnswered (clean c.answer_piece.new.desk) (stands c.args.desk.now) (stands c.answer_piece.new.desk) (remaining c.args.reader.now) (remaining c.read.new.self)
     (contents c.args.output.now.writer.now) (contents c.answer_piece.new.output.writer.now)) (sym is)
     (cut_within (clean c.answer_piece.new.desk) (clean c.loop.desk) (stands c.args.desk.now) (stands c.loop.desk) (stands c.answer_piece.new.desk)
     (remaining c.args.reader.now) (remaining c.read.new.self)
@@ -92,11 +98,11 @@ returns-in_err-try_again-in-Err-clause-answered g c =
     let remaining = g.R.Read.remaining in
     let is : c.from_residual-in_err-try_again-in-Err.result ≡ Err fault.ReadFailed = search rules in
     let taken : Consumes (remaining c.args.reader.now) (remaining c.read.new.self) (l.front ++ c.loop.begun.items) = search rules in
-    subst (HasAnswered (g.D.Desk.clean c.loop.desk) (g.D.Desk.stands c.args.desk.now) (g.D.Desk.stands c.loop.desk) (remaining c.args.reader.now)
+    subst (HasAnswered (g.D.Desk.clean c.loop.desk) (g.D.Desk.stands c.args.desk.now) (g.D.Desk.stands c.loop.desk) (remaining c.args.reader.now) (remaining c.read.new.self)
     (g.W.Write.contents c.args.output.now.writer.now) (g.W.Write.contents c.loop.output.writer.now)) (sym is)
     (cut_between (g.D.Desk.clean c.loop.desk) (g.D.Desk.stands c.args.desk.now) (g.D.Desk.stands c.loop.desk) (remaining c.args.reader.now) (remaining c.read.new.self)
     (g.W.Write.contents c.args.output.now.writer.now) (g.W.Write.contents c.loop.output.writer.now) l.front c.loop.begun.items l.written fault.ReadFailed ReadFailed refl
-    taken l.ends l.appended l.answered (λ is. absurd cc))
+    taken l.ends l.appended l.answered (λ is. absurd cc) (λ is. l.open_ended))
 
 pub loop-preserved : goal.loop-preserved
 loop-preserved g c =
@@ -105,7 +111,7 @@ loop-preserved g c =
     elim c.match-read.branch [
       | in-Ok+in_ok-room-in-Ok+in_ok-answer_piece-in-Ok w ↦
           let piece = take w.in-Ok.n c.read.new.buf in
-          let (more, written, split, ends, appended, answered) = w.in_ok-answer_piece-in-Ok.ensures.heard.heard in
+          let (more, written, split, ends, open_ended, appended, answered) = w.in_ok-answer_piece-in-Ok.ensures.heard.heard in
           let begun = w.answer_piece.new.begun.items in
           let all : (l.front ++ c.loop.begun.items) ++ piece ≡ (l.front ++ more) ++ begun = split_then l.front c.loop.begun.items piece more begun split in
           let size : length piece ≡ w.in-Ok.n = search rules in
@@ -117,6 +123,7 @@ loop-preserved g c =
             taken = subst (Consumes (remaining c.args.reader.now) (remaining c.read.new.self)) all (Consumes-trans _ _ _ _ _ l.taken w.in-Ok.ensures.bytes.0);
             room = omega (arith, less, size, l.room, length-append (l.front ++ c.loop.begun.items) piece, ap (λ (bytes : List ℕ). length bytes) all);
             ends = ends-then l.front more l.ends ends;
+            open_ended = open_ended;
             written = l.written ++ written;
             appended = Appends-trans _ _ _ l.written written l.appended appended;
             answered = heard_more _ _ _ _ _ l.front more l.written written w.answer_piece.ensures.falls l.ends l.answered answered;
@@ -130,6 +137,7 @@ loop-preserved g c =
             taken = taken;
             room = l.room;
             ends = l.ends;
+            open_ended = l.open_ended;
             written = l.written;
             appended = l.appended;
             answered = l.answered;
@@ -141,4 +149,4 @@ returns-clause-answered g c =
     let l = c.loop.invariant in
     cut_between (g.D.Desk.clean c.loop.desk) (g.D.Desk.stands c.args.desk.now) (g.D.Desk.stands c.loop.desk) (g.R.Read.remaining c.args.reader.now) (g.R.Read.remaining c.loop.reader)
     (g.W.Write.contents c.args.output.now.writer.now) (g.W.Write.contents c.loop.output.writer.now) l.front c.loop.begun.items l.written fault.TooManyReads TooManyReads refl
-    l.taken l.ends l.appended l.answered (λ is. absurd cc)
+    l.taken l.ends l.appended l.answered (λ is. absurd cc) (λ is. l.open_ended)

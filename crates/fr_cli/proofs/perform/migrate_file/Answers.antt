@@ -5,7 +5,7 @@ use Rattle.fr_desks.specs.FileDesk.{BarsMigration}
 use Rattle.fr_cli.proofs.perform.migrate_file.Goals as goal
 
 pub returns-in-Ok-clause-moved : goal.returns-in-Ok-clause-moved
-returns-in-Ok-clause-moved g c = (c.in-Ok.left, refl, c.in-Ok.ensures.migrated)
+returns-in-Ok-clause-moved g c = (c.in-Ok.left, refl, c.in-Ok.ensures.migrated, c.in-Ok.ensures.ready)
 
 pub returns-in-Err-clause-fault : goal.returns-in-Err-clause-fault
 returns-in-Err-clause-fault g c =

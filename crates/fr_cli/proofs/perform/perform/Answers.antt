@@ -81,7 +81,8 @@ returns-in-Serve-clause-serve g c db port count seconds is =
     let out' = g.O.Write.contents c.serve-done.new.out in
     let told = g.E.Write.contents c.serve-done.new.err.writer.now in
     let announced = subst (λ p. IsAnnounced p out out' done) (ap port_in same) c.serve-done.ensures.announced in
-    let served = subst (λ n. IsServed (image_at g.S.Start) c.serve-done.result.1 n out out' (g.E.Write.contents c.new-err.result.writer.now) told done) (ap count_in same)
+    let ported = subst (λ p. IsServed (image_at g.S.Start) c.serve-done.result.1 p c.in-Serve.count out out' (g.E.Write.contents c.new-err.result.writer.now) told done) (ap port_in same)
     c.serve-done.ensures.served in
-    let from = subst (λ e. IsServed (image_at g.S.Start) c.serve-done.result.1 count out out' (g.E.Write.contents e) told done) c.new-err.ensures.holds served in
+    let served = subst (λ n. IsServed (image_at g.S.Start) c.serve-done.result.1 port n out out' (g.E.Write.contents c.new-err.result.writer.now) told done) (ap count_in same) ported in
+    let from = subst (λ e. IsServed (image_at g.S.Start) c.serve-done.result.1 port count out out' (g.E.Write.contents e) told done) c.new-err.ensures.holds served in
     (done, search rules, announced, (told, from, search rules))

@@ -4,7 +4,7 @@ use Rattle.fr_picture.specs.Pages.{IsPage}
 use Rattle.fr_cli.specs.Picturing.{plans_for}
 use Rattle.fr_cli.specs.Queries.{named}
 use Rattle.fr_cli.specs.Reading.{IsRead}
-use Rattle.fr_cli.proofs.ReadingLaws.{read_same, refused_reading}
+use Rattle.fr_cli.proofs.ReadingLaws.{read_same, reads_stay, refused_reading}
 use Rattle.fr_cli.proofs.picturing.picture.Goals as goal
 
 pub returns-in_ok-write_page-in-Ok-clause-prints : goal.returns-in_ok-write_page-in-Ok-clause-prints
@@ -20,3 +20,12 @@ returns-in-Err-clause-prints g c =
     refused_reading
     (IsRead (g.R.Records.clean c.plan_for.new.office.records) (StandsWarm g.R.Records.stands c.args.office.now) (StandsWarm g.R.Records.stands c.plan_for.new.office) (plans_for (named c.args.supplier) c.args.variant.now))
     IsPage c.in-Err.refusal c.refused.result told c.refused.ensures
+
+pub returns-in_err-write_page-in-Ok-clause-stays : goal.returns-in_err-write_page-in-Ok-clause-stays
+returns-in_err-write_page-in-Ok-clause-stays g c = reads_stay _ _ _ (plans_for c.named.result c.args.variant.now) (Ok c.in-Ok.plan) c.in-Ok.ensures.drawn
+
+pub returns-in_ok-write_page-in-Ok-clause-stays : goal.returns-in_ok-write_page-in-Ok-clause-stays
+returns-in_ok-write_page-in-Ok-clause-stays g c = reads_stay _ _ _ (plans_for c.named.result c.args.variant.now) (Ok c.in-Ok.plan) c.in-Ok.ensures.drawn
+
+pub returns-in-Err-clause-stays : goal.returns-in-Err-clause-stays
+returns-in-Err-clause-stays g c = reads_stay _ _ _ (plans_for c.named.result c.args.variant.now) (Err c.in-Err.refusal) c.in-Err.ensures.drawn

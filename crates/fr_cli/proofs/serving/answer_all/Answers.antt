@@ -38,4 +38,5 @@ returns-then-not-holds-clause-served g c =
       all = tt;
       few = subst (λ n. n ≤ c.args.service.now.count) (sym each) (omega arith);
       fault = inr (inl refl);
+      first = inr tt;
     }

@@ -6,7 +6,7 @@ use Rattle.fr_cli.proofs.serving.serve.Goals as goal
 
 pub returns-in-Ok-clause-served : goal.returns-in-Ok-clause-served
 returns-in-Ok-clause-served g c =
-    served_file _ _ _ _ _ _ _ _ _ _ _ c.serve_office-done.result.0 c.close.ensures.clean c.serve_office-done.ensures.falls c.in-Ok.ensures.found c.close.ensures.book
+    served_file _ _ _ _ _ _ _ _ _ _ _ _ c.serve_office-done.result.0 c.close.ensures.clean c.serve_office-done.ensures.falls c.in-Ok.ensures.found c.close.ensures.book
     c.serve_office-done.ensures.served
 
 pub returns-in-Err-clause-served : goal.returns-in-Err-clause-served

@@ -4,4 +4,4 @@ use Rattle.fr_cli.proofs.serving.serve_office.Goals as goal
 
 pub returns-in-Err-clause-served : goal.returns-in-Err-clause-served
 returns-in-Err-clause-served g c =
-    served_early _ _ c.args.service.count (g.E.Write.contents c.args.err.now.writer.now) _ c.watch_fault.result refl c.watch_fault.ensures
+    served_early _ _ c.args.service.count _ (g.E.Write.contents c.args.err.now.writer.now) _ c.watch_fault.result refl c.watch_fault.ensures

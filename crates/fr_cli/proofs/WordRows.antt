@@ -1,0 +1,88 @@
+-- Words of the command line, computed: their job and their numbers, or the fault for which they are refused.
+use Rattle.std.proofs.Common.{◌≡◌, ◌∙◌, [], ◌∷◌, ap, codes, inl, inr, option_map, refl, subst, sym, Bor, Global, List, None, ℕ, Some, String}
+use Rattle.clap.proofs.OnLiterals.{clap_on_literals}
+use Rattle.clap.specs.Walk.{one_of}
+use Rattle.clap.specs.Words.{IsAmong, fault_of, subcommand_of}
+use Rattle.clap.specs.declared.error.kind.ErrorKind.TheVariants as kinds
+use Rattle.fr_base.specs.declared.report.Report.TheVariants.{Schedule}
+use Rattle.fr_cli.specs.Commands.{slotplan}
+use Rattle.fr_cli.specs.Words.{AskFor, IsFaultOf}
+use Rattle.fr_cli.specs.declared.words.Job.TheVariants as job
+use Rattle.fr_cli.specs.declared.words.WordFault.TheVariants.{Usage}
+
+server_is_taken : fault_of slotplan (codes "serve" ∷ codes "car.db" ∷ codes "8080" ∷ codes "--count" ∷ codes "3" ∷ []) ≡ []
+unfolding clap_on_literals
+server_is_taken = refl
+
+port_is_read : option_map (λ found. one_of (codes "PORT") found.1)
+    (subcommand_of slotplan (codes "serve" ∷ codes "car.db" ∷ codes "8080" ∷ codes "--count" ∷ codes "3" ∷ [])) ≡ Some (Some (codes "8080"))
+unfolding clap_on_literals
+port_is_read = refl
+
+count_is_read : option_map (λ found. one_of (codes "count") found.1)
+    (subcommand_of slotplan (codes "serve" ∷ codes "car.db" ∷ codes "8080" ∷ codes "--count" ∷ codes "3" ∷ [])) ≡ Some (Some (codes "3"))
+unfolding clap_on_literals
+count_is_read = refl
+
+seconds_are_ten : option_map (λ found. one_of (codes "seconds") found.1)
+    (subcommand_of slotplan (codes "serve" ∷ codes "car.db" ∷ codes "8080" ∷ [])) ≡ Some (Some (codes "10"))
+unfolding clap_on_literals
+seconds_are_ten = refl
+
+port_too_great : fault_of slotplan (codes "serve" ∷ codes "car.db" ∷ codes "65536" ∷ []) ≡ kinds.ValueValidation ∷ []
+unfolding clap_on_literals
+port_too_great = refl
+
+no_port : fault_of slotplan (codes "serve" ∷ codes "car.db" ∷ codes "0" ∷ []) ≡ kinds.ValueValidation ∷ []
+unfolding clap_on_literals
+no_port = refl
+
+wants_help : fault_of slotplan (codes "--help" ∷ []) ≡ kinds.DisplayHelp ∷ []
+unfolding clap_on_literals
+wants_help = refl
+
+wants_help_of_job : fault_of slotplan (codes "schedule" ∷ codes "-h" ∷ []) ≡ kinds.DisplayHelp ∷ []
+unfolding clap_on_literals
+wants_help_of_job = refl
+
+wants_version : fault_of slotplan (codes "--version" ∷ []) ≡ kinds.DisplayVersion ∷ []
+unfolding clap_on_literals
+wants_version = refl
+
+says_nothing : fault_of slotplan [] ≡ kinds.DisplayHelpOnMissingArgumentOrSubcommand ∷ []
+unfolding clap_on_literals
+says_nothing = refl
+
+lacks_a_word : fault_of slotplan (codes "schedule" ∷ codes "car.db" ∷ []) ≡ kinds.MissingRequiredArgument ∷ []
+unfolding clap_on_literals
+lacks_a_word = refl
+
+has_a_word_more : fault_of slotplan (codes "ask" ∷ codes "car.db" ∷ codes "v1" ∷ []) ≡ kinds.UnknownArgument ∷ []
+unfolding clap_on_literals
+has_a_word_more = refl
+
+plus_is_passed_over : fault_of slotplan (codes "serve" ∷ codes "car.db" ∷ codes "+8080" ∷ []) ≡ []
+unfolding clap_on_literals
+plus_is_passed_over = refl
+
+minus_is_refused : fault_of slotplan (codes "serve" ∷ codes "car.db" ∷ codes "--" ∷ codes "-8080" ∷ []) ≡ kinds.ValueValidation ∷ []
+unfolding clap_on_literals
+minus_is_refused = refl
+
+is_no_job : fault_of slotplan (codes "draw" ∷ codes "car.db" ∷ []) ≡ kinds.UnknownArgument ∷ kinds.InvalidSubcommand ∷ []
+unfolding clap_on_literals
+is_no_job = refl
+
+schedule_is_asked : (db variant : Bor (List ℕ)) → db.now ≡ codes "car.db" → variant.now ≡ codes "v1"
+    → AskFor (codes "schedule" ∷ codes "car.db" ∷ codes "v1" ∷ []) (job.Report db (record { variant = variant; report = Schedule; supplier = None }))
+unfolding clap_on_literals
+schedule_is_asked db variant is of = (refl, ap (λ (t : List ℕ). Some t) (sym is), (ap (λ (t : List ℕ). Some t) (sym of), tt, refl))
+
+-- a request for help is no mistake
+help_is_no_usage : (text : String Global) → IsFaultOf (codes "--help" ∷ []) (Usage text) → ⊥
+help_is_no_usage text (kind, inl memory, is) = is.2 memory
+help_is_no_usage text (kind, inr (inl among), is) = elim (subst (IsAmong kind) wants_help among) [
+  | inl help ↦ is.0 help
+  | inr none ↦ none
+]
+help_is_no_usage text (kind, inr (inr none), is) = let no : [] ≡ kinds.DisplayHelp ∷ [] = sym none.1 ∙ wants_help in cc

@@ -1,7 +1,0 @@
-use Rattle.std.proofs.Common.{◌∙◌, refl}
-use Rattle.clap.proofs.WalkLemmas.{first_value-rows}
-use Rattle.clap.specs.Words.{found_of}
-use Rattle.fr_cli.proofs.words.explain_job.Goals as goal
-
-pub returns : goal.returns
-returns c = (refl, c.get_str.ensures ∙ first_value-rows (found_of c.args.found.now) _)
