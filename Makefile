@@ -1,11 +1,15 @@
-# make run      runs a script: by the proved program where it is there, else by the program compiled without proof
-# make test     the gate: every proof from nothing, the must-fail edits, the tests, how rows are found, and the
-#               built program tried
+# make run      runs a script: by the proved program where it is there, else by the program compiled without proof, which is kept
+# make test     the tests, with no proof: the program compiled without proof is tried, and the tests of the crates are run. Some minutes.
+#               JOBS=2 runs two steps at once, in place of as many as there are processors
+# make prove    the gate: every proof from nothing, the must-fail edits, the tests, how rows are found, and the
+#               proved program tried, as each of two compilers made it. An hour or two
 # make edits    asks the prover of every wrong body, also of those that the gate leaves out; CRATES='fr_base ..' names some.
 #               Run it when a contract has changed; no part of the gate
-# make tables   writes the tables of files in docs/MAP.md and docs/DEFINITIONS.md from the heads of the files; the gate compares them
+# make tables   writes the tables of files in docs/MAP.md and docs/DEFINITIONS.md from the heads of the files, and tests/CLASSES.md from the
+#               classes of tests; the gate compares them
 # make try      tries the built program alone, as the gate does: rows, examples, faults, limits, counts of cycles, register files and
-#               their migration, the server, the commands of docs/TUTORIAL.md and README.md, docs/openapi.yaml, and pictures of plans
+#               their migration, the server, the commands of docs/TUTORIAL.md and README.md, docs/openapi.yaml, and pictures of plans;
+#               and every so many cases of make hostile and make refuse
 # make look     draws the plans of the examples and one at the limits into out/look; where there is chromium, it takes screenshots of the
 #               pages, and counts their cells as the browser has them
 # make hostile  stops the built program at each of its calls on files, gives it files cut and changed at many places, and
@@ -13,78 +17,98 @@
 # make refuse   refuses the built program each allocation in turn, of which the gate refuses every so many; and so to a register's calls
 #               and to the crates' tests. It needs cc too, and proves and builds what it runs
 # make store    tries a register's files, its pages and edits, with the SQLite of python3; no part of the gate
-# make install  proves and builds the program where that is still to be done, and puts it at $(PREFIX)/bin/slotplan
+# make install  proves and builds the program where that is still to be done, and puts it at $(PREFIX)/bin/slotplan. PROVED=no puts there
+#               the program that was compiled without proof; its --version says so
 # make bench    prints the program's speed and memory beside those of a register that python3's sqlite3 keeps, how
 #               a change's time grows with its supplier's rows and beside others', and the speed of texts alone; no test
+# make bench-all prints these figures, and those of the server, of instructions by valgrind, of a migration, of imports read, of
+#               placements decided, of registers in files and of variants that keep their differences; an hour or so
 
 SCRIPT ?= examples/first.script
 CRATES ?=
 PREFIX ?= /usr/local
+PROVED ?= yes
 
 program := crates/slotplan/out/slotplan
+unproved := out/unproved/slotplan
 build_log := out/build.log
-try_log := out/try.log
 sources := -name out -prune -o \( -name '*.rt' -o -name '*.antt' -o -name crates.txt \)
 
-.PHONY: run try-run test edits tables try look hostile refuse store install bench build toolchain
+.PHONY: run run-unproved test prove edits tables try look hostile refuse store install bench bench-all build toolchain
 
-# The proved program is there where no source is newer. `rt try` compiles without proof, and keeps no program; the answers come when
-# the script has ended.
+# A program is run where no source is newer.
 run:
 	@if test -x $(program) && test -z "$$(find crates crates.txt $(sources) -newer $(program) -print)"; then \
 	  $(program) run < $(SCRIPT); \
-	else $(MAKE) --no-print-directory -s try-run; fi
+	else $(MAKE) --no-print-directory -s run-unproved; fi
 
-try-run: toolchain
-	@echo "make: the program is not proved yet, as its sources stand. It is compiled without proof now, in some minutes; make install proves and installs it." >&2
-	@mkdir -p out
-	@cd crates/slotplan && rt try -- run < $(abspath $(SCRIPT)) 2> ../../$(try_log) \
-	  || { tail -n 40 ../../$(try_log) >&2; exit 1; }
+run-unproved: $(unproved)
+	@echo "make: this is $(unproved), which was compiled without proof; make install proves the program" >&2
+	@$(unproved) run < $(SCRIPT)
+
+# The files below src/ are all that is compiled without proof.
+$(unproved): tests/unproved.py $(shell find crates -name out -prune -o -name '*.rt' -print) crates.txt | toolchain
+	@echo "make: compiling without proof: three to six minutes" >&2
+	@python3 tests/unproved.py $@
 
 test: toolchain
-	@python3 tests/gate.py
+	@python3 -m tests.quick
+
+prove: toolchain
+	@python3 -m tests.gate
 
 edits: toolchain
 	@python3 tests/edits.py $(CRATES)
 
 tables:
-	@python3 tests/tables.py --write
+	@python3 -m tests.lib.tables
 
 try: build
-	@python3 tests/program.py $(program)
-	@python3 tests/counts.py $(program)
-	@python3 tests/commands.py $(program)
-	@python3 tests/migrated.py $(program)
-	@python3 tests/connections.py $(program)
-	@python3 tests/tutorial.py $(program)
-	@python3 tests/openapi.py $(program)
+	@SLOTPLAN=$(program) python3 -m tests.lib.run
 	@python3 tests/pictures.py $(program)
 
 look: build
 	@python3 tests/look.py $(program)
 
 hostile: build
-	@python3 tests/stops.py $(program)
-	@python3 tests/foreign.py $(program)
-	@python3 tests/links.py $(program)
+	@WHOLE=yes SLOTPLAN=$(program) python3 -m tests.lib.run tests.test_stops tests.test_foreign tests.test_links
 
-refuse: build
-	@python3 tests/refused.py $(program)
-	@python3 bench/refuse_store.py
-	@for crate in fr_tests fr_tests_registers fr_tests_program; do (cd crates/$$crate && rt test) && python3 bench/refuse_tests.py $$crate || exit 1; done
+refuse: build out/programs/refuse_store
+	@for crate in fr_tests fr_tests_registers fr_tests_program; do (cd crates/$$crate && rt test) || exit 1; done
+	@WHOLE=yes SLOTPLAN=$(program) python3 -m tests.lib.run tests.test_refused tests.outside.test_store_refused tests.outside.test_crates_refused
 
-store: toolchain
-	@python3 tests/store_files.py
-	@python3 tests/store_pages.py
+# Programs in Rattle that try or measure the crates.
+out/programs/%: tests/programs/%.rt.txt tests/lib/rattle.py $(shell find crates $(sources) -print) | toolchain
+	@echo "make: proving and building $@: minutes, and more where crates are still to be proved" >&2
+	@python3 -m tests.lib.rattle $*
 
+store: out/programs/store_files out/programs/store_pages
+	@python3 -m tests.lib.run tests.outside.test_store_files tests.outside.test_store_pages tests.outside.test_foreign_rows
+
+ifeq ($(PROVED),yes)
 install: build
 	install -D -m 755 $(program) $(DESTDIR)$(PREFIX)/bin/slotplan
+else ifeq ($(PROVED),no)
+install: $(unproved)
+	install -D -m 755 $(unproved) $(DESTDIR)$(PREFIX)/bin/slotplan
+else
+$(error PROVED is yes or no)
+endif
 
 bench: build
 	@python3 bench/run.py
 	@python3 bench/growth.py
 	@python3 bench/turns.py
 	@python3 bench/texts.py
+
+bench-all: bench $(addprefix out/programs/,measure_store measure_decisions measure_imports store_pages)
+	@python3 bench/serve.py
+	@python3 bench/profile.py
+	@python3 bench/migrating.py
+	@python3 bench/imports.py
+	@python3 bench/decisions.py
+	@python3 bench/store.py
+	@python3 bench/levels.py
 
 # `rt run` proves what has changed, compiles it, and runs the program once on its stored script. What
 # it says goes to a file, so that `make run` prints the answers alone.

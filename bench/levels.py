@@ -1,13 +1,13 @@
 #!/usr/bin/env python3
-"""Prints what a variant that keeps its differences alone costs: levels.py [PROGRAM]
+"""Prints what a variant that keeps its differences alone costs: levels.py
 
 A file has variant v1, in which each of 64 suppliers has 64 frames with 2 placements and 2 signals. Variants are opened from it,
 in a transaction each: how long that takes and by how much the file grows, for each. Another file has 16 variants, each laid over
 the one before: 64 frames of 4 placements in the first, and 4 of them changed in each of the others. Its supplier's page is read in the
 first, the 4th and the 16th.
 
-PROGRAM is that of tests/store_pages.py, as its --keep leaves it; without it, it is proved and built first. Figures are of processor
-time, the least of seven runs, less that of runs that open the file and do nothing else. No figure is promised."""
+The program is out/programs/store_pages. Figures are of processor time, the least of seven runs, less that of runs that open the file and do
+nothing else. No figure is promised."""
 import argparse
 import shutil
 import sys
@@ -17,10 +17,10 @@ from pathlib import Path
 from texts import seconds
 
 TOP = Path(__file__).resolve().parent.parent
-sys.path.append(str(TOP / "tests"))
-from made import DEPTH, LARGE, suppliers
-from store_files import filled
-from store_pages import build
+sys.path.append(str(TOP))
+from tests.lib.made import DEPTH, LARGE, suppliers
+from tests.lib.rattle import built
+from tests.lib.schema2 import filled
 
 RUNS = 7
 SUPPLIERS = 64
@@ -95,12 +95,11 @@ def reading(program, path):
 
 def main():
     words = argparse.ArgumentParser(description=__doc__, formatter_class=argparse.RawDescriptionHelpFormatter)
-    words.add_argument("program", nargs="?", type=Path)
-    given = words.parse_args()
+    words.parse_args()
     (TOP / "out").mkdir(exist_ok=True)
     with tempfile.TemporaryDirectory(dir=TOP / "out") as room:
         room = Path(room)
-        program = given.program or build(room / "store_pages")
+        program = built("store_pages")
         opening(program, wide(room / "wide.db"))
         reading(program, deep(room / "deep.db"))
 

@@ -18,9 +18,9 @@ import tempfile
 from pathlib import Path
 
 TOP = Path(__file__).resolve().parent.parent
-sys.path.append(str(TOP / "tests"))
-import schema1
-from made import CYCLES, FRAMES, IMPORT_BYTES, IMPORTS, LARGE, NODES, PLACEMENTS, SIGNALS, SLOTS, SUPPLIERS, VARIANTS, suppliers
+sys.path.append(str(TOP))
+from tests.lib import schema1
+from tests.lib.made import CYCLES, FRAMES, IMPORT_BYTES, IMPORTS, LARGE, NODES, PLACEMENTS, SIGNALS, SLOTS, SUPPLIERS, VARIANTS, suppliers
 
 MIGRATED = 0, b"", b""
 OPENED = 1, b"", b'{"no":10,"refused":"NoVariant"}\n'

@@ -22,6 +22,7 @@ FRAMES = 256
 SUPPLIERS = 64
 DEPTH = 16
 PAYLOAD_BITS = 16 * 16
+HELD = ("cluster", "variants", "nodes")
 QUERIES = ("grants", "frames", "schedule", "gaps", "layout")
 
 
@@ -237,6 +238,7 @@ class Plan:
             lambda: self.line(supplier, "place", **{**place, "slot": 1.0}),
             lambda: self.line(supplier, "place", **place, more=1),
             lambda: self.line(supplier, "nothing", variant=variant),
+            lambda: self.line(supplier, "nodes", variant=variant),
             lambda: 'nobody12 {"do":"schedule","variant":"v0"}',
             lambda: self.line(supplier, "open_variant", variant="other"),
             lambda: self.line(None, "place", **place),
@@ -265,7 +267,10 @@ class Plan:
         ))()
 
     def query(self):
+        """A report of the first variant; now and then what the register holds."""
         actor, query = self.dice.choice([None, *self.suppliers]), self.dice.choice(QUERIES)
+        if self.dice.random() < 0.1:
+            return self.line(actor, self.dice.choice(HELD))
         fields = {"frame": "frame0"} if query == "layout" else {}
         return self.line(actor, query, variant=self.variants[0], **fields)
 

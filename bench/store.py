@@ -1,5 +1,5 @@
 #!/usr/bin/env python3
-"""Prints how long a register in a file takes, beside python3's `sqlite3` on the same file: store.py [--runs N] [--program FILE]
+"""Prints how long a register in a file takes, beside python3's `sqlite3` on the same file: store.py [--runs N]
 
 Pages are loaded, of 4, 64 and 256 frames, each of 8 placements and 15 signals; a placement is put and ended, each in a
 transaction of its own; so are 512 of them in one; and a register of about 100,000 rows is opened and closed. Then the same page
@@ -7,7 +7,7 @@ and the same edits in a register of 1 and of 64 suppliers, of 16 frames each: in
 
 `sqlite3` runs the statements of `fr_tables`, in as many transactions, over files of its own making, with a log. Where a page is
 loaded it makes tuples of the rows, and no page. Where a file is opened it does what comes nearest: PRAGMA integrity_check and
-foreign_key_check. One program does our part; it is proved and built first, in a folder that is gone afterwards.
+foreign_key_check. One program does our part, out/programs/measure_store.
 
 Figures are of processor time, the least of some runs, less that of a run that does it once, in which starting, opening and closing
 count too: what a disk takes is not in them. The ratios hold for their machine: they promise nothing."""
@@ -22,172 +22,23 @@ import time
 from contextlib import closing
 from pathlib import Path
 
-from programs import built
 from texts import seconds
 
 TOP = Path(__file__).resolve().parent.parent
-sys.path.append(str(TOP / "tests"))
-from made import LARGE, suppliers
-from statements import TEXT
-from store_files import connected, filled
+sys.path.append(str(TOP))
+from tests.lib.made import LARGE, suppliers
+from tests.lib.rattle import built
+from tests.lib.schema2 import connected, filled
+from tests.lib.sql import in_table
 
-TABLES = TOP / "crates/fr_tables/src/tables"
 PLACEMENTS, SIGNALS, BATCH = 8, 15, 512
 
-PROGRAM = r"""//! Loads pages of a register in a file, edits it, or opens it, again and again.
-#![tactic(auto)]
-
-use anyhow::{Context, Error, bail};
-use fr_base::{Change, Channels, CycleSet, FrameChange, Name, Placement, Slot};
-use fr_store::Store;
-use fr_world::Edit;
-use sqlite::{FileFrom, FileStore, Unknown};
-use std::alloc::Global;
-use std::env;
-
-type Register = Store<FileStore<FileFrom<Unknown>>>;
-
-/// The first word is `nothing`, or what is done: `page`, `edit`, `batch` or `open`. The second is the
-/// file's path, and the third says how often. Prints the frames of the pages.
-fn main(rt: HostRuntime) -> Result<(), Error> {
-    let mut words = env::args(&rt)?.skip(1);
-    let what = words.next().context("no word")?;
-    if what.as_str() == "nothing" {
-        return Ok(());
-    }
-    let path = words.next().context("no path")?;
-    let times: u32 = words.next().context("no number")?.parse()?;
-    let frames = match what.as_str() {
-        "page" => load(&rt, path.as_str(), times)?,
-        "edit" => change(&rt, path.as_str(), times, 1)?,
-        "batch" => change(&rt, path.as_str(), times, 512)?,
-        "open" => open(&rt, path.as_str(), times)?,
-        _ => bail!("none of these words"),
-    };
-    println!(rt; "{frames}")?;
-    Ok(())
-}
-
-fn opened(rt: &HostRuntime, path: &str) -> Result<Register, Error> {
-    match Store::open_at(rt, path, Unknown) {
-        Ok(store) => Ok(store),
-        Err((fault, _left)) => bail!("{fault:?}"),
-    }
-}
-
-fn closed(store: Register) -> Result<(), Error> {
-    match store.close() {
-        Ok(_files) => Ok(()),
-        Err(fault) => bail!("{fault:?}"),
-    }
-}
-
-fn name(text: &str) -> Result<Name, Error> {
-    Name::read(text).context("no name")
-}
-
-fn open(rt: &HostRuntime, path: &str, times: u32) -> Result<usize, Error> {
-    for _ in 0..times {
-        closed(opened(rt, path)?)?;
-    }
-    Ok(0)
-}
-
-fn load(rt: &HostRuntime, path: &str, times: u32) -> Result<usize, Error> {
-    let (supplier, variant) = (name("s1")?, name("v1")?);
-    let mut store = opened(rt, path)?;
-    let mut frames = 0;
-    for _ in 0..times {
-        frames = frames_of(rt.alloc(), &mut store, &supplier, &variant)?;
-    }
-    closed(store)?;
-    Ok(frames)
-}
-
-/// How many frames the page has.
-fn frames_of(
-    alloc: Global,
-    store: &mut Register,
-    supplier: &Name,
-    variant: &Name,
-) -> Result<usize, Error> {
-    match store.page(alloc, supplier, variant) {
-        Ok(Some(page)) => Ok(page.frames().len()),
-        _ => bail!("no page"),
-    }
-}
-
-fn change(rt: &HostRuntime, path: &str, times: u32, count: u32) -> Result<usize, Error> {
-    let placed = edits(rt.alloc(), count, true)?;
-    let ended = edits(rt.alloc(), count, false)?;
-    let mut store = opened(rt, path)?;
-    for _ in 0..times {
-        apply(rt.alloc(), &mut store, placed.as_slice())?;
-        apply(rt.alloc(), &mut store, ended.as_slice())?;
-    }
-    closed(store)?;
-    Ok(0)
-}
-
-fn apply(alloc: Global, store: &mut Register, edits: &[Edit]) -> Result<(), Error> {
-    match store.apply(alloc, edits) {
-        Ok(()) => Ok(()),
-        Err(fault) => bail!("{fault:?}"),
-    }
-}
-
-/// So many placements of the frames of `v2`, 8 each: put, or ended.
-fn edits(alloc: Global, count: u32, is_put: bool) -> Result<Vec<Edit>, Error> {
-    let mut edits = Vec::new(alloc);
-    for at in 0..count {
-        edits.push(edit(alloc, at, is_put)?)?;
-    }
-    Ok(edits)
-}
-
-fn edit(alloc: Global, at: u32, is_put: bool) -> Result<Edit, Error> {
-    let (supplier, variant) = (name("s1")?, name("v2")?);
-    let frame = format!(in alloc; "f{}", at / 8)?;
-    let frame = name(frame.as_str())?;
-    let placement = placement(at)?;
-    let change = if is_put {
-        FrameChange::Place(placement)
-    } else {
-        FrameChange::Unplace(placement)
-    };
-    let change = Change::Frame { frame, change };
-    Ok(Edit::Rows {
-        supplier,
-        variant,
-        change,
-    })
-}
-
-fn placement(at: u32) -> Result<Placement, Error> {
-    let Ok(cycles) = CycleSet::new(64, at % 64, 64) else {
-        bail!("no cycles");
-    };
-    Ok(Placement {
-        slot: Slot::new(at / 64 % 8 + 1).context("no slot")?,
-        channels: Channels::B,
-        cycles,
-    })
-}
-"""
-
-
-def statement(table, begin):
-    """The text of `fr_tables` that begins so."""
-    text, = {text for text in TEXT.findall((TABLES / f"{table}.rt").read_text()) if text.startswith(begin)}
-    return text
-
-
-ONE_VARIANT = statement("variants", "SELECT name, parent, depth, released, overlay FROM variants WHERE")
-NODES = statement("nodes", "SELECT")
-GRANTS = statement("grants", "SELECT slot")
-FRAMES = statement("frames", "SELECT name")
-PLACED, SIGNALLED = statement("placements", "SELECT"), statement("signals", "SELECT")
-PUT, END = statement("placements", "INSERT INTO placements (variant, supplier, frame, slot, channels, base, repetition) VALUES"), statement("placements", "DELETE")
+ONE_VARIANT = in_table("variants", "SELECT name, parent, depth, released, overlay FROM variants WHERE")
+NODES = in_table("nodes", "SELECT")
+GRANTS = in_table("grants", "SELECT slot")
+FRAMES = in_table("frames", "SELECT name, node FROM frames WHERE variant = ?1 AND supplier = ?2 ORDER")
+PLACED, SIGNALLED = in_table("placements", "SELECT"), in_table("signals", "SELECT")
+PUT, END = in_table("placements", "INSERT INTO placements (variant, supplier, frame, slot, channels, base, repetition) VALUES"), in_table("placements", "DELETE")
 
 
 def register(path, owners, frames):
@@ -298,13 +149,12 @@ def show(name, ours, theirs):
 def main():
     words = argparse.ArgumentParser(description=__doc__, formatter_class=argparse.RawDescriptionHelpFormatter)
     words.add_argument("--runs", type=int, default=5)
-    words.add_argument("--program", type=Path, help="the program, built before")
     given = words.parse_args()
     runs = given.runs
     (TOP / "out").mkdir(exist_ok=True)
     with tempfile.TemporaryDirectory(dir=TOP / "out") as room:
         room = Path(room)
-        program = given.program or built(room / "store_speed", ["fr_base", "fr_store", "fr_world"], ["sqlite", "anyhow"], PROGRAM, ["nothing"])
+        program = built("measure_store")
         counts = {(owners, frames): register(room / f"{owners}_{frames}.db", owners, frames) for owners, frames in ((1, 4), (1, 16), (1, 64), (1, 256), (64, 16), (64, 64))}
         print(f"{'':34} {'us':>12} {'sqlite3, us':>12} {'time':>7}")
 

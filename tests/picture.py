@@ -8,8 +8,9 @@ from html.parser import HTMLParser
 BOX = re.compile(r"M(\d+) (\d+)h(\d+)v(\d+)h-(\d+)z")
 TITLE = re.compile(r"(\w+)\n(\w+) of (\w+)\n(\d+) ([AB]) (?:(\d+/\d+)|cycles((?: [\d-]+)+))")
 HELD = re.compile(r"(\w+) of (\w+)\n(\d+) ([AB])")
-UNHELD = re.compile(r"nobody holds (\d+)(?: to (\d+))?")
+GAP = re.compile(r"(nobody holds|not held) (\d+)(?: to (\d+))?")
 KEY = re.compile(r"([a-h]\d?) (\w+): lanes (\d+), cells (\d+), sent in (\d+) of them \((\d+) %\)")
+SENT = re.compile(r"(?:(\d+/\d+)|cycles((?: [\d-]+)+)) (\w+)")
 # Where channel B stands further right, where the cluster has both.
 SHIFT = 68
 
@@ -22,16 +23,29 @@ def boxes(path):
     return [box[:4] for box in found]
 
 
+def mark_of(place):
+    """The mark of the supplier at this place: a letter, and behind the first eight a number."""
+    return "abcdefgh"[place % 8] + (str(place // 8) if place > 7 else "")
+
+
+class Part:
+    """A part of the drawing: its heading, its name where it is shown small, and its lanes, the attributes of each with its title and its shapes."""
+
+    def __init__(self, heading, given):
+        self.heading, self.given, self.group, self.lanes = heading, given, None, []
+
+
 class Page(HTMLParser):
-    """The parts of a page. Each part of the drawing is a list of lanes: the attributes of each, its title and its shapes, with their attributes, titles and texts."""
+    """The parts of a page, its legend, index and tables, and where its links lead. Each shape of a lane has its attributes, title and text."""
 
     def __init__(self, text):
         super().__init__()
         self.shapes = {}  # by their names, as lists of rectangles
-        self.parts, self.keys, self.rows, self.text = [], [], [], ""
+        self.parts, self.small, self.keys, self.index, self.tables, self.text = [], [], [], [], [], ""
+        self.ids, self.links, self.headings = [], [], {}
         self.open = []
         self.hatched = []  # the cycles, each by one more, that have a line across in a granted lane
-        self.lane = self.shape = None
+        self.lane = self.shape = self.heading = self.titled = None
         self.feed(text)
         self.close()
 
@@ -40,32 +54,52 @@ class Page(HTMLParser):
         assert not {"src", "onload", "onclick"} & set(given) and tag != "script", tag
         assert given.get("href", "#").startswith("#"), given
         # Tags that the page does not close end where the next of their kind begins.
-        ends = {"td": ("td", "th"), "th": ("td", "th"), "tr": ("td", "th", "tr")}.get(tag, ())
-        while self.open and self.open[-1] in ends:
+        ends = {"td": ("td", "th"), "th": ("td", "th"), "tr": ("td", "th", "tr", "thead"), "tbody": ("td", "th", "tr", "thead"), "li": ("li",)}.get(tag, ())
+        while self.open and self.open[-1] in ends and (tag, self.open[-1]) != ("tr", "thead"):
             self.open.pop()
         if tag not in ("br", "meta", "html"):
             self.open.append(tag)
-        if tag == "svg" and given.get("class") == "plan":
-            self.parts.append([])
+        self.ids += [given["id"]] if "id" in given else []
+        self.links += [given[name].lstrip("#") for name in ("href", "aria-labelledby") if name in given]
+        if tag == "h2":
+            self.titled = given.get("id")
+            self.heading = self.titled or self.heading
+            self.headings |= {self.titled: ""} if self.titled else {}
+        elif tag == "div" and given.get("class") == "plan":
+            assert "tabindex" in given and given["aria-labelledby"] == self.heading, given
+        elif tag == "svg" and given.get("role") == "img":
+            assert given["aria-labelledby"] == self.heading, given
+            self.parts.append(Part(self.heading, given))
+        elif tag == "g" and self.parts and not self.tables:
+            self.parts[-1].group = given["id"]
+        elif tag == "a" and "nav" in self.open:
+            self.small.append([given["href"], None, ""])
+        elif tag == "use" and "nav" in self.open:
+            self.small[-1][1] = given["href"]
         elif tag == "path" and given.get("id", "").isdigit():
             self.shapes[given["id"]] = boxes(given["d"])
-        elif tag == "path" and "g" in self.open and not self.parts:
+        elif tag == "path" and "g" in self.open and not self.parts and "id" not in given:
             self.hatched += [int(y) for y in re.findall(r"M0 (\d+)l\d+-1", given["d"])]
-        elif self.parts and tag == "svg" and not self.rows:
+        elif self.parts and tag == "svg" and not self.tables:
             self.lane = {"tag": tag, **given, "title": "", "shapes": []}
-            self.parts[-1].append(self.lane)
+            self.parts[-1].lanes.append(self.lane)
         elif self.lane is not None and tag in ("use", "path", "text"):
             self.shape = {"tag": tag, **given, "title": "", "text": ""}
             self.lane["shapes"].append(self.shape)
+        elif tag == "ul":
+            self.list = self.index if given.get("class") == "index" else self.keys
         elif tag == "li":
-            self.keys.append("")
+            self.list.append(["", ""])
+        elif tag == "a":
+            self.list[-1][1] = given["href"]
+        elif tag == "table":
+            self.tables.append([])
         elif tag == "tr":
-            self.rows.append([])
+            self.tables[-1].append([given.get("id", "")])
         elif tag in ("td", "th"):
-            self.rows[-1].append("")
-        elif tag == "path" and self.rows:
-            self.rows[-1].append(given["d"])
-            self.rows[-1].append("")
+            self.tables[-1][-1].append("")
+        elif tag == "path" and self.tables:
+            self.tables[-1][-1] += [given["d"], ""]
 
     def handle_startendtag(self, tag, attributes):
         self.handle_starttag(tag, attributes)
@@ -81,10 +115,14 @@ class Page(HTMLParser):
 
     def handle_data(self, data):
         inside = self.open
-        if self.rows and ("td" in inside or "th" in inside):
-            self.rows[-1][-1] += data
-        elif self.keys and "li" in inside:
-            self.keys[-1] += data
+        if "td" in inside or "th" in inside:
+            self.tables[-1][-1][-1] += data
+        elif "li" in inside:
+            self.list[-1][0] += data
+        elif "nav" in inside and "a" in inside:
+            self.small[-1][2] += data
+        elif "h2" in inside and self.titled:
+            self.headings[self.titled] += data
         elif self.shape is not None:
             self.shape["title" if "title" in inside else "text"] += data
         elif self.lane is not None:
@@ -95,10 +133,10 @@ class Page(HTMLParser):
 
 
 class Lane:
-    """What a page shows of one slot and channel: its holder, and its rectangles."""
+    """What a page shows of one slot and channel: its holder, its marks above and below, and its rectangles."""
 
     def __init__(self):
-        self.holders, self.kinds, self.mark = [], [], None
+        self.holders, self.kinds, self.marks = [], [], []
 
 
 def cycles_of(words, count):
@@ -115,27 +153,29 @@ def cycles_of(words, count):
 
 
 def read(text, channels, count):
-    """The page's lanes by slot and channel, its gaps, its suppliers, and the rows of its table. Says with an AssertionError where the
-    page contradicts itself."""
+    """The page, its lanes by slot and channel, its gaps with what is said of them, its crossed lanes, and the first slots of its parts. Says
+    with an AssertionError where the page contradicts itself."""
     page = Page(text)
-    lanes, gaps, free = {}, set(), set()
+    lanes, gaps, free, firsts = {}, set(), set(), []
+    assert len(page.ids) == len(set(page.ids)) and set(page.links) <= set(page.ids), sorted(set(page.links) - set(page.ids))
     for part in page.parts:
-        columns = {}
-        for drawn in part:
+        columns, shown = {}, set()
+        for drawn in part.lanes:
             for shape in drawn["shapes"]:
                 if shape["tag"] == "text" and shape["y"] == "-2":
                     columns[int(drawn["x"])] = int(shape["text"])
         # Lanes stand one beside the other, and have room for their rectangles.
-        places = sorted(int(drawn["x"]) for drawn in part)
-        for drawn in part:
+        places = sorted(int(drawn["x"]) for drawn in part.lanes)
+        for drawn in part.lanes:
             x = int(drawn["x"])
             here = (columns.get(x), "B" if channels == "B" or x > SHIFT else "A")
             for shape in drawn["shapes"]:
-                if shape["tag"] == "text" and UNHELD.fullmatch(shape["text"]):
-                    first, last = UNHELD.fullmatch(shape["text"]).groups()
-                    gaps.add((int(first), int(last or first)))
-                elif shape["tag"] == "text" and shape["y"] == "-1":
-                    lanes[here].mark = shape["text"]
+                if shape["tag"] == "text" and GAP.fullmatch(shape["text"]):
+                    said, first, last = GAP.fullmatch(shape["text"]).groups()
+                    gaps.add((int(first), int(last or first), said))
+                    shown.add(int(first))
+                elif shape["tag"] == "text" and shape["y"] in ("-1", str(count)) and not shape["title"] and here in lanes and len(lanes[here].marks) < 2:
+                    lanes[here].marks.append((shape["y"], shape["text"]))
                 elif shape.get("href") == "#free":
                     free.add(here)
                 elif shape.get("href") == "#held":
@@ -153,6 +193,11 @@ def read(text, channels, count):
                     told = sorted(cycles_of(repeated or single, count))
                     assert told == sorted(c for _, y, _, high in rectangles for c in range(y, y + high)), shape
                     lanes.setdefault(here, Lane()).kinds.append((frame, node, supplier, drawn["class"], [(y, high) for _, y, _, high in rectangles]))
+        firsts.append(min(shown | set(columns.values())))
+    # Each part has its heading; where there are more, the overview shows each and leads to it.
+    assert [page.headings[part.heading].split(": ")[1] for part in page.parts] == [f"slots from {first} on" for first in firsts], page.headings
+    small = [(f"#{part.heading}", f"#{part.group}", f"from {first}") for part, first in zip(page.parts, firsts)]
+    assert [(to, what, said.strip()) for to, what, said in page.small] == (small if len(small) > 1 else []), page.small
     return page, lanes, gaps, free
 
 
@@ -165,23 +210,39 @@ def bits_of(start, length, order):
     return set(bits)
 
 
-def compare(text, plan):
-    """Compares a page with a plan: its channels, slots, cycles, grants, cells, frames with gaps, and layouts, as a dict. Gives what
-    differs, a line for each."""
-    try:
-        page, lanes, gaps, free = read(text, plan["channels"], plan["cycles"])
-    except (AssertionError, KeyError, AttributeError) as fault:
-        return [f"the page contradicts itself: {type(fault).__name__} {fault}"]
-    wrong = []
+class Difference:
+    """What differs, a line for each."""
 
-    def same(what, wanted, got):
+    def __init__(self):
+        self.lines = []
+
+    def same(self, what, wanted, got):
         if wanted != got and isinstance(wanted, list):
             missing, more = Counter(map(repr, wanted)), Counter(map(repr, got))
             missing, more = list((missing - more).elements()), list((more - missing).elements())
-            wrong.append(f"{what}: {len(missing)} are missing: {missing[:4]}; {len(more)} are too many: {more[:4]}; or their order differs")
+            self.lines.append(f"{what}: {len(missing)} are missing: {missing[:4]}; {len(more)} are too many: {more[:4]}; or their order differs")
         elif wanted != got:
-            wrong.append(f"{what}: wanted {wanted!r}, got {got!r}")
+            self.lines.append(f"{what}: wanted {wanted!r}, got {got!r}")
 
+
+def compare(text, plan):
+    """Compares a page with a plan: its channels, slots, cycles, suppliers, grants, cells, frames with gaps, and layouts, and the supplier whose page it
+    is, as a dict. Gives what differs, a line for each."""
+    try:
+        page, lanes, gaps, free = read(text, plan["channels"], plan["cycles"])
+    except (AssertionError, KeyError, AttributeError, ValueError) as fault:
+        return [f"the page contradicts itself: {type(fault).__name__} {fault}"]
+    found = Difference()
+    compare_drawing(found.same, page, lanes, gaps, free, plan)
+    marks = {supplier: mark_of(place) for place, supplier in enumerate(plan["suppliers"])}
+    compare_suppliers(found.same, page, lanes, marks, plan)
+    compare_slots(found.same, page, marks, plan)
+    compare_frames(found.same, page, marks, plan)
+    return found.lines
+
+
+def compare_drawing(same, page, lanes, gaps, free, plan):
+    """The drawing has the plan's cells and grants, and the rest of the slots as gaps and crossed lanes."""
     same("the cycles in which a granted lane is hatched", list(range(1, plan["cycles"] + 1)), page.hatched)
     drawn = [(c, slot, channel, frame, node, supplier) for (slot, channel), lane in lanes.items() for frame, node, supplier, _, runs in lane.kinds for y, high in runs for c in range(y, y + high)]
     same("the cells", sorted(plan["cells"]), sorted(drawn))
@@ -193,39 +254,61 @@ def compare(text, plan):
             same(f"rectangles of {frame} in slot {slot} on {channel} that could be one", [], [y for y, _ in runs if y in ends])
         names = [kind[0::2][:2] for kind in lane.kinds]
         same(f"frames of slot {slot} on {channel} that are drawn twice", [], [name for name in names if names.count(name) > 1])
-    # Slots that nobody holds or uses: runs of them are gaps, and lanes of the others may be free.
+    # Slots of which there is no grant and in which nothing is sent: runs of them are gaps, and lanes of the others may be crossed.
     shown = {slot for slot, _, _, _ in plan["grants"]} | {cell[1] for cell in plan["cells"]}
+    said = "not held" if plan["viewer"] else "nobody holds"
     runs, slot = [], 1
     while slot <= plan["slots"]:
         end = slot
         while end <= plan["slots"] and end not in shown:
             end += 1
         if end > slot:
-            runs.append((slot, end - 1))
+            runs.append((slot, end - 1, said))
         slot = end + 1
     same("the gaps", runs, sorted(gaps))
     granted = {grant[:2] for grant in plan["grants"]}
-    same("the lanes that nobody holds", sorted((s, c) for s in shown for c in plan["channels"] if (s, c) not in granted), sorted(free))
-    # Each supplier has a mark and a colour of its own, in the legend and above its lanes.
-    keys = [KEY.fullmatch(key) for key in page.keys]
-    same("the suppliers that the legend has", sorted({g[3] for g in plan["grants"]} | {f[2] for f in plan["frames"]}), sorted(key[2] for key in keys if key))
-    marks = {key[2]: key[1] for key in keys if key}
-    same("how many marks there are", len(keys), len(set(marks.values())))
-    for key in keys:
+    same("the crossed lanes", sorted((s, c) for s in shown for c in plan["channels"] if (s, c) not in granted), sorted(free))
+
+
+def compare_suppliers(same, page, lanes, marks, plan):
+    """Each supplier has its mark and its colour by its place among all, in the legend and above and below its lanes."""
+    keys = [KEY.fullmatch(text.strip()) for text, _ in page.keys]
+    same("the suppliers and marks of the legend", [(mark, name) for name, mark in marks.items()], [key.groups()[:2] for key in keys if key])
+    for key in filter(None, keys):
         lanes_held = sum(g[3] == key[2] for g in plan["grants"])
         sent = sum(cell[5] == key[2] for cell in plan["cells"])
         room = lanes_held * plan["cycles"]
         same(f"how full the grants of {key[2]} are", (lanes_held, room, sent, sent * 100 // room if room else 0), tuple(map(int, key.groups()[2:])))
-    same("marks above lanes", [], [at for at, lane in lanes.items() for _, supplier in lane.holders if lane.mark != marks.get(supplier)])
+    both = lambda mark: [("-1", mark), (str(plan["cycles"]), mark)]
+    same("marks above and below lanes", [], [at for at, lane in lanes.items() for _, supplier in lane.holders if lane.marks != both(marks.get(supplier))])
     same("colours", [], [kind for lane in lanes.values() for kind in lane.kinds if kind[3] != "c%d" % "abcdefgh".index(marks[kind[2]][0])])
-    # The table: each frame with its placements, gap and signals, the worst first.
-    head, *rows = page.rows
-    got, gaps_told = [], []
-    for name, node, supplier, placed, gap, _, *strip in rows:
+
+
+def compare_slots(same, page, marks, plan):
+    """The table of slots: each grant, with what is sent there, the frame of the earliest cycle first, and how many cells are used."""
+    sent = {}
+    for cycle, slot, channel, frame, node, supplier in sorted(plan["cells"]):
+        sent.setdefault((slot, channel), {}).setdefault(frame, []).append(cycle)
+    wanted = []
+    for slot, channel, node, supplier in sorted(plan["grants"]):
+        here = sent.get((slot, channel), {})
+        wanted.append((f"{slot} {channel}", f"{marks[supplier]} {node} of {supplier}", list(here.items()), f"{sum(map(len, here.values()))} of {plan['cycles']}"))
+    got = []
+    for _, lane, holder, said, load in page.tables[0][2:]:
+        frames = [SENT.fullmatch(one.strip()).groups() for one in said.split(",") if one.strip()]
+        got.append((lane, holder, [(frame, sorted(cycles_of(repeated or single, plan["cycles"]))) for repeated, single, frame in frames], load.strip()))
+    same("the table of slots", wanted, got)
+
+
+def compare_frames(same, page, marks, plan):
+    """The table of frames: each with its number, placements, gap and signals, the worst first; and the index, by name."""
+    got, gaps_told, numbers = [], [], []
+    for row, number, name, node, supplier, placed, gap, _, *strip in page.tables[1][2:]:
         path, names = strip or ("", "")
         placements = tuple(tuple(line.split()) for line in placed.split("\n") if line)
         signals = names.split()
         got.append((name, node, supplier, placements, gap.strip()))
+        numbers.append((row, number))
         gaps_told.append(2**32 if gap.strip() == "never" else int(gap))
         runs = [tuple(map(int, run)) for run in re.findall(r"M(\d+),[39]h(\d+)", path)]
         filled = [bit for start, length in runs for bit in range(start, start + length)]
@@ -235,4 +318,6 @@ def compare(text, plan):
     wanted = [(name, node, supplier, tuple(placements), gap) for name, node, supplier, placements, gap in plan["frames"]]
     same("the table's frames", sorted(wanted), sorted(got))
     same("the table's order", sorted(gaps_told, reverse=True), gaps_told)
-    return wrong
+    same("the frames' numbers", [(f"r{number}", str(number)) for number in range(1, len(got) + 1)], numbers)
+    entries = sorted(((name, number, supplier) for number, (name, _, supplier, _, _) in enumerate(got, 1)), key=lambda entry: entry[:2])
+    same("the index", [(f"{name} {marks[supplier]} {number}", f"#r{number}") for name, number, supplier in entries], [(text.strip(), to) for text, to in page.index])

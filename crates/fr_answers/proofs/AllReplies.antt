@@ -7,12 +7,12 @@ use Rattle.fr_base.specs.Cells.{cluster_cells}
 use Rattle.fr_base.specs.Cluster.{Cluster}
 use Rattle.fr_base.specs.Names.{same_text}
 use Rattle.fr_base.specs.Refusing.{◌>>◌, refuse◌when◌}
-use Rattle.fr_base.specs.Queries.{frame_row, frames_of, gap_row, gaps_of, grants_of, named, reply, shown, signal_rows, signals_of}
+use Rattle.fr_base.specs.Queries.{frame_row, frames_of, gap_row, gaps_of, grants_of, named, found as rows_found, shown, signal_rows, signals_of}
 use Rattle.fr_base.specs.Sound.{IsSound}
 use Rattle.fr_base.specs.Tables.{contains, get, len, only}
 use Rattle.fr_base.specs.declared.actor.Actor.TheVariants.{Integrator}
-use Rattle.fr_base.specs.declared.answer.Answer.{Answer}
-use Rattle.fr_base.specs.declared.answer.Answer.TheVariants as answer
+use Rattle.fr_base.specs.declared.answer.ReportRows.{ReportRows}
+use Rattle.fr_base.specs.declared.answer.ReportRows.TheVariants as shows
 use Rattle.fr_base.specs.declared.answer.GrantRow.{GrantRow}
 use Rattle.fr_base.specs.declared.answer.FrameRow.{FrameRow}
 use Rattle.fr_base.specs.declared.answer.Sending.{Sending}
@@ -21,8 +21,8 @@ use Rattle.fr_base.specs.declared.answer.SignalRow.{SignalRow}
 use Rattle.fr_base.specs.declared.name.Name.{Name}
 use Rattle.fr_base.specs.declared.params.Params.{Params}
 use Rattle.fr_base.specs.declared.refusal.Refusal.{Refusal}
-use Rattle.fr_base.specs.declared.refusal.Refusal.TheVariants.{NoFrame, NoVariant, Unavailable}
-use Rattle.fr_base.specs.declared.request.Query.{Query}
+use Rattle.fr_base.specs.declared.refusal.Refusal.TheVariants.{NoFrame, NoVariant}
+use Rattle.fr_base.specs.declared.query.Query.TheVariants.{Variant as OfVariant}
 use Rattle.fr_base.specs.declared.report.Report.{Report}
 use Rattle.fr_base.specs.declared.report.Report.TheVariants.{Grants, Frames, Schedule, Gaps, Layout}
 use Rattle.fr_base.proofs.SoundTables.{value_of}
@@ -101,42 +101,42 @@ module _ (c : Cluster) (b : Book) (v : Name) (x : Variant) (sound : IsSound c b)
 
 module _ (old new : Standing) (v : Name) (suppliers : List Name) (known : (c : Cluster) (b : Book) → old c b → suppliers ≡ supplier_names b) where
   pub all-grants : (rows : List GrantRow) →
-      Gathers old new (Ok rows) v (λ p x rows. rows ≡ grants_of (grants_among suppliers x.grants)) → ShowsAll old new v Grants (Ok (answer.Grants true rows))
+      Gathers old new (Ok rows) v (λ p x rows. rows ≡ grants_of (grants_among suppliers x.grants)) → ShowsAll old new v Grants (Ok (shows.Grants rows))
   unfolding shown
   all-grants rows gathers c b stood sound =
       let told = gathers c b stood in (
         told.0,
-        λ x there. ap (λ rs. Ok (answer.Grants true rs))
+        λ x there. ap (λ rs. Ok (shows.Grants rs))
             (sym (told.1 x there ∙ ap grants_of (ap (λ ss. grants_among ss x.grants) (known c b stood) ∙ grants-all c b v x sound there))),
       )
 
   pub all-frames : (rows : List FrameRow) →
-      Gathers old new (Ok rows) v (λ p x rows. rows ≡ flat_map (λ s. frames_of (own s x.frames)) suppliers) → ShowsAll old new v Frames (Ok (answer.Frames true rows))
+      Gathers old new (Ok rows) v (λ p x rows. rows ≡ flat_map (λ s. frames_of (own s x.frames)) suppliers) → ShowsAll old new v Frames (Ok (shows.Frames rows))
   unfolding shown
   all-frames rows gathers c b stood sound =
       let told = gathers c b stood in (
         told.0,
-        λ x there. ap (λ rs. Ok (answer.Frames true rs))
+        λ x there. ap (λ rs. Ok (shows.Frames rs))
             (sym (told.1 x there ∙ ap (flat_map (λ s. frames_of (own s x.frames))) (known c b stood) ∙ frames-all c b v x sound there)),
       )
 
   pub all-gaps : (rows : List GapRow) →
-      Gathers old new (Ok rows) v (λ p x rows. rows ≡ flat_map (λ s. gaps_of p (own s x.frames)) suppliers) → ShowsAll old new v Gaps (Ok (answer.Gaps true rows))
+      Gathers old new (Ok rows) v (λ p x rows. rows ≡ flat_map (λ s. gaps_of p (own s x.frames)) suppliers) → ShowsAll old new v Gaps (Ok (shows.Gaps rows))
   unfolding shown
   all-gaps rows gathers c b stood sound =
       let told = gathers c b stood in (
         told.0,
-        λ x there. ap (λ rs. Ok (answer.Gaps true rs))
+        λ x there. ap (λ rs. Ok (shows.Gaps rs))
             (sym (told.1 x there ∙ ap (flat_map (λ s. gaps_of c.params (own s x.frames))) (known c b stood) ∙ gaps-all c b v x sound there c.params)),
       )
 
   pub all-schedule : (p : Params) (rows : List Sending) → ((c : Cluster) (b : Book) → old c b → p ≡ c.params) →
-      Gathers old new (Ok rows) v (λ _ x rows. rows ≡ sent_in (placements_among suppliers x) (cluster_cells p)) → ShowsAll old new v Schedule (Ok (answer.Schedule true rows))
+      Gathers old new (Ok rows) v (λ _ x rows. rows ≡ sent_in (placements_among suppliers x) (cluster_cells p)) → ShowsAll old new v Schedule (Ok (shows.Schedule rows))
   unfolding shown
   all-schedule p rows of_p gathers c b stood sound =
       let told = gathers c b stood in (
         told.0,
-        λ x there. ap (λ rs. Ok (answer.Schedule true rs))
+        λ x there. ap (λ rs. Ok (shows.Schedule rs))
             (sym (told.1 x there ∙ ap (λ p. sent_in (placements_among suppliers x) (cluster_cells p)) (of_p c b stood)
             ∙ sendings-sent c.params x.frames (placements_among suppliers x) (ap (λ ss. placements_among ss x) (known c b stood) ∙ placements-all c b v x sound there))),
       )
@@ -145,7 +145,7 @@ module _ (old new : Standing) (v : Name) (suppliers : List Name) (known : (c : C
   named-known f c b x stood sound there = ap (λ ss. frames_named f ss x) (known c b stood) ∙ named-all c b v x sound there f
 
   pub all-layout : (f : Name) (rows : List SignalRow) →
-      Gathers old new (Ok (Some rows)) v (λ p x found. AreSignals f suppliers x found) → ShowsAll old new v (Layout f) (Ok (answer.Layout true rows))
+      Gathers old new (Ok (Some rows)) v (λ p x found. AreSignals f suppliers x found) → ShowsAll old new v (Layout f) (Ok (shows.Layout rows))
   unfolding shown signals_of len ◌>>◌ refuse◌when◌
   all-layout f rows gathers c b stood sound =
       let told = gathers c b stood in (
@@ -153,8 +153,8 @@ module _ (old new : Standing) (v : Name) (suppliers : List Name) (known : (c : C
         λ x there.
             let all = named-known f c b x stood sound there in
             let some : 0 < length (named f x.frames).rows = subst (λ (rs : List ((Name × Name) × Frame)). 0 < length rs) all (told.1 x there).0 in
-            ap (λ t. (refuse NoFrame when t) >> Ok (answer.Layout true (signals_of (named f x.frames)))) (ne_eqb (length (named f x.frames).rows) 0 (λ h. omega (arith, h, some)))
-            ∙ ap (λ rs. Ok (answer.Layout true rs)) (sym ((told.1 x there).1 ∙ ap (flat_map signal_rows) all)),
+            ap (λ t. (refuse NoFrame when t) >> Ok (shows.Layout (signals_of (named f x.frames)))) (ne_eqb (length (named f x.frames).rows) 0 (λ h. omega (arith, h, some)))
+            ∙ ap (λ rs. Ok (shows.Layout rs)) (sym ((told.1 x there).1 ∙ ap (flat_map signal_rows) all)),
       )
 
   pub all-no_frame : (f : Name) →
@@ -165,24 +165,24 @@ module _ (old new : Standing) (v : Name) (suppliers : List Name) (known : (c : C
         told.0,
         λ x there.
             let none : (named f x.frames).rows ≡ [] = sym (named-known f c b x stood sound there) ∙ told.1 x there in
-            inr (ap (λ t. (refuse NoFrame when t) >> Ok (answer.Layout true (signals_of (named f x.frames)))) (ap (λ (rs : List ((Name × Name) × Frame)). length rs == 0) none)),
+            inr (ap (λ t. (refuse NoFrame when t) >> Ok (shows.Layout (signals_of (named f x.frames)))) (ap (λ (rs : List ((Name × Name) × Frame)). length rs == 0) none)),
       )
 
 -- ---- the answer to the integrator
 
-module _ (old mid : Standing) (query : Query) (has : Bool)
-    (told : (c : Cluster) (b : Book) → old c b → mid c b × (has ≡ contains b.variants query.variant)) where
-  pub all-replied : (new : Standing) (r : Result Answer Refusal) → has ≡ true → ShowsAll mid new query.variant query.report r → Replies old new r (λ c b. reply c.params b Integrator query)
+module _ (old mid : Standing) (v : Name) (report : Report Name) (has : Bool)
+    (told : (c : Cluster) (b : Book) → old c b → mid c b × (has ≡ contains b.variants v)) where
+  pub all-replied : (new : Standing) (r : Result ReportRows Refusal) → has ≡ true → ShowsAll mid new v report r → Replies old new r (λ c b. rows_found c.params b Integrator (OfVariant v report))
   all-replied new r is shows c b stood sound =
       let first = told c b stood in
-      let found = value_of (get b.variants query.variant) (sym first.1 ∙ is) in
+      let found = value_of (get b.variants v) (sym first.1 ∙ is) in
       let last = shows c b first.0 sound in
-      (last.0, subst (Said r) (sym (reply-there c.params b Integrator query found.0 found.1)) (last.1 found.0 found.1))
+      (last.0, subst (Said r) (sym (reply-there c.params b Integrator v report found.0 found.1)) (last.1 found.0 found.1))
 
-  pub none-replied : has ≡ false → Replies old mid (Err NoVariant) (λ c b. reply c.params b Integrator query)
+  pub none-replied : has ≡ false → Replies old mid (Err NoVariant) (λ c b. rows_found c.params b Integrator (OfVariant v report))
   none-replied is c b stood sound =
       let first = told c b stood in
-      (first.0, inr (reply-none c.params b Integrator query (none_of (get b.variants query.variant) (sym first.1 ∙ is))))
+      (first.0, inr (reply-none c.params b Integrator v report (none_of (get b.variants v) (sym first.1 ∙ is))))
     where
       none_of : (o : Option Variant) → is_some o ≡ false → o ≡ None
       none_of None e = refl

@@ -23,7 +23,7 @@ use Rattle.fr_world.specs.Nodes.{new_node}
 use Rattle.fr_world.specs.Pages.{nodes_in}
 use Rattle.fr_world.specs.Suppliers.{new_supplier}
 use Rattle.fr_world.specs.declared.edit.Edit.{Edit}
-use Rattle.fr_world.specs.declared.variants.VariantRow.{VariantRow}
+use Rattle.fr_base.specs.declared.answer.VariantRow.{VariantRow}
 use Rattle.fr_world.proofs.BookFits.{common-fits, node-fits}
 use Rattle.fr_world.proofs.IntegratorLaws.{common-decides, node-decides}
 use Rattle.fr_world.proofs.JoiningLaws.{joining-decides, joining-fits}

@@ -4,14 +4,14 @@ use Rattle.fr_base.specs.Alone.{is_done}
 use Rattle.fr_base.specs.Book.{Book, Kept, Variant}
 use Rattle.fr_base.specs.Cluster.{Cluster}
 use Rattle.fr_base.specs.Checks.{check}
-use Rattle.fr_base.specs.Queries.{reply, shown}
+use Rattle.fr_base.specs.Queries.{found, reply}
 use Rattle.fr_base.specs.Refusing.{◌or◌}
 use Rattle.fr_base.specs.Sound.{IsSound}
 use Rattle.fr_base.specs.Step.{Outcome, RefusedAt, act, add_node, add_supplier, change_rows, common, done, import, imported, knows, outcome, perform, step}
 use Rattle.fr_base.specs.Tables.{get}
 use Rattle.fr_base.specs.declared.actor.Actor.{Actor}
 use Rattle.fr_base.specs.declared.answer.Answer.{Answer}
-use Rattle.fr_base.specs.declared.answer.Answer.TheVariants.{Done, Imported, Grants as ToldGrants, Frames as ToldFrames, Schedule as ToldSchedule, Gaps as ToldGaps, Layout as ToldLayout, Refused, RefusedRow}
+use Rattle.fr_base.specs.declared.answer.Answer.TheVariants.{Done, Imported, Report as Told, Refused, RefusedRow}
 use Rattle.fr_base.specs.declared.name.Name.{Name}
 use Rattle.fr_base.specs.declared.params.Params.{Params}
 use Rattle.fr_base.specs.declared.refusal.Refusal.{Refusal}
@@ -22,7 +22,7 @@ use Rattle.fr_base.specs.declared.request.Request.{Request}
 use Rattle.fr_base.specs.declared.request.Checked.{Checked}
 use Rattle.fr_base.specs.declared.request.Checked.TheVariants as checked
 use Rattle.fr_base.specs.declared.request.Import.{Import}
-use Rattle.fr_base.specs.declared.request.Query.{Query}
+use Rattle.fr_base.specs.declared.query.Query.{Query}
 use Rattle.fr_base.specs.declared.report.Report.{Report}
 use Rattle.fr_base.specs.declared.report.Report.TheVariants.{Grants, Frames, Schedule, Gaps, Layout}
 use Rattle.fr_base.proofs.SoundRefusing.{gives_bind, gives_each, gives_unless, gives_when}
@@ -45,17 +45,9 @@ module _ (p : Params) (b : Book) (i : Import) where
   import-told (Some one) = gives_unless _ _ _ _ (λ _. refl)
 
 module _ (p : Params) (actor : Actor) where
-  shown-told : (variant : Variant) (report : Report Name) → IfOk (shown p actor variant report) (λ a. is_done a ≡ false)
-  unfolding shown
-  shown-told variant Grants = refl
-  shown-told variant Frames = refl
-  shown-told variant Schedule = refl
-  shown-told variant Gaps = refl
-  shown-told variant (Layout f) = gives_when _ _ _ _ (λ _. refl)
-
-  reply-told : (b : Book) (query : Query) → IfOk (reply p b actor query) (λ a. is_done a ≡ false)
+  reply-told : (b : Book) (query : Query Name) → IfOk (reply p b actor query) (λ a. is_done a ≡ false)
   unfolding reply
-  reply-told b query = gives_each _ (get b.variants query.variant or NoVariant) _ (λ variant _. shown-told variant query.report)
+  reply-told b query = gives_each _ (found p b actor query) _ (λ rows _. refl)
 
 -- ---- what changes a register
 
@@ -139,10 +131,6 @@ module _ (c : Cluster) (b : Book) (actor : Actor) where
       → AfterAct stands valid (Ok answer) P → WhereChanged b after answer P
   changed_so stands valid Done P after stood sound made h = done_so stands valid P after made h
   changed_so stands valid (Imported rows) P after stood sound made h = imported_so stands valid P after rows stood sound made h
-  changed_so stands valid (ToldGrants all rows) P after stood sound made h = tt
-  changed_so stands valid (ToldFrames all rows) P after stood sound made h = tt
-  changed_so stands valid (ToldSchedule all rows) P after stood sound made h = tt
-  changed_so stands valid (ToldGaps all rows) P after stood sound made h = tt
-  changed_so stands valid (ToldLayout all rows) P after stood sound made h = tt
+  changed_so stands valid (Told all rows) P after stood sound made h = tt
   changed_so stands valid (Refused e) P after stood sound made h = tt
   changed_so stands valid (RefusedRow line e) P after stood sound made h = tt

@@ -7,6 +7,7 @@ pub mod PageBack
 pub mod FreshLaws
 pub mod CountLaws
 pub mod ShelfLaws
+pub mod KeptLaws
 pub mod WarmLaws
 pub mod ShownLaws
 pub mod PageRows
@@ -17,6 +18,7 @@ pub mod StepLaws
 pub mod GatherLaws
 pub mod GrantLaws
 pub mod AllReplies
+pub mod RegisterReplies
 pub mod CrashLaws
 pub mod DoneLaws
 pub mod CrashedLaws

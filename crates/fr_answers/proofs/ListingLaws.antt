@@ -10,7 +10,7 @@ use Rattle.fr_base.specs.declared.actor.Actor.{Actor}
 use Rattle.fr_base.specs.declared.refusal.Refusal.{Refusal}
 use Rattle.fr_base.specs.declared.refusal.Refusal.TheVariants.{UnknownKey}
 use Rattle.fr_world.specs.BookEdits.{variants_in}
-use Rattle.fr_world.specs.declared.variants.VariantRow.{VariantRow}
+use Rattle.fr_base.specs.declared.answer.VariantRow.{VariantRow}
 use Rattle.fr_records.specs.Held.{Standing, Tells}
 use Rattle.fr_answers.specs.Answering.{is_known}
 use Rattle.fr_answers.specs.Listing.{Lists, variants_told}

@@ -108,7 +108,7 @@ module _ {V : Type 0} where
   nothing (s ∷ ss) = nothing ss
 
   -- rows in order, whose suppliers are among these
-  split : (es : List ((Name × Name) × V)) (ss : List (Name × Key)) →
+  pub split : (es : List ((Name × Name) × V)) (ss : List (Name × Key)) →
       T (is_sorted owned.compare es) → T (is_sorted names.compare ss) → ((e : (Name × Name) × V) → In e es → In e.0.0 (map (λ t. t.0) ss)) →
       flat_map (λ t. rows_of t.0 es) ss ≡ es
   split [] ss sorted rise known = nothing ss

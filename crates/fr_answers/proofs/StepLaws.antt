@@ -18,7 +18,8 @@ use Rattle.fr_base.specs.declared.refusal.Refusal.TheVariants.{UnknownKey}
 use Rattle.fr_base.specs.declared.request.Ask.{Ask}
 use Rattle.fr_base.specs.declared.request.Command.{Command}
 use Rattle.fr_base.specs.declared.request.Import.{Import}
-use Rattle.fr_base.specs.declared.request.Query.{Query}
+use Rattle.fr_base.specs.declared.name.Name.{Name}
+use Rattle.fr_base.specs.declared.query.Query.{Query}
 use Rattle.fr_base.specs.declared.request.Request.{Request}
 use Rattle.fr_base.specs.declared.request.Checked.{Checked}
 use Rattle.fr_base.specs.declared.request.Checked.TheVariants as checked
@@ -122,7 +123,7 @@ module _ (old new : Standing) (actor : Actor) where
   import_acts i r asks gives c b stood sound known = gives c b stood sound (subst (λ a. IsTrue (knows b a)) asks known)
 
   -- a query
-  pub query_acts : (query : Query) (r : Result Answer Refusal) → Replies old new r (λ c b. reply c.params b actor query) → Acts old new r actor (checked.Query query)
+  pub query_acts : (query : Query Name) (r : Result Answer Refusal) → Replies old new r (λ c b. reply c.params b actor query) → Acts old new r actor (checked.Query query)
   unfolding act ◌>>=◌
   query_acts query (Ok answer) replies c b stood sound known =
       let t = replies c b stood sound in

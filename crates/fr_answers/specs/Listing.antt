@@ -10,7 +10,7 @@ use Rattle.fr_base.specs.declared.actor.Actor.{Actor}
 use Rattle.fr_base.specs.declared.refusal.Refusal.{Refusal}
 use Rattle.fr_base.specs.declared.refusal.Refusal.TheVariants.{Unavailable, UnknownKey}
 use Rattle.fr_world.specs.BookEdits.{variants_in}
-use Rattle.fr_world.specs.declared.variants.VariantRow.{VariantRow}
+use Rattle.fr_base.specs.declared.answer.VariantRow.{VariantRow}
 use Rattle.fr_records.specs.Held.{Standing}
 
 -- the variants, which are common to all suppliers: who is there is told of all of them

@@ -3,9 +3,8 @@ ghost use Rattle.fr_answers.specs.Listing.{Lists};
 ghost use Rattle.fr_records.specs.Held.{LeavesNoMore};
 
 use crate::answering::is_known;
-use fr_base::{Actor, Refusal};
+use fr_base::{Actor, Refusal, VariantRow};
 use fr_records::Records;
-use fr_world::VariantRow;
 use std::alloc::Global;
 
 /// The variants, by name. They are common to all suppliers, so each of them is told of all. `UnknownKey` where who

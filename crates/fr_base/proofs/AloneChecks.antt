@@ -7,7 +7,7 @@ use Rattle.fr_base.specs.Refusing.{refuse◌when◌}
 use Rattle.fr_base.specs.Tables.{get}
 use Rattle.fr_base.specs.Names.{is_name, is_key, same_text}
 use Rattle.fr_base.specs.Channels.{has_channel, channel_of_text}
-use Rattle.fr_base.specs.Checks.{is_integrator, asking, key, name, slot, channel, placement, signal, parent_name, report, check}
+use Rattle.fr_base.specs.Checks.{is_integrator, asking, key, name, slot, channel, placement, signal, parent_name, query, check}
 use Rattle.fr_base.specs.Book.{Variant, Book}
 use Rattle.fr_base.specs.Alone.{concerns, is_another, holder_at}
 use Rattle.fr_base.specs.declared.channel.Channel.{Channel}
@@ -158,6 +158,5 @@ check-says p actor (request.Import variant label body) =
     gives_bind _ _ (asking actor) _ (asking-is actor) (λ t is.
     gives_each _ (name variant) _ (λ v _.
     gives_each _ (name label) _ (λ l _. is)))
-check-says p actor (request.Query variant asked) =
-    gives_each _ (name variant) _ (λ v _.
-    gives_each _ (report asked) _ (λ r _ is s. refl))
+check-says p actor (request.Query asked) =
+    gives_each _ (query asked) _ (λ q _ is s. refl)

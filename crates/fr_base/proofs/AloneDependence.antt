@@ -19,7 +19,7 @@ use Rattle.fr_base.specs.declared.actor.Actor.{Actor}
 use Rattle.fr_base.specs.declared.actor.Actor.TheVariants.{Integrator, Supplier}
 use Rattle.fr_base.specs.declared.request.Request.{Request}
 use Rattle.fr_base.specs.declared.request.Request.TheVariants as request
-use Rattle.fr_base.specs.declared.request.Query.{Query}
+use Rattle.fr_base.specs.declared.query.Query.{Query}
 use Rattle.fr_base.specs.declared.request.Command.{Command}
 use Rattle.fr_base.specs.declared.request.Command.TheVariants.{Common, AddSupplier, AddNode, Rows}
 use Rattle.fr_base.specs.declared.request.Import.{Import}
@@ -58,7 +58,7 @@ module _ (c : Cluster) (b : Book) (s : Name) where
   shown-own (Ok rows) = refl
   shown-own (Err e) = refl
 
-  query-own : (query : Query) → Beside (Ok tt) (act c b (Supplier s) (checked.Query query)) (act c (rows_of s b) (Supplier s) (checked.Query query))
+  query-own : (query : Query Name) → Beside (Ok tt) (act c b (Supplier s) (checked.Query query)) (act c (rows_of s b) (Supplier s) (checked.Query query))
   unfolding act
   query-own query =
       shown-own (reply c.params b (Supplier s) query)

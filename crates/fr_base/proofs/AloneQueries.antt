@@ -1,20 +1,25 @@
 -- A query shows a supplier of its own rows what it shows it of all.
-use Rattle.std.proofs.Common.{◌≡◌, false, Some, Result, Ok, refl, sym, ap}
+use Rattle.std.proofs.Common.{◌≡◌, false, List, [], ◌∷◌, map, Some, Result, Ok, refl, sym, ap}
 use Rattle.std.specs.Prelude.{◌==◌}
-use Rattle.fr_base.specs.Refusing.{◌>>◌, refuse◌when◌}
-use Rattle.fr_base.specs.Tables.{get, len}
-use Rattle.fr_base.specs.Keys.{owned, channel_slots}
+use Rattle.fr_base.specs.Refusing.{◌>>=◌, ◌>>◌, refuse◌when◌}
+use Rattle.fr_base.specs.Tables.{get, len, each}
+use Rattle.fr_base.specs.Keys.{names, owned, channel_slots}
+use Rattle.fr_base.specs.Names.{same_text}
 use Rattle.fr_base.specs.Book.{Variant, Book, held_by, is_of, own, own_grants}
-use Rattle.fr_base.specs.Queries.{grants_of, frames_of, sendings_of, gaps_of, named, signals_of, shown, reply}
+use Rattle.fr_base.specs.Queries.{grants_of, frames_of, sendings_of, gaps_of, named, signals_of, cluster_of, variant_row, variants_of, nodes_of, held, shown, found, reply}
 use Rattle.fr_base.specs.Alone.{own_variant, rows_of}
 use Rattle.fr_base.specs.declared.name.Name.{Name}
 use Rattle.fr_base.specs.declared.params.Params.{Params}
-use Rattle.fr_base.specs.declared.answer.Answer.{Answer}
+use Rattle.fr_base.specs.declared.answer.ReportRows.{ReportRows}
+use Rattle.fr_base.specs.declared.answer.ReportRows.TheVariants as rows
 use Rattle.fr_base.specs.declared.answer.Answer.TheVariants as answer
 use Rattle.fr_base.specs.declared.refusal.Refusal.{Refusal}
 use Rattle.fr_base.specs.declared.refusal.Refusal.TheVariants.{NoVariant, NoFrame}
 use Rattle.fr_base.specs.declared.actor.Actor.TheVariants.{Supplier}
-use Rattle.fr_base.specs.declared.request.Query.{Query}
+use Rattle.fr_base.specs.declared.query.Query.{Query}
+use Rattle.fr_base.specs.declared.query.Query.TheVariants.{Register as OfRegister, Variant as OfVariant}
+use Rattle.fr_base.specs.declared.query.Inventory.{Inventory}
+use Rattle.fr_base.specs.declared.query.Inventory.TheVariants.{Cluster, Variants, Nodes}
 use Rattle.fr_base.specs.declared.report.Report.{Report}
 use Rattle.fr_base.specs.declared.report.Report.TheVariants.{Grants, Frames, Schedule, Gaps, Layout}
 use Rattle.fr_base.proofs.AloneTables.{only-only}
@@ -30,16 +35,34 @@ module _ (p : Params) (s : Name) where
 
   shown-own : (x : Variant) (report : Report Name) → shown p (Supplier s) (own_variant s x) report ≡ shown p (Supplier s) x report
   unfolding shown own_variant
-  shown-own x Grants = ap (λ t. Ok (answer.Grants false (grants_of t))) (own_grants-own x)
-  shown-own x Frames = ap (λ t. Ok (answer.Frames false (frames_of t))) (own_frames-own x)
-  shown-own x Schedule = ap (λ t. Ok (answer.Schedule false (sendings_of p t))) (own_frames-own x)
-  shown-own x Gaps = ap (λ t. Ok (answer.Gaps false (gaps_of p t))) (own_frames-own x)
-  shown-own x (Layout f) = ap (λ t. (refuse NoFrame when len (named f t) == 0) >> Ok (answer.Layout false (signals_of (named f t)))) (own_frames-own x)
+  shown-own x Grants = ap (λ t. Ok (rows.Grants (grants_of t))) (own_grants-own x)
+  shown-own x Frames = ap (λ t. Ok (rows.Frames (frames_of t))) (own_frames-own x)
+  shown-own x Schedule = ap (λ t. Ok (rows.Schedule (sendings_of p t))) (own_frames-own x)
+  shown-own x Gaps = ap (λ t. Ok (rows.Gaps (gaps_of p t))) (own_frames-own x)
+  shown-own x (Layout f) = ap (λ t. (refuse NoFrame when len (named f t) == 0) >> Ok (rows.Layout (signals_of (named f t)))) (own_frames-own x)
 
-  abbrev Same : Result Answer Refusal → Result Answer Refusal → Type 0
+  -- a variant is told alike whosever rows are in it
+  rows-own : (es : List (Name × Variant)) → map variant_row es ≡ map variant_row (map (λ e. (e.0, own_variant s e.1)) es)
+  unfolding own_variant
+  rows-own [] = refl
+  rows-own (e ∷ es) = ap (λ rest. variant_row e ∷ rest) (rows-own es)
+
+  -- what the register holds, of its own rows and of all
+  held-own : (b : Book) (inventory : Inventory) → held p b (Supplier s) inventory ≡ held p (rows_of s b) (Supplier s) inventory
+  unfolding held rows_of variants_of each
+  held-own b Cluster = ap (λ t. rows.Cluster (cluster_of p t)) (sym (only-only names (λ t _. same_text t s) b.suppliers))
+  held-own b Variants = ap rows.Variants (rows-own b.variants.rows)
+  held-own b Nodes = ap (λ t. rows.Nodes (nodes_of t)) (sym (only-only owned (λ k _. is_of s k) b.nodes))
+
+  abbrev Same : Result ReportRows Refusal → Result ReportRows Refusal → Type 0
   Same r u = r ≡ u
 
+  found-own : (b : Book) (query : Query Name) → found p b (Supplier s) query ≡ found p (rows_of s b) (Supplier s) query
+  unfolding found
+  found-own b (OfRegister inventory) = ap Ok (held-own b inventory)
+  found-own b (OfVariant v report) = alike_or Same (λ e. refl) (own_variant s) (get b.variants v) _ (rows_of-variant s b v) NoVariant _ _ (λ x _. sym (shown-own x report))
+
   -- a query shows the supplier of its own rows what it shows it of all
-  pub reply-own : (b : Book) (query : Query) → reply p b (Supplier s) query ≡ reply p (rows_of s b) (Supplier s) query
+  pub reply-own : (b : Book) (query : Query Name) → reply p b (Supplier s) query ≡ reply p (rows_of s b) (Supplier s) query
   unfolding reply
-  reply-own b query = alike_or Same (λ e. refl) (own_variant s) (get b.variants query.variant) _ (rows_of-variant s b query.variant) NoVariant _ _ (λ x _. sym (shown-own x query.report))
+  reply-own b query = ap (λ r. r >>= (λ rows. Ok (answer.Report false rows))) (found-own b query)

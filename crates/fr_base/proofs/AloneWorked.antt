@@ -6,13 +6,14 @@ use Rattle.fr_base.specs.Tables.{each}
 use Rattle.fr_base.specs.Book.{opening}
 use Rattle.fr_base.specs.Alone.{own_variant, rows_of, asks_of, answers_of, alone, answers_to, book_after}
 use Rattle.fr_base.specs.declared.answer.Answer.{Answer}
-use Rattle.fr_base.specs.declared.answer.Answer.TheVariants.{Done, Refused, Schedule as Sent}
+use Rattle.fr_base.specs.declared.answer.Answer.TheVariants.{Done, Refused}
 use Rattle.fr_base.specs.declared.channel.Channel.TheVariants as ch
 use Rattle.fr_base.specs.declared.refusal.Refusal.TheVariants.{UnknownKey, Limit, Taken, KeyTaken}
 use Rattle.fr_base.specs.declared.request.Ask.{Ask}
 use Rattle.fr_base.specs.declared.request.Request.TheVariants.{OpenVariant, AddSupplier, AddNode, Grant, AddFrame, Place, Query}
+use Rattle.fr_base.specs.declared.query.Query.TheVariants.{Variant as OfVariant}
 use Rattle.fr_base.specs.declared.report.Report.TheVariants.{Schedule}
-use Rattle.fr_base.proofs.WorkedRows.{file, full_file, answers, a_small_register, integrator, s1, s2, s3}
+use Rattle.fr_base.proofs.WorkedRows.{file, full_file, answers, a_small_register, integrator, s1, s2, s3, Sent}
 
 -- what the rows below unfold
 unfoldable a_register_alone : ⊤
@@ -43,7 +44,7 @@ planned =
 
 -- the schedule of `s1`
 unfoldable pub asked : List Ask
-asked = s1 (Query (codes "v1") Schedule) ∷ []
+asked = s1 (Query (OfVariant (codes "v1") Schedule)) ∷ []
 
 unfoldable pub answered : List Answer
 answered =
@@ -94,11 +95,11 @@ taken_beside = (refl, refl)
 -- what a supplier asked before it joined is UnknownKey alone too
 unfoldable pub s3_joins : List Ask
 s3_joins =
-    s3 (Query (codes "v1") Schedule)
+    s3 (Query (OfVariant (codes "v1") Schedule))
     ∷ integrator (AddSupplier (codes "s3") (codes "supplier01"))
     ∷ integrator (AddSupplier (codes "s3") (codes "supplier03"))
     ∷ integrator (OpenVariant (codes "v1") None)
-    ∷ s3 (Query (codes "v1") Schedule)
+    ∷ s3 (Query (OfVariant (codes "v1") Schedule))
     ∷ []
 
 pub joined_alone :

@@ -1,7 +1,15 @@
--- What a proof about the check of a request opens.
+-- What a proof about the check of a request opens. A query whose names are read as texts are is the checked query.
+use Rattle.std.proofs.Common.{◌≡◌, ◌∙◌, List, ℕ, Result, Ok, Err, refl, ap}
 use Rattle.std.specs.Prelude.{⊤}
 use Rattle.fr_base.specs.Refusing.{◌>>=◌, ◌>>◌, ◌or◌, refuse◌when◌}
-use Rattle.fr_base.specs.Checks.{asking, key, name, cycles, slot, channel, channels, placement, signal, parent_name, report, check}
+use Rattle.fr_base.specs.Checks.{asking, key, name, cycles, slot, channel, channels, placement, signal, parent_name, report, query, check}
+use Rattle.fr_base.specs.QueryNames.{IsReportRead, IsQueryRead}
+use Rattle.fr_base.specs.declared.name.Name.{Name}
+use Rattle.fr_base.specs.declared.query.Query.{Query}
+use Rattle.fr_base.specs.declared.query.Query.TheVariants.{Register, Variant}
+use Rattle.fr_base.specs.declared.refusal.Refusal.{Refusal}
+use Rattle.fr_base.specs.declared.report.Report.{Report}
+use Rattle.fr_base.specs.declared.report.Report.TheVariants.{Grants, Frames, Schedule, Gaps, Layout}
 
 unfoldable pub checks_open : ⊤
 unfolding ◌>>=◌ ◌>>◌ ◌or◌ refuse◌when◌ asking key name cycles slot channel channels placement signal parent_name report check
@@ -11,3 +19,23 @@ checks_open = tt
 unfoldable pub frames_open : ⊤
 unfolding ◌>>=◌ ◌>>◌ asking name check
 frames_open = tt
+
+-- a text is read as a name
+abbrev AsName : List ℕ → Result Name Refusal → Type 0
+AsName text result = result ≡ name text
+
+report_read : (asked : Report (List ℕ)) (result : Result (Report Name) Refusal) → IsReportRead AsName asked result → result ≡ report asked
+unfolding IsReportRead report
+report_read Grants result is = is
+report_read Frames result is = is
+report_read Schedule result is = is
+report_read Gaps result is = is
+report_read (Layout frame) result (read, is_name, is) = rw is (rw is_name refl)
+
+pub query_read : (asked : Query (List ℕ)) (result : Result (Query Name) Refusal) → IsQueryRead AsName asked result → result ≡ query asked
+unfolding IsQueryRead query ◌>>=◌
+query_read (Register inventory) result is = is
+query_read (Variant variant asked) result (Ok v, is_name, (r, read, is)) =
+    is ∙ ap (λ u. u >>= (λ r. Ok (Variant v r))) (report_read asked r read) ∙ ap (λ n. n >>= (λ v. report asked >>= (λ r. Ok (Variant v r)))) is_name
+query_read (Variant variant asked) result (Err e, is_name, is) =
+    is ∙ ap (λ n. n >>= (λ v. report asked >>= (λ r. Ok (Variant v r)))) is_name

@@ -7,7 +7,8 @@ use Rattle.fr_base.specs.Tables.{get, len}
 use Rattle.fr_base.specs.Book.{Variant, Book, own}
 use Rattle.fr_base.specs.ImportRows.{rows_of_body}
 use Rattle.fr_base.specs.Step.{with_frame, act_row, at_line, act_rows, imported, import_rows, import}
-use Rattle.fr_base.specs.declared.answer.Answer.TheVariants.{Done, Imported, Refused, RefusedRow, Frames as Framed, Layout as Laid}
+use Rattle.fr_base.specs.declared.answer.Answer.{Answer}
+use Rattle.fr_base.specs.declared.answer.Answer.TheVariants.{Done, Imported, Refused, RefusedRow}
 use Rattle.fr_base.specs.declared.answer.FrameRow.{FrameRow}
 use Rattle.fr_base.specs.declared.answer.SignalRow.{SignalRow}
 use Rattle.fr_base.specs.declared.channel.Channel.TheVariants as ch
@@ -17,10 +18,11 @@ use Rattle.fr_base.specs.declared.refusal.Refusal.TheVariants.{NotYours, BadName
 use Rattle.fr_base.specs.declared.request.Ask.{Ask}
 use Rattle.fr_base.specs.declared.request.Import as asked
 use Rattle.fr_base.specs.declared.request.Request.TheVariants.{OpenVariant, Release, AddNode, Grant, AddFrame, DropFrame, Import, Query}
+use Rattle.fr_base.specs.declared.query.Query.TheVariants.{Variant as OfVariant}
 use Rattle.fr_base.specs.declared.report.Report.TheVariants.{Frames, Layout}
 use Rattle.fr_base.specs.declared.signal.Order.TheVariants as order
 use Rattle.fr_base.proofs.ImportWorked.{a_small_file, mark}
-use Rattle.fr_base.proofs.WorkedRows.{answers, a_small_register, integrator, s1, s2}
+use Rattle.fr_base.proofs.WorkedRows.{answers, a_small_register, integrator, s1, s2, Framed, Laid}
 
 -- what the rows below unfold
 unfoldable pub a_small_import : ⊤
@@ -69,12 +71,12 @@ signal_x = record { supplier = codes "s1"; signal = record { name = codes "x"; s
 pub an_import_of_three_rows :
     drop 4 (answers (granted ++ (
     into (codes "a") not_granted
-    ∷ s1 (Query (codes "v1") Frames)
+    ∷ s1 (Query (OfVariant (codes "v1") Frames))
     ∷ into (codes "a") three_frames
-    ∷ s1 (Query (codes "v1") Frames)
+    ∷ s1 (Query (OfVariant (codes "v1") Frames))
     ∷ into (codes "a") three_frames
     ∷ into (codes "a") changed_at_the_end
-    ∷ s1 (Query (codes "v1") Frames)
+    ∷ s1 (Query (OfVariant (codes "v1") Frames))
     ∷ [])))
     ≡ RefusedRow 4 NotGranted
     ∷ Framed false []
@@ -98,7 +100,7 @@ pub after_a_release :
     ∷ into (codes "a") three_frames
     ∷ into (codes "b") three_frames
     ∷ into (codes "b") (replicate 65537 48)
-    ∷ s1 (Query (codes "v1") Frames)
+    ∷ s1 (Query (OfVariant (codes "v1") Frames))
     ∷ integrator (OpenVariant (codes "v2") (Some (codes "v1")))
     ∷ s1 (Import (codes "v2") (codes "a") three_frames)
     ∷ [])))
@@ -163,10 +165,10 @@ pub an_import_of_signals :
     drop 5 (answers (granted ++ (
     s1 (AddFrame (codes "v1") (codes "f1") (codes "n1"))
     ∷ into (codes "a") (mark ++ codes "frame,signal,start,length,order\r\n\"f1\",\"x\",0,8,little\r\n")
-    ∷ s1 (Query (codes "v1") (Layout (codes "f1")))
+    ∷ s1 (Query (OfVariant (codes "v1") (Layout (codes "f1"))))
     ∷ into (codes "a") (mark ++ codes "frame,signal,start,length,order\r\n\"f1\",\"x\",0,8,little\r\n")
     ∷ into (codes "b") (codes "frame,signal,start,length,order\nf1,y,4,8,little\n")
-    ∷ s1 (Query (codes "v1") (Layout (codes "f1")))
+    ∷ s1 (Query (OfVariant (codes "v1") (Layout (codes "f1"))))
     ∷ [])))
     ≡ Imported 1 ∷ Laid false (signal_x ∷ []) ∷ Imported 1 ∷ RefusedRow 2 (BitTaken 4 (codes "x")) ∷ Laid false (signal_x ∷ []) ∷ []
 unfolding a_small_import granted

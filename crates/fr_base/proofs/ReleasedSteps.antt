@@ -5,24 +5,27 @@ use Rattle.std.proofs.lemmas.Bool.{cases_Bool}
 use Rattle.fr_base.specs.Refusing.{◌>>=◌, ◌>>◌, ◌or◌, refuse◌when◌}
 use Rattle.fr_base.specs.Tables.{get, contains}
 use Rattle.fr_base.specs.Keys.{names}
-use Rattle.fr_base.specs.Checks.{check}
+use Rattle.fr_base.specs.Checks.{is_integrator, check}
 use Rattle.fr_base.specs.Cluster.{Cluster}
 use Rattle.fr_base.specs.Names.{same_text}
 use Rattle.fr_base.specs.Book.{Frame, Variant, Kept, Book}
 use Rattle.fr_base.specs.ImportRows.{rows_of_body}
-use Rattle.fr_base.specs.Queries.{shown, reply}
+use Rattle.fr_base.specs.Queries.{shown, found, reply}
 use Rattle.fr_base.specs.Step.{Outcome, knows, with_variant, begun, common, add_supplier, add_node, own_rows, shared_by, admits, change_rows, done, perform, RefusedAt, frame_at, with_frame, act_row, act_rows, imported, import, act, outcome, step}
 use Rattle.fr_base.specs.Run.{IsRun}
 use Rattle.fr_base.specs.declared.key.Key.{Key}
 use Rattle.fr_base.specs.declared.name.Name.{Name}
 use Rattle.fr_base.specs.declared.params.Params.{Params}
 use Rattle.fr_base.specs.declared.answer.Answer.{Answer}
+use Rattle.fr_base.specs.declared.answer.Answer.TheVariants as answer
 use Rattle.fr_base.specs.declared.refusal.Refusal.{Refusal}
 use Rattle.fr_base.specs.declared.refusal.Refusal.TheVariants.{NoVariant}
 use Rattle.fr_base.specs.declared.actor.Actor.{Actor}
 use Rattle.fr_base.specs.declared.request.Ask.{Ask}
 use Rattle.fr_base.specs.declared.request.Request.{Request}
-use Rattle.fr_base.specs.declared.request.Query.{Query}
+use Rattle.fr_base.specs.declared.query.Query.{Query}
+use Rattle.fr_base.specs.declared.query.Query.TheVariants.{Variant as OfVariant}
+use Rattle.fr_base.specs.declared.report.Report.{Report}
 use Rattle.fr_base.specs.declared.request.Command.{Command}
 use Rattle.fr_base.specs.declared.request.Command.TheVariants.{Common, AddSupplier, AddNode, Rows}
 use Rattle.fr_base.specs.declared.request.CommonCommand.{CommonCommand}
@@ -176,25 +179,28 @@ run-keeps_released c b last asks answers v x there frozen run = run-stays c b la
 
 -- ---- queries
 
--- where the variant that is asked about is the same, the reply is
-reply-alike : (p : Params) (b d : Book) (actor : Actor) (query : Query) → get d.variants query.variant ≡ get b.variants query.variant → reply p d actor query ≡ reply p b actor query
-unfolding reply
-reply-alike p b d actor query same = ap (λ o. (o or NoVariant) >>= (λ x. shown p actor x query.report)) same
+-- where the variant is the same, the reply to a query of it is
+reply-alike : (p : Params) (b d : Book) (actor : Actor) (v : Name) (report : Report Name) → get d.variants v ≡ get b.variants v →
+    reply p d actor (OfVariant v report) ≡ reply p b actor (OfVariant v report)
+unfolding reply found
+reply-alike p b d actor v report same =
+    ap (λ o. ((o or NoVariant) >>= (λ x. shown p actor x report)) >>= (λ rows. Ok (answer.Report (is_integrator actor) rows))) same
 
 answer-of : (b d : Book) (r : Result Answer Refusal) → (outcome d (r >>= (λ rows. Ok (record { book = d; answer = rows })))).answer ≡ (outcome b (r >>= (λ rows. Ok (record { book = b; answer = rows })))).answer
 unfolding outcome ◌>>=◌
 answer-of b d (Ok rows) = refl
 answer-of b d (Err e) = refl
 
--- a request that is a query is answered alike where its sender is known and the variant that it asks about is the same
-query-alike : (c : Cluster) (b d : Book) (actor : Actor) (request : Request) (query : Query) → check c.params actor request ≡ Ok (checked.Query query) → IsTrue (knows b actor) → IsTrue (knows d actor) →
-    get d.variants query.variant ≡ get b.variants query.variant → (step c d actor request).answer ≡ (step c b actor request).answer
+-- a request that is a query is answered alike where its sender is known and the reply is the same
+query-alike : (c : Cluster) (b d : Book) (actor : Actor) (request : Request) (query : Query Name) → check c.params actor request ≡ Ok (checked.Query query) → IsTrue (knows b actor) → IsTrue (knows d actor) →
+    reply c.params d actor query ≡ reply c.params b actor query → (step c d actor request).answer ≡ (step c b actor request).answer
 unfolding step act outcome ◌>>=◌ ◌>>◌ refuse◌when◌
 query-alike c b d actor request query passed was is same =
-    rw (was, is, passed) (ap (λ r. (outcome d (r >>= (λ rows. Ok (record { book = d; answer = rows })))).answer) (reply-alike c.params b d actor query same) ∙ answer-of b d (reply c.params b actor query))
+    rw (was, is, passed) (ap (λ r. (outcome d (r >>= (λ rows. Ok (record { book = d; answer = rows })))).answer) same ∙ answer-of b d (reply c.params b actor query))
 
 pub run-keeps_answers : (c : Cluster) (b last : Book) (asks : List Ask) (answers : List Answer) (v : Name) (x : Variant) → get b.variants v ≡ Some x → IsTrue x.released → IsRun c b asks answers last →
-    (actor : Actor) (request : Request) (query : Query) → IsTrue (knows b actor) → check c.params actor request ≡ Ok (checked.Query query) → query.variant ≡ v → (step c last actor request).answer ≡ (step c b actor request).answer
-run-keeps_answers c b last asks answers v x there frozen run actor request query known passed about =
-    query-alike c b last actor request query passed known (run-knows c b last asks answers actor known run)
-    (ap (get last.variants) about ∙ run-stays c b last asks answers v x there frozen run ∙ sym (ap (get b.variants) about ∙ there))
+    (actor : Actor) (request : Request) (report : Report Name) → IsTrue (knows b actor) → check c.params actor request ≡ Ok (checked.Query (OfVariant v report)) →
+    (step c last actor request).answer ≡ (step c b actor request).answer
+run-keeps_answers c b last asks answers v x there frozen run actor request report known passed =
+    query-alike c b last actor request (OfVariant v report) passed known (run-knows c b last asks answers actor known run)
+    (reply-alike c.params b last actor v report (run-stays c b last asks answers v x there frozen run ∙ sym there))

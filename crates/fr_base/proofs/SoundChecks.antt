@@ -7,7 +7,7 @@ use Rattle.fr_base.specs.Names.{is_name, is_key}
 use Rattle.fr_base.specs.Cycles.{Cycles, are_cycles}
 use Rattle.fr_base.specs.Signals.{is_signal_length, order_of_text}
 use Rattle.fr_base.specs.Channels.{channels_in, has_channel, channel_of_text, channels_of_text}
-use Rattle.fr_base.specs.Checks.{asking, key, name, cycles, slot, channel, channels, placement, signal, parent_name, report, check}
+use Rattle.fr_base.specs.Checks.{asking, key, name, cycles, slot, channel, channels, placement, signal, parent_name, query, check}
 use Rattle.fr_base.specs.Sound.{HasChannelSlot, FitsCluster}
 use Rattle.fr_base.specs.declared.name.Name.{Name}
 use Rattle.fr_base.specs.declared.params.Params.{Params}
@@ -174,6 +174,5 @@ check-form p actor (request.Import variant label body) =
     gives_bind _ _ (name variant) _ (name-form variant) (λ v named.
     gives_bind _ _ (name label) _ (name-form label) (λ l labelled.
     record { asks = asks; variant = named; label = labelled })))
-check-form p actor (request.Query variant asked) =
-    gives_each _ (name variant) _ (λ v _.
-    gives_each _ (report asked) _ (λ r _. tt))
+check-form p actor (request.Query asked) =
+    gives_each _ (query asked) _ (λ q _. tt)

@@ -1,13 +1,13 @@
 -- The definitions computed on small registers.
 use Rattle.std.proofs.Common.{◌≡◌, ℕ, List, [], ◌∷◌, ◌++◌, false, true, Some, None, map, filter, refl, codes}
-use Rattle.std.specs.Prelude.{⊤, ◌+◌, ◌/◌, ◌%◌}
+use Rattle.std.specs.Prelude.{Bool, ⊤, ◌+◌, ◌/◌, ◌%◌}
 use Rattle.std.specs.List.{range_with_len}
 use Rattle.fr_base.specs.Refusing.{◌>>=◌, ◌>>◌, ◌or◌, refuse◌when◌}
 use Rattle.fr_base.specs.Tables.{empty, get, len, insert, only, remove, from_rows, settle}
 use Rattle.fr_base.specs.Keys.{numbers, names, channel_order, channels_order, owned, channel_slots, placement_order}
 use Rattle.fr_base.specs.Names.{is_name, is_key}
 use Rattle.fr_base.specs.Cycles.{Cycles, is_cycle_count, is_repetition, is_cycle_set, all_cycles, cycles_of, has_cycle, first_common}
-use Rattle.fr_base.specs.Checks.{asking, key, name, cycles, slot, channel, channels, placement, signal, parent_name, report, check}
+use Rattle.fr_base.specs.Checks.{asking, key, name, cycles, slot, channel, channels, placement, signal, parent_name, report, query, check}
 use Rattle.fr_base.specs.Cells.{cells_of, has_cell, cluster_cells}
 use Rattle.fr_base.specs.Schedule.{fill, first_taken, entries}
 use Rattle.fr_base.specs.Cluster.{ClusterFile}
@@ -15,13 +15,22 @@ use Rattle.fr_base.specs.Actors.{actor_of}
 use Rattle.fr_base.specs.Alone.{answers_to, book_after}
 use Rattle.fr_base.specs.Book.{empty_variant, suppliers_of, opening, granted, placements_of, schedule_of}
 use Rattle.fr_base.specs.Step.{begun, common, has_key, add_supplier, add_node, own_rows, shared_by, in_use, cell_taken, admits_frame, admits, grants_after, frame_after, frames_after, changed, change_rows, done, perform, act, outcome, step}
-use Rattle.fr_base.specs.Queries.{grants_of, frames_of, sendings_of, gaps_of, named, signals_of, shown, reply}
+use Rattle.fr_base.specs.Queries.{grants_of, frames_of, sendings_of, gaps_of, named, signals_of, cluster_of, variants_of, nodes_of, held, shown, found, reply}
 use Rattle.fr_base.specs.Moments.{ring, moment, moments, gaps, greatest_gap}
 use Rattle.fr_base.specs.Bits.{bits_of}
 use Rattle.fr_base.specs.Layouts as layouts
 use Rattle.fr_base.specs.declared.limits.TheConstants.{MAX_SUPPLIERS, MAX_NODES, MAX_VARIANTS, MAX_DEPTH, MAX_FRAMES, MAX_PLACEMENTS, MAX_SIGNALS, MAX_PAYLOAD_WORDS, MAX_IMPORTS, MAX_IMPORT_BYTES, MAX_ROWS}
 use Rattle.fr_base.specs.declared.answer.Answer.{Answer}
-use Rattle.fr_base.specs.declared.answer.Answer.TheVariants.{Done, Refused, Grants as Holds, Frames as Framed, Schedule as Sent, Gaps as Longest, Layout as Laid}
+use Rattle.fr_base.specs.declared.answer.Answer.TheVariants.{Done, Refused, Report as Told}
+use Rattle.fr_base.specs.declared.answer.ReportRows.TheVariants as rows
+use Rattle.fr_base.specs.declared.answer.ClusterRow.{ClusterRow}
+use Rattle.fr_base.specs.declared.answer.ClusterRow.TheVariants as cluster
+use Rattle.fr_base.specs.declared.answer.Figure.TheVariants as figure
+use Rattle.fr_base.specs.declared.answer.GrantRow.{GrantRow}
+use Rattle.fr_base.specs.declared.answer.FrameRow.{FrameRow}
+use Rattle.fr_base.specs.declared.answer.Sending.{Sending}
+use Rattle.fr_base.specs.declared.answer.GapRow.{GapRow}
+use Rattle.fr_base.specs.declared.answer.SignalRow.{SignalRow}
 use Rattle.fr_base.specs.declared.channel.Channel.TheVariants as ch
 use Rattle.fr_base.specs.declared.channel.Channels.TheVariants as chs
 use Rattle.fr_base.specs.declared.refusal.Refusal.TheVariants.{UnknownKey, NotYours, BadName, BadCycles, BadSlot, BadChannel, BadSignal, NoVariant, Released, NotReleased, TooDeep, NoSupplier, NoNode, NoFrame, NoSignal, NoPlacement, NotGranted, InUse, Exists, NodeDiffers, Limit, Taken, CellTaken, OutOfPayload, BitTaken, BadKey, KeyTaken}
@@ -29,6 +38,8 @@ use Rattle.fr_base.specs.declared.actor.Actor.TheVariants.{Integrator, Supplier}
 use Rattle.fr_base.specs.declared.request.Ask.{Ask}
 use Rattle.fr_base.specs.declared.request.Request.{Request}
 use Rattle.fr_base.specs.declared.request.Request.TheVariants.{OpenVariant, Release, AddNode, Grant, Revoke, AddFrame, DropFrame, Place, Unplace, AddSignal, DropSignal, AddSupplier, Query}
+use Rattle.fr_base.specs.declared.query.Query.TheVariants.{Register as OfRegister, Variant as OfVariant}
+use Rattle.fr_base.specs.declared.query.Inventory.TheVariants as listed
 use Rattle.fr_base.specs.declared.report.Report.TheVariants.{Grants, Frames, Schedule, Gaps, Layout}
 use Rattle.fr_base.specs.declared.signal.Order.TheVariants as order
 
@@ -97,8 +108,24 @@ answers asks = answers_to file.cluster (opening file) asks
 
 -- what the rows below unfold
 unfoldable pub a_small_register : ⊤
-unfolding file answers ◌>>=◌ ◌>>◌ ◌or◌ refuse◌when◌ empty get len insert only remove from_rows settle numbers names channel_order channels_order owned channel_slots placement_order is_name is_key all_cycles cycles_of asking key name cycles slot channel channels placement signal parent_name report check cells_of has_cell cluster_cells fill first_taken entries empty_variant suppliers_of opening granted placements_of schedule_of begun common has_key add_supplier add_node own_rows shared_by in_use cell_taken admits_frame admits grants_after frame_after frames_after changed change_rows done perform grants_of frames_of sendings_of gaps_of named signals_of shown reply ring moment moments gaps greatest_gap bits_of layouts.first_taken_bit layouts.admits_signal act outcome step
+unfolding file answers ◌>>=◌ ◌>>◌ ◌or◌ refuse◌when◌ empty get len insert only remove from_rows settle numbers names channel_order channels_order owned channel_slots placement_order is_name is_key all_cycles cycles_of asking key name cycles slot channel channels placement signal parent_name report query check cells_of has_cell cluster_cells fill first_taken entries empty_variant suppliers_of opening granted placements_of schedule_of begun common has_key add_supplier add_node own_rows shared_by in_use cell_taken admits_frame admits grants_after frame_after frames_after changed change_rows done perform grants_of frames_of sendings_of gaps_of named signals_of cluster_of variants_of nodes_of held shown found reply ring moment moments gaps greatest_gap bits_of layouts.first_taken_bit layouts.admits_signal act outcome step
 a_small_register = tt
+
+-- a report's answer, by whether the integrator asked
+abbrev pub Holds : Bool → List GrantRow → Answer
+Holds all grants = Told all (rows.Grants grants)
+
+abbrev pub Framed : Bool → List FrameRow → Answer
+Framed all frames = Told all (rows.Frames frames)
+
+abbrev pub Sent : Bool → List Sending → Answer
+Sent all sendings = Told all (rows.Schedule sendings)
+
+abbrev pub Longest : Bool → List GapRow → Answer
+Longest all gaps = Told all (rows.Gaps gaps)
+
+abbrev pub Laid : Bool → List SignalRow → Answer
+Laid all signals = Told all (rows.Layout signals)
 
 abbrev pub integrator : Request → Ask
 integrator r = record { actor = Integrator; request = r }
@@ -109,6 +136,20 @@ s1 r = record { actor = Supplier (codes "s1"); request = r }
 abbrev pub s2 : Request → Ask
 s2 r = record { actor = Supplier (codes "s2"); request = r }
 
+-- the figures of its cluster file
+abbrev the_figures : List ClusterRow
+the_figures =
+    cluster.Channels chs.AB
+    ∷ cluster.Number figure.StaticSlots 4
+    ∷ cluster.Number figure.SlotMacroticks 10
+    ∷ cluster.Number figure.DynamicMacroticks 40
+    ∷ cluster.Number figure.SymbolMacroticks 10
+    ∷ cluster.Number figure.IdleMacroticks 10
+    ∷ cluster.Number figure.MacroticksPerCycle 100
+    ∷ cluster.Number figure.PayloadWords 1
+    ∷ cluster.Number figure.Cycles 64
+    ∷ []
+
 -- a variant, a node of `s1`, a grant to it, a frame, its placement in the first cycle, and the schedule
 pub the_first_script :
     answers (
@@ -117,9 +158,9 @@ pub the_first_script :
     ∷ integrator (Grant (codes "v1") 1 (codes "A") (codes "s1") (codes "n1"))
     ∷ s1 (AddFrame (codes "v1") (codes "f1") (codes "n1"))
     ∷ s1 (Place (codes "v1") (codes "f1") 1 (codes "A") 0 64)
-    ∷ s1 (Query (codes "v1") Schedule)
-    ∷ integrator (Query (codes "v1") Schedule)
-    ∷ s2 (Query (codes "v1") Schedule)
+    ∷ s1 (Query (OfVariant (codes "v1") Schedule))
+    ∷ integrator (Query (OfVariant (codes "v1") Schedule))
+    ∷ s2 (Query (OfVariant (codes "v1") Schedule))
     ∷ [])
     ≡ Done ∷ Done ∷ Done ∷ Done ∷ Done
     ∷ Sent false (record { cycle = 0; slot = 1; channel = ch.A; frame = codes "f1"; node = codes "n1"; supplier = codes "s1" } ∷ [])
@@ -128,6 +169,40 @@ pub the_first_script :
     ∷ []
 unfolding a_small_register
 the_first_script = refl
+
+-- what the register then holds: of the suppliers each is told itself alone, and the integrator all; and so of nodes
+pub what_is_held :
+    answers (
+    integrator (OpenVariant (codes "v1") None)
+    ∷ integrator (Release (codes "v1"))
+    ∷ integrator (OpenVariant (codes "v2") (Some (codes "v1")))
+    ∷ integrator (AddNode (codes "s2") (codes "m1"))
+    ∷ integrator (AddNode (codes "s1") (codes "n2"))
+    ∷ integrator (AddNode (codes "s1") (codes "n1"))
+    ∷ integrator (Query (OfRegister listed.Nodes))
+    ∷ s1 (Query (OfRegister listed.Nodes))
+    ∷ s2 (Query (OfRegister listed.Nodes))
+    ∷ s1 (Query (OfRegister listed.Variants))
+    ∷ integrator (Query (OfRegister listed.Cluster))
+    ∷ s2 (Query (OfRegister listed.Cluster))
+    ∷ [])
+    ≡ Done ∷ Done ∷ Done ∷ Done ∷ Done ∷ Done
+    ∷ Told true (rows.Nodes (
+    record { node = codes "n1"; supplier = codes "s1" }
+    ∷ record { node = codes "n2"; supplier = codes "s1" }
+    ∷ record { node = codes "m1"; supplier = codes "s2" }
+    ∷ []))
+    ∷ Told false (rows.Nodes (record { node = codes "n1"; supplier = codes "s1" } ∷ record { node = codes "n2"; supplier = codes "s1" } ∷ []))
+    ∷ Told false (rows.Nodes (record { node = codes "m1"; supplier = codes "s2" } ∷ []))
+    ∷ Told false (rows.Variants (
+    record { variant = codes "v1"; parent = None; depth = 1; released = true }
+    ∷ record { variant = codes "v2"; parent = Some (codes "v1"); depth = 2; released = false }
+    ∷ []))
+    ∷ Told true (rows.Cluster (the_figures ++ cluster.Supplier (codes "s1") ∷ cluster.Supplier (codes "s2") ∷ []))
+    ∷ Told false (rows.Cluster (the_figures ++ cluster.Supplier (codes "s2") ∷ []))
+    ∷ []
+unfolding a_small_register
+what_is_held = refl
 
 -- the cell of least cycle is named, A before B
 pub cells_taken :
@@ -200,7 +275,7 @@ pub refused_lines :
     ∷ s1 (Place (codes "v1") (codes "f1") 0 (codes "A") 0 64)
     ∷ s1 (Place (codes "v1") (codes "f1") 5 (codes "A") 0 64)
     ∷ s1 (Place (codes "v1") (codes "f1") 1 (codes "AA") 0 64)
-    ∷ s1 (Query (codes "v9") Schedule)
+    ∷ s1 (Query (OfVariant (codes "v9") Schedule))
     ∷ [])
     ≡ Done ∷ Refused NotYours ∷ Refused NotYours ∷ Refused BadName ∷ Refused BadSlot ∷ Refused BadSlot ∷ Refused BadChannel ∷ Refused NoVariant ∷ []
 unfolding a_small_register
@@ -260,7 +335,7 @@ pub gap_of_two_slots :
     ∷ s1 (AddFrame (codes "v1") (codes "f") (codes "n1"))
     ∷ s1 (Place (codes "v1") (codes "f") 1 (codes "A") 0 4)
     ∷ s1 (Place (codes "v1") (codes "f") 3 (codes "A") 2 4)
-    ∷ s1 (Query (codes "v1") Gaps)
+    ∷ s1 (Query (OfVariant (codes "v1") Gaps))
     ∷ [])
     ≡ Done
     ∷ Done
@@ -310,8 +385,8 @@ pub ten_cycles :
     ∷ s1 (Place (codes "v1") (codes "f") 1 (codes "A") 1 5)
     ∷ s1 (Place (codes "v1") (codes "f") 1 (codes "A") 0 4)
     ∷ s1 (Place (codes "v1") (codes "f") 1 (codes "A") 0 64)
-    ∷ s1 (Query (codes "v1") Gaps)
-    ∷ s1 (Query (codes "v1") Schedule)
+    ∷ s1 (Query (OfVariant (codes "v1") Gaps))
+    ∷ s1 (Query (OfVariant (codes "v1") Schedule))
     ∷ [])
     ≡ Done ∷ Done ∷ Done ∷ Done ∷ Done
     ∷ Refused BadCycles
@@ -339,7 +414,7 @@ pub gaps_alone_mixed_never :
     ∷ s1 (Place (codes "v1") (codes "f") 1 (codes "A") 1 64)
     ∷ s1 (Place (codes "v1") (codes "g") 2 (codes "A") 0 2)
     ∷ s1 (Place (codes "v1") (codes "g") 4 (codes "A") 1 64)
-    ∷ s1 (Query (codes "v1") Gaps)
+    ∷ s1 (Query (OfVariant (codes "v1") Gaps))
     ∷ [])
     ≡ Done
     ∷ Done
@@ -375,7 +450,7 @@ pub a_grant_revoked :
     ∷ integrator (Revoke (codes "v1") 2 (codes "B") (codes "s1"))
     ∷ integrator (Revoke (codes "v1") 5 (codes "A") (codes "s9"))
     ∷ integrator (Revoke (codes "v1") 2 (codes "A") (codes "s9"))
-    ∷ integrator (Query (codes "v1") Grants)
+    ∷ integrator (Query (OfVariant (codes "v1") Grants))
     ∷ [])
     ≡ Done
     ∷ Done
@@ -405,10 +480,10 @@ pub a_frame_dropped :
     ∷ integrator (Grant (codes "v1") 1 (codes "A") (codes "s1") (codes "n1"))
     ∷ s1 (AddFrame (codes "v1") (codes "f1") (codes "n1"))
     ∷ s1 (Place (codes "v1") (codes "f1") 1 (codes "A") 0 64)
-    ∷ s1 (Query (codes "v1") Frames)
+    ∷ s1 (Query (OfVariant (codes "v1") Frames))
     ∷ s1 (Unplace (codes "v1") (codes "f1") 1 (codes "A") 0 32)
     ∷ s1 (DropFrame (codes "v1") (codes "f1"))
-    ∷ s1 (Query (codes "v1") Schedule)
+    ∷ s1 (Query (OfVariant (codes "v1") Schedule))
     ∷ s1 (DropFrame (codes "v1") (codes "f1"))
     ∷ s1 (Unplace (codes "v1") (codes "f1") 1 (codes "A") 0 64)
     ∷ [])
@@ -441,14 +516,14 @@ pub a_variant_released :
     ∷ integrator (Release (codes "v1"))
     ∷ integrator (OpenVariant (codes "v2") (Some (codes "v1")))
     ∷ s1 (DropFrame (codes "v2") (codes "f1"))
-    ∷ s1 (Query (codes "v1") Schedule)
-    ∷ s1 (Query (codes "v2") Schedule)
+    ∷ s1 (Query (OfVariant (codes "v1") Schedule))
+    ∷ s1 (Query (OfVariant (codes "v2") Schedule))
     ∷ integrator (OpenVariant (codes "v3") (Some (codes "v2")))
     ∷ integrator (OpenVariant (codes "v3") (Some (codes "v9")))
     ∷ integrator (OpenVariant (codes "v2") (Some (codes "v1")))
     ∷ s1 (AddFrame (codes "v2") (codes "f2") (codes "n1"))
     ∷ s1 (Place (codes "v2") (codes "f2") 1 (codes "A") 0 64)
-    ∷ s1 (Query (codes "v2") Schedule)
+    ∷ s1 (Query (OfVariant (codes "v2") Schedule))
     ∷ [])
     ≡ Done
     ∷ Done
@@ -557,7 +632,7 @@ pub signals_refused :
     ∷ s1 (AddFrame (codes "v1") (codes "f") (codes "n1"))
     ∷ s1 (AddSignal (codes "v1") (codes "f") (codes "y") 3 8 (codes "big"))
     ∷ s1 (AddSignal (codes "v1") (codes "f") (codes "x") 4 8 (codes "little"))
-    ∷ s1 (Query (codes "v1") (Layout (codes "f")))
+    ∷ s1 (Query (OfVariant (codes "v1") (Layout (codes "f"))))
     ∷ s1 (AddSignal (codes "v1") (codes "f") (codes "z") 11 1 (codes "little"))
     ∷ s1 (AddSignal (codes "v1") (codes "f") (codes "z") 0 16 (codes "little"))
     ∷ s1 (AddSignal (codes "v1") (codes "f") (codes "x") 0 1 (codes "little"))
@@ -569,9 +644,9 @@ pub signals_refused :
     ∷ s1 (AddSignal (codes "v1") (codes "f") (codes "z") 0 1 (codes "middle"))
     ∷ s1 (AddSignal (codes "v1") (codes "g") (codes "z") 0 1 (codes "little"))
     ∷ s1 (DropSignal (codes "v1") (codes "f") (codes "y"))
-    ∷ s1 (Query (codes "v1") (Layout (codes "f")))
+    ∷ s1 (Query (OfVariant (codes "v1") (Layout (codes "f"))))
     ∷ s1 (AddSignal (codes "v1") (codes "f") (codes "z") 15 1 (codes "little"))
-    ∷ s1 (Query (codes "v1") (Layout (codes "g")))
+    ∷ s1 (Query (OfVariant (codes "v1") (Layout (codes "g"))))
     ∷ [])
     ≡ Done
     ∷ Done
@@ -611,9 +686,9 @@ joining =
     ∷ integrator (Grant (codes "v1") 1 (codes "A") (codes "s1") (codes "n1"))
     ∷ s1 (AddFrame (codes "v1") (codes "f1") (codes "n1"))
     ∷ s1 (Place (codes "v1") (codes "f1") 1 (codes "A") 0 64)
-    ∷ s3 (Query (codes "v1") Schedule)
+    ∷ s3 (Query (OfVariant (codes "v1") Schedule))
     ∷ integrator (AddSupplier (codes "s3") (codes "supplier03"))
-    ∷ s3 (Query (codes "v1") Schedule)
+    ∷ s3 (Query (OfVariant (codes "v1") Schedule))
     ∷ integrator (AddSupplier (codes "s3") (codes "supplier01"))
     ∷ integrator (AddSupplier (codes "s4") (codes "supplier03"))
     ∷ integrator (AddSupplier (codes "s4") (codes "integrator1"))

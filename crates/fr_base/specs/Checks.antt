@@ -23,6 +23,8 @@ use Rattle.fr_base.specs.declared.request.Command.TheVariants.{Common, AddSuppli
 use Rattle.fr_base.specs.declared.request.CommonCommand.TheVariants.{OpenVariant, Release}
 use Rattle.fr_base.specs.declared.request.Change.TheVariants.{Grant, Revoke, Frame}
 use Rattle.fr_base.specs.declared.request.FrameChange.TheVariants.{Add, Drop, Place, Unplace, AddSignal, DropSignal}
+use Rattle.fr_base.specs.declared.query.Query.{Query}
+use Rattle.fr_base.specs.declared.query.Query.TheVariants.{Register, Variant}
 use Rattle.fr_base.specs.declared.report.Report.{Report}
 use Rattle.fr_base.specs.declared.report.Report.TheVariants.{Grants, Frames, Schedule, Gaps, Layout}
 use Rattle.fr_base.specs.declared.request.Checked.{Checked}
@@ -101,6 +103,14 @@ report (Layout frame) = do
   f ← name frame
   Ok (Layout f)
 
+-- a query, with its names
+unfoldable pub query : Query (List ℕ) → Result (Query Name) Refusal
+query (Register inventory) = Ok (Register inventory)
+query (Variant variant asked) = do
+  v ← name variant
+  r ← report asked
+  Ok (Variant v r)
+
 -- the request with checked values
 unfoldable pub check : Params → Actor → Request → Result Checked Refusal
 check p actor (request.OpenVariant variant parent) = do
@@ -178,7 +188,6 @@ check p actor (request.Import variant label body) = do
   v ← name variant
   l ← name label
   Ok (checked.Import (record { supplier = s; variant = v; label = l; body = body }))
-check p actor (request.Query variant asked) = do
-  v ← name variant
-  r ← report asked
-  Ok (checked.Query (record { variant = v; report = r }))
+check p actor (request.Query asked) = do
+  q ← query asked
+  Ok (checked.Query q)

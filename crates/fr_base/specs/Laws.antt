@@ -28,7 +28,8 @@ use Rattle.fr_base.specs.declared.actor.Actor.TheVariants.{Integrator, Supplier}
 use Rattle.fr_base.specs.declared.request.Ask.{Ask}
 use Rattle.fr_base.specs.declared.request.Request.{Request}
 use Rattle.fr_base.specs.declared.request.Request.TheVariants.{Import}
-use Rattle.fr_base.specs.declared.request.Query.{Query}
+use Rattle.fr_base.specs.declared.query.Query.TheVariants.{Variant as OfVariant}
+use Rattle.fr_base.specs.declared.report.Report.{Report}
 use Rattle.fr_base.specs.declared.request.Checked.TheVariants as checked
 
 -- A new register is sound.
@@ -78,8 +79,8 @@ ReleaseFreezes = (c : Cluster) (b last : Book) (asks : List Ask) (answers : List
 abbrev pub ReleasedAnswersStay : Type 0
 ReleasedAnswersStay = (c : Cluster) (b last : Book) (asks : List Ask) (answers : List Answer) (v : Name) (variant : Variant) →
     get b.variants v ≡ Some variant → IsTrue variant.released → IsRun c b asks answers last →
-    (actor : Actor) (request : Request) (query : Query) → IsTrue (knows b actor) →
-    check c.params actor request ≡ Ok (checked.Query query) → query.variant ≡ v →
+    (actor : Actor) (request : Request) (report : Report Name) → IsTrue (knows b actor) →
+    check c.params actor request ≡ Ok (checked.Query (OfVariant v report)) →
     (step c last actor request).answer ≡ (step c b actor request).answer
 
 -- ---- what is refused

@@ -22,6 +22,7 @@ pub mod Schedule
 pub mod Moments
 pub mod Book
 pub mod Queries
+pub mod QueryNames
 pub mod Step
 pub mod Actors
 pub mod Run

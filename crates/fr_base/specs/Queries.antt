@@ -1,10 +1,11 @@
--- Query: an actor sees of a variant its own rows, and the integrator those of all suppliers. They are grants, frames,
--- schedule, gaps and layouts, each in its order.
-use Rattle.std.specs.Prelude.{ℕ, ◌==◌, List, map, codes, Result, Ok}
+-- Query: an actor sees its own rows, and the integrator those of all suppliers. Of the register these are the cluster's
+-- figures with the suppliers, the variants, and the nodes; of a variant grants, frames, schedule, gaps and layouts, each
+-- in its order.
+use Rattle.std.specs.Prelude.{ℕ, ◌==◌, List, [], ◌∷◌, ◌++◌, map, codes, Result, Ok, Err, ⊤}
 use Rattle.std.specs.List.{flat_map}
 use Rattle.fr_base.specs.Refusing.{◌>>=◌, ◌>>◌, ◌or◌, refuse◌when◌}
 use Rattle.fr_base.specs.Tables.{Table, get, len, only}
-use Rattle.fr_base.specs.Keys.{owned, channel_slots}
+use Rattle.fr_base.specs.Keys.{names, owned, channel_slots}
 use Rattle.fr_base.specs.Cells.{Cell, cluster_cells}
 use Rattle.fr_base.specs.Schedule.{entries}
 use Rattle.fr_base.specs.Moments.{greatest_gap}
@@ -17,16 +18,28 @@ use Rattle.fr_base.specs.declared.params.Params.{Params}
 use Rattle.fr_base.specs.declared.placement.Placement.{Placement}
 use Rattle.fr_base.specs.declared.answer.Answer.{Answer}
 use Rattle.fr_base.specs.declared.answer.Answer.TheVariants as answer
+use Rattle.fr_base.specs.declared.answer.ReportRows.{ReportRows}
+use Rattle.fr_base.specs.declared.answer.ReportRows.TheVariants as rows
+use Rattle.fr_base.specs.declared.answer.ClusterRow.{ClusterRow}
+use Rattle.fr_base.specs.declared.answer.ClusterRow.TheVariants as cluster
+use Rattle.fr_base.specs.declared.answer.Figure.{Figure}
+use Rattle.fr_base.specs.declared.answer.Figure.TheVariants.{StaticSlots, SlotMacroticks, DynamicMacroticks, SymbolMacroticks, IdleMacroticks, MacroticksPerCycle, PayloadWords, Cycles}
+use Rattle.fr_base.specs.declared.answer.VariantRow.{VariantRow}
+use Rattle.fr_base.specs.declared.answer.NodeRow.{NodeRow}
 use Rattle.fr_base.specs.declared.answer.GrantRow.{GrantRow}
 use Rattle.fr_base.specs.declared.answer.FrameRow.{FrameRow}
 use Rattle.fr_base.specs.declared.answer.Sending.{Sending}
 use Rattle.fr_base.specs.declared.answer.GapRow.{GapRow}
 use Rattle.fr_base.specs.declared.answer.SignalRow.{SignalRow}
 use Rattle.fr_base.specs.declared.refusal.Refusal.{Refusal}
-use Rattle.fr_base.specs.declared.refusal.Refusal.TheVariants.{NoVariant, NoFrame}
+use Rattle.fr_base.specs.declared.refusal.Refusal.TheVariants.{NoVariant, NoFrame, Unavailable}
 use Rattle.fr_base.specs.declared.actor.Actor.{Actor}
 use Rattle.fr_base.specs.declared.actor.Actor.TheVariants.{Integrator, Supplier}
-use Rattle.fr_base.specs.declared.request.Query.{Query}
+use Rattle.fr_base.specs.declared.key.Key.{Key}
+use Rattle.fr_base.specs.declared.query.Query.{Query}
+use Rattle.fr_base.specs.declared.query.Query.TheVariants.{Register as OfRegister, Variant as OfVariant}
+use Rattle.fr_base.specs.declared.query.Inventory.{Inventory}
+use Rattle.fr_base.specs.declared.query.Inventory.TheVariants.{Cluster as TheCluster, Variants, Nodes}
 use Rattle.fr_base.specs.declared.report.Report.{Report}
 use Rattle.fr_base.specs.declared.report.Report.TheVariants.{Grants, Frames, Schedule, Gaps, Layout}
 
@@ -37,6 +50,38 @@ word_of Frames = codes "frames"
 word_of Schedule = codes "schedule"
 word_of Gaps = codes "gaps"
 word_of (Layout frame) = codes "layout"
+
+-- the word by which it is asked what the register holds
+abbrev pub word_of_inventory : Inventory → List ℕ
+word_of_inventory TheCluster = codes "cluster"
+word_of_inventory Variants = codes "variants"
+word_of_inventory Nodes = codes "nodes"
+
+-- the word by which a query asks
+abbrev pub word_of_query : {N : Type 0} → Query N → List ℕ
+word_of_query (OfRegister inventory) = word_of_inventory inventory
+word_of_query (OfVariant variant report) = word_of report
+
+-- the name of the report that has these rows
+abbrev pub name_of_rows : ReportRows → List ℕ
+name_of_rows (rows.Cluster _) = codes "cluster"
+name_of_rows (rows.Variants _) = codes "variants"
+name_of_rows (rows.Nodes _) = codes "nodes"
+name_of_rows (rows.Grants _) = codes "grants"
+name_of_rows (rows.Frames _) = codes "frames"
+name_of_rows (rows.Schedule _) = codes "schedule"
+name_of_rows (rows.Gaps _) = codes "gaps"
+name_of_rows (rows.Layout _) = codes "layout"
+
+-- the suppliers that the actor sees: a supplier itself, the integrator all
+abbrev pub seen_suppliers : Actor → Table names Key → Table names Key
+seen_suppliers Integrator suppliers = suppliers
+seen_suppliers (Supplier s) suppliers = only (λ t _. same_text t s) suppliers
+
+-- the nodes that the actor sees
+abbrev pub seen_nodes : Actor → Table owned ⊤ → Table owned ⊤
+seen_nodes Integrator nodes = nodes
+seen_nodes (Supplier s) nodes = own s nodes
 
 -- the grants that the actor sees: a supplier its own, the integrator those of all
 abbrev pub seen_grants : Actor → Table channel_slots Holder → Table channel_slots Holder
@@ -53,6 +98,49 @@ abbrev pub placements_in : Frame → List Placement
 placements_in frame = map (λ q. q.0) frame.placements.rows
 
 -- ---- rows
+
+-- the key of a figure in a cluster file
+abbrev pub key_of_figure : Figure → List ℕ
+key_of_figure StaticSlots = codes "static_slots"
+key_of_figure SlotMacroticks = codes "slot_macroticks"
+key_of_figure DynamicMacroticks = codes "dynamic_macroticks"
+key_of_figure SymbolMacroticks = codes "symbol_macroticks"
+key_of_figure IdleMacroticks = codes "idle_macroticks"
+key_of_figure MacroticksPerCycle = codes "macroticks_per_cycle"
+key_of_figure PayloadWords = codes "payload_words"
+key_of_figure Cycles = codes "cycles"
+
+-- the figures of a cluster file, in their order
+abbrev pub figures : Params → List ClusterRow
+figures p =
+    cluster.Channels p.channels
+    ∷ cluster.Number StaticSlots p.static_slots
+    ∷ cluster.Number SlotMacroticks p.slot_macroticks
+    ∷ cluster.Number DynamicMacroticks p.dynamic_macroticks
+    ∷ cluster.Number SymbolMacroticks p.symbol_macroticks
+    ∷ cluster.Number IdleMacroticks p.idle_macroticks
+    ∷ cluster.Number MacroticksPerCycle p.macroticks_per_cycle
+    ∷ cluster.Number PayloadWords p.payload_words
+    ∷ cluster.Number Cycles p.cycles
+    ∷ []
+
+-- the figures of the cluster, and the suppliers, by name
+unfoldable pub cluster_of : Params → Table names Key → List ClusterRow
+cluster_of p suppliers = figures p ++ map (λ e. cluster.Supplier e.0) suppliers.rows
+
+abbrev pub variant_row : Name × Variant → VariantRow
+variant_row e = record { variant = e.0; parent = e.1.parent; depth = e.1.depth; released = e.1.released }
+
+-- the variants, by name
+unfoldable pub variants_of : Table names Variant → List VariantRow
+variants_of variants = map variant_row variants.rows
+
+abbrev pub node_row : (Name × Name) × ⊤ → NodeRow
+node_row e = record { node = e.0.1; supplier = e.0.0 }
+
+-- the nodes, by supplier and name
+unfoldable pub nodes_of : Table owned ⊤ → List NodeRow
+nodes_of nodes = map node_row nodes.rows
 
 abbrev pub grant_row : (ℕ × Channel) × Holder → GrantRow
 grant_row e = record { slot = e.0.0; channel = e.0.1; node = e.1.node; supplier = e.1.supplier }
@@ -96,18 +184,37 @@ signals_of frames = flat_map signal_rows frames.rows
 
 -- ---- answers
 
+-- what the register holds, as the actor sees it
+unfoldable pub held : Params → Book → Actor → Inventory → ReportRows
+held p b actor TheCluster = rows.Cluster (cluster_of p (seen_suppliers actor b.suppliers))
+held p b actor Variants = rows.Variants (variants_of b.variants)
+held p b actor Nodes = rows.Nodes (nodes_of (seen_nodes actor b.nodes))
+
 -- what a report shows the actor of the variant
-unfoldable pub shown : Params → Actor → Variant → Report Name → Result Answer Refusal
-shown p actor variant Grants = Ok (answer.Grants (is_integrator actor) (grants_of (seen_grants actor variant.grants)))
-shown p actor variant Frames = Ok (answer.Frames (is_integrator actor) (frames_of (seen_frames actor variant.frames)))
-shown p actor variant Schedule = Ok (answer.Schedule (is_integrator actor) (sendings_of p (seen_frames actor variant.frames)))
-shown p actor variant Gaps = Ok (answer.Gaps (is_integrator actor) (gaps_of p (seen_frames actor variant.frames)))
+unfoldable pub shown : Params → Actor → Variant → Report Name → Result ReportRows Refusal
+shown p actor variant Grants = Ok (rows.Grants (grants_of (seen_grants actor variant.grants)))
+shown p actor variant Frames = Ok (rows.Frames (frames_of (seen_frames actor variant.frames)))
+shown p actor variant Schedule = Ok (rows.Schedule (sendings_of p (seen_frames actor variant.frames)))
+shown p actor variant Gaps = Ok (rows.Gaps (gaps_of p (seen_frames actor variant.frames)))
 shown p actor variant (Layout f) = do
   refuse NoFrame when len (named f (seen_frames actor variant.frames)) == 0
-  Ok (answer.Layout (is_integrator actor) (signals_of (named f (seen_frames actor variant.frames))))
+  Ok (rows.Layout (signals_of (named f (seen_frames actor variant.frames))))
+
+-- the rows of a query's answer
+unfoldable pub found : Params → Book → Actor → Query Name → Result ReportRows Refusal
+found p b actor (OfRegister inventory) = Ok (held p b actor inventory)
+found p b actor (OfVariant v report) = do
+  variant ← get b.variants v or NoVariant
+  shown p actor variant report
 
 -- the answer to a query
-unfoldable pub reply : Params → Book → Actor → Query → Result Answer Refusal
+unfoldable pub reply : Params → Book → Actor → Query Name → Result Answer Refusal
 reply p b actor query = do
-  variant ← get b.variants query.variant or NoVariant
-  shown p actor variant query.report
+  rows ← found p b actor query
+  Ok (answer.Report (is_integrator actor) rows)
+
+-- the rows of a report, or why it was refused; another answer has none
+abbrev pub rows_in : Answer → Result ReportRows Refusal
+rows_in (answer.Report all rows) = Ok rows
+rows_in (answer.Refused refusal) = Err refusal
+rows_in _ = Err Unavailable

@@ -1,5 +1,8 @@
 //! What a request is answered, and the rows of each report.
-use crate::channel::Channel;
+ghost use Rattle.std.specs.Prelude.{◌≡◌};
+ghost use Rattle.fr_base.specs.Queries.{key_of_figure, name_of_rows, rows_in};
+
+use crate::channel::{Channel, Channels};
 use crate::name::Name;
 use crate::placement::Placement;
 use crate::refusal::Refusal;
@@ -7,28 +10,40 @@ use crate::rows::Rows;
 use crate::signal::Signal;
 use crate::slot::Slot;
 
-/// What a request is answered. `all` is true where the integrator asked, who sees the rows of all
-/// suppliers.
+/// What a request is answered.
 pub enum Answer {
     /// The command was carried out.
     Done,
     /// All rows of the import's file were carried out, so many, and the import is kept.
     Imported { rows: u32 },
-    /// Who holds which slot and channel, by slot and channel.
-    Grants { all: bool, rows: Rows<GrantRow> },
-    /// The frames, by supplier and name.
-    Frames { all: bool, rows: Rows<FrameRow> },
-    /// The frames that are sent, by cycle, slot and channel.
-    Schedule { all: bool, rows: Rows<Sending> },
-    /// The frames' greatest gaps, by supplier and name.
-    Gaps { all: bool, rows: Rows<GapRow> },
-    /// A frame's signals, by supplier and start.
-    Layout { all: bool, rows: Rows<SignalRow> },
+    /// What a query asked for. `all` is true where the integrator asked, who sees the rows of all suppliers.
+    Report { all: bool, rows: ReportRows },
     /// Nothing was changed.
     Refused(Refusal),
     /// Nothing was changed: the import's file has a refused row, the first one at this line. The line
     /// counts the file's records, of which the header is the first.
     RefusedRow { line: u32, refusal: Refusal },
+}
+
+/// The rows of a report.
+#[derive(Drop)]
+pub enum ReportRows {
+    /// The figures of the cluster, in the order of a cluster file, and then the suppliers, by name.
+    Cluster(Rows<ClusterRow>),
+    /// The variants, by name.
+    Variants(Rows<VariantRow>),
+    /// The nodes, by supplier and name.
+    Nodes(Rows<NodeRow>),
+    /// Who holds which slot and channel, by slot and channel.
+    Grants(Rows<GrantRow>),
+    /// The frames, by supplier and name.
+    Frames(Rows<FrameRow>),
+    /// The frames that are sent, by cycle, slot and channel.
+    Schedule(Rows<Sending>),
+    /// The frames' greatest gaps, by supplier and name.
+    Gaps(Rows<GapRow>),
+    /// A frame's signals, by supplier and start.
+    Layout(Rows<SignalRow>),
 }
 
 // It is written out, so that a caller does not prove again how each kind of answer is dropped.
@@ -37,11 +52,7 @@ impl Drop for Answer {
         match self {
             Answer::Done => {}
             Answer::Imported { rows: _ } => {}
-            Answer::Grants { all: _, rows: _ } => {}
-            Answer::Frames { all: _, rows: _ } => {}
-            Answer::Schedule { all: _, rows: _ } => {}
-            Answer::Gaps { all: _, rows: _ } => {}
-            Answer::Layout { all: _, rows: _ } => {}
+            Answer::Report { all: _, rows: _ } => {}
             Answer::Refused(_) => {}
             Answer::RefusedRow {
                 line: _,
@@ -49,6 +60,111 @@ impl Drop for Answer {
             } => {}
         }
     }
+}
+
+impl Answer {
+    /// The rows of a report, or why it was refused. Another answer has none: `Unavailable`.
+    pub fn into_rows(self) -> Result<ReportRows, Refusal>
+        ensures { result ≡ rows_in self }
+    {
+        match self {
+            Answer::Report { all: _, rows } => Ok(rows),
+            Answer::Refused(refusal) => Err(refusal),
+            Answer::Done | Answer::Imported { rows: _ } => Err(Refusal::Unavailable),
+            Answer::RefusedRow {
+                line: _,
+                refusal: _,
+            } => Err(Refusal::Unavailable),
+        }
+    }
+}
+
+impl ReportRows {
+    /// The report's name, by which it is asked for.
+    pub fn name(&self) -> &'static str
+        ensures { result.now ≡ name_of_rows self.now }
+    {
+        match self {
+            ReportRows::Cluster(_) => "cluster",
+            ReportRows::Variants(_) => "variants",
+            ReportRows::Nodes(_) => "nodes",
+            ReportRows::Grants(_) => "grants",
+            ReportRows::Frames(_) => "frames",
+            ReportRows::Schedule(_) => "schedule",
+            ReportRows::Gaps(_) => "gaps",
+            ReportRows::Layout(_) => "layout",
+        }
+    }
+}
+
+/// A row of what is told of the cluster.
+#[derive(Clone, Copy, PartialEq, Eq)]
+pub enum ClusterRow {
+    /// The channels that the cluster has.
+    Channels(Channels),
+    /// A number of the cluster file, and what it is.
+    Number { figure: Figure, value: u32 },
+    /// A supplier.
+    Supplier(Name),
+}
+
+/// What a number of the cluster file is.
+#[derive(Clone, Copy, PartialEq, Eq)]
+pub enum Figure {
+    /// How many static slots a cycle has.
+    StaticSlots,
+    /// The length of a static slot, in macroticks.
+    SlotMacroticks,
+    /// All between the static segment and the symbol window, in macroticks.
+    DynamicMacroticks,
+    /// The length of the symbol window, in macroticks.
+    SymbolMacroticks,
+    /// The length of the network idle time, in macroticks.
+    IdleMacroticks,
+    /// The length of a cycle, in macroticks.
+    MacroticksPerCycle,
+    /// The payload length of each static frame, in words of two bytes.
+    PayloadWords,
+    /// How many cycles there are before the cycle counter starts again.
+    Cycles,
+}
+
+impl Figure {
+    /// The figure's key in a cluster file.
+    pub fn key(self) -> &'static str
+        ensures { result.now ≡ key_of_figure self }
+    {
+        match self {
+            Figure::StaticSlots => "static_slots",
+            Figure::SlotMacroticks => "slot_macroticks",
+            Figure::DynamicMacroticks => "dynamic_macroticks",
+            Figure::SymbolMacroticks => "symbol_macroticks",
+            Figure::IdleMacroticks => "idle_macroticks",
+            Figure::MacroticksPerCycle => "macroticks_per_cycle",
+            Figure::PayloadWords => "payload_words",
+            Figure::Cycles => "cycles",
+        }
+    }
+}
+
+/// A variant of the register, without the rows in it.
+#[derive(Clone, Copy, PartialEq, Eq)]
+pub struct VariantRow {
+    /// Its name.
+    pub variant: Name,
+    /// The variant that it was opened from; none where it was opened empty.
+    pub parent: Option<Name>,
+    /// 1 to 16: 1 without a parent, or one more than the parent's.
+    pub depth: u32,
+    /// Whether it is released.
+    pub released: bool,
+}
+
+/// A node of a supplier.
+#[derive(Clone, Copy, PartialEq, Eq)]
+pub struct NodeRow {
+    pub node: Name,
+    pub supplier: Name,
 }
 
 /// A node holds this slot and channel, in all cycles.

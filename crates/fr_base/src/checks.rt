@@ -4,7 +4,7 @@ ghost use Rattle.std.specs.List.{list_all};
 ghost use Rattle.fr_base.specs.Channels.{channels_in, has_channel};
 ghost use Rattle.fr_base.specs.Refusing.{refuse◌when◌};
 ghost use Rattle.fr_base.specs.declared.request.Request.TheVariants as request;
-ghost use Rattle.fr_base.specs.Checks.{asking, is_integrator, check, key, name, cycles, slot, channel, channels, placement, signal, parent_name, report};
+ghost use Rattle.fr_base.specs.Checks.{asking, is_integrator, check, key, name, cycles, slot, channel, channels, placement, signal, parent_name};
 
 use crate::actor::Actor;
 use crate::body::{Body, BodyRef};
@@ -14,11 +14,9 @@ use crate::key::Key;
 use crate::name::Name;
 use crate::params::Params;
 use crate::placement::Placement;
+use crate::query::{NameReader, Query};
 use crate::refusal::Refusal;
-use crate::report::Report;
-use crate::request::{
-    Change, Checked, Command, CommonCommand, FrameChange, Import, Query, Request,
-};
+use crate::request::{Change, Checked, Command, CommonCommand, FrameChange, Import, Request};
 use crate::signal::{Order, Signal};
 use crate::slot::Slot;
 use crate::text::Text;
@@ -98,7 +96,7 @@ pub fn check<'a>(
             label,
             body,
         } => import(actor, variant, label, body),
-        Request::Query { variant, report } => query(variant, report),
+        Request::Query(asked) => query(asked),
     }
 }
 
@@ -284,12 +282,26 @@ fn import<'a>(
     }))
 }
 
-#[tactic(auto, unfolding(crate::proofs::ChecksLemmas::checks_open))]
-fn query(variant: &Text, asked: &Report<Text>) -> Result<Checked<'static>, Refusal>
-    ensures { (p : Params) (actor : Actor) → result ≡ check p actor (request.Query variant.now asked.now) }
+fn query(asked: &Query<Text>) -> Result<Checked<'static>, Refusal>
+    ensures { (p : Params) (actor : Actor) → result ≡ check p actor (request.Query asked.now) }
 {
-    let (variant, report) = (name(variant)?, report(asked)?);
-    Ok(Checked::Query(Query { variant, report }))
+    let query = asked.read(&Checking)?;
+    Ok(Checked::Query(query))
+}
+
+// Reads a text as a name.
+#[derive(Clone, Copy)]
+struct Checking;
+
+impl NameReader<Text, Name, Refusal> for Checking {
+    ghost use Rattle.std.specs.Prelude.{◌≡◌};
+    ghost use Rattle.fr_base.specs.Checks.{name};
+
+    ghost reads = { λ _ text result. result ≡ name text };
+
+    fn read_name(&self, text: &Text) -> Result<Name, Refusal> {
+        name(text)
+    }
 }
 
 // Whether the integrator asks.
@@ -434,23 +446,6 @@ fn parent_name(parent: &Option<Text>) -> Result<Option<Name>, Refusal>
     match parent {
         Some(text) => Ok(Some(name(text)?)),
         None => Ok(None),
-    }
-}
-
-// The report, with the name of its frame, if it is of one.
-#[tactic(auto, unfolding(crate::proofs::ChecksLemmas::checks_open))]
-fn report(asked: &Report<Text>) -> Result<Report<Name>, Refusal>
-    ensures { result ≡ report asked.now }
-{
-    match asked {
-        Report::Grants => Ok(Report::Grants),
-        Report::Frames => Ok(Report::Frames),
-        Report::Schedule => Ok(Report::Schedule),
-        Report::Gaps => Ok(Report::Gaps),
-        Report::Layout { frame } => {
-            let frame = name(frame)?;
-            Ok(Report::Layout { frame })
-        }
     }
 }
 

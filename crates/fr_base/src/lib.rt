@@ -19,6 +19,7 @@ mod limits;
 mod name;
 mod params;
 mod placement;
+mod query;
 mod refusal;
 mod report;
 mod request;
@@ -28,7 +29,10 @@ mod slot;
 mod text;
 
 pub use actor::Actor;
-pub use answer::{Answer, FrameRow, GapRow, GrantRow, Sending, SignalRow};
+pub use answer::{
+    Answer, ClusterRow, Figure, FrameRow, GapRow, GrantRow, NodeRow, ReportRows, Sending,
+    SignalRow, VariantRow,
+};
 pub use body::{Body, BodyRef};
 pub use channel::{Channel, Channels};
 pub use checks::check;
@@ -51,11 +55,10 @@ pub use limits::{
 pub use name::Name;
 pub use params::{ParamFault, Params, RawParams};
 pub use placement::Placement;
+pub use query::{Inventory, NameReader, Query};
 pub use refusal::Refusal;
 pub use report::Report;
-pub use request::{
-    Ask, Change, Checked, Command, CommonCommand, FrameChange, Import, Query, Request,
-};
+pub use request::{Ask, Change, Checked, Command, CommonCommand, FrameChange, Import, Request};
 pub use rows::Rows;
 pub use signal::{BadSignal, Order, Signal};
 pub use slot::Slot;

@@ -5,7 +5,7 @@ use crate::channel::Channel;
 use crate::key::Key;
 use crate::name::Name;
 use crate::placement::Placement;
-use crate::report::Report;
+use crate::query::Query;
 use crate::signal::Signal;
 use crate::slot::Slot;
 use crate::text::Text;
@@ -98,11 +98,8 @@ pub enum Request {
         label: Text,
         body: Body,
     },
-    /// A report of a variant is asked for, by the integrator or by a supplier.
-    Query {
-        variant: Text,
-        report: Report<Text>,
-    },
+    /// The integrator or a supplier asks what the register holds, and nothing is changed.
+    Query(Query<Text>),
 }
 
 // It is written out, so that a caller does not prove again how each kind of request is dropped.
@@ -178,10 +175,7 @@ impl Drop for Request {
                 label: _,
                 body: _,
             } => {}
-            Request::Query {
-                variant: _,
-                report: _,
-            } => {}
+            Request::Query(_) => {}
         }
     }
 }
@@ -273,17 +267,10 @@ pub struct Import<'a> {
     pub body: BodyRef<'a>,
 }
 
-/// A request that only reads, with checked values: a report of a variant.
-#[derive(Clone, Copy, PartialEq, Eq)]
-pub struct Query {
-    pub variant: Name,
-    pub report: Report<Name>,
-}
-
 /// A request whose own texts and numbers are in order.
 #[derive(Drop)]
 pub enum Checked<'a> {
     Command(Command),
     Import(Import<'a>),
-    Query(Query),
+    Query(Query<Name>),
 }

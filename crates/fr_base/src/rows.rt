@@ -72,3 +72,13 @@ impl<T> Rows<T> {
         self.rows.is_empty()
     }
 }
+
+impl<T> From<Vec<T>> for Rows<T> {
+    ghost use Rattle.std.specs.Prelude.{◌≡◌};
+
+    ghost from_gives = { λ list rows. rows ≡ list.items };
+
+    fn from(rows: Vec<T>) -> Rows<T> {
+        Rows { rows }
+    }
+}

@@ -81,6 +81,18 @@ pub lines_falls : (clean first : Type 0) (old new : Standing) (l : List (List �
     → AnswersLines clean old new l w
 lines_falls clean first old new l w falls p = record { answers = p.answers; each = p.each; bytes = p.bytes; answered = λ is. p.answered (falls is) }
 
+-- The register's rows stayed afterwards.
+pub lines_stay : (clean first : Type 0) (old mid new : Standing) (l : List (List ℕ)) (w : List ℕ) → (clean → first) → (clean → (c : Cluster) (b : Book) → mid c b → new c b)
+    → AnswersLines first old mid l w → AnswersLines clean old new l w
+lines_stay clean first old mid new l w falls stays p = record {
+  answers = p.answers;
+  each = p.each;
+  bytes = p.bytes;
+  answered = λ is c b stands sound.
+      let (last, after, so) = p.answered (falls is) c b stands sound in
+      (last, stays is c last after, so);
+}
+
 -- What the register stands for now is not said.
 pub lines_kept : (clean first : Type 0) (old new : Standing) (l : List (List ℕ)) (w : List ℕ) → (clean → first) → AnswersLines first old new l w
     → AnswersLines clean old Anything l w

@@ -1,8 +1,8 @@
 -- Requests that come in piece by piece: which lines of the input they are.
-use Rattle.std.proofs.Common.{◌≡◌, ℕ, ◌<◌, ◌≤◌, List, [], ◌∷◌, ◌++◌, length, Option, Some, None, IfSome, Result, Ok, Err, refl, sym, ap, ◌∙◌, subst, append_assoc, append-nil, arith, length-append, inl, inr}
+use Rattle.std.proofs.Common.{◌≡◌, ℕ, ◌+◌, ◌<◌, ◌≤◌, List, [], ◌∷◌, ◌++◌, length, Option, Some, None, IfSome, Result, Ok, Err, refl, sym, ap, ◌∙◌, subst, append_assoc, append-nil, arith, length-append, inl, inr}
 use Rattle.std.specs.Prelude.{◌⊎◌, OnOk, ⊤}
 use Rattle.std.specs.Io.KnownBytes.{Appends, Consumes, IsAtEnd}
-use Rattle.std.proofs.KnownBytes.{Appends-trans}
+use Rattle.std.proofs.KnownBytes.{Appends-nil, Appends-trans, Consumes-nil}
 use Rattle.sqlite.specs.Files.{IsCleanLeft}
 use Rattle.sqlite.specs.declared.file.Leftover.{Leftover}
 use Rattle.sqlite_disk.specs.declared.Disk.{Ghosts}
@@ -11,17 +11,17 @@ use Rattle.fr_base.specs.Book.{Book}
 use Rattle.fr_base.specs.Cluster.{Cluster}
 use Rattle.fr_desks.specs.FileDesk.{FindsHeld, Held, IsLeftWith}
 use Rattle.fr_records.specs.Held.{Standing}
-use Rattle.fr_cli.specs.Answering.{AnswersLines, BeginWith, GoOnBehind, HasWritten, WasCutShort}
-use Rattle.fr_cli.specs.Incoming.{AreFirstOf, AreFirstOfAll, EndsLines, HasAnswered, IsAsked}
+use Rattle.fr_cli.specs.Answering.{AnswersLines, BeginWith, GoOnBehind, WasCutShort}
+use Rattle.fr_cli.specs.Incoming.{AreFirstOf, AreFirstOfAll, AreShort, EndsAsking, EndsLines, HasAnswered, HasAsked, HasHeard, HasLongLine, IsAsked, max_line}
 use Rattle.fr_cli.specs.Performing.{of_script}
 use Rattle.fr_cli.specs.Script.{HasNo, max_script, request_lines}
 use Rattle.fr_cli.specs.ScriptFault.{script_fault_of}
 use Rattle.fr_cli.specs.declared.fault.Fault.{Fault}
 use Rattle.fr_cli.specs.declared.input.InputFault.{InputFault}
-use Rattle.fr_cli.specs.declared.input.InputFault.TheVariants.{NoMemory as Wanting}
+use Rattle.fr_cli.specs.declared.input.InputFault.TheVariants.{NoMemory as Wanting, ReadFailed as Unread, TooLong as Lengthy, TooManyReads as Many}
 use Rattle.fr_cli.specs.declared.script_fault.ScriptFault.{ScriptFault}
-use Rattle.fr_cli.specs.declared.script_fault.ScriptFault.TheVariants.{NoMemory, ReadFailed, TooLong, TooManyReads, WriteFailed}
-use Rattle.fr_cli.proofs.AnsweringLaws.{cut_after, cut_here, cut_moved, lines_moved, lines_then}
+use Rattle.fr_cli.specs.declared.script_fault.ScriptFault.TheVariants.{NoMemory, ReadFailed, TooLong, TooManyReads, Unavailable, WriteFailed}
+use Rattle.fr_cli.proofs.AnsweringLaws.{cut_after, cut_as, cut_here, cut_moved, lines_moved, lines_stay, lines_then, no_lines}
 use Rattle.fr_cli.proofs.EndedLines.{requests-append}
 use Rattle.fr_cli.proofs.LineLemmas.{request_lines-none}
 
@@ -89,6 +89,80 @@ pub heard_more : (clean first : Type 0) (old mid new : Standing) (front chunk w 
 heard_more clean first old mid new front chunk w v falls ends p q =
     subst (λ l. AnswersLines clean old new l (w ++ v)) (sym (ends chunk)) (lines_then clean first old mid new (request_lines front) (request_lines chunk) w v falls p q)
 
+-- all lines were answered, and more may be asked
+pub asked_on : (clean first : Type 0) (old mid new : Standing) (lines : List (List ℕ)) (a b : Option (List ℕ)) → (clean → first) → (clean → (c : Cluster) (b : Book) → mid c b → new c b)
+    → (written : List ℕ) × Appends a b written × AnswersLines first old mid lines written → HasAsked clean old new lines a b (Ok tt)
+asked_on clean first old mid new lines a b falls stays all = record {
+  all = (all.0, all.1, lines_stay clean first old mid new lines all.0 falls stays all.2);
+  early = tt;
+  faults = tt;
+}
+
+-- all lines were answered, and the register has come to an end
+pub asked_last : (clean first : Type 0) (old mid new : Standing) (lines : List (List ℕ)) (a b : Option (List ℕ)) → (clean → first) → (clean → (c : Cluster) (b : Book) → mid c b → new c b)
+    → (written : List ℕ) × Appends a b written × AnswersLines first old mid lines written → HasAsked clean old new lines a b (Err Unavailable)
+asked_last clean first old mid new lines a b falls stays all =
+    let begin : BeginWith lines lines = ([], sym (append-nil lines)) in
+    record {
+      all = tt;
+      early = cut_here clean clean old new (BeginWith lines) (BeginWith lines) a b Unavailable lines all.0 (λ is. is) (lines_stay clean first old mid new lines all.0 falls stays all.2) all.1 begin begin;
+      faults = inr (inr refl);
+    }
+
+-- a fault came before all were
+pub asked_early : (clean : Type 0) (old new : Standing) (lines : List (List ℕ)) (a b : Option (List ℕ)) (fault : ScriptFault)
+    → WasCutShort clean old new (BeginWith lines) (GoOnBehind lines) a b fault → (fault ≡ NoMemory) ⊎ (fault ≡ WriteFailed) → HasAsked clean old new lines a b (Err fault)
+asked_early clean old new lines a b fault early of = record {
+  all = tt;
+  early = cut_as clean old new (BeginWith lines) (GoOnBehind lines) (BeginWith lines) (BeginWith lines) a b fault (λ l so. so) (λ l so. (so.0 ∷ so.1, so.2)) early;
+  faults = elim of [
+    | inl none ↦ inl none
+    | inr failed ↦ inr (inl failed)
+  ];
+}
+
+-- ---- long lines and short ones
+
+short-append : (xs ys : List (List ℕ)) → AreShort xs → AreShort ys → AreShort (xs ++ ys)
+short-append [] ys p q = q
+short-append (x ∷ xs) ys p q = (p.0, short-append xs ys p.1 q)
+
+-- of whole lines, and then more
+pub short-then : (front more : List ℕ) → EndsLines front → AreShort (request_lines front) → AreShort (request_lines more) → AreShort (request_lines (front ++ more))
+short-then front more ends p q = subst AreShort (sym (ends more)) (short-append (request_lines front) (request_lines more) p q)
+
+-- a line that is too long stands in what it is a part of
+pub long_within : (front bytes more : List ℕ) → HasLongLine bytes → HasLongLine ((front ++ bytes) ++ more)
+long_within front bytes more (before, line, rest, split, clear, long) = (
+  front ++ before,
+  line,
+  rest ++ more,
+  ap (λ b. (front ++ b) ++ more) split ∙ append_assoc front (before ++ (line ++ rest)) more ∙ ap (λ r. front ++ r) (append_assoc before (line ++ rest) more)
+      ∙ ap (λ r. front ++ (before ++ r)) (append_assoc line rest more) ∙ sym (append_assoc front before (line ++ (rest ++ more))),
+  clear,
+  long,
+)
+
+is_lengthy : (of : InputFault) → script_fault_of of ≡ TooLong → of ≡ Lengthy
+is_lengthy Lengthy e = refl
+is_lengthy Many e = absurd cc
+is_lengthy Unread e = absurd cc
+is_lengthy Wanting e = absurd cc
+
+-- what is begun is too long with what follows it
+pub long_by : (begun more : List ℕ) → max_line < length begun + length more → max_line < length (begun ++ more)
+long_by begun more long = omega (arith, long, length-append begun more)
+
+-- a fault comes between lines
+pub heard_cut : (clean : Type 0) (old new : Standing) (bytes begun : List ℕ) (a b : Option (List ℕ)) (front written : List ℕ) (of : InputFault)
+    → AnswersLines clean old new (request_lines front) written → Appends a b written → AreFirstOfAll bytes (request_lines front) → (of ≡ Lengthy → HasLongLine bytes)
+    → HasHeard clean old new bytes begun a b (Err (script_fault_of of))
+heard_cut clean old new bytes begun a b front written of answered appended first long = record {
+  heard = tt;
+  early = cut_here clean clean old new (AreFirstOfAll bytes) (AreFirstOfAll bytes) a b (script_fault_of of) (request_lines front) written (λ is. is) answered appended first first;
+  too_long = λ e. long (is_lengthy of cc);
+}
+
 -- ---- pieces of an input
 
 -- Of what was begun and the piece behind it some are whole lines.
@@ -98,7 +172,7 @@ split_then front begun piece more rest e = append_assoc front begun piece ∙ ap
 -- A fault comes between pieces.
 pub cut_between : (clean : Type 0) (old new : Standing) (input left a b : Option (List ℕ)) (front begun written : List ℕ) (fault : ScriptFault) (of : InputFault)
     → fault ≡ script_fault_of of → Consumes input left (front ++ begun) → EndsLines front → Appends a b written
-    → AnswersLines clean old new (request_lines front) written → (fault ≡ TooLong → IfSome input (λ bytes. max_script < length bytes))
+    → AnswersLines clean old new (request_lines front) written → (fault ≡ TooLong → IfSome input (λ bytes. (max_script < length bytes) ⊎ HasLongLine bytes))
     → ((fault ≡ ReadFailed) ⊎ (fault ≡ TooManyReads) → HasNo 10 begun)
     → HasAnswered clean old new input left a b (Err fault)
 cut_between clean old new input left a b front begun written fault of is taken ends appended answered long open_ended =
@@ -109,51 +183,81 @@ cut_between clean old new input left a b front begun written fault of is taken e
       early = cut_here clean clean old new (λ lines. IfSome input (AreFirstOf lines)) (λ lines. IfSome input (AreFirstOf lines)) a b fault (request_lines front) written (λ is. is) answered appended first first;
       unread = λ e. (front, begun, written, taken, ends, open_ended e, appended, answered);
       too_long = λ e. long cc;
-      faults = inr (of, is);
+      faults = inr (inr (of, is));
     }
 
--- what a fault of a line's answer says of an input
-of_line : (input : Option (List ℕ)) (fault : ScriptFault) → (fault ≡ NoMemory) ⊎ (fault ≡ WriteFailed)
-    → (fault ≡ TooLong → IfSome input (λ bytes. max_script < length bytes)) × ((fault ≡ WriteFailed) ⊎ ((of : InputFault) × (fault ≡ script_fault_of of)))
-of_line input fault (inl none) = (λ e. absurd cc, inr (Wanting, none))
-of_line input fault (inr failed) = (λ e. absurd cc, inl failed)
+-- a fault of a line is one of the input
+of_line : (fault : ScriptFault) → (fault ≡ TooLong) ⊎ EndsAsking fault → (fault ≡ WriteFailed) ⊎ ((fault ≡ Unavailable) ⊎ ((of : InputFault) × (fault ≡ script_fault_of of)))
+of_line fault (inl long) = inr (inr (Lengthy, long))
+of_line fault (inr (inl none)) = inr (inr (Wanting, none))
+of_line fault (inr (inr (inl failed))) = inl failed
+of_line fault (inr (inr (inr ended))) = inr (inl ended)
 
 -- and it is no fault of reading
-of_line-read : (fault : ScriptFault) → (fault ≡ NoMemory) ⊎ (fault ≡ WriteFailed) → (fault ≡ ReadFailed) ⊎ (fault ≡ TooManyReads) → ⊥
-of_line-read fault (inl none) (inl e) = absurd cc
-of_line-read fault (inl none) (inr e) = absurd cc
-of_line-read fault (inr failed) (inl e) = absurd cc
-of_line-read fault (inr failed) (inr e) = absurd cc
+of_line-read : (fault : ScriptFault) → (fault ≡ TooLong) ⊎ EndsAsking fault → (fault ≡ ReadFailed) ⊎ (fault ≡ TooManyReads) → ⊥
+of_line-read fault (inl long) (inl e) = absurd cc
+of_line-read fault (inl long) (inr e) = absurd cc
+of_line-read fault (inr (inl none)) (inl e) = absurd cc
+of_line-read fault (inr (inl none)) (inr e) = absurd cc
+of_line-read fault (inr (inr (inl failed))) (inl e) = absurd cc
+of_line-read fault (inr (inr (inl failed))) (inr e) = absurd cc
+of_line-read fault (inr (inr (inr ended))) (inl e) = absurd cc
+of_line-read fault (inr (inr (inr ended))) (inr e) = absurd cc
+
+-- without memory and where the register has come to an end nothing more is asked
+ends_none : (fault : ScriptFault) → (fault ≡ NoMemory) ⊎ (fault ≡ Unavailable) → EndsAsking fault
+ends_none fault (inl none) = inl none
+ends_none fault (inr ended) = inr (inr ended)
+
+-- what ends the asking is not that a line is too long
+pub not_long : (fault : ScriptFault) → EndsAsking fault → fault ≡ TooLong → ⊥
+not_long fault (inl none) e = absurd cc
+not_long fault (inr (inl failed)) e = absurd cc
+not_long fault (inr (inr ended)) e = absurd cc
 
 -- A fault comes within a piece.
 pub cut_within : (clean first : Type 0) (old mid new : Standing) (input left a m b : Option (List ℕ)) (front bytes written : List ℕ) (fault : ScriptFault)
     → (clean → first) → Consumes input left (front ++ bytes) → EndsLines front → Appends a m written → AnswersLines first old mid (request_lines front) written
-    → WasCutShort clean mid new (AreFirstOfAll bytes) (AreFirstOfAll bytes) m b fault → (fault ≡ NoMemory) ⊎ (fault ≡ WriteFailed)
+    → WasCutShort clean mid new (AreFirstOfAll bytes) (AreFirstOfAll bytes) m b fault → (fault ≡ TooLong → HasLongLine bytes) → (fault ≡ TooLong) ⊎ EndsAsking fault
     → HasAnswered clean old new input left a b (Err fault)
-cut_within clean first old mid new input left a m b front bytes written fault falls taken ends appended answered short of =
+cut_within clean first old mid new input left a m b front bytes written fault falls taken ends appended answered short long of =
     let is_first : (k : List (List ℕ)) → AreFirstOfAll bytes k → IfSome input (AreFirstOf (request_lines front ++ k)) =
     λ k so. on_input (AreFirstOf (request_lines front ++ k)) input left (front ++ bytes) taken (first_then front bytes k ends so) in
-    let said = of_line input fault of in
     record {
       all = tt;
       early = cut_after clean first old mid new (AreFirstOfAll bytes) (AreFirstOfAll bytes) (λ lines. IfSome input (AreFirstOf lines)) (λ lines. IfSome input (AreFirstOf lines)) a m b fault
           (request_lines front) written falls answered appended is_first is_first short;
       unread = λ e. absurd (of_line-read fault of e);
-      too_long = λ e. said.0 cc;
-      faults = said.1;
+      too_long = λ e. on_input (λ all. (max_script < length all) ⊎ HasLongLine all) input left (front ++ bytes) taken (λ more. inr (long_within front bytes more (long cc)));
+      faults = of_line fault of;
+    }
+
+-- Nothing was asked, and nothing was read.
+pub asked_none : (clean : Type 0) (old : Standing) (input a : Option (List ℕ)) (fault : ScriptFault) → (fault ≡ NoMemory) ⊎ (fault ≡ Unavailable)
+    → HasAnswered clean old old input input a a (Err fault)
+asked_none clean old input a fault of =
+    let first : IfSome input (AreFirstOf []) = on_input (AreFirstOf []) input input [] (Consumes-nil input) (λ more. (request_lines more, refl)) in
+    record {
+      all = tt;
+      early = cut_here clean clean old old (λ lines. IfSome input (AreFirstOf lines)) (λ lines. IfSome input (AreFirstOf lines)) a a fault [] [] (λ is. is) (no_lines clean old) (Appends-nil a) first first;
+      unread = λ e. absurd (of_line-read fault (inr (ends_none fault of)) e);
+      too_long = λ e. absurd (not_long fault (ends_none fault of) cc);
+      faults = of_line fault (inr (ends_none fault of));
     }
 
 -- The input has ended, and what was begun are its last lines.
 pub at_end : (clean first : Type 0) (old mid new : Standing) (input left a m b : Option (List ℕ)) (front begun written : List ℕ) (done : Result ⊤ ScriptFault)
     → (clean → first) → Consumes input left (front ++ begun) → IsAtEnd left → length (front ++ begun) ≤ max_script → EndsLines front → Appends a m written
-    → AnswersLines first old mid (request_lines front) written → HasWritten clean mid new (request_lines begun) m b done → HasAnswered clean old new input left a b done
-at_end clean first old mid new input left a m b front begun written (Ok x) falls taken end fits ends appended answered has =
+    → AnswersLines first old mid (request_lines front) written → AreShort (request_lines (front ++ begun)) → HasAsked clean mid new (request_lines begun) m b done
+    → HasAnswered clean old new input left a b done
+at_end clean first old mid new input left a m b front begun written (Ok x) falls taken end fits ends appended answered short has =
     let (more, then, last) = has.all in
     record {
       all = (
         request_lines (front ++ begun),
         written ++ more,
         on_whole (λ bytes. (request_lines (front ++ begun) ≡ request_lines bytes) × (length bytes ≤ max_script)) input left (front ++ begun) taken end (refl, fits),
+        short,
         Appends-trans a m b written more appended then,
         heard_more clean first old mid new front begun written more falls ends answered last,
       );
@@ -162,18 +266,17 @@ at_end clean first old mid new input left a m b front begun written (Ok x) falls
       too_long = λ e. absurd cc;
       faults = tt;
     }
-at_end clean first old mid new input left a m b front begun written (Err fault) falls taken end fits ends appended answered has =
+at_end clean first old mid new input left a m b front begun written (Err fault) falls taken end fits ends appended answered short has =
     let is_first : (k rest : List (List ℕ)) → request_lines begun ≡ k ++ rest → IfSome input (AreFirstOf (request_lines front ++ k)) =
     λ k rest split. on_whole (AreFirstOf (request_lines front ++ k)) input left (front ++ begun) taken end
     (rest, ends begun ∙ ap (λ l. request_lines front ++ l) split ∙ sym (append_assoc (request_lines front) k rest)) in
-    let said = of_line input fault has.faults in
     record {
       all = tt;
-      early = cut_after clean first old mid new (BeginWith (request_lines begun)) (GoOnBehind (request_lines begun)) (λ lines. IfSome input (AreFirstOf lines)) (λ lines. IfSome input (AreFirstOf lines))
-          a m b fault (request_lines front) written falls answered appended (λ k so. is_first k so.0 so.1) (λ k so. is_first k (so.0 ∷ so.1) so.2) has.early;
-      unread = λ e. absurd (of_line-read fault has.faults e);
-      too_long = λ e. said.0 cc;
-      faults = said.1;
+      early = cut_after clean first old mid new (BeginWith (request_lines begun)) (BeginWith (request_lines begun)) (λ lines. IfSome input (AreFirstOf lines)) (λ lines. IfSome input (AreFirstOf lines))
+          a m b fault (request_lines front) written falls answered appended (λ k so. is_first k so.0 so.1) (λ k so. is_first k so.0 so.1) has.early;
+      unread = λ e. absurd (of_line-read fault (inr has.faults) e);
+      too_long = λ e. absurd (not_long fault has.faults cc);
+      faults = of_line fault (inr has.faults);
     }
 
 -- ---- over a file
@@ -184,7 +287,7 @@ module _ {D : Type 0} {g : Ghosts D} where
       → (IsCleanLeft rest → clean) → (clean → before) → FindsHeld file before old → ((c : Cluster) (b : Book) → new c b → IsLeftWith rest c b) → done ≡ of_script asked
       → OnOk asked (IsAtEnd left) → HasAnswered clean old new input left a b asked → IsAsked file (Some rest) input left a b done
   asked_file file rest clean before old new input left a b (Ok x) done closes falls finds leaves is end has =
-      let (lines, written, all, appended, answered) = has.all in
+      let (lines, written, all, short, appended, answered) = has.all in
       inr (
         Ok x,
         rest,
@@ -196,6 +299,7 @@ module _ {D : Type 0} {g : Ghosts D} where
             lines,
             written,
             all,
+            short,
             appended,
             lines_moved (IsCleanLeft rest) clean (Held file) old new (IsLeftWith rest) lines written closes (λ up. finds (falls up)) leaves answered,
           );

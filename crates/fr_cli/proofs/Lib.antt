@@ -14,7 +14,7 @@ pub mod EndingLaws
 pub mod AskingLaws
 pub mod ReadingLaws
 pub mod RefusedFiles
-pub mod ListingLaws
 pub mod PicturingLaws
 pub mod ServingLaws
+mod NumberedLaws
 mod EachFault

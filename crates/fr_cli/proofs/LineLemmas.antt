@@ -1,14 +1,16 @@
 -- How a script's bytes fall into lines.
-use Rattle.std.proofs.Common.{◌≡◌, ℕ, suc, ◌+◌, ◌-◌, ◌<◌, Bool, true, false, ◌||◌, cond, List, [], ◌∷◌, ◌++◌, length, take, drop, refl, sym, ap, ◌∙◌, arith, subst, Option, Some, None, one-add, add-one, append_assoc, append-nil, inl, inr, length-append}
+use Rattle.std.proofs.Common.{◌≡◌, ℕ, suc, ◌+◌, ◌-◌, ◌<◌, Bool, true, false, ◌||◌, cond, List, [], ◌∷◌, ◌++◌, length, take, drop, refl, sym, ap, ◌∙◌, arith, subst, Option, Some, None, one-add, add-one, append_assoc, append-nil, inl, inr, length-append, length-take, is_some}
 use Rattle.std.proofs.Math.Seq.{take-append_seam}
 use Rattle.std.proofs.lemmas.Bool.{cases_Bool, eqb-true, lt-ltb, ltb-true, ltb-false, le-ltb, ne_eqb}
+use Rattle.std.specs.Borrow.{Bor}
 use Rattle.std.specs.List.{list_any, concat, before_first, after_first, slice_split, position, position_or_len, filter}
 use Rattle.std.specs.Option.{option_map}
 use Rattle.std.specs.Str.{bytes_eq}
 use Rattle.std.specs.Str.Lines.{lines, lines_of_parts, strip_carriage_return}
 use Rattle.std.proofs.lemmas.List.Splits.{slice_split_at, slice_split_none, length-slice_split}
 use Rattle.std.proofs.lemmas.List.Elements.{All-from_recursion}
-use Rattle.std.specs.Prelude.{nat_lt, ◌==◌, codes}
+use Rattle.std.specs.Prelude.{nat_lt, ◌==◌, ◌≤◌, codes, slice_index}
+use Rattle.fr_cli.specs.Incoming.{AreShort, max_line}
 use Rattle.fr_cli.specs.Script.{HasNo, onto_first_line, ended_lines, is_separator, parts_of, request_lines, parts_around}
 
 -- ---- the first line
@@ -225,6 +227,33 @@ request_lines-some bytes line after e h = request_lines-first bytes line after e
 pub request_lines-empty : (bytes line after : List ℕ) → lines bytes ≡ line ∷ lines after → length line ≡ 0 → request_lines bytes ≡ request_lines after
 request_lines-empty bytes line after e h = request_lines-first bytes line after e ∙ rw (le-ltb 0 (length line) (omega (arith, h))) refl
 
+-- ---- short lines
+
+strip-short : (n most : ℕ) (b : Bool) (line : List ℕ) → length line ≤ most → length (cond b (take n line) line) ≤ most
+strip-short n most true line fits = omega (arith, fits, length-take n line)
+strip-short n most false line fits = fits
+
+one-short : (b : Bool) (line : List ℕ) → length line ≤ max_line → AreShort (cond b (line ∷ []) [])
+one-short true line fits = (fits, tt)
+one-short false line fits = tt
+
+-- the only line there is
+requests-one : (bytes line : List ℕ) → lines bytes ≡ line ∷ lines [] → request_lines bytes ≡ cond (nat_lt 0 (length line)) (line ∷ []) []
+requests-one bytes line e = request_lines-first bytes line [] e ∙ ap (λ rest. cond (nat_lt 0 (length line)) (line ∷ rest) rest) (request_lines-none [] refl)
+
+-- a line that has an end, and is short without it
+pub short_ended : (line : List ℕ) → HasNo 10 line → length line ≤ max_line → AreShort (request_lines (line ++ 10 ∷ []))
+short_ended line clear fits =
+    subst AreShort (sym (requests-one (line ++ 10 ∷ []) (strip_carriage_return line) (lines_at line [] clear)))
+    (one-short (nat_lt 0 (length (strip_carriage_return line))) (strip_carriage_return line)
+    (strip-short (length line - 1) max_line (slice_index line (length line - 1) == 13) line fits))
+
+-- a line that has none
+pub short_open : (line : List ℕ) → HasNo 10 line → length line ≤ max_line → AreShort (request_lines line)
+short_open [] clear fits = subst AreShort (sym (request_lines-none [] refl)) tt
+short_open (b ∷ line) clear fits =
+    subst AreShort (sym (requests-one (b ∷ line) (b ∷ line) (lines_last b line clear))) (one-short (nat_lt 0 (length (b ∷ line))) (b ∷ line) fits)
+
 -- the lemmas by which a request is taken
 pub ruleset request_taken = (request_lines-none, request_lines-some, request_lines-empty)
 
@@ -236,6 +265,27 @@ split_of bytes line after parts found e = (subst (Around 10 bytes) (sym e) found
 -- a line feed ends it, and what follows it is left
 pub split_by : (bytes line after : List ℕ) → Some (line, after) ≡ parts_around 10 bytes → bytes ≡ line ++ 10 ∷ after
 split_by bytes line after e = split_of bytes line after (parts_around 10 bytes) (around 10 bytes) e
+
+clear_of : (bytes line after : List ℕ) (parts : Option (List ℕ × List ℕ)) → Around 10 bytes parts → Some (line, after) ≡ parts → HasNo 10 line
+clear_of bytes line after parts found e = (subst (Around 10 bytes) (sym e) found).1
+
+-- and there is none before
+pub split_clear : (bytes line after : List ℕ) → Some (line, after) ≡ parts_around 10 bytes → HasNo 10 line
+split_clear bytes line after e = clear_of bytes line after (parts_around 10 bytes) (around 10 bytes) e
+
+feed_shows : (line after : List ℕ) → HasNo 10 (line ++ 10 ∷ after) → ⊥
+feed_shows [] after h = absurd cc
+feed_shows (b ∷ line) after h = feed_shows line after h.1
+
+-- so these bytes have a line feed
+pub has_feed : (bytes line after : List ℕ) → Some (line, after) ≡ parts_around 10 bytes → HasNo 10 bytes → ⊥
+has_feed bytes line after e h = feed_shows line after (subst (HasNo 10) (split_by bytes line after e) h)
+
+-- so where parts were found round one
+pub feed_found : (bytes : List ℕ) (found : Option (Bor (List ℕ) × Bor (List ℕ))) → is_some found ≡ true → option_map (λ x. (x.0.now, x.1.now)) found ≡ parts_around 10 bytes
+    → HasNo 10 bytes → ⊥
+feed_found bytes None some is clear = absurd cc
+feed_found bytes (Some x) some is clear = has_feed bytes x.0.now x.1.now is clear
 
 -- no line feed is left
 pub no_feed : (bytes : List ℕ) → None ≡ parts_around 10 bytes → HasNo 10 bytes

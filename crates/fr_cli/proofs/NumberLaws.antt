@@ -8,12 +8,15 @@ use Rattle.clap.proofs.WalkLemmas.{one_text-rows}
 use Rattle.clap.specs.Matches.{ReadsOne, one_text}
 use Rattle.clap.specs.Walk.{Row, Text, one_of, rows_of}
 use Rattle.clap.specs.declared.parser.matches.Found.{Found}
-use Rattle.fr_base.specs.Queries.{word_of}
+use Rattle.fr_base.specs.Queries.{word_of, word_of_query}
 use Rattle.fr_base.specs.declared.report.Report.{Report}
+use Rattle.fr_base.specs.declared.query.Inventory.TheVariants.{Cluster, Variants, Nodes}
+use Rattle.fr_base.specs.declared.query.Query.{Query}
+use Rattle.fr_base.specs.declared.query.Query.TheVariants.{Register as OfRegister, Variant as OfVariant}
 use Rattle.fr_base.specs.declared.report.Report.TheVariants.{Grants, Frames, Schedule, Gaps, Layout}
 use Rattle.fr_cli.specs.Words.{HasNumber, IsJobIn, IsJobOf, IsNumberIn}
 use Rattle.fr_cli.specs.declared.words.Job.{Job}
-use Rattle.fr_cli.specs.declared.words.Job.TheVariants.{Run, Create, Migrate, Serve, Ask, Variants, Report as ReportOn, Picture, Import, Check, Explain}
+use Rattle.fr_cli.specs.declared.words.Job.TheVariants.{Run, Create, Migrate, Serve, Ask, Report as ReportOn, Picture, Import, Check, Explain}
 
 -- the number of a text in decimal digits, if it fits into 32 bits
 abbrev pub IsReadOf : Option ℕ → Option Text → Type 0
@@ -66,8 +69,7 @@ numbers_of rows Run is = apart _ _ refl is
 numbers_of rows (Create db config) is = apart _ _ refl is.0
 numbers_of rows (Migrate db) is = apart _ _ refl is.0
 numbers_of rows (Ask db) is = apart _ _ refl is.0
-numbers_of rows (Variants db supplier) is = apart _ _ refl is.0
-numbers_of rows (ReportOn db query) is = report query.report is.0
+numbers_of rows (ReportOn db query) is = asked query.query is.0
   where
     report : {X : Type 0} (report : Report (Bor Text)) → codes "serve" ≡ word_of report → X
     report Grants same = apart _ _ refl same
@@ -75,6 +77,12 @@ numbers_of rows (ReportOn db query) is = report query.report is.0
     report Schedule same = apart _ _ refl same
     report Gaps same = apart _ _ refl same
     report (Layout frame) same = apart _ _ refl same
+
+    asked : {X : Type 0} (query : Query (Bor Text)) → codes "serve" ≡ word_of_query query → X
+    asked (OfRegister Cluster) same = apart _ _ refl same
+    asked (OfRegister Variants) same = apart _ _ refl same
+    asked (OfRegister Nodes) same = apart _ _ refl same
+    asked (OfVariant variant of) same = report of same
 numbers_of rows (Picture db variant supplier) is = apart _ _ refl is.0
 numbers_of rows (Import db key variant label file) is = apart _ _ refl is.0
 numbers_of rows (Check config) is = apart _ _ refl is.0

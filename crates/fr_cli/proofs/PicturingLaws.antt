@@ -2,8 +2,8 @@
 use Rattle.std.proofs.Common.{◌≡◌, Bool, true, false, not, List, ℕ, Option, None, Some, Result, Ok, Err, refl, sym, subst, inl, inr}
 use Rattle.std.specs.Prelude.{Contains, Vec}
 use Rattle.std.specs.declared.alloc.Global.{Global}
-use Rattle.fr_base.specs.Book.{Book}
-use Rattle.fr_base.specs.Cluster.{Cluster}
+use Rattle.fr_base.specs.Book.{Book, file_of}
+use Rattle.fr_base.specs.Cluster.{Cluster, ClusterFile}
 use Rattle.fr_base.specs.Checks.{check}
 use Rattle.fr_base.specs.Refusing.{◌>>=◌, ◌>>◌, refuse◌when◌}
 use Rattle.fr_base.specs.Sound.{IsSound}
@@ -22,14 +22,14 @@ use Rattle.fr_base.specs.declared.request.Request.{Request}
 use Rattle.fr_base.specs.declared.report.Report.TheVariants.{Grants, Schedule}
 use Rattle.fr_base.specs.declared.request.Request.TheVariants as request
 use Rattle.fr_world.specs.BookEdits.{variants_in}
-use Rattle.fr_world.specs.declared.variants.VariantRow.{VariantRow}
+use Rattle.fr_base.specs.declared.answer.VariantRow.{VariantRow}
 use Rattle.fr_answers.specs.Listing.{MayTell, variants_told}
-use Rattle.fr_picture.specs.declared.frames.DrawnFrame.{DrawnFrame}
-use Rattle.fr_picture.specs.declared.page.Plan.{Plan}
-use Rattle.fr_plans.proofs.FrameLaws.{refuses_plan}
-use Rattle.fr_plans.specs.Frames.{AreFrames, IsOfPlan, MayRefusePlan}
-use Rattle.fr_plans.specs.Reports.{Reads, Reports, Standing, answer_to}
-use Rattle.fr_cli.specs.Picturing.{IsPlan, plans_for, supplier_of}
+use Rattle.fr_picture.specs.declared.frame_table.DrawnFrame.{DrawnFrame}
+use Rattle.fr_picture.specs.declared.plan.Plan.{Plan}
+use Rattle.fr_picture.proofs.FrameLaws.{refuses_plan}
+use Rattle.fr_picture.specs.Frames.{AreFrames, IsOfPlan, MayRefusePlan}
+use Rattle.fr_picture.specs.Reports.{Reads, Reports, Standing, answer_to, asks, with_cells, with_grants}
+use Rattle.fr_cli.specs.Picturing.{IsPlan, plans_for, supplier_of, suppliers_seen}
 use Rattle.fr_cli.specs.Reading.{IsRead}
 
 module _ (b : Book) (reader : Actor) where
@@ -67,7 +67,7 @@ module _ (b : Book) (reader : Actor) where
   pub rows_refused : (c : Cluster) (variant : List ℕ) (e : Refusal) → MayTell b reader (Err e) → MayRefusePlan c b reader variant e
   rows_refused c variant e (inl told) =
       let so = unknown_so (knows b reader) refl e told in
-      inr (request.Query variant Grants, inl refl, subst (λ (r : Refusal). answer_to c b reader (request.Query variant Grants) ≡ Refused r) (sym so.0) (unknown_answer c (request.Query variant Grants) so.1))
+      inr (asks variant Grants, inl refl, subst (λ (r : Refusal). answer_to c b reader (asks variant Grants) ≡ Refused r) (sym so.0) (unknown_answer c (asks variant Grants) so.1))
   rows_refused c variant e (inr lacked) = inl (let is = lacked.1 in cc)
 
 -- ---- the row
@@ -116,18 +116,18 @@ module _ (reader : Actor) (variant : List ℕ) where
 
   module _ (s0 s1 : Standing) where
     -- its grants were refused
-    pub grants_refused : (r : Result Plan Refusal) (e : Refusal) → r ≡ Err e → Reports {X = List GrantRow} s0 s1 reader (request.Query variant Grants) answer.Grants (Err e)
+    pub grants_refused : (r : Result Plan Refusal) (e : Refusal) → r ≡ Err e → Reports {X = List GrantRow} s0 s1 reader (asks variant Grants) with_grants (Err e)
         → Reads s0 s1 r (λ c b plan. IsPlan c b reader variant plan) (λ c b e. MayRefusePlan c b reader variant e)
-    grants_refused r e is grants = plan_refused s0 s1 r e is (report_refused s0 s1 (request.Query variant Grants) answer.Grants e (inl refl) grants)
+    grants_refused r e is grants = plan_refused s0 s1 r e is (report_refused s0 s1 (asks variant Grants) with_grants e (inl refl) grants)
 
-    module _ (grants : List GrantRow) (granted : Reports s0 s1 reader (request.Query variant Grants) answer.Grants (Ok grants)) (s2 : Standing) where
+    module _ (grants : List GrantRow) (granted : Reports s0 s1 reader (asks variant Grants) with_grants (Ok grants)) (s2 : Standing) where
       -- its cells were refused
-      pub cells_refused : (r : Result Plan Refusal) (e : Refusal) → r ≡ Err e → Reports {X = List Sending} s1 s2 reader (request.Query variant Schedule) answer.Schedule (Err e)
+      pub cells_refused : (r : Result Plan Refusal) (e : Refusal) → r ≡ Err e → Reports {X = List Sending} s1 s2 reader (asks variant Schedule) with_cells (Err e)
           → Reads s0 s2 r (λ c b plan. IsPlan c b reader variant plan) (λ c b e. MayRefusePlan c b reader variant e)
       cells_refused r e is cells = plan_refused s0 s2 r e is (λ c b stood sound.
-          report_refused s1 s2 (request.Query variant Schedule) answer.Schedule e (inr (inl refl)) cells c b (granted c b stood sound).0 sound)
+          report_refused s1 s2 (asks variant Schedule) with_cells e (inr (inl refl)) cells c b (granted c b stood sound).0 sound)
 
-      module _ (cells : List Sending) (scheduled : Reports s1 s2 reader (request.Query variant Schedule) answer.Schedule (Ok cells)) (s3 : Standing) where
+      module _ (cells : List Sending) (scheduled : Reports s1 s2 reader (asks variant Schedule) with_cells (Ok cells)) (s3 : Standing) where
         -- its frames were refused
         pub frames_refused : (r : Result Plan Refusal) (e : Refusal) → r ≡ Err e → Keeps s2 s3 (λ c b. MayRefusePlan c b reader variant e)
             → Reads s0 s3 r (λ c b plan. IsPlan c b reader variant plan) (λ c b e. MayRefusePlan c b reader variant e)
@@ -140,20 +140,27 @@ module _ (reader : Actor) (variant : List ℕ) where
           row_lacks r e is refuses = plan_refused s0 s4 r e is (λ c b stood sound.
               refuses c b (framed c b (scheduled c b (granted c b stood sound).0 sound).0 sound).0 sound)
 
+          -- there was no memory for its suppliers
+          pub suppliers_lack : (row : VariantRow) (r : Result Plan Refusal) → r ≡ Err Unavailable → Keeps s3 s4 (λ c b. Contains (variants_in b) row × (row.variant ≡ variant))
+              → Reads s0 s4 r (λ c b plan. IsPlan c b reader variant plan) (λ c b e. MayRefusePlan c b reader variant e)
+          suppliers_lack row r is rowed = plan_refused s0 s4 r Unavailable is (λ c b stood sound.
+              ((rowed c b (framed c b (scheduled c b (granted c b stood sound).0 sound).0 sound).0 sound).0, inl refl))
+
           -- all of it was read
-          pub plan_read : (row : VariantRow) (params : Params) (viewer : Option Name) (drawn : Vec DrawnFrame Global) → viewer ≡ supplier_of reader → drawn.items ≡ frames → Keeps s3 s4 (λ c b. Contains (variants_in b) row × (row.variant ≡ variant))
-              → ((c : Cluster) (b : Book) → s4 c b → params ≡ c.params)
+          pub plan_read : (row : VariantRow) (params : Params) (viewer : Option Name) (known : Vec Name Global) (file : ClusterFile) (drawn : Vec DrawnFrame Global) → viewer ≡ supplier_of reader → drawn.items ≡ frames → Keeps s3 s4 (λ c b. Contains (variants_in b) row × (row.variant ≡ variant))
+              → ((c : Cluster) (b : Book) → s4 c b → params ≡ c.params) → ((c : Cluster) (b : Book) → s4 c b → file ≡ file_of c b) → known.items ≡ suppliers_seen reader file.suppliers
               → Keeps s0 s4 (λ c b. IsPlan c b reader variant (record {
                 params = params;
                 variant = row.variant;
                 parent = row.parent;
                 released = row.released;
                 supplier = viewer;
+                suppliers = known;
                 grants = grants;
                 cells = cells;
                 frames = drawn;
               }))
-          plan_read row params viewer drawn is same rowed has c b stood sound =
+          plan_read row params viewer known file drawn is same rowed has says named c b stood sound =
               let one = granted c b stood sound in
               let two = scheduled c b one.0 sound in
               let three = framed c b two.0 sound in
@@ -166,6 +173,7 @@ module _ (reader : Actor) (variant : List ℕ) where
                   listed = four.1.0;
                   same = (refl, refl, refl);
                   viewer = is;
+                  suppliers = subst (λ (f : ClusterFile). known.items ≡ suppliers_seen reader f.suppliers) (says c b four.0) named;
                   grants = one.1;
                   cells = two.1;
                   frames = subst (λ (fs : List DrawnFrame). AreFrames c b reader variant fs) (sym same) three.1;

@@ -12,7 +12,7 @@ use Rattle.sqlite.specs.Files.{IsCleanLeft}
 use Rattle.sqlite.specs.declared.file.Leftover.{Leftover}
 use Rattle.sqlite_disk.specs.declared.Disk.{Ghosts}
 use Rattle.sqlite_wal.specs.Recovery.{Image}
-use Rattle.fr_cli.specs.Asking.{IsRefusedBy}
+use Rattle.fr_cli.specs.Asking.{IsRefusedBy, for_reader}
 use Rattle.fr_cli.specs.Reading.{IsRead, PrintsRead, Reading, Stays}
 use Rattle.fr_cli.specs.RegisterFiles.{IsReadOfFile}
 use Rattle.fr_cli.specs.declared.failure.Failure.{Failure}
@@ -32,7 +32,7 @@ module _ {X : Type 0} where
 
   -- the line of a refusal, or no memory for it
   pub refused_reading : (Is : Result X Refusal → Type 0) (IsText : X → List ℕ → Type 0) (refusal : Refusal) (f : Failure) → Is (Err refusal)
-      → IsRefusedBy (answer.Refused refusal) f → PrintsRead (λ fault. fault ≡ NoMemory) Is IsText (Err f)
+      → IsRefusedBy (for_reader (answer.Refused refusal)) f → PrintsRead (λ fault. fault ≡ NoMemory) Is IsText (Err f)
   refused_reading Is IsText refusal (failure.Refused line) is by = (refusal, is, by)
   refused_reading Is IsText refusal (failure.Fault fault) is by = by
 

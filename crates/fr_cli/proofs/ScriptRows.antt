@@ -13,7 +13,8 @@ use Rattle.fr_base.specs.Actors.{actor_of}
 use Rattle.fr_base.specs.Alone.{alone}
 use Rattle.fr_base.specs.Book.{opening}
 use Rattle.fr_base.specs.declared.answer.Answer.{Answer}
-use Rattle.fr_base.specs.declared.answer.Answer.TheVariants.{Done, Refused, Schedule as Sent}
+use Rattle.fr_base.specs.declared.answer.Answer.TheVariants.{Done, Refused, Report as Told}
+use Rattle.fr_base.specs.declared.answer.ReportRows.TheVariants as rows_of
 use Rattle.fr_base.specs.declared.channel.Channel.TheVariants as ch
 use Rattle.fr_base.specs.declared.name.Name.{Name}
 use Rattle.fr_base.specs.declared.refusal.Refusal.TheVariants.{BadText, UnknownKey, NoVariant, Taken, Unavailable}
@@ -26,7 +27,7 @@ use Rattle.fr_cli.specs.ScriptRun.{answers_of, answers_to, lines_of}
 
 -- what the rows below unfold
 unfoldable pub a_script : ⊤
-unfolding a_small_register actor_of key_and_text request_lines ask_in encode_utf8 scan_numeral chars is_utf8 value lex punctuate content after_number word number_of value_of is_among only text text_or_null whole request.open_variant request.release request.add_supplier request.add_node request.grant request.revoke request.add_frame request.drop_frame request.place request.unplace request.add_signal request.drop_signal request.import request.report request.layout request.readers request.request_in request.request_of
+unfolding a_small_register actor_of key_and_text request_lines ask_in encode_utf8 scan_numeral chars is_utf8 value lex punctuate content after_number word number_of value_of is_among only text text_or_null whole request.open_variant request.release request.add_supplier request.add_node request.grant request.revoke request.add_frame request.drop_frame request.place request.unplace request.add_signal request.drop_signal request.import request.inventory request.report request.layout request.readers request.request_in request.request_of
 a_script = tt
 
 -- a line: a key, a space, and a request
@@ -79,7 +80,7 @@ shown = s1 (codes "{\"do\":\"schedule\",\"variant\":\"v1\"}") ∷ []
 unfoldable pub answered : List Answer
 answered =
     Done ∷ Done ∷ Done ∷ Done ∷ Done
-    ∷ Sent false (record { cycle = 0; slot = 1; channel = ch.A; frame = codes "f1"; node = codes "n1"; supplier = codes "s1" } ∷ [])
+    ∷ Told false (rows_of.Schedule (record { cycle = 0; slot = 1; channel = ch.A; frame = codes "f1"; node = codes "n1"; supplier = codes "s1" } ∷ []))
     ∷ []
 
 -- all of the first script is the supplier's

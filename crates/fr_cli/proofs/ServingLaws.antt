@@ -37,6 +37,12 @@ serves_connection clean old new input left held now done end ends one = λ is c 
     let (asked, last, exchange, after) = one.exchanged is c b stands sound in
     (record { read = one.bytes; written = one.written; done = done; asked = asked }, last, ends, exchange, after)
 
+-- The register's rows stayed afterwards.
+pub serves_stay : (clean first : Type 0) (old mid new : Standing) (end : Result ⊤ LinkFault) → (clean → first) → (clean → (c : Cluster) (b : Book) → mid c b → new c b)
+    → ServesOne first old mid end → ServesOne clean old new end
+serves_stay clean first old mid new end falls stays one = λ is c b stands sound.
+    let (x, last, ended, exchange, after) = one (falls is) c b stands sound in (x, last, ended, exchange, stays is c last after)
+
 -- ---- exchanges, and then one more
 
 exchanged-then : (c : Cluster) (b mid last : Book) (xs : List Exchange) (x : Exchange) → AreExchanged c b xs mid → IsExchange c mid x last

@@ -4,6 +4,7 @@ use Rattle.clap.proofs.OnLiterals.{clap_on_literals}
 use Rattle.clap.specs.Walk.{one_of}
 use Rattle.clap.specs.Words.{IsAmong, fault_of, subcommand_of}
 use Rattle.clap.specs.declared.error.kind.ErrorKind.TheVariants as kinds
+use Rattle.fr_base.specs.declared.query.Query.TheVariants.{Variant as OfVariant}
 use Rattle.fr_base.specs.declared.report.Report.TheVariants.{Schedule}
 use Rattle.fr_cli.specs.Commands.{slotplan}
 use Rattle.fr_cli.specs.Words.{AskFor, IsFaultOf}
@@ -74,9 +75,9 @@ unfolding clap_on_literals
 is_no_job = refl
 
 schedule_is_asked : (db variant : Bor (List ℕ)) → db.now ≡ codes "car.db" → variant.now ≡ codes "v1"
-    → AskFor (codes "schedule" ∷ codes "car.db" ∷ codes "v1" ∷ []) (job.Report db (record { variant = variant; report = Schedule; supplier = None }))
+    → AskFor (codes "schedule" ∷ codes "car.db" ∷ codes "v1" ∷ []) (job.Report db (record { query = OfVariant variant Schedule; supplier = None }))
 unfolding clap_on_literals
-schedule_is_asked db variant is of = (refl, ap (λ (t : List ℕ). Some t) (sym is), (ap (λ (t : List ℕ). Some t) (sym of), tt, refl))
+schedule_is_asked db variant is of = (refl, ap (λ (t : List ℕ). Some t) (sym is), ((ap (λ (t : List ℕ). Some t) (sym of), tt), refl))
 
 -- a request for help is no mistake
 help_is_no_usage : (text : String Global) → IsFaultOf (codes "--help" ∷ []) (Usage text) → ⊥

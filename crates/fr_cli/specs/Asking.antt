@@ -8,6 +8,7 @@ use Rattle.fr_base.specs.Cluster.{Cluster}
 use Rattle.fr_base.specs.declared.answer.Answer.{Answer}
 use Rattle.fr_base.specs.declared.answer.Answer.TheVariants.{Refused, RefusedRow}
 use Rattle.fr_base.specs.declared.refusal.Refusal.{Refusal}
+use Rattle.fr_base.specs.declared.refusal.Refusal.TheVariants.{NoSupplier, UnknownKey}
 use Rattle.fr_base.specs.declared.request.Ask.{Ask}
 use Rattle.fr_base.specs.declared.request.Request.{Request}
 use Rattle.fr_base.specs.declared.request.Request.TheVariants as request
@@ -18,13 +19,13 @@ use Rattle.fr_cli.specs.Asked.{asked_by}
 use Rattle.fr_cli.specs.Queries.{reader_of, request_for}
 use Rattle.fr_cli.specs.ScriptRun.{Replied}
 use Rattle.fr_cli.specs.declared.asking.ImportWords.{ImportWords}
-use Rattle.fr_cli.specs.declared.query.Query.{Query}
+use Rattle.fr_cli.specs.declared.query.Inquiry.{Inquiry}
 use Rattle.fr_cli.specs.declared.failure.Failure.{Failure}
 use Rattle.fr_cli.specs.declared.failure.Failure.TheVariants as failure
 use Rattle.fr_cli.specs.declared.fault.Fault.TheVariants.{NoMemory}
 
 -- the report is asked for by who reads it
-abbrev pub query_of : Query → Cluster → Book → Result Ask Refusal
+abbrev pub query_of : Inquiry → Cluster → Book → Result Ask Refusal
 query_of query c b = asked_by (reader_of query) (request_for query)
 
 -- the request for the import of a file
@@ -40,6 +41,15 @@ abbrev pub is_refusal : Answer → Bool
 is_refusal (Refused refusal) = true
 is_refusal (RefusedRow line refusal) = true
 is_refusal _ = false
+
+-- the answer as a reader is told it whom the command line names: it gave no key, so nobody of that name is no such supplier
+abbrev pub for_reader : Answer → Answer
+for_reader (Refused UnknownKey) = Refused NoSupplier
+for_reader answer = answer
+
+-- Such an answer, as a reader is told it.
+abbrev pub IsForReader : (Answer → Type 0) → Answer → Type 0
+IsForReader Is answer = (given : Answer) × Is given × (answer ≡ for_reader given)
 
 -- the answer on a line of its own
 abbrev pub line_of : Answer → List ℕ

@@ -58,8 +58,9 @@ ask = with_rule (new_app (codes "ask")) (word (codes "DB"))
 abbrev pub supplier : Rule
 supplier = record (new_rule (codes "supplier")) { long = Some (codes "supplier"); action = Some Set; value_names = 1 }
 
-abbrev pub variants : App
-variants = with_rule (with_rule (new_app (codes "variants")) (word (codes "DB"))) supplier
+-- `cluster`, `variants` and `nodes`
+abbrev pub inventory : Text → App
+inventory name = with_rule (with_rule (new_app name) (word (codes "DB"))) supplier
 
 -- `grants`, `frames`, `schedule`, `gaps` and `picture`
 abbrev pub report : Text → App
@@ -88,8 +89,9 @@ unasked name = record {
 -- the program, with one subcommand for each job
 abbrev pub slotplan : App
 slotplan = with_subcommand (with_subcommand (with_subcommand (with_subcommand (with_subcommand (with_subcommand (with_subcommand (with_subcommand (with_subcommand
-    (with_subcommand (with_subcommand (with_subcommand (with_subcommand (with_subcommand (with_subcommand (unasked (codes "slotplan")) run.top) create.top)
-    migrate.top) serve.top) ask.top) variants.top) (report (codes "grants")).top) (report (codes "frames")).top) (report (codes "schedule")).top)
+    (with_subcommand (with_subcommand (with_subcommand (with_subcommand (with_subcommand (with_subcommand (with_subcommand (with_subcommand
+    (unasked (codes "slotplan")) run.top) create.top) migrate.top) serve.top) ask.top) (inventory (codes "cluster")).top) (inventory (codes "variants")).top)
+    (inventory (codes "nodes")).top) (report (codes "grants")).top) (report (codes "frames")).top) (report (codes "schedule")).top)
     (report (codes "gaps")).top) layout.top) (report (codes "picture")).top) import_words.top) check.top) explain.top
 
 -- The command is read so, and has no argument that its subcommands have too.

@@ -4,6 +4,7 @@ use Rattle.std.specs.Prelude.{◌≡◌, ◌++◌, ℕ, List, [], ◌∷◌, cod
 use Rattle.std.specs.Borrow.{Bor}
 use Rattle.std.specs.Global.{Vec}
 use Rattle.fr_guide.specs.Explaining.{Explains, ListsAlike, ListsAll}
+use Rattle.fr_cli.specs.Numbers.{meant}
 use Rattle.fr_cli.specs.declared.failure.Failure.{Failure}
 use Rattle.fr_cli.specs.declared.failure.Failure.TheVariants as failure
 use Rattle.fr_cli.specs.declared.fault.Fault.TheVariants.{NoMemory}
@@ -18,11 +19,11 @@ abbrev pub IsUnknown : List ℕ → List ℕ → Type 0
 IsUnknown word text = (alike : List ℕ) × ListsAlike word alike
     × (text ≡ codes "slotplan: no refusal and no fault has this name. " ++ hint alike ++ alike)
 
--- The word is explained, and this is its text; or it is not, and refused. Without a word, each that is explained has its line.
+-- The word is explained, or the refusal that has this number, and this is its text; or it is not, and refused. Without a word, each that is explained has its line.
 abbrev pub IsExplained : Option (Bor (List ℕ)) → Result (Vec ℕ) Failure → Type 0
 IsExplained None (Ok text) = ListsAll text.items
 IsExplained None (Err (failure.Refused line)) = ⊥
 IsExplained None (Err (failure.Fault fault)) = fault ≡ NoMemory
-IsExplained (Some word) (Ok text) = Explains word.now (Some text)
-IsExplained (Some word) (Err (failure.Refused line)) = Explains word.now None × IsUnknown word.now line.items
+IsExplained (Some word) (Ok text) = Explains (meant word.now) (Some text)
+IsExplained (Some word) (Err (failure.Refused line)) = Explains (meant word.now) None × IsUnknown word.now line.items
 IsExplained (Some word) (Err (failure.Fault fault)) = fault ≡ NoMemory

@@ -6,8 +6,9 @@ use Rattle.sqlite.specs.declared.file.Leftover.{Leftover}
 use Rattle.sqlite_disk.specs.declared.Disk.{Ghosts}
 use Rattle.sqlite_wal.specs.Recovery.{Image}
 use Rattle.fr_desks.specs.FileDesk.{BarsMigration, HoldStill}
-use Rattle.fr_cli.specs.ScriptFault.{script_fault_word}
+use Rattle.fr_cli.specs.ScriptFault.{script_fault_of, script_fault_word}
 use Rattle.fr_cli.specs.declared.fault.Fault.{Fault}
+use Rattle.fr_cli.specs.declared.input.InputFault.{InputFault}
 use Rattle.fr_cli.specs.declared.fault.Fault.TheVariants.{Script, Config, Register, CannotOpen, CannotListen, NoMemory, WriteFailed}
 use Rattle.fr_http.specs.declared.fault.LinkFault.{LinkFault}
 use Rattle.fr_http.specs.declared.fault.LinkFault.TheVariants as link
@@ -89,6 +90,7 @@ module _ {D : Type 0} {g : Ghosts D} (held : Image) (rest : Option (Leftover D g
   abbrev pub IsNotReported : Fault → Type 0
   IsNotReported fault = IsNotOpened fault ⊎ (fault ≡ NoMemory)
 
-  -- For this an import is not carried out: no report would be given; or its file cannot be read, and then the register's is not opened.
-  abbrev pub IsNotImported : Fault → Type 0
-  IsNotImported fault = IsNotReported fault ⊎ ((fault ≡ CannotOpen) × (rest ≡ None))
+  -- For this an import is not carried out: no report would be given; or its file cannot be read, or the key that stands on standard input, and
+  -- then the register's is not opened.
+  abbrev pub IsNotImported : List ℕ → Fault → Type 0
+  IsNotImported key fault = IsNotReported fault ⊎ (((fault ≡ CannotOpen) ⊎ ((key ≡ codes "-") × ((of : InputFault) × (fault ≡ Script (script_fault_of of))))) × (rest ≡ None))

@@ -2,13 +2,14 @@
 -- register in a file are answered from the book that the file held, and what is left holds the book after them.
 use Rattle.std.specs.Prelude.{◌≡◌, ◌⊎◌, ◌<◌, ◌≤◌, ℕ, List, ◌++◌, length, Option, Some, Result, Err, IfErr, IfSome, IsErrOf, OnOk, ⊤}
 use Rattle.std.specs.Io.KnownBytes.{Appends, Consumes, IsAtEnd, Keeps}
+use Rattle.std.specs.List.{AllByRecursion}
 use Rattle.sqlite.specs.Files.{IsCleanLeft}
 use Rattle.sqlite.specs.declared.file.Leftover.{Leftover}
 use Rattle.sqlite_disk.specs.declared.Disk.{Ghosts}
 use Rattle.sqlite_wal.specs.Recovery.{Image}
 use Rattle.fr_desks.specs.FileDesk.{Held, IsLeftWith}
 use Rattle.fr_records.specs.Held.{Standing}
-use Rattle.fr_cli.specs.Answering.{AnswersLines, WasCutShort}
+use Rattle.fr_cli.specs.Answering.{AnswersLines, BeginWith, WasCutShort}
 use Rattle.fr_cli.specs.Faults.{IsNotOpened}
 use Rattle.fr_cli.specs.Performing.{of_script}
 use Rattle.fr_cli.specs.Script.{HasNo, max_script, request_lines}
@@ -16,7 +17,7 @@ use Rattle.fr_cli.specs.ScriptFault.{script_fault_of}
 use Rattle.fr_cli.specs.declared.fault.Fault.{Fault}
 use Rattle.fr_cli.specs.declared.input.InputFault.{InputFault}
 use Rattle.fr_cli.specs.declared.script_fault.ScriptFault.{ScriptFault}
-use Rattle.fr_cli.specs.declared.script_fault.ScriptFault.TheVariants.{ReadFailed, TooLong, TooManyReads, WriteFailed}
+use Rattle.fr_cli.specs.declared.script_fault.ScriptFault.TheVariants.{NoMemory, ReadFailed, TooLong, TooManyReads, Unavailable, WriteFailed}
 
 -- These are the first requests of the input.
 abbrev pub AreFirstOf : List (List ℕ) → List ℕ → Type 0
@@ -30,27 +31,50 @@ AreFirstOfAll bytes lines = (more : List ℕ) → AreFirstOf lines (bytes ++ mor
 abbrev pub EndsLines : List ℕ → Type 0
 EndsLines bytes = (more : List ℕ) → request_lines (bytes ++ more) ≡ request_lines bytes ++ request_lines more
 
+-- For this the answering of a line ends that was read: there was no memory, its answer was not written, or the register has come to an end.
+abbrev pub EndsAsking : ScriptFault → Type 0
+EndsAsking fault = (fault ≡ NoMemory) ⊎ ((fault ≡ WriteFailed) ⊎ (fault ≡ Unavailable))
+
+-- The lines were answered, and more may be asked; or a fault came, and the first of them were.
+pub record HasAsked (clean : Type 0) (old new : Standing) (lines : List (List ℕ)) (a b : Option (List ℕ)) (done : Result ⊤ ScriptFault) : Type 0 where
+  pub all : OnOk done ((written : List ℕ) × Appends a b written × AnswersLines clean old new lines written)
+  pub early : IfErr done (WasCutShort clean old new (BeginWith lines) (BeginWith lines) a b)
+  pub faults : IfErr done EndsAsking
+
+-- how many bytes a line that comes in has at most, without its line feed
+abbrev pub max_line : ℕ
+max_line = 1048576
+
+-- No line is longer.
+abbrev pub AreShort : List (List ℕ) → Type 0
+AreShort = AllByRecursion (λ line. length line ≤ max_line)
+
+-- More bytes than a line may have stand here without a line feed.
+abbrev pub HasLongLine : List ℕ → Type 0
+HasLongLine bytes = (front : List ℕ) × (line : List ℕ) × (rest : List ℕ) × (bytes ≡ front ++ (line ++ rest)) × HasNo 10 line × (max_line < length line)
+
 -- Of these bytes the lines that have an end were answered, and the others begin the next line, which has no end yet; or a
 -- fault came.
 pub record HasHeard (clean : Type 0) (old new : Standing) (bytes begun : List ℕ) (a b : Option (List ℕ)) (done : Result ⊤ ScriptFault) : Type 0 where
   pub heard : OnOk done ((front : List ℕ) × (written : List ℕ) × (bytes ≡ front ++ begun) × EndsLines front
-      × HasNo 10 begun × Appends a b written × AnswersLines clean old new (request_lines front) written)
+      × HasNo 10 begun × AreShort (request_lines front) × Appends a b written × AnswersLines clean old new (request_lines front) written)
   pub early : IfErr done (WasCutShort clean old new (AreFirstOfAll bytes) (AreFirstOfAll bytes) a b)
+  pub too_long : IsErrOf done TooLong → HasLongLine bytes
 
 -- What was taken of the input is whole lines, which were answered and no others, and behind them bytes with no line's end.
 abbrev pub AnswersEnded : Type 0 → Standing → Standing → Option (List ℕ) → Option (List ℕ) → Option (List ℕ) → Option (List ℕ) → Type 0
 AnswersEnded clean old new input left a b = (front : List ℕ) × (begun : List ℕ) × (written : List ℕ) × Consumes input left (front ++ begun)
     × EndsLines front × HasNo 10 begun × Appends a b written × AnswersLines clean old new (request_lines front) written
 
--- The input's requests were all answered, and it is not too long; or the first of them were, and a fault came. Where it was a fault of
--- reading, each line whose end was taken was answered.
+-- The input's requests were all answered, and neither it nor one of them is too long; or the first of them were, and a fault came. Where it
+-- was a fault of reading, each line whose end was taken was answered.
 pub record HasAnswered (clean : Type 0) (old new : Standing) (input left a b : Option (List ℕ)) (done : Result ⊤ ScriptFault) : Type 0 where
   pub all : OnOk done ((lines : List (List ℕ)) × (written : List ℕ) × IfSome input (λ bytes. (lines ≡ request_lines bytes) × (length bytes ≤ max_script))
-      × Appends a b written × AnswersLines clean old new lines written)
+      × AreShort lines × Appends a b written × AnswersLines clean old new lines written)
   pub early : IfErr done (WasCutShort clean old new (λ lines. IfSome input (AreFirstOf lines)) (λ lines. IfSome input (AreFirstOf lines)) a b)
   pub unread : IfErr done (λ fault. (fault ≡ ReadFailed) ⊎ (fault ≡ TooManyReads) → AnswersEnded clean old new input left a b)
-  pub too_long : IsErrOf done TooLong → IfSome input (λ bytes. max_script < length bytes)
-  pub faults : IfErr done (λ fault. (fault ≡ WriteFailed) ⊎ ((of : InputFault) × (fault ≡ script_fault_of of)))
+  pub too_long : IsErrOf done TooLong → IfSome input (λ bytes. (max_script < length bytes) ⊎ HasLongLine bytes)
+  pub faults : IfErr done (λ fault. (fault ≡ WriteFailed) ⊎ ((fault ≡ Unavailable) ⊎ ((of : InputFault) × (fault ≡ script_fault_of of))))
 
 -- The register was not opened, and nothing was read or written; or its file was opened and closed, and the input's requests were
 -- answered: as long as nobody else wrote to the file, from the book that it held, and what is left holds the book after them.

@@ -10,8 +10,8 @@ pub mod Words
 pub mod Faults
 pub mod Queries
 pub mod Asking
+pub mod Keys
 pub mod Reading
-pub mod Listing
 pub mod Picturing
 pub mod Endings
 pub mod Performing
@@ -20,4 +20,5 @@ pub mod Incoming
 pub mod Serving
 pub mod Runs
 pub mod Checking
+pub mod Numbers
 pub mod Explaining

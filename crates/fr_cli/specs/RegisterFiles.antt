@@ -2,6 +2,7 @@
 -- is left holds the book after it; what is read of it is that book's. Or what is left holds the book of a new register,
 -- or the book that the file held in schema 1.
 use Rattle.std.specs.Prelude.{◌≡◌, ℕ, List, Option, Some, Result, Ok, OnOk, ⊤}
+use Rattle.std.specs.Borrow.{Bor}
 use Rattle.sqlite.specs.Files.{IsCleanLeft}
 use Rattle.sqlite.specs.declared.file.Leftover.{Leftover}
 use Rattle.sqlite.specs.declared.file.Leftover.TheVariants as left
@@ -18,8 +19,10 @@ use Rattle.fr_store.specs.Before.{HoldsBookBefore}
 use Rattle.fr_store.specs.Opening.{AllowsCreation, AllowsMigration}
 use Rattle.fr_store.specs.StoreFiles.{HoldsBook, image_left}
 use Rattle.fr_text.specs.ClusterFile.{config_of}
-use Rattle.fr_cli.specs.Asking.{IsAnswer}
+use Rattle.fr_cli.specs.Asking.{IsAnswer, import_of}
+use Rattle.fr_cli.specs.Keys.{AreGiven}
 use Rattle.fr_cli.specs.Reading.{IsRead, Reading}
+use Rattle.fr_cli.specs.declared.asking.ImportWords.{ImportWords}
 use Rattle.fr_cli.specs.declared.fault.Fault.{Fault}
 
 module _ {D : Type 0} {g : Ghosts D} where
@@ -28,6 +31,11 @@ module _ {D : Type 0} {g : Ghosts D} where
   abbrev pub IsAnswerOfFile : Image → Option (Leftover D g) → (Cluster → Book → Result Ask Refusal) → Answer → Type 0
   IsAnswerOfFile held rest asks answer =
       (last : Leftover D g) × (rest ≡ Some last) × IsAnswer (IsCleanLeft last) (Held held) (IsLeftWith last) asks answer
+
+  -- So it is with the import of a file with these bytes, by whom the key that is given belongs to.
+  abbrev pub IsImportOfFile : Image → Option (Leftover D g) → Bor (List ℕ) → Bor (List ℕ) → Bor (List ℕ) → Option (List ℕ) → Option (List ℕ) → List ℕ → Answer → Type 0
+  IsImportOfFile held rest key variant label input left body answer =
+      (words : ImportWords) × AreGiven key variant label input left words × IsAnswerOfFile held rest (import_of words body) answer
 
   -- So it is with what is read of the book; and what is left holds the same book.
   abbrev pub IsReadOfFile : {X : Type 0} → Image → Option (Leftover D g) → Reading X → Result X Refusal → Type 0

@@ -7,15 +7,17 @@ use Rattle.clap.specs.Walk.{Row, Text, first_of, one_of}
 use Rattle.clap.specs.Words.{IsAmong, fault_of, subcommand_of}
 use Rattle.clap.specs.declared.error.kind.ErrorKind.{ErrorKind}
 use Rattle.clap.specs.declared.error.kind.ErrorKind.TheVariants.{DisplayHelp, DisplayVersion, OutOfMemory, ValueValidation}
-use Rattle.fr_base.specs.Queries.{word_of}
+use Rattle.fr_base.specs.Queries.{word_of_query}
+use Rattle.fr_base.specs.declared.query.Query.{Query}
+use Rattle.fr_base.specs.declared.query.Query.TheVariants.{Register as OfRegister, Variant as OfVariant}
 use Rattle.fr_base.specs.declared.report.Report.{Report}
 use Rattle.fr_base.specs.declared.report.Report.TheVariants.{Layout}
 use Rattle.fr_cli.specs.Commands.{slotplan}
 use Rattle.fr_cli.specs.declared.words.Job.{Job}
-use Rattle.fr_cli.specs.declared.words.Job.TheVariants.{Run, Create, Migrate, Serve, Ask, Variants, Report as ReportOn, Picture, Import, Check, Explain}
+use Rattle.fr_cli.specs.declared.words.Job.TheVariants.{Run, Create, Migrate, Serve, Ask, Report as ReportOn, Picture, Import, Check, Explain}
 use Rattle.fr_cli.specs.declared.words.WordFault.{WordFault}
 use Rattle.fr_cli.specs.declared.words.WordFault.TheVariants.{Help, Usage, NoMemory}
-use Rattle.fr_cli.specs.declared.query.Query.{Query}
+use Rattle.fr_cli.specs.declared.query.Inquiry.{Inquiry}
 
 -- The word at this place is this text.
 abbrev pub Has : Text → List Row → Text → Type 0
@@ -41,10 +43,14 @@ HasFrame _ rows = ⊤
 abbrev pub IsOfSupplier : Option (Bor (List ℕ)) → List Row → Type 0
 IsOfSupplier supplier rows = option_map (λ name. name.now) supplier ≡ first_of (codes "supplier") rows
 
+-- The names in the query are the words at their places.
+abbrev pub HasNames : Query (Bor (List ℕ)) → List Row → Type 0
+HasNames (OfRegister inventory) rows = ⊤
+HasNames (OfVariant variant report) rows = Has (codes "VARIANT") rows variant.now × HasFrame report rows
+
 -- The query is of these words, and the supplier's that is named, if one is.
-abbrev pub IsQueryIn : List Row → Query → Type 0
-IsQueryIn rows query = Has (codes "VARIANT") rows query.variant.now × HasFrame query.report rows
-    × IsOfSupplier query.supplier rows
+abbrev pub IsQueryIn : List Row → Inquiry → Type 0
+IsQueryIn rows inquiry = HasNames inquiry.query rows × IsOfSupplier inquiry.supplier rows
 
 -- The job is the subcommand's of this name, with the words that stand at its places.
 abbrev pub IsJobOf : Job → Text → List Row → Type 0
@@ -55,8 +61,7 @@ IsJobOf (Serve db port count seconds) name rows = (name ≡ codes "serve") × Ha
     × HasNumber (codes "PORT") 65535 rows port × HasNumber (codes "count") 1000000 rows count
     × HasNumber (codes "seconds") 3600 rows seconds
 IsJobOf (Ask db) name rows = (name ≡ codes "ask") × Has (codes "DB") rows db.now
-IsJobOf (Variants db supplier) name rows = (name ≡ codes "variants") × Has (codes "DB") rows db.now × IsOfSupplier supplier rows
-IsJobOf (ReportOn db query) name rows = (name ≡ word_of query.report) × Has (codes "DB") rows db.now × IsQueryIn rows query
+IsJobOf (ReportOn db query) name rows = (name ≡ word_of_query query.query) × Has (codes "DB") rows db.now × IsQueryIn rows query
 IsJobOf (Picture db variant supplier) name rows = (name ≡ codes "picture") × Has (codes "DB") rows db.now × Has (codes "VARIANT") rows variant.now
     × IsOfSupplier supplier rows
 IsJobOf (Import db key variant label file) name rows = (name ≡ codes "import") × Has (codes "DB") rows db.now × Has (codes "KEY") rows key.now

@@ -70,8 +70,8 @@ fn read_ask<D: Desk>(alloc: Global, desk: &D, line: &[u8]) -> Result<Ask, Refusa
     Ok(Ask { actor, request })
 }
 
-// Who asks with this key. A key that is not UTF-8 is nobody's.
-fn actor_of<D: Desk>(desk: &D, key: &[u8]) -> Option<Actor>
+/// Who asks with this key. A key that is not UTF-8 is nobody's.
+pub fn actor_of<D: Desk>(desk: &D, key: &[u8]) -> Option<Actor>
     ensures { (c : Cluster) (b : Book) → D.stands desk.now c b → IsSound c b → result ≡ actor_of c b key.now }
 {
     desk.actor_of(str::from_utf8(key).ok()?)

@@ -4,24 +4,30 @@ ghost use Rattle.fr_base.specs.Actors.{actor_of};
 ghost use Rattle.fr_text.specs.AnswerText.{report_of};
 ghost use Rattle.fr_cli.specs.Asked.{asked_by};
 ghost use Rattle.fr_cli.specs.Reading.{Stays};
-ghost use Rattle.fr_cli.specs.Asking.{IsAnswer, IsRefusedBy, Leads, Prints, import_of, import_request, is_refusal, line_of, query_of};
+ghost use Rattle.fr_cli.specs.Asking.{IsAnswer, IsForReader, IsRefusedBy, Leads, Prints, for_reader, import_of, import_request, is_refusal, line_of, query_of};
 
+use crate::answering::actor_of;
 use crate::failure::Failure;
 use crate::fault::Fault;
 use crate::lines_out::line_of;
-use crate::query::Query;
+use crate::query::Inquiry;
 use fr_base::{Actor, Answer, Ask, Body, Desk, NoMemory, Refusal, Request, Text};
 use fr_text::write_lines;
 use std::alloc::Global;
 
 /// The report of a variant, as who asks reads it.
-pub fn report_on<D: Desk>(alloc: Global, desk: &mut D, query: Query<'_>) -> Result<Vec<u8>, Failure>
+pub fn report_on<D: Desk>(
+    alloc: Global,
+    desk: &mut D,
+    query: Inquiry<'_>,
+) -> Result<Vec<u8>, Failure>
     ensures falls { D.clean desk.new → D.clean desk.old }
-    ensures prints { Prints (IsAnswer (D.clean desk.new) (D.stands desk.old) (D.stands desk.new) (query_of query.entry)) report_of result }
+    ensures prints { Prints (IsForReader (IsAnswer (D.clean desk.new) (D.stands desk.old) (D.stands desk.new) (query_of query.entry))) report_of result }
     ensures stays { Stays (D.clean desk.new) (D.stands desk.old) (D.stands desk.new) }
 {
     let request = query.request(alloc)?;
-    let answer = ask_as(alloc, desk, query.reader(), request);
+    let given = ask_as(alloc, desk, query.reader(), request);
+    let answer = for_reader(given);
     if is_refusal(&answer) {
         return Err(refused(alloc, &answer));
     }
@@ -32,7 +38,7 @@ pub fn report_on<D: Desk>(alloc: Global, desk: &mut D, query: Query<'_>) -> Resu
 #[derive(Clone, Copy)]
 pub struct ImportWords<'a> {
     /// The key of who asks.
-    pub key: &'a str,
+    pub key: &'a [u8],
     /// The variant into which the file's rows go.
     pub variant: &'a str,
     /// The label under which the import is kept.
@@ -72,11 +78,11 @@ pub fn import<D: Desk>(
 }
 
 // Asks as who has the key.
-fn ask_by<D: Desk>(alloc: Global, desk: &mut D, key: &str, request: Request) -> Answer
+fn ask_by<D: Desk>(alloc: Global, desk: &mut D, key: &[u8], request: Request) -> Answer
     ensures falls { D.clean desk.new → D.clean desk.old }
     ensures answers { IsAnswer (D.clean desk.new) (D.stands desk.old) (D.stands desk.new) (λ c b. asked_by (actor_of c b key.now) request) result }
 {
-    let actor = desk.actor_of(key);
+    let actor = actor_of(desk, key);
     ask_as(alloc, desk, actor, request)
 }
 
@@ -91,6 +97,16 @@ fn ask_as<D: Desk>(alloc: Global, desk: &mut D, actor: Option<Actor>, request: R
     }
 }
 
+// The answer as a reader is told it whom the command line names. No key was given, so nobody of that name is `NoSupplier`.
+fn for_reader(answer: Answer) -> Answer
+    ensures { result ≡ for_reader answer }
+{
+    if matches!(&answer, Answer::Refused(Refusal::UnknownKey)) {
+        return Answer::Refused(Refusal::NoSupplier);
+    }
+    answer
+}
+
 // Whether the answer refuses what was asked.
 fn is_refusal(answer: &Answer) -> bool
     ensures { result ≡ is_refusal answer.now }
@@ -98,8 +114,15 @@ fn is_refusal(answer: &Answer) -> bool
     matches!(answer, Answer::Refused(_) | Answer::RefusedRow { .. })
 }
 
-/// The failure of a job that was answered so.
-pub fn refused(alloc: Global, answer: &Answer) -> Failure
+/// The failure of a job in which a reader, whom the command line names, was refused so.
+pub fn refused_reader(alloc: Global, refusal: Refusal) -> Failure
+    ensures { IsRefusedBy (for_reader (Answer.Refused refusal)) result }
+{
+    refused(alloc, &for_reader(Answer::Refused(refusal)))
+}
+
+// The failure of a job that was answered so.
+fn refused(alloc: Global, answer: &Answer) -> Failure
     ensures { IsRefusedBy answer.now result }
 {
     match line_of(alloc, answer) {

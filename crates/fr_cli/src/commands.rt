@@ -26,7 +26,9 @@ pub fn program<'a>(alloc: Global) -> Result<Command<'a>, AllocError>
         .subcommand(migrate(alloc)?)?
         .subcommand(serve(alloc)?)?
         .subcommand(ask(alloc)?)?
-        .subcommand(variants(alloc)?)?
+        .subcommand(inventory(alloc, "cluster", CLUSTER_ABOUT, CLUSTER_HELP)?)?
+        .subcommand(inventory(alloc, "variants", VARIANTS_ABOUT, VARIANTS_HELP)?)?
+        .subcommand(inventory(alloc, "nodes", NODES_ABOUT, NODES_HELP)?)?
         .subcommand(report(alloc, "grants", GRANTS_ABOUT, GRANTS_HELP)?)?
         .subcommand(report(alloc, "frames", FRAMES_ABOUT, FRAMES_HELP)?)?
         .subcommand(report(alloc, "schedule", SCHEDULE_ABOUT, SCHEDULE_HELP)?)?
@@ -141,12 +143,17 @@ fn ask<'a>(alloc: Global) -> Result<Command<'a>, AllocError>
     Ok(command)
 }
 
-fn variants<'a>(alloc: Global) -> Result<Command<'a>, AllocError>
-    ensures { IfOk result (IsReadAs app.variants) }
+fn inventory<'a>(
+    alloc: Global,
+    name: &'a str,
+    about: &'a str,
+    help: &'a str,
+) -> Result<Command<'a>, AllocError>
+    ensures { IfOk result (IsReadAs (app.inventory name.entry.now)) }
 {
-    let command = Command::new(alloc, "variants")
-        .about("Prints the variants: which there are, and which was opened from which")
-        .after_help(VARIANTS_HELP)
+    let command = Command::new(alloc, name)
+        .about(about)
+        .after_help(help)
         .arg(db(alloc))?
         .arg(supplier(alloc))?;
     Ok(command)
@@ -190,7 +197,11 @@ fn import<'a>(alloc: Global) -> Result<Command<'a>, AllocError>
         )
         .after_help(IMPORT_HELP)
         .arg(db(alloc))?
-        .arg(word(alloc, "KEY", "The supplier's key"))?
+        .arg(word(
+            alloc,
+            "KEY",
+            "The supplier's key; - takes it from standard input's first line",
+        ))?
         .arg(variant(alloc))?
         .arg(word(
             alloc,
@@ -224,7 +235,7 @@ fn explain<'a>(alloc: Global) -> Result<Command<'a>, AllocError>
         .arg(free_word(
             alloc,
             "WORD",
-            "The refusal's name or the fault's word; without it all are listed",
+            "The refusal's name or number, or the fault's word; without it all are listed",
         ))?;
     Ok(command)
 }
@@ -277,6 +288,13 @@ const VERSION: &str = "1.0\nrattle-kit-13f logic dac8208d650f15bf";
 const PROGRAM_ABOUT: &str = "\
 Plans the static segment of a FlexRay bus: a register in which an integrator grants
 slots, and each supplier places frames and packs signals of its own";
+
+const CLUSTER_ABOUT: &str = "Prints the figures of the cluster, and the suppliers";
+
+const VARIANTS_ABOUT: &str =
+    "Prints the variants: which there are, and which was opened from which";
+
+const NODES_ABOUT: &str = "Prints the nodes of the suppliers";
 
 const GRANTS_ABOUT: &str = "Prints a variant's grants: which node holds which slot and channel";
 
@@ -331,6 +349,22 @@ standard output, once the file has what it changes. Empty lines are skipped.
 
 Example:
   slotplan ask car.db < changes.txt";
+
+const CLUSTER_HELP: &str = "\
+A line for each figure of the cluster file, with its key; then a line for each supplier.
+With --supplier the last line is this supplier.
+
+Example:
+  slotplan cluster car.db
+  slotplan cluster car.db --supplier s1";
+
+const NODES_HELP: &str = "\
+Each line: node, supplier. With --supplier its own nodes are shown, and the last is left
+out.
+
+Example:
+  slotplan nodes car.db
+  slotplan nodes car.db --supplier s1";
 
 const VARIANTS_HELP: &str = "\
 Each line: name, parent, depth, and open or released. A variant that was opened empty
@@ -389,8 +423,11 @@ Example:
   slotplan picture car.db v1 --supplier s1 > s1.html";
 
 const IMPORT_HELP: &str = "\
+Other users of the machine may see a key that stands on the command line. With - for KEY
+it is read from standard input, whose first line it is.
+
 Example:
-  slotplan import car.db supplier01 v1 week47 placements.csv";
+  slotplan import car.db - v1 week47 placements.csv < key.txt";
 
 const CHECK_HELP: &str = "\
 Example:

@@ -12,9 +12,14 @@ use fr_desks::{Left, file_desk};
 use fr_text::read_config;
 use sqlite::{Leftover, Start};
 use std::alloc::Global;
+use std::fs::OpenOptions;
+use std::os::unix::fs::OpenOptionsExt;
 
 /// The most bytes that a cluster file may have.
 pub const CONFIG_BYTES: usize = 1_048_576;
+
+/// The mode of a file that its owner alone may read and write.
+const OWNER_ALONE: u32 = 0o600;
 
 /// Makes the register of the cluster file at `config` in the file at `db`, and gives what is left of that.
 /// `start` says what is supposed of it.
@@ -33,7 +38,7 @@ pub fn create<S: Start>(
     }
 }
 
-// Makes the register of this cluster in the file at `db`.
+// Makes the register of this cluster in the file at `db`. A file that is made for it is its owner's alone.
 fn make<S: Start>(
     rt: &HostRuntime,
     db: &str,
@@ -43,10 +48,21 @@ fn make<S: Start>(
     ensures fault { IfErr result.0 (IsNotMade (image_at S.Start) result.1) }
     ensures made { OnOk result.0 (IsLeftNew (image_at S.Start) result.1 config.now) }
 {
+    make_private(rt, db);
     match file_desk::create(rt, db, config, start) {
         Ok(files) => (Ok(()), Some(Leftover::Files(files))),
         Err((fault, left)) => (Err(Fault::Register(fault)), left),
     }
+}
+
+// Makes an empty file at a path where there is none, which nobody but its owner may read or write: a register's file
+// has all keys. The log gets the modes of the file. Where it cannot be made, the register cannot either, and that is told.
+fn make_private(rt: &HostRuntime, path: &str) {
+    let _ = OpenOptions::new()
+        .write(true)
+        .create_new(true)
+        .mode(OWNER_ALONE)
+        .open(rt, path);
 }
 
 // What the cluster file at a path says.

@@ -3,19 +3,20 @@ ghost use Rattle.std.specs.Prelude.{◌≡◌, IfOk};
 ghost use Rattle.fr_cli.specs.Explaining.{IsExplained, IsUnknown, hint};
 
 use crate::failure::Failure;
+use crate::numbers::meant;
 use fr_base::NoMemory;
 use fr_guide::{alike, explanation, overview};
 use std::alloc::Global;
 
-/// What the word means, or where none is given, each word with a line. A word that is not explained is refused,
-/// with the lines of those that begin alike.
+/// What the word means, or the refusal that has this number, or where none is given, each word with a line. A word that is not
+/// explained is refused, with the lines of those that begin alike.
 pub fn explain_word(alloc: Global, word: Option<&str>) -> Result<Vec<u8>, Failure>
     ensures { IsExplained word.entry result }
 {
     let Some(word) = word else {
         return Ok(overview(alloc)?);
     };
-    match explanation(alloc, word)? {
+    match explanation(alloc, meant(word))? {
         Some(text) => Ok(text),
         None => Err(Failure::Refused {
             line: unknown(alloc, word)?,

@@ -1,6 +1,7 @@
 //! Why a job was not done, and the word for it.
 ghost use Rattle.std.specs.Prelude.{◌≡◌};
 ghost use Rattle.fr_cli.specs.Faults.{fault_word, link_word, store_word};
+ghost use Rattle.fr_cli.specs.Performing.{of_script};
 
 use crate::script_fault::ScriptFault;
 use fr_base::NoMemory;
@@ -41,6 +42,16 @@ impl Fault {
             Fault::NoMemory => "NoMemory",
             Fault::WriteFailed => "WriteFailed",
         }
+    }
+}
+
+/// How the run of a script's lines ends, as a job.
+pub fn of_script(done: Result<(), ScriptFault>) -> Result<(), Fault>
+    ensures { result ≡ of_script done }
+{
+    match done {
+        Ok(()) => Ok(()),
+        Err(fault) => Err(Fault::Script(fault)),
     }
 }
 

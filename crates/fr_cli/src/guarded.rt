@@ -1,9 +1,12 @@
 //! A register whose files are watched: where others stand in their place, nothing is read from it or written to it.
 ghost use Rattle.std.specs.Prelude.{◌≡◌};
 ghost use Rattle.fr_answers.specs.KeptPages.{StandsWarm};
+ghost use Rattle.fr_base.specs.Book.{Book};
+ghost use Rattle.fr_base.specs.Cluster.{Cluster};
 
+use crate::lasting::Lasting;
 use crate::watch::Watch;
-use fr_base::{Actor, Answer, Ask, Desk};
+use fr_base::{Actor, Answer, Ask, Desk, Refusal};
 use fr_office::Office;
 use fr_records::Records;
 use std::alloc::Global;
@@ -13,6 +16,8 @@ use std::alloc::Global;
 pub(crate) struct Guarded<'a, R: Records> {
     office: Office<R>,
     watch: Watch<'a>,
+    // Whether the last answer was `Unavailable`.
+    has_failed: bool,
 }
 
 impl<'a, R: Records> Guarded<'a, R> {
@@ -20,20 +25,31 @@ impl<'a, R: Records> Guarded<'a, R> {
     pub fn new(office: Office<R>, watch: Watch<'a>) -> Guarded<'a, R>
         ensures { result.office ≡ office }
     {
-        Guarded { office, watch }
+        Guarded {
+            office,
+            watch,
+            has_failed: false,
+        }
     }
 
     /// The office.
     pub fn into_office(self) -> Office<R>
         ensures { result ≡ self.entry.office }
     {
-        let Guarded { office, watch: _ } = self;
+        let Guarded {
+            office,
+            watch: _,
+            has_failed: _,
+        } = self;
         office
     }
 
-    /// Whether the files at the register's path are those that it left there.
-    pub fn holds(&self) -> bool {
-        self.watch.holds()
+    // Whether the register tells its variants. One that a fault has shut tells nothing any more.
+    fn tells(&mut self, alloc: Global) -> bool
+        ensures falls { R.clean self.new.office.records → R.clean self.old.office.records }
+        ensures stays { R.clean self.new.office.records → (c : Cluster) (b : Book) → StandsWarm R.stands self.old.office c b → StandsWarm R.stands self.new.office c b }
+    {
+        self.office.variants(alloc, &Actor::Integrator).is_ok()
     }
 }
 
@@ -52,6 +68,21 @@ impl<R: Records> Desk for Guarded<'_, R> {
         }
         let answer = self.office.ask(alloc, ask);
         self.watch.renew();
+        self.has_failed = matches!(&answer, Answer::Refused(Refusal::Unavailable));
         answer
+    }
+}
+
+// It comes to an end where other files stand in the place of its own; or where it was `Unavailable` and does not even
+// tell its variants, since a fault has shut it.
+impl<R: Records> Lasting for Guarded<'_, R> {
+    fn lasts(&mut self, alloc: Global) -> bool {
+        if !self.watch.holds() {
+            return false;
+        }
+        if !self.has_failed {
+            return true;
+        }
+        self.tells(alloc)
     }
 }

@@ -1,25 +1,29 @@
 //! Requests that come in on a reader, each answered before the next one is awaited.
-ghost use Rattle.std.specs.Prelude.{◌≡◌, ◌⊎◌, ◌++◌, IfErr, OnOk};
+ghost use Rattle.std.specs.Prelude.{◌≡◌, ◌⊎◌, ◌≤◌, ◌++◌, vec_len, IfErr, OnOk};
 ghost use Rattle.std.specs.Io.KnownBytes.{IsAtEnd};
-ghost use Rattle.fr_cli.specs.Incoming.{HasAnswered, HasHeard};
-ghost use Rattle.fr_cli.specs.Script.{HasNo};
+ghost use Rattle.fr_cli.specs.Incoming.{EndsAsking, HasAnswered, HasAsked, HasHeard};
+ghost use Rattle.fr_cli.specs.Script.{HasNo, request_lines};
 ghost use Rattle.fr_cli.specs.ScriptFault.{script_fault_of};
 ghost use Rattle.fr_cli.specs.declared.input.InputFault.{InputFault};
 
 use crate::answering::write_answers;
-use crate::input::{PIECE_BYTES, SCRIPT_BYTES, SCRIPT_READS, try_again};
-use crate::lines::split_once;
+use crate::input::{PIECE_BYTES, SCRIPT_BYTES, SCRIPT_READS, append, try_again};
+use crate::lasting::Lasting;
+use crate::lines::{RequestLines, split_once};
 use crate::script_fault::ScriptFault;
-use fr_base::Desk;
 use fr_http::Output;
 use std::alloc::Global;
 use std::io::{Read, Write};
 
+/// How many bytes a line has at most, without its line feed. Its JSON takes some hundred times as much memory.
+const LINE_BYTES: usize = 1_048_576;
+
 /// Answers requests that come in, a line each, in order: the answer to a line is written before more than
-/// what came with it is read. All lines are answered; or a fault ends it, and what was answered stays. The
-/// bounds are those of a script: [`SCRIPT_BYTES`] bytes and [`SCRIPT_READS`] reads. A line that has no end
+/// what came with it is read. All lines are answered; or a fault ends it, and what was answered stays. It ends
+/// with `Unavailable` behind the answer after which the register has come to an end. The bounds are those of a script,
+/// [`SCRIPT_BYTES`] bytes and [`SCRIPT_READS`] reads, and [`LINE_BYTES`] for each line. A line that has no end
 /// when the bounds are met or a read fails is not answered.
-pub fn answer_input<D: Desk, R: Read, W: Write>(
+pub fn answer_input<D: Lasting, R: Read, W: Write>(
     alloc: Global,
     desk: &mut D,
     reader: &mut R,
@@ -34,7 +38,7 @@ pub fn answer_input<D: Desk, R: Read, W: Write>(
 }
 
 // Answers what the reader gives, piece by piece.
-fn answer_pieces<D: Desk, R: Read, W: Write>(
+fn answer_pieces<D: Lasting, R: Read, W: Write>(
     alloc: Global,
     desk: &mut D,
     reader: &mut R,
@@ -51,7 +55,7 @@ fn answer_pieces<D: Desk, R: Read, W: Write>(
     let mut piece = [0u8; PIECE_BYTES];
     for _ in 0..SCRIPT_READS {
         match reader.read(&mut piece) {
-            Ok(0) => return write_answers(alloc, desk, &begun, output),
+            Ok(0) => return answer_requests(alloc, desk, &begun, output),
             Ok(n) => {
                 room = room.checked_sub(n).ok_or(ScriptFault::TooLong)?;
                 answer_piece(alloc, desk, &mut begun, &piece[..n], output)?;
@@ -64,27 +68,52 @@ fn answer_pieces<D: Desk, R: Read, W: Write>(
 
 // Answers each line that the piece ends, the first of which was begun before. What follows the last of them
 // begins the next line. What is begun has no line's end in it, before and after.
-fn answer_piece<D: Desk, W: Write>(
+fn answer_piece<D: Lasting, W: Write>(
     alloc: Global,
     desk: &mut D,
     begun: &mut Vec<u8>,
     piece: &[u8],
     output: &mut Output<'_, W>,
 ) -> Result<(), ScriptFault>
-    requires { HasNo 10 begun.old.items }
+    requires open_ended { HasNo 10 begun.old.items }
+    requires short { vec_len begun.old ≤ LINE_BYTES }
+    ensures short { OnOk result (vec_len begun.new ≤ LINE_BYTES) }
     ensures falls { D.clean desk.new → D.clean desk.old }
     ensures heard { HasHeard (D.clean desk.new) (D.stands desk.old) (D.stands desk.new) (begun.old.items ++ piece.now) begun.new.items
         (W.contents output.old.writer.now) (W.contents output.new.writer.now) result }
-    ensures faults { IfErr result (λ fault. (fault ≡ ScriptFault.NoMemory) ⊎ (fault ≡ ScriptFault.WriteFailed)) }
+    ensures faults { IfErr result (λ fault. (fault ≡ ScriptFault.TooLong) ⊎ EndsAsking fault) }
     ensures same { output.new.writer.ghost_name ≡ output.old.writer.ghost_name }
 {
     let mut rest = piece;
     while let Some((line, after)) = split_once(rest, b'\n') {
-        begun.extend_from_slice(line)?;
+        append(begun, line, LINE_BYTES)?;
         begun.extend_from_slice(b"\n")?;
-        write_answers(alloc, desk, begun, output)?;
+        answer_requests(alloc, desk, begun, output)?;
         begun.clear();
         rest = after;
     }
-    Ok(begun.extend_from_slice(rest)?)
+    Ok(append(begun, rest, LINE_BYTES)?)
+}
+
+// Answers the requests, and sees that more may be asked. Where they are none, nothing was asked, and that is not looked at.
+fn answer_requests<D: Lasting, W: Write>(
+    alloc: Global,
+    desk: &mut D,
+    requests: &[u8],
+    output: &mut Output<'_, W>,
+) -> Result<(), ScriptFault>
+    ensures falls { D.clean desk.new → D.clean desk.old }
+    ensures asked { HasAsked (D.clean desk.new) (D.stands desk.old) (D.stands desk.new) (request_lines requests.now)
+        (W.contents output.old.writer.now) (W.contents output.new.writer.now) result }
+    ensures same { output.new.writer.ghost_name ≡ output.old.writer.ghost_name }
+{
+    write_answers(alloc, desk, requests, output)?;
+    if RequestLines::new(requests).next().is_none() {
+        return Ok(());
+    }
+    if desk.lasts(alloc) {
+        Ok(())
+    } else {
+        Err(ScriptFault::Unavailable)
+    }
 }

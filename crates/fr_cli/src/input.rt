@@ -1,10 +1,12 @@
 //! A whole input, read within bounds.
-ghost use Rattle.std.specs.Prelude.{◌≡◌, ◌↔◌, ℕ, List, ◌+◌, ◌<◌, ◌≤◌, ◌++◌, length, vec_len, IfSome, IfOk, IfErr, OnOk, IsErrOf, IsOk};
+ghost use Rattle.std.specs.Prelude.{◌≡◌, ◌↔◌, ◌⊎◌, ℕ, List, ◌+◌, ◌<◌, ◌≤◌, ◌++◌, length, vec_len, IfSome, IfOk, IfErr, OnOk, IsErrOf, IsOk};
 ghost use Rattle.std.specs.Io.KnownBytes.{Consumes, IsAtEnd};
 ghost use Rattle.std.specs.IoError.{error_kind};
+ghost use Rattle.fr_cli.specs.Keys.{TakesLine};
 ghost use Rattle.fr_cli.specs.ScriptFault.{script_fault_of};
 ghost use Rattle.fr_cli.specs.declared.input.InputFault.{InputFault};
 
+use crate::lines::split_once;
 use crate::script_fault::ScriptFault;
 use fr_base::NoMemory;
 use std::alloc::Global;
@@ -109,6 +111,34 @@ pub fn read_within<R: Read>(
     Err(InputFault::TooManyReads)
 }
 
+/// Reads an input until its first line has ended or it has itself, and no more than comes with that. The faults are those of
+/// [`read_within`].
+pub fn read_line<R: Read>(
+    alloc: Global,
+    reader: &mut R,
+    bounds: ReadBounds,
+) -> Result<Vec<u8>, InputFault>
+    ensures line { IfOk result (λ front. TakesLine (R.remaining reader.old) (R.remaining reader.new) front.items) }
+    ensures bound { IfOk result (λ front. vec_len front ≤ bounds.bytes) }
+    ensures taken { (front : List ℕ) × Consumes (R.remaining reader.old) (R.remaining reader.new) front }
+{
+    let mut front = Vec::new(alloc);
+    let mut piece = [0u8; PIECE_BYTES];
+    for _ in 0..bounds.reads {
+        match reader.read(&mut piece) {
+            Ok(0) => return Ok(front),
+            Ok(n) => {
+                append(&mut front, &piece[..n], bounds.bytes)?;
+                if split_once(&front, b'\n').is_some() {
+                    return Ok(front);
+                }
+            }
+            Err(error) => try_again(&error)?,
+        }
+    }
+    Err(InputFault::TooManyReads)
+}
+
 /// Whether a read that failed so is tried again: it is, where it was interrupted.
 pub fn try_again(error: &Error) -> Result<(), InputFault>
     ensures ok { IsOk result ↔ (error_kind error.now ≡ ErrorKind.Interrupted) }
@@ -120,12 +150,13 @@ pub fn try_again(error: &Error) -> Result<(), InputFault>
     }
 }
 
-// Adds a piece to the input's end, unless the input were then longer than the bound.
-fn append(input: &mut Vec<u8>, piece: &[u8], bound: usize) -> Result<(), InputFault>
+/// Adds a piece to the input's end, unless the input were then longer than the bound.
+pub fn append(input: &mut Vec<u8>, piece: &[u8], bound: usize) -> Result<(), InputFault>
     requires { vec_len input.old ≤ bound }
     ensures ok { OnOk result (input.new.items ≡ input.old.items ++ piece.now) }
     ensures within { vec_len input.new ≤ bound }
     ensures too_long { IsErrOf result InputFault.TooLong ↔ (bound < vec_len input.old + length piece.now) }
+    ensures fault { IfErr result (λ fault. (fault ≡ InputFault.TooLong) ⊎ (fault ≡ InputFault.NoMemory)) }
 {
     if bound - input.len() < piece.len() {
         return Err(InputFault::TooLong);

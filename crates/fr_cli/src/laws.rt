@@ -1,5 +1,6 @@
 //! Laws of a script's answers, and of the words of faults: lines that are answered one after another are a run of the
-//! register, and each fault's word is explained.
+//! register, each fault's word is explained, and each refusal's number means its name.
+ghost use Rattle.fr_cli.specs.Numbers.{EachNumberIsNamed};
 ghost use Rattle.fr_cli.specs.Laws.{AnsweredLinesAreARun, AvailableAnswersAreSteps, EachFaultIsExplained};
 
 /// What answered lines ask, each as the book then stood, is a run of the register with their answers.
@@ -10,6 +11,11 @@ pub fn answered_lines_are_a_run()
 /// Lines of which none is answered `Unavailable` are answered by the register's steps, one after another.
 pub fn available_answers_are_steps()
     ensures { AvailableAnswersAreSteps }
+{}
+
+/// Each refusal's number means its name, where it is to be explained.
+pub fn each_number_is_named()
+    ensures { EachNumberIsNamed }
 {}
 
 /// Each word of a fault that ends a job or a connection is explained.

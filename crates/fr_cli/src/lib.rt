@@ -2,6 +2,7 @@
 #![tactic(auto)]
 
 mod answering;
+mod asked_file;
 mod asking;
 mod checking;
 mod commands;
@@ -11,12 +12,14 @@ mod failure;
 mod fault;
 mod files;
 mod guarded;
+mod imported_file;
 mod incoming;
 mod input;
+mod lasting;
 mod laws;
 mod lines;
 mod lines_out;
-mod listing;
+mod numbers;
 pub mod perform;
 mod picturing;
 mod printing;
@@ -29,7 +32,8 @@ mod watch;
 mod words;
 
 pub use incoming::answer_input;
-pub use query::Query;
+pub use lasting::Lasting;
+pub use query::Inquiry;
 pub use script::run_script;
 pub use script_fault::ScriptFault;
 pub use serving::serve_stream;

@@ -5,40 +5,37 @@ ghost use Rattle.std.specs.Global.{Vec};
 ghost use Rattle.std.specs.Io.KnownBytes.{Appends, Keeps};
 ghost use Rattle.sqlite_wal.specs.Files.{image_at};
 ghost use Rattle.fr_text.specs.AnswerText.{report_of};
-ghost use Rattle.fr_cli.specs.Asking.{import_of, line_of, query_of};
+ghost use Rattle.fr_cli.specs.Asking.{IsForReader, line_of, query_of};
 ghost use Rattle.fr_cli.specs.Checking.{IsCheckedFile};
 ghost use Rattle.fr_cli.specs.Endings.{AppendsFront, IsPrinted, IsTold, Tells, status_of};
 ghost use Rattle.fr_cli.specs.Explaining.{IsExplained};
 ghost use Rattle.fr_cli.specs.Faults.{IsNotImported, IsNotMade, IsNotMigrated, IsNotReported};
 ghost use Rattle.fr_cli.specs.Incoming.{IsAsked};
-ghost use Rattle.fr_cli.specs.Listing.{AreLines, variants_for};
 ghost use Rattle.fr_cli.specs.Performing.{Says, of_script};
 ghost use Rattle.fr_cli.specs.Picturing.{plans_for};
 ghost use Rattle.fr_picture.specs.Pages.{IsPage};
 ghost use Rattle.fr_cli.specs.Queries.{named};
 ghost use Rattle.fr_cli.specs.Reading.{PrintsRead};
-ghost use Rattle.fr_cli.specs.RegisterFiles.{IsAnswerOfFile, IsMade, IsMoved, IsReadOfFile};
+ghost use Rattle.fr_cli.specs.RegisterFiles.{IsAnswerOfFile, IsImportOfFile, IsMade, IsMoved, IsReadOfFile};
 ghost use Rattle.fr_cli.specs.Runs.{IsRunOf};
 ghost use Rattle.fr_cli.specs.Serving.{IsAnnounced, IsServed};
 ghost use Rattle.fr_cli.specs.declared.failure.Failure.{Failure as Ended};
 ghost use Rattle.fr_cli.specs.declared.fault.Fault.{Fault as Word};
-ghost use Rattle.fr_cli.specs.declared.query.Query.{Query};
+ghost use Rattle.fr_cli.specs.declared.query.Inquiry.{Inquiry};
 ghost use Rattle.fr_cli.specs.declared.script_fault.ScriptFault.{ScriptFault as Early};
 
-use crate::asking::{ImportWords, import, report_on};
+use crate::asked_file::ask_file;
+use crate::asking::report_on;
 use crate::checking::check;
 use crate::creating::create;
 use crate::explaining::explain_word;
 use crate::failure::Failure;
-use crate::fault::Fault;
-use crate::files::read_front;
-use crate::incoming::answer_input;
-use crate::listing::list;
+use crate::fault::{Fault, of_script};
+use crate::imported_file::{GivenWords, import_file};
 use crate::picturing::picture;
 use crate::printing::{end, print, print_all, tell};
-use crate::query::Query;
+use crate::query::Inquiry;
 use crate::script::run_script;
-use crate::script_fault::ScriptFault;
 use crate::serving::{Service, serve};
 use crate::words::{Job, WordFault};
 use fr_desks::{Left, file_desk};
@@ -46,9 +43,6 @@ use fr_http::Output;
 use sqlite::Start;
 use std::alloc::Global;
 use std::io::{Read, Write};
-
-/// How much of an import's file is read: one byte more than an import may have.
-pub const IMPORT_BYTES: usize = 65_537;
 
 /// Does the job, and gives the status that the process ends with: 0 where it was done, 1 where the
 /// register refused it or a fault ended it. What cannot be written to `err` is lost. Beside the status it gives what is
@@ -73,14 +67,13 @@ pub fn perform<S: Start, R: Read, O: Write, E: Write>(
     ensures ask { (db : Bor (List ℕ)) → job.now ≡ Job.Ask db → (done : Result ⊤ Word) × (result.0 ≡ status_of done)
         × Tells (E.contents err.old) (E.contents err.new) done
         × IsAsked (image_at S.Start) result.1 (R.remaining input.old) (R.remaining input.new) (O.contents out.old) (O.contents out.new) done }
-    ensures variants { (db : Bor (List ℕ)) (supplier : Option (Bor (List ℕ))) → job.now ≡ Job.Variants db supplier → (done : Result (Vec ℕ) Ended) × PrintsRead (IsNotReported (image_at S.Start) result.1) (IsReadOfFile (image_at S.Start) result.1 (variants_for (named supplier))) AreLines done
-        × IsTold done (O.contents out.old) (O.contents out.new) (E.contents err.old) (E.contents err.new) result.0 }
-    ensures report { (db : Bor (List ℕ)) (query : Query) → job.now ≡ Job.Report db query → (done : Result (Vec ℕ) Ended) × Says (IsNotReported (image_at S.Start) result.1) (IsAnswerOfFile (image_at S.Start) result.1 (query_of query)) report_of done
+    ensures report { (db : Bor (List ℕ)) (query : Inquiry) → job.now ≡ Job.Report db query → (done : Result (Vec ℕ) Ended) × Says (IsNotReported (image_at S.Start) result.1) (IsForReader (IsAnswerOfFile (image_at S.Start) result.1 (query_of query))) report_of done
         × IsTold done (O.contents out.old) (O.contents out.new) (E.contents err.old) (E.contents err.new) result.0 }
     ensures picture { (db variant : Bor (List ℕ)) (supplier : Option (Bor (List ℕ))) → job.now ≡ Job.Picture db variant supplier → (done : Result (Vec ℕ) Ended) × PrintsRead (IsNotReported (image_at S.Start) result.1) (IsReadOfFile (image_at S.Start) result.1 (plans_for (named supplier) variant.now)) IsPage done
         × IsTold done (O.contents out.old) (O.contents out.new) (E.contents err.old) (E.contents err.new) result.0 }
     ensures import { (db key variant label file : Bor (List ℕ)) → job.now ≡ Job.Import db key variant label file → (body : List ℕ) × (done : Result (Vec ℕ) Ended)
-        × Says (IsNotImported (image_at S.Start) result.1) (IsAnswerOfFile (image_at S.Start) result.1 (import_of (record { key = key; variant = variant; label = label }) body)) line_of done
+        × Says (IsNotImported (image_at S.Start) result.1 key.now)
+        (IsImportOfFile (image_at S.Start) result.1 key variant label (R.remaining input.old) (R.remaining input.new) body) line_of done
         × IsTold done (O.contents out.old) (O.contents out.new) (E.contents err.old) (E.contents err.new) result.0 }
     ensures check { (config : Bor (List ℕ)) → job.now ≡ Job.Check config → (done : Result (Vec ℕ) Ended) × IsCheckedFile done
         × IsTold done (O.contents out.old) (O.contents out.new) (E.contents err.old) (E.contents err.new) result.0 }
@@ -120,10 +113,6 @@ pub fn perform<S: Start, R: Read, O: Write, E: Write>(
             let (done, left) = ask_file(rt, db, start, input, out);
             (end(done, &mut err), left)
         }
-        Job::Variants { db, supplier } => {
-            let (done, left) = list_file(rt, db, start, supplier);
-            (tell(done, out, &mut err), left)
-        }
         Job::Report { db, query } => {
             let (done, left) = report_file(rt, db, start, query);
             (tell(done, out, &mut err), left)
@@ -143,12 +132,12 @@ pub fn perform<S: Start, R: Read, O: Write, E: Write>(
             label,
             file,
         } => {
-            let words = ImportWords {
+            let words = GivenWords {
                 key,
                 variant,
                 label,
             };
-            let (done, left) = import_file(rt, db, start, words, file);
+            let (done, left) = import_file(rt, db, start, words, file, input);
             (tell(done, out, &mut err), left)
         }
         Job::Check { config } => (tell(check(rt, config), out, &mut err), None),
@@ -192,35 +181,6 @@ fn end_script<R: Read, O: Write, E: Write>(
     end(of_script(run_script(alloc, input, out)), err)
 }
 
-// Answers the requests on standard input over the register in a file.
-fn ask_file<S: Start, R: Read, O: Write>(
-    rt: &HostRuntime,
-    db: &str,
-    start: S,
-    input: &mut R,
-    out: &mut O,
-) -> (Result<(), Fault>, Left<S>)
-    ensures { IsAsked (image_at S.Start) result.1 (R.remaining input.old) (R.remaining input.new) (O.contents out.old) (O.contents out.new) result.0 }
-{
-    match file_desk::open(rt, db, start) {
-        Ok(mut desk) => {
-            let asked = answer_input(rt.alloc(), &mut desk, input, out);
-            (of_script(asked), Some(file_desk::close(desk)))
-        }
-        Err((fault, left)) => (Err(Fault::Register(fault)), left),
-    }
-}
-
-// How the run of a script's lines ends, as a job.
-fn of_script(done: Result<(), ScriptFault>) -> Result<(), Fault>
-    ensures { result ≡ of_script done }
-{
-    match done {
-        Ok(()) => Ok(()),
-        Err(fault) => Err(Fault::Script(fault)),
-    }
-}
-
 // Migrates the register in a file.
 fn migrate_file<S: Start>(rt: &HostRuntime, db: &str, start: S) -> (Result<(), Fault>, Left<S>)
     ensures fault { IfErr result.0 (IsNotMigrated (image_at S.Start) result.1) }
@@ -232,32 +192,14 @@ fn migrate_file<S: Start>(rt: &HostRuntime, db: &str, start: S) -> (Result<(), F
     }
 }
 
-// The variants of the register in a file.
-fn list_file<S: Start>(
-    rt: &HostRuntime,
-    db: &str,
-    start: S,
-    supplier: Option<&str>,
-) -> (Result<Vec<u8>, Failure>, Left<S>)
-    ensures { PrintsRead (IsNotReported (image_at S.Start) result.1) (IsReadOfFile (image_at S.Start) result.1 (variants_for (named supplier.entry))) AreLines result.0 }
-{
-    match file_desk::open(rt, db, start) {
-        Ok(mut desk) => {
-            let done = list(rt.alloc(), &mut desk, supplier);
-            (done, Some(file_desk::close(desk)))
-        }
-        Err((fault, left)) => (Err(Failure::Fault(Fault::Register(fault))), left),
-    }
-}
-
-// The report of a variant of the register in a file.
+// The report of the register in a file.
 fn report_file<S: Start>(
     rt: &HostRuntime,
     db: &str,
     start: S,
-    query: Query<'_>,
+    query: Inquiry<'_>,
 ) -> (Result<Vec<u8>, Failure>, Left<S>)
-    ensures { Says (IsNotReported (image_at S.Start) result.1) (IsAnswerOfFile (image_at S.Start) result.1 (query_of query.entry)) report_of result.0 }
+    ensures { Says (IsNotReported (image_at S.Start) result.1) (IsForReader (IsAnswerOfFile (image_at S.Start) result.1 (query_of query.entry))) report_of result.0 }
 {
     match file_desk::open(rt, db, start) {
         Ok(mut desk) => {
@@ -281,41 +223,6 @@ fn picture_file<S: Start>(
     match file_desk::open(rt, db, start) {
         Ok(mut desk) => {
             let done = picture(rt.alloc(), &mut desk, variant, supplier);
-            (done, Some(file_desk::close(desk)))
-        }
-        Err((fault, left)) => (Err(Failure::Fault(Fault::Register(fault))), left),
-    }
-}
-
-// Carries out the import of a file into the register in another.
-fn import_file<S: Start>(
-    rt: &HostRuntime,
-    db: &str,
-    start: S,
-    words: ImportWords<'_>,
-    file: &str,
-) -> (Result<Vec<u8>, Failure>, Left<S>)
-    ensures { (body : List ℕ) × Says (IsNotImported (image_at S.Start) result.1) (IsAnswerOfFile (image_at S.Start) result.1 (import_of words.entry body)) line_of result.0 }
-{
-    match read_front(rt, file, IMPORT_BYTES) {
-        Ok(body) => import_body(rt, db, start, words, &body),
-        Err(fault) => (Err(Failure::Fault(fault)), None),
-    }
-}
-
-// Carries out the import of a file with these bytes.
-fn import_body<S: Start>(
-    rt: &HostRuntime,
-    db: &str,
-    start: S,
-    words: ImportWords<'_>,
-    body: &[u8],
-) -> (Result<Vec<u8>, Failure>, Left<S>)
-    ensures { Says (IsNotImported (image_at S.Start) result.1) (IsAnswerOfFile (image_at S.Start) result.1 (import_of words.entry body.now)) line_of result.0 }
-{
-    match file_desk::open(rt, db, start) {
-        Ok(mut desk) => {
-            let done = import(rt.alloc(), &mut desk, words, body);
             (done, Some(file_desk::close(desk)))
         }
         Err((fault, left)) => (Err(Failure::Fault(Fault::Register(fault))), left),

@@ -1,24 +1,22 @@
 //! Draws the plan of a variant.
-ghost use Rattle.std.specs.Prelude.{◌≡◌, IfSome, Contains};
+ghost use Rattle.std.specs.Prelude.{◌≡◌, [], ◌∷◌, IfOk, IfSome, Contains, map};
 ghost use Rattle.fr_answers.specs.KeptPages.{StandsWarm};
 ghost use Rattle.fr_picture.specs.Pages.{IsPage};
-ghost use Rattle.fr_plans.specs.Frames.{MayRefusePlan};
-ghost use Rattle.fr_plans.specs.Reports.{Reads};
+ghost use Rattle.fr_picture.specs.Frames.{MayRefusePlan};
+ghost use Rattle.fr_picture.specs.Reports.{Reads};
 ghost use Rattle.fr_world.specs.BookEdits.{variants_in};
-ghost use Rattle.fr_cli.specs.Picturing.{IsPlan, plans_for, supplier_of};
+ghost use Rattle.fr_cli.specs.Picturing.{IsPlan, plans_for, supplier_of, suppliers_seen};
 ghost use Rattle.fr_cli.specs.Queries.{named};
 ghost use Rattle.fr_cli.specs.Reading.{IsRead, PrintsRead, Stays};
 ghost use Rattle.fr_cli.specs.declared.fault.Fault.TheVariants.{NoMemory as Lacking};
 
-use crate::asking::refused;
+use crate::asking::refused_reader;
 use crate::failure::Failure;
 use crate::query::named;
-use fr_base::{Actor, Answer, Name, Refusal};
+use fr_base::{Actor, Config, Name, NoMemory, Refusal, Supplier, VariantRow};
 use fr_office::Office;
-use fr_picture::{Plan, write_page};
-use fr_plans::{View, frames, grants, schedule};
+use fr_picture::{Plan, View, frames, grants, schedule, write_page};
 use fr_records::Records;
-use fr_world::VariantRow;
 use std::alloc::Global;
 
 /// The page of the variant's plan, as the integrator sees it, or the supplier that is named.
@@ -34,7 +32,7 @@ pub fn picture<R: Records>(
 {
     match plan_for(alloc, office, variant, named(supplier)) {
         Ok(plan) => Ok(write_page(alloc, &plan)?.into_bytes()),
-        Err(refusal) => Err(refused(alloc, &Answer::Refused(refusal))),
+        Err(refusal) => Err(refused_reader(alloc, refusal)),
     }
 }
 
@@ -69,12 +67,14 @@ fn plan_of<R: Records>(
     let cells = schedule(alloc, office, view)?;
     let frames = frames(alloc, office, view)?;
     let row = variant_row(alloc, office, view)?;
+    let suppliers = suppliers_seen(alloc, office.config(), view.reader)?;
     Ok(Plan {
         params: office.params(),
         variant: row.variant,
         parent: row.parent,
         released: row.released,
         supplier: supplier_of(view.reader),
+        suppliers,
         grants,
         cells,
         frames,
@@ -114,4 +114,32 @@ fn supplier_of(reader: Actor) -> Option<Name>
         Actor::Integrator => None,
         Actor::Supplier(supplier) => Some(supplier),
     }
+}
+
+// The suppliers that may have rows that the reader sees: all of the register, or the reader alone.
+fn suppliers_seen(alloc: Global, config: &Config, reader: Actor) -> Result<Vec<Name>, NoMemory>
+    ensures { IfOk result (λ names. names.items ≡ suppliers_seen reader config.now.suppliers) }
+{
+    match reader {
+        Actor::Integrator => names(alloc, config.suppliers()),
+        Actor::Supplier(supplier) => only(alloc, supplier),
+    }
+}
+
+fn names(alloc: Global, suppliers: &[Supplier]) -> Result<Vec<Name>, NoMemory>
+    ensures { IfOk result (λ names. names.items ≡ map (λ s. s.name) suppliers.now) }
+{
+    let mut names = Vec::new(alloc);
+    for supplier in suppliers {
+        names.push(supplier.name)?;
+    }
+    Ok(names)
+}
+
+fn only(alloc: Global, name: Name) -> Result<Vec<Name>, NoMemory>
+    ensures { IfOk result (λ names. names.items ≡ name ∷ []) }
+{
+    let mut names = Vec::new(alloc);
+    names.push(name)?;
+    Ok(names)
 }

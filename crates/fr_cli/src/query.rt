@@ -1,22 +1,20 @@
-//! A report of a variant, and who asks for it.
+//! A query of a register, and who asks it.
 ghost use Rattle.std.specs.Prelude.{◌≡◌, IfOk};
-ghost use Rattle.fr_cli.specs.Queries.{named, reader_of, report_asked, request_for};
+ghost use Rattle.fr_cli.specs.Queries.{named, reader_of, request_for};
 
-use fr_base::{Actor, Name, NoMemory, Report, Request, Text};
+use fr_base::{Actor, Name, NameReader, NoMemory, Query, Request, Text};
 use std::alloc::Global;
 
-/// A report of a variant, as the integrator reads it, or the supplier of this name.
+/// A query of a register, as the integrator asks it, or the supplier of this name.
 #[derive(Clone, Copy, PartialEq, Eq)]
-pub struct Query<'a> {
-    /// The variant's name.
-    pub variant: &'a str,
-    /// Which report of it.
-    pub report: Report<&'a str>,
+pub struct Inquiry<'a> {
+    /// What is asked.
+    pub query: Query<&'a str>,
     /// The supplier that asks; the integrator, where none is named.
     pub supplier: Option<&'a str>,
 }
 
-impl Query<'_> {
+impl Inquiry<'_> {
     /// Who asks. A text that is no name is nobody's.
     pub fn reader(self) -> Option<Actor>
         ensures { result ≡ reader_of self.entry }
@@ -28,26 +26,24 @@ impl Query<'_> {
     pub fn request(self, alloc: Global) -> Result<Request, NoMemory>
         ensures { IfOk result (λ request. request ≡ request_for self.entry) }
     {
-        Ok(Request::Query {
-            variant: Text::copy(alloc, self.variant)?,
-            report: copy(alloc, self.report)?,
-        })
+        let query = self.query.read(&Copies { alloc })?;
+        Ok(Request::Query(query))
     }
 }
 
-// The same report, its frame with a text of its own.
-fn copy(alloc: Global, report: Report<&str>) -> Result<Report<Text>, NoMemory>
-    ensures { IfOk result (λ copied. copied ≡ report_asked report.entry) }
-{
-    match report {
-        Report::Grants => Ok(Report::Grants),
-        Report::Frames => Ok(Report::Frames),
-        Report::Schedule => Ok(Report::Schedule),
-        Report::Gaps => Ok(Report::Gaps),
-        Report::Layout { frame } => {
-            let frame = Text::copy(alloc, frame)?;
-            Ok(Report::Layout { frame })
-        }
+// Copies of the names in a query.
+#[derive(Drop)]
+struct Copies {
+    alloc: Global,
+}
+
+impl<'a> NameReader<&'a str, Text, NoMemory> for Copies {
+    ghost use Rattle.std.specs.Prelude.{◌≡◌, IfOk};
+
+    ghost reads = { λ _ name result. IfOk result (λ copy. copy ≡ name.now) };
+
+    fn read_name(&self, name: &&'a str) -> Result<Text, NoMemory> {
+        Text::copy(self.alloc, name)
     }
 }
 

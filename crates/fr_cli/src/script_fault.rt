@@ -20,7 +20,8 @@ pub enum ScriptFault {
     NoSeparator,
     /// The cluster file is none.
     Config(ConfigFault),
-    /// The register in memory could not be made.
+    /// The register in memory could not be made; or one in a file has come to an end: others stand in its files' place, or a
+    /// fault has shut it.
     Unavailable,
     /// There was no memory for the script or for a line's request or answer.
     NoMemory,

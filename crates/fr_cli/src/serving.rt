@@ -10,6 +10,7 @@ ghost use Rattle.fr_http.specs.declared.fault.LinkFault.{LinkFault as Link};
 
 use crate::fault::{Fault, link_word};
 use crate::guarded::Guarded;
+use crate::lasting::Lasting;
 use crate::printing::{print, print_word};
 use crate::timed_stream::TimedStream;
 use crate::watch::Watch;
@@ -44,10 +45,16 @@ const REST_READS: u32 = 256;
 
 const REST_SECONDS: u64 = 1;
 
+/// How many connections in a row may be gone before they are accepted.
+const ACCEPT_TRIES: u32 = 1_000_000;
+
+/// The number of the system's error of a connection whose protocol failed, for which there is no `ErrorKind`.
+const EPROTO: i32 = 71;
+
 /// Serves the register in the file at `db`, one connection after another, and ends after so many
 /// connections as the service has. A connection's fault is printed, and the next one is served. Where another file stands in the
-/// place of the register's, a request is answered `Unavailable`, and the server ends so. It gives what is left of the file,
-/// closed. `start` says what is supposed of it.
+/// place of the register's, a request is answered `Unavailable`, and the server ends so; also where a fault has shut the register.
+/// It gives what is left of the file, closed. `start` says what is supposed of it.
 pub fn serve<S: Start, O: Write, E: Write>(
     rt: &HostRuntime,
     db: &str,
@@ -135,7 +142,7 @@ fn announce<O: Write>(alloc: Global, port: u16, out: &mut O) -> Result<(), Fault
     Ok(print(line.as_bytes(), &mut Output::new(out))?)
 }
 
-// Serves so many connections, or fewer, where another file stands in the place of the register's.
+// Serves so many connections, or fewer, where the register comes to an end.
 fn answer_all<R: Records, E: Write>(
     rt: &HostRuntime,
     listener: &TcpListener,
@@ -150,23 +157,41 @@ fn answer_all<R: Records, E: Write>(
     ensures same { err.new.writer.ghost_name ≡ err.old.writer.ghost_name }
 {
     for _ in 0..service.count {
-        let (stream, _) = listener.accept().map_err(|_| Fault::CannotListen)?;
-        answer_stream(rt, &stream, service.seconds, guarded, err);
-        if !guarded.holds() {
+        let stream = accept(listener)?;
+        if !answer_stream(rt, &stream, service.seconds, guarded, err) {
             return Err(Fault::Register(StoreFault::Unavailable));
         }
     }
     Ok(())
 }
 
-// Serves one connection, and tells of its fault.
-fn answer_stream<D: Desk, E: Write>(
+// The next connection. One that its client gave up before it was accepted is passed over.
+fn accept(listener: &TcpListener) -> Result<TcpStream, Fault>
+    ensures { IfErr result (λ fault. fault ≡ Fault.CannotListen) }
+{
+    for _ in 0..ACCEPT_TRIES {
+        match listener.accept() {
+            Ok((stream, _)) => return Ok(stream),
+            Err(error) if was_given_up(&error) => {}
+            Err(_) => return Err(Fault::CannotListen),
+        }
+    }
+    Err(Fault::CannotListen)
+}
+
+// Whether it is the connection that failed and not the socket on which connections come.
+fn was_given_up(error: &io::Error) -> bool {
+    error.kind() == ErrorKind::ConnectionAborted || error.raw_os_error() == Some(EPROTO)
+}
+
+// Serves one connection, and tells of its fault. The answer is whether the next one can be served.
+fn answer_stream<D: Lasting, E: Write>(
     rt: &HostRuntime,
     stream: &TcpStream,
     seconds: u32,
     desk: &mut D,
     err: &mut Output<'_, E>,
-)
+) -> bool
     ensures falls { D.clean desk.new → D.clean desk.old }
     ensures served { (end : Result ⊤ Link) × ServesOne (D.clean desk.new) (D.stands desk.old) (D.stands desk.new) end
         × TellsEach (E.contents err.old.writer.now) (E.contents err.new.writer.now) (end ∷ []) }
@@ -174,6 +199,7 @@ fn answer_stream<D: Desk, E: Write>(
 {
     let done = serve_stream(rt, stream, seconds, desk);
     tell_end(done, err);
+    desk.lasts(rt.alloc())
 }
 
 // Tells the fault of a connection, if one ended it.

@@ -2,14 +2,14 @@
 ghost use Rattle.std.specs.Prelude.{◌≡◌, codes, map, option_map, string_bytes, IfErr, IfOk, OnOk};
 ghost use Rattle.clap.specs.Walk.{first_of, rows_of};
 ghost use Rattle.clap.specs.Words.{found_of, kind_of, subcommand_rows_of};
-ghost use Rattle.fr_base.specs.Queries.{word_of};
+ghost use Rattle.fr_base.specs.Queries.{word_of, word_of_inventory};
 ghost use Rattle.fr_cli.specs.Words.{AreTaken, AskFor, HasFrame, IsFaultOf, IsJobFound, IsJobIn, IsJobOf, IsNumberIn, IsOfKind, MayRefuse};
 
 use crate::commands::{MAX_CONNECTIONS, MAX_PORT, MAX_SECONDS, program};
-use crate::query::Query;
+use crate::query::Inquiry;
 use clap::error::ErrorKind;
 use clap::{ArgMatches, Error};
-use fr_base::Report;
+use fr_base::{Inventory, Query, Report};
 use std::alloc::Global;
 
 /// What the program is to do.
@@ -38,15 +38,10 @@ pub enum Job<'a> {
     Ask {
         db: &'a str,
     },
-    /// Print the variants, as the integrator reads them, or the supplier that is named.
-    Variants {
-        db: &'a str,
-        supplier: Option<&'a str>,
-    },
-    /// Print a report of a variant.
+    /// Print a report.
     Report {
         db: &'a str,
-        query: Query<'a>,
+        query: Inquiry<'a>,
     },
     /// Draw a variant's plan, as the integrator sees it, or the supplier that is named.
     Picture {
@@ -127,7 +122,9 @@ fn named_job<'a>(name: &str, found: &ArgMatches<'a>) -> Option<Job<'a>>
         "migrate" => migrate_job(found),
         "serve" => serve_job(found),
         "ask" => ask_job(found),
-        "variants" => variants_job(found),
+        "cluster" => inventory_job(found, Inventory::Cluster),
+        "variants" => inventory_job(found, Inventory::Variants),
+        "nodes" => inventory_job(found, Inventory::Nodes),
         "grants" => report_job(found, Report::Grants),
         "frames" => report_job(found, Report::Frames),
         "schedule" => report_job(found, Report::Schedule),
@@ -177,22 +174,24 @@ fn ask_job<'a>(found: &ArgMatches<'a>) -> Option<Job<'a>>
     })
 }
 
-fn variants_job<'a>(found: &ArgMatches<'a>) -> Option<Job<'a>>
-    ensures { IsJobIn result (codes "variants") (rows_of (found_of found.now)) }
+fn inventory_job<'a>(found: &ArgMatches<'a>, inventory: Inventory) -> Option<Job<'a>>
+    ensures { IsJobIn result (word_of_inventory inventory) (rows_of (found_of found.now)) }
 {
-    Some(Job::Variants {
-        db: word(found, "DB")?,
+    let db = word(found, "DB")?;
+    let query = Inquiry {
+        query: Query::Register(inventory),
         supplier: word(found, "supplier"),
-    })
+    };
+    Some(Job::Report { db, query })
 }
 
 fn report_job<'a>(found: &ArgMatches<'a>, report: Report<&'a str>) -> Option<Job<'a>>
     ensures { HasFrame report.entry (rows_of (found_of found.now)) → IsJobIn result (word_of report.entry) (rows_of (found_of found.now)) }
 {
     let db = word(found, "DB")?;
-    let query = Query {
-        variant: word(found, "VARIANT")?,
-        report,
+    let variant = word(found, "VARIANT")?;
+    let query = Inquiry {
+        query: Query::Variant { variant, report },
         supplier: word(found, "supplier"),
     };
     Some(Job::Report { db, query })

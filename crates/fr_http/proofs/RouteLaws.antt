@@ -1,13 +1,14 @@
 -- Laws of paths and routes.
-use Rattle.std.proofs.Common.{◌≡◌, ℕ, ◌<◌, Bool, true, false, cond, List, [], ◌∷◌, take, length, refl, sym, ap, ◌∙◌, arith, Option, Some, None, Result, Ok, Err, IsUtf8, Bor, codes}
+use Rattle.std.proofs.Common.{◌≡◌, ℕ, ◌<◌, Bool, true, false, cond, List, [], ◌∷◌, take, length, map, get_or, ◌≤◌, ◌+◌, refl, sym, ap, ◌∙◌, arith, Option, Some, None, Result, Ok, Err, IsUtf8, Bor, codes}
 use Rattle.std.proofs.lemmas.Bool.{ltb-false}
-use Rattle.std.proofs.lemmas.List.{take_all}
+use Rattle.std.proofs.lemmas.List.{map-append, take_all, take_more}
+use Rattle.std.proofs.lemmas.Grind.{fold-append}
 use Rattle.std.proofs.lemmas.Str.{IsUtf8-from_ascii}
 use Rattle.std.proofs.lemmas.Str.Ascii.{IsAscii-nil, IsAscii-cons}
 use Rattle.std.proofs.lemmas.Bool.{and_parts}
 use Rattle.std.proofs.lemmas.Bool.Decides.{nat_tests}
 use Rattle.std.specs.Char.{is_ascii}
-use Rattle.std.specs.List.{before_first, list_all, position, position_or_len, slice_get, slice_split}
+use Rattle.std.specs.List.{before_first, fold, list_all, position, position_or_len, slice_get, slice_split}
 use Rattle.std.specs.Option.{option_map, unwrap_or}
 use Rattle.std.specs.Prelude.{◌==◌, is_err}
 use Rattle.std.specs.Str.{IsAscii}
@@ -16,10 +17,8 @@ use Rattle.matchit.specs.Router.{InsertsRead, RouteOf}
 use Rattle.matchit.specs.Rows.{RowsOf}
 use Rattle.matchit.specs.declared.error.InsertError.{InsertError}
 use Rattle.matchit.specs.Route.{Scan}
-use Rattle.fr_http.specs.Routes.{part, router, with_read, with_route}
+use Rattle.fr_http.specs.Routes.{part, router, table, with_read, with_route}
 use Rattle.fr_http.specs.declared.routes.Route.{Route}
-use Rattle.fr_base.specs.declared.report.Report.TheVariants.{Grants, Frames, Schedule, Gaps, Layout}
-use Rattle.fr_http.specs.declared.routes.Route.TheVariants.{Commands, Import, Query}
 
 place_of : (b : Bool) (k at : ℕ) → cond {A = Option ℕ} b (Some k) None ≡ Some at → k ≡ at
 place_of true k at e = grind (arith, e)
@@ -57,25 +56,24 @@ unfolding with_route
 inserted text route old new (Ok u) fine h = inserted_read (parse_route text) route old new h
 inserted text route old new (Err e) fine h = grind (arith, fine)
 
--- the routes, one after another, are the router
-pub built : (r0 r1 r2 r3 r4 r5 r6 r7 : RowsOf (RouteOf Route)) → r0 ≡ []
-    → r1 ≡ with_route r0 (codes "/v1/commands", Commands)
-    → r2 ≡ with_route r1 (codes "/v1/variants/{variant}/imports/{label}", Import)
-    → r3 ≡ with_route r2 (codes "/v1/variants/{variant}/grants", Query Grants)
-    → r4 ≡ with_route r3 (codes "/v1/variants/{variant}/frames", Query Frames)
-    → r5 ≡ with_route r4 (codes "/v1/variants/{variant}/schedule", Query Schedule)
-    → r6 ≡ with_route r5 (codes "/v1/variants/{variant}/gaps", Query Gaps)
-    → r7 ≡ with_route r6 (codes "/v1/variants/{variant}/frames/{frame}/layout", Query (Layout 5))
-    → r7 ≡ router
+-- a route as the code has it, behind its text
+abbrev pub entry_of : Bor (List ℕ) × Route → List ℕ × Route
+entry_of entry = (entry.0.now, entry.1)
+
+-- the routes so far, and one more
+pub one_more : (entries : List (Bor (List ℕ) × Route)) (i : ℕ) (entry : Bor (List ℕ) × Route) (old new : RowsOf (RouteOf Route)) → i < length entries
+    → old ≡ fold with_route [] (map entry_of (take i entries)) → new ≡ with_route old (entry_of (get_or entries i entry))
+    → new ≡ fold with_route [] (map entry_of (take (i + 1) entries))
+one_more entries i entry old new more were is =
+    is ∙ ap (λ r. with_route r (entry_of (get_or entries i entry))) were
+    ∙ sym (fold-append with_route [] (map entry_of (take i entries)) (entry_of (get_or entries i entry) ∷ []))
+    ∙ ap (fold with_route []) (sym (map-append entry_of (take i entries) (get_or entries i entry ∷ [])) ∙ ap (map entry_of) (sym (take_more entries i entry more)))
+
+-- all of them are the router's
+pub all_routes : (entries : List (Bor (List ℕ) × Route)) (i : ℕ) (router_now : RowsOf (RouteOf Route)) → length entries ≤ i
+    → map entry_of entries ≡ table → router_now ≡ fold with_route [] (map entry_of (take i entries)) → router_now ≡ router
 unfolding router
-built r0 r1 r2 r3 r4 r5 r6 r7 e0 e1 e2 e3 e4 e5 e6 e7 =
-    e7 ∙ ap (λ r. with_route r (codes "/v1/variants/{variant}/frames/{frame}/layout", Query (Layout 5))) (
-    e6 ∙ ap (λ r. with_route r (codes "/v1/variants/{variant}/gaps", Query Gaps)) (
-    e5 ∙ ap (λ r. with_route r (codes "/v1/variants/{variant}/schedule", Query Schedule)) (
-    e4 ∙ ap (λ r. with_route r (codes "/v1/variants/{variant}/frames", Query Frames)) (
-    e3 ∙ ap (λ r. with_route r (codes "/v1/variants/{variant}/grants", Query Grants)) (
-    e2 ∙ ap (λ r. with_route r (codes "/v1/variants/{variant}/imports/{label}", Import)) (
-    e1 ∙ ap (λ r. with_route r (codes "/v1/commands", Commands)) e0))))))
+all_routes entries i router_now all are is = is ∙ ap (λ es. fold with_route [] (map entry_of es)) (take_all i entries all) ∙ ap (fold with_route []) are
 
 now_of : (r : Option (Bor (List ℕ))) (d : Bor (List ℕ)) → (unwrap_or r d).now ≡ unwrap_or (option_map (λ x. x.now) r) d.now
 now_of None d = refl

@@ -8,27 +8,30 @@ use Rattle.fr_base.specs.Refusing.{◌>>=◌, ◌>>◌, ◌or◌, refuse◌when�
 use Rattle.fr_base.specs.declared.actor.Actor.{Actor}
 use Rattle.fr_base.specs.declared.actor.Actor.TheVariants as actor
 use Rattle.fr_base.specs.declared.answer.Answer.TheVariants as answer
+use Rattle.fr_base.specs.declared.answer.ReportRows.TheVariants as rows_of
 use Rattle.fr_base.specs.declared.channel.Channel.TheVariants as channel
 use Rattle.fr_base.specs.declared.refusal.Refusal.TheVariants as refusal
 use Rattle.fr_base.specs.declared.request.Request.TheVariants as request
 use Rattle.fr_text.specs.AnswerText.{report_of, text_of, text_of_refusal}
-use Rattle.fr_text.specs.Report.{lines_of, schedule_line}
+use Rattle.fr_text.specs.Report.{lines_of, lines_of_rows, node_line, schedule_line}
 use Rattle.fr_text.specs.Styles.{plain_lines, json_lines}
 use Rattle.fr_text.specs.Words.{right_in}
 use Rattle.fr_http.specs.Head.{HeadData, values}
-use Rattle.fr_http.specs.Routes.{part, request_by, route_of, router, with_route}
+use Rattle.fr_http.specs.Routes.{of_variant, part, request_by, route_of, router, table, with_route}
 use Rattle.fr_http.specs.Outcome.{due, interim, length_in, outcome_of, plan_of}
 use Rattle.fr_http.specs.Reply.{answer_reply, body_of, engine_reply, print, status_line}
 use Rattle.fr_http.specs.declared.fault.Rejection.TheVariants.{BadRequest, NotFound, MethodNotAllowed, LengthRequired, PayloadTooLarge, HeadTooLarge, NotImplemented}
 use Rattle.fr_http.specs.declared.fault.Unasked.TheVariants.{Refused, Fault}
 use Rattle.fr_http.specs.declared.fault.LinkFault.TheVariants.{Truncated}
 use Rattle.fr_http.specs.declared.method.Method.TheVariants.{Get, Post}
+use Rattle.fr_base.specs.declared.query.Inventory.TheVariants.{Cluster, Variants, Nodes}
+use Rattle.fr_base.specs.declared.query.Query.TheVariants.{Register as OfRegister, Variant as OfVariant}
 use Rattle.fr_base.specs.declared.report.Report.TheVariants.{Grants, Frames, Schedule, Gaps, Layout}
 use Rattle.fr_http.specs.declared.routes.Route.TheVariants.{Commands, Import, Query}
 
 -- what an answer unfolds to compute these definitions
 unfoldable rows : ⊤
-unfolding seek param_step scan values part request_by route_of router with_route interim due length_in outcome_of plan_of answer_reply engine_reply body_of print ◌>>=◌ ◌>>◌ ◌or◌ refuse◌when◌ report_of text_of text_of_refusal lines_of schedule_line plain_lines json_lines right_in digits
+unfolding seek param_step scan values part request_by route_of router table with_route interim due length_in outcome_of plan_of answer_reply engine_reply body_of print ◌>>=◌ ◌>>◌ ◌or◌ refuse◌when◌ report_of text_of text_of_refusal lines_of lines_of_rows node_line schedule_line plain_lines json_lines right_in digits
 rows = tt
 
 -- ---- routes
@@ -39,9 +42,15 @@ pub routes :
     codes "/v1/commands" ∷ codes "/v1/variants/v1/imports/a" ∷ codes "/v1/variants/v1/grants" ∷ codes "/v1/variants/v1/frames"
     ∷ codes "/v1/variants/v1/schedule" ∷ codes "/v1/variants/v1/gaps" ∷ codes "/v1/variants/v1/frames/f1/layout" ∷ codes "/v1/variants/1%20v/gaps" ∷ []
     )
-    ≡ Some Commands ∷ Some Import ∷ Some (Query Grants) ∷ Some (Query Frames) ∷ Some (Query Schedule) ∷ Some (Query Gaps) ∷ Some (Query (Layout 5)) ∷ Some (Query Gaps) ∷ []
+    ≡ Some Commands ∷ Some Import ∷ Some (of_variant Grants) ∷ Some (of_variant Frames) ∷ Some (of_variant Schedule) ∷ Some (of_variant Gaps) ∷ Some (of_variant (Layout 5)) ∷ Some (of_variant Gaps) ∷ []
 unfolding rows
 routes = refl
+
+pub routes_of_the_register :
+    map route_of (codes "/v1/cluster" ∷ codes "/v1/variants" ∷ codes "/v1/nodes" ∷ codes "/v1/variants/" ∷ [])
+    ≡ Some (Query (OfRegister Cluster)) ∷ Some (Query (OfRegister Variants)) ∷ Some (Query (OfRegister Nodes)) ∷ None ∷ []
+unfolding rows
+routes_of_the_register = refl
 
 pub no_routes :
     map route_of (
@@ -53,10 +62,10 @@ no_routes = refl
 
 pub requests :
     request_by Import (codes "/v1/variants/v1/imports/a") (codes "x")
-    ∷ request_by (Query Schedule) (codes "/v1/variants/v1/schedule") []
-    ∷ request_by (Query (Layout 5)) (codes "/v1/variants/v1/frames/f1/layout") []
+    ∷ request_by (of_variant Schedule) (codes "/v1/variants/v1/schedule") []
+    ∷ request_by (of_variant (Layout 5)) (codes "/v1/variants/v1/frames/f1/layout") []
     ∷ []
-    ≡ Some (request.Import (codes "v1") (codes "a") (codes "x")) ∷ Some (request.Query (codes "v1") Schedule) ∷ Some (request.Query (codes "v1") (Layout (codes "f1"))) ∷ []
+    ≡ Some (request.Import (codes "v1") (codes "a") (codes "x")) ∷ Some (request.Query (OfVariant (codes "v1") Schedule)) ∷ Some (request.Query (OfVariant (codes "v1") (Layout (codes "f1")))) ∷ []
 unfolding rows
 requests = refl
 
@@ -92,7 +101,7 @@ pub plans :
     command (length_field (codes "65536") ∷ []) ∷ command (length_field (codes "007") ∷ [])
     ∷ head (codes "GET") (codes "/v1/variants/v1/gaps?x=1") (length_field (codes "1a") ∷ []) ∷ []
     )
-    ≡ Ok (record { route = Commands; length = 65536 }) ∷ Ok (record { route = Commands; length = 7 }) ∷ Ok (record { route = Query Gaps; length = 0 }) ∷ []
+    ≡ Ok (record { route = Commands; length = 65536 }) ∷ Ok (record { route = Commands; length = 7 }) ∷ Ok (record { route = of_variant Gaps; length = 0 }) ∷ []
 unfolding rows
 plans = refl
 
@@ -117,7 +126,7 @@ who key = if same_text key (codes "supplier01") then Some (actor.Supplier (codes
 
 pub asks_schedule :
     outcome_of who (head (codes "GET") (codes "/v1/variants/v1/schedule") ((codes "Host", codes "localhost") ∷ (codes "X-Office-Key", codes "supplier01") ∷ [])) []
-    ≡ Ok (record { ask = record { actor = actor.Supplier (codes "s1"); request = request.Query (codes "v1") Schedule }; method = Get })
+    ≡ Ok (record { ask = record { actor = actor.Supplier (codes "s1"); request = request.Query (OfVariant (codes "v1") Schedule) }; method = Get })
 unfolding rows
 asks_schedule = refl
 
@@ -142,13 +151,19 @@ imports = refl
 -- ---- replies
 
 pub schedule_reply :
-    print (answer_reply Get (answer.Schedule false (record { cycle = 0; slot = 1; channel = channel.A; frame = codes "f1"; node = codes "n1"; supplier = codes "s1" } ∷ [])))
+    print (answer_reply Get (answer.Report false (rows_of.Schedule (record { cycle = 0; slot = 1; channel = channel.A; frame = codes "f1"; node = codes "n1"; supplier = codes "s1" } ∷ []))))
     ≡ codes "HTTP/1.1 200 OK\r\ncontent-type: text/plain; charset=us-ascii\r\ncontent-length: 16\r\nconnection: close\r\n\r\n00 0001 A f1 n1\n"
 unfolding rows
 schedule_reply = refl
 
+pub nodes_reply :
+    print (answer_reply Get (answer.Report true (rows_of.Nodes (record { node = codes "n1"; supplier = codes "s1" } ∷ []))))
+    ≡ codes "HTTP/1.1 200 OK\r\ncontent-type: text/plain; charset=us-ascii\r\ncontent-length: 6\r\nconnection: close\r\n\r\nn1 s1\n"
+unfolding rows
+nodes_reply = refl
+
 pub empty_reply :
-    print (answer_reply Get (answer.Gaps true []))
+    print (answer_reply Get (answer.Report true (rows_of.Gaps [])))
     ≡ codes "HTTP/1.1 200 OK\r\ncontent-type: text/plain; charset=us-ascii\r\ncontent-length: 0\r\nconnection: close\r\n\r\n"
 unfolding rows
 empty_reply = refl

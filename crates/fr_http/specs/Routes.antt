@@ -9,6 +9,10 @@ use Rattle.matchit.specs.Router.{RouteOf, route_from}
 use Rattle.matchit.specs.Rows.{RowsOf}
 use Rattle.matchit.specs.Seek.{first}
 use Rattle.matchit.specs.declared.error.InsertError.{InsertError}
+use Rattle.fr_base.specs.QueryNames.{query_with}
+use Rattle.fr_base.specs.declared.query.Inventory.{Inventory}
+use Rattle.fr_base.specs.declared.query.Inventory.TheVariants.{Cluster, Variants, Nodes}
+use Rattle.fr_base.specs.declared.query.Query.TheVariants.{Register as OfRegister, Variant as OfVariant}
 use Rattle.fr_base.specs.declared.report.Report.{Report}
 use Rattle.fr_base.specs.declared.report.Report.TheVariants.{Grants, Frames, Schedule, Gaps, Layout}
 use Rattle.fr_base.specs.declared.request.Request.{Request}
@@ -30,16 +34,27 @@ method_of Commands = Post
 method_of Import = Post
 method_of (Query asked) = Get
 
+-- what the register holds
+abbrev pub of_register : Inventory → Route
+of_register inventory = Query (OfRegister inventory)
+
+-- a report of a variant, whose name is the part of the path after three slashes
+abbrev pub of_variant : Report ℕ → Route
+of_variant report = Query (OfVariant 3 report)
+
 -- the routes; a frame's name is the part of the path after five slashes
-abbrev pub table : List (List ℕ × Route)
+unfoldable pub table : List (List ℕ × Route)
 table =
     (codes "/v1/commands", Commands)
+    ∷ (codes "/v1/cluster", of_register Cluster)
+    ∷ (codes "/v1/variants", of_register Variants)
+    ∷ (codes "/v1/nodes", of_register Nodes)
     ∷ (codes "/v1/variants/{variant}/imports/{label}", Import)
-    ∷ (codes "/v1/variants/{variant}/grants", Query Grants)
-    ∷ (codes "/v1/variants/{variant}/frames", Query Frames)
-    ∷ (codes "/v1/variants/{variant}/schedule", Query Schedule)
-    ∷ (codes "/v1/variants/{variant}/gaps", Query Gaps)
-    ∷ (codes "/v1/variants/{variant}/frames/{frame}/layout", Query (Layout 5))
+    ∷ (codes "/v1/variants/{variant}/grants", of_variant Grants)
+    ∷ (codes "/v1/variants/{variant}/frames", of_variant Frames)
+    ∷ (codes "/v1/variants/{variant}/schedule", of_variant Schedule)
+    ∷ (codes "/v1/variants/{variant}/gaps", of_variant Gaps)
+    ∷ (codes "/v1/variants/{variant}/frames/{frame}/layout", of_variant (Layout 5))
     ∷ []
 
 -- one more route, as `matchit` reads its text and keeps it
@@ -70,16 +85,8 @@ route_of path = if list_all is_ascii path then matched path else None
 unfoldable pub part : ℕ → List ℕ → List ℕ
 part n path = unwrap_or (slice_get (slice_split (λ b. b == 47) path) n) []
 
--- the report, with the name of its frame, if it is of one
-abbrev pub report_in : List ℕ → Report ℕ → Report (List ℕ)
-report_in path Grants = Grants
-report_in path Frames = Frames
-report_in path Schedule = Schedule
-report_in path Gaps = Gaps
-report_in path (Layout slashes) = Layout (part slashes path)
-
 -- the request for a route: its names are parts of the path, and a command's text or an import's file is the body
 unfoldable pub request_by : Route → List ℕ → List ℕ → Option Request
 request_by Commands path body = request_of body
 request_by Import path body = Some (request.Import (part 3 path) (part 5 path) body)
-request_by (Query asked) path body = Some (request.Query (part 3 path) (report_in path asked))
+request_by (Query asked) path body = Some (request.Query (query_with (λ slashes. part slashes path) asked))

@@ -1,13 +1,13 @@
 //! Makes what is asked of a head and a body: the request, and who asks it.
 ghost use Rattle.std.specs.Prelude.{◌≡◌, IfOk};
 ghost use Rattle.fr_http.specs.Asking.{FindsActor, MakesCommand, MakesRequest, unasked_by};
-ghost use Rattle.fr_http.specs.Routes.{part, report_in};
+ghost use Rattle.fr_http.specs.Routes.{part};
 
 use crate::fault::{LinkFault, Unasked};
 use crate::head::Received;
 use crate::plan::Plan;
 use crate::routes::{Route, part};
-use fr_base::{Actor, Body, Desk, NoMemory, Refusal, Report, Request, Text};
+use fr_base::{Actor, Body, Desk, NameReader, NoMemory, Refusal, Request, Text};
 use fr_text::read_command;
 use std::alloc::Global;
 use std::str;
@@ -20,14 +20,17 @@ pub(crate) fn request(alloc: Global, plan: &Plan<'_>, body: &[u8]) -> Result<Req
     match plan.route {
         Route::Commands => command(alloc, body),
         Route::Import => Ok(Request::Import {
-            variant: name(alloc, plan, 3)?,
-            label: name(alloc, plan, 5)?,
+            variant: name(alloc, plan.path, 3)?,
+            label: name(alloc, plan.path, 5)?,
             body: Body::copy(alloc, body)?,
         }),
-        Route::Query(asked) => Ok(Request::Query {
-            variant: name(alloc, plan, 3)?,
-            report: report(alloc, plan, asked)?,
-        }),
+        Route::Query(asked) => {
+            let names = PathNames {
+                alloc,
+                path: plan.path,
+            };
+            Ok(Request::Query(asked.read(&names)?))
+        }
     }
 }
 
@@ -41,27 +44,30 @@ fn command(alloc: Global, body: &[u8]) -> Result<Request, Unasked>
     }
 }
 
-// The report, with the name of its frame, which the path has.
-fn report(alloc: Global, plan: &Plan<'_>, asked: Report<usize>) -> Result<Report<Text>, NoMemory>
-    ensures { IfOk result (λ report. report ≡ report_in plan.now.path.now asked) }
-{
-    match asked {
-        Report::Grants => Ok(Report::Grants),
-        Report::Frames => Ok(Report::Frames),
-        Report::Schedule => Ok(Report::Schedule),
-        Report::Gaps => Ok(Report::Gaps),
-        Report::Layout { frame } => {
-            let frame = name(alloc, plan, frame)?;
-            Ok(Report::Layout { frame })
-        }
+// The names in a path.
+#[derive(Drop)]
+struct PathNames<'a> {
+    alloc: Global,
+    path: &'a str,
+}
+
+// A name is told by how many slashes of the path stand before it.
+impl NameReader<usize, Text, NoMemory> for PathNames<'_> {
+    ghost use Rattle.std.specs.Prelude.{◌≡◌, IfOk};
+    ghost use Rattle.fr_http.specs.Routes.{part};
+
+    ghost reads = { λ names slashes result. IfOk result (λ text. text ≡ part slashes names.path.now) };
+
+    fn read_name(&self, slashes: &usize) -> Result<Text, NoMemory> {
+        name(self.alloc, self.path, *slashes)
     }
 }
 
 // The name that stands after so many slashes of the path.
-fn name(alloc: Global, plan: &Plan<'_>, slashes: usize) -> Result<Text, NoMemory>
-    ensures { IfOk result (λ text. text ≡ part slashes plan.now.path.now) }
+fn name(alloc: Global, path: &str, slashes: usize) -> Result<Text, NoMemory>
+    ensures { IfOk result (λ text. text ≡ part slashes path.now) }
 {
-    Text::copy(alloc, part(plan.path, slashes))
+    Text::copy(alloc, part(path, slashes))
 }
 
 // Why nothing is asked where a command's text is refused: for want of memory, or because it is none.

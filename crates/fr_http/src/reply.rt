@@ -105,13 +105,7 @@ fn status_of_answer(answer: &Answer) -> StatusCode
     match answer {
         Answer::Refused(refusal) => status_of_refusal(refusal),
         Answer::RefusedRow { .. } => StatusCode::UNPROCESSABLE_ENTITY,
-        Answer::Done
-        | Answer::Imported { .. }
-        | Answer::Grants { .. }
-        | Answer::Frames { .. }
-        | Answer::Schedule { .. }
-        | Answer::Gaps { .. }
-        | Answer::Layout { .. } => StatusCode::OK,
+        Answer::Done | Answer::Imported { .. } | Answer::Report { .. } => StatusCode::OK,
     }
 }
 

@@ -1,12 +1,12 @@
 //! The routes of requests.
-ghost use Rattle.std.specs.Prelude.{◌≡◌, ◌==◌, if◌then◌else◌, IfOk, OnOk, Some, None};
+ghost use Rattle.std.specs.Prelude.{◌≡◌, ◌==◌, if◌then◌else◌, map, IfOk, OnOk, Some, None};
 ghost use Rattle.std.specs.Char.{is_ascii};
 ghost use Rattle.std.specs.List.{list_all, position};
 ghost use Rattle.std.specs.Option.{option_map};
-ghost use Rattle.fr_http.specs.Routes.{matched, method_of, part, path_of, router, with_route};
+ghost use Rattle.fr_http.specs.Routes.{matched, method_of, of_register, of_variant, part, path_of, router, table, with_route};
 
 use crate::method::Method;
-use fr_base::{NoMemory, Report};
+use fr_base::{Inventory, NoMemory, Query, Report};
 use matchit::Router;
 use std::alloc::{AllocError, Global};
 use std::str;
@@ -18,8 +18,8 @@ pub enum Route {
     Commands,
     /// The body is an import's file.
     Import,
-    /// A report of a variant. A frame is named by how many slashes of the path stand before its name.
-    Query(Report<usize>),
+    /// A query. Each name in it is said by how many slashes of the path stand before it.
+    Query(Query<usize>),
 }
 
 impl Route {
@@ -80,42 +80,53 @@ fn is_ascii(bytes: &[u8]) -> bool
     bytes.iter().all(|byte| byte.is_ascii())
 }
 
+// What the register holds.
+fn of_register(inventory: Inventory) -> Route
+    ensures { result ≡ of_register inventory }
+{
+    Route::Query(Query::Register(inventory))
+}
+
+// A report of a variant, whose name stands behind three slashes of the path.
+fn of_variant(report: Report<usize>) -> Route
+    ensures { result ≡ of_variant report }
+{
+    Route::Query(Query::Variant { variant: 3, report })
+}
+
+// The routes, each behind the text of the paths that match it.
+#[tactic(auto, unfolding(crate::specs::Routes::table))]
+fn routes() -> [(&'static str, Route); 10]
+    ensures { map (λ entry. (entry.0.now, entry.1)) result ≡ table }
+{
+    [
+        ("/v1/commands", Route::Commands),
+        ("/v1/cluster", of_register(Inventory::Cluster)),
+        ("/v1/variants", of_register(Inventory::Variants)),
+        ("/v1/nodes", of_register(Inventory::Nodes)),
+        ("/v1/variants/{variant}/imports/{label}", Route::Import),
+        ("/v1/variants/{variant}/grants", of_variant(Report::Grants)),
+        ("/v1/variants/{variant}/frames", of_variant(Report::Frames)),
+        (
+            "/v1/variants/{variant}/schedule",
+            of_variant(Report::Schedule),
+        ),
+        ("/v1/variants/{variant}/gaps", of_variant(Report::Gaps)),
+        (
+            "/v1/variants/{variant}/frames/{frame}/layout",
+            of_variant(Report::Layout { frame: 5 }),
+        ),
+    ]
+}
+
 // The router that has the routes.
 fn router(alloc: Global) -> Result<Router<Route>, NoMemory>
     ensures { IfOk result (λ made. made ≡ router) }
 {
     let mut router = Router::new(alloc);
-    add(&mut router, "/v1/commands", Route::Commands)?;
-    add(
-        &mut router,
-        "/v1/variants/{variant}/imports/{label}",
-        Route::Import,
-    )?;
-    add(
-        &mut router,
-        "/v1/variants/{variant}/grants",
-        Route::Query(Report::Grants),
-    )?;
-    add(
-        &mut router,
-        "/v1/variants/{variant}/frames",
-        Route::Query(Report::Frames),
-    )?;
-    add(
-        &mut router,
-        "/v1/variants/{variant}/schedule",
-        Route::Query(Report::Schedule),
-    )?;
-    add(
-        &mut router,
-        "/v1/variants/{variant}/gaps",
-        Route::Query(Report::Gaps),
-    )?;
-    add(
-        &mut router,
-        "/v1/variants/{variant}/frames/{frame}/layout",
-        Route::Query(Report::Layout { frame: 5 }),
-    )?;
+    for (text, route) in routes() {
+        add(&mut router, text, route)?;
+    }
     Ok(router)
 }
 

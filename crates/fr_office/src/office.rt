@@ -1,7 +1,7 @@
 //! The office of a register, which answers one request, or a list of them.
-ghost use Rattle.std.specs.Prelude.{◌≡◌, ◌<◌, [], ◌∷◌, length, take, IfOk, IfErr, MatchResult};
+ghost use Rattle.std.specs.Prelude.{◌≡◌, ◌<◌, [], ◌∷◌, None, length, take, IfOk, IfErr, MatchResult};
 ghost use Rattle.fr_base.specs.Actors.{actor_of};
-ghost use Rattle.fr_base.specs.Book.{Book};
+ghost use Rattle.fr_base.specs.Book.{Book, file_of};
 ghost use Rattle.fr_base.specs.Cluster.{Cluster};
 ghost use Rattle.fr_base.specs.Sound.{IsSound};
 ghost use Rattle.fr_answers.specs.Answering.{Answers, KeepsChange, LeavesStep};
@@ -14,14 +14,13 @@ ghost use Rattle.fr_records.specs.Held.{LeavesNoMore};
 mod stored;
 
 use fr_answers::{Stopped, Warm, answer, decline, list_variants, run};
-use fr_base::{Actor, Answer, Ask, Desk, Params, Refusal};
+use fr_base::{Actor, Answer, Ask, Config, Desk, Params, Refusal, VariantRow};
 use fr_records::Records;
-use fr_world::VariantRow;
 use std::alloc::Global;
 use std::marker::Model;
 
-/// The office of a register, which answers requests from its records. It keeps pages of them in memory, of
-/// at most twice [`MAX_BYTES`](fr_answers::MAX_BYTES), and none that is stale.
+/// The office of a register, which answers requests from its records. It keeps pages of them in memory, the one that
+/// was used last and others of at most twice [`MAX_BYTES`](fr_answers::MAX_BYTES), and none that is stale.
 pub struct Office<R: Records> {
     warm: Warm<R>,
 }
@@ -58,7 +57,7 @@ impl<R: Records> Desk for Office<R> {
 impl<R: Records> Office<R> {
     /// The office of the register that has these records. No page is kept yet.
     pub fn new(alloc: Global, records: R) -> Office<R>
-        ensures value { result ≡ record { records = records; pages = record { recent = []; earlier = [] }; counts = [] } }
+        ensures value { result ≡ record { records = records; pages = record { lent = None; recent = []; earlier = [] }; counts = [] } }
         ensures stands { (c : Cluster) (b : Book) → R.stands records c b → StandsWarm R.stands result c b }
     {
         Office {
@@ -110,6 +109,13 @@ impl<R: Records> Office<R> {
         ensures { (c : Cluster) (b : Book) → StandsWarm R.stands self.now c b → result ≡ c.params }
     {
         self.warm.config().params()
+    }
+
+    /// What a cluster file says of the register's cluster now: the suppliers are those that are there.
+    pub fn config(&self) -> &Config
+        ensures { (c : Cluster) (b : Book) → StandsWarm R.stands self.now c b → result.now ≡ file_of c b }
+    {
+        self.warm.config()
     }
 
     /// The variants of the register, by name, as who asks is told: all of them, since they are common to all suppliers.

@@ -1,3 +1,10 @@
+pub mod RectangleLemmas
+pub mod ColumnLemmas
+pub mod MarkLemmas
+pub mod LaneLemmas
 pub mod PageLemmas
+pub mod NumberLemmas
 pub mod RunLemmas
 pub mod StripLemmas
+pub mod ReportLaws
+pub mod FrameLaws

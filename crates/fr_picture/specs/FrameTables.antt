@@ -1,13 +1,13 @@
--- Table of frames: when frames are in order, the worst first. The text of a frame's row: its names, placements,
--- greatest gap, and its payload.
+-- Table of frames: when frames are in order, the worst first. The text of a frame's row: its number in this order, its
+-- names, placements, greatest gap, and its payload.
 use Rattle.std.specs.Prelude.{ℕ, ◌-◌, ◌^◌, List, [], ◌∷◌, ◌++◌, codes, decimal, Option, Some, None}
-use Rattle.std.specs.List.{flat_map}
+use Rattle.std.specs.List.{enumerate_from, flat_map}
 use Rattle.std.specs.List.Sorted.{IsNonDecreasingBy, IsStableByKey}
 use Rattle.std.specs.Ordering.{nat_cmp}
 use Rattle.fr_base.specs.Channels.{text_of_channels}
 use Rattle.fr_base.specs.declared.name.Name.{Name}
 use Rattle.fr_base.specs.declared.placement.Placement.{Placement}
-use Rattle.fr_picture.specs.declared.frames.DrawnFrame.{DrawnFrame}
+use Rattle.fr_picture.specs.declared.frame_table.DrawnFrame.{DrawnFrame}
 use Rattle.fr_picture.specs.declared.texts.Fixed.TheVariants.{Never}
 use Rattle.fr_picture.specs.Strips.{strip_text}
 use Rattle.fr_picture.specs.Texts.{together, fixed_text}
@@ -27,9 +27,13 @@ KeepTies old new = IsStableByKey (λ f. urgency f.gap) nat_cmp old new
 
 -- ---- its text
 
+-- the frame's number, by which it is found
+unfoldable pub row_start : ℕ → List ℕ
+row_start number = together (codes "<tr id=r" ∷ decimal number ∷ codes "><td>" ∷ decimal number ∷ [])
+
 unfoldable pub names_text : Name → Name → Name → List ℕ
 names_text frame node supplier =
-    together (codes "<tr><td>" ∷ frame ∷ codes "<td>" ∷ node ∷ codes "<td>" ∷ supplier ∷ codes "<td>" ∷ [])
+    together (codes "<td>" ∷ frame ∷ codes "<td>" ∷ node ∷ codes "<td>" ∷ supplier ∷ codes "<td>" ∷ [])
 
 -- slot, channels, base and repetition
 unfoldable pub placement_text_of : ℕ → List ℕ → ℕ → ℕ → List ℕ
@@ -50,10 +54,10 @@ unfoldable pub gap_word : Option ℕ → List ℕ
 gap_word None = fixed_text Never
 gap_word (Some gap) = number_text gap
 
--- a frame's row: its names, its placements, its greatest gap, and its payload as a strip of bits
-unfoldable pub frame_text : DrawnFrame → List ℕ
-frame_text f =
-    names_text f.row.frame f.row.node f.row.supplier ++ placements_text f.row.placements ++ gap_word f.gap ++ strip_text f.signals
+-- a frame's row: its number, its names, its placements, its greatest gap, and its payload as a strip of bits
+unfoldable pub frame_text : ℕ → DrawnFrame → List ℕ
+frame_text number f =
+    row_start number ++ names_text f.row.frame f.row.node f.row.supplier ++ placements_text f.row.placements ++ gap_word f.gap ++ strip_text f.signals
 
 unfoldable pub frames_text : List DrawnFrame → List ℕ
-frames_text frames = flat_map frame_text frames
+frames_text frames = flat_map (λ p. frame_text p.0 p.1) (enumerate_from 1 frames)

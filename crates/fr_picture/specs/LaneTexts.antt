@@ -1,46 +1,66 @@
--- Text of a lane: the slot's number, a gap, the holder's mark, and the lane's kinds.
-use Rattle.std.specs.Prelude.{ℕ, ◌%◌, ◌==◌, ◌&&◌, Bool, false, length, List, [], ◌∷◌, ◌++◌, codes, decimal, if◌then◌else◌}
+-- Text of a lane: the slot's number, a gap, the holder's mark above and below the lane, and the lane's kinds. A part of
+-- the drawing has its heading.
+use Rattle.std.specs.Prelude.{ℕ, ◌%◌, ◌==◌, ◌&&◌, Bool, false, length, List, [], ◌∷◌, ◌++◌, codes, decimal, Option, Some, None, if◌then◌else◌}
 use Rattle.std.specs.List.{flat_map}
 use Rattle.fr_base.specs.Channels.{text_of_channel}
 use Rattle.fr_base.specs.declared.answer.GrantRow.{GrantRow}
 use Rattle.fr_base.specs.declared.name.Name.{Name}
-use Rattle.fr_drawing.specs.declared.columns.Place.{Place}
-use Rattle.fr_drawing.specs.declared.columns.Scale.{Scale}
-use Rattle.fr_drawing.specs.declared.lane.Lane.{Lane}
-use Rattle.fr_drawing.specs.declared.marks.Shows.{Shows}
-use Rattle.fr_drawing.specs.declared.marks.Shows.TheVariants.{Nothing, Slot, Gap}
-use Rattle.fr_drawing.specs.declared.rectangle.Rectangle.{Rectangle}
-use Rattle.fr_picture.specs.declared.texts.Fixed.TheVariants.{Free, LaneEnd, TextEnd}
+use Rattle.fr_picture.specs.declared.drawing.columns.Place.{Place}
+use Rattle.fr_picture.specs.declared.drawing.columns.Scale.{Scale}
+use Rattle.fr_picture.specs.declared.drawing.lane.Lane.{Lane}
+use Rattle.fr_picture.specs.declared.drawing.marks.Shows.{Shows}
+use Rattle.fr_picture.specs.declared.drawing.marks.Shows.TheVariants.{Nothing, Slot, Gap}
+use Rattle.fr_picture.specs.declared.drawing.rectangle.Rectangle.{Rectangle}
+use Rattle.fr_picture.specs.declared.plan.Plan.{Plan}
+use Rattle.fr_picture.specs.declared.texts.Fixed.TheVariants.{Free, GapOfNobody, GapOfOthers, LaneEnd, TextEnd}
 use Rattle.fr_picture.specs.Kinds.{rectangles_text}
 use Rattle.fr_picture.specs.Shares.{mark_text, number_of}
 use Rattle.fr_picture.specs.Texts.{together, fixed_text}
 
+-- the heading of a part of the drawing
+unfoldable pub heading_text : Name → ℕ → List ℕ
+heading_text variant first =
+    together (codes "</g></svg></div>\n<h2 id=p" ∷ decimal first ∷ codes ">Variant " ∷ variant ∷ codes ": slots from " ∷ decimal first ∷ codes " on</h2>\n" ∷ [])
+
+-- a box that scrolls, and the drawing in it, both named by the heading
+unfoldable pub box_start : ℕ → List ℕ
+box_start first =
+    together (codes "<div class=plan role=group aria-labelledby=p" ∷ decimal first ∷ codes " tabindex=0><svg role=img aria-labelledby=p" ∷ decimal first ∷ [])
+
+unfoldable pub view_text : ℕ → ℕ → List ℕ
+view_text height first = together (codes " viewBox=\"0 -4 138 " ∷ decimal height ∷ codes "\"><use href=#cycles /><g id=g" ∷ decimal first ∷ codes ">\n" ∷ [])
+
 -- a part of the drawing begins, and the one before it ends
-unfoldable pub part_text : ℕ → List ℕ
-part_text height =
-    together (codes "</svg>\n<svg class=plan viewBox=\"0 -4 138 " ∷ decimal height ∷ codes "\"><use href=#cycles />\n" ∷ [])
+unfoldable pub part_text : Name → ℕ → ℕ → List ℕ
+part_text variant height first = heading_text variant first ++ box_start first ++ view_text height first
 
-unfoldable pub opens_text : Bool → ℕ → List ℕ
-opens_text opens height = if opens then part_text height else []
+unfoldable pub opens_text : Name → ℕ → Option ℕ → List ℕ
+opens_text variant height None = []
+opens_text variant height (Some first) = part_text variant height first
 
--- a gap of one slot or of more, which nobody holds
-unfoldable pub unheld_text : ℕ → ℕ → List ℕ
-unheld_text first last =
-    if first == last then together (codes "<use href=#gap /><text class=n y=0>nobody holds " ∷ decimal first ∷ codes "</text>" ∷ [])
-    else together (codes "<use href=#gap /><text class=n y=0>nobody holds " ∷ decimal first ∷ codes " to " ∷ decimal last ∷ codes "</text>" ∷ [])
+-- a gap: nobody holds its slots, or the supplier whose page it is does not
+unfoldable pub gap_text : Option Name → List ℕ
+gap_text None = fixed_text GapOfNobody
+gap_text (Some supplier) = fixed_text GapOfOthers
+
+-- one slot or more
+unfoldable pub slots_text : ℕ → ℕ → List ℕ
+slots_text first last =
+    if first == last then together (decimal first ∷ codes "</text>" ∷ [])
+    else together (decimal first ∷ codes " to " ∷ decimal last ∷ codes "</text>" ∷ [])
 
 -- the slot's number, or a gap
-unfoldable pub shows_text : Shows → List ℕ
-shows_text Nothing = []
-shows_text (Slot n) = together (codes "<text y=-2>" ∷ decimal n ∷ codes "</text>" ∷ [])
-shows_text (Gap first last) = unheld_text first last
+unfoldable pub shows_text : Option Name → Shows → List ℕ
+shows_text viewer Nothing = []
+shows_text viewer (Slot n) = together (codes "<text y=-2>" ∷ decimal n ∷ codes "</text>" ∷ [])
+shows_text viewer (Gap first last) = gap_text viewer ++ slots_text first last
 
 unfoldable pub free_text : Shows → List ℕ
 free_text Nothing = []
 free_text (Slot n) = fixed_text Free
 free_text (Gap first last) = []
 
--- a lane that is shown, and that nobody holds
+-- a lane that is shown, and of which no grant is
 unfoldable pub ungranted_text : Shows → List GrantRow → List ℕ
 ungranted_text shows [] = free_text shows
 ungranted_text shows (g ∷ grants) = []
@@ -51,11 +71,16 @@ holder_text node supplier slot channel =
     together (codes "<title>" ∷ node ∷ codes " of " ∷ supplier ∷ codes "\n" ∷ decimal slot ∷ codes " " ∷ channel
     ∷ codes "</title><use href=#held /><text y=-1>" ∷ [])
 
-unfoldable pub grant_text : ℕ → GrantRow → List ℕ
-grant_text number g = holder_text g.node g.supplier g.slot (text_of_channel g.channel) ++ mark_text number ++ fixed_text TextEnd
+-- below the last cycle
+unfoldable pub foot_text : ℕ → List ℕ
+foot_text cycles = together (codes "</text><text y=" ∷ decimal cycles ∷ codes ">" ∷ [])
 
-unfoldable pub grants_text : List Name → List GrantRow → List ℕ
-grants_text names grants = flat_map (λ g. grant_text (number_of names g.supplier) g) grants
+unfoldable pub grant_text : ℕ → ℕ → GrantRow → List ℕ
+grant_text cycles number g =
+    holder_text g.node g.supplier g.slot (text_of_channel g.channel) ++ mark_text number ++ foot_text cycles ++ mark_text number ++ fixed_text TextEnd
+
+unfoldable pub grants_text : List Name → ℕ → List GrantRow → List ℕ
+grants_text names cycles grants = flat_map (λ g. grant_text cycles (number_of names g.supplier) g) grants
 
 -- nothing is drawn at a place inside a gap
 unfoldable pub is_bare : Shows → List GrantRow → List Rectangle → Bool
@@ -72,16 +97,16 @@ unfoldable pub start_text : ℕ → ℕ → List ℕ
 start_text colour x = together (codes "<svg class=c" ∷ decimal colour ∷ codes " x=" ∷ decimal x ∷ codes ">" ∷ [])
 
 -- what is drawn at a place, in its colour: its grant, and over it its rectangles
-unfoldable pub drawn_text : List Name → Scale → Place → List GrantRow → List Rectangle → List ℕ
-drawn_text names scale place grants rectangles =
-    start_text (colour_of names grants) place.x ++ grants_text names grants ++ shows_text place.shows ++ ungranted_text place.shows grants
-    ++ rectangles_text scale rectangles ++ fixed_text LaneEnd
+unfoldable pub drawn_text : Plan → Scale → Place → List GrantRow → List Rectangle → List ℕ
+drawn_text plan scale place grants rectangles =
+    start_text (colour_of plan.suppliers.items grants) place.x ++ grants_text plan.suppliers.items scale.cycles grants ++ shows_text plan.supplier place.shows
+    ++ ungranted_text place.shows grants ++ rectangles_text scale rectangles ++ fixed_text LaneEnd
 
 -- a lane, where there is something to draw
-unfoldable pub lane_text : List Name → Scale → Lane → List ℕ
-lane_text names scale l =
-    opens_text l.place.opens scale.height ++ (if is_bare l.place.shows l.grants.items l.rectangles.items then []
-    else drawn_text names scale l.place l.grants.items l.rectangles.items)
+unfoldable pub lane_text : Plan → Scale → Lane → List ℕ
+lane_text plan scale l =
+    opens_text plan.variant scale.height l.place.opens ++ (if is_bare l.place.shows l.grants.items l.rectangles.items then []
+    else drawn_text plan scale l.place l.grants.items l.rectangles.items)
 
-unfoldable pub lanes_text : List Name → Scale → List Lane → List ℕ
-lanes_text names scale lanes = flat_map (lane_text names scale) lanes
+unfoldable pub lanes_text : Plan → Scale → List Lane → List ℕ
+lanes_text plan scale lanes = flat_map (lane_text plan scale) lanes

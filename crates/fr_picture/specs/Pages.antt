@@ -1,5 +1,5 @@
--- Page: the text is that of the variant and the cluster's figures, a drawing of exactly its grants and cells, the
--- legend, and the table of frames.
+-- Page: the text is that of the variant and the cluster's figures, the legend, an overview, a drawing of exactly its grants
+-- and cells, the table of slots, and the index and the table of frames.
 use Rattle.std.specs.Prelude.{◌≡◌, ℕ, ◌*◌, Bool, List, [], ◌∷◌, ◌++◌, map, codes, decimal, Option, Some, None, if◌then◌else◌}
 use Rattle.std.specs.List.{flat_map, range_with_len}
 use Rattle.fr_base.specs.Channels.{text_of_channels}
@@ -8,22 +8,28 @@ use Rattle.fr_base.specs.declared.channel.Channels.TheVariants as channels
 use Rattle.fr_base.specs.declared.name.Name.{Name}
 use Rattle.fr_base.specs.declared.params.Params.{Params}
 use Rattle.fr_base.specs.declared.params.RawParams.{RawParams}
-use Rattle.fr_drawing.specs.Lanes.{IsDrawing}
-use Rattle.fr_drawing.specs.declared.columns.Scale.{Scale}
-use Rattle.fr_drawing.specs.declared.drawing.Drawing.{Drawing}
-use Rattle.fr_drawing.specs.declared.lane.Lane.{Lane}
-use Rattle.fr_picture.specs.declared.page.Plan.{Plan}
+use Rattle.fr_picture.specs.Lanes.{IsDrawing}
+use Rattle.fr_picture.specs.declared.drawing.columns.Scale.{Scale}
+use Rattle.fr_picture.specs.declared.drawing.Drawing.{Drawing}
+use Rattle.fr_picture.specs.declared.drawing.lane.Lane.{Lane}
+use Rattle.fr_picture.specs.declared.frame_index.Entry.{Entry}
+use Rattle.fr_picture.specs.declared.plan.Plan.{Plan}
 use Rattle.fr_picture.specs.declared.shares.Share.{Share}
 use Rattle.fr_picture.specs.declared.texts.Fixed.TheVariants as fixed
+use Rattle.fr_picture.specs.FrameIndexes.{IsIndex, index_text}
 use Rattle.fr_picture.specs.FrameTables.{frames_text}
 use Rattle.fr_picture.specs.LaneTexts.{lanes_text}
+use Rattle.fr_picture.specs.Overviews.{overview_text, starts_of}
 use Rattle.fr_picture.specs.Sets.{shapes_text}
-use Rattle.fr_picture.specs.Shares.{legend_text, share_of, suppliers_of}
+use Rattle.fr_picture.specs.Shares.{legend_text, share_of}
+use Rattle.fr_picture.specs.SlotTables.{slot_table_text}
 use Rattle.fr_picture.specs.Styles.{style_text}
 use Rattle.fr_picture.specs.Texts.{together, fixed_text}
 
 unfoldable pub head_text : Name → List ℕ
-head_text variant = together (codes "<!DOCTYPE html>\n<html lang=en>\n<meta charset=utf-8>\n<title>" ∷ variant ∷ codes "</title>\n<style>" ∷ [])
+head_text variant =
+    together (codes "<!DOCTYPE html>\n<html lang=en>\n<meta charset=utf-8>\n<title>" ∷ variant ∷ codes "</title>\n<style>@page{@bottom-left{content:\"Variant "
+    ∷ variant ∷ codes "\"}}" ∷ [])
 
 unfoldable pub heading_text : Name → List ℕ
 heading_text variant = together (codes "</style>\n<h1>Variant " ∷ variant ∷ codes "</h1>\n<p>" ∷ [])
@@ -41,8 +47,7 @@ state_text released = if released then codes " and is released." else codes " an
 unfoldable pub viewer_text : Option Name → List ℕ
 viewer_text None = []
 viewer_text (Some supplier) =
-    together (codes " This page shows what is " ∷ supplier
-    ∷ codes "'s alone. Where it says that nobody holds a slot, another supplier may hold it." ∷ [])
+    together (codes " This page shows what is " ∷ supplier ∷ codes "'s alone." ∷ [])
 
 unfoldable pub cycle_figures : List ℕ → RawParams → List ℕ
 cycle_figures names p =
@@ -83,27 +88,43 @@ bands_text channels.A = fixed_text fixed.BandA
 bands_text channels.B = fixed_text fixed.BandB
 bands_text channels.AB = fixed_text fixed.BandsAB
 
-unfoldable pub drawing_text : Plan → List Name → Scale → List Lane → List ℕ
-drawing_text plan names scale lanes =
+-- what a gap and a crossed lane mean: nobody holds them, or the supplier whose page it is does not
+unfoldable pub legend_end : Option Name → List ℕ
+legend_end None = fixed_text fixed.LegendEnd
+legend_end (Some supplier) = fixed_text fixed.LegendEndOfOne
+
+unfoldable pub suppliers_text : Plan → List Share → List ℕ
+suppliers_text plan shares = fixed_text fixed.LegendStart ++ legend_text shares ++ legend_end plan.supplier
+
+unfoldable pub drawing_text : Plan → Scale → List Lane → List ℕ
+drawing_text plan scale lanes =
     fixed_text fixed.ShapesStart ++ shapes_text scale ++ fixed_text fixed.NumbersStart ++ cycles_text scale.cycles ++ bands_text plan.params.channels
-    ++ lanes_text names scale lanes
+    ++ lanes_text plan scale lanes
 
-unfoldable pub tables_text : Plan → List Share → List ℕ
-tables_text plan shares =
-    fixed_text fixed.LegendStart ++ legend_text shares ++ fixed_text fixed.TableStart ++ frames_text plan.frames.items ++ fixed_text fixed.PageEnd
+-- the end of the index, and the head of the table, which each printed page repeats
+unfoldable pub frames_head : Name → List ℕ
+frames_head variant =
+    together (codes "</ul>\n<p>Frames that are never sent come first, then those with the largest gap. A placement has its slot, its channels, and its base and repetition. A gap is in macroticks. A payload has its bits from 0 on, from left to right. A signal has the bit at which it starts, and its length in bits; big order is said.</p>\n<table class=frames>\n<thead><tr><th colspan=7>Variant "
+    ∷ variant ∷ codes ": frames<tr><th>number<th>frame<th>node<th>supplier<th>placements<th>greatest gap<th>payload and signals<tbody>\n" ∷ [])
 
-unfoldable pub page_text : Plan → Drawing → List Name → List Share → List ℕ
-page_text plan d names shares = top_text plan ++ drawing_text plan names d.scale d.lanes.items ++ tables_text plan shares
+unfoldable pub frame_parts : Plan → List Entry → List ℕ
+frame_parts plan index =
+    fixed_text fixed.IndexStart ++ index_text plan.suppliers.items index ++ frames_head plan.variant ++ frames_text plan.frames.items ++ fixed_text fixed.PageEnd
 
--- the suppliers of a plan, and how full their grants are
-abbrev pub names_of : Plan → List Name
-names_of plan = suppliers_of plan.frames.items plan.grants
+unfoldable pub page_text : Plan → Drawing → List Entry → List Share → List ℕ
+page_text plan d index shares =
+    top_text plan ++ suppliers_text plan shares ++ overview_text d.scale.cycles (starts_of d.lanes.items) ++ drawing_text plan d.scale d.lanes.items
+    ++ slot_table_text plan d.scale.cycles d.lanes.items ++ frame_parts plan index
 
+-- how full the grants of the plan's suppliers are
 abbrev pub shares_of : Plan → List Share
-shares_of plan = map (share_of (names_of plan) plan.params.cycles plan.grants plan.cells) (names_of plan)
+shares_of plan = map (share_of plan.suppliers.items plan.params.cycles plan.grants plan.cells) plan.suppliers.items
 
--- The page of a plan: the text of a drawing that has exactly its grants and its cells, and of each of its suppliers and frames.
+-- The page of a plan: the text of a drawing that has exactly its grants and its cells, of an index of its frames, and of each of its
+-- suppliers, grants and frames.
 pub record IsPage (plan : Plan) (text : List ℕ) : Type 0 where
   pub drawing : Drawing
   pub drawn : IsDrawing plan.params plan.grants plan.cells drawing
-  pub is : text ≡ page_text plan drawing (names_of plan) (shares_of plan)
+  pub index : List Entry
+  pub indexed : IsIndex plan.frames.items index
+  pub is : text ≡ page_text plan drawing index (shares_of plan)

@@ -2,15 +2,25 @@
 -- lane and a gap that nobody holds.
 use Rattle.std.specs.Prelude.{ℕ, ◌+◌, ◌*◌, ◌/◌, ◌%◌, ◌==◌, List, [], ◌∷◌, ◌++◌, codes, decimal, if◌then◌else◌}
 use Rattle.std.specs.List.{flat_map, range_with_len}
-use Rattle.fr_drawing.specs.declared.columns.Scale.{Scale}
-use Rattle.fr_picture.specs.declared.texts.Fixed.TheVariants.{HeldEnd, ShapeEnd}
+use Rattle.fr_picture.specs.declared.drawing.columns.Scale.{Scale}
+use Rattle.fr_picture.specs.declared.texts.Fixed.TheVariants.{FreeStart, HeldEnd, ShapeEnd}
 use Rattle.fr_picture.specs.Kinds.{box_text}
 use Rattle.fr_picture.specs.Texts.{together, fixed_text}
+
+-- from corner to corner
+unfoldable pub cross_text : ℕ → ℕ → List ℕ
+cross_text width cycles =
+    together (codes "l" ∷ decimal width ∷ codes " " ∷ decimal cycles ∷ codes "M" ∷ decimal width ∷ codes " 0l-" ∷ decimal width ∷ codes " " ∷ decimal cycles ∷ codes "\"/>" ∷ [])
+
+-- a lane with a cross
+unfoldable pub crossed_text : ℕ → ℕ → List ℕ
+crossed_text width cycles =
+    fixed_text FreeStart ++ box_text 0 width cycles ++ cross_text width cycles
 
 -- a lane and a gap that nobody holds, and the beginning of a granted lane
 unfoldable pub empties_text : ℕ → ℕ → List ℕ
 empties_text width cycles =
-    together (codes "<rect id=free width=" ∷ decimal width ∷ codes " height=" ∷ decimal cycles ∷ codes " /><rect id=gap width=1 height=" ∷ decimal cycles
+    crossed_text width cycles ++ together (codes "<rect id=gap width=1 height=" ∷ decimal cycles
     ∷ codes " />\n<g id=held><rect width=" ∷ decimal width ∷ codes " height=" ∷ decimal cycles ∷ codes " /><path d=\"" ∷ [])
 
 -- a line across the lane's cell in this cycle

@@ -1,24 +1,15 @@
--- Suppliers of a page: the suppliers of frames and grants, each once; their numbers and marks; how many lanes each
--- holds and in how many cells it sends; the text of the legend.
-use Rattle.std.specs.Prelude.{ℕ, ◌-◌, ◌*◌, ◌/◌, ◌%◌, ◌^◌, ◌==◌, min, List, [], ◌∷◌, ◌++◌, map, count_by, codes, decimal, if◌then◌else◌}
-use Rattle.std.specs.List.{flat_map, fold, list_any, position}
+-- Suppliers of a page: their numbers and marks; how many lanes each holds and in how many cells it sends; the text of the
+-- legend.
+use Rattle.std.specs.Prelude.{ℕ, ◌-◌, ◌*◌, ◌/◌, ◌%◌, ◌^◌, ◌==◌, min, List, [], ◌∷◌, ◌++◌, count_by, codes, decimal, if◌then◌else◌}
+use Rattle.std.specs.List.{flat_map, position}
 use Rattle.std.specs.Option.{unwrap_or}
 use Rattle.fr_base.specs.Names.{same_text}
 use Rattle.fr_base.specs.declared.answer.GrantRow.{GrantRow}
 use Rattle.fr_base.specs.declared.answer.Sending.{Sending}
 use Rattle.fr_base.specs.declared.name.Name.{Name}
-use Rattle.fr_picture.specs.declared.frames.DrawnFrame.{DrawnFrame}
 use Rattle.fr_picture.specs.declared.shares.Share.{Share}
 use Rattle.fr_picture.specs.Styles.{letter_of}
 use Rattle.fr_picture.specs.Texts.{together}
-
--- the name behind the others, unless it is there
-abbrev pub with_name : List Name → Name → List Name
-with_name names name = if list_any (λ known. same_text known name) names then names else names ++ name ∷ []
-
--- the suppliers of frames and of grants, each once
-abbrev pub suppliers_of : List DrawnFrame → List GrantRow → List Name
-suppliers_of frames grants = fold with_name (fold with_name [] (map (λ f. f.row.supplier) frames)) (map (λ g. g.supplier) grants)
 
 -- how many in a hundred, rounded down; of nothing none
 abbrev pub percent : ℕ → ℕ → ℕ

@@ -1,12 +1,12 @@
 //! The rectangles of one frame in a lane, drawn as one shape with one title.
-ghost use Rattle.std.specs.Prelude.{◌≡◌, ◌+◌, ◌*◌, ◌/◌, ◌<◌, ◌++◌, ◌&&◌, nat_lt, filter, max, length, OnOk, IfOk};
+ghost use Rattle.std.specs.Prelude.{◌≡◌, ◌+◌, ◌*◌, ◌/◌, ◌<◌, ◌&&◌, nat_lt, filter, max, length, OnOk, IfOk};
 ghost use Rattle.std.specs.List.{list_any};
-ghost use Rattle.std.specs.String.{string_bytes};
 ghost use Rattle.fr_picture.specs.Kinds.{box_text, boxes_text, follows, is_again, is_kin, is_set, is_whole, kind_shape, kind_text, label_text, names_text, names_text_of, path_text, rectangle_text, rectangles_text, set_of, set_start, set_text, span_text, spans_text, within_text};
+ghost use Rattle.fr_picture.specs.Texts.{Appends};
 
+use crate::drawing::{Rectangle, Scale};
 use crate::texts::{Fixed, push_fixed};
 use fr_base::{Name, NoMemory, Sending};
-use fr_drawing::{Rectangle, Scale};
 use std::alloc::Global;
 
 // Whether the other rectangle of the lane is of the same frame.
@@ -19,8 +19,12 @@ fn is_kin(other: &Rectangle, one: &Rectangle) -> bool
         && other.first.supplier == one.first.supplier
 }
 
-// The rectangles of a lane that are of the same frame as this one.
-fn kin(alloc: Global, all: &[Rectangle], one: &Rectangle) -> Result<Vec<Rectangle>, NoMemory>
+/// The rectangles of a lane that are of the same frame as this one.
+pub(crate) fn kin(
+    alloc: Global,
+    all: &[Rectangle],
+    one: &Rectangle,
+) -> Result<Vec<Rectangle>, NoMemory>
     ensures { IfOk result (λ kind. kind.items ≡ filter (λ other. is_kin other one.now) all.now) }
 {
     let mut kind = Vec::new(alloc);
@@ -32,9 +36,9 @@ fn kin(alloc: Global, all: &[Rectangle], one: &Rectangle) -> Result<Vec<Rectangl
     Ok(kind)
 }
 
-// Whether a rectangle of the same frame stands in an earlier cycle of the lane.
+/// Whether a rectangle of the same frame stands in an earlier cycle of the lane.
 #[tactic(auto, unfolding(crate::specs::Kinds::is_again))]
-fn is_again(all: &[Rectangle], one: &Rectangle) -> bool
+pub(crate) fn is_again(all: &[Rectangle], one: &Rectangle) -> bool
     ensures { result ≡ is_again all.now one.now }
 {
     all.iter().any(|other| other.first.cycle < one.first.cycle && is_kin(other, one))
@@ -55,9 +59,9 @@ fn follows(from: u32, step: u32, height: u32, kind: &[Rectangle]) -> bool
     true
 }
 
-// The repetition, if the rectangles of one frame are just the cells of a base and this repetition.
+/// The repetition, if the rectangles of one frame are just the cells of a base and this repetition.
 #[tactic(auto, unfolding(crate::specs::Kinds::set_of, crate::specs::Kinds::is_set, crate::specs::Kinds::is_whole))]
-fn set_of(cycles: u32, base: u8, kind: &[Rectangle]) -> Option<u32>
+pub(crate) fn set_of(cycles: u32, base: u8, kind: &[Rectangle]) -> Option<u32>
     ensures { result ≡ set_of cycles base kind.now }
 {
     let count = kind.len() as u64;
@@ -83,7 +87,7 @@ pub(crate) fn push_rectangles(
     all: &[Rectangle],
     out: &mut String,
 ) -> Result<(), NoMemory>
-    ensures { OnOk result (string_bytes out.new ≡ string_bytes out.old ++ rectangles_text scale all.now) }
+    ensures { OnOk result (Appends out.old out.new (rectangles_text scale all.now)) }
 {
     for one in all {
         push_rectangle(alloc, scale, all, one, out)?;
@@ -100,7 +104,7 @@ fn push_rectangle(
     one: &Rectangle,
     out: &mut String,
 ) -> Result<(), NoMemory>
-    ensures { OnOk result (string_bytes out.new ≡ string_bytes out.old ++ rectangle_text scale all.now one.now) }
+    ensures { OnOk result (Appends out.old out.new (rectangle_text scale all.now one.now)) }
 {
     if is_again(all, one) {
         return Ok(());
@@ -117,7 +121,7 @@ fn push_kind(
     one: &Rectangle,
     out: &mut String,
 ) -> Result<(), NoMemory>
-    ensures { OnOk result (string_bytes out.new ≡ string_bytes out.old ++ kind_text scale kind.now one.now) }
+    ensures { OnOk result (Appends out.old out.new (kind_text scale kind.now one.now)) }
 {
     let repetition = set_of(scale.cycles, one.first.cycle, kind);
     push_shape(scale.width, kind, one, repetition, out)?;
@@ -132,7 +136,7 @@ fn push_shape(
     repetition: Option<u32>,
     out: &mut String,
 ) -> Result<(), NoMemory>
-    ensures { OnOk result (string_bytes out.new ≡ string_bytes out.old ++ kind_shape width kind.now one.now repetition) }
+    ensures { OnOk result (Appends out.old out.new (kind_shape width kind.now one.now repetition)) }
 {
     match repetition {
         Some(repetition) => push_set(repetition, one, out),
@@ -143,7 +147,7 @@ fn push_shape(
 // Appends the cells of a base and a repetition, which are drawn elsewhere in the page.
 #[tactic(auto, unfolding(crate::specs::Kinds::set_text))]
 fn push_set(repetition: u32, one: &Rectangle, out: &mut String) -> Result<(), NoMemory>
-    ensures { OnOk result (string_bytes out.new ≡ string_bytes out.old ++ set_text repetition one.now) }
+    ensures { OnOk result (Appends out.old out.new (set_text repetition one.now)) }
 {
     let base = one.first.cycle;
     push_set_start(repetition, base, out)?;
@@ -154,7 +158,7 @@ fn push_set(repetition: u32, one: &Rectangle, out: &mut String) -> Result<(), No
 
 #[tactic(auto, unfolding(crate::specs::Kinds::set_start))]
 fn push_set_start(repetition: u32, base: u8, out: &mut String) -> Result<(), NoMemory>
-    ensures { OnOk result (string_bytes out.new ≡ string_bytes out.old ++ set_start repetition base) }
+    ensures { OnOk result (Appends out.old out.new (set_start repetition base)) }
 {
     if base == 0 {
         write!(out, "<use href=#{repetition}>")
@@ -163,9 +167,10 @@ fn push_set_start(repetition: u32, base: u8, out: &mut String) -> Result<(), NoM
     }
 }
 
+/// Appends a base and a repetition.
 #[tactic(auto, unfolding(crate::specs::Kinds::within_text))]
-fn push_within(base: u8, repetition: u32, out: &mut String) -> Result<(), NoMemory>
-    ensures { OnOk result (string_bytes out.new ≡ string_bytes out.old ++ within_text base repetition) }
+pub(crate) fn push_within(base: u8, repetition: u32, out: &mut String) -> Result<(), NoMemory>
+    ensures { OnOk result (Appends out.old out.new (within_text base repetition)) }
 {
     write!(out, " {base}/{repetition}")
 }
@@ -173,7 +178,7 @@ fn push_within(base: u8, repetition: u32, out: &mut String) -> Result<(), NoMemo
 // Appends a frame with its node, supplier, slot and channel: the beginning of a title.
 #[tactic(auto, unfolding(crate::specs::Kinds::names_text))]
 fn push_names(cell: &Sending, out: &mut String) -> Result<(), NoMemory>
-    ensures { OnOk result (string_bytes out.new ≡ string_bytes out.old ++ names_text cell.now) }
+    ensures { OnOk result (Appends out.old out.new (names_text cell.now)) }
 {
     push_names_of(
         cell.frame,
@@ -194,7 +199,7 @@ fn push_names_of(
     channel: &str,
     out: &mut String,
 ) -> Result<(), NoMemory>
-    ensures { OnOk result (string_bytes out.new ≡ string_bytes out.old ++ names_text_of frame node supplier slot channel.now) }
+    ensures { OnOk result (Appends out.old out.new (names_text_of frame node supplier slot channel.now)) }
 {
     write!(
         out,
@@ -210,7 +215,7 @@ fn push_path(
     one: &Rectangle,
     out: &mut String,
 ) -> Result<(), NoMemory>
-    ensures { OnOk result (string_bytes out.new ≡ string_bytes out.old ++ path_text width kind.now one.now) }
+    ensures { OnOk result (Appends out.old out.new (path_text width kind.now one.now)) }
 {
     push_fixed(Fixed::PathStart, out)?;
     push_boxes(width, kind, out)?;
@@ -223,7 +228,7 @@ fn push_path(
 
 #[tactic(auto, unfolding(crate::specs::Kinds::boxes_text))]
 fn push_boxes(width: u32, kind: &[Rectangle], out: &mut String) -> Result<(), NoMemory>
-    ensures { OnOk result (string_bytes out.new ≡ string_bytes out.old ++ boxes_text width kind.now) }
+    ensures { OnOk result (Appends out.old out.new (boxes_text width kind.now)) }
 {
     for one in kind {
         push_box(u32::from(one.first.cycle), width, one.cycles, out)?;
@@ -234,15 +239,15 @@ fn push_boxes(width: u32, kind: &[Rectangle], out: &mut String) -> Result<(), No
 /// Appends a rectangle as part of a path: in which cycle it begins, how wide and how high it is.
 #[tactic(auto, unfolding(crate::specs::Kinds::box_text))]
 pub(crate) fn push_box(y: u32, width: u32, height: u32, out: &mut String) -> Result<(), NoMemory>
-    ensures { OnOk result (string_bytes out.new ≡ string_bytes out.old ++ box_text y width height) }
+    ensures { OnOk result (Appends out.old out.new (box_text y width height)) }
 {
     write!(out, "M0 {y}h{width}v{height}h-{width}z")
 }
 
-// Appends the cycles of rectangles: the first ones, and the last ones where there are more.
+/// Appends the cycles of rectangles: the first ones, and the last ones where there are more.
 #[tactic(auto, unfolding(crate::specs::Kinds::spans_text))]
-fn push_spans(kind: &[Rectangle], out: &mut String) -> Result<(), NoMemory>
-    ensures { OnOk result (string_bytes out.new ≡ string_bytes out.old ++ spans_text kind.now) }
+pub(crate) fn push_spans(kind: &[Rectangle], out: &mut String) -> Result<(), NoMemory>
+    ensures { OnOk result (Appends out.old out.new (spans_text kind.now)) }
 {
     for one in kind {
         push_span(u64::from(one.first.cycle), u64::from(one.cycles), out)?;
@@ -254,7 +259,7 @@ fn push_spans(kind: &[Rectangle], out: &mut String) -> Result<(), NoMemory>
 fn push_span(cycle: u64, cycles: u64, out: &mut String) -> Result<(), NoMemory>
     requires cycle { cycle < 256 }
     requires small { cycles < 4294967296 }
-    ensures { OnOk result (string_bytes out.new ≡ string_bytes out.old ++ span_text cycle cycles) }
+    ensures { OnOk result (Appends out.old out.new (span_text cycle cycles)) }
 {
     if cycles < 2 {
         write!(out, " {cycle}")
@@ -267,7 +272,7 @@ fn push_span(cycle: u64, cycles: u64, out: &mut String) -> Result<(), NoMemory>
 // Appends the frame's name in its first rectangle, across where there is room for it, else down.
 #[tactic(auto, unfolding(crate::specs::Kinds::label_text))]
 fn push_label(width: u32, one: &Rectangle, out: &mut String) -> Result<(), NoMemory>
-    ensures { OnOk result (string_bytes out.new ≡ string_bytes out.old ++ label_text width one.now) }
+    ensures { OnOk result (Appends out.old out.new (label_text width one.now)) }
 {
     let frame = one.first.frame;
     let cycle = one.first.cycle;

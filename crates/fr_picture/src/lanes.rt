@@ -1,28 +1,29 @@
-//! The text of lanes.
-ghost use Rattle.std.specs.Prelude.{◌≡◌, ◌++◌, OnOk};
-ghost use Rattle.std.specs.String.{string_bytes};
-ghost use Rattle.fr_picture.specs.LaneTexts.{colour_of, drawn_text, free_text, grant_text, grants_text, holder_text, is_bare, lane_text, lanes_text, opens_text, part_text, shows_text, start_text, ungranted_text, unheld_text};
+//! The text of lanes, and of the parts of the drawing in which they stand.
+ghost use Rattle.std.specs.Prelude.{◌≡◌, OnOk};
+ghost use Rattle.fr_picture.specs.LaneTexts.{box_start, colour_of, drawn_text, foot_text, free_text, gap_text, grant_text, grants_text, heading_text, holder_text, is_bare, lane_text, lanes_text, opens_text, part_text, shows_text, slots_text, start_text, ungranted_text, view_text};
+ghost use Rattle.fr_picture.specs.Texts.{Appends};
 
+use crate::drawing::{Lane, Place, Rectangle, Scale, Shows};
 use crate::kinds::push_rectangles;
+use crate::plan::Plan;
 use crate::shares::{number_of, push_mark};
 use crate::texts::{Fixed, push_fixed};
 use fr_base::{GrantRow, Name, NoMemory};
-use fr_drawing::{Lane, Place, Rectangle, Scale, Shows};
 use std::alloc::Global;
 
-/// Appends the lanes, one after the other, with the suppliers' numbers as these names are in order.
+/// Appends the plan's lanes, one after the other.
 #[tactic(auto, unfolding(crate::specs::LaneTexts::lanes_text))]
 pub(crate) fn push_lanes(
     alloc: Global,
-    names: &[Name],
+    plan: &Plan,
     scale: Scale,
     lanes: &[Lane],
     out: &mut String,
 ) -> Result<(), NoMemory>
-    ensures { OnOk result (string_bytes out.new ≡ string_bytes out.old ++ lanes_text names.now scale lanes.now) }
+    ensures { OnOk result (Appends out.old out.new (lanes_text plan.now scale lanes.now)) }
 {
     for lane in lanes {
-        push_lane(alloc, names, scale, lane, out)?;
+        push_lane(alloc, plan, scale, lane, out)?;
     }
     Ok(())
 }
@@ -30,20 +31,20 @@ pub(crate) fn push_lanes(
 #[tactic(auto, unfolding(crate::specs::LaneTexts::lane_text))]
 fn push_lane(
     alloc: Global,
-    names: &[Name],
+    plan: &Plan,
     scale: Scale,
     lane: &Lane,
     out: &mut String,
 ) -> Result<(), NoMemory>
-    ensures { OnOk result (string_bytes out.new ≡ string_bytes out.old ++ lane_text names.now scale lane.now) }
+    ensures { OnOk result (Appends out.old out.new (lane_text plan.now scale lane.now)) }
 {
-    push_opens(lane.place.opens, scale.height, out)?;
+    push_opens(plan.variant, scale.height, lane.place.opens, out)?;
     let grants = lane.grants.as_slice();
     let rectangles = lane.rectangles.as_slice();
     if is_bare(lane.place.shows, grants, rectangles) {
         return Ok(());
     }
-    push_drawn(alloc, names, scale, lane.place, grants, rectangles, out)
+    push_drawn(alloc, plan, scale, lane.place, grants, rectangles, out)
 }
 
 // Whether there is nothing to draw: the place is inside a gap.
@@ -61,18 +62,19 @@ fn is_bare(shows: Shows, grants: &[GrantRow], rectangles: &[Rectangle]) -> bool
 #[tactic(auto, unfolding(crate::specs::LaneTexts::drawn_text))]
 fn push_drawn(
     alloc: Global,
-    names: &[Name],
+    plan: &Plan,
     scale: Scale,
     place: Place,
     grants: &[GrantRow],
     rectangles: &[Rectangle],
     out: &mut String,
 ) -> Result<(), NoMemory>
-    ensures { OnOk result (string_bytes out.new ≡ string_bytes out.old ++ drawn_text names.now scale place grants.now rectangles.now) }
+    ensures { OnOk result (Appends out.old out.new (drawn_text plan.now scale place grants.now rectangles.now)) }
 {
+    let names = plan.suppliers.as_slice();
     push_start(colour_of(names, grants), place.x, out)?;
-    push_grants(names, grants, out)?;
-    push_shows(place.shows, out)?;
+    push_grants(names, scale.cycles, grants, out)?;
+    push_shows(plan.supplier, place.shows, out)?;
     push_ungranted(place.shows, grants, out)?;
     push_rectangles(alloc, scale, rectangles, out)?;
     push_fixed(Fixed::LaneEnd, out)
@@ -92,67 +94,108 @@ fn colour_of(names: &[Name], grants: &[GrantRow]) -> usize
 // Appends the beginning of a lane: its colour, and where it stands.
 #[tactic(auto, unfolding(crate::specs::LaneTexts::start_text))]
 fn push_start(colour: usize, x: u32, out: &mut String) -> Result<(), NoMemory>
-    ensures { OnOk result (string_bytes out.new ≡ string_bytes out.old ++ start_text colour x) }
+    ensures { OnOk result (Appends out.old out.new (start_text colour x)) }
 {
     write!(out, "<svg class=c{colour} x={x}>")
 }
 
 // Appends the end of a part and the beginning of the next, where one begins.
 #[tactic(auto, unfolding(crate::specs::LaneTexts::opens_text))]
-fn push_opens(opens: bool, height: u32, out: &mut String) -> Result<(), NoMemory>
-    ensures { OnOk result (string_bytes out.new ≡ string_bytes out.old ++ opens_text opens height) }
+fn push_opens(
+    variant: Name,
+    height: u32,
+    opens: Option<u32>,
+    out: &mut String,
+) -> Result<(), NoMemory>
+    ensures { OnOk result (Appends out.old out.new (opens_text variant height opens)) }
 {
-    if opens {
-        push_part(height, out)
-    } else {
-        Ok(())
+    match opens {
+        Some(first) => push_part(variant, height, first, out),
+        None => Ok(()),
     }
 }
 
 #[tactic(auto, unfolding(crate::specs::LaneTexts::part_text))]
-fn push_part(height: u32, out: &mut String) -> Result<(), NoMemory>
-    ensures { OnOk result (string_bytes out.new ≡ string_bytes out.old ++ part_text height) }
+fn push_part(variant: Name, height: u32, first: u32, out: &mut String) -> Result<(), NoMemory>
+    ensures { OnOk result (Appends out.old out.new (part_text variant height first)) }
+{
+    push_heading(variant, first, out)?;
+    push_box_start(first, out)?;
+    push_view(height, first, out)
+}
+
+#[tactic(auto, unfolding(crate::specs::LaneTexts::heading_text))]
+fn push_heading(variant: Name, first: u32, out: &mut String) -> Result<(), NoMemory>
+    ensures { OnOk result (Appends out.old out.new (heading_text variant first)) }
 {
     write!(
         out,
-        "</svg>\n<svg class=plan viewBox=\"0 -4 138 {height}\"><use href=#cycles />\n"
+        "</g></svg></div>\n<h2 id=p{first}>Variant {variant}: slots from {first} on</h2>\n"
+    )
+}
+
+// Appends a box that scrolls, and the drawing in it, both named by the heading.
+#[tactic(auto, unfolding(crate::specs::LaneTexts::box_start))]
+fn push_box_start(first: u32, out: &mut String) -> Result<(), NoMemory>
+    ensures { OnOk result (Appends out.old out.new (box_start first)) }
+{
+    write!(
+        out,
+        "<div class=plan role=group aria-labelledby=p{first} tabindex=0><svg role=img aria-labelledby=p{first}"
+    )
+}
+
+#[tactic(auto, unfolding(crate::specs::LaneTexts::view_text))]
+fn push_view(height: u32, first: u32, out: &mut String) -> Result<(), NoMemory>
+    ensures { OnOk result (Appends out.old out.new (view_text height first)) }
+{
+    write!(
+        out,
+        " viewBox=\"0 -4 138 {height}\"><use href=#cycles /><g id=g{first}>\n"
     )
 }
 
 // Appends the number of a slot, or a gap.
 #[tactic(auto, unfolding(crate::specs::LaneTexts::shows_text))]
-fn push_shows(shows: Shows, out: &mut String) -> Result<(), NoMemory>
-    ensures { OnOk result (string_bytes out.new ≡ string_bytes out.old ++ shows_text shows) }
+fn push_shows(viewer: Option<Name>, shows: Shows, out: &mut String) -> Result<(), NoMemory>
+    ensures { OnOk result (Appends out.old out.new (shows_text viewer shows)) }
 {
     match shows {
         Shows::Nothing => Ok(()),
         Shows::Slot(number) => write!(out, "<text y=-2>{number}</text>"),
-        Shows::Gap(first, last) => push_unheld(first, last, out),
+        Shows::Gap(first, last) => {
+            push_gap(viewer, out)?;
+            push_slots(first, last, out)
+        }
     }
 }
 
-// Appends a gap, and which slots nobody holds.
-#[tactic(auto, unfolding(crate::specs::LaneTexts::unheld_text))]
-fn push_unheld(first: u32, last: u32, out: &mut String) -> Result<(), NoMemory>
-    ensures { OnOk result (string_bytes out.new ≡ string_bytes out.old ++ unheld_text first last) }
+// Appends a gap. On the page of one supplier its slots may be another's.
+#[tactic(auto, unfolding(crate::specs::LaneTexts::gap_text))]
+fn push_gap(viewer: Option<Name>, out: &mut String) -> Result<(), NoMemory>
+    ensures { OnOk result (Appends out.old out.new (gap_text viewer)) }
+{
+    match viewer {
+        None => push_fixed(Fixed::GapOfNobody, out),
+        Some(_) => push_fixed(Fixed::GapOfOthers, out),
+    }
+}
+
+#[tactic(auto, unfolding(crate::specs::LaneTexts::slots_text))]
+fn push_slots(first: u32, last: u32, out: &mut String) -> Result<(), NoMemory>
+    ensures { OnOk result (Appends out.old out.new (slots_text first last)) }
 {
     if first == last {
-        write!(
-            out,
-            "<use href=#gap /><text class=n y=0>nobody holds {first}</text>"
-        )
+        write!(out, "{first}</text>")
     } else {
-        write!(
-            out,
-            "<use href=#gap /><text class=n y=0>nobody holds {first} to {last}</text>"
-        )
+        write!(out, "{first} to {last}</text>")
     }
 }
 
-// Appends a lane of a slot that is shown, if nobody holds it on this channel.
+// Appends a lane of a slot that is shown, if there is no grant of it on this channel.
 #[tactic(auto, unfolding(crate::specs::LaneTexts::ungranted_text))]
 fn push_ungranted(shows: Shows, grants: &[GrantRow], out: &mut String) -> Result<(), NoMemory>
-    ensures { OnOk result (string_bytes out.new ≡ string_bytes out.old ++ ungranted_text shows grants.now) }
+    ensures { OnOk result (Appends out.old out.new (ungranted_text shows grants.now)) }
 {
     if grants.is_empty() {
         push_free(shows, out)
@@ -163,7 +206,7 @@ fn push_ungranted(shows: Shows, grants: &[GrantRow], out: &mut String) -> Result
 
 #[tactic(auto, unfolding(crate::specs::LaneTexts::free_text))]
 fn push_free(shows: Shows, out: &mut String) -> Result<(), NoMemory>
-    ensures { OnOk result (string_bytes out.new ≡ string_bytes out.old ++ free_text shows) }
+    ensures { OnOk result (Appends out.old out.new (free_text shows)) }
 {
     match shows {
         Shows::Slot(_) => push_fixed(Fixed::Free, out),
@@ -172,19 +215,29 @@ fn push_free(shows: Shows, out: &mut String) -> Result<(), NoMemory>
 }
 
 #[tactic(auto, unfolding(crate::specs::LaneTexts::grants_text))]
-fn push_grants(names: &[Name], grants: &[GrantRow], out: &mut String) -> Result<(), NoMemory>
-    ensures { OnOk result (string_bytes out.new ≡ string_bytes out.old ++ grants_text names.now grants.now) }
+fn push_grants(
+    names: &[Name],
+    cycles: u32,
+    grants: &[GrantRow],
+    out: &mut String,
+) -> Result<(), NoMemory>
+    ensures { OnOk result (Appends out.old out.new (grants_text names.now cycles grants.now)) }
 {
     for grant in grants {
-        push_grant(number_of(names, grant.supplier), grant, out)?;
+        push_grant(cycles, number_of(names, grant.supplier), grant, out)?;
     }
     Ok(())
 }
 
-// Appends who holds a lane, the lane, hatched, and over it the mark of the supplier of this number.
+// Appends who holds a lane, the lane, hatched, and above and below it the mark of the supplier of this number.
 #[tactic(auto, unfolding(crate::specs::LaneTexts::grant_text))]
-fn push_grant(number: usize, grant: &GrantRow, out: &mut String) -> Result<(), NoMemory>
-    ensures { OnOk result (string_bytes out.new ≡ string_bytes out.old ++ grant_text number grant.now) }
+fn push_grant(
+    cycles: u32,
+    number: usize,
+    grant: &GrantRow,
+    out: &mut String,
+) -> Result<(), NoMemory>
+    ensures { OnOk result (Appends out.old out.new (grant_text cycles number grant.now)) }
 {
     push_holder(
         grant.node,
@@ -194,7 +247,16 @@ fn push_grant(number: usize, grant: &GrantRow, out: &mut String) -> Result<(), N
         out,
     )?;
     push_mark(number, out)?;
+    push_foot(cycles, out)?;
+    push_mark(number, out)?;
     push_fixed(Fixed::TextEnd, out)
+}
+
+#[tactic(auto, unfolding(crate::specs::LaneTexts::foot_text))]
+fn push_foot(cycles: u32, out: &mut String) -> Result<(), NoMemory>
+    ensures { OnOk result (Appends out.old out.new (foot_text cycles)) }
+{
+    write!(out, "</text><text y={cycles}>")
 }
 
 #[tactic(auto, unfolding(crate::specs::LaneTexts::holder_text))]
@@ -205,7 +267,7 @@ fn push_holder(
     channel: &str,
     out: &mut String,
 ) -> Result<(), NoMemory>
-    ensures { OnOk result (string_bytes out.new ≡ string_bytes out.old ++ holder_text node supplier slot channel.now) }
+    ensures { OnOk result (Appends out.old out.new (holder_text node supplier slot channel.now)) }
 {
     write!(
         out,

@@ -1,17 +1,29 @@
-//! A picture of a variant's plan: one page of HTML, with the static segment as inline SVG.
+//! A picture of a variant's plan, whose rows are asked of a register's desk: one page of HTML, with the static segment as inline SVG.
 #![tactic(auto)]
 
-mod frames;
+mod drawing;
+mod drawn_frames;
+mod frame_index;
+mod frame_table;
 mod kinds;
 mod lanes;
+mod overview;
 mod page;
+mod plan;
+mod reports;
 mod sets;
 mod shares;
 mod signals;
+mod slot_table;
 mod style;
 mod texts;
 
-pub use frames::{DrawnFrame, worst_first};
-pub use page::{Plan, write_page};
+pub use drawing::{Drawing, Lane, Place, Rectangle, Scale, Shows, draw};
+pub use drawn_frames::frames;
+pub use frame_index::Entry;
+pub use frame_table::{DrawnFrame, worst_first};
+pub use page::write_page;
+pub use plan::Plan;
+pub use reports::{View, grants, schedule};
 pub use shares::Share;
 pub use signals::{DrawnSignal, Run};

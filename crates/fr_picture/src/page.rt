@@ -1,38 +1,22 @@
 //! The page of a variant.
-ghost use Rattle.std.specs.Prelude.{◌≡◌, ◌++◌, OnOk, IfOk};
+ghost use Rattle.std.specs.Prelude.{◌≡◌, OnOk, IfOk};
 ghost use Rattle.std.specs.String.{string_bytes};
-ghost use Rattle.fr_picture.specs.Pages.{IsPage, bands_text, cluster_text, cycle_figures, cycle_text, cycles_text, drawing_text, figures_text, head_text, heading_text, opened_text, page_text, parent_text, segment_figures, state_text, strips_text, tables_text, top_text, viewer_text};
+ghost use Rattle.fr_picture.specs.Pages.{IsPage, bands_text, cluster_text, cycle_figures, cycle_text, cycles_text, drawing_text, figures_text, frame_parts, frames_head, head_text, heading_text, legend_end, opened_text, page_text, parent_text, segment_figures, state_text, strips_text, suppliers_text, top_text, viewer_text};
+ghost use Rattle.fr_picture.specs.Texts.{Appends};
 
-use crate::frames::{DrawnFrame, push_frames};
+use crate::drawing::{Drawing, Lane, Scale, draw};
+use crate::frame_index::{Entry, index, push_index};
+use crate::frame_table::push_frames;
 use crate::lanes::push_lanes;
+use crate::overview::{push_overview, starts_of};
+use crate::plan::Plan;
 use crate::sets::push_shapes;
-use crate::shares::{Share, push_legend, shares_of, suppliers};
+use crate::shares::{Share, push_legend, shares_of};
+use crate::slot_table::push_slot_table;
 use crate::style::style;
 use crate::texts::{Fixed, push, push_fixed};
-use fr_base::{Channels, GrantRow, Name, NoMemory, Params, RawParams, Rows, Sending};
-use fr_drawing::{Drawing, draw};
+use fr_base::{Channels, Name, NoMemory, Params, RawParams};
 use std::alloc::Global;
-
-/// What a page shows: a variant's plan, as its reader sees it.
-#[derive(Drop)]
-pub struct Plan {
-    /// The cluster's parameters. Its count of cycles is the height of the drawing.
-    pub params: Params,
-    /// The variant.
-    pub variant: Name,
-    /// The variant from which it was opened, if any.
-    pub parent: Option<Name>,
-    /// Whether it is released.
-    pub released: bool,
-    /// The supplier whose rows alone are shown; or those of all are.
-    pub supplier: Option<Name>,
-    /// Who holds which slot and channel.
-    pub grants: Rows<GrantRow>,
-    /// What is sent in which cell, by cycle, slot and channel.
-    pub cells: Rows<Sending>,
-    /// The frames, in the order in which the page lists them.
-    pub frames: Vec<DrawnFrame>,
-}
 
 /// The page of a plan, in HTML. Its drawing has exactly the grants and the cells of the plan. A name stands in the page as it is: it has
 /// letters, digits and underscores alone, and none of these means anything in HTML or in an attribute. `NoMemory` is the only error.
@@ -41,12 +25,11 @@ pub fn write_page(alloc: Global, plan: &Plan) -> Result<String, NoMemory>
 {
     let grants = plan.grants.as_slice();
     let cells = plan.cells.as_slice();
-    let frames = plan.frames.as_slice();
+    let names = plan.suppliers.as_slice();
     let drawing = draw(alloc, &plan.params, grants, cells)?;
-    let names = suppliers(alloc, frames, grants)?;
-    let known = names.as_slice();
-    let shares = shares_of(alloc, known, plan.params.cycles(), grants, cells)?;
-    let text = write_parts(alloc, plan, &drawing, known, shares.as_slice())?;
+    let entries = index(alloc, plan.frames.as_slice())?;
+    let shares = shares_of(alloc, names, plan.params.cycles(), grants, cells)?;
+    let text = write_parts(alloc, plan, &drawing, entries.as_slice(), shares.as_slice())?;
     Ok(text)
 }
 
@@ -56,22 +39,28 @@ fn write_parts(
     alloc: Global,
     plan: &Plan,
     drawing: &Drawing,
-    names: &[Name],
+    index: &[Entry],
     shares: &[Share],
 ) -> Result<String, NoMemory>
-    ensures { IfOk result (λ text. string_bytes text ≡ page_text plan.now drawing.now names.now shares.now) }
+    ensures { IfOk result (λ text. string_bytes text ≡ page_text plan.now drawing.now index.now shares.now) }
 {
+    let cycles = drawing.scale.cycles;
+    let lanes = drawing.lanes.as_slice();
+    let starts = starts_of(alloc, lanes)?;
     let mut out = String::new(alloc);
     push_top(plan, &mut out)?;
-    push_drawing(alloc, plan, names, drawing, &mut out)?;
-    push_tables(plan, shares, &mut out)?;
+    push_suppliers(plan, shares, &mut out)?;
+    push_overview(cycles, starts.as_slice(), &mut out)?;
+    push_drawing(alloc, plan, drawing.scale, lanes, &mut out)?;
+    push_slot_table(alloc, plan, cycles, lanes, &mut out)?;
+    push_frame_parts(plan, index, &mut out)?;
     Ok(out)
 }
 
-// Appends what stands above the drawing.
+// Appends what stands above the legend.
 #[tactic(auto, unfolding(crate::specs::Pages::top_text))]
 fn push_top(plan: &Plan, out: &mut String) -> Result<(), NoMemory>
-    ensures { OnOk result (string_bytes out.new ≡ string_bytes out.old ++ top_text plan.now) }
+    ensures { OnOk result (Appends out.old out.new (top_text plan.now)) }
 {
     push_head(plan.variant, out)?;
     push(style(), out)?;
@@ -82,25 +71,25 @@ fn push_top(plan: &Plan, out: &mut String) -> Result<(), NoMemory>
 // Appends the style of payloads of so many bits.
 #[tactic(auto, unfolding(crate::specs::Pages::strips_text))]
 fn push_strips(bits: u32, out: &mut String) -> Result<(), NoMemory>
-    ensures { OnOk result (string_bytes out.new ≡ string_bytes out.old ++ strips_text bits) }
+    ensures { OnOk result (Appends out.old out.new (strips_text bits)) }
 {
     write!(out, "td path{{transform:scale(calc(400/{bits}),1)}}\n")
 }
 
 #[tactic(auto, unfolding(crate::specs::Pages::head_text))]
 fn push_head(variant: Name, out: &mut String) -> Result<(), NoMemory>
-    ensures { OnOk result (string_bytes out.new ≡ string_bytes out.old ++ head_text variant) }
+    ensures { OnOk result (Appends out.old out.new (head_text variant)) }
 {
     write!(
         out,
-        "<!DOCTYPE html>\n<html lang=en>\n<meta charset=utf-8>\n<title>{variant}</title>\n<style>"
+        "<!DOCTYPE html>\n<html lang=en>\n<meta charset=utf-8>\n<title>{variant}</title>\n<style>@page{{@bottom-left{{content:\"Variant {variant}\"}}}}"
     )
 }
 
 // Appends the variant and the figures of the cluster.
 #[tactic(auto, unfolding(crate::specs::Pages::figures_text))]
 fn push_figures(plan: &Plan, out: &mut String) -> Result<(), NoMemory>
-    ensures { OnOk result (string_bytes out.new ≡ string_bytes out.old ++ figures_text plan.now) }
+    ensures { OnOk result (Appends out.old out.new (figures_text plan.now)) }
 {
     push_heading(plan.variant, out)?;
     push_parent(plan.parent, out)?;
@@ -111,14 +100,14 @@ fn push_figures(plan: &Plan, out: &mut String) -> Result<(), NoMemory>
 
 #[tactic(auto, unfolding(crate::specs::Pages::heading_text))]
 fn push_heading(variant: Name, out: &mut String) -> Result<(), NoMemory>
-    ensures { OnOk result (string_bytes out.new ≡ string_bytes out.old ++ heading_text variant) }
+    ensures { OnOk result (Appends out.old out.new (heading_text variant)) }
 {
     write!(out, "</style>\n<h1>Variant {variant}</h1>\n<p>")
 }
 
 #[tactic(auto, unfolding(crate::specs::Pages::parent_text))]
 fn push_parent(parent: Option<Name>, out: &mut String) -> Result<(), NoMemory>
-    ensures { OnOk result (string_bytes out.new ≡ string_bytes out.old ++ parent_text parent) }
+    ensures { OnOk result (Appends out.old out.new (parent_text parent)) }
 {
     match parent {
         Some(parent) => push_opened(parent, out),
@@ -128,14 +117,14 @@ fn push_parent(parent: Option<Name>, out: &mut String) -> Result<(), NoMemory>
 
 #[tactic(auto, unfolding(crate::specs::Pages::opened_text))]
 fn push_opened(parent: Name, out: &mut String) -> Result<(), NoMemory>
-    ensures { OnOk result (string_bytes out.new ≡ string_bytes out.old ++ opened_text parent) }
+    ensures { OnOk result (Appends out.old out.new (opened_text parent)) }
 {
     write!(out, "It was opened from {parent},")
 }
 
 #[tactic(auto, unfolding(crate::specs::Pages::state_text))]
 fn push_state(released: bool, out: &mut String) -> Result<(), NoMemory>
-    ensures { OnOk result (string_bytes out.new ≡ string_bytes out.old ++ state_text released) }
+    ensures { OnOk result (Appends out.old out.new (state_text released)) }
 {
     if released {
         write!(out, " and is released.")
@@ -146,20 +135,17 @@ fn push_state(released: bool, out: &mut String) -> Result<(), NoMemory>
 
 #[tactic(auto, unfolding(crate::specs::Pages::viewer_text))]
 fn push_viewer(supplier: Option<Name>, out: &mut String) -> Result<(), NoMemory>
-    ensures { OnOk result (string_bytes out.new ≡ string_bytes out.old ++ viewer_text supplier) }
+    ensures { OnOk result (Appends out.old out.new (viewer_text supplier)) }
 {
     match supplier {
-        Some(supplier) => write!(
-            out,
-            " This page shows what is {supplier}'s alone. Where it says that nobody holds a slot, another supplier may hold it."
-        ),
+        Some(supplier) => write!(out, " This page shows what is {supplier}'s alone."),
         None => Ok(()),
     }
 }
 
 #[tactic(auto, unfolding(crate::specs::Pages::cluster_text))]
 fn push_cluster(params: &Params, out: &mut String) -> Result<(), NoMemory>
-    ensures { OnOk result (string_bytes out.new ≡ string_bytes out.old ++ cluster_text params.now) }
+    ensures { OnOk result (Appends out.old out.new (cluster_text params.now)) }
 {
     push_cycle_figures(params.channels().as_str(), params.raw(), out)?;
     push_segments(params.raw(), out)
@@ -168,7 +154,7 @@ fn push_cluster(params: &Params, out: &mut String) -> Result<(), NoMemory>
 // Appends the channels, and what a cycle has.
 #[tactic(auto, unfolding(crate::specs::Pages::cycle_figures))]
 fn push_cycle_figures(channels: &str, raw: RawParams, out: &mut String) -> Result<(), NoMemory>
-    ensures { OnOk result (string_bytes out.new ≡ string_bytes out.old ++ cycle_figures channels.now raw) }
+    ensures { OnOk result (Appends out.old out.new (cycle_figures channels.now raw)) }
 {
     let RawParams {
         macroticks_per_cycle,
@@ -185,7 +171,7 @@ fn push_cycle_figures(channels: &str, raw: RawParams, out: &mut String) -> Resul
 // Appends the segments of a cycle.
 #[tactic(auto, unfolding(crate::specs::Pages::segment_figures))]
 fn push_segments(raw: RawParams, out: &mut String) -> Result<(), NoMemory>
-    ensures { OnOk result (string_bytes out.new ≡ string_bytes out.old ++ segment_figures raw) }
+    ensures { OnOk result (Appends out.old out.new (segment_figures raw)) }
 {
     let RawParams {
         static_slots,
@@ -201,30 +187,49 @@ fn push_segments(raw: RawParams, out: &mut String) -> Result<(), NoMemory>
     )
 }
 
+// Appends the legend: the suppliers, and what the drawing's marks mean.
+#[tactic(auto, unfolding(crate::specs::Pages::suppliers_text))]
+fn push_suppliers(plan: &Plan, shares: &[Share], out: &mut String) -> Result<(), NoMemory>
+    ensures { OnOk result (Appends out.old out.new (suppliers_text plan.now shares.now)) }
+{
+    push_fixed(Fixed::LegendStart, out)?;
+    push_legend(shares, out)?;
+    push_legend_end(plan.supplier, out)
+}
+
+#[tactic(auto, unfolding(crate::specs::Pages::legend_end))]
+fn push_legend_end(viewer: Option<Name>, out: &mut String) -> Result<(), NoMemory>
+    ensures { OnOk result (Appends out.old out.new (legend_end viewer)) }
+{
+    match viewer {
+        None => push_fixed(Fixed::LegendEnd, out),
+        Some(_) => push_fixed(Fixed::LegendEndOfOne, out),
+    }
+}
+
 // Appends the drawing.
 #[tactic(auto, unfolding(crate::specs::Pages::drawing_text))]
 fn push_drawing(
     alloc: Global,
     plan: &Plan,
-    names: &[Name],
-    drawing: &Drawing,
+    scale: Scale,
+    lanes: &[Lane],
     out: &mut String,
 ) -> Result<(), NoMemory>
-    ensures { OnOk result (string_bytes out.new ≡ string_bytes out.old ++ drawing_text plan.now names.now drawing.now.scale drawing.now.lanes.items) }
+    ensures { OnOk result (Appends out.old out.new (drawing_text plan.now scale lanes.now)) }
 {
-    let scale = drawing.scale;
     push_fixed(Fixed::ShapesStart, out)?;
     push_shapes(scale, out)?;
     push_fixed(Fixed::NumbersStart, out)?;
     push_cycles(scale.cycles, out)?;
     push_bands(plan.params.channels(), out)?;
-    push_lanes(alloc, names, scale, drawing.lanes.as_slice(), out)
+    push_lanes(alloc, plan, scale, lanes, out)
 }
 
 // Appends the numbers of the cycles.
 #[tactic(auto, unfolding(crate::specs::Pages::cycles_text))]
 fn push_cycles(cycles: u32, out: &mut String) -> Result<(), NoMemory>
-    ensures { OnOk result (string_bytes out.new ≡ string_bytes out.old ++ cycles_text cycles) }
+    ensures { OnOk result (Appends out.old out.new (cycles_text cycles)) }
 {
     for cycle in 0..cycles {
         push_cycle(cycle, out)?;
@@ -234,7 +239,7 @@ fn push_cycles(cycles: u32, out: &mut String) -> Result<(), NoMemory>
 
 #[tactic(auto, unfolding(crate::specs::Pages::cycle_text))]
 fn push_cycle(cycle: u32, out: &mut String) -> Result<(), NoMemory>
-    ensures { OnOk result (string_bytes out.new ≡ string_bytes out.old ++ cycle_text cycle) }
+    ensures { OnOk result (Appends out.old out.new (cycle_text cycle)) }
 {
     write!(out, "<text class=names x=3.6 y={cycle}>{cycle}</text>")
 }
@@ -242,7 +247,7 @@ fn push_cycle(cycle: u32, out: &mut String) -> Result<(), NoMemory>
 // Appends what stands beside and above the lanes of each channel.
 #[tactic(auto, unfolding(crate::specs::Pages::bands_text))]
 fn push_bands(channels: Channels, out: &mut String) -> Result<(), NoMemory>
-    ensures { OnOk result (string_bytes out.new ≡ string_bytes out.old ++ bands_text channels) }
+    ensures { OnOk result (Appends out.old out.new (bands_text channels)) }
 {
     match channels {
         Channels::A => push_fixed(Fixed::BandA, out),
@@ -251,14 +256,24 @@ fn push_bands(channels: Channels, out: &mut String) -> Result<(), NoMemory>
     }
 }
 
-// Appends what stands below the drawing.
-#[tactic(auto, unfolding(crate::specs::Pages::tables_text))]
-fn push_tables(plan: &Plan, shares: &[Share], out: &mut String) -> Result<(), NoMemory>
-    ensures { OnOk result (string_bytes out.new ≡ string_bytes out.old ++ tables_text plan.now shares.now) }
+// Appends the index and the table of frames.
+#[tactic(auto, unfolding(crate::specs::Pages::frame_parts))]
+fn push_frame_parts(plan: &Plan, index: &[Entry], out: &mut String) -> Result<(), NoMemory>
+    ensures { OnOk result (Appends out.old out.new (frame_parts plan.now index.now)) }
 {
-    push_fixed(Fixed::LegendStart, out)?;
-    push_legend(shares, out)?;
-    push_fixed(Fixed::TableStart, out)?;
+    push_fixed(Fixed::IndexStart, out)?;
+    push_index(plan.suppliers.as_slice(), index, out)?;
+    push_frames_head(plan.variant, out)?;
     push_frames(plan.frames.as_slice(), out)?;
     push_fixed(Fixed::PageEnd, out)
+}
+
+#[tactic(auto, unfolding(crate::specs::Pages::frames_head))]
+fn push_frames_head(variant: Name, out: &mut String) -> Result<(), NoMemory>
+    ensures { OnOk result (Appends out.old out.new (frames_head variant)) }
+{
+    write!(
+        out,
+        "</ul>\n<p>Frames that are never sent come first, then those with the largest gap. A placement has its slot, its channels, and its base and repetition. A gap is in macroticks. A payload has its bits from 0 on, from left to right. A signal has the bit at which it starts, and its length in bits; big order is said.</p>\n<table class=frames>\n<thead><tr><th colspan=7>Variant {variant}: frames<tr><th>number<th>frame<th>node<th>supplier<th>placements<th>greatest gap<th>payload and signals<tbody>\n"
+    )
 }

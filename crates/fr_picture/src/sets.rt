@@ -1,17 +1,17 @@
 //! Shapes that the page has once: the cells of each repetition, a granted lane, and lanes and gaps that nobody holds.
-ghost use Rattle.std.specs.Prelude.{◌≡◌, ◌+◌, ◌*◌, ◌/◌, ◌<◌, ◌≤◌, ◌++◌, OnOk};
-ghost use Rattle.std.specs.String.{string_bytes};
-ghost use Rattle.fr_picture.specs.Sets.{empties_text, hatch_text, hatches_text, held_text, repeated_text, rows_text, set_path, set_start, sets_text, shapes_text};
+ghost use Rattle.std.specs.Prelude.{◌+◌, ◌*◌, ◌/◌, ◌<◌, ◌≤◌, OnOk};
+ghost use Rattle.fr_picture.specs.Sets.{cross_text, crossed_text, empties_text, hatch_text, hatches_text, held_text, repeated_text, rows_text, set_path, set_start, sets_text, shapes_text};
+ghost use Rattle.fr_picture.specs.Texts.{Appends};
 
+use crate::drawing::Scale;
 use crate::kinds::push_box;
 use crate::texts::{Fixed, push_fixed};
 use fr_base::NoMemory;
-use fr_drawing::Scale;
 
 /// Appends the shapes.
 #[tactic(auto, unfolding(crate::specs::Sets::shapes_text))]
 pub(crate) fn push_shapes(scale: Scale, out: &mut String) -> Result<(), NoMemory>
-    ensures { OnOk result (string_bytes out.new ≡ string_bytes out.old ++ shapes_text scale) }
+    ensures { OnOk result (Appends out.old out.new (shapes_text scale)) }
 {
     push_empties(scale.width, scale.cycles, out)?;
     push_held(scale, out)?;
@@ -21,18 +21,37 @@ pub(crate) fn push_shapes(scale: Scale, out: &mut String) -> Result<(), NoMemory
 // Appends a lane and a gap that nobody holds.
 #[tactic(auto, unfolding(crate::specs::Sets::empties_text))]
 fn push_empties(width: u32, cycles: u32, out: &mut String) -> Result<(), NoMemory>
-    ensures { OnOk result (string_bytes out.new ≡ string_bytes out.old ++ empties_text width cycles) }
+    ensures { OnOk result (Appends out.old out.new (empties_text width cycles)) }
 {
+    push_crossed(width, cycles, out)?;
     write!(
         out,
-        "<rect id=free width={width} height={cycles} /><rect id=gap width=1 height={cycles} />\n<g id=held><rect width={width} height={cycles} /><path d=\""
+        "<rect id=gap width=1 height={cycles} />\n<g id=held><rect width={width} height={cycles} /><path d=\""
     )
+}
+
+// Appends a lane with a cross.
+#[tactic(auto, unfolding(crate::specs::Sets::crossed_text))]
+fn push_crossed(width: u32, cycles: u32, out: &mut String) -> Result<(), NoMemory>
+    ensures { OnOk result (Appends out.old out.new (crossed_text width cycles)) }
+{
+    push_fixed(Fixed::FreeStart, out)?;
+    push_box(0, width, cycles, out)?;
+    push_cross(width, cycles, out)
+}
+
+// Appends two lines from corner to corner.
+#[tactic(auto, unfolding(crate::specs::Sets::cross_text))]
+fn push_cross(width: u32, cycles: u32, out: &mut String) -> Result<(), NoMemory>
+    ensures { OnOk result (Appends out.old out.new (cross_text width cycles)) }
+{
+    write!(out, "l{width} {cycles}M{width} 0l-{width} {cycles}\"/>")
 }
 
 // Appends the rest of a granted lane: each of its cells is hatched.
 #[tactic(auto, unfolding(crate::specs::Sets::held_text))]
 fn push_held(scale: Scale, out: &mut String) -> Result<(), NoMemory>
-    ensures { OnOk result (string_bytes out.new ≡ string_bytes out.old ++ held_text scale) }
+    ensures { OnOk result (Appends out.old out.new (held_text scale)) }
 {
     push_hatches(scale.width, scale.cycles, out)?;
     push_fixed(Fixed::HeldEnd, out)
@@ -40,7 +59,7 @@ fn push_held(scale: Scale, out: &mut String) -> Result<(), NoMemory>
 
 #[tactic(auto, unfolding(crate::specs::Sets::hatches_text))]
 fn push_hatches(width: u32, cycles: u32, out: &mut String) -> Result<(), NoMemory>
-    ensures { OnOk result (string_bytes out.new ≡ string_bytes out.old ++ hatches_text width cycles) }
+    ensures { OnOk result (Appends out.old out.new (hatches_text width cycles)) }
 {
     for cycle in 0..cycles {
         push_hatch(width, cycle, out)?;
@@ -50,7 +69,7 @@ fn push_hatches(width: u32, cycles: u32, out: &mut String) -> Result<(), NoMemor
 
 #[tactic(auto, unfolding(crate::specs::Sets::hatch_text))]
 fn push_hatch(width: u32, cycle: u32, out: &mut String) -> Result<(), NoMemory>
-    ensures { OnOk result (string_bytes out.new ≡ string_bytes out.old ++ hatch_text width cycle) }
+    ensures { OnOk result (Appends out.old out.new (hatch_text width cycle)) }
 {
     let y = u64::from(cycle) + 1;
     write!(out, "M0 {y}l{width}-1")
@@ -59,7 +78,7 @@ fn push_hatch(width: u32, cycle: u32, out: &mut String) -> Result<(), NoMemory>
 // Appends the cells of each repetition that divides the count of cycles, with base 0.
 #[tactic(auto, unfolding(crate::specs::Sets::sets_text))]
 fn push_sets(scale: Scale, out: &mut String) -> Result<(), NoMemory>
-    ensures { OnOk result (string_bytes out.new ≡ string_bytes out.old ++ sets_text scale) }
+    ensures { OnOk result (Appends out.old out.new (sets_text scale)) }
 {
     for less in 0..scale.cycles {
         push_set(scale, less, out)?;
@@ -71,7 +90,7 @@ fn push_sets(scale: Scale, out: &mut String) -> Result<(), NoMemory>
 #[tactic(auto, unfolding(crate::specs::Sets::set_path))]
 fn push_set(scale: Scale, less: u32, out: &mut String) -> Result<(), NoMemory>
     requires { less < scale.cycles }
-    ensures { OnOk result (string_bytes out.new ≡ string_bytes out.old ++ set_path scale less) }
+    ensures { OnOk result (Appends out.old out.new (set_path scale less)) }
 {
     let repetition = less + 1;
     if scale.cycles % repetition != 0 {
@@ -84,7 +103,7 @@ fn push_set(scale: Scale, less: u32, out: &mut String) -> Result<(), NoMemory>
 
 #[tactic(auto, unfolding(crate::specs::Sets::set_start))]
 fn push_set_start(repetition: u32, out: &mut String) -> Result<(), NoMemory>
-    ensures { OnOk result (string_bytes out.new ≡ string_bytes out.old ++ set_start repetition) }
+    ensures { OnOk result (Appends out.old out.new (set_start repetition)) }
 {
     write!(out, "<path id={repetition} d=\"")
 }
@@ -93,7 +112,7 @@ fn push_set_start(repetition: u32, out: &mut String) -> Result<(), NoMemory>
 #[tactic(auto, unfolding(crate::specs::Sets::rows_text))]
 fn push_rows(scale: Scale, repetition: u32, out: &mut String) -> Result<(), NoMemory>
     requires { 1 ≤ repetition }
-    ensures { OnOk result (string_bytes out.new ≡ string_bytes out.old ++ rows_text scale repetition) }
+    ensures { OnOk result (Appends out.old out.new (rows_text scale repetition)) }
 {
     if repetition == 1 {
         push_box(0, scale.width, scale.cycles, out)
@@ -105,7 +124,7 @@ fn push_rows(scale: Scale, repetition: u32, out: &mut String) -> Result<(), NoMe
 #[tactic(auto, unfolding(crate::specs::Sets::repeated_text))]
 fn push_repeated(width: u32, repetition: u32, count: u32, out: &mut String) -> Result<(), NoMemory>
     requires { repetition * count < 4294967296 }
-    ensures { OnOk result (string_bytes out.new ≡ string_bytes out.old ++ repeated_text width repetition count) }
+    ensures { OnOk result (Appends out.old out.new (repeated_text width repetition count)) }
 {
     for row in 0..count {
         push_box(row * repetition, width, 1, out)?;

@@ -1,11 +1,10 @@
 //! The suppliers of a page: their colours, and how full their grants are.
-ghost use Rattle.std.specs.Prelude.{◌≡◌, ◌++◌, ◌<◌, ◌≤◌, ◌^◌, OnOk, IfOk, length, count_by, map};
-ghost use Rattle.std.specs.List.{fold, list_any, position};
-ghost use Rattle.std.specs.String.{string_bytes};
+ghost use Rattle.std.specs.Prelude.{◌≡◌, ◌<◌, ◌≤◌, ◌^◌, OnOk, IfOk, length, count_by, map};
+ghost use Rattle.std.specs.List.{position};
 ghost use Rattle.fr_base.specs.Names.{same_text};
-ghost use Rattle.fr_picture.specs.Shares.{holds_text, key_text, legend_text, mark_text, number_of, percent, round_text, share_of, share_text, suppliers_of, with_name};
+ghost use Rattle.fr_picture.specs.Shares.{holds_text, key_text, legend_text, mark_text, number_of, percent, round_text, share_of, share_text};
+ghost use Rattle.fr_picture.specs.Texts.{Appends};
 
-use crate::frames::DrawnFrame;
 use crate::style::letter;
 use crate::texts::push;
 use fr_base::{GrantRow, Name, NoMemory, Sending};
@@ -24,56 +23,6 @@ pub struct Share {
     pub sent: usize,
     /// How many cells its lanes have.
     pub room: u64,
-}
-
-/// The suppliers of the rows, each once.
-pub(crate) fn suppliers(
-    alloc: Global,
-    frames: &[DrawnFrame],
-    grants: &[GrantRow],
-) -> Result<Vec<Name>, NoMemory>
-    ensures { IfOk result (λ names. names.items ≡ suppliers_of frames.now grants.now) }
-{
-    let mut names = Vec::new(alloc);
-    add_frames(frames, &mut names)?;
-    add_grants(grants, &mut names)?;
-    Ok(names)
-}
-
-fn add_frames(frames: &[DrawnFrame], names: &mut Vec<Name>) -> Result<(), NoMemory>
-    ensures { OnOk result (names.new.items ≡ fold with_name names.old.items (map (λ f. f.row.supplier) frames.now)) }
-{
-    for frame in frames {
-        add_name(frame.row.supplier, names)?;
-    }
-    Ok(())
-}
-
-fn add_grants(grants: &[GrantRow], names: &mut Vec<Name>) -> Result<(), NoMemory>
-    ensures { OnOk result (names.new.items ≡ fold with_name names.old.items (map (λ g. g.supplier) grants.now)) }
-{
-    for grant in grants {
-        add_name(grant.supplier, names)?;
-    }
-    Ok(())
-}
-
-// Adds the name, unless it is there.
-fn add_name(name: Name, names: &mut Vec<Name>) -> Result<(), NoMemory>
-    ensures { OnOk result (names.new.items ≡ with_name names.old.items name) }
-{
-    if is_among(names.as_slice(), name) {
-        return Ok(());
-    }
-    names.push(name)?;
-    Ok(())
-}
-
-// Whether the name is one of them.
-fn is_among(names: &[Name], name: Name) -> bool
-    ensures { result ≡ list_any (λ known. same_text known name) names.now }
-{
-    names.iter().any(|known| *known == name)
 }
 
 /// How full the suppliers' grants are.
@@ -141,7 +90,7 @@ fn place_of(names: &[Name], supplier: Name) -> Option<usize>
 /// Appends the mark of the supplier of this number: the letter of its colour, and how often the colours were used before it.
 #[tactic(auto, unfolding(crate::specs::Shares::mark_text))]
 pub(crate) fn push_mark(number: usize, out: &mut String) -> Result<(), NoMemory>
-    ensures { OnOk result (string_bytes out.new ≡ string_bytes out.old ++ mark_text number) }
+    ensures { OnOk result (Appends out.old out.new (mark_text number)) }
 {
     push(letter(number), out)?;
     push_round(number / 8, out)
@@ -149,7 +98,7 @@ pub(crate) fn push_mark(number: usize, out: &mut String) -> Result<(), NoMemory>
 
 #[tactic(auto, unfolding(crate::specs::Shares::round_text))]
 fn push_round(round: usize, out: &mut String) -> Result<(), NoMemory>
-    ensures { OnOk result (string_bytes out.new ≡ string_bytes out.old ++ round_text round) }
+    ensures { OnOk result (Appends out.old out.new (round_text round)) }
 {
     if round == 0 {
         Ok(())
@@ -161,7 +110,7 @@ fn push_round(round: usize, out: &mut String) -> Result<(), NoMemory>
 /// Appends the legend: each supplier's colour, and how full its grants are.
 #[tactic(auto, unfolding(crate::specs::Shares::legend_text))]
 pub(crate) fn push_legend(shares: &[Share], out: &mut String) -> Result<(), NoMemory>
-    ensures { OnOk result (string_bytes out.new ≡ string_bytes out.old ++ legend_text shares.now) }
+    ensures { OnOk result (Appends out.old out.new (legend_text shares.now)) }
 {
     for share in shares {
         push_share(share, out)?;
@@ -171,7 +120,7 @@ pub(crate) fn push_legend(shares: &[Share], out: &mut String) -> Result<(), NoMe
 
 #[tactic(auto, unfolding(crate::specs::Shares::share_text))]
 fn push_share(share: &Share, out: &mut String) -> Result<(), NoMemory>
-    ensures { OnOk result (string_bytes out.new ≡ string_bytes out.old ++ share_text share.now) }
+    ensures { OnOk result (Appends out.old out.new (share_text share.now)) }
 {
     push_key(share.number % 8, out)?;
     push_mark(share.number, out)?;
@@ -180,14 +129,14 @@ fn push_share(share: &Share, out: &mut String) -> Result<(), NoMemory>
 
 #[tactic(auto, unfolding(crate::specs::Shares::key_text))]
 fn push_key(colour: usize, out: &mut String) -> Result<(), NoMemory>
-    ensures { OnOk result (string_bytes out.new ≡ string_bytes out.old ++ key_text colour) }
+    ensures { OnOk result (Appends out.old out.new (key_text colour)) }
 {
     write!(out, "<li><i class=c{colour}>")
 }
 
 #[tactic(auto, unfolding(crate::specs::Shares::holds_text))]
 fn push_holds(share: &Share, percent: u64, out: &mut String) -> Result<(), NoMemory>
-    ensures { OnOk result (string_bytes out.new ≡ string_bytes out.old ++ holds_text share.now percent) }
+    ensures { OnOk result (Appends out.old out.new (holds_text share.now percent)) }
 {
     let Share {
         supplier,

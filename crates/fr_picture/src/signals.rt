@@ -1,9 +1,9 @@
 //! Payloads as strips of bits.
 ghost use Rattle.std.specs.Prelude.{◌≡◌, ℕ, List, ◌+◌, ◌*◌, ◌<◌, ◌≤◌, ◌%◌, ◌^◌, ◌++◌, IsPermutation, OnOk, IfOk, true};
 ghost use Rattle.std.specs.List.{range_with_len};
-ghost use Rattle.std.specs.String.{string_bytes};
 ghost use Rattle.fr_base.specs.Bits.{run_big, run_of};
 ghost use Rattle.fr_picture.specs.Strips.{HasItsBits, bars_text, bits_in, row_of, run_text, runs_text, signal_text, signals_text, strip_text};
+ghost use Rattle.fr_picture.specs.Texts.{Appends};
 
 use crate::texts::{Fixed, push_fixed};
 use fr_base::{Name, NoMemory, Order, Signal};
@@ -100,7 +100,7 @@ fn push_last(runs: &mut Vec<Run>, high: u64, left: u64) -> Result<(), NoMemory>
 /// Appends a payload as a strip of bits, with its signals. Each next signal stands in the other one of two rows.
 #[tactic(auto, unfolding(crate::specs::Strips::strip_text))]
 pub(crate) fn push_strip(signals: &[DrawnSignal], out: &mut String) -> Result<(), NoMemory>
-    ensures { OnOk result (string_bytes out.new ≡ string_bytes out.old ++ strip_text signals.now) }
+    ensures { OnOk result (Appends out.old out.new (strip_text signals.now)) }
 {
     if signals.is_empty() {
         return push_fixed(Fixed::NoStrip, out);
@@ -113,7 +113,7 @@ pub(crate) fn push_strip(signals: &[DrawnSignal], out: &mut String) -> Result<()
 
 // Appends the bits of signals.
 fn push_bars(signals: &[DrawnSignal], out: &mut String) -> Result<(), NoMemory>
-    ensures { OnOk result (string_bytes out.new ≡ string_bytes out.old ++ bars_text true signals.now) }
+    ensures { OnOk result (Appends out.old out.new (bars_text true signals.now)) }
 {
     let mut upper = true;
     for signal in signals {
@@ -132,7 +132,7 @@ fn row_of(upper: bool) -> u32
 
 #[tactic(auto, unfolding(crate::specs::Strips::runs_text))]
 fn push_runs(row: u32, runs: &[Run], out: &mut String) -> Result<(), NoMemory>
-    ensures { OnOk result (string_bytes out.new ≡ string_bytes out.old ++ runs_text row runs.now) }
+    ensures { OnOk result (Appends out.old out.new (runs_text row runs.now)) }
 {
     for run in runs {
         push_run(row, run.start, run.length, out)?;
@@ -142,7 +142,7 @@ fn push_runs(row: u32, runs: &[Run], out: &mut String) -> Result<(), NoMemory>
 
 #[tactic(auto, unfolding(crate::specs::Strips::run_text))]
 fn push_run(row: u32, start: u64, length: u64, out: &mut String) -> Result<(), NoMemory>
-    ensures { OnOk result (string_bytes out.new ≡ string_bytes out.old ++ run_text row start length) }
+    ensures { OnOk result (Appends out.old out.new (run_text row start length)) }
 {
     write!(out, "M{start},{row}h{length}")
 }
@@ -150,7 +150,7 @@ fn push_run(row: u32, start: u64, length: u64, out: &mut String) -> Result<(), N
 // Appends the signals' names, with where they start, their lengths and orders.
 #[tactic(auto, unfolding(crate::specs::Strips::signals_text))]
 fn push_signals(signals: &[DrawnSignal], out: &mut String) -> Result<(), NoMemory>
-    ensures { OnOk result (string_bytes out.new ≡ string_bytes out.old ++ signals_text signals.now) }
+    ensures { OnOk result (Appends out.old out.new (signals_text signals.now)) }
 {
     for signal in signals {
         let one = signal.signal;
@@ -167,7 +167,7 @@ fn push_signal(
     order: Order,
     out: &mut String,
 ) -> Result<(), NoMemory>
-    ensures { OnOk result (string_bytes out.new ≡ string_bytes out.old ++ signal_text name start length order) }
+    ensures { OnOk result (Appends out.old out.new (signal_text name start length order)) }
 {
     match order {
         Order::Little => write!(out, " {name}:{start}+{length}"),

@@ -4,47 +4,55 @@ ghost use Rattle.fr_picture.specs.Styles.{letter_of, style_text};
 
 /// The style of a page.
 const STYLE: &str = "
-@page{size:A4 landscape;margin:10mm}
-body{font:14px/1.4 sans-serif;color:#111;margin:1em auto;max-width:1100px;padding:0 1em}
+@page{size:A4 landscape;margin:12mm 10mm}
+body{font:14px/1.4 sans-serif;color:#111;margin:1em auto;max-width:1600px;padding:0 1em}
 h1{font-size:1.5em;margin:0}
-h2{font-size:1.15em;margin:1.2em 0 .3em}
-p{margin:.3em 0}
-.c0{fill:#56B4E9;background:#56B4E9}
-.c1{fill:#E69F00;background:#E69F00}
-.c2{fill:#009E73;background:#009E73}
-.c3{fill:#F0E442;background:#F0E442}
-.c4{fill:#CC79A7;background:#CC79A7}
-.c5{fill:#D55E00;background:#D55E00}
-.c6{fill:#0072B2;background:#0072B2}
-.c7{fill:#BBBBBB;background:#BBBBBB}
-svg.defs{width:0;height:0;position:absolute}
-svg.plan{display:block;width:100%;margin:0 0 1em;break-inside:avoid}
-svg.plan>svg{overflow:visible}
-text{font-size:.85px;dominant-baseline:hanging;fill:#111;transform:translate(.15px,.1px)}
+h2{font-size:1.15em;margin:1.2em 0 .3em;break-after:avoid}
+p{margin:.3em 0;max-width:75em}
+a{color:inherit}
+.c0{fill:#56B4E9;background:#56B4E9;stroke:#56B4E9}
+.c1{fill:#E69F00;background:#E69F00;stroke:#E69F00}
+.c2{fill:#009E73;background:#009E73;stroke:#009E73}
+.c3{fill:#F0E442;background:#F0E442;stroke:#F0E442}
+.c4{fill:#CC79A7;background:#CC79A7;stroke:#CC79A7}
+.c5{fill:#D55E00;background:#D55E00;stroke:#D55E00}
+.c6{fill:#0072B2;background:#0072B2;stroke:#0072B2}
+.c7{fill:#882255;background:#882255;stroke:#882255}
+.defs svg{width:0;height:0;position:absolute}
+.plan{overflow-x:auto}
+.plan>svg{display:block;width:100%;min-width:1240px}
+svg[x]{overflow:visible}
+nav{display:flex;flex-wrap:wrap;gap:8px;--text:none;--line:0}
+nav a{text-decoration:none;border:1px solid #777;padding:2px 2px 0}
+nav svg{display:block;width:138px}
+text{font-size:.85px;dominant-baseline:hanging;fill:#111;stroke:none;transform:translate(.15px,.1px);display:var(--text,inline)}
 .v,.n{writing-mode:vertical-rl;transform:translate(.5px,.3px);dominant-baseline:middle}
 .names{text-anchor:end}
 .band{font-size:1.2px;font-weight:bold}
-path[id],.plan path{stroke:#222;stroke-width:.08px}
+path{stroke:#222;stroke-width:var(--line,.08px)}
 use+text,path+text{paint-order:stroke;stroke:#fff;stroke-width:.2px}
 .n{stroke:none}
-#free{fill-opacity:.06;stroke:#000;stroke-opacity:.2;stroke-width:.05px}
-#gap{fill-opacity:.2}
-#free,#gap{fill:#000}
-#held{stroke:#777;stroke-width:.08px}
-#held rect{fill:none;pointer-events:all}
-ul{list-style:none;padding:0;columns:2}
+#gap{fill:#ccc;stroke:none}
+#free{fill:none;stroke:#bbb;stroke-width:var(--line,.06px)}
+#held rect{fill:none;pointer-events:all;stroke:#777;stroke-width:var(--line,.06px)}
+#held path{stroke:inherit;stroke-opacity:.5;stroke-width:var(--line,.1px)}
+ul{list-style:none;padding:0;columns:28em;margin:.5em 0}
 li{break-inside:avoid}
-i{display:inline-block;width:2.4em;border:1px solid #222;text-align:center;font-style:normal;text-shadow:0 0 2px #fff,0 0 2px #fff,0 0 2px #fff}
+i{display:inline-block;width:2.4em;border:1px solid #222;text-align:center;font-style:normal;paint-order:stroke;-webkit-text-stroke:3px #fff}
 table{border-collapse:collapse;width:100%;font-size:.85em}
 th,td{text-align:left;vertical-align:top;padding:.2em .5em;border-bottom:1px solid #ccc}
-td:nth-child(4){white-space:pre-line}
-th:nth-child(6){min-width:400px}
-td:nth-child(5),th:nth-child(5){text-align:right}
-td:nth-child(6){background:linear-gradient(#e4e4e4,#e4e4e4) .5em .2em/400px 12px no-repeat}
 tr{break-inside:avoid}
+.index{columns:16em;font-size:.85em}
+.index a{font-weight:bold}
+.frames td:nth-child(5){white-space:pre-line}
+.frames th:nth-child(7){min-width:400px}
+.frames td:nth-child(6),.frames th:nth-child(6){text-align:right}
+.frames td:nth-child(7){background:linear-gradient(#e4e4e4,#e4e4e4) .5em .2em/400px 12px no-repeat}
+:target{background:#ffd}
 td svg{display:block;width:400px;height:12px}
 td path{stroke:#0072B2;stroke-width:6px}
 *{-webkit-print-color-adjust:exact;print-color-adjust:exact}
+@media print{body{margin:0;max-width:none;padding:0}.plan{overflow:visible}.plan>svg{min-width:0;break-inside:avoid}}
 ";
 
 /// The style of a page.

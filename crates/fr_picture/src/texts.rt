@@ -1,13 +1,12 @@
 //! Texts that are put behind others.
-ghost use Rattle.std.specs.Prelude.{◌≡◌, ◌++◌, OnOk};
-ghost use Rattle.std.specs.String.{string_bytes};
-ghost use Rattle.fr_picture.specs.Texts.{fixed_text};
+ghost use Rattle.std.specs.Prelude.{◌≡◌, OnOk};
+ghost use Rattle.fr_picture.specs.Texts.{Appends, fixed_text};
 
 use fr_base::NoMemory;
 
 /// Appends the text.
 pub(crate) fn push(text: &str, out: &mut String) -> Result<(), NoMemory>
-    ensures { OnOk result (string_bytes out.new ≡ string_bytes out.old ++ text.now) }
+    ensures { OnOk result (Appends out.old out.new text.now) }
 {
     out.push_str(text)
 }
@@ -29,7 +28,7 @@ pub(crate) enum Fixed {
     PathStart,
     /// The end of a path's description.
     QuoteEnd,
-    /// The beginning of a title's cycles.
+    /// The beginning of cycles that no repetition has.
     CyclesStart,
     /// The end of a path with a title.
     PathEnd,
@@ -39,12 +38,28 @@ pub(crate) enum Fixed {
     TextEnd,
     /// The end of a shape without a title.
     ShapeEnd,
-    /// A lane that nobody holds.
+    /// The beginning of the shape of a lane of which no grant is.
+    FreeStart,
+    /// Such a lane.
     Free,
+    /// The beginning of slots that nobody holds.
+    GapOfNobody,
+    /// The beginning of slots that are another supplier's or nobody's.
+    GapOfOthers,
     /// The end of a lane.
     LaneEnd,
     /// The end of a granted lane's shape.
     HeldEnd,
+    /// The beginning of the legend.
+    LegendStart,
+    /// The end of the legend, with what the drawing's marks mean.
+    LegendEnd,
+    /// The same on the page of one supplier.
+    LegendEndOfOne,
+    /// The beginning of the overview.
+    OverviewStart,
+    /// The end of the overview.
+    OverviewEnd,
     /// The beginning of the shapes.
     ShapesStart,
     /// The beginning of the cycles' numbers.
@@ -55,10 +70,14 @@ pub(crate) enum Fixed {
     BandB,
     /// Of both.
     BandsAB,
-    /// The end of the drawing, and the beginning of the legend.
-    LegendStart,
-    /// The end of the legend, and the head of the table of frames.
-    TableStart,
+    /// The beginning of a grant's row.
+    SlotRow,
+    /// What stands between two frames of a slot.
+    Comma,
+    /// The end of the table of slots.
+    SlotTableEnd,
+    /// The beginning of the index of frames.
+    IndexStart,
     /// The end of the page.
     PageEnd,
 }
@@ -84,16 +103,26 @@ impl Fixed {
             Fixed::UseEnd => USE_END,
             Fixed::TextEnd => TEXT_END,
             Fixed::ShapeEnd => SHAPE_END,
+            Fixed::FreeStart => FREE_START,
             Fixed::Free => FREE,
+            Fixed::GapOfNobody => GAP_OF_NOBODY,
+            Fixed::GapOfOthers => GAP_OF_OTHERS,
             Fixed::LaneEnd => LANE_END,
             Fixed::HeldEnd => HELD_END,
+            Fixed::LegendStart => LEGEND_START,
+            Fixed::LegendEnd => LEGEND_END,
+            Fixed::LegendEndOfOne => LEGEND_END_OF_ONE,
+            Fixed::OverviewStart => OVERVIEW_START,
+            Fixed::OverviewEnd => OVERVIEW_END,
             Fixed::ShapesStart => SHAPES_START,
             Fixed::NumbersStart => NUMBERS_START,
             Fixed::BandA => BAND_A,
             Fixed::BandB => BAND_B,
             Fixed::BandsAB => BANDS_AB,
-            Fixed::LegendStart => LEGEND_START,
-            Fixed::TableStart => TABLE_START,
+            Fixed::SlotRow => SLOT_ROW,
+            Fixed::Comma => COMMA,
+            Fixed::SlotTableEnd => SLOT_TABLE_END,
+            Fixed::IndexStart => INDEX_START,
             Fixed::PageEnd => PAGE_END,
         }
     }
@@ -103,7 +132,7 @@ const OPENED_EMPTY: &str = "It was opened empty,";
 
 const NEVER: &str = "<td>never";
 
-const STRIP_START: &str = "<td><svg><path d=";
+const STRIP_START: &str = "<td><svg role=none><path d=";
 
 const STRIP_END: &str = " /></svg>";
 
@@ -111,13 +140,9 @@ const NO_STRIP: &str = "<td>";
 
 const PATH_START: &str = "<path d=\"";
 
-const CYCLES_START: &str = " cycles";
-
-const FREE: &str = "<use href=#free />";
-
-const LANE_END: &str = "</svg>\n";
-
 const QUOTE_END: &str = "\">";
+
+const CYCLES_START: &str = " cycles";
 
 const PATH_END: &str = "</title></path>";
 
@@ -127,9 +152,32 @@ const TEXT_END: &str = "</text>";
 
 const SHAPE_END: &str = "\"/>\n";
 
+const FREE_START: &str = "<path id=free d=\"";
+
+const FREE: &str = "<use href=#free />";
+
+const GAP_OF_NOBODY: &str = "<use href=#gap /><text class=n y=0>nobody holds ";
+
+const GAP_OF_OTHERS: &str = "<use href=#gap /><text class=n y=0>not held ";
+
+const LANE_END: &str = "</svg>\n";
+
 const HELD_END: &str = "\"/></g>\n";
 
-const SHAPES_START: &str = "<svg class=defs><defs>\n";
+const LEGEND_START: &str = "<h2>Suppliers</h2>\n<ul>\n";
+
+const LEGEND_END: &str =
+    "</ul>\n<p>Cycles go down, slots go across. A lane is a slot on a channel. Above and below it stands the letter of the supplier that holds it. Nobody holds a crossed lane, nor the slots of a grey strip. A hatched cell is granted, and nothing is sent in it. The title of a rectangle has its frame, its node and supplier, its slot and channel, and its cycles; 1/4 is base 1 and repetition 4. The tables below say the same.</p>\n";
+
+const LEGEND_END_OF_ONE: &str =
+    "</ul>\n<p>Cycles go down, slots go across. A lane is a slot on a channel. Above and below it stands the letter of the supplier that holds it. A crossed lane and the slots of a grey strip are another supplier's or nobody's. A hatched cell is granted, and nothing is sent in it. The title of a rectangle has its frame, its node and supplier, its slot and channel, and its cycles; 1/4 is base 1 and repetition 4. The tables below say the same.</p>\n";
+
+const OVERVIEW_START: &str =
+    "<h2>Overview</h2>\n<p>Each part leads to its drawing. Below it stands the first of its slots.</p>\n<nav>\n";
+
+const OVERVIEW_END: &str = "</nav>\n";
+
+const SHAPES_START: &str = "<div class=defs><svg aria-hidden=true><g><defs>\n";
 
 const NUMBERS_START: &str = "<g id=numbers>";
 
@@ -142,17 +190,20 @@ const BAND_B: &str =
 const BANDS_AB: &str =
     "</g><g id=cycles><use href=#numbers /><use href=#numbers x=68 /><text class=band x=4 y=-3.6>channel A</text><text class=band x=72 y=-3.6>channel B</text></g></defs>\n";
 
-const LEGEND_START: &str =
-    "</svg>\n<h2>Suppliers</h2>\n<p>Cycles go down, slots go across. A lane is a slot on a channel. Above it stand the slot and the mark of the supplier that holds it. Nobody holds a grey lane. A hatched cell is granted, and nothing is sent in it. The title of a rectangle has its frame, its node and supplier, its slot and channel, and its cycles; 1/4 is base 1 and repetition 4.</p>\n<ul>\n";
+const SLOT_ROW: &str = "<tr><td>";
 
-const TABLE_START: &str =
-    "</ul>\n<h2>Frames</h2>\n<p>The worst are first. A placement has its slot, its channels, and its base and repetition. A gap is in macroticks. A payload has its bits from 0 on, from left to right. A signal has the bit at which it starts, and its length in bits; big order is said.</p>\n<table>\n<tr><th>frame<th>node<th>supplier<th>placements<th>greatest gap<th>payload and signals\n";
+const COMMA: &str = ",";
+
+const SLOT_TABLE_END: &str = "</table>\n";
+
+const INDEX_START: &str =
+    "<h2>Frames</h2>\n<p>By name, each with its supplier's letter and its number in the table below:</p>\n<ul class=index>\n";
 
 const PAGE_END: &str = "</table>\n</html>\n";
 
 /// Appends a text that is always the same.
 pub(crate) fn push_fixed(fixed: Fixed, out: &mut String) -> Result<(), NoMemory>
-    ensures { OnOk result (string_bytes out.new ≡ string_bytes out.old ++ fixed_text fixed) }
+    ensures { OnOk result (Appends out.old out.new (fixed_text fixed)) }
 {
     push(fixed.text(), out)
 }

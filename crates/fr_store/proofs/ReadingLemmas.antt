@@ -15,7 +15,7 @@ use Rattle.fr_base.proofs.SoundRows.{same_text-is}
 use Rattle.fr_world.specs.BookEdits.{variants_in}
 use Rattle.fr_world.specs.Common.{depth_after}
 use Rattle.fr_world.specs.Pages.{nodes_in}
-use Rattle.fr_world.specs.declared.variants.VariantRow as world
+use Rattle.fr_base.specs.declared.answer.VariantRow as world
 use Rattle.fr_tables.specs.Rows.{VariantRow, maybe_words, of_maybe, flag}
 use Rattle.fr_tables.specs.Tables.{Tables}
 use Rattle.sqlite.specs.State.{State, IsUnchanged}

@@ -12,7 +12,7 @@ use Rattle.fr_base.specs.declared.channel.Channel.{Channel}
 use Rattle.fr_base.specs.declared.limits.TheConstants.{MAX_VARIANTS}
 use Rattle.fr_base.specs.declared.name.Name.{Name}
 use Rattle.fr_world.specs.Common.{depth_after}
-use Rattle.fr_world.specs.declared.variants.VariantRow.{VariantRow}
+use Rattle.fr_base.specs.declared.answer.VariantRow.{VariantRow}
 use Rattle.fr_tables.specs.Rows.{words, number, bytes, maybe_words}
 use Rattle.fr_tables.specs.Tables.{Tables, HasTables}
 use Rattle.fr_tables.specs.Changes.{Stays, AreListed, tables_of}

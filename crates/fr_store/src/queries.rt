@@ -18,9 +18,9 @@ use crate::page::rows;
 use crate::reading::{first_holder, first_import, names_of, opened_variants};
 use crate::slot_holder::Holder;
 use crate::store::Store;
-use fr_base::{Channel, Name, Slot};
+use fr_base::{Channel, Name, Slot, VariantRow};
 use fr_tables::tables;
-use fr_world::{KeptImport, Page, VariantRow};
+use fr_world::{KeptImport, Page};
 use sqlite::Alter;
 use std::alloc::Global;
 

@@ -8,9 +8,9 @@ ghost use Rattle.fr_store.specs.declared.fault.StoreFault.TheVariants.{Unavailab
 
 use crate::fault::StoreFault;
 use crate::slot_holder::Holder;
-use fr_base::{MAX_DEPTH, MAX_VARIANTS, Name};
+use fr_base::{MAX_DEPTH, MAX_VARIANTS, Name, VariantRow};
 use fr_tables::values::{body_at, flag_at, maybe_name_at, name_at, number_at};
-use fr_world::{KeptImport, VariantRow};
+use fr_world::KeptImport;
 use sqlite::Row;
 use std::alloc::Global;
 

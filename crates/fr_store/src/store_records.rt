@@ -9,9 +9,9 @@ ghost use Rattle.fr_store.specs.Settled.{stored_settled};
 
 use crate::fault::StoreFault;
 use crate::store::Store;
-use fr_base::{Channel, Config, Name, Refusal, Slot};
+use fr_base::{Channel, Config, Name, Refusal, Slot, VariantRow};
 use fr_records::Records;
-use fr_world::{Edit, KeptImport, Page, VariantRow};
+use fr_world::{Edit, KeptImport, Page};
 use sqlite::Alter;
 use std::alloc::Global;
 
@@ -46,8 +46,6 @@ impl<S: Alter> Records for Store<S> {
         see_open(self)?;
         answer(self.page(alloc, &supplier, &variant))
     }
-
-    fn keep(&mut self, _page: Page) {}
 
     fn is_held(&mut self, variant: Name, slot: Slot, channel: Channel) -> Result<bool, Refusal> {
         see_open(self)?;

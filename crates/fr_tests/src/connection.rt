@@ -2,8 +2,8 @@
 //! writes that are tried again too seldom, too often, or after another error. Replies are typed by hand from the
 //! formats.
 use fr_base::{
-    Actor, Answer, Ask, Channel, Desk, Name, NoMemory, Refusal, Report, Request, Rows, Sending,
-    Slot,
+    Actor, Answer, Ask, Channel, Desk, Name, NoMemory, Query, Refusal, Report, ReportRows, Request,
+    Rows, Sending, Slot,
 };
 use fr_http::{LinkFault, Served, serve_one};
 use std::alloc::Global;
@@ -41,7 +41,10 @@ impl Counter {
     fn schedule(&self, alloc: Global) -> Result<Answer, NoMemory> {
         let mut rows = Rows::new(alloc);
         rows.push(self.sending)?;
-        Ok(Answer::Schedule { all: false, rows })
+        Ok(Answer::Report {
+            all: false,
+            rows: ReportRows::Schedule(rows),
+        })
     }
 }
 
@@ -61,10 +64,12 @@ impl Desk for Counter {
     fn ask(&mut self, alloc: Global, ask: &Ask) -> Answer {
         self.asked = self.asked.saturating_add(1);
         match ask.request {
-            Request::Query {
-                report: Report::Schedule,
-                ..
-            } => self
+            Request::Query(
+                Query::Variant {
+                    report: Report::Schedule,
+                    ..
+                },
+            ) => self
                 .schedule(alloc)
                 .unwrap_or(Answer::Refused(Refusal::Unavailable)),
             _ => Answer::Done,

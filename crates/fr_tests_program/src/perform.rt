@@ -1,9 +1,9 @@
 //! The jobs on files. The check would let pass a job that ends in a fault, or never sees what the jobs before it did,
 //! though nothing fails.
 use crate::fixture::{CLUSTER, PLAN, carried_out};
-use fr_base::Report;
+use fr_base::{Query, Report};
 use fr_cli::perform::perform;
-use fr_cli::{Job, Query};
+use fr_cli::{Inquiry, Job};
 use fr_desks::file_desk;
 use sqlite::Unknown;
 use std::fs;
@@ -38,9 +38,9 @@ fn fails(rt: &HostRuntime, job: &Job<'_>, why: &str) -> bool {
 
 // The integrator's report of `v1` in the register file.
 fn report_of<'a>(db: &'a str, report: Report<&'a str>) -> Job<'a> {
-    let query = Query {
-        variant: "v1",
-        report,
+    let variant = "v1";
+    let query = Inquiry {
+        query: Query::Variant { variant, report },
         supplier: None,
     };
     Job::Report { db, query }

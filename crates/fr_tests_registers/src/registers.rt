@@ -3,7 +3,7 @@
 use crate::asks::{CLUSTER, DONE, FIRST, Line, are_answers, ask, push, push_lines};
 use fr_base::{Actor, Answer, Ask, Desk, Name};
 use fr_desks::MemoryDesk;
-use fr_text::{read_config, write_answer, write_layout};
+use fr_text::{read_config, write_answer, write_lines};
 use std::alloc::Global;
 use std::test::Fail;
 
@@ -126,7 +126,7 @@ fn a_list_of_requests_is_answered(rt: HostRuntime) -> Result<(), Fail> {
 fn layout(alloc: Global, desk: &mut MemoryDesk) -> Result<Vec<u8>, Fail> {
     let ask = ask(alloc, desk, "supplier01", LAYOUT)?;
     let answer = desk.ask(alloc, &ask);
-    Ok(write_layout(alloc, &answer)?)
+    Ok(write_lines(alloc, &answer)?)
 }
 
 #[test]

@@ -3,11 +3,11 @@
 ghost use Rattle.std.specs.Prelude.{◌≡◌, IsTrue, IfOk};
 
 use crate::asks::{FIRST, are_answers, config, name, push_lines};
-use fr_base::{Channel, Channels, CycleSet, Placement, Slot};
+use fr_base::{Channel, Channels, CycleSet, Placement, Slot, VariantRow};
 use fr_office::Office;
 use fr_records::Records;
 use fr_store::{Holder, MemoryFile, Store, StoreFault};
-use fr_world::{ChannelSlot, Page, VariantRow};
+use fr_world::{ChannelSlot, Page};
 use sqlite::{Alter, FileStore, Files, Options};
 use sqlite_disk::Disk;
 use std::alloc::Global;

@@ -5,12 +5,6 @@ use Rattle.std.specs.List.{flat_map}
 use Rattle.std.proofs.lemmas.List.{take_all, take_more}
 use Rattle.std.proofs.lemmas.List.Concat.{flat_map_single}
 use Rattle.std.proofs.lemmas.Grind.{flat_map-append, common_steps}
-use Rattle.fr_base.specs.declared.answer.Answer.{Answer}
-use Rattle.fr_base.specs.declared.answer.Answer.TheVariants.{Schedule, Gaps, Layout}
-use Rattle.fr_base.specs.declared.answer.Sending.{Sending}
-use Rattle.fr_base.specs.declared.answer.GapRow.{GapRow}
-use Rattle.fr_base.specs.declared.answer.SignalRow.{SignalRow}
-use Rattle.fr_text.specs.Report.{schedule_lines, gap_lines, layout_lines}
 use Rattle.fr_text.specs.declared.style.Style.{Style}
 use Rattle.fr_text.specs.declared.style.Style.TheVariants.{Json, Plain}
 use Rattle.fr_text.proofs.WordsLemmas.{adds}
@@ -119,20 +113,5 @@ pub set_in-none : {R : Type 0} (style : Style) (first : Bool → R → List ℕ)
     → length rows < 1 → old ≡ old ++ set_in style (lines_in first others all rows)
 set_in-none style first others all [] old none = sym (append-nil old) ∙ ap (λ text. old ++ text) (sym (set_in-nil style))
 set_in-none style first others all (r ∷ rows) old none = absurd (omega (arith, none))
-
-pub schedule_lines-other : (answer : Answer) → ((all : Bool) (rows : List Sending) → answer ≡ Schedule all rows → ⊥) → schedule_lines answer ≡ []
-unfolding schedule_lines
-schedule_lines-other (Schedule all rows) other = absurd (other all rows refl)
-schedule_lines-other _ other = refl
-
-pub gap_lines-other : (answer : Answer) → ((all : Bool) (rows : List GapRow) → answer ≡ Gaps all rows → ⊥) → gap_lines answer ≡ []
-unfolding gap_lines
-gap_lines-other (Gaps all rows) other = absurd (other all rows refl)
-gap_lines-other _ other = refl
-
-pub layout_lines-other : (answer : Answer) → ((all : Bool) (rows : List SignalRow) → answer ≡ Layout all rows → ⊥) → layout_lines answer ≡ []
-unfolding layout_lines
-layout_lines-other (Layout all rows) other = absurd (other all rows refl)
-layout_lines-other _ other = refl
 
 pub ruleset rows = (lines_in-single, plain_lines-nil)

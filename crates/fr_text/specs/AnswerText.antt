@@ -2,12 +2,13 @@
 -- nothing in it needs an escape.
 use Rattle.std.specs.Prelude.{List, ◌++◌, codes, ℕ, decimal}
 use Rattle.fr_base.specs.Channels.{text_of_channel}
+use Rattle.fr_base.specs.Queries.{name_of_rows}
 use Rattle.fr_base.specs.Refusals.{number_of, name_of}
 use Rattle.fr_base.specs.declared.answer.Answer.{Answer}
-use Rattle.fr_base.specs.declared.answer.Answer.TheVariants.{Done, Imported, Grants, Frames, Schedule, Gaps, Layout, Refused, RefusedRow}
+use Rattle.fr_base.specs.declared.answer.Answer.TheVariants.{Done, Imported, Report, Refused, RefusedRow}
 use Rattle.fr_base.specs.declared.refusal.Refusal.{Refusal}
 use Rattle.fr_base.specs.declared.refusal.Refusal.TheVariants.{CellTaken, BitTaken}
-use Rattle.fr_text.specs.Report.{lines_of}
+use Rattle.fr_text.specs.Report.{lines_of, lines_of_rows}
 use Rattle.fr_text.specs.Styles.{quoted, json_lines, plain_lines}
 
 -- a refusal that has no fields: its number and its name
@@ -39,11 +40,7 @@ text_of_row line refusal = codes "{\"line\":" ++ decimal line ++ codes ",\"no\":
 unfoldable pub text_of : Answer → List ℕ
 text_of Done = codes "{\"ok\":\"done\"}"
 text_of (Imported rows) = text_of_imported rows
-text_of (Grants all rows) = text_of_report (lines_of (Grants all rows)) (codes "grants")
-text_of (Frames all rows) = text_of_report (lines_of (Frames all rows)) (codes "frames")
-text_of (Schedule all rows) = text_of_report (lines_of (Schedule all rows)) (codes "schedule")
-text_of (Gaps all rows) = text_of_report (lines_of (Gaps all rows)) (codes "gaps")
-text_of (Layout all rows) = text_of_report (lines_of (Layout all rows)) (codes "layout")
+text_of (Report all rows) = text_of_report (lines_of_rows all rows) (name_of_rows rows)
 text_of (Refused refusal) = text_of_refusal refusal
 text_of (RefusedRow line refusal) = text_of_row line refusal
 

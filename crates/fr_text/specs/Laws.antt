@@ -4,9 +4,11 @@ use Rattle.std.specs.List.{list_all}
 use Rattle.std.specs.Str.{is_utf8}
 use Rattle.serde_json.specs.Data.{Data, Members, no_members, string, number, unsigned, null, object, put}
 use Rattle.serde_json.specs.Read.{read}
-use Rattle.fr_base.specs.Queries.{word_of}
+use Rattle.fr_base.specs.Queries.{word_of_query}
 use Rattle.fr_base.specs.declared.request.Request.{Request}
 use Rattle.fr_base.specs.declared.request.Request.TheVariants.{OpenVariant, Release, AddSupplier, AddNode, Grant, Revoke, AddFrame, DropFrame, Place, Unplace, AddSignal, DropSignal, Import, Query}
+use Rattle.fr_base.specs.declared.query.Query as asked
+use Rattle.fr_base.specs.declared.query.Query.TheVariants.{Register as OfRegister, Variant as OfVariant}
 use Rattle.fr_base.specs.declared.report.Report.{Report}
 use Rattle.fr_base.specs.declared.report.Report.TheVariants.{Layout}
 use Rattle.fr_text.specs.RequestText.{request_of}
@@ -30,6 +32,11 @@ abbrev pub frame_in : Report (List ℕ) → List (List ℕ × Data)
 frame_in (Layout f) = (codes "frame", string f) ∷ []
 frame_in _ = []
 
+-- the names in a query
+abbrev pub names_in : asked.Query (List ℕ) → List (List ℕ × Data)
+names_in (OfRegister held) = []
+names_in (OfVariant v report) = (codes "variant", string v) ∷ frame_in report
+
 -- the fields that a request is written with
 unfoldable pub fields_of : Request → Members
 fields_of (OpenVariant v parent) = fields ((codes "do", string (codes "open_variant")) ∷ (codes "variant", string v) ∷ (codes "from", text_or_null parent) ∷ [])
@@ -45,7 +52,7 @@ fields_of (Unplace v f k c b r) = fields ((codes "do", string (codes "unplace"))
 fields_of (AddSignal v f x start length order) = fields ((codes "do", string (codes "add_signal")) ∷ (codes "variant", string v) ∷ (codes "frame", string f) ∷ (codes "signal", string x) ∷ (codes "start", count start) ∷ (codes "length", count length) ∷ (codes "order", string order) ∷ [])
 fields_of (DropSignal v f x) = fields ((codes "do", string (codes "drop_signal")) ∷ (codes "variant", string v) ∷ (codes "frame", string f) ∷ (codes "signal", string x) ∷ [])
 fields_of (Import v label body) = fields ((codes "do", string (codes "import")) ∷ (codes "variant", string v) ∷ (codes "label", string label) ∷ (codes "body", string body) ∷ [])
-fields_of (Query v asked) = fields ((codes "do", string (word_of asked)) ∷ (codes "variant", string v) ∷ frame_in asked)
+fields_of (Query query) = fields ((codes "do", string (word_of_query query)) ∷ names_in query)
 
 -- a request's numbers
 abbrev pub numbers_of : Request → List ℕ

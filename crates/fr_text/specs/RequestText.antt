@@ -7,6 +7,9 @@ use Rattle.serde_json.specs.Data.{Members}
 use Rattle.serde_json.specs.Find.{as_object}
 use Rattle.fr_base.specs.declared.request.Request.{Request}
 use Rattle.fr_base.specs.declared.request.Request.TheVariants.{OpenVariant, Release, AddSupplier, AddNode, Grant, Revoke, AddFrame, DropFrame, Place, Unplace, AddSignal, DropSignal, Import, Query}
+use Rattle.fr_base.specs.declared.query.Inventory.{Inventory}
+use Rattle.fr_base.specs.declared.query.Inventory.TheVariants.{Cluster, Variants, Nodes}
+use Rattle.fr_base.specs.declared.query.Query.TheVariants.{Register as OfRegister, Variant as OfVariant}
 use Rattle.fr_base.specs.declared.report.Report.{Report}
 use Rattle.fr_base.specs.declared.report.Report.TheVariants.{Grants, Frames, Schedule, Gaps, Layout}
 use Rattle.fr_text.specs.Fields.{◌>>=◌, ◌>>◌, provided, value_of, only, text, text_or_null, whole}
@@ -127,12 +130,18 @@ import fields = do
 
 -- ---- queries
 
--- a report that names no frame
+-- what the register holds
+unfoldable pub inventory : Inventory → Members → Option Request
+inventory asked fields = do
+  provided (only (codes "do" ∷ []) fields)
+  Some (Query (OfRegister asked))
+
+-- a report of a variant that names no frame
 unfoldable pub report : Report (List ℕ) → Members → Option Request
 report asked fields = do
   provided (only (codes "do" ∷ codes "variant" ∷ []) fields)
   variant ← text (codes "variant") fields
-  Some (Query variant asked)
+  Some (Query (OfVariant variant asked))
 
 -- the layout of a frame
 unfoldable pub layout : Members → Option Request
@@ -140,7 +149,7 @@ layout fields = do
   provided (only (codes "do" ∷ codes "variant" ∷ codes "frame" ∷ []) fields)
   variant ← text (codes "variant") fields
   frame ← text (codes "frame") fields
-  Some (Query variant (Layout frame))
+  Some (Query (OfVariant variant (Layout frame)))
 
 -- ---- the request
 
@@ -160,6 +169,9 @@ readers =
     ∷ (codes "add_signal", add_signal)
     ∷ (codes "drop_signal", drop_signal)
     ∷ (codes "import", import)
+    ∷ (codes "cluster", inventory Cluster)
+    ∷ (codes "variants", inventory Variants)
+    ∷ (codes "nodes", inventory Nodes)
     ∷ (codes "grants", report Grants)
     ∷ (codes "frames", report Frames)
     ∷ (codes "schedule", report Schedule)

@@ -2,13 +2,15 @@
 ghost use Rattle.std.specs.Prelude.{◌≡◌, ◌++◌, codes, IfOk, OnOk, OnErr};
 ghost use Rattle.fr_text.specs.AnswerText.{text_of, text_of_report, text_of_imported, text_of_plain, text_of_refusal, text_of_row};
 ghost use Rattle.fr_base.specs.declared.refusal.Refusal.TheVariants as refused;
-ghost use Rattle.fr_text.specs.Styles.{quoted, lines_in};
+ghost use Rattle.fr_base.specs.Queries.{name_of_rows};
+ghost use Rattle.fr_text.specs.Report.{lines_of_rows};
+ghost use Rattle.fr_text.specs.Styles.{quoted};
 ghost use Rattle.fr_text.specs.Words.{Extends};
 
-use crate::report::{Row, push_rows};
+use crate::report::push_lines;
 use crate::style::Style;
 use crate::words::{push, push_decimal};
-use fr_base::{Answer, Channel, Name, NoMemory, Refusal};
+use fr_base::{Answer, Channel, Name, NoMemory, Refusal, ReportRows};
 use std::alloc::Global;
 
 /// The answer's text: compact JSON, its keys in byte order, with no line feed.
@@ -20,7 +22,7 @@ pub fn write_answer(alloc: Global, answer: &Answer) -> Result<Vec<u8>, NoMemory>
     Ok(out)
 }
 
-#[tactic(auto, using(crate::proofs::WordsLemmas::extending, crate::proofs::ReportLemmas::rows), unfolding(crate::specs::AnswerText::text_of, crate::specs::Report::lines_of))]
+#[tactic(auto, using(crate::proofs::WordsLemmas::extending), unfolding(crate::specs::AnswerText::text_of))]
 fn push_answer(answer: &Answer, out: &mut Vec<u8>) -> Result<(), NoMemory>
     ensures ok { OnOk result (out.new.items ≡ out.old.items ++ text_of answer.now) }
     ensures err { OnErr result (Extends out.old.items out.new.items) }
@@ -28,31 +30,22 @@ fn push_answer(answer: &Answer, out: &mut Vec<u8>) -> Result<(), NoMemory>
     match answer {
         Answer::Done => push("{\"ok\":\"done\"}", out),
         Answer::Imported { rows } => push_imported(*rows, out),
-        Answer::Grants { all, rows } => push_report(rows.as_slice(), *all, "grants", out),
-        Answer::Frames { all, rows } => push_report(rows.as_slice(), *all, "frames", out),
-        Answer::Schedule { all, rows } => push_report(rows.as_slice(), *all, "schedule", out),
-        Answer::Gaps { all, rows } => push_report(rows.as_slice(), *all, "gaps", out),
-        Answer::Layout { all, rows } => push_report(rows.as_slice(), *all, "layout", out),
+        Answer::Report { all, rows } => push_report(rows, *all, out),
         Answer::Refused(refusal) => push_refusal(refusal, out),
         Answer::RefusedRow { line, refusal } => push_refused_row(*line, refusal, out),
     }
 }
 
-// Appends a query's answer: the lines of the rows, and which query it answers.
+// Appends a report: its lines, and its name.
 #[tactic(auto, using(crate::proofs::WordsLemmas::extending))]
-fn push_report<R: Row>(
-    rows: &[R],
-    all: bool,
-    query: &str,
-    out: &mut Vec<u8>,
-) -> Result<(), NoMemory>
-    ensures ok { OnOk result (out.new.items ≡ out.old.items ++ text_of_report (lines_in R.first R.others all rows.now) query.now) }
+fn push_report(rows: &ReportRows, all: bool, out: &mut Vec<u8>) -> Result<(), NoMemory>
+    ensures ok { OnOk result (out.new.items ≡ out.old.items ++ text_of_report (lines_of_rows all rows.now) (name_of_rows rows.now)) }
     ensures err { OnErr result (Extends out.old.items out.new.items) }
 {
     push("{\"lines\":[", out)?;
-    push_rows(rows, all, Style::Json, out)?;
+    push_lines(rows, all, Style::Json, out)?;
     push("],\"ok\":", out)?;
-    push_quoted(query, out)?;
+    push_quoted(rows.name(), out)?;
     push("}", out)
 }
 

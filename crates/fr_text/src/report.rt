@@ -1,24 +1,23 @@
 //! Writes the lines of any report.
 ghost use Rattle.std.specs.Prelude.{◌≡◌, ◌++◌, IfOk, OnOk, OnErr, Bool, List, ℕ, ◌∷◌};
 ghost use Rattle.fr_text.specs.AnswerText.{report_of};
-ghost use Rattle.fr_text.specs.Styles.{joined, lines_in, marked, plain_lines, set_in};
+ghost use Rattle.fr_text.specs.Report.{lines_of_rows};
+ghost use Rattle.fr_text.specs.Styles.{joined, lines_in, marked, set_in};
 ghost use Rattle.fr_text.specs.Words.{Extends};
 
+mod cluster;
 mod frames;
 mod gaps;
 mod grants;
 mod layout;
+mod nodes;
 mod schedule;
 mod variants;
 
 use crate::style::Style;
 use crate::words::push;
-use fr_base::{Answer, NoMemory};
-pub use gaps::write_gaps;
-pub use layout::write_layout;
-pub use schedule::write_schedule;
+use fr_base::{Answer, NoMemory, ReportRows};
 use std::alloc::Global;
-pub use variants::write_variants;
 
 /// A row of a report, which makes a line, or more.
 pub(crate) trait Row {
@@ -67,28 +66,39 @@ fn push_behind<R: Row>(rows: &[R], all: bool, mark: &str, out: &mut Vec<u8>) -> 
     Ok(())
 }
 
-/// The lines of the rows, each with a line feed behind it.
-#[tactic(auto, unfolding(crate::specs::Styles::set_in))]
-pub(crate) fn report<R: Row>(alloc: Global, rows: &[R], all: bool) -> Result<Vec<u8>, NoMemory>
-    ensures { IfOk result (λ text. text.items ≡ plain_lines (lines_in R.first R.others all rows.now)) }
+/// Appends the lines of a report. An error leaves the old bytes in front.
+#[tactic(auto, using(crate::proofs::ReportLemmas::rows), unfolding(crate::specs::Report::lines_of_rows))]
+pub(crate) fn push_lines(
+    rows: &ReportRows,
+    all: bool,
+    style: Style,
+    out: &mut Vec<u8>,
+) -> Result<(), NoMemory>
+    ensures ok { OnOk result (out.new.items ≡ out.old.items ++ set_in style (lines_of_rows all rows.now)) }
+    ensures err { OnErr result (Extends out.old.items out.new.items) }
 {
-    let mut out = Vec::new(alloc);
-    push_rows(rows, all, Style::Plain, &mut out)?;
-    Ok(out)
+    match rows {
+        ReportRows::Cluster(rows) => push_rows(rows.as_slice(), all, style, out),
+        ReportRows::Variants(rows) => push_rows(rows.as_slice(), all, style, out),
+        ReportRows::Nodes(rows) => push_rows(rows.as_slice(), all, style, out),
+        ReportRows::Grants(rows) => push_rows(rows.as_slice(), all, style, out),
+        ReportRows::Frames(rows) => push_rows(rows.as_slice(), all, style, out),
+        ReportRows::Schedule(rows) => push_rows(rows.as_slice(), all, style, out),
+        ReportRows::Gaps(rows) => push_rows(rows.as_slice(), all, style, out),
+        ReportRows::Layout(rows) => push_rows(rows.as_slice(), all, style, out),
+    }
 }
 
 /// The lines of a query's answer, each with a line feed behind it. Another answer has none.
-#[tactic(auto, using(crate::proofs::ReportLemmas::rows), unfolding(crate::specs::AnswerText::report_of, crate::specs::Report::lines_of))]
+#[tactic(auto, using(crate::proofs::ReportLemmas::rows), unfolding(crate::specs::AnswerText::report_of, crate::specs::Report::lines_of, crate::specs::Styles::set_in))]
 pub fn write_lines(alloc: Global, answer: &Answer) -> Result<Vec<u8>, NoMemory>
     ensures { IfOk result (λ text. text.items ≡ report_of answer.now) }
 {
+    let mut out = Vec::new(alloc);
     match answer {
-        Answer::Grants { all, rows } => report(alloc, rows.as_slice(), *all),
-        Answer::Frames { all, rows } => report(alloc, rows.as_slice(), *all),
-        Answer::Schedule { all, rows } => report(alloc, rows.as_slice(), *all),
-        Answer::Gaps { all, rows } => report(alloc, rows.as_slice(), *all),
-        Answer::Layout { all, rows } => report(alloc, rows.as_slice(), *all),
+        Answer::Report { all, rows } => push_lines(rows, *all, Style::Plain, &mut out)?,
         Answer::Done | Answer::Imported { .. } | Answer::Refused(_) | Answer::RefusedRow { .. } =>
-            Ok(Vec::new(alloc)),
+            {}
     }
+    Ok(out)
 }

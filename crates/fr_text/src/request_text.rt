@@ -8,7 +8,7 @@ mod queries;
 mod supplier;
 
 use crate::fields::{Fields, read_json, text_in};
-use fr_base::{Refusal, Report, Request};
+use fr_base::{Inventory, Refusal, Report, Request};
 use std::alloc::Global;
 
 /// Reads a request. What is no request is `BadText`; want of memory is `Unavailable`.
@@ -42,6 +42,9 @@ fn request_in(alloc: Global, fields: &Fields) -> Result<Request, Refusal>
         "add_signal" => supplier::add_signal(alloc, fields),
         "drop_signal" => supplier::drop_signal(alloc, fields),
         "import" => supplier::import(alloc, fields),
+        "cluster" => queries::inventory(fields, Inventory::Cluster),
+        "variants" => queries::inventory(fields, Inventory::Variants),
+        "nodes" => queries::inventory(fields, Inventory::Nodes),
         "grants" => queries::report(alloc, fields, Report::Grants),
         "frames" => queries::report(alloc, fields, Report::Frames),
         "schedule" => queries::report(alloc, fields, Report::Schedule),

@@ -28,7 +28,7 @@ use Rattle.fr_world.specs.Common.{row_of, depth_after, common_edit}
 use Rattle.fr_world.specs.Nodes.{new_node}
 use Rattle.fr_world.specs.Pages.{nodes_in}
 use Rattle.fr_world.specs.declared.edit.Edit.TheVariants.{NewVariant, SetReleased, NewNode}
-use Rattle.fr_world.specs.declared.variants.VariantRow.{VariantRow}
+use Rattle.fr_base.specs.declared.answer.VariantRow.{VariantRow}
 use Rattle.fr_world.proofs.KeyLaws.{name_cmp, own_alike}
 use Rattle.fr_world.proofs.MapLaws.{contains-set_of}
 use Rattle.fr_world.proofs.PageLaws.{nodes-back}

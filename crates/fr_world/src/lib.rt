@@ -50,4 +50,4 @@ pub use page_sendings::sent;
 pub use row_occupancy::RowOccupancy;
 pub use suppliers::decide_supplier;
 pub use triggerings::Triggerings;
-pub use variants::{VariantRow, decide_common};
+pub use variants::decide_common;

@@ -3,20 +3,7 @@ ghost use Rattle.std.specs.Prelude.{◌≡◌, option_map};
 ghost use Rattle.fr_world.specs.Common.{common_edit, depth_after, row_of};
 
 use crate::edit::Edit;
-use fr_base::{CommonCommand, MAX_DEPTH, MAX_VARIANTS, Name, Refusal};
-
-/// A variant of the register, without the rows in it.
-#[derive(Clone, Copy, PartialEq, Eq)]
-pub struct VariantRow {
-    /// Its name.
-    pub variant: Name,
-    /// The variant that it was opened from; none where it was opened empty.
-    pub parent: Option<Name>,
-    /// 1 to 16: 1 without a parent, or one more than the parent's.
-    pub depth: u32,
-    /// Whether it is released.
-    pub released: bool,
-}
+use fr_base::{CommonCommand, MAX_DEPTH, MAX_VARIANTS, Name, Refusal, VariantRow};
 
 /// The edit that opens or releases a variant of the register, or the first refusal: for a new one
 /// `NoVariant`, `NotReleased` and `TooDeep` of its parent, then `Exists` and `Limit`; for a release

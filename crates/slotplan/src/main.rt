@@ -1,14 +1,18 @@
 //! The program `slotplan`: it reads the words after its name, has `fr_cli` do the job, and ends with its status.
 #![tactic(auto)]
 
+mod streams;
+
 use fr_cli::perform::{explain, perform};
 use fr_cli::{WordFault, read_words};
 use sqlite::Unknown;
 use std::env;
 use std::io::{self, ErrorKind};
 use std::process::ExitCode;
+use streams::StandIns;
 
 fn main(rt: HostRuntime) -> ExitCode {
+    let _closed = StandIns::new(&rt);
     ExitCode::from(run(&rt))
 }
 

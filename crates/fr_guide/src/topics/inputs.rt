@@ -19,7 +19,7 @@ pub fn topics() -> [Topic; 5]
 
 const TOO_LONG: Topic = Topic {
     word: "TooLong",
-    about: "a fault of `run` and `ask`. Standard input has more than 16777216 bytes.",
+    about: "a fault of `run` and `ask`. Standard input has more than 16777216 bytes, or a line of `ask` more than 1048576.",
     help: "\
 `run` has answered nothing. `ask` has answered the lines before, and what they did is in the file;
 but not those of the last 8192 bytes or less that it read at once.

@@ -1,12 +1,10 @@
 //! The lines of a layout: start, length, order and name of each signal.
-ghost use Rattle.std.specs.Prelude.{◌≡◌, [], IfOk};
-ghost use Rattle.fr_text.specs.Report.{signal_line, layout_lines};
-ghost use Rattle.fr_text.specs.Styles.{plain_lines};
+ghost use Rattle.std.specs.Prelude.{[]};
+ghost use Rattle.fr_text.specs.Report.{signal_line};
 
-use super::{Row, report};
+use super::Row;
 use crate::words::{four_digits, push_supplier, push_word, two_digits};
-use fr_base::{Answer, NoMemory, SignalRow};
-use std::alloc::Global;
+use fr_base::{NoMemory, SignalRow};
 
 impl Row for SignalRow {
     ghost first = { signal_line };
@@ -20,16 +18,5 @@ impl Row for SignalRow {
         push_word(self.signal.order().as_str().as_bytes(), out)?;
         push_word(self.signal.name().as_str().as_bytes(), out)?;
         push_supplier(all, &self.supplier, out)
-    }
-}
-
-/// The lines of a layout, each with a line feed behind it. Another answer has none.
-#[tactic(auto, using(crate::proofs::ReportLemmas::rows), unfolding(crate::specs::Report::layout_lines))]
-pub fn write_layout(alloc: Global, answer: &Answer) -> Result<Vec<u8>, NoMemory>
-    ensures { IfOk result (λ text. text.items ≡ plain_lines (layout_lines answer.now)) }
-{
-    match answer {
-        Answer::Layout { all, rows } => report(alloc, rows.as_slice(), *all),
-        _ => Ok(Vec::new(alloc)),
     }
 }

@@ -1,14 +1,12 @@
 //! The lines of a schedule: cycle, slot, channel, frame, node.
-ghost use Rattle.std.specs.Prelude.{◌≡◌, [], ◌∷◌, ◌++◌, IfOk, OnOk, OnErr};
+ghost use Rattle.std.specs.Prelude.{◌≡◌, [], ◌∷◌, ◌++◌, OnOk, OnErr};
 ghost use Rattle.fr_base.specs.Channels.{text_of_channel};
-ghost use Rattle.fr_text.specs.Report.{schedule_line, schedule_lines};
-ghost use Rattle.fr_text.specs.Styles.{plain_lines};
+ghost use Rattle.fr_text.specs.Report.{schedule_line};
 ghost use Rattle.fr_text.specs.Words.{two_digits, four_digits, line, Extends};
 
-use super::{Row, report};
+use super::Row;
 use crate::words::{four_digits, push_supplier, push_word, two_digits};
-use fr_base::{Answer, NoMemory, Sending};
-use std::alloc::Global;
+use fr_base::{NoMemory, Sending};
 
 impl Row for Sending {
     ghost first = { schedule_line };
@@ -33,15 +31,4 @@ fn push_cell(sending: &Sending, out: &mut Vec<u8>) -> Result<(), NoMemory>
     out.extend_from_slice(&two_digits(u32::from(sending.cycle)))?;
     push_word(&four_digits(sending.slot.get()), out)?;
     push_word(sending.channel.as_str().as_bytes(), out)
-}
-
-/// The lines of a schedule, each with a line feed behind it. Another answer has none.
-#[tactic(auto, using(crate::proofs::ReportLemmas::rows), unfolding(crate::specs::Report::schedule_lines))]
-pub fn write_schedule(alloc: Global, answer: &Answer) -> Result<Vec<u8>, NoMemory>
-    ensures { IfOk result (λ text. text.items ≡ plain_lines (schedule_lines answer.now)) }
-{
-    match answer {
-        Answer::Schedule { all, rows } => report(alloc, rows.as_slice(), *all),
-        _ => Ok(Vec::new(alloc)),
-    }
 }

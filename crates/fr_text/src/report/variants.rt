@@ -1,14 +1,11 @@
 //! The lines of the variants: name, parent, depth and state of each.
-ghost use Rattle.std.specs.Prelude.{◌≡◌, ◌++◌, [], codes, map, IfOk, OnOk, OnErr};
+ghost use Rattle.std.specs.Prelude.{◌≡◌, ◌++◌, [], codes, OnOk, OnErr};
 ghost use Rattle.fr_text.specs.Report.{parent_word, state_word, variant_line};
-ghost use Rattle.fr_text.specs.Styles.{plain_lines};
 ghost use Rattle.fr_text.specs.Words.{Extends};
 
-use super::{Row, report};
+use super::Row;
 use crate::words::{push, push_decimal, push_word};
-use fr_base::{Name, NoMemory};
-use fr_world::VariantRow;
-use std::alloc::Global;
+use fr_base::{Name, NoMemory, VariantRow};
 
 impl Row for VariantRow {
     ghost first = { λ _ row. variant_line row };
@@ -41,12 +38,4 @@ fn state_word(released: bool) -> &'static str
     ensures { result.now ≡ state_word released }
 {
     if released { "released" } else { "open" }
-}
-
-/// A line for each variant, with a line feed behind it: name, parent or a hyphen, depth, and `open` or `released`.
-#[tactic(auto, using(crate::proofs::ReportLemmas::rows))]
-pub fn write_variants(alloc: Global, variants: &[VariantRow]) -> Result<Vec<u8>, NoMemory>
-    ensures { IfOk result (λ text. text.items ≡ plain_lines (map variant_line variants.now)) }
-{
-    report(alloc, variants, true)
 }

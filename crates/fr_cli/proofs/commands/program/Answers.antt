@@ -13,17 +13,19 @@ returns c =
     (ap app_of_fields c.in_ok-bin_name.ensures.0 ∙ c.new.ensures.app, ap (λ (f : Command-F Command). f.has_globals) c.in_ok-bin_name.ensures.0 ∙ c.new.ensures.local) in
     let start : IsReadAs (unasked (codes "slotplan")) c.settings.result = c.settings.ensures (codes "slotplan") new in
     let started = with_job _ _ _ _ _ c.in_ok-subcommand.ensures start c.run.ensures in
-    let files = with_job _ _ _ _ _ c.in_ok-subcommand-6.ensures
-    (with_job _ _ _ _ _ c.in_ok-subcommand-5.ensures
+    let files = with_job _ _ _ _ _ c.in_ok-subcommand-5.ensures
     (with_job _ _ _ _ _ c.in_ok-subcommand-4.ensures
     (with_job _ _ _ _ _ c.in_ok-subcommand-3.ensures
-    (with_job _ _ _ _ _ c.in_ok-subcommand-2.ensures started c.in_ok-create.ensures) c.in_ok-migrate.ensures) c.in_ok-serve.ensures) c.in_ok-ask.ensures) c.in_ok-variants.ensures in
-    let reports = with_job _ _ _ _ _ c.in_ok-subcommand-10.ensures
-    (with_job _ _ _ _ _ c.in_ok-subcommand-9.ensures
-    (with_job _ _ _ _ _ c.in_ok-subcommand-8.ensures
-    (with_job _ _ _ _ _ c.in_ok-subcommand-7.ensures files c.in_ok-report.ensures) c.in_ok-report-2.ensures) c.in_ok-report-3.ensures) c.in_ok-report-4.ensures in
-    let changes = with_job _ _ _ _ _ c.in_ok-subcommand-13.ensures
-    (with_job _ _ _ _ _ c.in_ok-subcommand-12.ensures
-    (with_job _ _ _ _ _ c.in_ok-subcommand-11.ensures reports c.in_ok-layout.ensures) c.in_ok-report-5.ensures) c.in_ok-import.ensures in
+    (with_job _ _ _ _ _ c.in_ok-subcommand-2.ensures started c.in_ok-create.ensures) c.in_ok-migrate.ensures) c.in_ok-serve.ensures) c.in_ok-ask.ensures in
+    let inventories = with_job _ _ _ _ _ c.in_ok-subcommand-8.ensures
+    (with_job _ _ _ _ _ c.in_ok-subcommand-7.ensures
+    (with_job _ _ _ _ _ c.in_ok-subcommand-6.ensures files c.in_ok-inventory.ensures) c.in_ok-inventory-2.ensures) c.in_ok-inventory-3.ensures in
+    let reports = with_job _ _ _ _ _ c.in_ok-subcommand-12.ensures
+    (with_job _ _ _ _ _ c.in_ok-subcommand-11.ensures
+    (with_job _ _ _ _ _ c.in_ok-subcommand-10.ensures
+    (with_job _ _ _ _ _ c.in_ok-subcommand-9.ensures inventories c.in_ok-report.ensures) c.in_ok-report-2.ensures) c.in_ok-report-3.ensures) c.in_ok-report-4.ensures in
+    let changes = with_job _ _ _ _ _ c.in_ok-subcommand-15.ensures
+    (with_job _ _ _ _ _ c.in_ok-subcommand-14.ensures
+    (with_job _ _ _ _ _ c.in_ok-subcommand-13.ensures reports c.in_ok-layout.ensures) c.in_ok-report-5.ensures) c.in_ok-import.ensures in
     with_job _ _ _ _ _ c.in_ok-program.ensures
-    (with_job _ _ _ _ _ c.in_ok-subcommand-14.ensures changes c.in_ok-check.ensures) c.in_ok-explain.ensures
+    (with_job _ _ _ _ _ c.in_ok-subcommand-16.ensures changes c.in_ok-check.ensures) c.in_ok-explain.ensures

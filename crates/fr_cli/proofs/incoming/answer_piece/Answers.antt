@@ -1,19 +1,22 @@
-use Rattle.std.proofs.Common.{◌≡◌, ◌++◌, ◌∷◌, [], None, Err, refl, sym, ap, ◌∙◌, subst, append_assoc, rules}
+use Rattle.std.proofs.Common.{◌≡◌, ◌+◌, ◌<◌, ◌≤◌, ◌++◌, ◌∷◌, [], ℕ, List, None, Err, length, refl, sym, ap, ◌∙◌, subst, append_assoc, append-nil, arith, rules}
 use Rattle.std.proofs.KnownBytes.{Appends-nil, Appends-trans}
 use Rattle.fr_cli.specs.Answering.{AnswersLines}
-use Rattle.fr_cli.specs.Incoming.{AreFirstOfAll, EndsLines, HasHeard}
+use Rattle.fr_cli.specs.Incoming.{AreFirstOfAll, AreShort, EndsLines, HasHeard, max_line}
 use Rattle.fr_cli.specs.Script.{HasNo, parts_around, request_lines}
+use Rattle.fr_cli.specs.ScriptFault.{script_fault_of}
 use Rattle.fr_cli.specs.declared.script_fault.ScriptFault.TheVariants.{NoMemory}
 use Rattle.fr_cli.proofs.AnsweringLaws.{cut_after, cut_here, no_lines}
 use Rattle.fr_cli.proofs.EndedLines.{requests-append}
-use Rattle.fr_cli.proofs.IncomingLaws.{ends-none, ends-then, first_begin, first_then, first_whole, heard_more}
-use Rattle.fr_cli.proofs.LineLemmas.{has_no-append, no_feed, request_lines-none, split_by}
+use Rattle.fr_cli.proofs.IncomingLaws.{ends-none, ends-then, first_begin, first_then, first_whole, heard_cut, heard_more, long_by, not_long, short-then}
+use Rattle.fr_cli.proofs.LineLemmas.{has_no-append, no_feed, request_lines-none, short_ended, split_by, split_clear}
 use Rattle.fr_cli.proofs.incoming.answer_piece.Goals as goal
 
 pub loop-line-init : goal.loop-line-init
 loop-line-init g c = record {
   same = refl;
-  open_ended = c.requires;
+  open_ended = c.requires.open_ended;
+  fits = subst (λ (n : ℕ). n ≤ max_line) c.args.begun.now.ok.0 c.requires.short;
+  short = subst AreShort (sym (request_lines-none [] refl)) tt;
   falls = λ clean. clean;
   front = [];
   split = refl;
@@ -24,28 +27,38 @@ loop-line-init g c = record {
       (sym (request_lines-none [] refl)) (no_lines (g.D.Desk.clean c.args.desk.now) (g.D.Desk.stands c.args.desk.now));
 }
 
+pub returns-in_err-append-clause-heard : goal.returns-in_err-append-clause-heard
+returns-in_err-append-clause-heard g c =
+    let l = c.loop-line.invariant in
+    let bytes = c.args.begun.now.items ++ c.args.piece.now in
+    let line = c.in-Some.line.now in
+    let after = c.in-Some.after.now in
+    let begun = c.loop-line.begun.items in
+    let first : AreFirstOfAll bytes (request_lines l.front) =
+    subst (λ all. AreFirstOfAll all (request_lines l.front)) (sym l.split) (first_whole l.front _ l.ends) in
+    let rest : c.loop-line.rest.now ≡ line ++ 10 ∷ after = split_by c.loop-line.rest.now line after c.in-Some.ensures in
+    let split : bytes ≡ l.front ++ ((begun ++ line) ++ 10 ∷ after) = l.split ∙ ap (λ r. l.front ++ (begun ++ r)) rest ∙ ap (λ r. l.front ++ r) (sym (append_assoc begun line (10 ∷ after))) in
+    let clear : HasNo 10 (begun ++ line) = has_no-append 10 begun line l.open_ended (split_clear c.loop-line.rest.now line after c.in-Some.ensures) in
+    let is : c.from_residual.result ≡ Err (script_fault_of c.in_err-append.field-0.0) = search rules in
+    subst (HasHeard _ _ _ bytes _ _ _) (sym is)
+    (heard_cut _ _ _ bytes _ _ _ l.front l.written c.in_err-append.field-0.0 l.answered l.appended first
+    (λ e.
+    let was = c.in_err-append.was in
+    let over = c.append.ensures.too_long.0 cc in
+    (l.front, begun ++ line, 10 ∷ after, split, clear, long_by begun line (subst (λ (n : ℕ). max_line < n + length line) c.loop-line.begun.ok.0 over))))
+
 pub returns-in_err-extend_from_slice-clause-heard : goal.returns-in_err-extend_from_slice-clause-heard
 returns-in_err-extend_from_slice-clause-heard g c =
     let l = c.loop-line.invariant in
     let bytes = c.args.begun.now.items ++ c.args.piece.now in
     let first : AreFirstOfAll bytes (request_lines l.front) =
     subst (λ all. AreFirstOfAll all (request_lines l.front)) (sym l.split) (first_whole l.front _ l.ends) in
-    let is : c.from_residual.result ≡ Err NoMemory = search rules in
+    let is : c.from_residual-in_err-extend_from_slice.result ≡ Err NoMemory = search rules in
     subst (HasHeard _ _ _ bytes _ _ _) (sym is)
-    (record { heard = tt; early = cut_here _ _ _ _ _ _ _ _ _ (request_lines l.front) l.written (λ is. is) l.answered l.appended first first })
+    (record { heard = tt; early = cut_here _ _ _ _ _ _ _ _ _ (request_lines l.front) l.written (λ is. is) l.answered l.appended first first; too_long = λ e. absurd cc })
 
-pub returns-in_err-extend_from_slice-2-clause-heard : goal.returns-in_err-extend_from_slice-2-clause-heard
-returns-in_err-extend_from_slice-2-clause-heard g c =
-    let l = c.loop-line.invariant in
-    let bytes = c.args.begun.now.items ++ c.args.piece.now in
-    let first : AreFirstOfAll bytes (request_lines l.front) =
-    subst (λ all. AreFirstOfAll all (request_lines l.front)) (sym l.split) (first_whole l.front _ l.ends) in
-    let is : c.from_residual-in_err-extend_from_slice-2.result ≡ Err NoMemory = search rules in
-    subst (HasHeard _ _ _ bytes _ _ _) (sym is)
-    (record { heard = tt; early = cut_here _ _ _ _ _ _ _ _ _ (request_lines l.front) l.written (λ is. is) l.answered l.appended first first })
-
-pub returns-in_err-write_answers-clause-heard : goal.returns-in_err-write_answers-clause-heard
-returns-in_err-write_answers-clause-heard g c =
+pub returns-in_err-answer_requests-clause-heard : goal.returns-in_err-answer_requests-clause-heard
+returns-in_err-answer_requests-clause-heard g c =
     let l = c.loop-line.invariant in
     let bytes = c.args.begun.now.items ++ c.args.piece.now in
     let line = c.in-Some.line.now in
@@ -58,15 +71,15 @@ returns-in_err-write_answers-clause-heard g c =
     ap (λ r. begun ++ r) rest ∙ sym (append_assoc begun line (10 ∷ after)) ∙ sym (append_assoc (begun ++ line) (10 ∷ []) after) in
     let split : bytes ≡ l.front ++ (chunk ++ after) = l.split ∙ ap (λ r. l.front ++ r) same in
     let whole : c.deref.result.now ≡ chunk = search rules in
-    let is : c.from_residual-in_err-write_answers.result ≡ Err _ = search rules in
+    let is : c.from_residual-in_err-answer_requests.result ≡ Err _ = search rules in
     subst (HasHeard _ _ _ bytes _ _ _) (sym is)
     (record {
       heard = tt;
-      early = cut_after _ _ _ _ _ _ _ _ _ _ _ _ _ (request_lines l.front) l.written c.write_answers.ensures.falls l.answered l.appended
+      early = cut_after _ _ _ _ _ _ _ _ _ _ _ _ _ (request_lines l.front) l.written c.answer_requests.ensures.falls l.answered l.appended
           (λ k so. subst (λ all. AreFirstOfAll all (request_lines l.front ++ k)) (sym split) (first_then l.front (chunk ++ after) k l.ends (first_begin chunk after k so.0 ends (ap request_lines (sym whole) ∙ so.1))))
-          (λ k so. subst (λ all. AreFirstOfAll all (request_lines l.front ++ k)) (sym split)
-          (first_then l.front (chunk ++ after) k l.ends (first_begin chunk after k (so.0 ∷ so.1) ends (ap request_lines (sym whole) ∙ so.2))))
-          c.in_err-write_answers.ensures.written.early;
+          (λ k so. subst (λ all. AreFirstOfAll all (request_lines l.front ++ k)) (sym split) (first_then l.front (chunk ++ after) k l.ends (first_begin chunk after k so.0 ends (ap request_lines (sym whole) ∙ so.1))))
+          c.in_err-answer_requests.ensures.asked.early;
+      too_long = λ e. absurd (not_long _ c.in_err-answer_requests.ensures.asked.faults cc);
     })
 
 pub loop-line-preserved : goal.loop-line-preserved
@@ -80,37 +93,50 @@ loop-line-preserved g c =
     let ends : EndsLines chunk = requests-append (begun ++ line) in
     let same : begun ++ c.loop-line.rest.now ≡ chunk ++ after =
     ap (λ r. begun ++ r) rest ∙ sym (append_assoc begun line (10 ∷ after)) ∙ sym (append_assoc (begun ++ line) (10 ∷ []) after) in
-    let (written, appended, answers) = c.in_ok-write_answers.ensures.written.all in
+    let (written, appended, answers) = c.in_ok-answer_requests.ensures.asked.all in
     let whole : c.deref.result.now ≡ chunk = search rules in
-    let answered = subst (λ b. AnswersLines (g.D.Desk.clean c.write_answers.new.desk) (g.D.Desk.stands c.loop-line.desk) (g.D.Desk.stands c.write_answers.new.desk) (request_lines b) written) whole answers in
+    let answered = subst (λ b. AnswersLines (g.D.Desk.clean c.answer_requests.new.desk) (g.D.Desk.stands c.loop-line.desk) (g.D.Desk.stands c.answer_requests.new.desk) (request_lines b) written) whole answers in
     let none : c.clear.new.self.items ≡ [] = search rules in
+    let clear : HasNo 10 (begun ++ line) = has_no-append 10 begun line l.open_ended (split_clear c.loop-line.rest.now line after c.in-Some.ensures) in
+    let fits : length (begun ++ line) ≤ max_line = search rules in
     record {
-      same = c.write_answers.ensures.same ∙ l.same;
-      falls = λ clean. l.falls (c.write_answers.ensures.falls clean);
+      same = c.answer_requests.ensures.same ∙ l.same;
+      falls = λ clean. l.falls (c.answer_requests.ensures.falls clean);
       front = l.front ++ chunk;
       split = l.split ∙ ap (λ r. l.front ++ r) same ∙ sym (append_assoc l.front chunk after) ∙ ap (λ b. (l.front ++ chunk) ++ (b ++ after)) (sym none);
       ends = ends-then l.front chunk l.ends ends;
       open_ended = subst (HasNo 10) (sym none) tt;
+      fits = subst (λ (b : List ℕ). length b ≤ max_line) (sym none) (omega arith);
+      short = short-then l.front chunk l.ends l.short (short_ended (begun ++ line) clear fits);
       written = l.written ++ written;
       appended = Appends-trans _ _ _ l.written written l.appended appended;
-      answered = heard_more _ _ _ _ _ l.front chunk l.written written c.write_answers.ensures.falls l.ends l.answered answered;
+      answered = heard_more _ _ _ _ _ l.front chunk l.written written c.answer_requests.ensures.falls l.ends l.answered answered;
     }
 
-pub returns-in_err-extend_from_slice-3-clause-heard : goal.returns-in_err-extend_from_slice-3-clause-heard
-returns-in_err-extend_from_slice-3-clause-heard g c =
+pub returns-in_err-append-2-clause-heard : goal.returns-in_err-append-2-clause-heard
+returns-in_err-append-2-clause-heard g c =
     let l = c.loop-line.invariant in
     let bytes = c.args.begun.now.items ++ c.args.piece.now in
+    let begun = c.loop-line.begun.items in
+    let left = c.loop-line.rest.now in
     let first : AreFirstOfAll bytes (request_lines l.front) =
     subst (λ all. AreFirstOfAll all (request_lines l.front)) (sym l.split) (first_whole l.front _ l.ends) in
-    let is : c.from_residual-in_err-extend_from_slice-3.result ≡ Err NoMemory = search rules in
+    let none : None ≡ parts_around 10 left = search rules in
+    let clear : HasNo 10 (begun ++ left) = has_no-append 10 begun left l.open_ended (no_feed left none) in
+    let split : bytes ≡ l.front ++ ((begun ++ left) ++ []) = l.split ∙ ap (λ r. l.front ++ r) (sym (append-nil (begun ++ left))) in
+    let is : c.from_residual-in_err-append-2.result ≡ Err (script_fault_of c.in_err-append-2.field-0.0) = search rules in
     subst (HasHeard _ _ _ bytes _ _ _) (sym is)
-    (record { heard = tt; early = cut_here _ _ _ _ _ _ _ _ _ (request_lines l.front) l.written (λ is. is) l.answered l.appended first first })
+    (heard_cut _ _ _ bytes _ _ _ l.front l.written c.in_err-append-2.field-0.0 l.answered l.appended first
+    (λ e.
+    let was = c.in_err-append-2.was in
+    let over = c.append-2.ensures.too_long.0 cc in
+    (l.front, begun ++ left, [], split, clear, long_by begun left (subst (λ (n : ℕ). max_line < n + length left) c.loop-line.begun.ok.0 over))))
 
 pub returns-clause-heard : goal.returns-clause-heard
 returns-clause-heard g c =
     let l = c.loop-line.invariant in
-    let more : c.extend_from_slice-2.new.self.items ≡ c.loop-line.begun.items ++ c.loop-line.rest.now = search rules in
+    let more : c.append-2.new.input.items ≡ c.loop-line.begun.items ++ c.loop-line.rest.now = search rules in
     let left : None ≡ parts_around 10 c.loop-line.rest.now = search rules in
     let rest : HasNo 10 c.loop-line.rest.now = no_feed c.loop-line.rest.now left in
-    let open_ended : HasNo 10 c.extend_from_slice-2.new.self.items = subst (HasNo 10) (sym more) (has_no-append 10 c.loop-line.begun.items c.loop-line.rest.now l.open_ended rest) in
-    record { heard = (l.front, l.written, l.split ∙ ap (λ r. l.front ++ r) (sym more), l.ends, open_ended, l.appended, l.answered); early = tt }
+    let open_ended : HasNo 10 c.append-2.new.input.items = subst (HasNo 10) (sym more) (has_no-append 10 c.loop-line.begun.items c.loop-line.rest.now l.open_ended rest) in
+    record { heard = (l.front, l.written, l.split ∙ ap (λ r. l.front ++ r) (sym more), l.ends, open_ended, l.short, l.appended, l.answered); early = tt; too_long = λ e. absurd cc }

@@ -1,8 +1,8 @@
 -- The bytes so far are whole lines, which were answered by what was written, and what is begun and left. What is begun has no line's end.
-use Rattle.std.proofs.Common.{◌≡◌, ◌++◌, ℕ, List, length}
+use Rattle.std.proofs.Common.{◌≡◌, ◌≤◌, ◌++◌, ℕ, List, length}
 use Rattle.std.specs.Io.KnownBytes.{Appends}
 use Rattle.fr_cli.specs.Answering.{AnswersLines}
-use Rattle.fr_cli.specs.Incoming.{EndsLines}
+use Rattle.fr_cli.specs.Incoming.{AreShort, EndsLines, max_line}
 use Rattle.fr_cli.specs.Script.{HasNo, request_lines}
 use Rattle.fr_cli.proofs.incoming.answer_piece.Given as goal
 
@@ -14,6 +14,8 @@ invariant-loop-line g l = record {
   split : l.fn.begun.items ++ l.fn.piece ≡ front ++ (l.begun.items ++ l.rest);
   ends : EndsLines front;
   open_ended : HasNo 10 l.begun.items;
+  fits : length l.begun.items ≤ max_line;
+  short : AreShort (request_lines front);
   written : List ℕ;
   appended : Appends (g.W.Write.contents l.fn.output.writer.now) (g.W.Write.contents l.output.writer.now) written;
   answered : AnswersLines (g.D.Desk.clean l.desk) (g.D.Desk.stands l.fn.desk) (g.D.Desk.stands l.desk) (request_lines front) written;

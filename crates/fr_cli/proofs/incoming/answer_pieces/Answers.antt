@@ -1,14 +1,14 @@
-use Rattle.std.proofs.Common.{◌≡◌, ◌++◌, ◌+◌, ◌<◌, ◌≤◌, [], ℕ, List, Err, length, refl, sym, ap, ◌∙◌, subst, append_assoc, append-nil, take, arith, rules, length-append, inl, inr}
+use Rattle.std.proofs.Common.{◌≡◌, ◌⊎◌, ◌++◌, ◌+◌, ◌<◌, ◌≤◌, [], ℕ, List, Err, length, refl, sym, ap, ◌∙◌, subst, append_assoc, append-nil, take, arith, rules, length-append, inl, inr}
 use Rattle.std.specs.Io.KnownBytes.{Consumes, IsAtEnd}
 use Rattle.std.proofs.KnownBytes.{Appends-nil, Appends-trans, Consumes-nil, Consumes-trans}
-use Rattle.fr_cli.specs.Answering.{AnswersLines, HasWritten}
-use Rattle.fr_cli.specs.Incoming.{HasAnswered}
+use Rattle.fr_cli.specs.Answering.{AnswersLines}
+use Rattle.fr_cli.specs.Incoming.{AreShort, HasAnswered, HasAsked, HasLongLine, max_line}
 use Rattle.fr_cli.specs.Script.{HasNo, max_script, request_lines}
 use Rattle.fr_cli.specs.declared.input.InputFault.TheVariants.{ReadFailed, TooLong, TooManyReads}
 use Rattle.fr_cli.specs.declared.script_fault.ScriptFault.TheVariants as fault
 use Rattle.fr_cli.proofs.AnsweringLaws.{no_lines}
-use Rattle.fr_cli.proofs.IncomingLaws.{at_end, cut_between, cut_within, ends-none, ends-then, heard_more, on_long, split_then}
-use Rattle.fr_cli.proofs.LineLemmas.{request_lines-none}
+use Rattle.fr_cli.proofs.IncomingLaws.{at_end, cut_between, cut_within, ends-none, ends-then, heard_more, on_input, short-then, split_then}
+use Rattle.fr_cli.proofs.LineLemmas.{request_lines-none, short_open}
 use Rattle.fr_cli.proofs.incoming.answer_pieces.Goals as goal
 use Rattle.fr_cli.proofs.incoming.answer_pieces.Goals.{in-Ok+in_ok-room-in-Ok+in_ok-answer_piece-in-Ok, in-Err+in_ok-try_again-in-Err}
 
@@ -24,6 +24,8 @@ loop-init g c =
       room = ap (λ (bytes : List ℕ). max_script + length bytes) c.new-begun.ensures.items;
       ends = ends-none;
       open_ended = subst (HasNo 10) (sym c.new-begun.ensures.items) tt;
+      fits = omega (arith, c.new-begun.result.ok.0, ap (λ (bytes : List ℕ). length bytes) c.new-begun.ensures.items);
+      short = subst AreShort (sym (request_lines-none [] refl)) tt;
       written = [];
       appended = Appends-nil (g.W.Write.contents c.args.output.now.writer.now);
       answered = subst (λ l. AnswersLines clean stands stands l []) (sym (request_lines-none [] refl)) (no_lines clean stands);
@@ -40,15 +42,17 @@ returns-in-Ok-eq0-clause-answered g c =
     let none : take c.in-Ok-eq0.field-0 c.read.new.buf ≡ [] = search rules in
     let taken : Consumes (remaining c.args.reader.now) (remaining c.read.new.self) (l.front ++ c.loop.begun.items) =
     subst (Consumes _ _) (ap (λ r. (l.front ++ c.loop.begun.items) ++ r) none ∙ append-nil (l.front ++ c.loop.begun.items)) (Consumes-trans _ _ _ _ _ l.taken c.in-Ok-eq0.ensures.bytes.0) in
-    let has : HasWritten (clean c.write_answers.new.desk) (stands c.loop.desk) (stands c.write_answers.new.desk) (request_lines c.loop.begun.items)
-    (contents c.loop.output.writer.now) (contents c.write_answers.new.output.writer.now) c.write_answers.result =
-    subst (λ b. HasWritten (clean c.write_answers.new.desk) (stands c.loop.desk) (stands c.write_answers.new.desk) (request_lines b)
-    (contents c.loop.output.writer.now) (contents c.write_answers.new.output.writer.now) c.write_answers.result) c.deref.ensures.value c.write_answers.ensures.written in
+    let has : HasAsked (clean c.answer_requests.new.desk) (stands c.loop.desk) (stands c.answer_requests.new.desk) (request_lines c.loop.begun.items)
+    (contents c.loop.output.writer.now) (contents c.answer_requests.new.output.writer.now) c.answer_requests.result =
+    subst (λ b. HasAsked (clean c.answer_requests.new.desk) (stands c.loop.desk) (stands c.answer_requests.new.desk) (request_lines b)
+    (contents c.loop.output.writer.now) (contents c.answer_requests.new.output.writer.now) c.answer_requests.result) c.deref.ensures.value c.answer_requests.ensures.asked in
+    let short : AreShort (request_lines (l.front ++ c.loop.begun.items)) =
+    short-then l.front c.loop.begun.items l.ends l.short (short_open c.loop.begun.items l.open_ended (subst (λ (n : ℕ). n ≤ max_line) c.loop.begun.ok.0 l.fits)) in
     let fits : length (l.front ++ c.loop.begun.items) ≤ max_script = omega (arith, l.room) in
-    at_end (clean c.write_answers.new.desk) (clean c.loop.desk) (stands c.args.desk.now) (stands c.loop.desk) (stands c.write_answers.new.desk)
+    at_end (clean c.answer_requests.new.desk) (clean c.loop.desk) (stands c.args.desk.now) (stands c.loop.desk) (stands c.answer_requests.new.desk)
     (remaining c.args.reader.now) (remaining c.read.new.self)
-    (contents c.args.output.now.writer.now) (contents c.loop.output.writer.now) (contents c.write_answers.new.output.writer.now)
-    l.front c.loop.begun.items l.written c.write_answers.result c.write_answers.ensures.falls taken end fits l.ends l.appended l.answered has
+    (contents c.args.output.now.writer.now) (contents c.loop.output.writer.now) (contents c.answer_requests.new.output.writer.now)
+    l.front c.loop.begun.items l.written c.answer_requests.result c.answer_requests.ensures.falls taken end fits l.ends l.appended l.answered short has
 
 pub returns-in_err-room-in-Ok-clause-answered : goal.returns-in_err-room-in-Ok-clause-answered
 returns-in_err-room-in-Ok-clause-answered g c =
@@ -67,7 +71,8 @@ returns-in_err-room-in-Ok-clause-answered g c =
     (cut_between (g.D.Desk.clean c.loop.desk) (g.D.Desk.stands c.args.desk.now) (g.D.Desk.stands c.loop.desk) (remaining c.args.reader.now) (remaining c.read.new.self)
     (g.W.Write.contents c.args.output.now.writer.now) (g.W.Write.contents c.loop.output.writer.now) l.front (c.loop.begun.items ++ piece) l.written fault.TooLong TooLong refl
     (subst (Consumes _ _) (append_assoc l.front c.loop.begun.items piece) taken) l.ends l.appended l.answered
-    (λ is. on_long max_script (remaining c.args.reader.now) (remaining c.read.new.self) ((l.front ++ c.loop.begun.items) ++ piece) taken long)
+    (λ is. on_input (λ bytes. (max_script < length bytes) ⊎ HasLongLine bytes) (remaining c.args.reader.now) (remaining c.read.new.self) ((l.front ++ c.loop.begun.items) ++ piece) taken
+    (λ more. inl (omega (arith, long, length-append ((l.front ++ c.loop.begun.items) ++ piece) more))))
     (λ is. elim is [
       | inl e ↦ absurd cc
       | inr e ↦ absurd cc
@@ -90,7 +95,7 @@ returns-in_err-answer_piece-in-Ok-clause-answered g c =
     (remaining c.args.reader.now) (remaining c.read.new.self)
     (contents c.args.output.now.writer.now) (contents c.loop.output.writer.now) (contents c.answer_piece.new.output.writer.now)
     l.front bytes l.written c.in_err-answer_piece-in-Ok.field-0.0 c.answer_piece.ensures.falls taken l.ends l.appended l.answered
-    c.in_err-answer_piece-in-Ok.ensures.heard.early c.in_err-answer_piece-in-Ok.ensures.faults)
+    c.in_err-answer_piece-in-Ok.ensures.heard.early (λ is. c.in_err-answer_piece-in-Ok.ensures.heard.too_long cc) c.in_err-answer_piece-in-Ok.ensures.faults)
 
 pub returns-in_err-try_again-in-Err-clause-answered : goal.returns-in_err-try_again-in-Err-clause-answered
 returns-in_err-try_again-in-Err-clause-answered g c =
@@ -111,7 +116,7 @@ loop-preserved g c =
     elim c.match-read.branch [
       | in-Ok+in_ok-room-in-Ok+in_ok-answer_piece-in-Ok w ↦
           let piece = take w.in-Ok.n c.read.new.buf in
-          let (more, written, split, ends, open_ended, appended, answered) = w.in_ok-answer_piece-in-Ok.ensures.heard.heard in
+          let (more, written, split, ends, open_ended, short, appended, answered) = w.in_ok-answer_piece-in-Ok.ensures.heard.heard in
           let begun = w.answer_piece.new.begun.items in
           let all : (l.front ++ c.loop.begun.items) ++ piece ≡ (l.front ++ more) ++ begun = split_then l.front c.loop.begun.items piece more begun split in
           let size : length piece ≡ w.in-Ok.n = search rules in
@@ -124,6 +129,8 @@ loop-preserved g c =
             room = omega (arith, less, size, l.room, length-append (l.front ++ c.loop.begun.items) piece, ap (λ (bytes : List ℕ). length bytes) all);
             ends = ends-then l.front more l.ends ends;
             open_ended = open_ended;
+            fits = w.in_ok-answer_piece-in-Ok.ensures.short;
+            short = short-then l.front more l.ends l.short short;
             written = l.written ++ written;
             appended = Appends-trans _ _ _ l.written written l.appended appended;
             answered = heard_more _ _ _ _ _ l.front more l.written written w.answer_piece.ensures.falls l.ends l.answered answered;
@@ -138,6 +145,8 @@ loop-preserved g c =
             room = l.room;
             ends = l.ends;
             open_ended = l.open_ended;
+            fits = l.fits;
+            short = l.short;
             written = l.written;
             appended = l.appended;
             answered = l.answered;

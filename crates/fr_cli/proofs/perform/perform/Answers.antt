@@ -2,53 +2,43 @@ use Rattle.std.proofs.Common.{rules, ◌∙◌, List, ℕ, Option, ap, subst, sy
 use Rattle.std.specs.Borrow.{Bor}
 use Rattle.sqlite_wal.specs.Files.{image_at}
 use Rattle.fr_text.specs.AnswerText.{report_of}
-use Rattle.fr_cli.specs.Asking.{import_of, line_of, query_of}
+use Rattle.fr_cli.specs.Asking.{IsForReader, line_of, query_of}
 use Rattle.fr_cli.specs.Faults.{IsNotImported, IsNotReported}
-use Rattle.fr_cli.specs.Listing.{AreLines, variants_for}
 use Rattle.fr_cli.specs.Performing.{Says}
 use Rattle.fr_cli.specs.Picturing.{plans_for}
 use Rattle.fr_picture.specs.Pages.{IsPage}
 use Rattle.fr_cli.specs.Queries.{named}
 use Rattle.fr_cli.specs.Reading.{PrintsRead}
-use Rattle.fr_cli.specs.RegisterFiles.{IsAnswerOfFile, IsReadOfFile}
+use Rattle.fr_cli.specs.RegisterFiles.{IsAnswerOfFile, IsImportOfFile, IsReadOfFile}
 use Rattle.fr_cli.specs.Serving.{IsAnnounced, IsServed}
-use Rattle.fr_cli.specs.declared.asking.ImportWords.{ImportWords}
-use Rattle.fr_cli.specs.declared.query.Query.{Query}
+use Rattle.fr_cli.specs.declared.imported_file.GivenWords.{GivenWords}
+use Rattle.fr_cli.specs.declared.query.Inquiry.{Inquiry}
 use Rattle.fr_cli.specs.declared.words.Job.{Job}
 use Rattle.fr_cli.specs.declared.words.Job.TheVariants as job
 use Rattle.fr_cli.proofs.perform.perform.Goals as goal
 
--- the supplier for whom a job lists the variants
-abbrev supplier_in : Option (Bor (List ℕ)) → Job → Option (Bor (List ℕ))
-supplier_in supplier (job.Variants db given) = given
-supplier_in supplier _ = supplier
-
-pub returns-in-Variants-clause-variants : goal.returns-in-Variants-clause-variants
-returns-in-Variants-clause-variants g c db supplier is =
-    let says = subst (λ given. PrintsRead (IsNotReported (image_at g.S.Start) c.list_file-done.result.1) (IsReadOfFile (image_at g.S.Start) c.list_file-done.result.1 (variants_for (named given))) AreLines c.list_file-done.result.0)
-    (ap (supplier_in supplier) (sym c.in-Variants.is ∙ is)) c.list_file-done.ensures in
-    (c.list_file-done.result.0, says, search rules)
-
 -- what a report's job asks
-abbrev query_in : Query → Job → Query
+abbrev query_in : Inquiry → Job → Inquiry
 query_in query (job.Report db asked) = asked
 query_in query _ = query
 
 pub returns-in-Report-clause-report : goal.returns-in-Report-clause-report
 returns-in-Report-clause-report g c db query is =
-    let says = subst (λ asked. Says (IsNotReported (image_at g.S.Start) c.report_file-done.result.1) (IsAnswerOfFile (image_at g.S.Start) c.report_file-done.result.1 (query_of asked)) report_of c.report_file-done.result.0)
+    let says = subst (λ asked. Says (IsNotReported (image_at g.S.Start) c.report_file-done.result.1) (IsForReader (IsAnswerOfFile (image_at g.S.Start) c.report_file-done.result.1 (query_of asked))) report_of c.report_file-done.result.0)
     (ap (query_in query) (sym c.in-Report.is ∙ is)) c.report_file-done.ensures in
     (c.report_file-done.result.0, says, search rules)
 
 -- the words of an import's job
-abbrev words_in : ImportWords → Job → ImportWords
+abbrev words_in : GivenWords → Job → GivenWords
 words_in words (job.Import db key variant label file) = record { key = key; variant = variant; label = label }
 words_in words _ = words
 
 pub returns-in-Import-clause-import : goal.returns-in-Import-clause-import
 returns-in-Import-clause-import g c db key variant label file is =
     let said = c.import_file-done.ensures in
-    let says = subst (λ words. Says (IsNotImported (image_at g.S.Start) c.import_file-done.result.1) (IsAnswerOfFile (image_at g.S.Start) c.import_file-done.result.1 (import_of words said.0)) line_of c.import_file-done.result.0)
+    let says = subst (λ (words : GivenWords). Says (IsNotImported (image_at g.S.Start) c.import_file-done.result.1 words.key.now)
+    (IsImportOfFile (image_at g.S.Start) c.import_file-done.result.1 words.key words.variant words.label (g.R.Read.remaining c.args.input.now) (g.R.Read.remaining c.import_file-done.new.input) said.0)
+    line_of c.import_file-done.result.0)
     (ap (words_in (record { key = key; variant = variant; label = label })) (sym c.in-Import.is ∙ is)) said.1 in
     (said.0, c.import_file-done.result.0, says, search rules)
 

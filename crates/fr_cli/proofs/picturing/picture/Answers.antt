@@ -19,7 +19,7 @@ returns-in-Err-clause-prints g c =
     (λ who. plans_for who c.args.variant.now) c.named.result (named c.args.supplier) (Err c.in-Err.refusal) c.named.ensures c.in-Err.ensures.drawn in
     refused_reading
     (IsRead (g.R.Records.clean c.plan_for.new.office.records) (StandsWarm g.R.Records.stands c.args.office.now) (StandsWarm g.R.Records.stands c.plan_for.new.office) (plans_for (named c.args.supplier) c.args.variant.now))
-    IsPage c.in-Err.refusal c.refused.result told c.refused.ensures
+    IsPage c.in-Err.refusal c.refused_reader.result told c.refused_reader.ensures
 
 pub returns-in_err-write_page-in-Ok-clause-stays : goal.returns-in_err-write_page-in-Ok-clause-stays
 returns-in_err-write_page-in-Ok-clause-stays g c = reads_stay _ _ _ (plans_for c.named.result c.args.variant.now) (Ok c.in-Ok.plan) c.in-Ok.ensures.drawn

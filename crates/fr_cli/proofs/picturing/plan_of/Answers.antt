@@ -1,6 +1,6 @@
 use Rattle.std.proofs.Common.{rules, refl}
 use Rattle.fr_answers.specs.KeptPages.{StandsWarm}
-use Rattle.fr_cli.proofs.PicturingLaws.{cells_refused, frames_refused, grants_refused, plan_read, row_lacks}
+use Rattle.fr_cli.proofs.PicturingLaws.{cells_refused, frames_refused, grants_refused, plan_read, row_lacks, suppliers_lack}
 use Rattle.fr_cli.proofs.picturing.plan_of.Goals as goal
 
 pub returns-in_err-grants-clause-reads : goal.returns-in_err-grants-clause-reads
@@ -35,6 +35,17 @@ returns-in_err-row-clause-reads g c = λ now.
     c.in_ok-frames.frames.items (c.in_ok-frames.ensures.reads framed) (StandsWarm g.R.Records.stands c.variant_row.new.office)
     c.from_residual-in_err-row.result c.in_err-row.field-0.0 (search rules) (c.in_err-row.ensures.reads now)
 
+pub returns-in_err-suppliers-clause-reads : goal.returns-in_err-suppliers-clause-reads
+returns-in_err-suppliers-clause-reads g c = λ now.
+    let framed = c.variant_row.ensures.falls now in
+    let scheduled = c.frames.ensures.falls framed in
+    let granted = c.schedule.ensures.falls scheduled in
+    suppliers_lack c.args.view.now.reader c.args.view.now.variant.now (StandsWarm g.R.Records.stands c.args.office.now) (StandsWarm g.R.Records.stands c.grants.new.desk)
+    c.in_ok-grants.grants (c.in_ok-grants.ensures.reports granted) (StandsWarm g.R.Records.stands c.schedule.new.desk)
+    c.in_ok-cells.cells (c.in_ok-cells.ensures.reports scheduled) (StandsWarm g.R.Records.stands c.frames.new.desk)
+    c.in_ok-frames.frames.items (c.in_ok-frames.ensures.reads framed) (StandsWarm g.R.Records.stands c.variant_row.new.office)
+    c.in_ok-row.row c.from_residual-in_err-suppliers.result (search rules) (c.in_ok-row.ensures.reads now)
+
 pub returns-clause-reads : goal.returns-clause-reads
 returns-clause-reads g c = λ now.
     let framed = c.variant_row.ensures.falls now in
@@ -44,4 +55,5 @@ returns-clause-reads g c = λ now.
     c.in_ok-grants.grants (c.in_ok-grants.ensures.reports granted) (StandsWarm g.R.Records.stands c.schedule.new.desk)
     c.in_ok-cells.cells (c.in_ok-cells.ensures.reports scheduled) (StandsWarm g.R.Records.stands c.frames.new.desk)
     c.in_ok-frames.frames.items (c.in_ok-frames.ensures.reads framed) (StandsWarm g.R.Records.stands c.variant_row.new.office)
-    c.in_ok-row.row c.params.result c.supplier_of.result c.in_ok-frames.frames c.supplier_of.ensures refl (c.in_ok-row.ensures.reads now) c.params.ensures
+    c.in_ok-row.row c.params.result c.supplier_of.result c.in_ok-suppliers.suppliers c.config.result.now c.in_ok-frames.frames c.supplier_of.ensures refl
+    (c.in_ok-row.ensures.reads now) c.params.ensures c.config.ensures c.in_ok-suppliers.ensures

@@ -26,8 +26,8 @@ loop-preserved g c =
       told = tells_then _ _ _ l.ends (end ∷ []) l.told tells;
     }
 
-pub returns-then-not-holds-clause-served : goal.returns-then-not-holds-clause-served
-returns-then-not-holds-clause-served g c =
+pub returns-then-not-answer_stream-clause-served : goal.returns-then-not-answer_stream-clause-served
+returns-then-not-answer_stream-clause-served g c =
     let l = c.loop.invariant in
     let (end, serves, tells) = c.answer_stream.ensures.served in
     let each : length (l.ends ++ end ∷ []) ≡ c.loop.counter + 1 = length-append l.ends (end ∷ []) ∙ ap (λ n. n + 1) l.each in

@@ -1,7 +1,16 @@
-use Rattle.fr_http.proofs.RouteLaws.{built}
+use Rattle.std.proofs.Common.{arith}
+use Rattle.fr_http.proofs.RouteLaws.{one_more, all_routes}
 use Rattle.fr_http.proofs.routes.router.Goals as goal
+
+pub loop-text-init : goal.loop-text-init
+loop-text-init c = c.new-router.ensures
+
+pub loop-text-preserved : goal.loop-text-preserved
+loop-text-preserved c =
+    one_more c.routes-text-items.result c.loop-text.text-index _ c.loop-text.router c.add.new.router (omega (arith, c.loop-text-test.true, c.routes-text-items.type_inv))
+    c.loop-text.invariant c.in_ok-add.ensures
 
 pub returns : goal.returns
 returns c =
-    built c.new-router.result c.add.new.router c.add-2.new.router c.add-3.new.router c.add-4.new.router c.add-5.new.router c.add-6.new.router c.add-7.new.router
-    c.new-router.ensures c.in_ok-add.ensures c.in_ok-add-2.ensures c.in_ok-add-3.ensures c.in_ok-add-4.ensures c.in_ok-add-5.ensures c.in_ok-add-6.ensures c.in_ok-add-7.ensures
+    all_routes c.routes-text-items.result c.loop-text.text-index c.loop-text.router (omega (arith, c.loop-text-test.false, c.routes-text-items.type_inv))
+    c.routes-text-items.ensures c.loop-text.invariant

@@ -1,4 +1,0 @@
-pub mod RectangleLemmas
-pub mod ColumnLemmas
-pub mod MarkLemmas
-pub mod LaneLemmas

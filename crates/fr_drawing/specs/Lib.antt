@@ -1,4 +1,0 @@
-pub mod Rectangles
-pub mod Places
-pub mod Shown
-pub mod Lanes

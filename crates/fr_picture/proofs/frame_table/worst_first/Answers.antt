@@ -1,0 +1,12 @@
+use Rattle.std.proofs.Common.{rules, ◌≡◌}
+use Rattle.std.proofs.lemmas.List.Sorted.{IsNonDecreasingBy-from_sort_by_key}
+use Rattle.std.proofs.lemmas.Fn.{always_returns_same}
+use Rattle.fr_picture.specs.FrameTables.{urgency}
+use Rattle.fr_picture.proofs.frame_table.worst_first.Goals as goal
+
+pub returns-clause-sorted : goal.returns-clause-sorted
+returns-clause-sorted c = IsNonDecreasingBy-from_sort_by_key (λ f. urgency f.gap) _ c.in_ok-sort_by_key.ensures.sorted (λ a r q k. search rules)
+
+pub returns-clause-stable : goal.returns-clause-stable
+returns-clause-stable c = c.in_ok-sort_by_key.ensures.stable (λ f. urgency f.gap)
+    (always_returns_same _ (λ a r. r ≡ urgency a.0.now.gap) _ (λ a r q k. search rules))

@@ -1,0 +1,70 @@
+-- Reports: what a request for a report is answered; that the rows that were read are those of the answer, and why they
+-- may be refused. The register stands for the same book as before.
+use Rattle.std.specs.Prelude.{◌≡◌, ◌⊎◌, ℕ, Bool, List, [], ◌∷◌, Result, MatchResult}
+use Rattle.fr_base.specs.Book.{Book}
+use Rattle.fr_base.specs.Cluster.{Cluster}
+use Rattle.fr_base.specs.Run.{IsRun}
+use Rattle.fr_base.specs.Sound.{IsSound}
+use Rattle.fr_base.specs.Step.{step}
+use Rattle.fr_base.specs.declared.actor.Actor.{Actor}
+use Rattle.fr_base.specs.declared.answer.Answer.{Answer}
+use Rattle.fr_base.specs.declared.answer.Answer.TheVariants.{Report as Told, Refused}
+use Rattle.fr_base.specs.declared.answer.ReportRows.{ReportRows}
+use Rattle.fr_base.specs.declared.answer.ReportRows.TheVariants as rows
+use Rattle.fr_base.specs.declared.answer.GrantRow.{GrantRow}
+use Rattle.fr_base.specs.declared.answer.FrameRow.{FrameRow}
+use Rattle.fr_base.specs.declared.answer.Sending.{Sending}
+use Rattle.fr_base.specs.declared.answer.GapRow.{GapRow}
+use Rattle.fr_base.specs.declared.answer.SignalRow.{SignalRow}
+use Rattle.fr_base.specs.declared.query.Query.TheVariants.{Variant}
+use Rattle.fr_base.specs.declared.refusal.Refusal.{Refusal}
+use Rattle.fr_base.specs.declared.refusal.Refusal.TheVariants.{Unavailable}
+use Rattle.fr_base.specs.declared.report.Report.{Report}
+use Rattle.fr_base.specs.declared.request.Request.{Request}
+use Rattle.fr_base.specs.declared.request.Request.TheVariants.{Query}
+
+-- for which books a register stands, each in a cluster
+abbrev pub Standing : Type 1
+Standing = Cluster → Book → Type 0
+
+-- what a request is answered
+abbrev pub answer_to : Cluster → Book → Actor → Request → Answer
+answer_to c b actor request = (step c b actor request).answer
+
+-- the request for a report of a variant
+abbrev pub asks : List ℕ → Report (List ℕ) → Request
+asks variant report = Query (Variant variant report)
+
+-- the answers that have these rows
+abbrev pub with_grants : Bool → List GrantRow → Answer
+with_grants all grants = Told all (rows.Grants grants)
+
+abbrev pub with_frames : Bool → List FrameRow → Answer
+with_frames all frames = Told all (rows.Frames frames)
+
+abbrev pub with_cells : Bool → List Sending → Answer
+with_cells all cells = Told all (rows.Schedule cells)
+
+abbrev pub with_gaps : Bool → List GapRow → Answer
+with_gaps all gaps = Told all (rows.Gaps gaps)
+
+abbrev pub with_signals : Bool → List SignalRow → Answer
+with_signals all signals = Told all (rows.Layout signals)
+
+-- An answer without rows is this refusal; or it is Unavailable.
+abbrev pub MayRefuse : Answer → Refusal → Type 0
+MayRefuse answer refusal = (refusal ≡ Unavailable) ⊎ (answer ≡ Refused refusal)
+
+-- In each sound book for which the register stood this was read of it, or why it is refused; and it stands for the same book as before.
+abbrev pub Reads : {X : Type 0} → Standing → Standing → Result X Refusal → (Cluster → Book → X → Type 0) → (Cluster → Book → Refusal → Type 0) → Type 0
+Reads old new r Is May = (c : Cluster) (b : Book) → old c b → IsSound c b → new c b × MatchResult r (Is c b) (May c b)
+
+-- What was read are the rows that a request of this kind is answered; or its refusal; or it is Unavailable.
+abbrev pub Reports : {X : Type 0} → Standing → Standing → Actor → Request → (Bool → X → Answer) → Result X Refusal → Type 0
+Reports old new actor request kind r =
+    Reads old new r (λ c b rows. (all : Bool) × (answer_to c b actor request ≡ kind all rows)) (λ c b e. MayRefuse (answer_to c b actor request) e)
+
+-- In a sound book the request was answered by one step, or it is Unavailable where it may be; and the register stands for the book after it.
+abbrev pub Answered : Standing → Standing → Actor → Request → Answer → Type 0
+Answered old new actor request answer = (c : Cluster) (b : Book) → old c b → IsSound c b
+    → (last : Book) × new c last × IsRun c b (record { actor = actor; request = request } ∷ []) (answer ∷ []) last

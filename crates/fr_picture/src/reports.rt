@@ -1,0 +1,131 @@
+//! The rows of each report, asked of a desk.
+ghost use Rattle.std.specs.Prelude.{◌≡◌, IfOk};
+ghost use Rattle.fr_base.specs.declared.answer.Answer.TheVariants.{Report as Told};
+ghost use Rattle.fr_base.specs.declared.report.Report.TheVariants.{Grants, Frames, Schedule, Gaps, Layout};
+ghost use Rattle.fr_base.specs.declared.actor.Actor.TheVariants.{Supplier};
+ghost use Rattle.fr_picture.specs.Reports.{Reports, asks, with_cells, with_frames, with_gaps, with_grants, with_signals};
+
+use fr_base::{
+    Actor, Ask, Desk, FrameRow, GapRow, GrantRow, Name, NoMemory, Query, Refusal, Report,
+    ReportRows, Request, Rows, Sending, SignalRow, Text,
+};
+use std::alloc::Global;
+
+/// Who reads the plan of a variant.
+#[derive(Clone, Copy)]
+pub struct View<'a> {
+    /// Who asks for its rows.
+    pub reader: Actor,
+    /// The variant's name, as it was given.
+    pub variant: &'a str,
+}
+
+/// Who holds which slot and channel, as the reader sees it.
+pub fn grants<D: Desk>(
+    alloc: Global,
+    desk: &mut D,
+    view: &View<'_>,
+) -> Result<Rows<GrantRow>, Refusal>
+    ensures falls { D.clean desk.new → D.clean desk.old }
+    ensures reports { D.clean desk.new → Reports (D.stands desk.old) (D.stands desk.new) view.now.reader (asks view.now.variant.now Grants) with_grants result }
+{
+    match report(alloc, desk, view.reader, view.variant, Report::Grants)? {
+        ReportRows::Grants(rows) => Ok(rows),
+        _ => Err(Refusal::Unavailable),
+    }
+}
+
+/// What is sent in which cell, as the reader sees it.
+pub fn schedule<D: Desk>(
+    alloc: Global,
+    desk: &mut D,
+    view: &View<'_>,
+) -> Result<Rows<Sending>, Refusal>
+    ensures falls { D.clean desk.new → D.clean desk.old }
+    ensures reports { D.clean desk.new → Reports (D.stands desk.old) (D.stands desk.new) view.now.reader (asks view.now.variant.now Schedule) with_cells result }
+{
+    match report(alloc, desk, view.reader, view.variant, Report::Schedule)? {
+        ReportRows::Schedule(rows) => Ok(rows),
+        _ => Err(Refusal::Unavailable),
+    }
+}
+
+/// The frames' greatest gaps, as the reader sees them.
+pub(crate) fn gaps<D: Desk>(
+    alloc: Global,
+    desk: &mut D,
+    view: &View<'_>,
+) -> Result<Rows<GapRow>, Refusal>
+    ensures falls { D.clean desk.new → D.clean desk.old }
+    ensures reports { D.clean desk.new → Reports (D.stands desk.old) (D.stands desk.new) view.now.reader (asks view.now.variant.now Gaps) with_gaps result }
+{
+    match report(alloc, desk, view.reader, view.variant, Report::Gaps)? {
+        ReportRows::Gaps(rows) => Ok(rows),
+        _ => Err(Refusal::Unavailable),
+    }
+}
+
+/// The frames, as the reader sees them.
+pub(crate) fn frame_rows<D: Desk>(
+    alloc: Global,
+    desk: &mut D,
+    view: &View<'_>,
+) -> Result<Rows<FrameRow>, Refusal>
+    ensures falls { D.clean desk.new → D.clean desk.old }
+    ensures reports { D.clean desk.new → Reports (D.stands desk.old) (D.stands desk.new) view.now.reader (asks view.now.variant.now Frames) with_frames result }
+{
+    match report(alloc, desk, view.reader, view.variant, Report::Frames)? {
+        ReportRows::Frames(rows) => Ok(rows),
+        _ => Err(Refusal::Unavailable),
+    }
+}
+
+/// The signals of a frame, as the supplier sees them.
+pub(crate) fn signal_rows<D: Desk>(
+    alloc: Global,
+    desk: &mut D,
+    supplier: Name,
+    variant: &str,
+    frame: Text,
+) -> Result<Rows<SignalRow>, Refusal>
+    ensures falls { D.clean desk.new → D.clean desk.old }
+    ensures reports { D.clean desk.new → Reports (D.stands desk.old) (D.stands desk.new) (Supplier supplier) (asks variant.now (Layout frame)) with_signals result }
+{
+    match report(
+        alloc,
+        desk,
+        Actor::Supplier(supplier),
+        variant,
+        Report::Layout { frame },
+    )? {
+        ReportRows::Layout(rows) => Ok(rows),
+        _ => Err(Refusal::Unavailable),
+    }
+}
+
+// The rows of a report of the variant, as who asks sees them.
+fn report<D: Desk>(
+    alloc: Global,
+    desk: &mut D,
+    actor: Actor,
+    variant: &str,
+    report: Report<Text>,
+) -> Result<ReportRows, Refusal>
+    ensures falls { D.clean desk.new → D.clean desk.old }
+    ensures reports { D.clean desk.new → Reports (D.stands desk.old) (D.stands desk.new) actor (asks variant.now report) Told result }
+{
+    let variant = Text::copy(alloc, variant)?;
+    let request = Request::Query(Query::Variant { variant, report });
+    desk.ask(alloc, &Ask { actor, request }).into_rows()
+}
+
+/// The same rows, as a list of its own.
+pub(crate) fn copy<T: Copy + Drop>(alloc: Global, rows: &[T]) -> Result<Rows<T>, NoMemory>
+    ensures { IfOk result (λ copied. copied ≡ rows.now) }
+{
+    let mut copied = Rows::new(alloc);
+    for row in rows {
+        copied.push(*row)?;
+    }
+    Ok(copied)
+}

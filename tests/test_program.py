@@ -1,0 +1,125 @@
+"""The built program as its users start it: its words, its help, its script's size, its input and its output.
+
+What is wanted was typed by hand from docs/FORMATS.md, the help in tests/help; none of it is the program's own output."""
+from tests.lib.each import each
+from tests.lib.messages import FIRST, FIRST_ANSWERS
+from tests.lib.program import TOP
+from tests.lib.starts import Start, StartCase, faulty
+
+HELP = {file.stem: file.read_bytes() for file in (TOP / "tests/help").glob("*.txt")}
+SCRIPT_BYTES = 16_777_216
+
+NOT_UTF8 = b"""\
+error: a word is not UTF-8 text
+
+For more information, try '--help'.
+"""
+
+
+def usage(said, *end):
+    """What is said of words that are no job, before the way to help."""
+    return "\n".join([f"error: {said}", "", *end, "For more information, try '--help'.", ""]).encode()
+
+
+def unknown(word, *tip):
+    return usage(f"unrecognized subcommand '{word}'", *tip, "Usage: slotplan <COMMAND>", "")
+
+
+class Help(StartCase):
+    """Each command's help is printed whole, and so is the program's."""
+
+    def test_program(self):
+        for words in ("--help",), ("-h",), ("help",):
+            self.ends(Start(f"the words {words}", written=HELP["slotplan"], words=words))
+
+    def test_each_command(self):
+        listed = [line.split()[0] for line in HELP["slotplan"].decode().partition("Commands:\n")[2].partition("\n\n")[0].splitlines()]
+        self.see("the commands that have a help here", sorted(listed), sorted({*HELP, "help"} - {"slotplan"}))
+        for name in HELP.keys() - {"slotplan"}:
+            self.ends(Start(f"the help of {name}", written=HELP[name], words=(name, "--help")))
+
+    @each("run", "serve")
+    def test_other_words(self, name):
+        for words in (name, "-h"), ("help", name):
+            self.ends(Start(f"the words {words}", written=HELP[name], words=words))
+
+
+class Words(StartCase):
+    """Words that name no job end with status 2, and standard error says why; the usage comes with it."""
+
+    def no_job(self, said, *words, given=FIRST):
+        self.ends(Start(f"the words {words}", given, said=said, status=2, words=words))
+
+    def test_no_words(self):
+        self.no_job(HELP["slotplan"], given=b"")
+
+    def test_unknown_command(self):
+        self.no_job(unknown("jump"), "jump")
+        for word in "Run", "run ":
+            self.no_job(unknown(word, "  tip: a similar subcommand exists: 'run'", ""), word)
+
+    def test_too_many(self):
+        for more in "run", "x":
+            self.no_job(usage(f"unexpected argument '{more}' found", "Usage: slotplan run", ""), "run", more)
+
+    def test_too_few(self):
+        for words, last, usage_of in (("ask",), "<DB>", "ask <DB>"), (("layout", "d", "v"), "<FRAME>", "layout <DB> <VARIANT> <FRAME>"):
+            said = f"the following required arguments were not provided:\n  {last}"
+            self.no_job(usage(said, f"Usage: slotplan {usage_of}", ""), *words)
+
+    def test_ports(self):
+        for port in "0", "65536":
+            self.no_job(usage(f"invalid value '{port}' for '<PORT>': {port} is not in 1..=65535"), "serve", "d", port, given=b"")
+
+    def test_numbers(self):
+        for option, most in ("--count", 1_000_000), ("--seconds", 3_600):
+            for number in "0", str(most + 1), "x":
+                why = f"{number} is not in 1..={most}" if number.isdigit() else "invalid digit found in string"
+                self.no_job(usage(f"invalid value '{number}' for '{option} <N>': {why}"), "serve", "d", "1", option, number, given=b"")
+
+    def test_not_utf8(self):
+        for words in (b"\xff",), (b"run\xff",), (b"\xffrun",), (b"run", b"\xff"), (b"--help", b"\xff"), (b"r\xc0\xb5n",):
+            self.no_job(NOT_UTF8, *words)
+
+
+class Sizes(StartCase):
+    """A script has at most 16,777,216 bytes; a longer one is `TooLong`, and one that memory cannot hold `NoMemory`."""
+
+    feeds = b"\n" * SCRIPT_BYTES
+
+    def test_line_feeds(self):
+        self.ends(faulty("as many line feeds as a script has bytes", self.feeds, "NoSeparator"), faulty("one line feed more", self.feeds + b"\n", "TooLong"))
+
+    def test_first_script(self):
+        longest = FIRST + self.feeds[len(FIRST) :]
+        self.ends(Start("the first script, as long as a script may be", longest, FIRST_ANSWERS))
+        self.ends(faulty("the first script, one byte longer", longest + b"\n", "TooLong"))
+
+    def test_without_end(self):
+        self.ends(faulty("a script without end", b"", "TooLong", line='exec "$@" < /dev/zero'))
+
+    def test_no_memory(self):
+        self.ends(faulty("a script that memory cannot hold", self.feeds, "NoMemory", line='ulimit -v 16384; exec "$@"'))
+
+
+class Streams(StartCase):
+    """Input that cannot be read is `ReadFailed`; output that is closed, full or read by nobody is `WriteFailed`."""
+
+    def test_input(self):
+        self.ends(faulty("a folder for standard input", b"", "ReadFailed", line='exec "$@" < /'))
+        self.ends(faulty("standard input closed", b"", "ReadFailed", line='exec "$@" <&-'))
+
+    def test_no_reader(self):
+        self.ends(faulty("standard output without a reader", FIRST, "WriteFailed", is_read=False))
+
+    @each("run", "--help")
+    def test_output(self, word):
+        for end, is_said in (">&-", True), ("> /dev/full", True), (">&- 2>&-", False), ("> /dev/full 2> /dev/full", False):
+            said = b"slotplan: WriteFailed\n" if is_said else b""
+            self.ends(Start(f"{word} {end}", FIRST, said=said, status=1, words=(word,), line=f'exec "$@" {end}'))
+
+    def test_standard_error(self):
+        self.ends(Start("usage 2> /dev/full", status=2, words=("jump",), line='exec "$@" 2> /dev/full'))
+        self.ends(Start("usage 2>&-", status=2, words=("jump",), line='exec "$@" 2>&-'))
+        self.ends(Start("usage >&-", said=unknown("jump"), status=2, words=("jump",), line='exec "$@" >&-'))
+        self.ends(Start("no separator 2> /dev/full", b"x\n", status=1, line='exec "$@" 2> /dev/full'))
