@@ -65,10 +65,9 @@ tables:
 
 try: build
 	@SLOTPLAN=$(program) python3 -m tests.lib.run
-	@python3 tests/pictures.py $(program)
 
 look: build
-	@python3 tests/look.py $(program)
+	@SLOTPLAN=$(program) python3 -m tests.look
 
 hostile: build
 	@WHOLE=yes SLOTPLAN=$(program) python3 -m tests.lib.run tests.test_stops tests.test_foreign tests.test_links

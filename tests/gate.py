@@ -12,8 +12,6 @@ from .lib.steps import COUNT, FAILURE, SHOWN
 
 PROGRAM = "crates/slotplan/out/slotplan"
 PROGRAMS = PROGRAM, f"{PROGRAM}.by-rattle"
-# How the built program is tried by a script that is no class of unittest yet.
-SCRIPTS = {"its pictures": ["tests/pictures.py"]}
 
 
 class Count(NamedTuple):
@@ -58,8 +56,6 @@ def main():
     counts = [counted("rt ci", ["rt", "ci"])]
     for turn, program in enumerate(PROGRAMS):
         counts.append(counted(f"the classes of tests, {program}", [sys.executable, "-m", "tests.lib.run"], SLOTPLAN=program, TURN=str(turn)))
-    for name, words in SCRIPTS.items():
-        counts.append(counted(name, [sys.executable, *words, *PROGRAMS]))
     for line in (line for count in counts for line in count.told):
         print(f"{line:.400}")
     passed, failed = sum(count.passed for count in counts), sum(count.failed for count in counts)

@@ -1,5 +1,5 @@
 #!/usr/bin/env python3
-"""Draws the plans of the examples, and one at the limits, with the built program: look.py PROGRAM [FOLDER]
+"""Draws the plans of the examples, and one at the limits: python3 -m tests.look [FOLDER]. The program is the one that SLOTPLAN names.
 
 The pages go to FOLDER, out/look where none is named. Where there is chromium, a picture of each page and a file as it is printed stand beside it,
 and the cells of the rectangles that the browser has are counted: they are as many as the lines of the schedule. The last line is
@@ -11,16 +11,16 @@ import sys
 import tempfile
 from pathlib import Path
 
-import picture
-from pictures import TOP, Register, counted, limits, see
+from .lib.picture import read
+from .lib.plans import SECONDS, Register, examples, limits
+from .lib.program import TOP
 
-SECONDS = 600
+counted = {True: 0, False: 0}
 
 
 def plans():
     """Cluster files and requests, by name."""
-    for script in sorted((TOP / "examples").glob("*.script")):
-        yield (script.stem, *script.read_text().split("---\n", 1))
+    yield from examples()
     yield ("limits", *limits()[:2])
 
 
@@ -34,21 +34,23 @@ def look(browser, page, channels, cycles, lines):
     """Pictures of the page, and its cells counted as the browser has them."""
     browse(browser, page, "--window-size=1200,1600", f"--screenshot={page.with_suffix('.png')}")
     browse(browser, page, "--no-pdf-header-footer", f"--print-to-pdf={page.with_suffix('.pdf')}")
-    lanes = picture.read(browse(browser, page, "--dump-dom"), channels, cycles)[1]
+    lanes = read(browse(browser, page, "--dump-dom"), channels, cycles)[1]
     cells = sum(high for lane in lanes.values() for kind in lane.kinds for _, high in kind[4])
-    see(page.name, [] if cells == lines else [f"the browser has {cells} cells, the schedule {lines} lines"])
+    counted[cells == lines] += 1
+    if cells != lines:
+        print(f"{page.name}: the browser has {cells} cells, the schedule {lines} lines")
     return sum(len(kind[4]) for lane in lanes.values() for kind in lane.kinds)
 
 
 def main():
-    program, folder = sys.argv[1], Path(sys.argv[2] if len(sys.argv) > 2 else TOP / "out/look").resolve()
+    folder = Path(sys.argv[1] if len(sys.argv) > 1 else TOP / "out/look").resolve()
     folder.mkdir(parents=True, exist_ok=True)
     browser = shutil.which("chromium") or shutil.which("chromium-browser")
     if not browser:
         print("there is no chromium: the pages are drawn, and nothing is counted")
     for name, cluster, requests in plans():
         with tempfile.TemporaryDirectory() as place:
-            register = Register(program, Path(place), cluster, requests)
+            register = Register(Path(place), cluster, requests)
             for opened in register.done("open_variant"):
                 variant = opened["variant"]
                 page = folder / f"{name}-{variant}.html"

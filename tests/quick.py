@@ -4,7 +4,6 @@ runs it."""
 import os
 import sys
 
-from .gate import SCRIPTS
 from .lib.run import found, steps_of
 from .lib.steps import PROCESSORS, SideBySide, Step, by_status, by_tests
 
@@ -18,8 +17,7 @@ COMPILED = [
 
 
 def main():
-    scripts = [Step(name, [sys.executable, *words, PROGRAM]) for name, words in SCRIPTS.items()]
-    tried = scripts + steps_of(found([]), env={"SLOTPLAN": PROGRAM})
+    tried = steps_of(found([]), env={"SLOTPLAN": PROGRAM})
     steps = SideBySide(len(COMPILED) + len(tried), jobs=int(os.environ.get("JOBS") or PROCESSORS))
     steps.say(f"{steps.total} steps; the program and three crates of tests are compiled without proof, some minutes each")
     status = steps.run(COMPILED, tried)

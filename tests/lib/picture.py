@@ -1,4 +1,4 @@
-"""A page of `slotplan picture`, read by python3's html.parser and compared with the lines of the reports; pictures.py and look.py use it.
+"""A page of `slotplan picture`, read by python3's html.parser and compared with the lines of the reports. The tests of pictures and look.py use it.
 
 The page's rectangles are read as cells: a lane is found by where it stands, its frame by its title."""
 import re

@@ -1,39 +1,17 @@
-#!/usr/bin/env python3
-"""Tries the pictures of the built program: pictures.py PROGRAM..
-
-The examples' requests are asked of register files. Each variant's page, the integrator's and each supplier's, is read without a browser
-and compared with the lines of the reports: the cells, grants, gaps and marks, the tables of slots and frames, and the index. So are the pages of
-plans at the limits, which are made here. No page has more bytes than docs/FORMATS.md says. The last line is 'N passed, M failed'."""
+"""Registers that requests have planned, what their reports say of a variant, and plans at the limits. The tests of pictures and look.py use it."""
 import json
-import subprocess
-import sys
-import tempfile
 import tomllib
-from pathlib import Path
 
-import picture
+from .program import TOP, ran
 
-TOP = Path(__file__).resolve().parent.parent
-# How many bytes a page may have at the limits, by itself and for each supplier, lane, placement, frame and signal, as FORMATS says.
-PAGE, SUPPLIER, LANE, PLACEMENT, FRAME, SIGNAL = 25_000, 100, 220, 150, 170, 35
 SECONDS = 600
-
-counted = {True: 0, False: 0}
-
-
-def see(what, wrong):
-    """Counts whether nothing is wrong, and says what is."""
-    counted[not wrong] += 1
-    for line in wrong[:10]:
-        print(f"{what}: {line:.500}")
 
 
 class Register:
     """A register file, made of a cluster file's text and requests, with the answers to these."""
 
-    def __init__(self, program, folder, cluster, requests):
-        self.program, self.cluster = str(Path(program).resolve()), tomllib.loads(cluster)
-        self.folder = folder
+    def __init__(self, folder, cluster, requests):
+        self.cluster, self.folder = tomllib.loads(cluster), folder
         (folder / "cluster.toml").write_text(cluster)
         self.tell("create", "car.db", "cluster.toml")
         lines = [line for line in requests.split("\n") if line]
@@ -41,10 +19,10 @@ class Register:
 
     def tell(self, *words, given=""):
         """What the program writes to standard output."""
-        got = subprocess.run([self.program, *words], cwd=self.folder, input=given, text=True, capture_output=True, timeout=SECONDS)
-        if got.returncode != 0:
-            raise OSError(f"{words}: status {got.returncode}, {got.stderr.strip()!r:.200}")
-        return got.stdout
+        status, written, said = ran(words, self.folder, given.encode(), seconds=SECONDS)
+        if status != 0:
+            raise OSError(f"{words}: status {status}, {said.strip()!r:.200}")
+        return written.decode()
 
     def done(self, what):
         """The requests of this name that were carried out."""
@@ -58,7 +36,7 @@ class Register:
         return sorted([*self.cluster["suppliers"], *(request["supplier"] for request in self.done("add_supplier"))])
 
     def plan(self, variant, supplier):
-        """What the reports say of a variant, for this supplier or for the integrator, as picture.compare takes it."""
+        """What the reports say of a variant, for this supplier or for the integrator, as `picture.compare` takes it."""
         seen = ["--supplier", supplier] if supplier else []
         own = [supplier] if supplier else []
         report = lambda name, *more: [line.split() + own for line in self.tell(name, "car.db", variant, *more, *seen).splitlines()]
@@ -86,37 +64,10 @@ class Register:
         }
 
 
-def head_of(register, opened, supplier):
-    """The sentences above the drawing: the variant, and the cluster's figures."""
-    variant, parent, of = opened["variant"], opened.get("from"), register.cluster
-    released = any(request["variant"] == variant for request in register.done("release"))
-    told = f"Variant {variant} It was opened {'from ' + parent if parent else 'empty'}, and is {'released' if released else 'open'}."
-    return (
-        told
-        + (f" This page shows what is {supplier}'s alone." if supplier else "")
-        + f" Channels {of['channels']}; {of.get('cycles', 64)} cycles of {of['macroticks_per_cycle']} macroticks; payload words {of['payload_words']}; "
-        + f"{of['static_slots']} static slots of {of['slot_macroticks']} macroticks, dynamic segment {of['dynamic_macroticks']}, "
-        + f"symbol window {of['symbol_macroticks']}, idle time {of['idle_macroticks']}."
-    )
-
-
-def examples(program):
+def examples():
+    """The cluster file and the requests of each example, by its name."""
     for script in sorted((TOP / "examples").glob("*.script")):
-        cluster, requests = script.read_text().split("---\n", 1)
-        with tempfile.TemporaryDirectory() as folder:
-            register = Register(program, Path(folder), cluster, requests)
-            for opened in register.done("open_variant"):
-                variant = opened["variant"]
-                for supplier in [None, *register.suppliers()]:
-                    text = register.tell("picture", "car.db", variant, *(["--supplier", supplier] if supplier else []))
-                    wrong = picture.compare(text, register.plan(variant, supplier))
-                    told = " ".join(picture.Page(text).text.split())
-                    if head_of(register, opened, supplier) not in told:
-                        wrong.append(f"the head is {told[:200]!r}")
-                    see(f"{script.stem} {variant} {supplier or ''}", wrong)
-
-
-# ---- a plan at the limits
+        yield (script.stem, *script.read_text().split("---\n", 1))
 
 
 def limits(share=2, signals=8, spread=1, slots=1023):
@@ -159,32 +110,3 @@ def limits(share=2, signals=8, spread=1, slots=1023):
                 body = "\n".join([head, *rows[first : first + 512]]) + "\n"
                 ask(f"key{name}", "import", variant="v1", label=f"{label}{first}", body=body)
     return cluster, "\n".join(requests), plan
-
-
-def at_the_limits(program):
-    for share, signals, spread in (2, 8, 1), (4, 2, 1), (16, 8, 8):
-        cluster, requests, plan = limits(share, signals, spread)
-        with tempfile.TemporaryDirectory() as folder:
-            register = Register(program, Path(folder), cluster, requests)
-            text = register.tell("picture", "car.db", "v1")
-        wrong = picture.compare(text, plan)
-        placements = sum(len(frame[3]) for frame in plan["frames"])
-        most = PAGE + SUPPLIER * len(plan["suppliers"]) + LANE * len(plan["grants"]) + PLACEMENT * placements + (FRAME + SIGNAL * signals) * len(plan["frames"])
-        if len(text.encode()) > most:
-            wrong.append(f"the page has {len(text.encode())} bytes, and may have {most}")
-        see(f"at the limits, {share} frames of {signals} signals in each lane, each frame in {spread} lanes", wrong)
-
-
-def main():
-    for program in sys.argv[1:]:
-        for part in examples, at_the_limits:
-            try:
-                part(program)
-            except (OSError, ValueError, KeyError, subprocess.TimeoutExpired) as fault:
-                see(f"{program} {part.__name__}", [f"failed, {type(fault).__name__} {fault}"])
-    print(f"{counted[True]} passed, {counted[False]} failed")
-    return 1 if counted[False] or not counted[True] else 0
-
-
-if __name__ == "__main__":
-    sys.exit(main())

@@ -1,0 +1,73 @@
+"""Pictures of plans: each page, read without a browser and compared with the lines of the reports"""
+from tests.lib.case import Case
+from tests.lib.picture import Page, compare
+from tests.lib.plans import Register, examples, limits
+
+# How many bytes a page may have at the limits, by itself and for each supplier, lane, placement, frame and signal, as FORMATS says.
+PAGE, SUPPLIER, LANE, PLACEMENT, FRAME, SIGNAL = 25_000, 100, 220, 150, 170, 35
+
+
+def head_of(register, opened, supplier):
+    """The sentences above the drawing: the variant, and the cluster's figures."""
+    variant, parent, of = opened["variant"], opened.get("from"), register.cluster
+    released = any(request["variant"] == variant for request in register.done("release"))
+    told = f"Variant {variant} It was opened {'from ' + parent if parent else 'empty'}, and is {'released' if released else 'open'}."
+    return (
+        told
+        + (f" This page shows what is {supplier}'s alone." if supplier else "")
+        + f" Channels {of['channels']}; {of.get('cycles', 64)} cycles of {of['macroticks_per_cycle']} macroticks; payload words {of['payload_words']}; "
+        + f"{of['static_slots']} static slots of {of['slot_macroticks']} macroticks, dynamic segment {of['dynamic_macroticks']}, "
+        + f"symbol window {of['symbol_macroticks']}, idle time {of['idle_macroticks']}."
+    )
+
+
+class PictureCase(Case):
+    seconds = 60
+
+    def agrees(self, what, wrong):
+        """Nothing of the page is wrong."""
+        self.see(what, [], wrong[:10])
+
+
+class PicturesOfExamples(PictureCase):
+    """Each page of the examples' variants, the integrator's and each supplier's, has the cells, grants, gaps, tables and index that the reports say."""
+
+    def test_examples(self):
+        for name, cluster, requests in examples():
+            folder = self.folder / name
+            folder.mkdir()
+            register = Register(folder, cluster, requests)
+            for opened in register.done("open_variant"):
+                for supplier in [None, *register.suppliers()]:
+                    self.sees(name, register, opened, supplier)
+
+    def sees(self, name, register, opened, supplier):
+        variant = opened["variant"]
+        text = register.tell("picture", "car.db", variant, *(["--supplier", supplier] if supplier else []))
+        self.agrees(f"{name} {variant} {supplier or ''}", compare(text, register.plan(variant, supplier)))
+        told = " ".join(Page(text).text.split())
+        self.see(f"{name} {variant} {supplier or ''}: the head", True, head_of(register, opened, supplier) in told)
+
+
+class PicturesAtTheLimits(PictureCase):
+    """A page of 64 suppliers, 1,023 slots, both channels and 64 cycles has what was planned, and no more bytes than docs/FORMATS.md says."""
+
+    is_apart = True
+
+    def plans(self, share, signals, spread):
+        """So many frames of so many signals share each lane, and each is sent in so many lanes."""
+        cluster, requests, plan = limits(share, signals, spread)
+        text = Register(self.folder, cluster, requests).tell("picture", "car.db", "v1")
+        self.agrees("the page", compare(text, plan))
+        placements = sum(len(frame[3]) for frame in plan["frames"])
+        most = PAGE + SUPPLIER * len(plan["suppliers"]) + LANE * len(plan["grants"]) + PLACEMENT * placements + (FRAME + SIGNAL * signals) * len(plan["frames"])
+        self.see(f"its {len(text.encode())} bytes are at most {most}", True, len(text.encode()) <= most)
+
+    def test_frames_of_many_signals(self):
+        self.plans(share=2, signals=8, spread=1)
+
+    def test_many_frames(self):
+        self.plans(share=4, signals=2, spread=1)
+
+    def test_frames_of_many_placements(self):
+        self.plans(share=16, signals=8, spread=8)
