@@ -322,7 +322,7 @@ def other_schemas(program, folder):
     stays(program, folder, "a register that was made here", "WrongSchema")
 
 
-# Registers by their number, which are none by their tables, or whose cluster is none.
+# Registers by their number, which are none by their tables, or whose cluster, suppliers or variants are those of no register.
 UNAVAILABLE = [
     "DELETE FROM cluster",
     "UPDATE cluster SET channels = 'BA'",
@@ -330,6 +330,11 @@ UNAVAILABLE = [
     "UPDATE cluster SET static_slots = -4",
     "UPDATE cluster SET macroticks_per_cycle = 101",
     "UPDATE cluster SET integrator = 'short07'",
+    "UPDATE suppliers SET key = 'short07' WHERE name = 's2'",
+    "UPDATE suppliers SET key = 'integrator1' WHERE name = 's2'",
+    "UPDATE suppliers SET name = 'S2' WHERE name = 's2'",
+    "UPDATE variants SET depth = 2 WHERE name = 'v1'",
+    "UPDATE variants SET parent = 'v9' WHERE name = 'v3'",
     "CREATE TABLE cluster2 (x INTEGER) STRICT",
     "CREATE TABLE other (x INTEGER) STRICT",
     "CREATE INDEX other ON nodes (name)",

@@ -22,11 +22,11 @@ use Rattle.fr_tables.specs.Asking.{AreAsBefore, HasNumber, numbered, our_schema_
 use Rattle.fr_tables.specs.Making.{IsRenewed}
 use Rattle.fr_store.specs.Applying.{GoesOn}
 use Rattle.fr_store.specs.Owning.{IsStoredSo}
-use Rattle.fr_store.specs.Before.{StoodFor, StandsBefore, HoldsBookBefore, LeavesMigrated, HasOldIfBefore, database_before, moved}
+use Rattle.fr_store.specs.Before.{StoodFor, StandsBefore, HoldsBookBefore, HoldsOpenable, LeavesMigrated, HasOldIfBefore, database_before, moved}
 use Rattle.fr_store.specs.Opening.{AllowsMigration, Refuses}
 use Rattle.fr_store.specs.Reading.{Stands}
 use Rattle.fr_store.specs.StandsFor.{StandsFor}
-use Rattle.fr_store.specs.Store.{IsRegisterFor}
+use Rattle.fr_store.specs.Store.{IsOpenable, IsRegisterFor}
 use Rattle.fr_store.specs.StoreFiles.{IsFound, IsHeld, HoldsBook}
 use Rattle.fr_store.specs.declared.fault.StoreFault.{StoreFault}
 use Rattle.fr_store.specs.declared.fault.StoreFault.TheVariants.{Unavailable}
@@ -132,6 +132,13 @@ both_stay first second old read put new leaves also inside same step gone =
       record { inside = goes.inside; has = goes.has; stored = λ v over so. goes.stored v over (subst (IsStoredSo v over) (sym (same_tables old read same)) so) },
     )
 
+-- the number that a migrated register says
+pub number_after : (old made moved new : State) → HasNumber old.now old_schema_number → IsRenewed old made → (tables_of moved).register ≡ (tables_of made).register
+    → Changes (with_number our_schema_number) moved new → (tables_of new).register ≡ numbered our_schema_number ∷ []
+number_after old made moved new number first kept third =
+    let before : (tables_of moved).register ≡ numbered old_schema_number ∷ [] = kept ∙ ap (λ (t : Tables). t.register) first.same ∙ number.number in
+    ap (λ (t : Tables). t.register) third.now ∙ ap (map (λ (r : RegisterRow). numbered our_schema_number)) before
+
 -- the same tables stand for the same book
 pub still_before : (old new : State) (c : Cluster) (b : Book) → new.now ≡ old.now → StandsBefore old c b → StandsBefore new c b
 still_before old new c b same h =
@@ -201,6 +208,10 @@ pub committed_held : (image : Image) (s : State) (c : Cluster) (b : Book) → St
 committed_held image s c b stands settled held =
     let is : IsRegisterFor c b s.committed = subst (IsRegisterFor c b) (sym settled) (record { has = stands.has; for = stands.for }) in
     holds_book image s.committed c b is held
+
+-- so are tables that an open wants
+pub openable_held : (image : Image) (s : State) → IsOpenable s.now → s.committed ≡ s.now → IsHeld image s.committed → HoldsOpenable image
+openable_held image s opens settled held = (s.committed, held, subst IsOpenable (sym settled) opens)
 
 -- a connection that has opened files that hold a book of the schema before sees it
 pub found_before : (image : Image) (s : State) (c : Cluster) (b : Book) → IsDatabase s.now → ((t : Trees) → HoldsDatabase image t → s.now.trees ≡ t) → HoldsBookBefore c b image → StandsBefore s c b

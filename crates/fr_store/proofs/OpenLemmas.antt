@@ -4,19 +4,21 @@ use Rattle.std.specs.List.Sorted.{IsPermutation}
 use Rattle.std.proofs.lemmas.List.Sorted.{IsPermutation-sym}
 use Rattle.sqlite.specs.Order.{Row}
 use Rattle.sqlite.specs.Effect.{Database}
+use Rattle.sqlite.specs.State.{State, IsUnchanged}
 use Rattle.sqlite.proofs.Callers.{one_permutation}
-use Rattle.fr_base.specs.Cluster.{ClusterFile}
+use Rattle.fr_base.specs.Cluster.{ClusterFile, IsWellFormed}
 use Rattle.fr_base.specs.declared.config.Supplier.{Supplier}
 use Rattle.fr_tables.specs.Rows.{Cluster2Row, SupplierRow}
-use Rattle.fr_tables.specs.Tables.{HasTables, HasSomeTables, tables_in}
-use Rattle.fr_tables.specs.Changes.{AreListed}
+use Rattle.fr_tables.specs.Tables.{Tables, HasTables, HasSomeTables, tables_in}
+use Rattle.fr_tables.specs.Changes.{AreListed, tables_of}
 use Rattle.fr_tables.specs.Statements.{cluster2_row, shows_cluster2, shows_supplier, shows_variant, every, any_order, suppliers_cmp, variants_cmp}
 use Rattle.fr_tables.specs.Filling.{supplier_row}
 use Rattle.fr_store.specs.Reading.{AreOpened, TellsOpened, variant_shown}
 use Rattle.fr_world.specs.declared.variants.VariantRow.{VariantRow}
-use Rattle.fr_tables.specs.Asking.{HasNumber, our_schema_number}
-use Rattle.fr_store.specs.Store.{IsRegisterOf}
+use Rattle.fr_tables.specs.Asking.{HasNumber, numbered, our_schema_number}
+use Rattle.fr_store.specs.Store.{IsOpenable, IsRegisterOf}
 use Rattle.fr_tables.specs.ClusterRows.{shown_supplier}
+use Rattle.fr_store.proofs.ChainLemmas.{same_tables}
 
 all_pass : {X : Type 0} (xs : List X) → filter every xs ≡ xs
 all_pass [] = refl
@@ -92,3 +94,30 @@ register_found c old mid new n first second ours has number cluster suppliers =
 
     its_number : HasNumber mid our_schema_number
     its_number = subst (λ (p : Database × ℤ). HasNumber p.0 p.1) (λ i. (sym first i, ours i)) (number (inl (subst HasTables first has_mid)))
+
+-- what was asked in turn, inside a transaction, of tables that make a register is what an open wants
+pub openable : (old a b new : State) (f : ClusterFile) (cluster suppliers variants : List Row) → HasTables old.now → (tables_of old).register ≡ numbered our_schema_number ∷ []
+    → AreListed shows_cluster2 every any_order (tables_of old).cluster2 cluster → IsUnchanged old a
+    → AreListed shows_supplier every suppliers_cmp (tables_of a).suppliers suppliers → IsUnchanged a b
+    → AreListed shows_variant every variants_cmp (tables_of b).variants variants → IsUnchanged b new
+    → cluster ≡ shows_cluster2 (cluster2_row f.cluster.params f.cluster.integrator) ∷ [] → suppliers ≡ map shown_supplier f.suppliers
+    → AreOpened (map variant_shown variants) → IsWellFormed f → IsOpenable new.now
+openable old a b new f cluster suppliers variants has number first same_a second same_b third same_new row list opened formed =
+    let at_a = same_tables old a same_a in
+    let at_b = same_tables a b same_b ∙ at_a in
+    let listed = subst (λ (t : Tables). AreListed shows_supplier every suppliers_cmp t.suppliers suppliers) at_a second in
+    let there = subst (λ (t : Tables). AreListed shows_variant every variants_cmp t.variants variants) at_b third in
+    let as_then : new.now ≡ old.now = same_new.0.now_is ∙ same_b.0.now_is ∙ same_a.0.now_is in
+    subst IsOpenable (sym as_then) (record {
+      file = f;
+      formed = formed;
+      is = record {
+        has = has;
+        tells = record {
+          register = number;
+          cluster2 = one_cluster (tables_of old).cluster2 cluster (Some f) first row;
+          suppliers = all_suppliers (tables_of old).suppliers suppliers (Some f) listed list;
+        };
+      };
+      variants = (variants, there, opened);
+    })

@@ -15,10 +15,10 @@ use Rattle.fr_tables.specs.Rows.{RegisterRow, ClusterRow}
 use Rattle.fr_tables.specs.Tables.{Tables, HasTables, HasOldTables, tables_in}
 use Rattle.fr_tables.specs.Changes.{tables_of}
 use Rattle.fr_tables.specs.Statements.{cluster_row, cluster2_row}
-use Rattle.fr_tables.specs.Asking.{numbered, old_schema_number}
+use Rattle.fr_tables.specs.Asking.{HasNumber, numbered, old_schema_number}
 use Rattle.fr_store.specs.StandsFor.{HoldsRows}
 use Rattle.fr_store.specs.Reading.{Stands}
-use Rattle.fr_store.specs.Store.{IsRegisterFor}
+use Rattle.fr_store.specs.Store.{IsOpenable, IsRegisterFor}
 use Rattle.fr_store.specs.StoreFiles.{IsHeld, database_of}
 
 -- ---- what tables of the schema before stand for
@@ -76,3 +76,15 @@ HasOldIfBefore db = db.schema ≡ old_schema → HasOldTables db
 -- Statements inside a transaction over tables of the schema before commit nothing, and where none fails the transaction goes on.
 abbrev pub KeepsBefore : {X E : Type 0} → State → State → Result X E → Type 0
 KeepsBefore old new r = HasCleanDisk new → IsTrue old.in_transaction → HasOldTables old.now → KeepsCommit old new × OnOk r (IsTrue new.in_transaction)
+
+-- ---- what is opened then
+
+-- Statements inside a transaction make tables that say the number of the schema before such as an open wants, or one fails.
+abbrev pub MakesOpenable : {X E : Type 0} → State → State → Result X E → Type 0
+MakesOpenable old new r =
+    HasCleanDisk new → IsTrue old.in_transaction → HasOldTables old.now → HasNumber old.now old_schema_number
+    → OnOk r (IsOpenable new.now)
+
+-- the files hold a register that an open wants
+abbrev pub HoldsOpenable : Image → Type 0
+HoldsOpenable image = (db : Database) × IsHeld image db × IsOpenable db

@@ -1,5 +1,5 @@
 -- Register: when a database is a register of a cluster, or of a cluster and a book, and when a new one; when it is
--- found again; whether one of its tables is there, and why none is made.
+-- found again, and what an open wants of it; whether one of its tables is there, and why none is made.
 use Rattle.std.specs.Prelude.{◌≡◌, ℕ, [], ◌∷◌, List, Bool, false, map, IsTrue, IsPermutation, Result, MatchResult, ⊤}
 use Rattle.std.specs.List.{list_any}
 use Rattle.sqlite.specs.Table.{Table}
@@ -7,7 +7,7 @@ use Rattle.sqlite.specs.Schema.{Schema}
 use Rattle.sqlite.specs.Effect.{Database}
 use Rattle.sqlite.specs.State.{State, Shows, HasCleanDisk, KeepsCommit}
 use Rattle.sqlite_schema.specs.Names.{same_name}
-use Rattle.fr_base.specs.Cluster.{Cluster, ClusterFile}
+use Rattle.fr_base.specs.Cluster.{Cluster, ClusterFile, IsWellFormed}
 use Rattle.fr_base.specs.Book.{Book, file_of}
 use Rattle.fr_tables.specs.Schema.{all_tables}
 use Rattle.fr_tables.specs.Tables.{Tables, HasTables, tables_in}
@@ -16,7 +16,7 @@ use Rattle.fr_tables.specs.Filling.{supplier_row, with_config}
 use Rattle.fr_tables.specs.Making.{IsFresh, no_rows}
 use Rattle.fr_tables.specs.Asking.{numbered, our_schema_number}
 use Rattle.fr_store.specs.StandsFor.{StandsFor}
-use Rattle.fr_store.specs.Reading.{Stands}
+use Rattle.fr_store.specs.Reading.{Stands, TellsOpened}
 use Rattle.fr_store.specs.declared.fault.StoreFault.{StoreFault}
 use Rattle.fr_store.specs.declared.fault.StoreFault.TheVariants.{NotEmpty, NotARegister, WrongSchema, Unavailable}
 
@@ -41,6 +41,14 @@ pub record IsRegisterFor (c : Cluster) (b : Book) (db : Database) : Type 0 where
 -- What was found is the cluster for which the tables stood, with the book's suppliers, and they stand as they did.
 abbrev pub FindsAgain : State → State → ClusterFile → Type 0
 FindsAgain old new found = (c : Cluster) (b : Book) → Stands old c b → (found ≡ file_of c b) × Stands new c b
+
+-- What an open wants of tables: that they are a register of some cluster, whose keys and names have their form, and that a
+-- register can have its variants.
+pub record IsOpenable (db : Database) : Type 0 where
+  pub file : ClusterFile
+  pub formed : IsWellFormed file
+  pub is : IsRegisterOf file db
+  pub variants : TellsOpened (tables_in db.trees)
 
 -- ---- a new register
 

@@ -1,20 +1,23 @@
 //! Makes a register of the schema before one of this schema, in one transaction.
 
-ghost use Rattle.std.specs.Prelude.{◌≡◌, ◌≢◌, IfErr, OnErr, OnOk, false};
+ghost use Rattle.std.specs.Prelude.{◌≡◌, ◌≢◌, [], ◌∷◌, IfErr, IsTrue, MatchResult, OnErr, OnOk, false};
 ghost use Rattle.sqlite.specs.State.{HasCleanDisk, IsUnchanged, Survives};
 ghost use Rattle.sqlite.specs.Held.{state};
-ghost use Rattle.fr_tables.specs.Asking.{AreAsBefore, HasNumber, old_schema_number};
+ghost use Rattle.fr_tables.specs.Asking.{AreAsBefore, HasNumber, numbered, old_schema_number, our_schema_number};
+ghost use Rattle.fr_tables.specs.Changes.{Stays, tables_of};
 ghost use Rattle.fr_tables.specs.Schema.{old_schema};
-ghost use Rattle.fr_tables.specs.Tables.{HasOldTables, HasSomeTables};
+ghost use Rattle.fr_tables.specs.Tables.{HasOldTables, HasSomeTables, HasTables};
 ghost use Rattle.fr_store.specs.Applying.{StaysInside};
-ghost use Rattle.fr_store.specs.Before.{StandsBefore, MovesCluster, Migrates, KeepsBefore, LeavesMigrated, HasOldIfBefore};
+ghost use Rattle.fr_store.specs.Before.{StandsBefore, MovesCluster, Migrates, MakesOpenable, KeepsBefore, LeavesMigrated, HasOldIfBefore};
 ghost use Rattle.fr_store.specs.Opening.{Refuses};
 ghost use Rattle.fr_store.specs.Reading.{Stands};
+ghost use Rattle.fr_store.specs.Store.{IsOpenable};
 ghost use Rattle.fr_store.specs.declared.fault.StoreFault.TheVariants as fault;
 
 mod files;
 
 use crate::fault::StoreFault;
+use crate::opening::config_of;
 use crate::schemas::{expect_number, is_before};
 pub use files::{migrate, migrate_at};
 use fr_tables::cluster::read_before;
@@ -26,6 +29,8 @@ use std::alloc::Global;
 fn move_cluster<S: Alter>(tx: &mut Transaction<'_, S>) -> Result<(), StoreFault>
     ensures same_reference { tx.new.conn.ghost_name ≡ tx.old.conn.ghost_name }
     ensures moved { MovesCluster (state S.Store tx.old.conn.now) (state S.Store tx.new.conn.now) result }
+    ensures number { let old = state S.Store tx.old.conn.now in let new = state S.Store tx.new.conn.now in
+        HasCleanDisk new → IsTrue old.in_transaction → HasTables old.now → OnOk result ((tables_of new).register ≡ (tables_of old).register) }
     ensures stays { StaysInside (state S.Store tx.old.conn.now) (state S.Store tx.new.conn.now) result }
     ensures refused { IfErr result (λ e. e ≡ fault.Unavailable) }
     ensures survives { Survives (state S.Store tx.old.conn.now) (state S.Store tx.new.conn.now) (λ _. ⊥) }
@@ -39,12 +44,39 @@ fn move_cluster<S: Alter>(tx: &mut Transaction<'_, S>) -> Result<(), StoreFault>
     Ok(())
 }
 
+/// Sees that the tables are such as an open wants, and leaves them as they are.
+fn expect_config<S: Alter>(alloc: Global, tx: &mut Transaction<'_, S>) -> Result<(), StoreFault>
+    ensures same_reference { tx.new.conn.ghost_name ≡ tx.old.conn.ghost_name }
+    ensures opens { let old = state S.Store tx.old.conn.now in let new = state S.Store tx.new.conn.now in
+        HasCleanDisk new → HasTables old.now → (tables_of old).register ≡ numbered our_schema_number ∷ [] → OnOk result (IsOpenable new.now) }
+    ensures same { let old = state S.Store tx.old.conn.now in let new = state S.Store tx.new.conn.now in
+        HasCleanDisk new → HasTables old.now → MatchResult result (λ _. IsUnchanged old new) (λ _. Stays old new) }
+    ensures refused { IfErr result (λ e. e ≡ fault.Unavailable) }
+    ensures survives { Survives (state S.Store tx.old.conn.now) (state S.Store tx.new.conn.now) (λ _. ⊥) }
+{
+    let cluster = tables::cluster2::all_inside(tx)?;
+    let suppliers = tables::suppliers::all_inside(tx)?;
+    let variants = tables::variants::all_inside(tx)?;
+    let found = config_of(
+        alloc,
+        cluster.as_slice(),
+        suppliers.as_slice(),
+        variants.as_slice(),
+    );
+    match found {
+        Some(_) => Ok(()),
+        None => Err(StoreFault::Unavailable),
+    }
+}
+
 const NUMBER: u32 = 2;
 
-/// Makes the cluster's new table, moves its row, and then gives the register its new number.
-fn renew<S: Alter>(tx: &mut Transaction<'_, S>) -> Result<(), StoreFault>
+/// Makes the cluster's new table, moves its row, and then gives the register its new number. It fails where the
+/// tables are then no register that is opened.
+fn renew<S: Alter>(alloc: Global, tx: &mut Transaction<'_, S>) -> Result<(), StoreFault>
     ensures same_reference { tx.new.conn.ghost_name ≡ tx.old.conn.ghost_name }
     ensures migrated { Migrates (state S.Store tx.old.conn.now) (state S.Store tx.new.conn.now) result }
+    ensures opens { MakesOpenable (state S.Store tx.old.conn.now) (state S.Store tx.new.conn.now) result }
     ensures stays { KeepsBefore (state S.Store tx.old.conn.now) (state S.Store tx.new.conn.now) result }
     ensures refused { IfErr result (λ e. e ≡ fault.Unavailable) }
     ensures survives { Survives (state S.Store tx.old.conn.now) (state S.Store tx.new.conn.now) (λ _. ⊥) }
@@ -52,13 +84,16 @@ fn renew<S: Alter>(tx: &mut Transaction<'_, S>) -> Result<(), StoreFault>
     making::cluster2(tx)?;
     move_cluster(tx)?;
     tables::register::update(tx, NUMBER)?;
+    expect_config(alloc, tx)?;
     Ok(())
 }
 
 /// All of that in one transaction, or nothing.
-fn in_one<S: Alter>(conn: &mut Connection<S>) -> Result<(), StoreFault>
+fn in_one<S: Alter>(alloc: Global, conn: &mut Connection<S>) -> Result<(), StoreFault>
     requires { conn.old.in_transaction ≡ false }
     ensures migrated { HasCleanDisk (state S.Store conn.new) → (c : _) (b : _) → StandsBefore (state S.Store conn.old) c b → OnOk result (Stands (state S.Store conn.new) c b) }
+    ensures opens { let old = state S.Store conn.old in let new = state S.Store conn.new in
+        HasCleanDisk new → HasOldTables old.now → HasNumber old.now old_schema_number → OnOk result (IsOpenable new.now) }
     ensures committed { HasCleanDisk (state S.Store conn.new) → OnOk result ((state S.Store conn.new).committed ≡ (state S.Store conn.new).now) }
     ensures undone { HasCleanDisk (state S.Store conn.new) → HasOldTables (state S.Store conn.old).now → OnErr result (AreAsBefore (state S.Store conn.old) (state S.Store conn.new)) }
     ensures refused { IfErr result (λ e. e ≡ fault.Unavailable) }
@@ -67,7 +102,7 @@ fn in_one<S: Alter>(conn: &mut Connection<S>) -> Result<(), StoreFault>
 {
     let _settled = conn.is_autocommit();
     let mut tx = conn.transaction();
-    renew(&mut tx)?;
+    renew(alloc, &mut tx)?;
     tx.commit()?;
     Ok(())
 }
@@ -91,11 +126,13 @@ pub(crate) fn see_open<S: Alter>(conn: &mut Connection<S>) -> Result<(), StoreFa
 const NUMBER_BEFORE: i64 = 1;
 
 /// Makes a register of the schema before one of this schema: all of it, or nothing. Its clusters had 64 cycles, and
-/// so has this one then; all else stays. It is NotARegister where the tables say no number, WrongSchema where they
-/// say another one, this schema's too, and else Unavailable; then the tables are as they were.
+/// so has this one then; all else stays, and it is a register that is opened. It is NotARegister where the tables say no
+/// number, WrongSchema where they say another one, this schema's too, and else Unavailable, also where no register has
+/// such rows; then the tables are as they were.
 pub fn migrate_on<S: Alter>(alloc: Global, conn: &mut Connection<S>) -> Result<(), StoreFault>
     ensures migrated { HasCleanDisk (state S.Store conn.new) → (c : _) (b : _) → StandsBefore (state S.Store conn.old) c b → OnOk result (Stands (state S.Store conn.new) c b) }
     ensures committed { HasCleanDisk (state S.Store conn.new) → OnOk result ((state S.Store conn.new).committed ≡ (state S.Store conn.new).now) }
+    ensures opens { HasCleanDisk (state S.Store conn.new) → HasOldTables (state S.Store conn.old).now → OnOk result (IsOpenable (state S.Store conn.new).now) }
     ensures before { OnOk result ((state S.Store conn.old).now.schema ≡ old_schema) }
     ensures numbered { HasCleanDisk (state S.Store conn.new) → OnOk result (HasSomeTables (state S.Store conn.old).now → HasNumber (state S.Store conn.old).now old_schema_number) }
     ensures told { HasCleanDisk (state S.Store conn.new) → IfErr result (Refuses old_schema_number (state S.Store conn.old).now) }
@@ -114,5 +151,5 @@ pub fn migrate_on<S: Alter>(alloc: Global, conn: &mut Connection<S>) -> Result<(
         return Err(StoreFault::Unavailable);
     }
     see_open(conn)?;
-    in_one(conn)
+    in_one(alloc, conn)
 }

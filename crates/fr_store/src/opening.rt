@@ -6,11 +6,12 @@ ghost use Rattle.sqlite.specs.Held.{state};
 ghost use Rattle.fr_base.specs.Cluster.{IsWellFormed};
 ghost use Rattle.fr_tables.specs.Schema.{register_schema};
 ghost use Rattle.fr_tables.specs.Statements.{shows_register, cluster2_row, shows_cluster2, shows_supplier, shows_variant, every, any_order, suppliers_cmp, variants_cmp};
+ghost use Rattle.fr_tables.specs.ClusterRows.{shown_supplier};
 ghost use Rattle.fr_tables.specs.Filling.{supplier_row};
 ghost use Rattle.fr_tables.specs.Tables.{HasTables, AreOrdered};
 ghost use Rattle.fr_tables.specs.Changes.{AreListed, tables_of};
 ghost use Rattle.fr_store.specs.Crashes.{Serves};
-ghost use Rattle.fr_store.specs.Reading.{TellsOpened};
+ghost use Rattle.fr_store.specs.Reading.{AreOpened, TellsOpened, variant_shown};
 ghost use Rattle.fr_store.specs.Store.{IsRegisterOf, FindsAgain};
 ghost use Rattle.fr_tables.specs.Asking.{AreAsBefore, HasNumber, numbered, number_text, cluster_text, suppliers_text, variants_text};
 ghost use Rattle.fr_store.specs.Opening.{Explains};
@@ -24,7 +25,7 @@ use crate::store::Store;
 use fr_base::Config;
 use fr_tables::asking::asked;
 use fr_tables::cluster;
-use sqlite::{Alter, Connection};
+use sqlite::{Alter, Connection, Row};
 use std::alloc::Global;
 
 /// Whether the variants of which the tables tell are such as were opened one from the other. Want of memory is
@@ -70,6 +71,23 @@ fn config<S: Alter>(alloc: Global, conn: &mut Connection<S>) -> Option<Config>
         return None;
     }
     cluster::read(alloc, cluster.as_slice(), suppliers.as_slice())
+}
+
+/// The cluster of which these rows tell. None, if they make none, if no register has their variants, or for want of
+/// memory.
+pub(crate) fn config_of(
+    alloc: Global,
+    cluster: &[Row],
+    suppliers: &[Row],
+    variants: &[Row],
+) -> Option<Config>
+    ensures cluster { IfSome result (λ c. cluster.now ≡ shows_cluster2 (cluster2_row c.cluster.params c.cluster.integrator) ∷ []) }
+    ensures suppliers { IfSome result (λ c. suppliers.now ≡ map shown_supplier c.suppliers) }
+    ensures variants { IfSome result (λ _. AreOpened (map variant_shown variants.now)) }
+    ensures formed { IfSome result IsWellFormed }
+{
+    let _opened = opened_variants(alloc, variants)?;
+    cluster::read(alloc, cluster, suppliers)
 }
 
 const NUMBER: i64 = 2;

@@ -6,7 +6,7 @@ ghost use Rattle.sqlite_wal.specs.Reads.{AreClean};
 ghost use Rattle.sqlite.specs.Effect.{IsDatabase};
 ghost use Rattle.sqlite.specs.Files.{image_of, HoldsDatabase, IsCleanLeft};
 ghost use Rattle.fr_tables.specs.Asking.{old_schema_number};
-ghost use Rattle.fr_store.specs.Before.{HoldsBookBefore};
+ghost use Rattle.fr_store.specs.Before.{HoldsBookBefore, HoldsOpenable};
 ghost use Rattle.fr_store.specs.Opening.{AllowsMigration, Refuses, RefusesFiles};
 ghost use Rattle.fr_store.specs.StoreFiles.{HoldsBook, IsHeld, image_left, outcomes_left};
 ghost use Rattle.fr_store.specs.declared.fault.StoreFault.TheVariants as fault;
@@ -34,6 +34,8 @@ pub fn migrate<D: Disk + Drop>(
     ensures survives { IfOk result (λ left. AreClean D.Disk left.log left.db → (image : _) → outcomes D.Disk left.log left.db image
         → (c : _) (b : _) → HoldsBookBefore c b (image_of D.Disk files) → HoldsBook c b image) }
     ensures ready { IfOk result (λ left. AreClean D.Disk left.log left.db → AllowsMigration (image_of D.Disk files)) }
+    ensures opens { IfOk result (λ left. AreClean D.Disk left.log left.db → HoldsOpenable (image_of D.Disk left)) }
+    ensures opens_still { IfOk result (λ left. AreClean D.Disk left.log left.db → (image : _) → outcomes D.Disk left.log left.db image → HoldsOpenable image) }
     ensures told { IfErr result (λ e. IfSome e.1 (λ left. AreClean D.Disk left.log left.db → (d : _) → IsDatabase d → HoldsDatabase (image_of D.Disk files) d.trees → Refuses old_schema_number d e.0)) }
     ensures cause { IfErr result (λ e. IfSome e.1 (λ left. AreClean D.Disk left.log left.db → RefusesFiles old_schema_number (image_of D.Disk files) e.0)) }
     ensures known { IfErr result (λ e. IfSome e.1 (λ left. AreClean D.Disk left.log left.db → (c : _) (b : _) → HoldsBookBefore c b (image_of D.Disk files) → e.0 ≡ fault.Unavailable)) }
@@ -68,6 +70,8 @@ pub fn migrate_at<S: Start>(
     ensures migrated { IfOk result (λ left. IsCleanLeft left → (c : _) (b : _) → HoldsBookBefore c b (image_at S.Start) → HoldsBook c b (image_left left)) }
     ensures survives { IfOk result (λ left. IsCleanLeft left → (image : _) → outcomes_left left image → (c : _) (b : _) → HoldsBookBefore c b (image_at S.Start) → HoldsBook c b image) }
     ensures ready { IfOk result (λ left. IsCleanLeft left → AllowsMigration (image_at S.Start)) }
+    ensures opens { IfOk result (λ left. IsCleanLeft left → HoldsOpenable (image_left left)) }
+    ensures opens_still { IfOk result (λ left. IsCleanLeft left → (image : _) → outcomes_left left image → HoldsOpenable image) }
     ensures told { IfErr result (λ e. IfSome e.1 (λ left. IsCleanLeft left → (d : _) → IsDatabase d → HoldsDatabase (image_at S.Start) d.trees → Refuses old_schema_number d e.0)) }
     ensures cause { IfErr result (λ e. IfSome e.1 (λ left. IsCleanLeft left → RefusesFiles old_schema_number (image_at S.Start) e.0)) }
     ensures known { IfErr result (λ e. IfSome e.1 (λ left. IsCleanLeft left → (c : _) (b : _) → HoldsBookBefore c b (image_at S.Start) → e.0 ≡ fault.Unavailable)) }

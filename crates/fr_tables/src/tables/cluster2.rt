@@ -3,11 +3,11 @@
 ghost use Rattle.std.specs.Prelude.{◌≡◌};
 ghost use Rattle.sqlite.specs.State.{Survives};
 ghost use Rattle.sqlite.specs.Held.{state};
-ghost use Rattle.fr_tables.specs.Changes.{Makes};
-ghost use Rattle.fr_tables.specs.Statements.{with_cluster2, cluster2_row};
+ghost use Rattle.fr_tables.specs.Changes.{Makes, Finds};
+ghost use Rattle.fr_tables.specs.Statements.{with_cluster2, cluster2_row, shows_cluster2, every, any_order};
 
 use fr_base::{Key, Params};
-use sqlite::{Alter, Error, Transaction, params};
+use sqlite::{Alter, Error, Row, Transaction, params};
 
 /// Adds the row of a cluster with none. It gets the number 1.
 pub fn insert<S: Alter>(
@@ -33,5 +33,17 @@ pub fn insert<S: Alter>(
             integrator.as_str(),
             of.cycles()
         ],
+    )
+}
+
+/// The cluster that it says, asked inside a transaction.
+pub fn all_inside<S: Alter>(tx: &mut Transaction<'_, S>) -> Result<Vec<Row>, Error>
+    ensures same_reference { tx.new.conn.ghost_name ≡ tx.old.conn.ghost_name }
+    ensures listed { Finds shows_cluster2 every any_order (λ t. t.cluster2) (state S.Store tx.old.conn.now) (state S.Store tx.new.conn.now) result }
+    ensures survives { Survives (state S.Store tx.old.conn.now) (state S.Store tx.new.conn.now) (λ _. ⊥) }
+{
+    tx.query_all(
+        "SELECT static_slots, slot_macroticks, dynamic_macroticks, symbol_macroticks, idle_macroticks, macroticks_per_cycle, payload_words, channels, integrator, cycles FROM cluster2",
+        &[],
     )
 }

@@ -28,3 +28,12 @@ pub fn all<S: Alter>(conn: &mut Connection<S>) -> Result<Vec<Row>, Error>
 {
     conn.query_all("SELECT name, key FROM suppliers ORDER BY name", &[])
 }
+
+/// All suppliers, by name, asked inside a transaction.
+pub fn all_inside<S: Alter>(tx: &mut Transaction<'_, S>) -> Result<Vec<Row>, Error>
+    ensures same_reference { tx.new.conn.ghost_name ≡ tx.old.conn.ghost_name }
+    ensures listed { Finds shows_supplier every suppliers_cmp (λ t. t.suppliers) (state S.Store tx.old.conn.now) (state S.Store tx.new.conn.now) result }
+    ensures survives { Survives (state S.Store tx.old.conn.now) (state S.Store tx.new.conn.now) (λ _. ⊥) }
+{
+    tx.query_all("SELECT name, key FROM suppliers ORDER BY name", &[])
+}

@@ -56,6 +56,18 @@ pub fn all<S: Alter>(conn: &mut Connection<S>) -> Result<Vec<Row>, Error>
     )
 }
 
+/// All variants, by name, asked inside a transaction.
+pub fn all_inside<S: Alter>(tx: &mut Transaction<'_, S>) -> Result<Vec<Row>, Error>
+    ensures same_reference { tx.new.conn.ghost_name ≡ tx.old.conn.ghost_name }
+    ensures listed { Finds shows_variant every variants_cmp (λ t. t.variants) (state S.Store tx.old.conn.now) (state S.Store tx.new.conn.now) result }
+    ensures survives { Survives (state S.Store tx.old.conn.now) (state S.Store tx.new.conn.now) (λ _. ⊥) }
+{
+    tx.query_all(
+        "SELECT name, parent, depth, released, overlay FROM variants ORDER BY name",
+        &[],
+    )
+}
+
 /// The variant of this name.
 pub fn one<S: Alter>(conn: &mut Connection<S>, name: &Name) -> Result<Vec<Row>, Error>
     ensures listed { Finds shows_variant (is_variant name.now) any_order (λ t. t.variants) (state S.Store conn.old) (state S.Store conn.new) result }

@@ -1,8 +1,11 @@
-use Rattle.std.proofs.Common.{rules, ◌≡◌, arith, ap, subst}
+use Rattle.std.proofs.Common.{rules, ◌≡◌, arith, ap, sym, subst}
 use Rattle.sqlite.specs.Held.{state}
 use Rattle.sqlite.specs.State.{HasCleanDisk, Survives}
+use Rattle.fr_tables.specs.Asking.{HasNumber, old_schema_number}
+use Rattle.fr_tables.specs.Tables.{HasOldTables}
 use Rattle.fr_store.specs.Before.{LeavesMigrated}
 use Rattle.fr_store.specs.Reading.{Stands}
+use Rattle.fr_store.specs.Store.{IsOpenable}
 use Rattle.fr_store.proofs.AgainLemmas.{still_stands}
 use Rattle.fr_store.proofs.BeforeLemmas.{still_before}
 use Rattle.fr_store.specs.Settled.{is_left}
@@ -48,3 +51,17 @@ returns-clause-migrated g c clean cluster b stands =
     let first : begun.now ≡ old.now = ap (λ h. (state g.S.Store h).now) c.transaction-tx.ensures.begun in
     let done = c.in_ok-renew.ensures.migrated clean_mid inside cluster b (still_before old begun cluster b first stands) in
     subst (λ h. Stands (state g.S.Store h) cluster b) same (still_stands mid (state g.S.Store end) cluster b (c.in_ok-commit.ensures.ok late).1.now_is done)
+
+pub returns-clause-opens : goal.returns-clause-opens
+returns-clause-opens g c clean has number =
+    let old = state g.S.Store c.args.conn.now in
+    let begun = state g.S.Store c.transaction-tx.result.conn.now in
+    let mid = state g.S.Store c.renew.new.tx.conn.now in
+    let end = c.commit.new.self.0 in
+    let same : end ≡ c.conn-2-1.given.0 = search rules in
+    let late : HasCleanDisk (state g.S.Store end) = search rules in
+    let clean_mid : HasCleanDisk mid = omega (arith, c.commit.ensures.survives.clean) in
+    let inside = begun_inside g.S.Store c.args.conn.now c.transaction-tx.result.conn.now c.transaction-tx.ensures.begun in
+    let first : begun.now ≡ old.now = ap (λ h. (state g.S.Store h).now) c.transaction-tx.ensures.begun in
+    let done = c.in_ok-renew.ensures.opens clean_mid inside (subst HasOldTables (sym first) has) (subst (λ d. HasNumber d old_schema_number) (sym first) number) in
+    subst (λ h. IsOpenable (state g.S.Store h).now) same (subst IsOpenable (sym (c.in_ok-commit.ensures.ok late).1.now_is) done)

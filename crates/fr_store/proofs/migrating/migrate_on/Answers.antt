@@ -1,6 +1,7 @@
-use Rattle.std.proofs.Common.{rules, ◌≡◌, Err, arith, sym, subst}
+use Rattle.std.proofs.Common.{rules, ◌≡◌, Err, inr, arith, sym, subst}
 use Rattle.sqlite.specs.State.{HasCleanDisk}
 use Rattle.sqlite.specs.Held.{state}
+use Rattle.fr_tables.specs.Asking.{HasNumber, old_schema_number}
 use Rattle.fr_tables.specs.Schema.{old_schema}
 use Rattle.fr_tables.specs.Tables.{HasOldTables}
 use Rattle.fr_store.proofs.BeforeLemmas.{still_before, same_after, migration_survives, as_before_then, undone_then, on_error, on_ok, same_fault, only_unavailable_before}
@@ -59,3 +60,14 @@ returns-clause-numbered g c clean =
     let clean_late : HasCleanDisk late = omega (arith, c.in_one.ensures.survives.clean, clean) in
     let clean_mid : HasCleanDisk mid = omega (arith, c.see_open.ensures.survives.clean, clean_late) in
     on_ok c.in_one.result (c.in_ok-expect_number.ensures.found clean_mid)
+
+pub returns-clause-opens : goal.returns-clause-opens
+returns-clause-opens g c clean has =
+    let old = state g.S.Store c.args.conn.now in
+    let mid = state g.S.Store c.expect_number.new.conn in
+    let late = state g.S.Store c.see_open.new.conn in
+    let clean_late : HasCleanDisk late = omega (arith, c.in_one.ensures.survives.clean, clean) in
+    let clean_mid : HasCleanDisk mid = omega (arith, c.see_open.ensures.survives.clean, clean_late) in
+    let same = same_after old mid late (c.expect_number.ensures.same clean_mid) (c.in_ok-see_open.ensures.open clean_late) in
+    let number = c.in_ok-expect_number.ensures.found clean_mid (inr has) in
+    c.in_one.ensures.opens clean (subst HasOldTables (sym same) has) (subst (λ d. HasNumber d old_schema_number) (sym same) number)

@@ -1,8 +1,9 @@
-use Rattle.std.proofs.Common.{◌∙◌, arith}
+use Rattle.std.proofs.Common.{◌∙◌, ap, arith}
 use Rattle.sqlite.specs.State.{HasCleanDisk}
 use Rattle.sqlite.specs.Held.{state}
 use Rattle.fr_tables.specs.Changes.{Changes}
 use Rattle.fr_tables.specs.Statements.{without_cluster}
+use Rattle.fr_tables.specs.Tables.{Tables}
 use Rattle.fr_store.proofs.BeforeLemmas.{moves, both_stay}
 use Rattle.fr_store.proofs.ChainLemmas.{has_still, same_tables}
 use Rattle.fr_store.proofs.migrating.move_cluster.Goals as goal
@@ -33,3 +34,16 @@ returns-clause-stays g c clean inside has =
     let listed = c.in_ok-rows.ensures.listed clean_read has in
     let step = c.in_ok-insert.ensures.added clean_put (listed.1.0.mode ∙ inside) (has_still old read listed.1 has) in
     both_stay _ without_cluster old read put new (λ t v over so. so) (λ t v over so. so) inside listed.1 step (c.in_ok-delete.ensures.ended clean (step.shown.mode ∙ listed.1.0.mode ∙ inside) step.has)
+
+pub returns-clause-number : goal.returns-clause-number
+returns-clause-number g c clean inside has =
+    let old = state g.S.Store c.args.tx.now.conn.now in
+    let read = state g.S.Store c.all_inside.new.tx.conn.now in
+    let put = state g.S.Store c.insert.new.tx.conn.now in
+    let new = state g.S.Store c.delete.new.tx.conn.now in
+    let clean_put : HasCleanDisk put = omega (arith, c.delete.ensures.survives.clean, clean) in
+    let clean_read : HasCleanDisk read = omega (arith, c.insert.ensures.survives.clean, clean_put) in
+    let listed = c.in_ok-rows.ensures.listed clean_read has in
+    let step = c.in_ok-insert.ensures.added clean_put (listed.1.0.mode ∙ inside) (has_still old read listed.1 has) in
+    let gone : Changes without_cluster put new = c.in_ok-delete.ensures.ended clean (step.shown.mode ∙ listed.1.0.mode ∙ inside) step.has in
+    ap (λ (t : Tables). t.register) gone.now ∙ ap (λ (t : Tables). t.register) step.now ∙ ap (λ (t : Tables). t.register) (same_tables old read listed.1)

@@ -5,7 +5,7 @@ use Rattle.sqlite.specs.Files.{file_state, image_of}
 use Rattle.fr_tables.specs.Asking.{old_schema_number}
 use Rattle.fr_store.specs.Opening.{Refuses}
 use Rattle.fr_store.specs.StoreFiles.{IsHeld}
-use Rattle.fr_store.proofs.BeforeLemmas.{allowed_opened, found_before, old_if_before, committed_held, only_unavailable_held}
+use Rattle.fr_store.proofs.BeforeLemmas.{allowed_opened, found_before, old_if_before, committed_held, only_unavailable_held, openable_held}
 use Rattle.fr_store.proofs.FileLemmas.{held_as, refused_opened, refused_unopened, same_database}
 use Rattle.fr_store.proofs.migrating.files.migrate.Goals as goal
 
@@ -96,3 +96,19 @@ returns-in-Err-told-clause-survives_still g c refused clean image may d is held 
     let same : (file_state c.in-Ok.conn).now ≡ d = same_database (file_state c.in-Ok.conn).now d sound is (c.in-Ok.ensures.found before d.trees held) in
     let unharmed = c.in-Err-told.ensures.unharmed late (old_if_before (file_state c.in-Ok.conn) sound (c.in-Ok.ensures.ordered_before before)) up in
     held_as image _ d (unharmed.2 ∙ sym opens.0.clean ∙ same) (c.in-Some.ensures.left clean image may)
+
+pub returns-in-Ok-told-clause-opens : goal.returns-in-Ok-told-clause-opens
+returns-in-Ok-told-clause-opens g c clean =
+    let late = (c.in-Some.ensures.clean clean).0 in
+    let before : HasCleanDisk (file_state c.in-Ok.conn) = omega (arith, c.migrate_on-told.ensures.survives.clean, late) in
+    let found = c.in-Ok.ensures.reads before in
+    let has = old_if_before (file_state c.in-Ok.conn) found.sound (c.in-Ok.ensures.ordered_before before) c.in-Ok-told.ensures.before in
+    openable_held (image_of g.D.Disk c.in-Some.files) (file_state c.migrate_on-told.new.conn) (c.in-Ok-told.ensures.opens late has) (c.in-Ok-told.ensures.committed late) (c.in-Some.ensures.held clean)
+
+pub returns-in-Ok-told-clause-opens_still : goal.returns-in-Ok-told-clause-opens_still
+returns-in-Ok-told-clause-opens_still g c clean image may =
+    let late = (c.in-Some.ensures.clean clean).0 in
+    let before : HasCleanDisk (file_state c.in-Ok.conn) = omega (arith, c.migrate_on-told.ensures.survives.clean, late) in
+    let found = c.in-Ok.ensures.reads before in
+    let has = old_if_before (file_state c.in-Ok.conn) found.sound (c.in-Ok.ensures.ordered_before before) c.in-Ok-told.ensures.before in
+    openable_held image (file_state c.migrate_on-told.new.conn) (c.in-Ok-told.ensures.opens late has) (c.in-Ok-told.ensures.committed late) (c.in-Some.ensures.left clean image may)

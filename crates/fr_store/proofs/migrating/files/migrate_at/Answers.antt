@@ -6,7 +6,7 @@ use Rattle.sqlite.specs.State.{HasCleanDisk}
 use Rattle.sqlite.specs.Files.{file_state}
 use Rattle.fr_tables.specs.Asking.{old_schema_number}
 use Rattle.fr_store.specs.Opening.{Refuses}
-use Rattle.fr_store.proofs.BeforeLemmas.{allowed_opened, found_before, old_if_before, committed_held, only_unavailable_held}
+use Rattle.fr_store.proofs.BeforeLemmas.{allowed_opened, found_before, old_if_before, committed_held, only_unavailable_held, openable_held}
 use Rattle.fr_store.proofs.FileLemmas.{held_as, refused_opened, refused_unopened, same_database}
 use Rattle.fr_store.proofs.migrating.files.migrate_at.Goals as goal
 
@@ -99,3 +99,19 @@ returns-in-Ok-told-clause-survives g c clean image may k b holds =
     let opens = c.in-Ok.ensures.opens before in
     let stands = found_before (image_at g.S.Start) (file_state c.in-Ok.conn) k b (opens.1 opens.0.is_open).0 (c.in-Ok.ensures.found before) holds in
     committed_held image (file_state c.migrate_on-told.new.conn) k b (c.in-Ok-told.ensures.migrated late k b stands) (c.in-Ok-told.ensures.committed late) (c.in-Some.ensures.left clean image may)
+
+pub returns-in-Ok-told-clause-opens : goal.returns-in-Ok-told-clause-opens
+returns-in-Ok-told-clause-opens g c clean =
+    let late = (c.in-Some.ensures.clean clean).0 in
+    let before : HasCleanDisk (file_state c.in-Ok.conn) = omega (arith, c.migrate_on-told.ensures.survives.clean, late) in
+    let found = c.in-Ok.ensures.reads before in
+    let has = old_if_before (file_state c.in-Ok.conn) found.sound (c.in-Ok.ensures.ordered_before before) c.in-Ok-told.ensures.before in
+    openable_held _ (file_state c.migrate_on-told.new.conn) (c.in-Ok-told.ensures.opens late has) (c.in-Ok-told.ensures.committed late) (c.in-Some.ensures.held clean)
+
+pub returns-in-Ok-told-clause-opens_still : goal.returns-in-Ok-told-clause-opens_still
+returns-in-Ok-told-clause-opens_still g c clean image may =
+    let late = (c.in-Some.ensures.clean clean).0 in
+    let before : HasCleanDisk (file_state c.in-Ok.conn) = omega (arith, c.migrate_on-told.ensures.survives.clean, late) in
+    let found = c.in-Ok.ensures.reads before in
+    let has = old_if_before (file_state c.in-Ok.conn) found.sound (c.in-Ok.ensures.ordered_before before) c.in-Ok-told.ensures.before in
+    openable_held image (file_state c.migrate_on-told.new.conn) (c.in-Ok-told.ensures.opens late has) (c.in-Ok-told.ensures.committed late) (c.in-Some.ensures.left clean image may)
