@@ -20,7 +20,7 @@ ghost use Rattle.fr_store.specs.declared.fault.StoreFault.TheVariants as fault;
 use crate::fault::StoreFault;
 use crate::store::Store;
 use fr_base::Config;
-use fr_tables::settle::settle;
+use fr_tables::reopen::reopen;
 use sqlite::{Connection, Error, ErrorCode, FileStore, Files, Options};
 use sqlite_disk::Disk;
 use std::alloc::Global;
@@ -67,7 +67,7 @@ pub(crate) fn connected<D: Disk + Drop>(
         }
         Err((_, left)) => return Err((StoreFault::Unavailable, left.into_files())),
     };
-    match settle(alloc, conn) {
+    match reopen(alloc, conn) {
         Ok(conn) => Ok(conn),
         Err((_, store)) => Err((StoreFault::Unavailable, store.close())),
     }

@@ -23,7 +23,7 @@ use crate::reading::opened_variants;
 use crate::schemas::{expect_number, is_ours};
 use crate::store::Store;
 use fr_base::Config;
-use fr_tables::asking::asked;
+use fr_tables::asking::ask_and_undo;
 use fr_tables::cluster;
 use sqlite::{Alter, Connection, Row};
 use std::alloc::Global;
@@ -37,7 +37,7 @@ fn has_opened_variants<S: Alter>(alloc: Global, conn: &mut Connection<S>) -> boo
     ensures autocommit { conn.new.in_transaction ≡ false }
     ensures survives { Survives (state S.Store conn.old) (state S.Store conn.new) (λ _. ⊥) }
 {
-    match asked(
+    match ask_and_undo(
         conn,
         "SELECT name, parent, depth, released, overlay FROM variants ORDER BY name",
     ) {
@@ -58,13 +58,13 @@ fn config<S: Alter>(alloc: Global, conn: &mut Connection<S>) -> Option<Config>
     ensures autocommit { conn.new.in_transaction ≡ false }
     ensures survives { Survives (state S.Store conn.old) (state S.Store conn.new) (λ _. ⊥) }
 {
-    let Ok(cluster) = asked(
+    let Ok(cluster) = ask_and_undo(
         conn,
         "SELECT static_slots, slot_macroticks, dynamic_macroticks, symbol_macroticks, idle_macroticks, macroticks_per_cycle, payload_words, channels, integrator, cycles FROM cluster2",
     ) else {
         return None;
     };
-    let Ok(suppliers) = asked(conn, "SELECT name, key FROM suppliers ORDER BY name") else {
+    let Ok(suppliers) = ask_and_undo(conn, "SELECT name, key FROM suppliers ORDER BY name") else {
         return None;
     };
     if !has_opened_variants(alloc, conn) {
@@ -93,7 +93,7 @@ pub(crate) fn config_of(
 const NUMBER: i64 = 2;
 
 /// The cluster of the register that the tables are, or why they are not opened.
-fn recognized<S: Alter>(alloc: Global, conn: &mut Connection<S>) -> Result<Config, StoreFault>
+fn read_config<S: Alter>(alloc: Global, conn: &mut Connection<S>) -> Result<Config, StoreFault>
     requires { conn.old.in_transaction ≡ false }
     ensures formed { IfOk result IsWellFormed }
     ensures ours { OnOk result ((state S.Store conn.new).now.schema ≡ register_schema) }
@@ -144,7 +144,7 @@ impl<S: Alter + Drop> Store<S> {
         if !conn.is_autocommit() {
             return Err((StoreFault::Unavailable, conn));
         }
-        match recognized(alloc, &mut conn) {
+        match read_config(alloc, &mut conn) {
             Ok(config) => Ok(Store { conn, config }),
             Err(fault) => Err((fault, conn)),
         }

@@ -20,7 +20,7 @@ use crate::fault::StoreFault;
 use crate::files::closed;
 use crate::store::Store;
 use fr_base::Config;
-use fr_tables::settle::settle;
+use fr_tables::reopen::reopen;
 use sqlite::{Connection, Error, ErrorCode, FileFrom, FileStore, Leftover, Start};
 use std::rt::HostRuntime;
 
@@ -47,7 +47,7 @@ pub(crate) fn connected_at<S: Start>(
         }
         Err((_, left)) => return Err((StoreFault::Unavailable, left)),
     };
-    match settle(rt.alloc(), conn) {
+    match reopen(rt.alloc(), conn) {
         Ok(conn) => Ok(conn),
         Err((_, store)) => Err((StoreFault::Unavailable, Some(Leftover::Store(store)))),
     }

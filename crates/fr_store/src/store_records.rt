@@ -34,7 +34,7 @@ impl<S: Alter> Records for Store<S> {
 
     fn has_variant(&mut self, variant: Name) -> Result<bool, Refusal> {
         see_open(self)?;
-        answer(self.has_variant(&variant))
+        or_unavailable(self.has_variant(&variant))
     }
 
     fn page(
@@ -44,25 +44,25 @@ impl<S: Alter> Records for Store<S> {
         variant: Name,
     ) -> Result<Option<Page>, Refusal> {
         see_open(self)?;
-        answer(self.page(alloc, &supplier, &variant))
+        or_unavailable(self.page(alloc, &supplier, &variant))
     }
 
     fn keep(&mut self, _page: Page) {}
 
     fn is_held(&mut self, variant: Name, slot: Slot, channel: Channel) -> Result<bool, Refusal> {
         see_open(self)?;
-        let holder = answer(self.holder(&variant, slot, channel))?;
+        let holder = or_unavailable(self.holder(&variant, slot, channel))?;
         Ok(holder.is_some())
     }
 
     fn variants(&mut self, alloc: Global) -> Result<Vec<VariantRow>, Refusal> {
         see_open(self)?;
-        answer(self.variants(alloc))
+        or_unavailable(self.variants(alloc))
     }
 
     fn nodes(&mut self, alloc: Global, supplier: Name) -> Result<Vec<Name>, Refusal> {
         see_open(self)?;
-        answer(self.nodes(alloc, &supplier))
+        or_unavailable(self.nodes(alloc, &supplier))
     }
 
     fn import(
@@ -72,17 +72,17 @@ impl<S: Alter> Records for Store<S> {
         label: Name,
     ) -> Result<Option<KeptImport>, Refusal> {
         see_open(self)?;
-        answer(self.import(alloc, &supplier, &label))
+        or_unavailable(self.import(alloc, &supplier, &label))
     }
 
     fn imports(&mut self, _alloc: Global, supplier: Name) -> Result<usize, Refusal> {
         see_open(self)?;
-        answer(self.imports(&supplier))
+        or_unavailable(self.imports(&supplier))
     }
 
     fn apply(&mut self, alloc: Global, edits: &[Edit]) -> Result<(), Refusal> {
         see_open(self)?;
-        answer(self.apply(alloc, edits))
+        or_unavailable(self.apply(alloc, edits))
     }
 }
 
@@ -103,7 +103,7 @@ fn see_open<S: Alter>(store: &mut Store<S>) -> Result<(), Refusal>
 }
 
 // What the store answers. Its faults are the register's `Unavailable`.
-fn answer<T>(told: Result<T, StoreFault>) -> Result<T, Refusal>
+fn or_unavailable<T>(told: Result<T, StoreFault>) -> Result<T, Refusal>
     ensures { MatchResult told (λ x. result ≡ Ok x) (λ _. result ≡ Err Unavailable) }
 {
     told.map_err(|_| Refusal::Unavailable)

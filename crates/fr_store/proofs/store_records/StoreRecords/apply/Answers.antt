@@ -14,7 +14,7 @@ returns-clause-applies g c clean cluster b stored fit =
     let there = c.in_ok-see_open.ensures.stands clean_mid cluster b stored in
     let rows = there.rows (c.in_ok-see_open.ensures.open clean_mid) in
     edits_stored mid (state g.S.Store c.apply.new.self.conn) c.see_open.new.store.config c.apply.new.self.config c.args.edits.now cluster b there fit
-    c.apply.result c.answer.result c.answer.ensures (c.apply.ensures.stands clean cluster b rows.0 fit) (c.apply.ensures.committed clean) c.apply.ensures.config
+    c.apply.result c.or_unavailable.result c.or_unavailable.ensures (c.apply.ensures.stands clean cluster b rows.0 fit) (c.apply.ensures.committed clean) c.apply.ensures.config
     c.apply.ensures.same (c.apply.ensures.undone clean rows.0.has)
 
 pub returns-clause-same : goal.returns-clause-same
@@ -36,4 +36,4 @@ returns-clause-leaves g c clean cluster b books stored fit left =
 pub returns-clause-open : goal.returns-clause-open
 returns-clause-open g c clean =
     let new = state g.S.Store c.apply.new.self.conn in
-    opened (IsTrue new.is_open) (Serves new) (λ up. record { up = up; settled = λ db may. g.met.S.Store.settled c.apply.new.self.conn.store db up may }) c.apply.result c.answer.result c.answer.ensures (c.apply.ensures.open clean)
+    opened (IsTrue new.is_open) (Serves new) (λ up. record { up = up; settled = λ db may. g.met.S.Store.settled c.apply.new.self.conn.store db up may }) c.apply.result c.or_unavailable.result c.or_unavailable.ensures (c.apply.ensures.open clean)

@@ -13,7 +13,7 @@ returns-clause-has g c clean cluster b stored =
     let there = c.in_ok-see_open.ensures.stands clean_mid cluster b stored in
     let ready = c.in_ok-see_open.ensures.open clean_mid in
     told mid (state g.S.Store c.has_variant.new.self.conn) c.see_open.new.store.config c.has_variant.new.self.config c.has_variant.ensures.config clean cluster b there
-    (λ has. has ≡ contains b.variants c.args.variant) c.has_variant.result c.answer.result c.answer.ensures ready c.has_variant.ensures.stays
+    (λ has. has ≡ contains b.variants c.args.variant) c.has_variant.result c.or_unavailable.result c.or_unavailable.ensures ready c.has_variant.ensures.stays
     (c.has_variant.ensures.has clean cluster b (there.rows ready).0)
 
 pub returns-clause-leaves : goal.returns-clause-leaves

@@ -14,7 +14,7 @@ returns-clause-imports g c clean cluster b stored =
     let there = c.in_ok-see_open.ensures.stands clean_mid cluster b stored in
     let ready = c.in_ok-see_open.ensures.open clean_mid in
     told mid (state g.S.Store c.imports.new.self.conn) c.see_open.new.store.config c.imports.new.self.config c.imports.ensures.config clean cluster b there
-    (λ count. count ≡ len (own c.args.supplier b.imports)) c.imports.result c.answer.result c.answer.ensures ready c.imports.ensures.stays
+    (λ count. count ≡ len (own c.args.supplier b.imports)) c.imports.result c.or_unavailable.result c.or_unavailable.ensures ready c.imports.ensures.stays
     (c.imports.ensures.imports clean cluster b (there.rows ready).0)
 
 pub returns-clause-leaves : goal.returns-clause-leaves

@@ -13,7 +13,7 @@ returns-clause-nodes g c clean cluster b stored =
     let there = c.in_ok-see_open.ensures.stands clean_mid cluster b stored in
     let ready = c.in_ok-see_open.ensures.open clean_mid in
     told mid (state g.S.Store c.nodes.new.self.conn) c.see_open.new.store.config c.nodes.new.self.config c.nodes.ensures.config clean cluster b there
-    (λ names. names.items ≡ nodes_in b c.args.supplier) c.nodes.result c.answer.result c.answer.ensures ready c.nodes.ensures.stays
+    (λ names. names.items ≡ nodes_in b c.args.supplier) c.nodes.result c.or_unavailable.result c.or_unavailable.ensures ready c.nodes.ensures.stays
     (c.nodes.ensures.nodes clean cluster b (there.rows ready).0)
 
 pub returns-clause-leaves : goal.returns-clause-leaves

@@ -11,7 +11,7 @@ use Rattle.fr_store.proofs.store_records.StoreRecords.page.Goals as goal
 pub returns-clause-params : goal.returns-clause-params
 returns-clause-params g c =
     let same = ap (λ (f : ClusterFile). f.cluster.params) c.see_open.ensures.config in
-    answered (λ found. IfSome found (λ page. page.params ≡ c.args.self.now.config.cluster.params)) c.page.result c.answer.result c.answer.ensures
+    answered (λ found. IfSome found (λ page. page.params ≡ c.args.self.now.config.cluster.params)) c.page.result c.or_unavailable.result c.or_unavailable.ensures
     (subst (λ (p : Params). IfOk c.page.result (λ found. IfSome found (λ page. page.params ≡ p))) same c.page.ensures.params)
 
 pub returns-clause-page : goal.returns-clause-page
@@ -21,7 +21,7 @@ returns-clause-page g c clean cluster b stored =
     let there = c.in_ok-see_open.ensures.stands clean_mid cluster b stored in
     let ready = c.in_ok-see_open.ensures.open clean_mid in
     told mid (state g.S.Store c.page.new.self.conn) c.see_open.new.store.config c.page.new.self.config c.page.ensures.config clean cluster b there
-    (λ found. found ≡ page_of cluster.params b c.args.supplier c.args.variant) c.page.result c.answer.result c.answer.ensures ready c.page.ensures.stays
+    (λ found. found ≡ page_of cluster.params b c.args.supplier c.args.variant) c.page.result c.or_unavailable.result c.or_unavailable.ensures ready c.page.ensures.stays
     (given c.page.result (cluster.params.cycles ≡ cluster.params.cycles) (λ found. found ≡ page_of cluster.params b c.args.supplier c.args.variant) refl
     (subst (λ x. IfOk c.page.result (λ found. cluster.params.cycles ≡ x.cluster.params.cycles → found ≡ page_of x.cluster.params b c.args.supplier c.args.variant)) there.config (c.page.ensures.page clean cluster b (there.rows ready).0)))
 

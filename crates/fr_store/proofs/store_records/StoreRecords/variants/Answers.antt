@@ -13,7 +13,7 @@ returns-clause-variants g c clean cluster b stored =
     let there = c.in_ok-see_open.ensures.stands clean_mid cluster b stored in
     let ready = c.in_ok-see_open.ensures.open clean_mid in
     told mid (state g.S.Store c.variants.new.self.conn) c.see_open.new.store.config c.variants.new.self.config c.variants.ensures.config clean cluster b there
-    (λ rows. rows.items ≡ variants_in b) c.variants.result c.answer.result c.answer.ensures ready c.variants.ensures.stays
+    (λ rows. rows.items ≡ variants_in b) c.variants.result c.or_unavailable.result c.or_unavailable.ensures ready c.variants.ensures.stays
     (c.variants.ensures.variants clean cluster b (there.rows ready).0)
 
 pub returns-clause-leaves : goal.returns-clause-leaves
