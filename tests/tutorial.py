@@ -104,6 +104,9 @@ def follow(program, page, there):
             written = BLOCK.sub(tried, page)
         finally:
             shell.close()
+    left_out = page.count("```console\n") - sum(found["kind"] == "console" for found in BLOCK.finditer(page))
+    if left_out:
+        wrong.append(f"{left_out} blocks of the console were not followed: each needs a line of text before it")
     return written, wrong, passed
 
 
