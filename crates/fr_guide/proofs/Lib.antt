@@ -1,2 +1,5 @@
 pub mod EachWord
+pub mod RequestLaws
+pub mod RowLaws
+mod RowLemmas
 mod TopicLemmas

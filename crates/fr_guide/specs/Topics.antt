@@ -5,13 +5,17 @@ use Rattle.std.specs.List.{flat_map, list_any}
 use Rattle.std.specs.Str.{bytes_eq, str_eq_ignore_ascii_case}
 use Rattle.fr_guide.specs.declared.topic.Topic.{Topic}
 
--- refusals of who asks, and of what is no request
+-- refusals of what is no request, and of who asks
 abbrev pub senders : List (List ℕ)
-senders = codes "BadText" ∷ codes "UnknownKey" ∷ codes "NotYours" ∷ codes "BadName" ∷ codes "BadKey" ∷ []
+senders = codes "BadText" ∷ codes "UnknownKey" ∷ codes "NotYours" ∷ codes "BadName" ∷ []
 
 -- of the values of fields
 abbrev pub fields : List (List ℕ)
 fields = codes "BadCycles" ∷ codes "BadSlot" ∷ codes "BadChannel" ∷ codes "BadSignal" ∷ []
+
+-- of an import's label
+abbrev pub labels : List (List ℕ)
+labels = codes "LabelUsed" ∷ []
 
 -- of variants
 abbrev pub variants : List (List ℕ)
@@ -23,27 +27,35 @@ missing = codes "NoSupplier" ∷ codes "NoNode" ∷ codes "NoFrame" ∷ codes "N
 
 -- of grants, and of what is there
 abbrev pub grants : List (List ℕ)
-grants = codes "Exists" ∷ codes "NodeDiffers" ∷ codes "NotGranted" ∷ codes "InUse" ∷ codes "KeyTaken" ∷ []
+grants = codes "Exists" ∷ codes "NodeDiffers" ∷ codes "NotGranted" ∷ codes "InUse" ∷ []
 
 -- of rows that find no room
 abbrev pub edits : List (List ℕ)
-edits = codes "Limit" ∷ codes "Taken" ∷ codes "CellTaken" ∷ codes "Unavailable" ∷ []
+edits = codes "Limit" ∷ codes "Taken" ∷ codes "CellTaken" ∷ []
 
 -- of a signal's bits
 abbrev pub signals : List (List ℕ)
 signals = codes "OutOfPayload" ∷ codes "BitTaken" ∷ []
 
--- of imports
-abbrev pub imports : List (List ℕ)
-imports = codes "LabelUsed" ∷ codes "BadRow" ∷ []
+-- of a register that cannot be used
+abbrev pub register : List (List ℕ)
+register = codes "Unavailable" ∷ []
 
--- faults of a cluster file: its text, its keys and its bounds
+-- of an import's row
+abbrev pub rows : List (List ℕ)
+rows = codes "BadRow" ∷ []
+
+-- of keys
+abbrev pub keys : List (List ℕ)
+keys = codes "BadKey" ∷ codes "KeyTaken" ∷ []
+
+-- faults of a cluster file: its text, its keys and the bounds of its slots
 abbrev pub clusters : List (List ℕ)
-clusters = codes "BadToml" ∷ codes "BadField" ∷ codes "BadSlots" ∷ codes "BadPayload" ∷ codes "BadCycleCount" ∷ []
+clusters = codes "BadToml" ∷ codes "BadField" ∷ codes "BadSlots" ∷ codes "BadPayload" ∷ []
 
--- the lengths of its cycle, and its keys
+-- the lengths of its cycle, the count of cycles, and its keys
 abbrev pub segments : List (List ℕ)
-segments = codes "BadMacroticks" ∷ codes "BadSum" ∷ codes "KeyTwice" ∷ []
+segments = codes "BadMacroticks" ∷ codes "BadSum" ∷ codes "BadCycleCount" ∷ codes "KeyTwice" ∷ []
 
 -- of scripts and connections
 abbrev pub inputs : List (List ℕ)
@@ -54,9 +66,10 @@ abbrev pub files : List (List ℕ)
 files = codes "CannotOpen" ∷ codes "NotEmpty" ∷ codes "NotARegister" ∷ codes "WrongSchema" ∷ codes "CannotListen" ∷ codes "NoMemory"
     ∷ codes "WriteFailed" ∷ []
 
--- all of them
+-- all of them: the refusals in the order of their numbers, then the faults
 unfoldable pub explained : List (List ℕ)
-explained = senders ++ fields ++ variants ++ missing ++ grants ++ edits ++ signals ++ imports ++ clusters ++ segments ++ inputs ++ files
+explained = senders ++ fields ++ labels ++ variants ++ missing ++ grants ++ edits ++ signals ++ register ++ rows ++ keys
+    ++ clusters ++ segments ++ inputs ++ files
 
 -- whether the word is explained
 abbrev pub is_explained : List ℕ → Bool

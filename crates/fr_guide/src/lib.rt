@@ -1,13 +1,24 @@
-//! What a planner is told of the program's words, and of a cluster file.
+//! What a planner is told of the program's words, and of what is wrong with a cluster file, a request or an import's file.
 #![tactic(auto)]
 
 mod explain;
 mod finding;
+mod form;
 mod laws;
+mod line_faults;
 mod place;
+mod requests;
+mod rows;
+mod shown;
 mod topic;
 mod topics;
 
 pub use explain::{alike, explanation, overview};
 pub use finding::{Finding, examine};
-pub use laws::{each_config_fault_is_explained, each_refusal_is_explained};
+pub use laws::{
+    each_config_fault_is_explained, each_refusal_is_explained, misformed_requests_are_refused,
+    misformed_rows_are_refused,
+};
+pub use line_faults::{LineFaults, are_fine, fault_lines};
+pub use requests::request_faults;
+pub use rows::row_faults;

@@ -82,7 +82,7 @@ fn push_rows(
 
 /// The records of a file that are still to be read.
 #[derive(Drop)]
-struct Records<'b> {
+pub struct Records<'b> {
     reader: Reader<&'b [u8]>,
 }
 
@@ -99,7 +99,7 @@ impl<'b> Model for Records<'b> {
 
 impl<'b> Records<'b> {
     /// The records of these bytes. The reader takes a byte order mark off.
-    fn new(alloc: Global, body: &'b [u8]) -> Records<'b>
+    pub fn new(alloc: Global, body: &'b [u8]) -> Records<'b>
         ensures { result ≡ records_of body.now }
     {
         Records {
@@ -111,7 +111,7 @@ impl<'b> Records<'b> {
     }
 
     /// Reads the fields of the next record, if there is one.
-    fn read(&mut self, fields: &mut ByteRecord) -> Result<bool, Refusal>
+    pub fn read(&mut self, fields: &mut ByteRecord) -> Result<bool, Refusal>
         ensures { MatchResult result
             (λ found. self.old ≡ (if found then fields_of fields.new ∷ self.new else []))
             (λ refusal. refusal ≡ Refusal.Unavailable) }
@@ -124,7 +124,7 @@ impl<'b> Records<'b> {
 }
 
 /// The names of a header's fields.
-fn names(header: Header) -> &'static [&'static str]
+pub fn names(header: Header) -> &'static [&'static str]
     ensures { map (λ name. name.now) result.now ≡ spelled header }
 {
     match header {
@@ -135,7 +135,7 @@ fn names(header: Header) -> &'static [&'static str]
 
 /// The header that the fields spell.
 #[tactic(auto, unfolding(fr_base::specs::ImportRows::header_of))]
-fn header_of(fields: &ByteRecord) -> Option<Header>
+pub fn header_of(fields: &ByteRecord) -> Option<Header>
     ensures { result ≡ header_of (fields_of fields.now) }
 {
     if has_fields(fields, names(Header::Placements)) {
@@ -284,7 +284,7 @@ fn field_at(fields: &ByteRecord, place: usize) -> Result<&[u8], Refusal>
 
 /// The field at a place, a text.
 #[tactic(auto, unfolding(crate::proofs::ImportTextLemmas::rows_open), using(crate::proofs::FieldsLemmas::utf8_tests))]
-fn text_at(fields: &ByteRecord, place: usize) -> Result<&str, Refusal>
+pub fn text_at(fields: &ByteRecord, place: usize) -> Result<&str, Refusal>
     ensures { MatchResult result
         (λ text. text_at (fields_of fields.now) place ≡ Ok text.now)
         (λ refusal. text_at (fields_of fields.now) place ≡ Err refusal) }
@@ -294,7 +294,7 @@ fn text_at(fields: &ByteRecord, place: usize) -> Result<&str, Refusal>
 
 /// The field at a place, a number.
 #[tactic(auto, using(crate::proofs::ImportTextLemmas::number_at_bytes, crate::proofs::ImportTextLemmas::number_at_none))]
-fn number_at(fields: &ByteRecord, place: usize) -> Result<u32, Refusal>
+pub fn number_at(fields: &ByteRecord, place: usize) -> Result<u32, Refusal>
     ensures { MatchResult result
         (λ value. number_at (fields_of fields.now) place ≡ Ok value)
         (λ refusal. (refusal ≡ Refusal.BadText) × (number_at (fields_of fields.now) place ≡ Err Refusal.BadText)) }

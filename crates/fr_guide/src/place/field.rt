@@ -1,5 +1,6 @@
 //! Which key of a cluster file is missing, unknown, or has a value of another kind.
-use crate::place::kind::{kind, shown};
+use crate::place::kind::kind;
+use crate::shown::shown;
 use fr_base::{Channels, NoMemory};
 use std::alloc::Global;
 use toml::{Table, Value};

@@ -1,10 +1,5 @@
-//! Kinds of values and texts in words.
-use fr_base::NoMemory;
-use std::alloc::Global;
+//! Kinds of values in words.
 use toml::Value;
-
-/// How many characters of a text are shown.
-const SHOWN_CHARS: usize = 64;
 
 /// What kind of value it is.
 pub fn kind(value: &Value) -> &'static str {
@@ -17,17 +12,4 @@ pub fn kind(value: &Value) -> &'static str {
         Value::Array(_) => "a list",
         Value::Table(_) => "a table",
     }
-}
-
-/// The text's first 64 characters. What is no printable ASCII character is shown as a question mark.
-pub fn shown(alloc: Global, text: &str) -> Result<String, NoMemory> {
-    let mut shown = String::new(alloc);
-    for character in text.chars().take(SHOWN_CHARS) {
-        shown.push(if matches!(character, ' '..='~') {
-            character
-        } else {
-            '?'
-        })?;
-    }
-    Ok(shown)
 }

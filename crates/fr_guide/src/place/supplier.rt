@@ -1,5 +1,5 @@
 //! Which suppliers or keys of a cluster file make its fault.
-use crate::place::kind::shown;
+use crate::shown::shown;
 use fr_base::{Key, MAX_SUPPLIERS, Name, NoMemory};
 use std::alloc::Global;
 use toml::{Table, Value};

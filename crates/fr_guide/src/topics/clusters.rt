@@ -1,14 +1,14 @@
-//! Faults of a cluster file: its text, its keys and its bounds.
+//! Faults of a cluster file: its text, its keys and the bounds of its slots.
 ghost use Rattle.std.specs.Prelude.{◌≡◌};
 ghost use Rattle.fr_guide.specs.Topics.{clusters, words_of};
 
 use crate::topic::Topic;
 
 /// The words explained here.
-pub fn topics() -> [Topic; 5]
+pub fn topics() -> [Topic; 4]
     ensures { words_of result ≡ clusters }
 {
-    [BAD_TOML, BAD_FIELD, BAD_SLOTS, BAD_PAYLOAD, BAD_CYCLE_COUNT]
+    [BAD_TOML, BAD_FIELD, BAD_SLOTS, BAD_PAYLOAD]
 }
 
 const BAD_TOML: Topic = Topic {
@@ -38,7 +38,7 @@ const BAD_SLOTS: Topic = Topic {
     about: "a fault of a cluster file. `static_slots` is not 2 to 1023.",
     help: "\
 A FlexRay cycle has 2 to 1023 static slots, the same number on each channel.
-Mend `static_slots`, and then the lengths, so that the segments fill the cycle again.
+Fix `static_slots`, and then the lengths, so that the segments fill the cycle again.
 ",
 };
 
@@ -48,15 +48,5 @@ const BAD_PAYLOAD: Topic = Topic {
     help: "\
 All static frames have the same payload. It is counted in words of two bytes, and 127 words are 254 bytes.
 If you have the number of bytes, write half of it.
-",
-};
-
-const BAD_CYCLE_COUNT: Topic = Topic {
-    word: "BadCycleCount",
-    about: "a fault of a cluster file. `cycles` is not an even number from 8 to 64.",
-    help: "\
-The cycle counter runs from 0 to the number before `cycles`, and then starts at 0 again.
-Most clusters have 64 cycles, and the key may be left out for these.
-Mend `cycles`, or leave it out.
 ",
 };

@@ -5,10 +5,10 @@ ghost use Rattle.fr_guide.specs.Topics.{edits, words_of};
 use crate::topic::Topic;
 
 /// The words explained here.
-pub fn topics() -> [Topic; 4]
+pub fn topics() -> [Topic; 3]
     ensures { words_of result ≡ edits }
 {
-    [LIMIT, TAKEN, CELL_TAKEN, UNAVAILABLE]
+    [LIMIT, TAKEN, CELL_TAKEN]
 }
 
 const LIMIT: Topic = Topic {
@@ -41,17 +41,5 @@ A cell is a cycle, a slot and a channel, and one frame at most is sent in it.
 The answer names the filled cell of least cycle, A before B, and the frame that is sent there.
 It comes for `place` and for a row of an import. The report `schedule` shows what is sent.
 Choose a base and a repetition that share no cycle with that frame's, or another slot.
-",
-};
-
-const UNAVAILABLE: Topic = Topic {
-    word: "Unavailable",
-    about: "refusal 28, and a fault of a register. Memory or its file failed, or another program has the file.",
-    help: "\
-As a fault: another program, as a server, has the file open; or memory, the disk or the rows give no register.
-For `create` the file DB may also be no database, or have another table. For `serve` other files may stand there.
-As a refusal: there was no memory, the file failed, or a row in it does not have its form. Nothing has changed,
-but for one case: a disk that failed may have kept the change all the same.
-End the other program, see to memory and disk, and ask for a report before you send a command again.
 ",
 };

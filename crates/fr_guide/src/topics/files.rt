@@ -23,7 +23,7 @@ const CANNOT_OPEN: Topic = Topic {
     word: "CannotOpen",
     about: "a fault of a file. The cluster file or the import's file cannot be read.",
     help: "\
-There is no such file, it may not be read, or it is a folder.
+There is no such file, you may not read it, or it is a folder or a pipe, as `/dev/stdin` behind a `|` and `<(..)` are.
 A cluster file of more than 1048576 bytes is not read, nor a file that takes more than 100000 reads.
 Look at the path and at the file's permissions.
 ",
@@ -42,7 +42,7 @@ const NOT_A_REGISTER: Topic = Topic {
     word: "NotARegister",
     about: "a fault of the commands on DB. The file is no register.",
     help: "\
-There is no file DB, it is no SQLite database, or it has not a register's tables.
+There is no file DB, it is no SQLite database, it does not have a register's tables, or no row in the table `register`.
 Look at the path. `slotplan create` makes a register file.
 A file that was damaged is no register either: put a backup in its place.
 ",
@@ -61,7 +61,7 @@ With another number use the version of the program that made the file.
 
 const CANNOT_LISTEN: Topic = Topic {
     word: "CannotListen",
-    about: "a fault of `slotplan serve`. The port cannot be had, or a connection not be accepted.",
+    about: "a fault of `slotplan serve`. The port cannot be used, or a connection cannot be accepted.",
     help: "\
 Often another program listens on the port, or you may not use a port below 1024.
 Choose another port, or end the other program.

@@ -5,10 +5,10 @@ ghost use Rattle.fr_guide.specs.Topics.{grants, words_of};
 use crate::topic::Topic;
 
 /// The words explained here.
-pub fn topics() -> [Topic; 5]
+pub fn topics() -> [Topic; 4]
     ensures { words_of result ≡ grants }
 {
-    [EXISTS, NODE_DIFFERS, NOT_GRANTED, IN_USE, KEY_TAKEN]
+    [EXISTS, NODE_DIFFERS, NOT_GRANTED, IN_USE]
 }
 
 const EXISTS: Topic = Topic {
@@ -49,14 +49,5 @@ const IN_USE: Topic = Topic {
 It comes for `revoke`: a frame of the supplier is sent in the slot on the channel.
 Let the supplier take these placements back by `unplace`, then revoke.
 The report `schedule` shows which frames are sent there.
-",
-};
-
-const KEY_TAKEN: Topic = Topic {
-    word: "KeyTaken",
-    about: "refusal 31. The integrator or a supplier has the key.",
-    help: "\
-It comes for `add_supplier`, since a key says who asks.
-Choose another key for the supplier that joins.
 ",
 };

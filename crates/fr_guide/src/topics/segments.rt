@@ -1,14 +1,14 @@
-//! Faults of a cluster file: the lengths of its cycle, and its keys.
+//! Faults of a cluster file: the lengths of its cycle, the count of cycles, and its keys.
 ghost use Rattle.std.specs.Prelude.{◌≡◌};
 ghost use Rattle.fr_guide.specs.Topics.{segments, words_of};
 
 use crate::topic::Topic;
 
 /// The words explained here.
-pub fn topics() -> [Topic; 3]
+pub fn topics() -> [Topic; 4]
     ensures { words_of result ≡ segments }
 {
-    [BAD_MACROTICKS, BAD_SUM, KEY_TWICE]
+    [BAD_MACROTICKS, BAD_SUM, BAD_CYCLE_COUNT, KEY_TWICE]
 }
 
 const BAD_MACROTICKS: Topic = Topic {
@@ -27,7 +27,17 @@ const BAD_SUM: Topic = Topic {
 static_slots * slot_macroticks + dynamic_macroticks + symbol_macroticks + idle_macroticks
 has to be macroticks_per_cycle.
 `slotplan check` says what the segments take, and how long the cycle is.
-Mend the length that is wrong. What is left over belongs to `dynamic_macroticks` or `idle_macroticks`.
+Fix the length that is wrong. What is left over belongs to `dynamic_macroticks` or `idle_macroticks`.
+",
+};
+
+const BAD_CYCLE_COUNT: Topic = Topic {
+    word: "BadCycleCount",
+    about: "a fault of a cluster file. `cycles` is not an even number from 8 to 64.",
+    help: "\
+The cycle counter runs from 0 to the number before `cycles`, and then starts at 0 again.
+Most clusters have 64 cycles, and the key may be left out for these.
+Fix `cycles`, or leave it out.
 ",
 };
 

@@ -1,24 +1,25 @@
-//! Refusals of who asks, and of what is no request at all.
+//! Refusals of what is no request, and of who asks.
 ghost use Rattle.std.specs.Prelude.{◌≡◌};
 ghost use Rattle.fr_guide.specs.Topics.{senders, words_of};
 
 use crate::topic::Topic;
 
 /// The words explained here.
-pub fn topics() -> [Topic; 5]
+pub fn topics() -> [Topic; 4]
     ensures { words_of result ≡ senders }
 {
-    [BAD_TEXT, UNKNOWN_KEY, NOT_YOURS, BAD_NAME, BAD_KEY]
+    [BAD_TEXT, UNKNOWN_KEY, NOT_YOURS, BAD_NAME]
 }
 
 const BAD_TEXT: Topic = Topic {
     word: "BadText",
     about: "refusal 1. The text is no request.",
     help: "\
-The line has no space after its key; the text is not one JSON object; `do` names no request;
+The line has no space after its key; the text is not UTF-8, or not one JSON object; `do` names no request;
 or a field is missing, unknown, of another kind, or no whole number of 0 to 4294967295.
-In an import the header is neither of the two, or a row has not the header's fields.
-Compare the fields with those of the request. Write numbers without quotes and without a point.
+In an import the header is neither of the two; or a row does not have the header's fields, or has one that is not UTF-8,
+or a number that is not 1 to 10 digits, or above 4294967295: `+1` is none, nor are eleven digits.
+`slotplan check --requests FILE` and `check --rows FILE` say in which line and field, and what may stand there.
 ",
 };
 
@@ -46,22 +47,11 @@ Send the request with the key of the one who may ask it.
 
 const BAD_NAME: Topic = Topic {
     word: "BadName",
-    about: "refusal 4, and a fault of a cluster file. A name has not the form of a name.",
+    about: "refusal 4, and a fault of a cluster file. A name does not have the form of a name.",
     help: "\
 A name is 1 to 32 ASCII letters, digits and underscores, and begins with a letter.
 That holds for variants, suppliers, nodes, frames, signals and the labels of imports.
-In a cluster file a supplier's name is meant; `slotplan check` shows which one.
+`slotplan check` shows which one: of a cluster file, where it is a supplier's, of requests, or of rows.
 Choose another name. Hyphens, spaces and letters with accents are not allowed. Case matters.
-",
-};
-
-const BAD_KEY: Topic = Topic {
-    word: "BadKey",
-    about: "refusal 30, and a fault of a cluster file. A key has not the form of a key.",
-    help: "\
-A key is 8 to 64 ASCII letters and digits. Case matters.
-As a refusal it comes for `add_supplier`.
-In a cluster file it is the integrator's key or a supplier's; `slotplan check` says whose.
-Choose another key.
 ",
 };

@@ -19,4 +19,7 @@ returns c =
     let w10 = grown _ _ _ _ _ c.in_ok-add-10.ensures w9 c.topics-10.ensures in
     let w11 = grown _ _ _ _ _ c.in_ok-add-11.ensures w10 c.topics-11.ensures in
     let w12 = grown _ _ _ _ _ c.in_ok-add-12.ensures w11 c.topics-12.ensures in
-    w12
+    let w13 = grown _ _ _ _ _ c.in_ok-add-13.ensures w12 c.topics-13.ensures in
+    let w14 = grown _ _ _ _ _ c.in_ok-add-14.ensures w13 c.topics-14.ensures in
+    let w15 = grown _ _ _ _ _ c.in_ok-add-15.ensures w14 c.topics-15.ensures in
+    w15

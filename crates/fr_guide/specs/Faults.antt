@@ -1,0 +1,29 @@
+-- Told line: a line's faults are printed a line each, behind the line's number; where there are none, nothing is.
+use Rattle.std.specs.Prelude.{ℕ, Bool, true, false, List, [], ◌∷◌, ◌++◌, codes, decimal, string_bytes}
+use Rattle.std.specs.List.{flat_map, list_all}
+use Rattle.fr_guide.specs.declared.line_faults.LineFaults.{LineFaults}
+
+-- whether there is none
+abbrev pub are_none : {A : Type 0} → List A → Bool
+are_none [] = true
+are_none (_ ∷ _) = false
+
+-- whether a line has no fault
+abbrev pub is_fine : LineFaults → Bool
+is_fine told = are_none told.faults.items
+
+-- whether no line has one
+abbrev pub all_fine : List LineFaults → Bool
+all_fine told = list_all is_fine told
+
+-- the printed line of a fault
+abbrev pub fault_line : ℕ → List ℕ → List ℕ
+fault_line line fault = codes "line " ++ decimal line ++ codes ": " ++ fault ++ codes "\n"
+
+-- those of a line
+abbrev pub lines_of : LineFaults → List ℕ
+lines_of told = flat_map (λ fault. fault_line told.line (string_bytes fault)) told.faults.items
+
+-- those of several
+abbrev pub all_lines : List LineFaults → List ℕ
+all_lines told = flat_map lines_of told

@@ -1,0 +1,63 @@
+-- Fine request: a text that is a request, of which each name is a name, and the key a key.
+use Rattle.std.specs.Prelude.{ℕ, Bool, false, List, [], ◌∷◌, Option, Some, None}
+use Rattle.std.specs.List.{list_all}
+use Rattle.fr_base.specs.Names.{is_key, is_name}
+use Rattle.fr_base.specs.declared.report.Report.{Report}
+use Rattle.fr_base.specs.declared.report.Report.TheVariants.{Grants, Frames, Schedule, Gaps, Layout}
+use Rattle.fr_base.specs.declared.request.Request.{Request}
+use Rattle.fr_base.specs.declared.request.Request.TheVariants as request
+use Rattle.fr_text.specs.RequestText.{request_of}
+use Rattle.fr_guide.specs.declared.form.Form.{Form}
+use Rattle.fr_guide.specs.declared.form.Form.TheVariants as form
+
+-- whether a text has this form
+abbrev pub has_form : Form → List ℕ → Bool
+has_form form.Name text = is_name text
+has_form form.Key text = is_key text
+
+-- a text that has to be a name
+abbrev pub name : List ℕ → Form × List ℕ
+name text = (form.Name, text)
+
+-- the name of a parent, if there is to be one
+abbrev pub parent_in : Option (List ℕ) → List (Form × List ℕ)
+parent_in None = []
+parent_in (Some parent) = name parent ∷ []
+
+-- the name of a report's frame, if it is of one
+abbrev pub frame_in : Report (List ℕ) → List (Form × List ℕ)
+frame_in Grants = []
+frame_in Frames = []
+frame_in Schedule = []
+frame_in Gaps = []
+frame_in (Layout frame) = name frame ∷ []
+
+-- the texts of a request that have to have a form
+unfoldable pub formed_in : Request → List (Form × List ℕ)
+formed_in (request.OpenVariant variant parent) = name variant ∷ parent_in parent
+formed_in (request.Release variant) = name variant ∷ []
+formed_in (request.AddSupplier supplier key) = name supplier ∷ (form.Key, key) ∷ []
+formed_in (request.AddNode supplier node) = name supplier ∷ name node ∷ []
+formed_in (request.Grant variant slot channel supplier node) = name variant ∷ name supplier ∷ name node ∷ []
+formed_in (request.Revoke variant slot channel supplier) = name variant ∷ name supplier ∷ []
+formed_in (request.AddFrame variant frame node) = name variant ∷ name frame ∷ name node ∷ []
+formed_in (request.DropFrame variant frame) = name variant ∷ name frame ∷ []
+formed_in (request.Place variant frame slot channels base repetition) = name variant ∷ name frame ∷ []
+formed_in (request.Unplace variant frame slot channels base repetition) = name variant ∷ name frame ∷ []
+formed_in (request.AddSignal variant frame signal start length order) = name variant ∷ name frame ∷ name signal ∷ []
+formed_in (request.DropSignal variant frame signal) = name variant ∷ name frame ∷ name signal ∷ []
+formed_in (request.Import variant label body) = name variant ∷ name label ∷ []
+formed_in (request.Query variant report) = name variant ∷ frame_in report
+
+-- whether each of these texts has its form
+abbrev pub have_forms : List (Form × List ℕ) → Bool
+have_forms texts = list_all (λ text. has_form text.0 text.1) texts
+
+-- whether there is a request, and each of its texts has its form
+abbrev pub is_fine : Option Request → Bool
+is_fine None = false
+is_fine (Some request) = have_forms (formed_in request)
+
+-- whether the bytes are such a request
+unfoldable pub is_fine_request : List ℕ → Bool
+is_fine_request bytes = is_fine (request_of bytes)

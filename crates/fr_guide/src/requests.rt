@@ -1,0 +1,39 @@
+//! What is wrong with the text of a request.
+ghost use Rattle.std.specs.Prelude.{◌≡◌, IfOk, OnOk, Some, true, false};
+ghost use Rattle.fr_guide.specs.Faults.{are_none};
+ghost use Rattle.fr_guide.specs.Requests.{is_fine, is_fine_request};
+
+mod fields;
+mod forms;
+mod json;
+mod names;
+
+use crate::requests::json::text_faults;
+use crate::requests::names::name_faults;
+use fr_base::{NoMemory, Refusal};
+use fr_text::read_command;
+use std::alloc::{AllocError, Global};
+
+/// What is wrong with the text of a request, which begins behind so many bytes of its line: why it is none, or
+/// which of its names are no names. The register is not asked, so a name may be that of nothing.
+#[tactic(auto, unfolding(crate::specs::Requests::is_fine_request))]
+pub fn request_faults(alloc: Global, text: &[u8], before: usize) -> Result<Vec<String>, NoMemory>
+    ensures { IfOk result (λ faults. are_none faults.items ≡ is_fine_request text.now) }
+{
+    match read_command(alloc, text) {
+        Ok(request) => name_faults(alloc, &request),
+        Err(Refusal::Unavailable) => Err(AllocError),
+        Err(_) => some_faults(alloc, text, before),
+    }
+}
+
+// Why a text is no request: something at least.
+fn some_faults(alloc: Global, text: &[u8], before: usize) -> Result<Vec<String>, NoMemory>
+    ensures { IfOk result (λ faults. are_none faults.items ≡ false) }
+{
+    let mut faults = text_faults(alloc, text, before)?;
+    if faults.is_empty() {
+        faults.push(String::from_str(alloc, "the text is no request")?)?;
+    }
+    Ok(faults)
+}

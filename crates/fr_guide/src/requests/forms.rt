@@ -1,0 +1,50 @@
+//! The requests, and the fields of each.
+
+/// What a field of a request has to be.
+#[derive(Clone, Copy, PartialEq, Eq)]
+pub enum Kind {
+    Text,
+    /// A text, or null; the field may also be left out.
+    TextOrNull,
+    /// A whole number from 0 to 4,294,967,295.
+    Number,
+}
+
+/// The names of the requests, as a line lists them.
+pub const REQUESTS: &str =
+    "open_variant, release, add_supplier, add_node, grant, revoke, add_frame, drop_frame, place, unplace, add_signal, drop_signal, import, grants, frames, schedule, gaps, layout";
+
+/// The fields of the request of this name, besides `do`.
+pub fn fields_of(request: &str) -> Option<&'static [&'static str]> {
+    match request {
+        "open_variant" => Some(&["variant", "from"]),
+        "release" | "grants" | "frames" | "schedule" | "gaps" => Some(&["variant"]),
+        "add_supplier" => Some(&["supplier", "key"]),
+        "add_node" => Some(&["supplier", "node"]),
+        "grant" => Some(&["variant", "slot", "channel", "supplier", "node"]),
+        "revoke" => Some(&["variant", "slot", "channel", "supplier"]),
+        "add_frame" => Some(&["variant", "frame", "node"]),
+        "drop_frame" | "layout" => Some(&["variant", "frame"]),
+        "place" | "unplace" => Some(&[
+            "variant",
+            "frame",
+            "slot",
+            "channels",
+            "base",
+            "repetition",
+        ]),
+        "add_signal" => Some(&["variant", "frame", "signal", "start", "length", "order"]),
+        "drop_signal" => Some(&["variant", "frame", "signal"]),
+        "import" => Some(&["variant", "label", "body"]),
+        _ => None,
+    }
+}
+
+/// What the field of this name has to be.
+pub fn kind_of(field: &str) -> Kind {
+    match field {
+        "slot" | "base" | "repetition" | "start" | "length" => Kind::Number,
+        "from" => Kind::TextOrNull,
+        _ => Kind::Text,
+    }
+}

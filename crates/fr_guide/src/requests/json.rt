@@ -1,0 +1,67 @@
+//! Why a text is no request: it is no JSON, no object, or an object of other fields.
+use crate::requests::fields::field_faults;
+use fr_base::NoMemory;
+use serde_json::{Error, Value};
+use std::alloc::{AllocError, Global};
+
+/// Why a text is no request, which begins behind so many bytes of its line.
+pub fn text_faults(alloc: Global, text: &[u8], before: usize) -> Result<Vec<String>, NoMemory> {
+    let Ok(text) = str::from_utf8(text) else {
+        return one(alloc, String::from_str(alloc, "the text is not UTF-8")?);
+    };
+    let value = match Value::from_str(alloc, text) {
+        Ok(value) => value,
+        Err(error) => return one(alloc, no_json(alloc, text, before, &error)?),
+    };
+    match value.as_object() {
+        Some(fields) => field_faults(alloc, fields),
+        None => one(alloc, no_object(alloc, &value)?),
+    }
+}
+
+// One fault.
+fn one(alloc: Global, fault: String) -> Result<Vec<String>, NoMemory> {
+    let mut faults = Vec::new(alloc);
+    faults.push(fault)?;
+    Ok(faults)
+}
+
+// What is said of JSON that is no object.
+fn no_object(alloc: Global, value: &Value) -> Result<String, NoMemory> {
+    let kind = kind(value);
+    format!(in alloc; "the text is {kind}, a request is an object, in braces")
+}
+
+/// What kind of value it is.
+pub fn kind(value: &Value) -> &'static str {
+    match value {
+        Value::Null => "null",
+        Value::Bool(_) => "true or false",
+        Value::Number(_) => "a number",
+        Value::String(_) => "a text",
+        Value::Array(_) => "a list",
+        Value::Object(_) => "an object",
+    }
+}
+
+// Where a text is no JSON.
+fn no_json(alloc: Global, text: &str, before: usize, error: &Error) -> Result<String, NoMemory> {
+    if error.is_memory() {
+        return Err(AllocError);
+    }
+    if error.is_eof() {
+        return String::from_str(alloc, "the text is no JSON: it ends too early");
+    }
+    let column = before.saturating_add(error.column());
+    let rest = text.as_bytes().get(error.column().saturating_sub(1)..);
+    match rest.and_then(|rest| rest.first()) {
+        Some(b'\'') => format!(in alloc;
+            "column {column}: the text is no JSON: texts stand in double quotes"
+        ),
+        Some(byte) if matches!(*byte, b'!'..=b'~') => {
+            let found = char::from(*byte);
+            format!(in alloc; "column {column}: the text is no JSON: {found} may not stand here")
+        }
+        _ => format!(in alloc; "column {column}: the text is no JSON from here on"),
+    }
+}

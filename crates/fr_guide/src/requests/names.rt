@@ -1,0 +1,194 @@
+//! Which names and keys of a request are none.
+ghost use Rattle.std.specs.Prelude.{◌≡◌, ◌&&◌, IfOk, OnOk, map};
+ghost use Rattle.fr_guide.specs.Faults.{are_none};
+ghost use Rattle.fr_guide.specs.Requests.{formed_in, has_form, have_forms};
+
+use crate::form::Form;
+use crate::shown::shown;
+use fr_base::{Key, Name, NoMemory, Report, Request, Text};
+use std::alloc::Global;
+
+/// A text of a request that has to have a form, and its field.
+#[derive(Clone, Copy)]
+pub struct Formed<'a> {
+    form: Form,
+    field: &'static str,
+    text: &'a str,
+}
+
+/// Which texts of a request do not have their form.
+#[tactic(auto, unfolding(crate::specs::Requests::formed_in))]
+pub fn name_faults(alloc: Global, request: &Request) -> Result<Vec<String>, NoMemory>
+    ensures { IfOk result (λ faults. are_none faults.items ≡ have_forms (formed_in request.now)) }
+{
+    match request {
+        Request::OpenVariant { variant, parent } => {
+            let variant = name("variant", variant);
+            match parent {
+                Some(parent) => faults(alloc, &[variant, name("from", parent)]),
+                None => faults(alloc, &[variant]),
+            }
+        }
+        Request::Release { variant } => faults(alloc, &[name("variant", variant)]),
+        Request::AddSupplier { supplier, key } => {
+            faults(alloc, &[name("supplier", supplier), key_in("key", key)])
+        }
+        Request::AddNode { supplier, node } => {
+            faults(alloc, &[name("supplier", supplier), name("node", node)])
+        }
+        Request::Grant {
+            variant,
+            supplier,
+            node,
+            slot: _,
+            channel: _,
+        } => faults(
+            alloc,
+            &[
+                name("variant", variant),
+                name("supplier", supplier),
+                name("node", node),
+            ],
+        ),
+        Request::Revoke {
+            variant,
+            supplier,
+            slot: _,
+            channel: _,
+        } => faults(
+            alloc,
+            &[name("variant", variant), name("supplier", supplier)],
+        ),
+        Request::AddFrame {
+            variant,
+            frame,
+            node,
+        } => faults(
+            alloc,
+            &[
+                name("variant", variant),
+                name("frame", frame),
+                name("node", node),
+            ],
+        ),
+        Request::DropFrame { variant, frame } => {
+            faults(alloc, &[name("variant", variant), name("frame", frame)])
+        }
+        Request::Place {
+            variant,
+            frame,
+            slot: _,
+            channels: _,
+            base: _,
+            repetition: _,
+        } => faults(alloc, &[name("variant", variant), name("frame", frame)]),
+        Request::Unplace {
+            variant,
+            frame,
+            slot: _,
+            channels: _,
+            base: _,
+            repetition: _,
+        } => faults(alloc, &[name("variant", variant), name("frame", frame)]),
+        Request::AddSignal {
+            variant,
+            frame,
+            signal,
+            start: _,
+            length: _,
+            order: _,
+        } => faults(
+            alloc,
+            &[
+                name("variant", variant),
+                name("frame", frame),
+                name("signal", signal),
+            ],
+        ),
+        Request::DropSignal {
+            variant,
+            frame,
+            signal,
+        } => faults(
+            alloc,
+            &[
+                name("variant", variant),
+                name("frame", frame),
+                name("signal", signal),
+            ],
+        ),
+        Request::Import {
+            variant,
+            label,
+            body: _,
+        } => faults(alloc, &[name("variant", variant), name("label", label)]),
+        Request::Query { variant, report } => {
+            let variant = name("variant", variant);
+            match report {
+                Report::Layout { frame } => faults(alloc, &[variant, name("frame", frame)]),
+                _ => faults(alloc, &[variant]),
+            }
+        }
+    }
+}
+
+// A text that has to be a name.
+fn name<'a>(field: &'static str, text: &'a Text) -> Formed<'a>
+    ensures { (result.form ≡ Form.Name) × (result.text.now ≡ text.now) }
+{
+    Formed {
+        form: Form::Name,
+        field,
+        text: text.as_str(),
+    }
+}
+
+// A text that has to be a key.
+fn key_in<'a>(field: &'static str, text: &'a Text) -> Formed<'a>
+    ensures { (result.form ≡ Form.Key) × (result.text.now ≡ text.now) }
+{
+    Formed {
+        form: Form::Key,
+        field,
+        text: text.as_str(),
+    }
+}
+
+// Which of the texts do not have their form.
+fn faults(alloc: Global, texts: &[Formed<'_>]) -> Result<Vec<String>, NoMemory>
+    ensures { IfOk result (λ faults. are_none faults.items ≡ have_forms (map (λ it. (it.form, it.text.now)) texts.now)) }
+{
+    let mut faults = Vec::new(alloc);
+    for formed in texts {
+        if !has_form(formed.form, formed.text) {
+            faults.push(fault(alloc, formed)?)?;
+        }
+    }
+    Ok(faults)
+}
+
+// Whether a text has this form.
+fn has_form(form: Form, text: &str) -> bool
+    ensures { result ≡ has_form form text.now }
+{
+    match form {
+        Form::Name => Name::read(text).is_some(),
+        Form::Key => Key::read(text).is_some(),
+    }
+}
+
+// What is said of a text that does not have its form. A key is not shown.
+fn fault(alloc: Global, formed: &Formed<'_>) -> Result<String, NoMemory> {
+    let field = formed.field;
+    match formed.form {
+        Form::Name => {
+            let text = shown(alloc, formed.text)?;
+            format!(in alloc;
+                "field \"{field}\" is \"{text}\", a name is 1 to 32 ASCII letters, digits and underscores, a letter first"
+            )
+        }
+        Form::Key => format!(in alloc;
+            "field \"{field}\" is no key, which is 8 to 64 ASCII letters and digits"
+        ),
+    }
+}

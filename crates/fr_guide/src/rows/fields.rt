@@ -1,0 +1,160 @@
+//! What is wrong with the fields of a row.
+ghost use Rattle.std.specs.Prelude.{◌≡◌, ◌&&◌, IfOk, OnOk, false};
+ghost use Rattle.std.specs.Result.{is_ok};
+ghost use Rattle.csv.specs.Records.{fields_of};
+ghost use Rattle.fr_base.specs.ImportRows.{number_at, text_at};
+ghost use Rattle.fr_guide.specs.Faults.{are_none};
+ghost use Rattle.fr_guide.specs.Rows.{has_fine_fields, is_fine_placement, is_fine_row, is_fine_signal, name_at};
+
+use crate::shown::shown_bytes;
+use csv::ByteRecord;
+use fr_base::{Header, Name, NoMemory};
+use fr_text::{names, number_at, text_at};
+use std::alloc::Global;
+
+/// What is wrong with a record below this header.
+#[tactic(auto, unfolding(crate::specs::Rows::is_fine_row))]
+pub fn field_faults(
+    alloc: Global,
+    header: Header,
+    fields: &ByteRecord,
+) -> Result<Vec<String>, NoMemory>
+    ensures { IfOk result (λ faults. are_none faults.items ≡ is_fine_row header (fields_of fields.now)) }
+{
+    if fields.len() == names(header).len() {
+        match header {
+            Header::Placements => placement_faults(alloc, fields),
+            Header::Signals => signal_faults(alloc, fields),
+        }
+    } else {
+        count_faults(alloc, header, fields)
+    }
+}
+
+// What is wrong with the fields of a row of placements.
+#[tactic(auto, unfolding(crate::specs::Rows::is_fine_placement))]
+fn placement_faults(alloc: Global, fields: &ByteRecord) -> Result<Vec<String>, NoMemory>
+    ensures { IfOk result (λ faults. are_none faults.items ≡ is_fine_placement (fields_of fields.now)) }
+{
+    let mut faults = Vec::new(alloc);
+    add_name(alloc, &mut faults, fields, 0, "frame")?;
+    add_name(alloc, &mut faults, fields, 1, "node")?;
+    add_number(alloc, &mut faults, fields, 2, "slot")?;
+    add_text(alloc, &mut faults, fields, 3, "channels")?;
+    add_number(alloc, &mut faults, fields, 4, "base")?;
+    add_number(alloc, &mut faults, fields, 5, "repetition")?;
+    Ok(faults)
+}
+
+// What is wrong with the fields of a row of signals.
+#[tactic(auto, unfolding(crate::specs::Rows::is_fine_signal))]
+fn signal_faults(alloc: Global, fields: &ByteRecord) -> Result<Vec<String>, NoMemory>
+    ensures { IfOk result (λ faults. are_none faults.items ≡ is_fine_signal (fields_of fields.now)) }
+{
+    let mut faults = Vec::new(alloc);
+    add_name(alloc, &mut faults, fields, 0, "frame")?;
+    add_name(alloc, &mut faults, fields, 1, "signal")?;
+    add_number(alloc, &mut faults, fields, 2, "start")?;
+    add_number(alloc, &mut faults, fields, 3, "length")?;
+    add_text(alloc, &mut faults, fields, 4, "order")?;
+    Ok(faults)
+}
+
+// Adds a fault where the field at a place is no name.
+fn add_name(
+    alloc: Global,
+    faults: &mut Vec<String>,
+    fields: &ByteRecord,
+    place: usize,
+    name: &str,
+) -> Result<(), NoMemory>
+    ensures { OnOk result (are_none faults.new.items ≡ are_none faults.old.items && is_ok (name_at (fields_of fields.now) place)) }
+{
+    if !is_name(fields, place) {
+        faults.push(fault(alloc, fields, place, name, NAME)?)?;
+    }
+    Ok(())
+}
+
+// Adds a fault where the field at a place is no number.
+fn add_number(
+    alloc: Global,
+    faults: &mut Vec<String>,
+    fields: &ByteRecord,
+    place: usize,
+    name: &str,
+) -> Result<(), NoMemory>
+    ensures { OnOk result (are_none faults.new.items ≡ are_none faults.old.items && is_ok (number_at (fields_of fields.now) place)) }
+{
+    if number_at(fields, place).is_err() {
+        faults.push(fault(alloc, fields, place, name, NUMBER)?)?;
+    }
+    Ok(())
+}
+
+// Adds a fault where the field at a place is no text.
+fn add_text(
+    alloc: Global,
+    faults: &mut Vec<String>,
+    fields: &ByteRecord,
+    place: usize,
+    name: &str,
+) -> Result<(), NoMemory>
+    ensures { OnOk result (are_none faults.new.items ≡ are_none faults.old.items && is_ok (text_at (fields_of fields.now) place)) }
+{
+    if text_at(fields, place).is_err() {
+        faults.push(fault(alloc, fields, place, name, "UTF-8")?)?;
+    }
+    Ok(())
+}
+
+// Whether the field at a place is a name.
+#[tactic(auto, unfolding(crate::specs::Rows::name_at))]
+fn is_name(fields: &ByteRecord, place: usize) -> bool
+    ensures { result ≡ is_ok (name_at (fields_of fields.now) place) }
+{
+    match text_at(fields, place) {
+        Ok(text) => Name::read(text).is_some(),
+        Err(_) => false,
+    }
+}
+
+const NAME: &str = "1 to 32 ASCII letters, digits and underscores, a letter first";
+
+const NUMBER: &str = "1 to 10 digits, at most 4294967295";
+
+// What is said of the field at a place, which may be something else.
+fn fault(
+    alloc: Global,
+    fields: &ByteRecord,
+    place: usize,
+    name: &str,
+    range: &str,
+) -> Result<String, NoMemory> {
+    let found = shown_bytes(alloc, fields.get(place).unwrap_or(b""))?;
+    format!(in alloc; "field \"{name}\" is \"{found}\", it may be {range}")
+}
+
+// What is wrong with a record that does not have its header's number of fields.
+fn count_faults(alloc: Global, header: Header, fields: &ByteRecord) -> Result<Vec<String>, NoMemory>
+    ensures { IfOk result (λ faults. are_none faults.items ≡ false) }
+{
+    let (found, wanted) = (fields.len(), names(header).len());
+    let hint = hint(fields, wanted);
+    let mut faults = Vec::new(alloc);
+    faults.push(format!(in alloc;
+        "the number of fields is {found}, the header has {wanted}{hint}"
+    )?)?;
+    Ok(faults)
+}
+
+// What may have gone wrong.
+fn hint(fields: &ByteRecord, wanted: usize) -> &'static str {
+    if fields.iter().skip(wanted).all(<[u8]>::is_empty) && fields.len() > wanted {
+        ": those behind are empty"
+    } else if fields.get(0).is_some_and(|first| first.contains(&b';')) {
+        ": fields are separated by commas"
+    } else {
+        ""
+    }
+}

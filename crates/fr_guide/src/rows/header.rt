@@ -1,0 +1,59 @@
+//! What is wrong with the header of an import's file.
+ghost use Rattle.std.specs.Prelude.{◌≡◌, IfOk, false};
+ghost use Rattle.fr_guide.specs.Faults.{are_none};
+
+use crate::shown::shown_bytes;
+use csv::ByteRecord;
+use fr_base::{Header, NoMemory};
+use fr_text::names;
+use std::alloc::Global;
+
+/// What is wrong with a first record that is no header.
+pub fn header_faults(alloc: Global, fields: &ByteRecord) -> Result<Vec<String>, NoMemory>
+    ensures { IfOk result (λ faults. are_none faults.items ≡ false) }
+{
+    let mut faults = Vec::new(alloc);
+    faults.push(header_fault(alloc, fields)?)?;
+    Ok(faults)
+}
+
+// What a header may be.
+fn header_fault(alloc: Global, fields: &ByteRecord) -> Result<String, NoMemory> {
+    let found = listed(alloc, fields)?;
+    let hint = hint(fields);
+    format!(in alloc;
+        "the header is \"{found}\", it may be \"frame,node,slot,channels,base,repetition\" or \"frame,signal,start,length,order\"{hint}"
+    )
+}
+
+// The fields of a record, with commas between.
+fn listed(alloc: Global, fields: &ByteRecord) -> Result<String, NoMemory> {
+    let mut list = String::new(alloc);
+    for (place, field) in fields.iter().enumerate() {
+        if place > 0 {
+            list.push(',')?;
+        }
+        let field = shown_bytes(alloc, field)?;
+        list.push_str(field.as_str())?;
+    }
+    Ok(list)
+}
+
+// What may have gone wrong.
+fn hint(fields: &ByteRecord) -> &'static str {
+    let first = fields.get(0).unwrap_or(b"");
+    if first.contains(&b';') {
+        ", with commas and no semicolons"
+    } else if is_meant(fields, Header::Placements) || is_meant(fields, Header::Signals) {
+        ", just so: in this order, in small letters, without spaces, and with no field behind"
+    } else {
+        ""
+    }
+}
+
+// Whether each name of the header stands somewhere among the fields, in small or capital letters.
+fn is_meant(fields: &ByteRecord, header: Header) -> bool {
+    names(header).iter().all(|name| {
+        fields.iter().any(|field| field.trim_ascii().eq_ignore_ascii_case(name.as_bytes()))
+    })
+}
