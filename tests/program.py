@@ -44,7 +44,7 @@ Commands:
   layout    Prints a frame's layout: the signals in its payload
   picture   Draws a variant's plan as a page of HTML, for a browser or a printer
   import    Carries out a supplier's import: a CSV file of placements or signals, all rows or none
-  check     Says what is wrong with a cluster file and where, or prints its figures
+  check     Says what is wrong with the text of a file and where, or that nothing is
   explain   Says what a refusal or a fault means, when it comes and what to do
   help      Print this message or the help of the given subcommand(s)
 
@@ -315,18 +315,26 @@ Example:
 """
 
 CHECK_HELP = b"""\
-Says what is wrong with a cluster file and where, or prints its figures
+Says what is wrong with the text of a file and where, or that nothing is
 
-Usage: slotplan check <CONFIG>
+Usage: slotplan check [OPTIONS] [CONFIG]
 
 Arguments:
-  <CONFIG>  The cluster file (TOML), at most 1,048,576 bytes
+  [CONFIG]  A cluster file (TOML)
 
 Options:
-  -h, --help  Print help
+      --requests <FILE>  A file of requests, a line each, as ask reads them
+      --rows <FILE>      An import's file (CSV)
+  -h, --help             Print help
+
+One file is named, of at most 1,048,576 bytes. Of a cluster file its figures are
+printed, or its first fault. Of requests and rows each fault is printed, with its
+line; no register is asked, so what is fine here may still be refused there.
 
 Example:
   slotplan check cluster.toml
+  slotplan check --requests changes.txt
+  slotplan check --rows placements.csv
 """
 
 EXPLAIN_HELP = b"""\

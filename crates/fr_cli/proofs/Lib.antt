@@ -18,3 +18,4 @@ pub mod ListingLaws
 pub mod PicturingLaws
 pub mod ServingLaws
 mod EachFault
+mod CheckingLaws

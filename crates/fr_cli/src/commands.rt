@@ -205,13 +205,15 @@ fn check<'a>(alloc: Global) -> Result<Command<'a>, AllocError>
     ensures { IfOk result (IsReadAs app.check) }
 {
     let command = Command::new(alloc, "check")
-        .about("Says what is wrong with a cluster file and where, or prints its figures")
+        .about("Says what is wrong with the text of a file and where, or that nothing is")
         .after_help(CHECK_HELP)
-        .arg(word(
+        .arg(free_word(alloc, "CONFIG", "A cluster file (TOML)"))?
+        .arg(file(
             alloc,
-            "CONFIG",
-            "The cluster file (TOML), at most 1,048,576 bytes",
-        ))?;
+            "requests",
+            "A file of requests, a line each, as ask reads them",
+        ))?
+        .arg(file(alloc, "rows", "An import's file (CSV)"))?;
     Ok(command)
 }
 
@@ -251,6 +253,17 @@ fn supplier<'a>(alloc: Global) -> Arg<'a>
         .long("supplier")
         .value_name("NAME")
         .help("Prints what this supplier sees; without it, what the integrator sees")
+        .action(ArgAction::Set)
+}
+
+// A file that may be named.
+fn file<'a>(alloc: Global, name: &'a str, help: &'a str) -> Arg<'a>
+    ensures { (rule_of result ≡ app.file name.entry.now) × (result.global ≡ false) }
+{
+    Arg::new(alloc, name)
+        .long(name)
+        .value_name("FILE")
+        .help(help)
         .action(ArgAction::Set)
 }
 
@@ -393,8 +406,14 @@ Example:
   slotplan import car.db supplier01 v1 week47 placements.csv";
 
 const CHECK_HELP: &str = "\
+One file is named, of at most 1,048,576 bytes. Of a cluster file its figures are
+printed, or its first fault. Of requests and rows each fault is printed, with its
+line; no register is asked, so what is fine here may still be refused there.
+
 Example:
-  slotplan check cluster.toml";
+  slotplan check cluster.toml
+  slotplan check --requests changes.txt
+  slotplan check --rows placements.csv";
 
 const EXPLAIN_HELP: &str = "\
 Example:

@@ -24,6 +24,7 @@ ghost use Rattle.fr_cli.specs.declared.failure.Failure.{Failure as Ended};
 ghost use Rattle.fr_cli.specs.declared.fault.Fault.{Fault as Word};
 ghost use Rattle.fr_cli.specs.declared.query.Query.{Query};
 ghost use Rattle.fr_cli.specs.declared.script_fault.ScriptFault.{ScriptFault as Early};
+ghost use Rattle.fr_cli.specs.declared.text_file.TextFile.{TextFile};
 
 use crate::asking::{ImportWords, import, report_on};
 use crate::checking::check;
@@ -82,7 +83,7 @@ pub fn perform<S: Start, R: Read, O: Write, E: Write>(
     ensures import { (db key variant label file : Bor (List ℕ)) → job.now ≡ Job.Import db key variant label file → (body : List ℕ) × (done : Result (Vec ℕ) Ended)
         × Says (IsNotImported (image_at S.Start) result.1) (IsAnswerOfFile (image_at S.Start) result.1 (import_of (record { key = key; variant = variant; label = label }) body)) line_of done
         × IsTold done (O.contents out.old) (O.contents out.new) (E.contents err.old) (E.contents err.new) result.0 }
-    ensures check { (config : Bor (List ℕ)) → job.now ≡ Job.Check config → (done : Result (Vec ℕ) Ended) × IsCheckedFile done
+    ensures check { (file : TextFile) → job.now ≡ Job.Check file → (done : Result (Vec ℕ) Ended) × IsCheckedFile file done
         × IsTold done (O.contents out.old) (O.contents out.new) (E.contents err.old) (E.contents err.new) result.0 }
     ensures explain { (word : Option (Bor (List ℕ))) → job.now ≡ Job.Explain word → (done : Result (Vec ℕ) Ended) × IsExplained word done
         × IsTold done (O.contents out.old) (O.contents out.new) (E.contents err.old) (E.contents err.new) result.0 }
@@ -151,7 +152,7 @@ pub fn perform<S: Start, R: Read, O: Write, E: Write>(
             let (done, left) = import_file(rt, db, start, words, file);
             (tell(done, out, &mut err), left)
         }
-        Job::Check { config } => (tell(check(rt, config), out, &mut err), None),
+        Job::Check { file } => (tell(check(rt, file), out, &mut err), None),
         Job::Explain { word } => (tell(explain_word(rt.alloc(), word), out, &mut err), None),
     }
 }
