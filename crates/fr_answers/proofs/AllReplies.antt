@@ -21,9 +21,8 @@ use Rattle.fr_base.specs.declared.answer.SignalRow.{SignalRow}
 use Rattle.fr_base.specs.declared.name.Name.{Name}
 use Rattle.fr_base.specs.declared.params.Params.{Params}
 use Rattle.fr_base.specs.declared.refusal.Refusal.{Refusal}
-use Rattle.fr_base.specs.declared.refusal.Refusal.TheVariants.{NoFrame, NoVariant, Unavailable}
+use Rattle.fr_base.specs.declared.refusal.Refusal.TheVariants.{NoFrame, NoVariant}
 use Rattle.fr_base.specs.declared.request.Query.{Query}
-use Rattle.fr_base.specs.declared.report.Report.{Report}
 use Rattle.fr_base.specs.declared.report.Report.TheVariants.{Grants, Frames, Schedule, Gaps, Layout}
 use Rattle.fr_base.proofs.SoundTables.{value_of}
 use Rattle.fr_answers.specs.Carried.{Replies}

@@ -97,17 +97,18 @@ module _ (p : Params) (b : Book) (s label v : Name) (body : List ℕ) (rows : �
   unfolding applied
   one_counted n more counted is = is ∙ ap (λ m. m + 1) counted ∙ sym (own-more b.imports s label (record { variant = v; body = body; rows = rows }) fits.2)
 
-module _ (p : Params) (b : Book) (edit : Edit) (s label v : Name) (body : List ℕ) (rows : ℕ) (is : edit ≡ KeepImport s label v body rows) (fits : Fits p b edit) (counts : List ImportCount) (counted : AreCounted b counts) where
-  fits_here : Fits p b (KeepImport s label v body rows)
-  fits_here = subst (Fits p b) is fits
-
-  -- the edit keeps an import of the supplier, whose count is let go
-  pub left_counted : (left : List ImportCount) → left ≡ counts_without s counts → AreCounted (applied b edit) left
-  left_counted left taken =
-      subst (λ e. AreCounted (applied b e) left) (sym is)
-      (subst (AreCounted (applied b (KeepImport s label v body rows))) (sym taken) (without_counted p b s label v body rows fits_here counts counted))
+module _ (p : Params) (b : Book) (s label v : Name) (body : List ℕ) (rows : ℕ) (fits : Fits p b (KeepImport s label v body rows)) (counts : List ImportCount) (counted : AreCounted b counts) where
+  -- an import of the supplier is kept, and its count is let go
+  pub left_counted : (left : List ImportCount) → left ≡ counts_without s counts → AreCounted (applied b (KeepImport s label v body rows)) left
+  left_counted left taken = subst (AreCounted (applied b (KeepImport s label v body rows))) (sym taken) (without_counted p b s label v body rows fits counts counted)
 
   -- or is one more
-  pub more_counted : (n more : ℕ) → count_of s counts ≡ Some n → more ≡ n + 1 → more ≡ len (own s (applied b edit).imports)
-  more_counted n more known one =
-      subst (λ e. more ≡ len (own s (applied b e).imports)) (sym is) (one_counted p b s label v body rows fits_here n more (counted_of b s counts n known counted) one)
+  pub more_counted : (n more : ℕ) → count_of s counts ≡ Some n → more ≡ n + 1 → more ≡ len (own s (applied b (KeepImport s label v body rows)).imports)
+  more_counted n more known one = one_counted p b s label v body rows fits n more (counted_of b s counts n known counted) one
+
+-- so with an edit that is one to keep an import
+pub one_more : (edit : Edit) (s label v : Name) (body : List ℕ) (rows : ℕ) → edit ≡ KeepImport s label v body rows → (counts new : List ImportCount) →
+    ((p : Params) (b : Book) (label v : Name) (body : List ℕ) (rows : ℕ) → Fits p b (KeepImport s label v body rows) → AreCounted b counts → AreCounted (applied b (KeepImport s label v body rows)) new) →
+    (p : Params) (b : Book) → Fits p b edit → AreCounted b counts → AreCounted (applied b edit) new
+one_more edit s label v body rows is counts new more p b fits counted =
+    subst (λ e. AreCounted (applied b e) new) (sym is) (more p b label v body rows (subst (Fits p b) is fits) counted)

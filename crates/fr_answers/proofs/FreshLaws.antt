@@ -1,6 +1,6 @@
 -- Pages that were the register's before an edit are the register's after it: those that it leaves alone, and the one that was amended.
-use Rattle.std.proofs.Common.{◌≡◌, true, false, not, ◌&&◌, cond, map, List, [], ◌∷◌, Option, Some, None, refl, sym, ap, subst, ◌∙◌, inl, inr, true≢false}
-use Rattle.std.specs.Prelude.{◌||◌, All}
+use Rattle.std.proofs.Common.{◌≡◌, true, false, not, ◌&&◌, cond, map, List, [], ◌∷◌, ◌++◌, filter, Option, Some, None, Result, Ok, Err, refl, sym, ap, subst, ◌∙◌, inl, inr, true≢false}
+use Rattle.std.specs.Prelude.{◌||◌, All, OnOk, is_err}
 use Rattle.std.specs.Ordering.{eq_by_cmp}
 use Rattle.std.proofs.lemmas.Bool.{cases_Bool}
 use Rattle.std.proofs.Math.Bool.{and-true}
@@ -20,15 +20,16 @@ use Rattle.fr_base.proofs.AloneCells.{same_text-itself}
 use Rattle.fr_base.proofs.SoundRows.{same_text-is}
 use Rattle.fr_base.proofs.SoundTables.{only-insert_other, same_key, same_some}
 use Rattle.fr_base.proofs.TableLaws.{equal, get-insert}
-use Rattle.fr_world.specs.BookEdits.{SparesOthers, all_applied, applied, changed_at}
-use Rattle.fr_world.specs.Edits.{IsOf, edited, releases}
-use Rattle.fr_world.specs.Fits.{AllFit, Fits, FitsVariant}
+use Rattle.fr_world.specs.BookEdits.{SparesOthers, applied, changed_at}
+use Rattle.fr_world.specs.Edits.{IsOf, Leads, Takes, edited, releases}
+use Rattle.fr_world.specs.Fits.{Fits, FitsVariant}
 use Rattle.fr_world.specs.Pages.{IsKept, PageData, nodes_in, own_rows_of, page_in}
 use Rattle.fr_world.specs.declared.edit.Edit.{Edit}
 use Rattle.fr_world.specs.declared.edit.Edit.TheVariants.{NewVariant, SetReleased, NewSupplier, NewNode, Rows, KeepImport}
 use Rattle.fr_world.proofs.AgreeLaws.{edits-agree, others-stay}
 use Rattle.fr_world.proofs.PageLaws.{rows-registers}
-use Rattle.fr_answers.specs.KeptPages.{AreFresh, KeptData, Spares, touches, untouched, untouched_by}
+use Rattle.fr_answers.specs.KeptPages.{Spares, touches}
+use Rattle.fr_answers.specs.Decided.{MayTake, TakesEach}
 use Rattle.fr_records.specs.Held.{IsFresh}
 use Rattle.fr_answers.proofs.PageBack.{same-page, same-rows}
 
@@ -129,13 +130,13 @@ module _ (c : Cluster) (b : Book) (page : PageData) (fresh : IsFresh c.params b 
       }
 
 -- pages that the edit leaves as they are
-all_untouched : (c : Cluster) (b : Book) (edit : Edit) → Spares b edit → (pages : List PageData) → All (IsFresh c.params b) pages → All (IsFresh c.params (applied b edit)) (untouched edit pages)
+pub all_untouched : (c : Cluster) (b : Book) (edit : Edit) → Spares b edit → (pages : List PageData) → All (IsFresh c.params b) pages → All (IsFresh c.params (applied b edit)) (filter (λ page. not (touches edit page)) pages)
 all_untouched c b edit spares [] fresh = All-nil (IsFresh c.params (applied b edit))
 all_untouched c b edit spares (page ∷ pages) fresh =
     let rest = all_untouched c b edit spares pages (All-tail (IsFresh c.params b) page pages fresh) in
     elim (cases_Bool (touches edit page)) [
       | inl e ↦ rw e rest
-      | inr e ↦ rw e (All-cons (IsFresh c.params (applied b edit)) page (untouched edit pages) (untouched-fresh c b page (All-head (IsFresh c.params b) page pages fresh) edit e spares) rest)
+      | inr e ↦ rw e (All-cons (IsFresh c.params (applied b edit)) page (filter (λ page. not (touches edit page)) pages) (untouched-fresh c b page (All-head (IsFresh c.params b) page pages fresh) edit e spares) rest)
     ]
 
 -- ---- edits that fit
@@ -150,7 +151,7 @@ change_spares b s v x (Revoke slot channel) fits = own_held s (get x.grants (slo
 change_spares b s v x (Frame f what) fits = tt
 
 -- an edit that fits leaves other suppliers what they hold
-fit_spares : (p : Params) (b : Book) (edit : Edit) → Fits p b edit → Spares b edit
+pub fit_spares : (p : Params) (b : Book) (edit : Edit) → Fits p b edit → Spares b edit
 fit_spares p b (NewVariant v parent depth) fits = tt
 fit_spares p b (SetReleased v) fits = tt
 fit_spares p b (NewSupplier s key) fits = tt
@@ -159,11 +160,23 @@ fit_spares p b (Rows s v what) fits = λ x there.
     change_spares b s v x what (subst (λ y. FitsVariant b.nodes s y what) (same_some fits.0 x (sym fits.1.there ∙ there)) fits.2)
 fit_spares p b (KeepImport s label v body rows) fits = tt
 
--- pages that edits leave as they are
-pub all-untouched_by : (c : Cluster) (edits : List Edit) (b : Book) (kept : KeptData) → AllFit c.params b edits → AreFresh c.params b kept →
-    AreFresh c.params (all_applied b edits) (untouched_by edits kept)
-all-untouched_by c [] b kept fits fresh = fresh
-all-untouched_by c (edit ∷ edits) b kept fits fresh =
-    let spares = fit_spares c.params b edit fits.0 in
-    let left : KeptData = record { recent = untouched edit kept.recent; earlier = untouched edit kept.earlier } in
-    all-untouched_by c edits (applied b edit) left fits.1 (all_untouched c b edit spares kept.recent fresh.0, all_untouched c b edit spares kept.earlier fresh.1)
+-- ---- edits that a page takes
+
+-- what holds where it is Ok, at one that is
+pub on_ok : {A E : Type 0} {P : Type 0} (r : Result A E) → is_err r ≡ false → OnOk r P → P
+on_ok (Ok x) done holds = holds
+on_ok (Err e) done holds = cc
+
+-- an edit that it takes may be made
+may_take : (v : Name) (rows : OwnRows) (edit : Edit) → Takes v rows edit → MayTake v rows edit
+may_take v rows (NewVariant w parent depth) takes = takes
+may_take v rows (SetReleased w) takes = takes
+may_take v rows (NewSupplier s key) takes = takes
+may_take v rows (NewNode s n) takes = takes
+may_take v rows (Rows s w what) takes = takes
+may_take v rows (KeepImport s label w body count) takes = tt
+
+-- edits that lead a page on are taken, and one more that keeps an import
+pub lead-taken : (v : Name) (rows last : OwnRows) (edits more : List Edit) → Leads v rows edits last → ((rows : OwnRows) → TakesEach v rows more) → TakesEach v rows (edits ++ more)
+lead-taken v rows last [] more leads next = next rows
+lead-taken v rows last (edit ∷ edits) more leads next = (may_take v rows edit leads.0, lead-taken v (edited rows edit) last edits more leads.2 next)

@@ -25,7 +25,7 @@ use Rattle.fr_answers.specs.Shared.{placements_among}
 use Rattle.fr_records.specs.Held.{Standing}
 use Rattle.fr_answers.specs.Shown.{AreSignals, FindsPage, Gathers, frames_named}
 use Rattle.fr_answers.proofs.SplitLaws.{flat-flat_map}
-use Rattle.fr_world.specs.Pages.{PageData, own_rows_of}
+use Rattle.fr_world.specs.Pages.{PageData, own_rows_of, page_in}
 use Rattle.fr_world.proofs.PageLaws.{rows-registers}
 
 -- The records stand for the same book as before, and this is so of the variant, if it is there.
@@ -34,7 +34,7 @@ IsSoFar old now v says = (c : Cluster) (b : Book) → old c b → now c b × ((x
 
 -- the supplier's page that was found has its rows of the variant
 pub page-rows : (old mid new : Standing) (s v : Name) (page : PageData) (before says : Params → Variant → Type 0) →
-    IsSoFar old mid v before → FindsPage mid new (Ok page) s v →
+    IsSoFar old mid v before → FindsPage mid new (Some page) (Ok tt) s v →
     ((p : Params) (b : Book) (x : Variant) → before p x → page.params ≡ p → own_rows_of page ≡ own_rows p b s x → says p x) → IsSoFar old new v says
 page-rows old mid new s v page before says so finds next c b stood =
     let first = so c b stood in
@@ -43,8 +43,9 @@ page-rows old mid new s v page before says so finds next c b stood =
       found.0,
       λ x there.
           let same : y ≡ x = same_some y x (sym found.1.1 ∙ there) in
-          next c.params b x (first.1 x there) (ap (λ (p : PageData). p.params) found.1.2)
-          (ap own_rows_of found.1.2 ∙ rows-registers c b s v y ∙ ap (own_rows c.params b s) same),
+          let is : page ≡ page_in c.params b s v y = same_some page (page_in c.params b s v y) found.1.2 in
+          next c.params b x (first.1 x there) (ap (λ (p : PageData). p.params) is)
+          (ap own_rows_of is ∙ rows-registers c b s v y ∙ ap (own_rows c.params b s) same),
     )
 
 -- what is made of the suppliers' frames, one supplier after another
@@ -58,7 +59,7 @@ module _ {R : Type 0} (made : Params → Table owned Frame → List R) (old : St
 
   -- one page more
   pub gathered-more : (mid new : Standing) (s : Name) (before after : List Name) (page : PageData) (rows all : List R) →
-      IsSoFar old mid v (λ p x. rows ≡ each_own made p x before) → FindsPage mid new (Ok page) s v →
+      IsSoFar old mid v (λ p x. rows ≡ each_own made p x before) → FindsPage mid new (Some page) (Ok tt) s v →
       all ≡ rows ++ made page.params (own_rows_of page).frames → after ≡ before ++ s ∷ [] → IsSoFar old new v (λ p x. all ≡ each_own made p x after)
   unfolding own_rows
   gathered-more mid new s before after page rows all so finds e more =
@@ -81,13 +82,13 @@ module _ {R : Type 0} (made : Params → Table owned Frame → List R) (old : St
 
 module _ {X : Type 0} (old mid : Standing) (v : Name) (before : Params → Variant → Type 0) (says : Params → Variant → X → Type 0) (so : IsSoFar old mid v before) where
   -- there is no page
-  pub gather-stops : (new : Standing) (s : Name) (r : Result X Refusal) (e : Refusal) → r ≡ Err e → FindsPage mid new (Err e) s v → Gathers old new r v says
-  gather-stops new s r e is finds c b stood =
+  pub gather-stops : (new : Standing) (s : Name) (lent : Option PageData) (r : Result X Refusal) (e : Refusal) → r ≡ Err e → FindsPage mid new lent (Err e) s v → Gathers old new r v says
+  gather-stops new s lent r e is finds c b stood =
       let found = finds c b (so c b stood).0 in
       (found.0, rw is found.1)
 
   -- there is no memory
-  pub gather-lacks : (new : Standing) (s : Name) (page : PageData) (r : Result X Refusal) → r ≡ Err Unavailable → FindsPage mid new (Ok page) s v → Gathers old new r v says
+  pub gather-lacks : (new : Standing) (s : Name) (page : PageData) (r : Result X Refusal) → r ≡ Err Unavailable → FindsPage mid new (Some page) (Ok tt) s v → Gathers old new r v says
   gather-lacks new s page r is finds c b stood =
       let found = finds c b (so c b stood).0 in
       (found.0, rw is (inl refl))
@@ -121,7 +122,7 @@ none_of (x ∷ xs) ys true b e g = sym (ne_eqb (suc (length (xs ++ ys))) 0 (λ h
 none_of (x ∷ xs) ys false b e g = let no : true ≡ false = e ∙ ne_eqb (suc (length xs)) 0 (λ h. omega (arith, h)) in cc
 
 module _ (old mid new : Standing) (f s v : Name) (before after : List Name) (page : PageData) where
-  pub found-more : (found has : Bool) → IsSoFar old mid v (λ p x. IsFound f before found x) → FindsPage mid new (Ok page) s v →
+  pub found-more : (found has : Bool) → IsSoFar old mid v (λ p x. IsFound f before found x) → FindsPage mid new (Some page) (Ok tt) s v →
       not has ≡ (len (named f (own_rows_of page).frames) == 0) → after ≡ before ++ s ∷ [] → IsSoFar old new v (λ p x. IsFound f after (found || has) x)
   unfolding own_rows len
   found-more found has so finds e more =

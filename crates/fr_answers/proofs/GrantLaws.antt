@@ -149,7 +149,7 @@ module _ (old : Standing) (v : Name) where
   )
 
   pub held-more : (mid new : Standing) (s : Name) (before after : List Name) (page : PageData) (es fs : List (ChannelSlot × Holder)) →
-      HoldsSoFar old mid v before es → FindsPage mid new (Ok page) s v →
+      HoldsSoFar old mid v before es → FindsPage mid new (Some page) (Ok tt) s v →
       grants_held fs ≡ with_rows (grants_held es) (own_rows_of page).grants.rows → after ≡ before ++ s ∷ [] → HoldsSoFar old new v after fs
   unfolding own_rows
   held-more mid new s before after page es fs so finds e more =

@@ -7,6 +7,7 @@ pub mod PageBack
 pub mod FreshLaws
 pub mod CountLaws
 pub mod ShelfLaws
+pub mod KeptLaws
 pub mod WarmLaws
 pub mod ShownLaws
 pub mod PageRows

@@ -1,6 +1,6 @@
 -- What a supplier is shown on its page is what the register shows it.
 use Rattle.std.proofs.Common.{◌≡◌, ◌==◌, false, true, Option, Some, None, option_map, Result, Ok, Err, List, refl, sym, ap, subst, ◌∙◌, ◌⊎◌, inl, inr}
-use Rattle.std.specs.Prelude.{MatchResult}
+use Rattle.std.specs.Prelude.{MatchResult, is_some}
 use Rattle.fr_base.specs.Book.{Book, Variant}
 use Rattle.fr_base.specs.Cluster.{Cluster}
 use Rattle.fr_base.specs.Refusing.{◌>>=◌, ◌>>◌, ◌or◌, refuse◌when◌}
@@ -21,13 +21,11 @@ use Rattle.fr_base.specs.declared.params.Params.{Params}
 use Rattle.fr_base.specs.declared.refusal.Refusal.{Refusal}
 use Rattle.fr_base.specs.declared.refusal.Refusal.TheVariants.{NoFrame, NoVariant, Unavailable}
 use Rattle.fr_base.specs.declared.request.Query.{Query}
-use Rattle.fr_base.specs.declared.report.Report.{Report}
 use Rattle.fr_base.specs.declared.report.Report.TheVariants.{Grants, Frames, Schedule, Gaps, Layout}
 use Rattle.fr_answers.specs.Carried.{Replies}
-use Rattle.fr_records.specs.Held.{Keeps, Standing, page_of}
+use Rattle.fr_records.specs.Held.{Standing, page_of}
 use Rattle.fr_base.proofs.SoundTables.{same_some}
 use Rattle.fr_answers.specs.Shown.{FindsPage, ShowsOwn}
-use Rattle.fr_answers.proofs.WarmLaws.{page-fresh}
 use Rattle.fr_world.specs.Pages.{PageData, own_rows_of, page_in}
 use Rattle.fr_world.proofs.PageLaws.{rows-registers}
 
@@ -74,22 +72,30 @@ closed : (f : Variant → PageData) (o : Option Variant) → None ≡ option_map
 closed f None e = refl
 closed f (Some x) e = cc
 
-module _ (old new : Standing) (s v : Name) (found : Option PageData) (tells : (c : Cluster) (b : Book) → old c b → new c b × (found ≡ page_of c.params b s v)) where
-  pub finds-page : (page : PageData) → found ≡ Some page → FindsPage old new (Ok page) s v
-  finds-page page is c b stood =
+module _ (old new : Standing) (s v : Name) (lent : Option PageData) (tells : (c : Cluster) (b : Book) → old c b → new c b × (lent ≡ page_of c.params b s v)) where
+  pub finds-page : is_some lent ≡ true → FindsPage old new lent (Ok tt) s v
+  finds-page some c b stood =
       let told = tells c b stood in
-      (told.0, opened (page_in c.params b s v) (get b.variants v) page (sym is ∙ told.1))
+      (told.0, at_hand lent some told.1)
+    where
+      at_hand : (o : Option PageData) → is_some o ≡ true → o ≡ page_of c.params b s v → (x : Variant) × (get b.variants v ≡ Some x) × (o ≡ Some (page_in c.params b s v x))
+      at_hand None some is = cc
+      at_hand (Some page) some is =
+          let there = opened (page_in c.params b s v) (get b.variants v) page is in
+          (there.0, there.1, ap Some there.2)
 
-  pub finds-none : found ≡ None → FindsPage old new (Err NoVariant) s v
-  finds-none is c b stood =
+  pub finds-none : is_some lent ≡ false → FindsPage old new lent (Err NoVariant) s v
+  finds-none none c b stood =
       let told = tells c b stood in
-      (told.0, inr (refl, closed (page_in c.params b s v) (get b.variants v) (sym is ∙ told.1)))
+      (told.0, inr (refl, at_hand lent none told.1))
+    where
+      at_hand : (o : Option PageData) → is_some o ≡ false → o ≡ page_of c.params b s v → get b.variants v ≡ None
+      at_hand None none is = closed (page_in c.params b s v) (get b.variants v) is
+      at_hand (Some page) none is = cc
 
--- it was found, and given back
-pub finds-kept : (old mid new : Standing) (s v : Name) (page : PageData) → FindsPage old mid (Ok page) s v → Keeps mid new page → FindsPage old new (Ok page) s v
-finds-kept old mid new s v page finds keeps c b stood =
-    let found = finds c b stood in
-    (keeps c b found.0 (page-fresh c.params b s v found.1.0 page found.1.1 found.1.2), found.1)
+-- the page that is lent
+pub finds-lent : (old new : Standing) (s v : Name) (lent : Option PageData) (page : PageData) → lent ≡ Some page → FindsPage old new lent (Ok tt) s v → FindsPage old new (Some page) (Ok tt) s v
+finds-lent old new s v lent page is finds = subst (λ o. FindsPage old new o (Ok tt) s v) is finds
 
 -- ---- the answer to a supplier
 
@@ -105,15 +111,15 @@ unfolding reply ◌or◌ ◌>>=◌
 reply-none p b a query none = ap (λ o. (o or NoVariant) >>= λ variant. shown p a variant query.report) none
 
 module _ (old new : Standing) (s : Name) (query : Query) where
-  pub replies-own : (page : PageData) (r : Result Answer Refusal) → FindsPage old new (Ok page) s query.variant → ShowsOwn page query.report r → Replies old new r (λ c b. reply c.params b (Supplier s) query)
+  pub replies-own : (page : PageData) (r : Result Answer Refusal) → FindsPage old new (Some page) (Ok tt) s query.variant → ShowsOwn page query.report r → Replies old new r (λ c b. reply c.params b (Supplier s) query)
   replies-own page r finds shows c b stood sound =
       let found = finds c b stood in
       let x = found.1.0 in
-      let own : ShowsOwn (page_in c.params b s query.variant x) query.report r = subst (λ p. ShowsOwn p query.report r) found.1.2 shows in
+      let own : ShowsOwn (page_in c.params b s query.variant x) query.report r = subst (λ p. ShowsOwn p query.report r) (same_some page (page_in c.params b s query.variant x) found.1.2) shows in
       (found.0, subst (Said r) (sym (reply-there c.params b (Supplier s) query x found.1.1)) (own b x (rows-registers c b s query.variant x)))
 
-  pub replies-none : (r : Result Answer Refusal) (e : Refusal) → r ≡ Err e → FindsPage old new (Err e) s query.variant → Replies old new r (λ c b. reply c.params b (Supplier s) query)
-  replies-none r e is finds c b stood sound =
+  pub replies-none : (lent : Option PageData) (r : Result Answer Refusal) (e : Refusal) → r ≡ Err e → FindsPage old new lent (Err e) s query.variant → Replies old new r (λ c b. reply c.params b (Supplier s) query)
+  replies-none lent r e is finds c b stood sound =
       let found = finds c b stood in (
         found.0,
         subst (λ r. Said r (reply c.params b (Supplier s) query)) (sym is) (elim found.1 [

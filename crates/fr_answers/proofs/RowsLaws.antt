@@ -1,7 +1,6 @@
 -- A change of a supplier's rows: what the supplier's page and the grants of all decide.
 use Rattle.std.proofs.Common.{◌≡◌, ℕ, Bool, true, false, not, List, Option, Some, None, Result, Ok, Err, refl, sym, ap, subst, ◌∙◌, ◌⊎◌, inl, inr}
-use Rattle.std.specs.Prelude.{⊤, MatchResult, Vec, option_map}
-use Rattle.std.specs.declared.alloc.Global.{Global}
+use Rattle.std.specs.Prelude.{⊤, IfSome, is_some, option_map}
 use Rattle.fr_base.specs.Refusing.{◌>>=◌, ◌>>◌, ◌or◌, refuse◌when◌}
 use Rattle.fr_base.specs.Tables.{get, contains}
 use Rattle.fr_base.specs.Cluster.{Cluster}
@@ -23,11 +22,10 @@ use Rattle.fr_world.specs.Pages.{PageData, page_in}
 use Rattle.fr_world.proofs.BookFits.{decision-fits}
 use Rattle.fr_world.proofs.FitsLaws.{none_there}
 use Rattle.fr_world.proofs.StepLaws.{grant-decides, revoke-decides, supplier-decides}
-use Rattle.fr_answers.specs.Carried.{Allows, Does, IsRefused, Makes, Replies}
-use Rattle.fr_answers.specs.Decided.{allowed, open_page, is_taken}
-use Rattle.fr_records.specs.Held.{IsFresh, Keeps, Standing, Tells, held_in, page_of}
-use Rattle.fr_answers.proofs.CommandLaws.{Known}
-use Rattle.fr_answers.proofs.WarmLaws.{page-fresh}
+use Rattle.fr_answers.specs.Carried.{Does}
+use Rattle.fr_answers.specs.Decided.{Opens, open_page, is_taken}
+use Rattle.fr_records.specs.Held.{Applies, Standing, Tells, held_in, page_of}
+use Rattle.fr_answers.proofs.CommandLaws.{Known, carried}
 
 -- ---- what is open to a supplier
 
@@ -74,6 +72,47 @@ opened-there p b s v page =
             ]
           ]
     ] refl
+
+-- what there is
+pub some_of : {A : Type 0} (o : Option A) → is_some o ≡ true → (x : A) × (o ≡ Some x)
+some_of None some = cc
+some_of (Some x) some = (x, refl)
+
+-- what holds of what there is
+module _ {A : Type 0} (P : A → Type 0) (o : Option A) (x : A) (is : o ≡ Some x) where
+  pub some_has : IfSome o P → P x
+  some_has has = subst (λ (o : Option A). IfSome o P) is has
+
+  pub has_some : P x → IfSome o P
+  has_some has = subst (λ (o : Option A). IfSome o P) (sym is) has
+
+-- ---- what is lent
+
+module _ (old new : Standing) (s v : Name) (lent : Option PageData) (lends : (c : Cluster) (b : Book) → old c b → new c b × (lent ≡ page_of c.params b s v)) where
+  pub opens-none : is_some lent ≡ false → Opens old new lent (Err NoVariant) s v
+  opens-none none c b stood sound =
+      let told = lends c b stood in
+      (told.0, inr (at_hand lent none told.1))
+    where
+      at_hand : (o : Option PageData) → is_some o ≡ false → o ≡ page_of c.params b s v → open_page c.params b s v ≡ Err NoVariant
+      at_hand None none is = open-none c.params b s v is
+      at_hand (Some page) none is = cc
+
+  module _ (page : PageData) (is : lent ≡ Some page) where
+    pub opens-frozen : page.released ≡ true → Opens old new lent (Err Released) s v
+    opens-frozen frozen c b stood sound =
+        let told = lends c b stood in
+        (told.0, inr (open-frozen c.params b s v page (sym is ∙ told.1) frozen))
+
+    pub opens-unknown : page.released ≡ false → ((c : Cluster) (b : Book) → new c b → contains b.suppliers s ≡ false) → Opens old new lent (Err NoSupplier) s v
+    opens-unknown still unknown c b stood sound =
+        let told = lends c b stood in
+        (told.0, inr (open-unknown c.params b s v page (sym is ∙ told.1) still (unknown c b told.0)))
+
+    pub opens-page : page.released ≡ false → ((c : Cluster) (b : Book) → new c b → contains b.suppliers s ≡ true) → Opens old new lent (Ok tt) s v
+    opens-page still known c b stood sound =
+        let told = lends c b stood in
+        (told.0, has_some (λ page. open_page c.params b s v ≡ Ok page) lent page is (opened c.params b s v page (sym is ∙ told.1) still (known c b told.0)))
 
 -- ---- what the register's step is
 
@@ -128,129 +167,82 @@ unheld b v x (Grant k channel n) found free = none_there (get x.grants (k, chann
 unheld b v x (Revoke k channel) found free = tt
 unheld b v x (Frame f what) found free = tt
 
--- what is decided and not taken is carried out in turn
-in_turn : (b : Book) (decided : Result (List Edit) Refusal) (t : Bool) →
-    (decided >>= λ edits. (refuse Taken when t) >> Ok (all_applied b edits)) ≡ ((decided >>= λ edits. (refuse Taken when t) >> Ok edits) >>= λ edits. Ok (all_applied b edits))
-unfolding ◌>>=◌ ◌>>◌ refuse◌when◌
-in_turn b (Ok edits) true = refl
-in_turn b (Ok edits) false = refl
-in_turn b (Err e) t = refl
-
-both_passed : (decided : Result (List Edit) Refusal) (t : Bool) (edits : List Edit) → (decided >>= λ edits. (refuse Taken when t) >> Ok edits) ≡ Ok edits → (decided ≡ Ok edits) × (t ≡ false)
-unfolding ◌>>=◌ ◌>>◌ refuse◌when◌
-both_passed (Ok es) true edits is = cc
-both_passed (Ok es) false edits is = (is, refl)
-both_passed (Err e) t edits is = cc
-
--- the page refuses, or is not known to allow
-pub not_allowed : (old : Standing) (page : PageData) (change : Change) (r : Result (Vec Edit Global) Refusal) (e : Refusal) → r ≡ Err e → (e ≡ Unavailable) ⊎ (decision page change ≡ Err e) →
-    Allows old old r page change
-unfolding allowed ◌>>=◌
-not_allowed old page change (Ok es) e said refuses c b stood = cc
-not_allowed old page change (Err f) e said refuses c b stood =
-    let same : f ≡ e = cc in (
-      stood,
-      elim refuses [
-        | inl lacked ↦ inl (same ∙ lacked)
-        | inr refused ↦ inr (ap (λ d. d >>= λ edits. (refuse Taken when is_taken b page.variant change) >> Ok edits) refused ∙ ap Err (sym same))
-      ],
-    )
-
-module _ (old new : Standing) (page : PageData) (change : Change) (edits : Vec Edit Global) (decided : decision page change ≡ Ok edits.items) where
-  -- it is not known whether it is held
-  pub not_known : (r : Result (Vec Edit Global) Refusal) (asked : Result Bool Refusal) (e : Refusal) → r ≡ Err e → asked ≡ Err e → Tells old new asked (λ c b is. is ≡ is_taken b page.variant change) →
-      Allows old new r page change
-  not_known (Ok es) asked e said lacks tells c b stood = cc
-  not_known (Err f) (Ok t) e said lacks tells c b stood = cc
-  not_known (Err f) (Err h) e said lacks tells c b stood =
-      let t = tells c b stood in
-      let same : f ≡ h = cc in
-      (t.0, inl (same ∙ t.1))
-
-  -- it is held, or not
-  pub is_allowed : (t : Bool) → t ≡ false → Tells old new (Ok t) (λ c b is. is ≡ is_taken b page.variant change) → Allows old new (Ok edits) page change
-  unfolding allowed ◌>>=◌ ◌>>◌ refuse◌when◌
-  is_allowed t free tells c b stood =
-      let k = tells c b stood in
-      (k.0, rw (decided, sym k.1 ∙ free) refl)
-
-  pub is_held : (t : Bool) → t ≡ true → Tells old new (Ok t) (λ c b is. is ≡ is_taken b page.variant change) → Allows old new (Err Taken) page change
-  unfolding allowed ◌>>=◌ ◌>>◌ refuse◌when◌
-  is_held t held tells c b stood =
-      let k = tells c b stood in
-      (k.0, inr (rw (decided, sym k.1 ∙ held) refl))
-
--- ---- the records, by the page that was read
+-- ---- the records, by what was asked of them
 
 module _ (old mid : Standing) (s v : Name) (change : Change) where
   abbrev does : Cluster → Book → Result Book Refusal
   does c b = change_rows c.params b s v change
 
-  -- there is no page that is open
-  pub rows_stopped : (r : Result ⊤ Refusal) (e : Refusal) → r ≡ Err e → Replies old mid (Err e) (λ c b. open_page c.params b s v) → Does old mid r does
-  unfolding ◌>>=◌
-  rows_stopped (Ok x) e said stopped c b stood sound = cc
-  rows_stopped (Err f) e said stopped c b stood sound =
-      let t = stopped c b stood sound in
-      let same : e ≡ f = cc in (
-        t.0,
-        elim t.1 [
-          | inl lacked ↦ inl (sym same ∙ lacked)
-          | inr refused ↦ inr (rows-told c b s v change sound ∙ ap (λ o. o >>= made_of c b s v change sound) refused ∙ ap Err same)
-        ],
-      )
+  -- it is not known whether it is taken
+  pub rows_unknown : (r : Result ⊤ Refusal) (asked : Result Bool Refusal) (e : Refusal) → r ≡ Err e → asked ≡ Err e → Tells old mid asked (λ c b is. is ≡ is_taken b v change) → Does old mid r does
+  rows_unknown (Ok x) asked e said lacks tells c b stood sound = cc
+  rows_unknown (Err f) (Ok t) e said lacks tells c b stood sound = cc
+  rows_unknown (Err f) (Err h) e said lacks tells c b stood sound =
+      let t = tells c b stood in
+      let same : f ≡ h = cc in
+      (t.0, inl (same ∙ t.1))
 
-  module _ (page : PageData) (read : Replies old mid (Ok page) (λ c b. open_page c.params b s v)) where
-    -- the page is the book's, and what is allowed on it decides
-    page-told : Known old mid (λ c b. IsFresh c.params b page × (does c b ≡ (allowed b page change >>= λ edits. Ok (all_applied b edits))))
-    unfolding ◌>>=◌ allowed
-    page-told c b stood sound =
-        let t = read c b stood sound in
-        let o = opened-there c.params b s v page t.1 in
-        let variant : v ≡ page.variant = ap (λ (q : PageData). q.variant) o.2 in (
-          t.0,
-          (
-            page-fresh c.params b s v o.0 page o.1 (sym o.2),
-            rows-told c b s v change sound ∙ ap (λ o. o >>= made_of c b s v change sound) t.1
-                ∙ ap (λ w. decision page change >>= λ edits. (refuse Taken when is_taken b w change) >> Ok (all_applied b edits)) variant
-                ∙ in_turn b (decision page change) (is_taken b page.variant change),
-          ),
-        )
-
-    -- it is refused, and the page is given back
-    pub rows_refused : (next new : Standing) (r : Result ⊤ Refusal) (e : Refusal) → r ≡ Err e → Allows mid next (Err e) page change → Keeps next new page → Does old new r does
+  module _ (taken : Bool) (told : Tells old mid (Ok taken) (λ c b is. is ≡ is_taken b v change)) (next : Standing) where
+    -- there is no page that is open
+    pub rows_stopped : (lent : Option PageData) (r : Result ⊤ Refusal) (e : Refusal) → r ≡ Err e → Opens mid next lent (Err e) s v → Does old next r does
     unfolding ◌>>=◌
-    rows_refused next new (Ok x) e said asked keeps c b stood sound = cc
-    rows_refused next new (Err f) e said asked keeps c b stood sound =
-        let k = page-told c b stood sound in
-        let a = asked c b k.0 in
-        let same : f ≡ e = cc in (
-          keeps c b a.0 k.1.0,
-          elim a.1 [
-            | inl lacked ↦ inl (same ∙ lacked)
-            | inr refused ↦ inr (k.1.1 ∙ ap (λ d. d >>= λ edits. Ok (all_applied b edits)) refused ∙ ap Err (sym same))
+    rows_stopped lent (Ok x) e said stopped c b stood sound = cc
+    rows_stopped lent (Err f) e said stopped c b stood sound =
+        let t = stopped c b (told c b stood).0 sound in
+        let same : e ≡ f = cc in (
+          t.0,
+          elim t.1 [
+            | inl lacked ↦ inl (sym same ∙ lacked)
+            | inr refused ↦ inr (rows-told c b s v change sound ∙ ap (λ o. o >>= made_of c b s v change sound) refused ∙ ap Err same)
           ],
         )
 
-    -- the edits are made
-    pub rows_made : (next new : Standing) (edits : Vec Edit Global) (r : Result ⊤ Refusal) → Allows mid next (Ok edits) page change → IsChecked page.params change →
-        Makes next new r page edits.items → Does old new r does
-    unfolding ◌>>=◌ allowed
-    rows_made next new edits r asked checked makes c b stood sound =
-        let k = page-told c b stood sound in
-        let a = asked c b k.0 in
-        let o = opened-there c.params b s v page (read c b stood sound).1 in
-        let passed = both_passed (decision page change) (is_taken b page.variant change) edits.items a.1 in
-        let variant : v ≡ page.variant = ap (λ (q : PageData). q.variant) o.2 in
-        let of_cluster : IsChecked c.params change = subst (λ (q : PageData). IsChecked q.params change) (sym o.2) checked in
-        let fits : AllFit c.params b edits.items =
-        decision-fits c b s v o.0 change edits.items sound o.1 of_cluster (unheld b v o.0 change o.1 (ap (λ w. is_taken b w change) variant ∙ passed.1))
-        (ap (λ q. decision q change) o.2 ∙ passed.0) in
-        let does_so : does c b ≡ Ok (all_applied b edits.items) = k.1.1 ∙ ap (λ d. d >>= λ edits. Ok (all_applied b edits)) a.1 in
-        done_so c b edits.items r does_so (makes c b a.0 k.1.0 fits)
-      where
-        done_so : (c : Cluster) (b : Book) (es : List Edit) (r : Result ⊤ Refusal) → does c b ≡ Ok (all_applied b es) →
-            MatchResult r (λ _. new c (all_applied b es)) (λ e. (e ≡ Unavailable) × new c b) →
-            MatchResult r (λ _. (after : Book) × (does c b ≡ Ok after) × new c after) (λ e. IsRefused new c b e (does c b))
-        done_so c b es (Ok x) does_so made = (all_applied b es, does_so, made)
-        done_so c b es (Err e) does_so made = (made.1, inl made.0)
+    module _ (lent : Option PageData) (page : PageData) (is : lent ≡ Some page) (opens : Opens mid next lent (Ok tt) s v) where
+      page_open : (c : Cluster) (b : Book) → old c b → IsSound c b → next c b × (open_page c.params b s v ≡ Ok page)
+      page_open c b stood sound =
+          let t = opens c b (told c b stood).0 sound in
+          (t.0, some_has (λ page. open_page c.params b s v ≡ Ok page) lent page is t.1)
+
+      -- what is decided on it decides, but that it may be taken
+      pub page_told : (decided : Result (List Edit) Refusal) → decision page change ≡ decided →
+          Known old next (λ c b. does c b ≡ (decided >>= λ edits. (refuse Taken when taken) >> Ok (all_applied b edits)))
+      unfolding ◌>>=◌
+      page_told decided decides c b stood sound =
+          let t = page_open c b stood sound in (
+            t.0,
+            rows-told c b s v change sound ∙ ap (λ o. o >>= made_of c b s v change sound) t.1
+                ∙ (λ i. decides i >>= λ edits. (refuse Taken when sym (told c b stood).1 i) >> Ok (all_applied b edits)),
+          )
+
+      -- the page refuses it, or is not known to allow it
+      pub rows_refused : (r : Result ⊤ Refusal) (e : Refusal) → r ≡ Err e → (e ≡ Unavailable) ⊎ (decision page change ≡ Err e) → Does old next r does
+      unfolding ◌>>=◌
+      rows_refused (Ok x) e said refuses c b stood sound = cc
+      rows_refused (Err f) e said refuses c b stood sound =
+          let same : f ≡ e = cc in (
+            (page_open c b stood sound).0,
+            elim refuses [
+              | inl lacked ↦ inl (same ∙ lacked)
+              | inr refused ↦ inr ((page_told (Err e) refused c b stood sound).1 ∙ ap Err (sym same))
+            ],
+          )
+
+      module _ (edits : List Edit) (decides : decision page change ≡ Ok edits) where
+        -- it is taken
+        pub rows_taken : taken ≡ true → Does old next (Err Taken) does
+        unfolding ◌>>=◌ ◌>>◌ refuse◌when◌
+        rows_taken held c b stood sound =
+            let t = page_told (Ok edits) decides c b stood sound in
+            (t.0, inr (t.1 ∙ ap (λ t. (refuse Taken when t) >> Ok (all_applied b edits)) held))
+
+        -- the edits are made
+        pub rows_made : taken ≡ false → IsChecked page.params change → (new : Standing) (r : Result ⊤ Refusal) → Applies next new r edits → Does old new r does
+        unfolding ◌>>=◌ ◌>>◌ refuse◌when◌
+        rows_made free checked new r = carried old next new does edits r (λ c b stood sound.
+            let t = page_told (Ok edits) decides c b stood sound in
+            let o = opened-there c.params b s v page (page_open c b stood sound).1 in
+            let of_cluster : IsChecked c.params change = subst (λ (q : PageData). IsChecked q.params change) (sym o.2) checked in
+            let fits : AllFit c.params b edits =
+            decision-fits c b s v o.0 change edits sound o.1 of_cluster (unheld b v o.0 change o.1 (sym (told c b stood).1 ∙ free))
+            (ap (λ q. decision q change) o.2 ∙ decides) in
+            (t.0, (fits, t.1 ∙ ap (λ t. (refuse Taken when t) >> Ok (all_applied b edits)) free)))

@@ -1,6 +1,6 @@
 -- Records and the pages beside them: what is read of the records and changed in them.
 use Rattle.std.proofs.Common.{◌≡◌, ℕ, ◌+◌, ◌&&◌, Bool, true, false, not, List, [], ◌∷◌, sum_by, Option, Some, None, Result, Ok, Err, All, Less, Equal, Greater, refl, sym, ap, subst, ◌∙◌}
-use Rattle.std.specs.Prelude.{⊤, MatchResult, OnErr, OnOk, if◌then◌else◌, nat_le, option_map}
+use Rattle.std.specs.Prelude.{⊤, IfSome, MatchResult, OnErr, OnOk, if◌then◌else◌, is_some, nat_le, option_map}
 use Rattle.std.specs.Option.{option_or}
 use Rattle.std.specs.Ordering.{match_ordering}
 use Rattle.std.proofs.lemmas.List.Elements.{All-cons, All-filter, All-head, All-nil, All-tail}
@@ -18,13 +18,12 @@ use Rattle.fr_world.specs.BookEdits.{all_applied}
 use Rattle.fr_world.specs.Fits.{AllFit}
 use Rattle.fr_world.specs.Pages.{PageData, page_in}
 use Rattle.fr_world.specs.declared.edit.Edit.{Edit}
-use Rattle.fr_records.specs.Held.{Applies, IsFresh, Keeps, Standing, Tells, page_of}
-use Rattle.fr_answers.specs.KeptPages.{AreFresh, EachKept, KeptData, StandsWarm, WarmData, bytes_of, is_page_of, kept_at, kept_with, kept_without, page_at, touches, untouched, untouched_by, whose, with_page, with_room}
+use Rattle.fr_records.specs.Held.{Applies, IsFresh, Standing, Tells, page_of}
+use Rattle.fr_answers.specs.KeptPages.{AreFresh, EachKept, KeptData, StandsWarm, WarmData, bytes_of, given_back, given_up, is_page_of, kept_at, kept_without, lent_at, none_lent, page_at, put_away, put_back, shelved_at, whose, with_page, with_room}
 use Rattle.fr_answers.specs.ImportCounts.{AreCounted, count_of}
 use Rattle.fr_answers.specs.declared.import_counts.ImportCount.{ImportCount}
 use Rattle.fr_answers.specs.declared.shelf.TheConstants.{MAX_BYTES}
 use Rattle.fr_answers.proofs.CountLaws.{counted_of, found_all}
-use Rattle.fr_answers.proofs.FreshLaws.{all-untouched_by}
 
 -- the book's page is fresh, and what is fresh is the book's page
 pub page-fresh : (p : Params) (b : Book) (s v : Name) (x : Variant) (page : PageData) → get b.variants v ≡ Some x → page ≡ page_in p b s v x → IsFresh p b page
@@ -51,24 +50,35 @@ fresh-told p b s v page named fresh =
 -- ---- what holds of all pages
 
 module _ (P : PageData → Type 0) where
-  -- of one that is found, which is the one that was looked for
-  pub kept_found : (s v : Name) (kept : KeptData) (page : PageData) → kept_at s v kept ≡ Some page → EachKept P kept → (is_page_of s v page ≡ true) × P page
-  kept_found s v kept page found each = elim (page_at s v kept.recent) as (λ o. page_at s v kept.recent ≡ o → option_or o (page_at s v kept.earlier) ≡ Some page → (is_page_of s v page ≡ true) × P page) [
-    | Some x ↦ λ at is. found_all (is_page_of s v) P kept.recent page (at ∙ is) each.0
-    | None ↦ λ at is. found_all (is_page_of s v) P kept.earlier page is each.1
+  -- of one that is found among those that are not lent, which is the one that was looked for
+  shelved_found : (s v : Name) (kept : KeptData) (page : PageData) → shelved_at s v kept ≡ Some page → EachKept P kept → (is_page_of s v page ≡ true) × P page
+  shelved_found s v kept page found each = elim (page_at s v kept.recent) as (λ o. page_at s v kept.recent ≡ o → option_or o (page_at s v kept.earlier) ≡ Some page → (is_page_of s v page ≡ true) × P page) [
+    | Some x ↦ λ at is. found_all (is_page_of s v) P kept.recent page (at ∙ is) each.1
+    | None ↦ λ at is. found_all (is_page_of s v) P kept.earlier page is each.2
   ] refl found
 
-  others_all : (s v : Name) (kept : KeptData) → EachKept P kept → EachKept P (kept_without s v kept)
-  others_all s v kept each = (All-filter (λ page. not (is_page_of s v page)) P kept.recent each.0, All-filter (λ page. not (is_page_of s v page)) P kept.earlier each.1)
+  found_if : (s v : Name) (kept : KeptData) (o : Option PageData) → o ≡ shelved_at s v kept → EachKept P kept → IfSome o P
+  found_if s v kept None is each = tt
+  found_if s v kept (Some page) is each = (shelved_found s v kept page (sym is) each).1
 
-  -- of those that are left where one was taken out
-  pub left_all : (s v : Name) (kept left : KeptData) → left ≡ kept_without s v kept → EachKept P kept → EachKept P left
-  left_all s v kept left taken each = subst (EachKept P) (sym taken) (others_all s v kept each)
+  -- of one that is found
+  pub kept_found : (s v : Name) (kept : KeptData) (page : PageData) → kept_at s v kept ≡ Some page → EachKept P kept → (is_page_of s v page ≡ true) × P page
+  kept_found s v kept page found each = at_hand kept.lent found each.0
+    where
+      at_hand : (lent : Option PageData) → option_or (lent_at s v lent) (shelved_at s v kept) ≡ Some page → IfSome lent P → (is_page_of s v page ≡ true) × P page
+      at_hand None is here = shelved_found s v kept page is each
+      at_hand (Some x) is here = elim (is_page_of s v x) as (λ b. is_page_of s v x ≡ b → option_or (if b then Some x else None) (shelved_at s v kept) ≡ Some page → (is_page_of s v page ≡ true) × P page) [
+        | true ↦ λ named same. let one : x ≡ page = cc in (subst (λ p. is_page_of s v p ≡ true) one named, subst P one here)
+        | false ↦ λ other same. shelved_found s v kept page same each
+      ] refl is
+
+  others_all : (s v : Name) (kept : KeptData) → EachKept P kept → EachKept P (kept_without s v kept)
+  others_all s v kept each = (each.0, All-filter (λ page. not (is_page_of s v page)) P kept.recent each.1, All-filter (λ page. not (is_page_of s v page)) P kept.earlier each.2)
 
   room_all : (bytes : ℕ) (kept : KeptData) → EachKept P kept → EachKept P (with_room bytes kept)
-  room_all bytes kept each = elim (nat_le (sum_by bytes_of kept.recent + bytes) MAX_BYTES) as (λ b. EachKept P (if b then kept else record { recent = []; earlier = kept.recent })) [
+  room_all bytes kept each = elim (nat_le (sum_by bytes_of kept.recent + bytes) MAX_BYTES) as (λ b. EachKept P (if b then kept else record kept { recent = []; earlier = kept.recent })) [
     | true ↦ each
-    | false ↦ (All-nil P, each.0)
+    | false ↦ (each.0, All-nil P, each.1)
   ]
 
   placed_all : (page : PageData) (pages : List PageData) → P page → All P pages → All P (with_page page pages)
@@ -81,23 +91,48 @@ module _ (P : PageData → Type 0) where
         | Greater ↦ All-cons P other (with_page page pages) (All-head P other pages all) later
       ]
 
-  -- where one was given back
-  pub kept_all : {E : Type 0} (page : PageData) (kept later : KeptData) (r : Result ⊤ E) → OnOk r (later ≡ kept_with page kept) →
-      OnErr r (later ≡ with_room (bytes_of page) (kept_without page.supplier page.variant kept)) → EachKept P kept → P page → EachKept P later
-  kept_all page kept later r ok err each here =
-      let room = with_room (bytes_of page) (kept_without page.supplier page.variant kept) in
-      let roomy : EachKept P room = room_all (bytes_of page) (kept_without page.supplier page.variant kept) (others_all page.supplier page.variant kept each) in
-      elim r as (λ r. OnOk r (later ≡ kept_with page kept) → OnErr r (later ≡ room) → EachKept P later) [
-        | Ok x ↦ λ is _. subst (EachKept P) (sym is) (placed_all page room.recent here roomy.0, roomy.1)
-        | Err e ↦ λ _ is. subst (EachKept P) (sym is) roomy
-      ] ok err
+  put_all : (lent : Option PageData) (kept : KeptData) → IfSome lent P → EachKept P kept → EachKept P (put_back lent kept)
+  put_all None kept here each = each
+  put_all (Some page) kept here each =
+      let roomy = room_all (bytes_of page) kept each in
+      (roomy.0, placed_all page (with_room (bytes_of page) kept).recent here roomy.1, roomy.2)
 
-  -- of those that edits leave
-  pub untouched_all : (edits : List Edit) (kept : KeptData) → EachKept P kept → EachKept P (untouched_by edits kept)
-  untouched_all [] kept each = each
-  untouched_all (edit ∷ edits) kept each =
-      let left : KeptData = record { recent = untouched edit kept.recent; earlier = untouched edit kept.earlier } in
-      untouched_all edits left (All-filter (λ page. not (touches edit page)) P kept.recent each.0, All-filter (λ page. not (touches edit page)) P kept.earlier each.1)
+  given_all : (lent : Option PageData) (kept : KeptData) → EachKept P kept → EachKept P (given_back lent kept)
+  given_all None kept each = each
+  given_all (Some page) kept each = room_all (bytes_of page) kept each
+
+  -- where the one that was lent was put away
+  pub away_all : {E : Type 0} (kept later : KeptData) (r : Result ⊤ E) → OnOk r (later ≡ put_away kept) → OnErr r (later ≡ given_up kept) → EachKept P kept → EachKept P later
+  away_all kept later (Ok x) ok err each = subst (EachKept P) (sym ok) (put_all kept.lent (none_lent kept) each.0 (tt, each.1, each.2))
+  away_all kept later (Err e) ok err each = subst (EachKept P) (sym err) (given_all kept.lent (none_lent kept) (tt, each.1, each.2))
+
+  -- and another is lent
+  pub lent_all : {E : Type 0} (s v : Name) (kept taken later : KeptData) (page : Option PageData) (r : Result ⊤ E) → page ≡ shelved_at s v kept → taken ≡ kept_without s v kept →
+      OnOk r (later ≡ put_away taken) → OnErr r (later ≡ given_up taken) → EachKept P kept → EachKept P (record later { lent = page })
+  lent_all s v kept taken later page r is left ok err each =
+      let away = away_all taken later r ok err (subst (EachKept P) (sym left) (others_all s v kept each)) in
+      (found_if s v kept page is each, away.1, away.2)
+
+-- ---- which page is lent
+
+-- the one that was lent before
+pub still_lent : (s v : Name) (kept : KeptData) → is_some (lent_at s v kept.lent) ≡ true → (is_some kept.lent ≡ true) × (kept.lent ≡ kept_at s v kept)
+still_lent s v kept has = at_hand kept.lent has
+  where
+    at_hand : (lent : Option PageData) → is_some (lent_at s v lent) ≡ true → (is_some lent ≡ true) × (lent ≡ option_or (lent_at s v lent) (shelved_at s v kept))
+    at_hand None has = cc
+    at_hand (Some x) has = elim (is_page_of s v x) as (λ b. is_some (if b then Some x else None) ≡ true → (true ≡ true) × (Some x ≡ option_or (if b then Some x else None) (shelved_at s v kept))) [
+      | true ↦ λ yes. (refl, refl)
+      | false ↦ λ no. cc
+    ] has
+
+-- or one of the others
+pub now_lent : (s v : Name) (kept : KeptData) → is_some (lent_at s v kept.lent) ≡ false → shelved_at s v kept ≡ kept_at s v kept
+now_lent s v kept has = at_hand (lent_at s v kept.lent) has
+  where
+    at_hand : (o : Option PageData) → is_some o ≡ false → shelved_at s v kept ≡ option_or o (shelved_at s v kept)
+    at_hand None has = refl
+    at_hand (Some x) has = cc
 
 -- ---- records and the pages beside them
 
@@ -120,29 +155,45 @@ module _ {R : Type 0} (stands : R → Standing) (inside warm : WarmData R) (is :
       let t = told c b s.0 in
       ((t.0, s.1, s.2), t.1)
 
-  module _ (s v : Name) (left : KeptData) (taken : left ≡ kept_without s v inside.pages) where
-    -- the page is not kept
-    pub page_read : (new : Standing) (r : Result (Option PageData) Refusal) → Tells (stands inside.records) new r (λ c b found. found ≡ page_of c.params b s v) →
-        Tells (StandsWarm stands warm) (Beside new left inside.counts) r (λ c b found. found ≡ page_of c.params b s v)
-    page_read new r told c b stood =
-        let here = stood-inside c b stood in
-        let t = told c b here.0 in
-        ((t.0, left_all (IsFresh c.params b) s v inside.pages left taken here.1, here.2), t.1)
-
+  module _ (s v : Name) (left : KeptData) (lends : left.lent ≡ kept_at s v inside.pages)
+      (fresh : (p : Params) (b : Book) → AreFresh p b inside.pages → AreFresh p b left) where
     -- the page is kept
-    pub page_taken : (page : PageData) → kept_at s v inside.pages ≡ Some page →
-        Tells (StandsWarm stands warm) (Beside (stands inside.records) left inside.counts) (Ok (Some page)) (λ c b found. found ≡ page_of c.params b s v)
-    page_taken page found c b stood =
+    pub page_lent : is_some left.lent ≡ true → (there : Bool) →
+        Tells (StandsWarm stands warm) (Beside (stands inside.records) left inside.counts) (Ok there) (λ c b _. left.lent ≡ page_of c.params b s v)
+    page_lent some there c b stood =
         let here = stood-inside c b stood in
-        let kept = kept_found (IsFresh c.params b) s v inside.pages page found here.1 in
-        ((here.0, left_all (IsFresh c.params b) s v inside.pages left taken here.1, here.2), fresh-told c.params b s v page kept.0 kept.1)
+        let now = fresh c.params b here.1 in
+        ((here.0, now, here.2), at_hand left.lent some lends)
+      where
+        at_hand : (lent : Option PageData) → is_some lent ≡ true → lent ≡ kept_at s v inside.pages → lent ≡ page_of c.params b s v
+        at_hand None some is = cc
+        at_hand (Some page) some is =
+            let here = stood-inside c b stood in
+            let kept = kept_found (IsFresh c.params b) s v inside.pages page (sym is) here.1 in
+            fresh-told c.params b s v page kept.0 kept.1
 
-  -- the page was given back
-  pub page_kept : {E : Type 0} (page : PageData) (later : KeptData) (r : Result ⊤ E) → OnOk r (later ≡ kept_with page inside.pages) → OnErr r (later ≡ with_room (bytes_of page) (kept_without page.supplier page.variant inside.pages)) →
-      Keeps (StandsWarm stands warm) (Beside (stands inside.records) later inside.counts) page
-  page_kept page later r kept given c b stood fresh =
-      let here = stood-inside c b stood in
-      (here.0, kept_all (IsFresh c.params b) page inside.pages later r kept given here.1 fresh, here.2)
+    -- it is not, and was read
+    pub page_read : (new : Standing) (r : Result (Option PageData) Refusal) → Tells (stands inside.records) new r (λ c b found. found ≡ page_of c.params b s v) →
+        (found : Option PageData) → r ≡ Ok found → (there : Bool) →
+        Tells (StandsWarm stands warm) (Beside new (record left { lent = found }) inside.counts) (Ok there) (λ c b _. found ≡ page_of c.params b s v)
+    page_read new r told found is there c b stood =
+        let here = stood-inside c b stood in
+        let now = fresh c.params b here.1 in
+        let t = subst (λ r. new c b × MatchResult r (λ found. found ≡ page_of c.params b s v) (λ e. e ≡ Unavailable)) is (told c b here.0) in
+        ((t.0, (read_fresh found t.1, now.1, now.2), here.2), t.1)
+      where
+        read_fresh : (found : Option PageData) → found ≡ page_of c.params b s v → IfSome found (IsFresh c.params b)
+        read_fresh None is = tt
+        read_fresh (Some page) is = told-fresh c.params b s v page is
+
+    -- it could not be read
+    pub page_lacked : (new : Standing) (r : Result (Option PageData) Refusal) → Tells (stands inside.records) new r (λ c b found. found ≡ page_of c.params b s v) →
+        (said : Result Bool Refusal) (e : Refusal) → said ≡ Err e → r ≡ Err e →
+        Tells (StandsWarm stands warm) (Beside new left inside.counts) said (λ c b _. left.lent ≡ page_of c.params b s v)
+    page_lacked new r told said e is lacks c b stood =
+        let here = stood-inside c b stood in
+        let t = subst (λ r. new c b × MatchResult r (λ found. found ≡ page_of c.params b s v) (λ e. e ≡ Unavailable)) lacks (told c b here.0) in
+        ((t.0, fresh c.params b here.1, here.2), subst (λ r. MatchResult r (λ _. left.lent ≡ page_of c.params b s v) (λ e. e ≡ Unavailable)) (sym is) t.1)
 
   module _ (s : Name) where
     -- the supplier's imports were counted before
@@ -166,14 +217,14 @@ module _ {R : Type 0} (stands : R → Standing) (inside warm : WarmData R) (is :
         ((t.0, here.1, noted b here.2 t.1), t.1)
 
   -- edits were carried out
-  pub warm_applied : (new : Standing) (edits : List Edit) (left : KeptData) → left ≡ untouched_by edits inside.pages →
+  pub warm_applied : (new : Standing) (edits : List Edit) (left : KeptData) → ((c : Cluster) (b : Book) → AllFit c.params b edits → AreFresh c.params b inside.pages → AreFresh c.params (all_applied b edits) left) →
       (counts : List ImportCount) → ((p : Params) (b : Book) → AllFit p b edits → AreCounted b inside.counts → AreCounted (all_applied b edits) counts) →
       (r : Result ⊤ Refusal) → r ≡ Ok tt → Applies (stands inside.records) new r edits →
       (c : Cluster) (b : Book) → StandsWarm stands warm c b → AllFit c.params b edits → Beside new left counts c (all_applied b edits)
-  warm_applied new edits left spared counts followed (Ok x) made applies c b stood fits =
+  warm_applied new edits left fresh counts followed (Ok x) made applies c b stood fits =
       let here = stood-inside c b stood in
-      (applies c b here.0 fits, subst (AreFresh c.params (all_applied b edits)) (sym spared) (all-untouched_by c edits b inside.pages fits here.1), followed c.params b fits here.2)
-  warm_applied new edits left spared counts followed (Err e) made applies c b stood fits = cc
+      (applies c b here.0 fits, fresh c b fits here.1, followed c.params b fits here.2)
+  warm_applied new edits left fresh counts followed (Err e) made applies c b stood fits = cc
 
   -- they were not
   pub warm_lacked : (new : Standing) (edits : List Edit) (said r : Result ⊤ Refusal) (e : Refusal) → said ≡ Err e → r ≡ Err e → Applies (stands inside.records) new r edits →

@@ -1,7 +1,6 @@
 -- Carried out: a change, a command or a query was carried out in a sound book as the definition has it, and the records
 -- stand for the book after it; or nothing was done. What a crash leaves of a change or a command.
-use Rattle.std.specs.Prelude.{◌≡◌, ◌⊎◌, List, ◌∷◌, Vec, Result, Ok, Err, MatchResult, ⊤}
-use Rattle.std.specs.declared.alloc.Global.{Global}
+use Rattle.std.specs.Prelude.{◌≡◌, ◌⊎◌, List, ◌∷◌, Result, Ok, Err, MatchResult, ⊤}
 use Rattle.fr_base.specs.Book.{Book}
 use Rattle.fr_base.specs.Cluster.{Cluster}
 use Rattle.fr_base.specs.Sound.{IsSound}
@@ -10,13 +9,7 @@ use Rattle.fr_base.specs.declared.answer.Answer.{Answer}
 use Rattle.fr_base.specs.declared.answer.Answer.TheVariants.{Done}
 use Rattle.fr_base.specs.declared.refusal.Refusal.{Refusal}
 use Rattle.fr_base.specs.declared.refusal.Refusal.TheVariants.{Unavailable}
-use Rattle.fr_base.specs.declared.request.Change.{Change}
-use Rattle.fr_world.specs.BookEdits.{all_applied}
-use Rattle.fr_world.specs.Fits.{AllFit}
-use Rattle.fr_world.specs.Pages.{PageData}
-use Rattle.fr_world.specs.declared.edit.Edit.{Edit}
-use Rattle.fr_answers.specs.Decided.{allowed}
-use Rattle.fr_records.specs.Held.{IsFresh, Leaving, Standing}
+use Rattle.fr_records.specs.Held.{Leaving, Standing}
 
 -- Nothing was done: for the reason that the definition has, or the answer is Unavailable; and the records stand for the same book as before.
 abbrev pub IsRefused : {A : Type 0} → Standing → Cluster → Book → Refusal → Result A Refusal → Type 0
@@ -37,18 +30,6 @@ MayLeave stands old new does = (c : Cluster) (b : Book) (books : List Book) → 
 abbrev pub LeavesDone : Standing → Leaving → Leaving → (Cluster → Book → Result Outcome Refusal) → Type 0
 LeavesDone stands old new does = (c : Cluster) (b : Book) (books : List Book) → stands c b → IsSound c b → old c books
     → new c books ⊎ ((after : Outcome) × (does c b ≡ Ok after) × new c (after.book ∷ books))
-
--- The edits of a change of the page's rows were decided, or its refusal; or it is Unavailable. The records stand for the same book as before.
-abbrev pub Allows : Standing → Standing → Result (Vec Edit Global) Refusal → PageData → Change → Type 0
-Allows old new r page change = (c : Cluster) (b : Book) → old c b → new c b × MatchResult r
-    (λ edits. allowed b page change ≡ Ok edits.items)
-    (λ e. (e ≡ Unavailable) ⊎ (allowed b page change ≡ Err e))
-
--- The edits were carried out, where they fit and the page on which they were decided is the book's; or the answer is Unavailable, and the
--- records stand for the same book as before.
-abbrev pub Makes : {X : Type 0} → Standing → Standing → Result X Refusal → PageData → List Edit → Type 0
-Makes old new r page edits = (c : Cluster) (b : Book) → old c b → IsFresh c.params b page → AllFit c.params b edits →
-    MatchResult r (λ _. new c (all_applied b edits)) (λ e. (e ≡ Unavailable) × new c b)
 
 -- So with a command, which is answered Done where it was carried out.
 abbrev pub Performs : Standing → Standing → Result ⊤ Refusal → (Cluster → Book → Result Outcome Refusal) → Type 0

@@ -1,23 +1,26 @@
 -- Decided: what is asked of all rows beside a supplier's page. Before the page decides the variant is open and the
--- supplier is there. After it a slot and channel that are to be granted are not held.
-use Rattle.std.specs.Prelude.{Bool, false, not, List, Result, Ok, ⊤}
+-- supplier is there. After it a slot and channel that are to be granted are not held. Which edits a page takes.
+use Rattle.std.specs.Prelude.{◌≡◌, ◌⊎◌, Bool, false, not, List, [], ◌∷◌, Option, Result, Ok, Err, IfSome, MatchResult, ⊤}
 use Rattle.fr_base.specs.Refusing.{◌>>=◌, ◌>>◌, ◌or◌, refuse◌when◌}
 use Rattle.fr_base.specs.Tables.{contains}
 use Rattle.fr_base.specs.Book.{Book}
+use Rattle.fr_base.specs.Cluster.{Cluster}
+use Rattle.fr_base.specs.Sound.{IsSound}
 use Rattle.fr_base.specs.Step.{OwnRows}
 use Rattle.fr_base.specs.declared.name.Name.{Name}
 use Rattle.fr_base.specs.declared.params.Params.{Params}
 use Rattle.fr_base.specs.declared.refusal.Refusal.{Refusal}
-use Rattle.fr_base.specs.declared.refusal.Refusal.TheVariants.{NoVariant, Released, NoSupplier, Taken}
+use Rattle.fr_base.specs.declared.refusal.Refusal.TheVariants.{NoVariant, Released, NoSupplier, Unavailable}
 use Rattle.fr_base.specs.declared.request.Command.{Command}
 use Rattle.fr_base.specs.declared.request.Command.TheVariants.{Rows}
 use Rattle.fr_base.specs.declared.request.Change.{Change}
 use Rattle.fr_base.specs.declared.request.Change.TheVariants.{Grant, Revoke, Frame}
-use Rattle.fr_records.specs.Held.{page_of, held_in}
-use Rattle.fr_world.specs.Decisions.{IsChecked, decision}
-use Rattle.fr_world.specs.Edits.{Leads}
+use Rattle.fr_records.specs.Held.{Standing, page_of, held_in}
+use Rattle.fr_world.specs.Decisions.{IsChecked}
+use Rattle.fr_world.specs.Edits.{Takes, edited}
 use Rattle.fr_world.specs.Pages.{PageData, own_rows_of}
 use Rattle.fr_world.specs.declared.edit.Edit.{Edit}
+use Rattle.fr_world.specs.declared.edit.Edit.TheVariants.{KeepImport}
 
 -- the supplier's page of the variant, where the variant is open and the supplier is there
 unfoldable pub open_page : Params → Book → Name → Name → Result PageData Refusal
@@ -33,16 +36,25 @@ is_taken b v (Grant slot channel node) = held_in b v (slot, channel)
 is_taken b v (Revoke slot channel) = false
 is_taken b v (Frame f change) = false
 
--- the edits that a change makes of the page's rows, unless it is a grant of what is held
-unfoldable pub allowed : Book → PageData → Change → Result (List Edit) Refusal
-allowed b page change = do
-  edits ← decision page change
-  refuse Taken when is_taken b page.variant change
-  Ok edits
+-- The supplier's page of the variant, where the variant is open and the supplier is there, is the one that is lent; else
+-- it is refused as the definition has it, or the answer is Unavailable. The records stand for the same book as before.
+abbrev pub Opens : Standing → Standing → Option PageData → Result ⊤ Refusal → Name → Name → Type 0
+Opens old new lent r s v = (c : Cluster) (b : Book) → old c b → IsSound c b → new c b × MatchResult r
+    (λ _. IfSome lent (λ page. open_page c.params b s v ≡ Ok page))
+    (λ e. (e ≡ Unavailable) ⊎ (open_page c.params b s v ≡ Err e))
 
--- The page takes the edits, one after another.
+-- The page takes the edit, or the edit keeps an import.
+abbrev pub MayTake : Name → OwnRows → Edit → Type 0
+MayTake v rows (KeepImport s label w body count) = ⊤
+MayTake v rows edit = Takes v rows edit
+
+-- The page takes the edits, one after another, but for those that keep an import.
+abbrev pub TakesEach : Name → OwnRows → List Edit → Type 0
+TakesEach v rows [] = ⊤
+TakesEach v rows (edit ∷ edits) = MayTake v rows edit × TakesEach v (edited rows edit) edits
+
 abbrev pub TakesAll : PageData → List Edit → Type 0
-TakesAll page edits = (last : OwnRows) × Leads page.variant (own_rows_of page) edits last
+TakesAll page edits = TakesEach page.variant (own_rows_of page) edits
 
 -- A change in the command has a placement that fits the cluster, or a signal that has a length.
 abbrev pub IsCheckedCommand : Params → Command → Type 0

@@ -1,6 +1,6 @@
 -- Import: an import is carried out as the definition has it, its rows as they are decided on the supplier's page; or
 -- nothing is done. What a crash leaves of it.
-use Rattle.std.specs.Prelude.{◌≡◌, ◌⊎◌, List, ◌∷◌, length, Result, Ok, None, IfOk, IsTrue, MatchResult, ⊤}
+use Rattle.std.specs.Prelude.{◌≡◌, ◌⊎◌, ℕ, List, [], ◌∷◌, ◌++◌, length, Result, Ok, None, IfOk, IsTrue, MatchResult, ⊤}
 use Rattle.fr_base.specs.Book.{Book}
 use Rattle.fr_base.specs.Cluster.{Cluster}
 use Rattle.fr_base.specs.ImportRows.{rows_of_body}
@@ -17,6 +17,8 @@ use Rattle.fr_base.specs.declared.request.Import.{Import}
 use Rattle.fr_world.specs.BookEdits.{all_applied}
 use Rattle.fr_world.specs.Pages.{PageData}
 use Rattle.fr_world.specs.RowDecisions.{rows_decision}
+use Rattle.fr_world.specs.declared.edit.Edit.{Edit}
+use Rattle.fr_world.specs.declared.edit.Edit.TheVariants.{KeepImport}
 use Rattle.fr_answers.specs.Carried.{IsRefused}
 use Rattle.fr_answers.specs.Decided.{open_page}
 use Rattle.fr_records.specs.Held.{Leaving, Standing}
@@ -27,6 +29,10 @@ abbrev pub GivesImport : Standing → Standing → Result Answer Refusal → Imp
 GivesImport old new r i = (c : Cluster) (b : Book) → old c b → IsSound c b → IsTrue (contains b.suppliers i.supplier) → MatchResult r
     (λ answer. (after : Book) × (import c.params b i (get b.imports (i.supplier, i.label)) ≡ Ok (record { book = after; answer = answer })) × new c after)
     (λ e. IsRefused new c b e (import c.params b i (get b.imports (i.supplier, i.label))))
+
+-- edits, and one more that keeps the import with this count of rows
+abbrev pub kept_edits : List Edit → Import → ℕ → List Edit
+kept_edits edits i rows = edits ++ KeepImport i.supplier i.label i.variant i.body rows ∷ []
 
 -- what comes of the import's rows, as they are decided on this page
 abbrev pub rows_outcome : Params → Book → Import → PageData → Outcome

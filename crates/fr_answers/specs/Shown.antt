@@ -1,7 +1,7 @@
 -- Shown: what is read to answer a query, of one supplier's page or of all, and that the report shows what the
 -- definition has.
 use Rattle.std.specs.List.{flat_map}
-use Rattle.std.specs.Prelude.{◌≡◌, ◌<◌, ◌⊎◌, List, [], length, Option, Some, None, Result, Ok, Err, MatchResult}
+use Rattle.std.specs.Prelude.{◌≡◌, ◌<◌, ◌⊎◌, List, [], length, Option, Some, None, Result, Ok, Err, MatchResult, ⊤}
 use Rattle.fr_base.specs.Book.{Book, Frame, Variant, own}
 use Rattle.fr_base.specs.Cluster.{Cluster}
 use Rattle.fr_base.specs.Queries.{named, shown, signal_rows}
@@ -19,11 +19,11 @@ use Rattle.fr_base.specs.declared.report.Report.{Report}
 use Rattle.fr_records.specs.Held.{Standing}
 use Rattle.fr_world.specs.Pages.{PageData, own_rows_of, page_in}
 
--- The supplier's page of the variant was found; or the variant is not there, or the answer is Unavailable. The records stand for the
--- same book as before.
-abbrev pub FindsPage : Standing → Standing → Result PageData Refusal → Name → Name → Type 0
-FindsPage old new r s v = (c : Cluster) (b : Book) → old c b → new c b × MatchResult r
-    (λ page. (x : Variant) × (get b.variants v ≡ Some x) × (page ≡ page_in c.params b s v x))
+-- The supplier's page of the variant is the one that is lent; or the variant is not there, or the answer is Unavailable. The records
+-- stand for the same book as before.
+abbrev pub FindsPage : Standing → Standing → Option PageData → Result ⊤ Refusal → Name → Name → Type 0
+FindsPage old new lent r s v = (c : Cluster) (b : Book) → old c b → new c b × MatchResult r
+    (λ _. (x : Variant) × (get b.variants v ≡ Some x) × (lent ≡ Some (page_in c.params b s v x)))
     (λ e. (e ≡ Unavailable) ⊎ ((e ≡ NoVariant) × (get b.variants v ≡ None)))
 
 -- The report shows the page's supplier what it shows it of any variant of which the page is its rows; or the answer is Unavailable.

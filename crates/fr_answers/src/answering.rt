@@ -4,6 +4,7 @@ ghost use Rattle.fr_answers.specs.Answering.{Acts, AfterAct, AfterChange, Answer
 
 use crate::commands::carry_out;
 use crate::imports::import;
+use crate::lender::Lender;
 use crate::queries::reply;
 use crate::suppliers::has_supplier;
 use fr_base::{Actor, Answer, Ask, Checked, Config, Refusal, check};
@@ -12,7 +13,7 @@ use std::alloc::Global;
 
 /// Answers a request: `UnknownKey` where who asks is not there; then what the request's own text refuses;
 /// then it is carried out, or `Unavailable`.
-pub fn answer<R: Records>(alloc: Global, records: &mut R, ask: &Ask) -> Answer
+pub fn answer<R: Lender>(alloc: Global, records: &mut R, ask: &Ask) -> Answer
     ensures falls { R.clean records.new → R.clean records.old }
     ensures open { R.clean records.new → AfterChange (R.stands records.old) ask.now result (R.serves records.new) }
     ensures leaves { R.clean records.new → LeavesStep (R.stands records.old) (R.leaves records.old) (R.leaves records.new) ask.now }
@@ -59,7 +60,7 @@ pub(crate) fn is_known(config: &Config, actor: &Actor) -> bool
 }
 
 // Carries out a request that was checked under the cluster's parameters.
-fn act<R: Records>(
+fn act<R: Lender>(
     alloc: Global,
     records: &mut R,
     actor: &Actor,

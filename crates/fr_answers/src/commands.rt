@@ -13,13 +13,13 @@ use crate::commands::common::change_common;
 use crate::commands::nodes::add_node;
 use crate::commands::rows::change_rows;
 use crate::commands::suppliers::add_supplier;
+use crate::lender::Lender;
 use fr_base::{Command, Refusal};
-use fr_records::Records;
 use std::alloc::Global;
 
 /// Carries out a command whose values were checked under the cluster's parameters. It is refused
 /// as the register refuses it, or with `Unavailable`, and then nothing was done.
-pub(crate) fn carry_out<R: Records>(
+pub(crate) fn carry_out<R: Lender>(
     alloc: Global,
     records: &mut R,
     command: &Command,

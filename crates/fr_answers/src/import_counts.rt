@@ -1,14 +1,15 @@
 //! How many imports suppliers keep, known so that they need not be counted for each import.
-ghost use Rattle.std.specs.Prelude.{◌≡◌, [], not};
+ghost use Rattle.std.specs.Prelude.{◌≡◌, ℕ, List, [], not};
 ghost use Rattle.fr_base.specs.Book.{Book, own};
 ghost use Rattle.fr_base.specs.Tables.{len};
+ghost use Rattle.fr_base.specs.declared.name.Name.{Name as NameText};
 ghost use Rattle.fr_base.specs.declared.params.Params.{Params};
 ghost use Rattle.fr_answers.specs.ImportCounts.{AreCounted, count_of, counts_without, is_count_of};
-ghost use Rattle.fr_world.specs.BookEdits.{all_applied, applied};
-ghost use Rattle.fr_world.specs.Fits.{AllFit, Fits};
+ghost use Rattle.fr_world.specs.BookEdits.{applied};
+ghost use Rattle.fr_world.specs.Fits.{Fits};
+ghost use Rattle.fr_world.specs.declared.edit.Edit.TheVariants.{KeepImport};
 
 use fr_base::Name;
-use fr_world::Edit;
 use std::alloc::Global;
 use std::marker::Model;
 
@@ -59,26 +60,15 @@ impl ImportCounts {
         let _ = self.counts.push(ImportCount { supplier, imports });
     }
 
-    /// Goes on to the book after edits, each of which fits.
-    pub(crate) fn follow(&mut self, edits: &[Edit])
-        ensures { (p : Params) (b : Book) → AllFit p b edits.now → AreCounted b self.old → AreCounted (all_applied b edits.now) self.new }
+    /// Counts one import of the supplier more.
+    pub(crate) fn add_one(&mut self, supplier: Name)
+        ensures { (p : Params) (b : Book) (label variant : NameText) (body : List ℕ) (rows : ℕ) → Fits p b (KeepImport supplier label variant body rows) → AreCounted b self.old → AreCounted (applied b (KeepImport supplier label variant body rows)) self.new }
     {
-        for edit in edits {
-            self.follow_one(edit);
-        }
-    }
-
-    // Counts one more where the edit keeps an import.
-    fn follow_one(&mut self, edit: &Edit)
-        ensures { (p : Params) (b : Book) → Fits p b edit.now → AreCounted b self.old → AreCounted (applied b edit.now) self.new }
-    {
-        let Edit::KeepImport { supplier, .. } = edit else {
+        let Some(count) = self.take(supplier) else {
             return;
         };
-        if let Some(count) = self.take(*supplier) {
-            if let Some(more) = count.checked_add(1) {
-                self.note(*supplier, more);
-            }
+        if let Some(more) = count.checked_add(1) {
+            self.note(supplier, more);
         }
     }
 

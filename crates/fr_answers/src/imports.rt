@@ -1,25 +1,24 @@
 //! Carries an import out, or answers it again.
-ghost use Rattle.std.specs.Prelude.{◌≡◌, ◌++◌, [], ◌∷◌, OnOk, false};
+ghost use Rattle.std.specs.Prelude.{◌≡◌, IfSome, IsSome, OnOk, false};
 ghost use Rattle.fr_base.specs.Tables.{get};
-ghost use Rattle.fr_answers.specs.Carried.{Makes, Replies};
+ghost use Rattle.fr_answers.specs.Carried.{Replies};
 ghost use Rattle.fr_answers.specs.Decided.{TakesAll};
-ghost use Rattle.fr_answers.specs.Imports.{AfterNew, GivesImport, GivesRows, LeavesImport, LeavesRows, OnImported};
+ghost use Rattle.fr_answers.specs.Imports.{AfterNew, GivesImport, GivesRows, LeavesImport, LeavesRows, OnImported, kept_edits};
 ghost use Rattle.fr_world.specs.ImportLabels.{label_decision};
-ghost use Rattle.fr_world.specs.declared.edit.Edit.TheVariants.{KeepImport};
-ghost use Rattle.fr_records.specs.Held.{LeavesEdited, LeavesNoMore};
+ghost use Rattle.fr_records.specs.Held.{Applies, LeavesEdited, LeavesNoMore};
 
-use crate::amending::amended;
+use crate::lender::Lender;
 use crate::open_page::open_page;
 use fr_base::{Answer, Body, Import, Refusal};
 use fr_records::Records;
 use fr_text::read_import;
-use fr_world::{Edit, Page, RowFault, admit_import, decide_label, decide_rows, rows_are_checked};
+use fr_world::{Edit, RowFault, admit_import, decide_label, decide_rows, rows_are_checked};
 use std::alloc::Global;
 
 /// Carries out an import with checked names, of a supplier that is there. One that is kept under its
 /// label is answered as before. Of a new one the variant, the room for it and its rows are decided in
 /// turn, and it is kept with what its rows change.
-pub(crate) fn import<R: Records>(
+pub(crate) fn import<R: Lender>(
     alloc: Global,
     records: &mut R,
     import: &Import<'_>,
@@ -32,10 +31,10 @@ pub(crate) fn import<R: Records>(
     if let Some(rows) = rows_kept(alloc, records, import)? {
         return Ok(Answer::Imported { rows });
     }
-    let page = open_page(alloc, records, import.supplier, import.variant)?;
     let count = records.imports(alloc, import.supplier)?;
+    open_page(alloc, records, import.supplier, import.variant)?;
     admit_import(import, count)?;
-    import_rows(alloc, records, import, page)
+    import_rows(alloc, records, import)
 }
 
 // How many rows the import has, where it is kept under its label.
@@ -53,58 +52,49 @@ fn rows_kept<R: Records>(
     decide_label(kept.as_ref(), import)
 }
 
-// Carries out the rows of the import's file, and keeps it; or tells the first row that is refused. They are
-// decided on a copy of the page, which is given back.
-fn import_rows<R: Records>(
+// Carries out the rows of the import's file, as they are decided on a copy of the page that is lent, and keeps it; or
+// tells the first row that is refused.
+fn import_rows<R: Lender>(
     alloc: Global,
     records: &mut R,
     import: &Import<'_>,
-    page: Page,
 ) -> Result<Answer, Refusal>
-    requires open { page.released ≡ false }
-    requires params { page.params ≡ R.params records.old }
+    requires lent { IsSome (R.lent records.old) }
+    requires open { IfSome (R.lent records.old) (λ page. page.released ≡ false) }
     ensures falls { R.clean records.new → R.clean records.old }
     ensures open { R.clean records.new → OnImported result (R.serves records.new) }
-    ensures leaves { R.clean records.new → LeavesRows (R.stands records.old) (R.leaves records.old) (R.leaves records.new) import.now page }
-    ensures gives { R.clean records.new → GivesRows (R.stands records.old) (R.stands records.new) result import.now page }
+    ensures leaves { R.clean records.new → IfSome (R.lent records.old) (LeavesRows (R.stands records.old) (R.leaves records.old) (R.leaves records.new) import.now) }
+    ensures gives { R.clean records.new → IfSome (R.lent records.old) (GivesRows (R.stands records.old) (R.stands records.new) result import.now) }
 {
+    let page = records.lent();
     let rows = read_import(alloc, &page.params(), import.body.as_slice())?;
     rows_are_checked();
     match decide_rows(alloc, page.clone()?, rows.as_slice()) {
         Ok(edits) => {
             // A file of which no row is refused has at most 512.
             let count = rows.len() as u32;
-            keep(alloc, records, import, page, edits, count)?;
+            keep(alloc, records, import, edits, count)?;
             Ok(Answer::Imported { rows: count })
         }
-        Err(RowFault::Row { line, refusal }) => {
-            records.keep(page);
-            Ok(Answer::RefusedRow { line, refusal })
-        }
+        Err(RowFault::Row { line, refusal }) => Ok(Answer::RefusedRow { line, refusal }),
         Err(RowFault::Unavailable) => Err(Refusal::Unavailable),
     }
 }
 
-// Carries out the edits, which the page takes, and one more that keeps the import with this count of rows;
-// and gives the page back as it is then.
-fn keep<R: Records>(
+// Carries out the edits, which the page that is lent takes, and one more that keeps the import with this count of rows.
+fn keep<R: Lender>(
     alloc: Global,
     records: &mut R,
     import: &Import<'_>,
-    page: Page,
     mut edits: Vec<Edit>,
     rows: u32,
 ) -> Result<(), Refusal>
-    requires params { page.params ≡ R.params records.old }
-    requires takes { TakesAll page edits.items }
+    requires takes { IfSome (R.lent records.old) (λ page. TakesAll page (kept_edits edits.items import.now rows)) }
     ensures falls { R.clean records.new → R.clean records.old }
     ensures open { R.clean records.new → OnOk result (R.serves records.new) }
-    ensures leaves { R.clean records.new → LeavesEdited (R.stands records.old) (R.leaves records.old) (R.leaves records.new)
-        (edits.items ++ KeepImport import.now.supplier import.now.label import.now.variant import.now.body rows ∷ []) }
-    ensures makes { R.clean records.new → Makes (R.stands records.old) (R.stands records.new) result page
-        (edits.items ++ KeepImport import.now.supplier import.now.label import.now.variant import.now.body rows ∷ []) }
+    ensures leaves { R.clean records.new → LeavesEdited (R.stands records.old) (R.leaves records.old) (R.leaves records.new) (kept_edits edits.items import.now rows) }
+    ensures applies { R.clean records.new → Applies (R.stands records.old) (R.stands records.new) result (kept_edits edits.items import.now rows) }
 {
-    let amended = amended(page, alloc, &edits);
     edits.push(Edit::KeepImport {
         supplier: import.supplier,
         label: import.label,
@@ -112,9 +102,5 @@ fn keep<R: Records>(
         body: Body::copy(alloc, import.body.as_slice())?,
         rows,
     })?;
-    records.apply(alloc, &edits)?;
-    if let Ok(page) = amended {
-        records.keep(page);
-    }
-    Ok(())
+    records.change(alloc, &edits)
 }

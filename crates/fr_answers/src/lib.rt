@@ -2,12 +2,13 @@
 //! answered as if it were alone.
 #![tactic(auto)]
 
-mod amending;
 mod answering;
 mod commands;
 mod import_counts;
 mod imports;
+mod kept;
 mod laws;
+mod lender;
 mod listing;
 mod open_page;
 mod pages;
@@ -19,6 +20,7 @@ mod warm;
 
 pub use answering::{answer, decline};
 pub use laws::answers_are_kept;
+pub use lender::Lender;
 pub use listing::list_variants;
 pub use running::{Stopped, run};
 pub use shelf::MAX_BYTES;

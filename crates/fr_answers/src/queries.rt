@@ -1,5 +1,5 @@
 //! Answers queries: from one supplier's page, or gathered from all.
-ghost use Rattle.std.specs.Prelude.{◌≡◌, IfOk};
+ghost use Rattle.std.specs.Prelude.{IsSome, OnOk};
 ghost use Rattle.fr_base.specs.Queries.{reply};
 ghost use Rattle.fr_base.specs.declared.actor.Actor.TheVariants.{Integrator, Supplier};
 ghost use Rattle.fr_answers.specs.Carried.{Replies};
@@ -13,6 +13,7 @@ mod layout;
 mod schedule;
 mod suppliers;
 
+use crate::lender::Lender;
 use crate::queries::frames::{gather_frames, push_frames};
 use crate::queries::gaps::{gather_gaps, push_gaps};
 use crate::queries::grants::{gather_grants, page_grants};
@@ -20,14 +21,13 @@ use crate::queries::layout::{gather_signals, push_signals};
 use crate::queries::schedule::{gather_schedule, page_schedule};
 use crate::queries::suppliers::supplier_names;
 use fr_base::{Actor, Answer, Name, Query, Refusal, Report, Rows};
-use fr_records::Records;
 use fr_world::Page;
 use std::alloc::Global;
 
 /// The answer to a query with checked values: to a supplier of its own rows, to the integrator of those
 /// of all. `NoVariant`, for a layout then `NoFrame`, and `Unavailable` where memory is refused or the
 /// records are.
-pub(crate) fn reply<R: Records>(
+pub(crate) fn reply<R: Lender>(
     alloc: Global,
     records: &mut R,
     actor: &Actor,
@@ -44,7 +44,7 @@ pub(crate) fn reply<R: Records>(
 }
 
 // The answer to the integrator's query.
-fn reply_to_integrator<R: Records>(
+fn reply_to_integrator<R: Lender>(
     alloc: Global,
     records: &mut R,
     query: &Query,
@@ -61,7 +61,7 @@ fn reply_to_integrator<R: Records>(
 }
 
 // What the report shows the integrator of the variant, which is there.
-fn show_all<R: Records>(
+fn show_all<R: Lender>(
     alloc: Global,
     records: &mut R,
     variant: Name,
@@ -100,7 +100,7 @@ fn show_all<R: Records>(
 }
 
 // The answer to a supplier's query.
-fn reply_to_supplier<R: Records>(
+fn reply_to_supplier<R: Lender>(
     alloc: Global,
     records: &mut R,
     supplier: Name,
@@ -110,27 +110,26 @@ fn reply_to_supplier<R: Records>(
     ensures leaves { R.clean records.new → LeavesNoMore (R.leaves records.old) (R.leaves records.new) }
     ensures replies { R.clean records.new → Replies (R.stands records.old) (R.stands records.new) result (λ c b. reply c.params b (Supplier supplier) query.now) }
 {
-    let page = find_page(alloc, records, supplier, query.variant)?;
-    let answer = show(alloc, &page, &query.report);
-    records.keep(page);
-    answer
+    find_page(alloc, records, supplier, query.variant)?;
+    show(alloc, records.lent(), &query.report)
 }
 
-/// The supplier's page of the variant; `NoVariant` where it is not there.
-pub(crate) fn find_page<R: Records>(
+/// Lends the supplier's page of the variant; `NoVariant` where it is not there.
+pub(crate) fn find_page<R: Lender>(
     alloc: Global,
     records: &mut R,
     supplier: Name,
     variant: Name,
-) -> Result<Page, Refusal>
+) -> Result<(), Refusal>
     ensures falls { R.clean records.new → R.clean records.old }
     ensures leaves { R.clean records.new → LeavesNoMore (R.leaves records.old) (R.leaves records.new) }
-    ensures params { IfOk result (λ page. page.params ≡ R.params records.new) }
-    ensures page { R.clean records.new → FindsPage (R.stands records.old) (R.stands records.new) result supplier variant }
+    ensures lent { OnOk result (IsSome (R.lent records.new)) }
+    ensures page { R.clean records.new → FindsPage (R.stands records.old) (R.stands records.new) (R.lent records.new) result supplier variant }
 {
-    match records.page(alloc, supplier, variant)? {
-        Some(page) => Ok(page),
-        None => Err(Refusal::NoVariant),
+    if records.lend(alloc, supplier, variant)? {
+        Ok(())
+    } else {
+        Err(Refusal::NoVariant)
     }
 }
 

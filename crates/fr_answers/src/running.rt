@@ -7,8 +7,8 @@ ghost use Rattle.fr_answers.specs.Crashed.{WereAsked, WereKept};
 ghost use Rattle.fr_answers.specs.Headline.{WereAnswered};
 
 use crate::answering::answer;
+use crate::lender::Lender;
 use fr_base::{Answer, Ask};
-use fr_records::Records;
 use std::alloc::Global;
 
 /// There was no memory for one more answer. The requests that were answered were carried out, and of
@@ -21,7 +21,7 @@ pub struct Stopped {
 
 /// Answers requests one after another. The room for an answer is got before its request is asked; where
 /// there is none, `Stopped` has the answers to those before.
-pub fn run<R: Records>(alloc: Global, records: &mut R, asks: &[Ask]) -> Result<Vec<Answer>, Stopped>
+pub fn run<R: Lender>(alloc: Global, records: &mut R, asks: &[Ask]) -> Result<Vec<Answer>, Stopped>
     ensures falls { R.clean records.new → R.clean records.old }
     ensures each { IfOk result (λ answers. length answers.items ≡ length asks.now) }
     ensures front { IfErr result (λ stopped. length stopped.answers.items < length asks.now) }

@@ -1,10 +1,11 @@
 //! Pages by whose they are, and how many bytes they take.
 ghost use Rattle.std.specs.Prelude.{◌≡◌, ◌+◌, ◌≤◌, [], filter, not, sum_by, OnErr, OnOk};
-ghost use Rattle.fr_answers.specs.KeptPages.{bytes_of, is_page_of, others_than, page_at, touches, untouched, with_page};
+ghost use Rattle.fr_answers.specs.KeptPages.{bytes_of, others_than, page_at, with_page};
 ghost use Rattle.std.specs.Map.{values_of};
+ghost use Rattle.fr_base.specs.Names.{same_text};
 
 use fr_base::{Name, NoMemory};
-use fr_world::{Edit, Page};
+use fr_world::Page;
 use std::alloc::Global;
 use std::collections::BTreeMap;
 use std::marker::Model;
@@ -44,6 +45,7 @@ pub(crate) struct Shelf {
 impl Model for Shelf {
     ghost use Rattle.std.specs.Prelude.{List};
     ghost use Rattle.std.specs.Map.{values_of};
+    ghost use Rattle.fr_base.specs.Names.{same_text};
     ghost use Rattle.fr_answers.specs.Shelves.{IsShelf};
     ghost use Rattle.fr_world.specs.Pages.{PageData};
 
@@ -113,38 +115,31 @@ impl Shelf {
         self.bytes = 0;
     }
 
-    /// Lets go of the pages that the edit may change.
-    pub(crate) fn let_go(&mut self, edit: &Edit)
-        ensures { self.new ≡ untouched edit.now self.old }
+    /// Lets go of the variant's pages.
+    pub(crate) fn let_go_of_variant(&mut self, variant: Name)
+        ensures { self.new ≡ filter (λ page. not (same_text page.variant variant)) self.old }
     {
-        match edit {
-            Edit::Rows {
-                supplier,
-                variant,
-                ..
-            } => {
-                let _ = self.take(*supplier, *variant);
-            }
-            Edit::NewSupplier { .. } => {}
-            Edit::KeepImport { .. } => {}
-            Edit::NewVariant { .. } | Edit::SetReleased { .. } | Edit::NewNode { .. } => {
-                let_go_touched(&mut self.pages, edit);
-                self.bytes = total(&self.pages);
-            }
-        }
+        self.pages.retain(
+            |_, page|
+                ensures value { result ≡ not (same_text page.old.variant variant) }
+                ensures same { page.new ≡ page.old }
+            { page.variant() != variant },
+        );
+        self.bytes = total(&self.pages);
     }
-}
 
-// Lets go of the pages that the edit may change, looking at each.
-fn let_go_touched(pages: &mut BTreeMap<PageKey, Page>, edit: &Edit)
-    ensures { pages.new.entries ≡ filter (λ e. not (touches edit.now e.1)) pages.old.entries }
-{
-    pages.retain(
-        |_, page|
-            ensures value { result ≡ not (touches edit.entry.now page.old) }
-            ensures same { page.new ≡ page.old }
-        { !touches(edit, page) },
-    );
+    /// Lets go of the supplier's pages.
+    pub(crate) fn let_go_of_supplier(&mut self, supplier: Name)
+        ensures { self.new ≡ filter (λ page. not (same_text page.supplier supplier)) self.old }
+    {
+        self.pages.retain(
+            |_, page|
+                ensures value { result ≡ not (same_text page.old.supplier supplier) }
+                ensures same { page.new ≡ page.old }
+            { page.supplier() != supplier },
+        );
+        self.bytes = total(&self.pages);
+    }
 }
 
 // How many bytes the pages take at most.
@@ -167,22 +162,4 @@ pub(crate) fn bytes_of(page: &Page) -> usize
     let frames = page.frames().len().min(MOST_FRAMES);
     let grants = page.grants().len().min(MOST_GRANTS);
     PAGE_BYTES + frames * FRAME_BYTES + grants * GRANT_BYTES
-}
-
-// Whether the edit may change what the page has.
-fn touches(edit: &Edit, page: &Page) -> bool
-    ensures { result ≡ touches edit.now page.now }
-{
-    match edit {
-        Edit::NewVariant { variant, .. } | Edit::SetReleased { variant } => {
-            page.variant() == *variant
-        }
-        Edit::NewNode { supplier, .. } => page.supplier() == *supplier,
-        Edit::Rows {
-            supplier,
-            variant,
-            ..
-        } => page.supplier() == *supplier && page.variant() == *variant,
-        Edit::NewSupplier { .. } | Edit::KeepImport { .. } => false,
-    }
 }

@@ -1,10 +1,10 @@
-//! Records of which some pages are kept in memory, and how many imports suppliers keep: read from there, given back,
-//! let go.
-ghost use Rattle.std.specs.Prelude.{◌≡◌, [], IfOk};
+//! Records of which some pages are kept in memory, and how many imports suppliers keep: lent from there, changed with the
+//! records, let go.
+ghost use Rattle.std.specs.Prelude.{◌≡◌, [], None, IfOk};
 ghost use Rattle.fr_answers.specs.KeptPages.{StandsWarm};
 
-use crate::import_counts::ImportCounts;
-use crate::pages::Pages;
+use crate::kept::Kept;
+use crate::lender::Lender;
 use fr_base::{Channel, Config, Name, Refusal, Slot};
 use fr_records::Records;
 use fr_world::{Edit, KeptImport, Page, VariantRow};
@@ -15,8 +15,7 @@ use std::marker::Model;
 /// stale: they stand for a book only where each kept page is the book's, and each count.
 pub struct Warm<R: Records> {
     records: R,
-    pages: Pages,
-    counts: ImportCounts,
+    kept: Kept,
 }
 
 impl<R: Records> Model for Warm<R> {
@@ -24,9 +23,9 @@ impl<R: Records> Model for Warm<R> {
 
     ghost Value = { WarmData R };
 
-    ghost view = { λ w. record { records = w.records; pages = w.pages; counts = w.counts } };
+    ghost view = { λ w. record { records = w.records; pages = w.kept.pages; counts = w.kept.counts } };
 
-    ghost invariant = { λ w. AreOf (R.params w.records) w.pages };
+    ghost invariant = { λ w. AreOf (R.params w.records) w.kept.pages };
 }
 
 // It is written out, so that a caller does not prove again how the parts are dropped.
@@ -34,8 +33,7 @@ impl<R: Records + Drop> Drop for Warm<R> {
     fn drop(self) {
         let Warm {
             records: _,
-            pages: _,
-            counts: _,
+            kept: _,
         } = self;
     }
 }
@@ -43,12 +41,11 @@ impl<R: Records + Drop> Drop for Warm<R> {
 impl<R: Records> Warm<R> {
     /// These records, without a page or a count.
     pub fn new(alloc: Global, records: R) -> Warm<R>
-        ensures { result ≡ record { records = records; pages = record { recent = []; earlier = [] }; counts = [] } }
+        ensures { result ≡ record { records = records; pages = record { lent = None; recent = []; earlier = [] }; counts = [] } }
     {
         Warm {
             records,
-            pages: Pages::new(alloc),
-            counts: ImportCounts::new(alloc),
+            kept: Kept::new(alloc),
         }
     }
 
@@ -56,11 +53,7 @@ impl<R: Records> Warm<R> {
     pub fn into_records(self) -> R
         ensures { result ≡ self.records }
     {
-        let Warm {
-            records,
-            pages: _,
-            counts: _,
-        } = self;
+        let Warm { records, kept: _ } = self;
         records
     }
 }
@@ -86,22 +79,13 @@ impl<R: Records> Records for Warm<R> {
         self.records.has_variant(variant)
     }
 
-    // A page that is kept is taken out, until it is given back.
     fn page(
         &mut self,
         alloc: Global,
         supplier: Name,
         variant: Name,
     ) -> Result<Option<Page>, Refusal> {
-        match self.pages.take(supplier, variant) {
-            Some(page) => Ok(Some(page)),
-            None => self.records.page(alloc, supplier, variant),
-        }
-    }
-
-    // Where memory is refused it is let go.
-    fn keep(&mut self, page: Page) {
-        let _ = self.pages.keep(page);
+        self.records.page(alloc, supplier, variant)
     }
 
     fn is_held(&mut self, variant: Name, slot: Slot, channel: Channel) -> Result<bool, Refusal> {
@@ -127,19 +111,44 @@ impl<R: Records> Records for Warm<R> {
 
     // What is known is not counted again.
     fn imports(&mut self, alloc: Global, supplier: Name) -> Result<usize, Refusal> {
-        if let Some(count) = self.counts.of(supplier) {
+        if let Some(count) = self.kept.counts.of(supplier) {
             return Ok(count);
         }
         let count = self.records.imports(alloc, supplier)?;
-        self.counts.note(supplier, count);
+        self.kept.counts.note(supplier, count);
         Ok(count)
     }
 
-    // The pages that the edits may change are let go. The counts follow the edits.
+    // No page is lent then, and those that the edits may change are let go.
     fn apply(&mut self, alloc: Global, edits: &[Edit]) -> Result<(), Refusal> {
         self.records.apply(alloc, edits)?;
-        self.pages.let_go(edits);
-        self.counts.follow(edits);
+        let _ = self.kept.pages.put_away();
+        self.kept.follow(alloc, edits);
+        Ok(())
+    }
+}
+
+impl<R: Records> Lender for Warm<R> {
+    ghost lent = { λ warm. warm.pages.lent };
+
+    // A page that is kept is not read again.
+    fn lend(&mut self, alloc: Global, supplier: Name, variant: Name) -> Result<bool, Refusal> {
+        if self.kept.pages.lend(supplier, variant) {
+            return Ok(true);
+        }
+        let page = self.records.page(alloc, supplier, variant)?;
+        let there = page.is_some();
+        self.kept.pages.lend_read(page);
+        Ok(there)
+    }
+
+    fn lent(&self) -> &Page {
+        self.kept.pages.lent()
+    }
+
+    fn change(&mut self, alloc: Global, edits: &[Edit]) -> Result<(), Refusal> {
+        self.records.apply(alloc, edits)?;
+        self.kept.follow(alloc, edits);
         Ok(())
     }
 }

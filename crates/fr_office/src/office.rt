@@ -1,5 +1,5 @@
 //! The office of a register, which answers one request, or a list of them.
-ghost use Rattle.std.specs.Prelude.{◌≡◌, ◌<◌, [], ◌∷◌, length, take, IfOk, IfErr, MatchResult};
+ghost use Rattle.std.specs.Prelude.{◌≡◌, ◌<◌, [], ◌∷◌, None, length, take, IfOk, IfErr, MatchResult};
 ghost use Rattle.fr_base.specs.Actors.{actor_of};
 ghost use Rattle.fr_base.specs.Book.{Book};
 ghost use Rattle.fr_base.specs.Cluster.{Cluster};
@@ -20,8 +20,8 @@ use fr_world::VariantRow;
 use std::alloc::Global;
 use std::marker::Model;
 
-/// The office of a register, which answers requests from its records. It keeps pages of them in memory, of
-/// at most twice [`MAX_BYTES`](fr_answers::MAX_BYTES), and none that is stale.
+/// The office of a register, which answers requests from its records. It keeps pages of them in memory, the one that
+/// was used last and others of at most twice [`MAX_BYTES`](fr_answers::MAX_BYTES), and none that is stale.
 pub struct Office<R: Records> {
     warm: Warm<R>,
 }
@@ -58,7 +58,7 @@ impl<R: Records> Desk for Office<R> {
 impl<R: Records> Office<R> {
     /// The office of the register that has these records. No page is kept yet.
     pub fn new(alloc: Global, records: R) -> Office<R>
-        ensures value { result ≡ record { records = records; pages = record { recent = []; earlier = [] }; counts = [] } }
+        ensures value { result ≡ record { records = records; pages = record { lent = None; recent = []; earlier = [] }; counts = [] } }
         ensures stands { (c : Cluster) (b : Book) → R.stands records c b → StandsWarm R.stands result c b }
     {
         Office {

@@ -1,6 +1,6 @@
 -- Records: when a register's records stand for a cluster and a book. What is read of them says so of the book, edits
--- that fit lead to the book after them, and a page that is given back is the book's. For which books what a crash
--- leaves of them may stand.
+-- that fit lead to the book after them. When a page is the book's. For which books what a crash leaves of them may
+-- stand.
 use Rattle.std.specs.Prelude.{◌≡◌, ◌⊎◌, ℕ, Bool, false, Option, Some, None, List, ◌∷◌, Result, MatchResult, option_map}
 use Rattle.fr_base.specs.Tables.{get, contains}
 use Rattle.fr_base.specs.Book.{Book, Variant}
@@ -58,7 +58,3 @@ pub record IsFresh (p : Params) (b : Book) (page : PageData) : Type 0 where
   pub variant : Variant
   pub there : get b.variants page.variant ≡ Some variant
   pub same : page ≡ page_in p b page.supplier page.variant variant
-
--- Records take a page back that is theirs, and stand for the same book as before.
-abbrev pub Keeps : Standing → Standing → PageData → Type 0
-Keeps old new page = (c : Cluster) (b : Book) → old c b → IsFresh c.params b page → new c b

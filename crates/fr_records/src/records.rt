@@ -13,7 +13,7 @@ pub trait Records {
     ghost use Rattle.fr_base.specs.Cluster.{Cluster};
     ghost use Rattle.fr_base.specs.Tables.{contains, get, len};
     ghost use Rattle.fr_base.specs.declared.params.Params.{Params};
-    ghost use Rattle.fr_records.specs.Held.{Applies, Keeps, LeavesEdited, LeavesNoMore, Tells, held_in, page_of};
+    ghost use Rattle.fr_records.specs.Held.{Applies, LeavesEdited, LeavesNoMore, Tells, held_in, page_of};
     ghost use Rattle.fr_world.specs.BookEdits.{variants_in};
     ghost use Rattle.fr_world.specs.ImportLabels.{kept_of};
     ghost use Rattle.fr_world.specs.Pages.{nodes_in};
@@ -60,16 +60,6 @@ pub trait Records {
         ensures leaves { clean self.new → LeavesNoMore (leaves self.old) (leaves self.new) }
         ensures params { IfOk result (λ found. IfSome found (λ page. page.params ≡ params self.old)) }
         ensures page { clean self.new → Tells (stands self.old) (stands self.new) result (λ c b found. found ≡ page_of c.params b supplier variant) };
-
-    /// Takes back a page that was read and is still as they have it. They may keep it, and need not read
-    /// it again.
-    fn keep(&mut self, page: Page)
-        requires params { page.params ≡ params self.old }
-        ensures falls { clean self.new → clean self.old }
-        ensures same { params self.new ≡ params self.old }
-        ensures open { clean self.new → serves self.old → serves self.new }
-        ensures leaves { clean self.new → LeavesNoMore (leaves self.old) (leaves self.new) }
-        ensures keeps { clean self.new → Keeps (stands self.old) (stands self.new) page };
 
     /// Whether anybody holds the slot on the channel in the variant.
     fn is_held(&mut self, variant: Name, slot: Slot, channel: Channel) -> Result<bool, Refusal>

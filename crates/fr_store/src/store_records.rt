@@ -47,8 +47,6 @@ impl<S: Alter> Records for Store<S> {
         answer(self.page(alloc, &supplier, &variant))
     }
 
-    fn keep(&mut self, _page: Page) {}
-
     fn is_held(&mut self, variant: Name, slot: Slot, channel: Channel) -> Result<bool, Refusal> {
         see_open(self)?;
         let holder = answer(self.holder(&variant, slot, channel))?;

@@ -1,7 +1,7 @@
 //! Tests of `fr_answers`. The check would let pass a run that stops though there is memory, or that asks a request twice.
 use crate::asks::{DONE, Line, are_answers, push_lines};
 use crate::warm::{office, unread};
-use fr_answers::run;
+use fr_answers::{Warm, run};
 use std::test::Fail;
 
 /// What is asked of records that count how often a page is read.
@@ -13,7 +13,7 @@ const LINES: [Line; 3] = [
         r#"{"lines":[],"ok":"frames"}"#,
     ),
     (
-        "supplier01",
+        "supplier02",
         r#"{"do":"frames","variant":"v1"}"#,
         r#"{"lines":[],"ok":"frames"}"#,
     ),
@@ -23,12 +23,12 @@ const LINES: [Line; 3] = [
 fn each_request_is_asked_once_and_in_order(rt: HostRuntime) -> Result<(), Fail> {
     let mut asks = Vec::new(rt.alloc());
     push_lines(&mut asks, rt.alloc(), &office(rt.alloc())?, &LINES)?;
-    let mut records = unread(rt.alloc())?;
+    let mut records = Warm::new(rt.alloc(), unread(rt.alloc())?);
     match run(rt.alloc(), &mut records, &asks) {
         Ok(answers) => assert!(rt; are_answers(rt.alloc(), &answers, &LINES)?),
         Err(_) => return Err(Fail::from("no memory")),
     }
     // Each query reads one page.
-    assert_eq!(rt; records.reads, 2);
+    assert_eq!(rt; records.into_records().reads, 2);
     Ok(())
 }

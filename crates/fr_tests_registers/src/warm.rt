@@ -2,7 +2,7 @@
 //! is memory to keep the pages and the counts.
 ghost use Rattle.std.specs.Prelude.{◌≡◌, IfOk, IfSome};
 
-use crate::asks::{CLUSTER, ask};
+use crate::asks::{CLUSTER, DONE, Line, ask, carry_out};
 use fr_answers::MAX_BYTES;
 use fr_base::{Channel, Config, Name, Params, Refusal, Slot};
 use fr_office::Office;
@@ -14,12 +14,14 @@ use std::collections::{BTreeMap, BTreeSet};
 use std::test::Fail;
 
 /// Records in which `s1` has a node that holds a slot in each variant, and of other rows there is none. They count how often
-/// a page is read, and how often imports are counted. Of what they stand for nothing is said: they are never clean.
+/// a page is read, and how often imports are counted. Each supplier keeps as many imports as they are told. Of what they
+/// stand for nothing is said: they are never clean.
 #[derive(Drop)]
 pub(crate) struct Counted {
     config: Config,
     pub(crate) reads: u32,
     counts: u32,
+    kept: usize,
 }
 
 impl Records for Counted {
@@ -53,8 +55,6 @@ impl Records for Counted {
         first_page(alloc, self.config.params(), supplier, variant)
     }
 
-    fn keep(&mut self, _page: Page) {}
-
     fn is_held(&mut self, _variant: Name, _slot: Slot, _channel: Channel) -> Result<bool, Refusal> {
         Ok(false)
     }
@@ -84,7 +84,7 @@ impl Records for Counted {
 
     fn imports(&mut self, _alloc: Global, _supplier: Name) -> Result<usize, Refusal> {
         self.counts = self.counts.saturating_add(1);
-        Ok(0)
+        Ok(self.kept)
     }
 
     fn apply(&mut self, _alloc: Global, _edits: &[Edit]) -> Result<(), Refusal> {
@@ -188,6 +188,7 @@ pub(crate) fn unread(alloc: Global) -> Result<Counted, Fail> {
         config,
         reads: 0,
         counts: 0,
+        kept: 0,
     })
 }
 
@@ -225,6 +226,51 @@ fn a_page_is_read_once_until_it_is_let_go_and_imports_are_counted_once(
     Ok(())
 }
 
+/// An import of which a row is refused, and one for which there is no room; and a placement behind each.
+const REFUSED: [Line; 6] = [
+    (
+        "supplier01",
+        r#"{"do":"add_frame","variant":"v1","frame":"f1","node":"n1"}"#,
+        DONE,
+    ),
+    (
+        "supplier01",
+        r#"{"do":"import","variant":"v1","label":"a","body":"frame,node,slot,channels,base,repetition\nf1,n1,2,A,0,64\n"}"#,
+        r#"{"line":2,"no":29,"refused":"BadRow","row":{"no":21,"refused":"NotGranted"}}"#,
+    ),
+    (
+        "supplier01",
+        r#"{"do":"place","variant":"v1","frame":"f1","slot":1,"channels":"A","base":0,"repetition":64}"#,
+        DONE,
+    ),
+    (
+        "supplier01",
+        r#"{"do":"import","variant":"v1","label":"b","body":"frame,node,slot,channels,base,repetition\nf1,n1,1,A,1,64\n"}"#,
+        r#"{"ok":"imported","rows":1}"#,
+    ),
+    (
+        "supplier01",
+        r#"{"do":"import","variant":"v1","label":"c","body":"frame,node,slot,channels,base,repetition\nf1,n1,1,A,2,64\n"}"#,
+        r#"{"no":23,"refused":"Limit"}"#,
+    ),
+    (
+        "supplier01",
+        r#"{"do":"place","variant":"v1","frame":"f1","slot":1,"channels":"A","base":3,"repetition":64}"#,
+        DONE,
+    ),
+];
+
+/// Whatever comes of an import, the page on which it is decided is not read again.
+#[test]
+fn a_refused_import_loses_no_page(rt: HostRuntime) -> Result<(), Fail> {
+    let mut records = unread(rt.alloc())?;
+    records.kept = 999;
+    let mut office = Office::new(rt.alloc(), records);
+    carry_out(rt.alloc(), &mut office, &REFUSED)?;
+    assert_eq!(rt; office.into_records().reads, 1);
+    Ok(())
+}
+
 /// As many pages without rows as one shelf has room for.
 const FULL: usize = MAX_BYTES / 8_192;
 
@@ -246,12 +292,13 @@ fn use_pages(
     Ok(())
 }
 
-// The office once a shelf of pages was used, with it the first one again, and then a shelf less one page.
+// The office once a shelf of pages was used and one more, then the first one again, and then as many others. The one that
+// was used last lies on no shelf.
 fn filled(alloc: Global) -> Result<Office<Counted>, Fail> {
     let mut office = office(alloc)?;
     use_pages(alloc, &mut office, 1, FULL + 2)?;
     use_page(alloc, &mut office, 1)?;
-    use_pages(alloc, &mut office, FULL + 2, 2 * FULL + 1)?;
+    use_pages(alloc, &mut office, FULL + 2, 2 * FULL + 3)?;
     Ok(office)
 }
 
@@ -265,9 +312,12 @@ fn reads_of(alloc: Global, number: usize) -> Result<usize, Fail> {
 /// The page that was used again is kept, and the one that was used longest ago is not.
 #[test]
 fn as_many_pages_as_may_be_are_kept(rt: HostRuntime) -> Result<(), Fail> {
-    assert_eq!(rt; filled(rt.alloc())?.into_records().reads as usize, 2 * FULL);
-    assert_eq!(rt; reads_of(rt.alloc(), 1)?, 2 * FULL);
-    assert_eq!(rt; reads_of(rt.alloc(), 2)?, 2 * FULL + 1);
+    assert_eq!(rt;
+        filled(rt.alloc())?.into_records().reads as usize,
+        2 * FULL + 2
+    );
+    assert_eq!(rt; reads_of(rt.alloc(), 1)?, 2 * FULL + 2);
+    assert_eq!(rt; reads_of(rt.alloc(), 2)?, 2 * FULL + 3);
     Ok(())
 }
 
@@ -277,8 +327,8 @@ fn a_release_lets_go_of_its_variants_pages(rt: HostRuntime) -> Result<(), Fail> 
     let mut office = filled(rt.alloc())?;
     let release = r#"{"do":"release","variant":"v1"}"#;
     asked(rt.alloc(), &mut office, "integrator1", release)?;
-    use_page(rt.alloc(), &mut office, FULL + 1)?;
+    use_page(rt.alloc(), &mut office, FULL + 2)?;
     use_page(rt.alloc(), &mut office, 1)?;
-    assert_eq!(rt; office.into_records().reads as usize, 2 * FULL + 1);
+    assert_eq!(rt; office.into_records().reads as usize, 2 * FULL + 3);
     Ok(())
 }

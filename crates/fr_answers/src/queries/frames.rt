@@ -7,9 +7,9 @@ ghost use Rattle.fr_answers.specs.Shown.{Gathers};
 ghost use Rattle.fr_world.specs.Pages.{own_rows_of};
 ghost use Rattle.fr_records.specs.Held.{LeavesNoMore};
 
+use crate::lender::Lender;
 use crate::queries::find_page;
 use fr_base::{FrameRow, Name, NoMemory, Refusal, Rows};
-use fr_records::Records;
 use fr_world::{Page, frame_row};
 use std::alloc::Global;
 
@@ -30,7 +30,7 @@ pub(crate) fn push_frames(
 }
 
 /// The frames of these suppliers in the variant, one supplier's after another's.
-pub(crate) fn gather_frames<R: Records>(
+pub(crate) fn gather_frames<R: Lender>(
     alloc: Global,
     records: &mut R,
     suppliers: &[Name],
@@ -42,9 +42,8 @@ pub(crate) fn gather_frames<R: Records>(
 {
     let mut rows = Rows::new(alloc);
     for supplier in suppliers {
-        let page = find_page(alloc, records, *supplier, variant)?;
-        push_frames(alloc, &page, &mut rows)?;
-        records.keep(page);
+        find_page(alloc, records, *supplier, variant)?;
+        push_frames(alloc, records.lent(), &mut rows)?;
     }
     Ok(rows)
 }

@@ -7,9 +7,9 @@ ghost use Rattle.fr_answers.specs.Shown.{Gathers};
 ghost use Rattle.fr_world.specs.Pages.{own_rows_of};
 ghost use Rattle.fr_records.specs.Held.{LeavesNoMore};
 
+use crate::lender::Lender;
 use crate::queries::find_page;
 use fr_base::{GapRow, Name, NoMemory, Refusal, Rows};
-use fr_records::Records;
 use fr_world::{Page, gap_row};
 use std::alloc::Global;
 
@@ -27,7 +27,7 @@ pub(crate) fn push_gaps(page: &Page, rows: &mut Rows<GapRow>) -> Result<(), NoMe
 }
 
 /// The greatest gaps of these suppliers' frames in the variant, one supplier's after another's.
-pub(crate) fn gather_gaps<R: Records>(
+pub(crate) fn gather_gaps<R: Lender>(
     alloc: Global,
     records: &mut R,
     suppliers: &[Name],
@@ -39,9 +39,8 @@ pub(crate) fn gather_gaps<R: Records>(
 {
     let mut rows = Rows::new(alloc);
     for supplier in suppliers {
-        let page = find_page(alloc, records, *supplier, variant)?;
-        push_gaps(&page, &mut rows)?;
-        records.keep(page);
+        find_page(alloc, records, *supplier, variant)?;
+        push_gaps(records.lent(), &mut rows)?;
     }
     Ok(rows)
 }

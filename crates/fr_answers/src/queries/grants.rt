@@ -6,9 +6,9 @@ ghost use Rattle.fr_answers.specs.Shown.{Gathers};
 ghost use Rattle.fr_world.specs.Pages.{own_rows_of};
 ghost use Rattle.fr_records.specs.Held.{LeavesNoMore};
 
+use crate::lender::Lender;
 use crate::queries::find_page;
 use fr_base::{GrantRow, Name, NoMemory, Refusal, Rows};
-use fr_records::Records;
 use fr_world::{ChannelSlot, Page};
 use std::alloc::Global;
 use std::collections::BTreeMap;
@@ -38,7 +38,7 @@ pub(crate) fn page_grants(alloc: Global, page: &Page) -> Result<Rows<GrantRow>, 
 }
 
 /// Who of these suppliers holds which slot and channel in the variant, by slot and channel.
-pub(crate) fn gather_grants<R: Records>(
+pub(crate) fn gather_grants<R: Lender>(
     alloc: Global,
     records: &mut R,
     suppliers: &[Name],
@@ -53,7 +53,7 @@ pub(crate) fn gather_grants<R: Records>(
 }
 
 // The holders among these suppliers, by slot and channel.
-fn gather_holders<R: Records>(
+fn gather_holders<R: Lender>(
     alloc: Global,
     records: &mut R,
     suppliers: &[Name],
@@ -65,9 +65,8 @@ fn gather_holders<R: Records>(
 {
     let mut held = BTreeMap::new(alloc);
     for supplier in suppliers {
-        let page = find_page(alloc, records, *supplier, variant)?;
-        add_grants(&page, &mut held)?;
-        records.keep(page);
+        find_page(alloc, records, *supplier, variant)?;
+        add_grants(records.lent(), &mut held)?;
     }
     Ok(held)
 }

@@ -6,9 +6,9 @@ ghost use Rattle.fr_answers.specs.Shown.{AreSignals, Gathers};
 ghost use Rattle.fr_world.specs.Pages.{own_rows_of};
 ghost use Rattle.fr_records.specs.Held.{LeavesNoMore};
 
+use crate::lender::Lender;
 use crate::queries::find_page;
 use fr_base::{Name, NoMemory, Refusal, Rows, SignalRow};
-use fr_records::Records;
 use fr_world::{Page, push_signal_rows};
 use std::alloc::Global;
 
@@ -33,7 +33,7 @@ pub(crate) fn push_signals(
 
 /// The signals of these suppliers' frames of this name in the variant, one supplier's after another's;
 /// `None` where none of them has such a frame.
-pub(crate) fn gather_signals<R: Records>(
+pub(crate) fn gather_signals<R: Lender>(
     alloc: Global,
     records: &mut R,
     suppliers: &[Name],
@@ -47,11 +47,10 @@ pub(crate) fn gather_signals<R: Records>(
     let mut rows = Rows::new(alloc);
     let mut found = false;
     for supplier in suppliers {
-        let page = find_page(alloc, records, *supplier, variant)?;
-        if push_signals(&page, name, &mut rows)? {
+        find_page(alloc, records, *supplier, variant)?;
+        if push_signals(records.lent(), name, &mut rows)? {
             found = true;
         }
-        records.keep(page);
     }
     Ok(if found { Some(rows) } else { None })
 }

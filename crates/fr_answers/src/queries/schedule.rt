@@ -8,9 +8,9 @@ ghost use Rattle.fr_world.specs.Pages.{own_rows_of};
 ghost use Rattle.fr_world.specs.Sendings.{sent_in};
 ghost use Rattle.fr_records.specs.Held.{LeavesNoMore};
 
+use crate::lender::Lender;
 use crate::queries::find_page;
 use fr_base::{Name, NoMemory, Params, Refusal, Rows, Sending};
-use fr_records::Records;
 use fr_world::{Page, Triggerings};
 use std::alloc::Global;
 
@@ -25,7 +25,7 @@ pub(crate) fn page_schedule(alloc: Global, page: &Page) -> Result<Rows<Sending>,
 
 /// Which of these suppliers' frames is sent in which cycle, slot and channel of the cluster in the
 /// variant: by cycle, slot and channel. Where several have a cell, the first one is sent.
-pub(crate) fn gather_schedule<R: Records>(
+pub(crate) fn gather_schedule<R: Lender>(
     alloc: Global,
     records: &mut R,
     params: &Params,
@@ -41,7 +41,7 @@ pub(crate) fn gather_schedule<R: Records>(
 }
 
 // The placements of these suppliers' frames, one supplier's after another's.
-fn gather_triggerings<R: Records>(
+fn gather_triggerings<R: Lender>(
     alloc: Global,
     records: &mut R,
     suppliers: &[Name],
@@ -53,9 +53,8 @@ fn gather_triggerings<R: Records>(
 {
     let mut triggerings = Triggerings::new(alloc);
     for supplier in suppliers {
-        let page = find_page(alloc, records, *supplier, variant)?;
-        triggerings.push_page(&page)?;
-        records.keep(page);
+        find_page(alloc, records, *supplier, variant)?;
+        triggerings.push_page(records.lent())?;
     }
     Ok(triggerings)
 }

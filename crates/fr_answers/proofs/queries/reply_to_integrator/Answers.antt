@@ -1,9 +1,3 @@
-use Rattle.std.proofs.Common.{◌≡◌, ◌∙◌, Bool, ap}
-use Rattle.fr_base.specs.Book.{Book}
-use Rattle.fr_base.specs.Cluster.{Cluster}
-use Rattle.fr_base.specs.Tables.{contains}
-use Rattle.fr_base.specs.declared.name.Name.{Name}
-use Rattle.fr_records.specs.Held.{Standing}
 use Rattle.fr_answers.proofs.AllReplies.{all-replied, none-replied}
 use Rattle.fr_answers.proofs.queries.reply_to_integrator.Goals as goal
 

@@ -1,52 +1,82 @@
-use Rattle.std.proofs.Common.{rules, Err, Ok, List, subst}
-use Rattle.fr_answers.proofs.RowsLaws.{rows_made, rows_refused, rows_stopped}
+use Rattle.std.proofs.Common.{rules, Ok, List, [], append-nil, subst}
+use Rattle.fr_base.specs.Step.{change_rows}
+use Rattle.fr_answers.specs.Decided.{TakesAll, TakesEach}
+use Rattle.fr_world.specs.Pages.{own_rows_of}
 use Rattle.fr_records.specs.Held.{LeavesEdited}
 use Rattle.fr_world.specs.declared.edit.Edit.{Edit}
-use Rattle.fr_base.specs.Step.{change_rows}
 use Rattle.fr_answers.proofs.CrashLaws.{AddsTo, may_do, may_stay}
+use Rattle.fr_answers.proofs.FreshLaws.{lead-taken}
+use Rattle.fr_answers.proofs.RowsLaws.{has_some, rows_made, rows_refused, rows_stopped, rows_taken, rows_unknown}
 use Rattle.fr_answers.proofs.commands.rows.change_rows.Goals as goal
 
-pub returns-in_err-page-clause-does : goal.returns-in_err-page-clause-does
-returns-in_err-page-clause-does g c = λ clean.
-    rows_stopped (g.R.Records.stands c.args.records.now) (g.R.Records.stands c.open_page.new.records) c.args.supplier c.args.variant c.args.change.now c.from_residual.result c.in_err-page.field-0.0 (search rules)
-    (c.in_err-page.ensures.page clean)
+pub change-requires : goal.change-requires
+change-requires g c =
+    let edits = c.in_ok-edits.edits.items in
+    let page = c.lent.result.now in
+    let takes : TakesAll page edits = subst (TakesEach page.variant (own_rows_of page)) (append-nil edits) (lead-taken page.variant (own_rows_of page) _ edits [] c.in_ok-edits.ensures.leads (λ rows. tt)) in
+    record { takes = has_some (λ page. TakesAll page c.deref.result.now) (g.R.Lender.lent c.open_page.new.records) page c.lent.ensures (rw c.deref.ensures.value takes) }
 
-pub make-requires-clause-takes : goal.make-requires-clause-takes
-make-requires-clause-takes g c = rw c.deref.ensures.value c.in-Ok.ensures.takes
+pub returns-in_err-taken-clause-does : goal.returns-in_err-taken-clause-does
+returns-in_err-taken-clause-does g c = λ clean.
+    rows_unknown (g.R.Records.stands c.args.records.now) (g.R.Records.stands c.is_taken.new.records) c.args.supplier c.args.variant c.args.change.now
+    c.from_residual.result c.is_taken.result c.in_err-taken.field-0.0 (search rules) (search rules) (c.is_taken.ensures.taken clean)
 
-pub returns-in-Ok-clause-does : goal.returns-in-Ok-clause-does
-returns-in-Ok-clause-does g c = λ clean.
-    let mid = g.R.Records.stands c.open_page.new.records in
-    let asked = c.make.ensures.falls clean in
-    rows_made (g.R.Records.stands c.args.records.now) mid c.args.supplier c.args.variant c.args.change.now c.in_ok-page.page (c.in_ok-page.ensures.page (c.allow.ensures.falls asked))
-    (g.R.Records.stands c.allow.new.records) (g.R.Records.stands c.make.new.records) c.in-Ok.edits c.make.result (c.in-Ok.ensures.allows asked) (search rules) (search rules)
+pub returns-in_err-open_page-clause-does : goal.returns-in_err-open_page-clause-does
+returns-in_err-open_page-clause-does g c = λ clean.
+    rows_stopped (g.R.Records.stands c.args.records.now) (g.R.Records.stands c.is_taken.new.records) c.args.supplier c.args.variant c.args.change.now
+    c.in_ok-taken.taken (c.in_ok-taken.ensures.taken (c.open_page.ensures.falls clean)) (g.R.Records.stands c.open_page.new.records)
+    (g.R.Lender.lent c.open_page.new.records) c.from_residual-in_err-open_page.result c.in_err-open_page.field-0.0 (search rules) (c.in_err-open_page.ensures.page clean)
 
-pub returns-in-Err-clause-does : goal.returns-in-Err-clause-does
-returns-in-Err-clause-does g c = λ clean.
-    let mid = g.R.Records.stands c.open_page.new.records in
-    let asked = c.keep.ensures.falls clean in
-    rows_refused (g.R.Records.stands c.args.records.now) mid c.args.supplier c.args.variant c.args.change.now c.in_ok-page.page (c.in_ok-page.ensures.page (c.allow.ensures.falls asked))
-    (g.R.Records.stands c.allow.new.records) (g.R.Records.stands c.keep.new.self) (Err c.in-Err.refusal) c.in-Err.refusal (search rules) (c.in-Err.ensures.allows asked) (c.keep.ensures.keeps clean)
+pub returns-in_err-edits-clause-does : goal.returns-in_err-edits-clause-does
+returns-in_err-edits-clause-does g c = λ clean.
+    rows_refused (g.R.Records.stands c.args.records.now) (g.R.Records.stands c.is_taken.new.records) c.args.supplier c.args.variant c.args.change.now
+    c.in_ok-taken.taken (c.in_ok-taken.ensures.taken (c.open_page.ensures.falls clean)) (g.R.Records.stands c.open_page.new.records)
+    (g.R.Lender.lent c.open_page.new.records) c.lent.result.now c.lent.ensures (c.in_ok-open_page.ensures.page clean)
+    c.from_residual-in_err-edits.result c.in_err-edits.field-0.0 (search rules) c.in_err-edits.ensures.refusal
 
-pub returns-in_err-page-clause-leaves : goal.returns-in_err-page-clause-leaves
-returns-in_err-page-clause-leaves g c = λ clean. may_stay _ _ _ _ (c.open_page.ensures.leaves clean)
+pub returns-then-taken-clause-does : goal.returns-then-taken-clause-does
+returns-then-taken-clause-does g c = λ clean.
+    rows_taken (g.R.Records.stands c.args.records.now) (g.R.Records.stands c.is_taken.new.records) c.args.supplier c.args.variant c.args.change.now
+    c.in_ok-taken.taken (c.in_ok-taken.ensures.taken (c.open_page.ensures.falls clean)) (g.R.Records.stands c.open_page.new.records)
+    (g.R.Lender.lent c.open_page.new.records) c.lent.result.now c.lent.ensures (c.in_ok-open_page.ensures.page clean)
+    c.in_ok-edits.edits.items c.in_ok-edits.ensures.edits c.if-taken.true
 
-pub returns-in-Ok-clause-leaves : goal.returns-in-Ok-clause-leaves
-returns-in-Ok-clause-leaves g c = λ clean.
+pub returns-clause-does : goal.returns-clause-does
+returns-clause-does g c = λ clean.
+    let late = c.change.ensures.falls clean in
+    rows_made (g.R.Records.stands c.args.records.now) (g.R.Records.stands c.is_taken.new.records) c.args.supplier c.args.variant c.args.change.now
+    c.in_ok-taken.taken (c.in_ok-taken.ensures.taken (c.open_page.ensures.falls late)) (g.R.Records.stands c.open_page.new.records)
+    (g.R.Lender.lent c.open_page.new.records) c.lent.result.now c.lent.ensures (c.in_ok-open_page.ensures.page late)
+    c.in_ok-edits.edits.items c.in_ok-edits.ensures.edits c.if-taken.false (search rules)
+    (g.R.Records.stands c.change.new.self) c.change.result (rw c.deref.ensures.value at c.change.ensures.applies clean)
+
+pub returns-in_err-taken-clause-leaves : goal.returns-in_err-taken-clause-leaves
+returns-in_err-taken-clause-leaves g c = λ clean. may_stay _ _ _ _ (c.is_taken.ensures.leaves clean)
+
+pub returns-in_err-open_page-clause-leaves : goal.returns-in_err-open_page-clause-leaves
+returns-in_err-open_page-clause-leaves g c = λ clean.
+    may_stay _ _ _ _ (λ cl books left. c.open_page.ensures.leaves clean cl books (c.is_taken.ensures.leaves (c.open_page.ensures.falls clean) cl books left))
+
+pub returns-in_err-edits-clause-leaves : goal.returns-in_err-edits-clause-leaves
+returns-in_err-edits-clause-leaves g c = λ clean.
+    may_stay _ _ _ _ (λ cl books left. c.open_page.ensures.leaves clean cl books (c.is_taken.ensures.leaves (c.open_page.ensures.falls clean) cl books left))
+
+pub returns-then-taken-clause-leaves : goal.returns-then-taken-clause-leaves
+returns-then-taken-clause-leaves g c = λ clean.
+    may_stay _ _ _ _ (λ cl books left. c.open_page.ensures.leaves clean cl books (c.is_taken.ensures.leaves (c.open_page.ensures.falls clean) cl books left))
+
+pub returns-clause-leaves : goal.returns-clause-leaves
+returns-clause-leaves g c = λ clean.
     let records = g.R.Records in
     let stands = records.stands c.args.records.now in
-    let asked = c.make.ensures.falls clean in
-    let late = c.allow.ensures.falls asked in
-    let next = records.leaves c.allow.new.records in
-    let new = records.leaves c.make.new.records in
-    let made = subst (λ (es : List Edit). LeavesEdited (records.stands c.allow.new.records) next new es) c.deref.ensures.value (c.make.ensures.leaves clean) in
+    let late = c.change.ensures.falls clean in
+    let next = records.leaves c.open_page.new.records in
+    let new = records.leaves c.change.new.self in
+    let made = subst (λ (es : List Edit). LeavesEdited (records.stands c.open_page.new.records) next new es) c.deref.ensures.value (c.change.ensures.leaves clean) in
     may_do stands (records.leaves c.args.records.now) next new (λ cl b. change_rows cl.params b c.args.supplier c.args.variant c.args.change.now)
-    (λ cl books left. c.allow.ensures.leaves asked cl books (c.open_page.ensures.leaves late cl books left)) (λ books.
-    rows_made stands (records.stands c.open_page.new.records) c.args.supplier c.args.variant c.args.change.now c.in_ok-page.page (c.in_ok-page.ensures.page late)
-    (records.stands c.allow.new.records) (AddsTo books next new) c.in-Ok.edits (Ok tt) (c.in-Ok.ensures.allows asked) (search rules)
-    (λ cl b stood fresh fit left. made cl b books stood fit left))
-
-pub returns-in-Err-clause-leaves : goal.returns-in-Err-clause-leaves
-returns-in-Err-clause-leaves g c = λ clean.
-    let asked = c.keep.ensures.falls clean in
-    may_stay _ _ _ _ (λ cl books left. c.keep.ensures.leaves clean cl books (c.allow.ensures.leaves asked cl books (c.open_page.ensures.leaves (c.allow.ensures.falls asked) cl books left)))
+    (λ cl books left. c.open_page.ensures.leaves late cl books (c.is_taken.ensures.leaves (c.open_page.ensures.falls late) cl books left)) (λ books.
+    rows_made stands (records.stands c.is_taken.new.records) c.args.supplier c.args.variant c.args.change.now
+    c.in_ok-taken.taken (c.in_ok-taken.ensures.taken (c.open_page.ensures.falls late)) (records.stands c.open_page.new.records)
+    (g.R.Lender.lent c.open_page.new.records) c.lent.result.now c.lent.ensures (c.in_ok-open_page.ensures.page late)
+    c.in_ok-edits.edits.items c.in_ok-edits.ensures.edits c.if-taken.false (search rules)
+    (AddsTo books next new) (Ok tt) (λ cl b stood fit left. made cl b books stood fit left))

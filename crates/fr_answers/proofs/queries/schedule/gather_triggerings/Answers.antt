@@ -2,7 +2,7 @@ use Rattle.std.proofs.Common.{◌+◌, ◌∙◌, ◌++◌, [], ◌∷◌, take,
 use Rattle.std.proofs.lemmas.List.{take_more}
 use Rattle.fr_base.specs.Book.{placements_of}
 use Rattle.fr_answers.proofs.GatherLaws.{gathered-more, gathered-all}
-use Rattle.fr_answers.proofs.OwnReplies.{finds-kept}
+use Rattle.fr_answers.proofs.OwnReplies.{finds-lent}
 use Rattle.fr_answers.proofs.queries.schedule.gather_triggerings.Goals as goal
 
 pub loop-supplier-preserved : goal.loop-supplier-preserved
@@ -11,14 +11,12 @@ loop-supplier-preserved g c =
     let i = c.loop-supplier.supplier-index in
     let suppliers = c.args.suppliers.now in
     record {
-      falls = λ now. c.loop-supplier.invariant.falls (c.find_page.ensures.falls (c.keep.ensures.falls now));
-      leaves = λ now cl books left.
-          let read = c.keep.ensures.falls now in
-          c.keep.ensures.leaves now cl books (c.find_page.ensures.leaves read cl books (c.loop-supplier.invariant.leaves (c.find_page.ensures.falls read) cl books left));
+      falls = λ now. c.loop-supplier.invariant.falls (c.find_page.ensures.falls now);
+      leaves = λ now cl books left. c.find_page.ensures.leaves now cl books (c.loop-supplier.invariant.leaves (c.find_page.ensures.falls now) cl books left);
       gathered = λ now.
-          gathered-more (λ p t. placements_of t) (records.stands c.args.records.now) c.args.variant (records.stands c.loop-supplier.records) (records.stands c.keep.new.self)
-          c.supplier-item.result (take i suppliers) (take (i + 1) suppliers) c.in_ok-page.page c.loop-supplier.triggerings c.push_page.new.self
-          (c.loop-supplier.invariant.gathered (c.find_page.ensures.falls (c.keep.ensures.falls now))) (finds-kept _ _ _ _ _ _ (c.in_ok-page.ensures.page (c.keep.ensures.falls now)) (c.keep.ensures.keeps now)) c.in_ok-push_page.ensures.ok
+          gathered-more (λ p t. placements_of t) (records.stands c.args.records.now) c.args.variant (records.stands c.loop-supplier.records) (records.stands c.find_page.new.records)
+          c.supplier-item.result (take i suppliers) (take (i + 1) suppliers) c.lent.result.now c.loop-supplier.triggerings c.push_page.new.self
+          (c.loop-supplier.invariant.gathered (c.find_page.ensures.falls now)) (finds-lent _ _ _ _ _ _ c.lent.ensures (c.in_ok-find_page.ensures.page now)) c.in_ok-push_page.ensures.ok
           (take_more suppliers i c.supplier-item.result c.loop-supplier-test.true ∙ ap (λ s. take i suppliers ++ s ∷ []) (sym c.supplier-item.is));
     }
 

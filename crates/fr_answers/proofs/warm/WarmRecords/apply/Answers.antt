@@ -1,13 +1,14 @@
 use Rattle.std.proofs.Common.{◌≡◌, rules, subst, sym}
 use Rattle.fr_base.specs.declared.params.Params.{Params}
+use Rattle.fr_records.specs.Held.{IsFresh}
 use Rattle.fr_answers.specs.KeptPages.{AreOf}
-use Rattle.fr_answers.proofs.WarmLaws.{untouched_all, warm_applied, warm_lacked}
+use Rattle.fr_answers.proofs.WarmLaws.{away_all, warm_applied, warm_lacked}
 use Rattle.fr_answers.proofs.warm.WarmRecords.apply.Goals as goal
 
 pub invariant_of-self-2 : goal.invariant_of-self-2
 invariant_of-self-2 g c =
-    subst (λ (p : Params). AreOf p c.let_go.new.self) (sym c.apply.ensures.same)
-    (subst (AreOf (g.R.Records.params c.self.inside.records)) (sym c.let_go.ensures) (untouched_all (λ page. page.params ≡ g.R.Records.params c.self.inside.records) c.args.edits.now c.self.inside.pages c.self.invariant))
+    subst (λ (p : Params). AreOf p c.follow.new.self.pages) (sym c.apply.ensures.same)
+    (c.follow.ensures.params _ (away_all (λ page. page.params ≡ g.R.Records.params c.self.inside.records) c.self.inside.kept.pages c.put_away.new.self c.put_away.result c.put_away.ensures.ok c.put_away.ensures.err c.self.invariant))
 
 pub returns-in_err-apply-clause-applies : goal.returns-in_err-apply-clause-applies
 returns-in_err-apply-clause-applies g c = λ clean.
@@ -16,4 +17,6 @@ returns-in_err-apply-clause-applies g c = λ clean.
 
 pub returns-clause-applies : goal.returns-clause-applies
 returns-clause-applies g c = λ clean.
-    warm_applied g.R.Records.stands _ c.args.self.now c.self.view_is (g.R.Records.stands c.apply.new.self) c.args.edits.now c.let_go.new.self c.let_go.ensures c.follow.new.self c.follow.ensures c.apply.result (search rules) (c.apply.ensures.applies clean)
+    warm_applied g.R.Records.stands _ c.args.self.now c.self.view_is (g.R.Records.stands c.apply.new.self) c.args.edits.now c.follow.new.self.pages
+    (λ cluster book fits fresh. c.follow.ensures.fresh cluster book fits (away_all (IsFresh cluster.params book) c.self.inside.kept.pages c.put_away.new.self c.put_away.result c.put_away.ensures.ok c.put_away.ensures.err fresh))
+    c.follow.new.self.counts c.follow.ensures.counted c.apply.result (search rules) (c.apply.ensures.applies clean)
