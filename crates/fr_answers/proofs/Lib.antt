@@ -1,3 +1,4 @@
+pub mod ReadLaws
 pub mod CommandLaws
 pub mod RowsLaws
 pub mod CheckedLaws

@@ -1,14 +1,14 @@
 //! Carries an import out, or answers it again.
+#![tactic(auto, using(crate::proofs::ReadLaws::reads_none, crate::proofs::ReadLaws::reads_then))]
 ghost use Rattle.std.specs.Prelude.{◌≡◌, IfSome, IsSome, OnOk, false};
 ghost use Rattle.fr_base.specs.Tables.{get};
 ghost use Rattle.fr_answers.specs.Carried.{Replies};
 ghost use Rattle.fr_answers.specs.Decided.{TakesAll};
 ghost use Rattle.fr_answers.specs.Imports.{AfterNew, GivesImport, GivesRows, LeavesImport, LeavesRows, OnImported, kept_edits};
 ghost use Rattle.fr_world.specs.ImportLabels.{label_decision};
-ghost use Rattle.fr_records.specs.Held.{Applies, LeavesEdited, LeavesNoMore};
+ghost use Rattle.fr_records.specs.Held.{Applies, LeavesEdited, Reads};
 
-use crate::lender::Lender;
-use crate::open_page::open_page;
+use crate::lender::{Lender, open_page};
 use fr_base::{Answer, Body, Import, Refusal};
 use fr_records::Records;
 use fr_text::read_import;
@@ -43,8 +43,7 @@ fn rows_kept<R: Records>(
     records: &mut R,
     import: &Import<'_>,
 ) -> Result<Option<u32>, Refusal>
-    ensures falls { R.clean records.new → R.clean records.old }
-    ensures leaves { R.clean records.new → LeavesNoMore (R.leaves records.old) (R.leaves records.new) }
+    ensures reads { Reads R.clean R.params R.leaves records.old records.new }
     ensures label { R.clean records.new → Replies (R.stands records.old) (R.stands records.new) result
         (λ c b. label_decision (get b.imports (import.now.supplier, import.now.label)) import.now) }
 {

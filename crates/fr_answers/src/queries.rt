@@ -1,10 +1,11 @@
 //! Answers queries: from one supplier's page, or gathered from all.
+#![tactic(auto, using(crate::proofs::ReadLaws::reads_none, crate::proofs::ReadLaws::reads_then))]
 ghost use Rattle.std.specs.Prelude.{IsSome, OnOk};
 ghost use Rattle.fr_base.specs.Queries.{reply};
 ghost use Rattle.fr_base.specs.declared.actor.Actor.TheVariants.{Integrator, Supplier};
 ghost use Rattle.fr_answers.specs.Carried.{Replies};
 ghost use Rattle.fr_answers.specs.Shown.{FindsPage, ShowsAll, ShowsOwn};
-ghost use Rattle.fr_records.specs.Held.{LeavesNoMore};
+ghost use Rattle.fr_records.specs.Held.{Reads};
 
 mod frames;
 mod gaps;
@@ -33,8 +34,7 @@ pub(crate) fn reply<R: Lender>(
     actor: &Actor,
     query: &Query,
 ) -> Result<Answer, Refusal>
-    ensures falls { R.clean records.new → R.clean records.old }
-    ensures leaves { R.clean records.new → LeavesNoMore (R.leaves records.old) (R.leaves records.new) }
+    ensures reads { Reads R.clean R.params R.leaves records.old records.new }
     ensures replies { R.clean records.new → Replies (R.stands records.old) (R.stands records.new) result (λ c b. reply c.params b actor.now query.now) }
 {
     match actor {
@@ -49,8 +49,7 @@ fn reply_to_integrator<R: Lender>(
     records: &mut R,
     query: &Query,
 ) -> Result<Answer, Refusal>
-    ensures falls { R.clean records.new → R.clean records.old }
-    ensures leaves { R.clean records.new → LeavesNoMore (R.leaves records.old) (R.leaves records.new) }
+    ensures reads { Reads R.clean R.params R.leaves records.old records.new }
     ensures replies { R.clean records.new → Replies (R.stands records.old) (R.stands records.new) result (λ c b. reply c.params b Integrator query.now) }
 {
     if records.has_variant(query.variant)? {
@@ -67,8 +66,7 @@ fn show_all<R: Lender>(
     variant: Name,
     report: &Report<Name>,
 ) -> Result<Answer, Refusal>
-    ensures falls { R.clean records.new → R.clean records.old }
-    ensures leaves { R.clean records.new → LeavesNoMore (R.leaves records.old) (R.leaves records.new) }
+    ensures reads { Reads R.clean R.params R.leaves records.old records.new }
     ensures shows { R.clean records.new → ShowsAll (R.stands records.old) (R.stands records.new) variant report.now result }
 {
     let params = records.config().params();
@@ -106,8 +104,7 @@ fn reply_to_supplier<R: Lender>(
     supplier: Name,
     query: &Query,
 ) -> Result<Answer, Refusal>
-    ensures falls { R.clean records.new → R.clean records.old }
-    ensures leaves { R.clean records.new → LeavesNoMore (R.leaves records.old) (R.leaves records.new) }
+    ensures reads { Reads R.clean R.params R.leaves records.old records.new }
     ensures replies { R.clean records.new → Replies (R.stands records.old) (R.stands records.new) result (λ c b. reply c.params b (Supplier supplier) query.now) }
 {
     find_page(alloc, records, supplier, query.variant)?;
@@ -121,8 +118,7 @@ pub(crate) fn find_page<R: Lender>(
     supplier: Name,
     variant: Name,
 ) -> Result<(), Refusal>
-    ensures falls { R.clean records.new → R.clean records.old }
-    ensures leaves { R.clean records.new → LeavesNoMore (R.leaves records.old) (R.leaves records.new) }
+    ensures reads { Reads R.clean R.params R.leaves records.old records.new }
     ensures lent { OnOk result (IsSome (R.lent records.new)) }
     ensures page { R.clean records.new → FindsPage (R.stands records.old) (R.stands records.new) (R.lent records.new) result supplier variant }
 {

@@ -1,13 +1,13 @@
 //! Changes of a supplier's rows in a variant.
+#![tactic(auto, using(crate::proofs::ReadLaws::reads_none, crate::proofs::ReadLaws::reads_then))]
 ghost use Rattle.std.specs.Prelude.{◌≡◌, OnOk};
 ghost use Rattle.fr_base.specs.Step.{change_rows};
 ghost use Rattle.fr_answers.specs.Carried.{Does, MayLeave};
 ghost use Rattle.fr_answers.specs.Decided.{is_taken};
-ghost use Rattle.fr_records.specs.Held.{LeavesNoMore, Tells};
+ghost use Rattle.fr_records.specs.Held.{Reads, Tells};
 ghost use Rattle.fr_world.specs.Decisions.{IsChecked};
 
-use crate::lender::Lender;
-use crate::open_page::open_page;
+use crate::lender::{Lender, open_page};
 use fr_base::{Change, Name, Refusal};
 use fr_records::Records;
 use fr_world::decide;
@@ -39,9 +39,7 @@ pub(crate) fn change_rows<R: Lender>(
 
 // Whether what is to be granted in the variant is held.
 fn is_taken<R: Records>(records: &mut R, variant: Name, change: &Change) -> Result<bool, Refusal>
-    ensures falls { R.clean records.new → R.clean records.old }
-    ensures leaves { R.clean records.new → LeavesNoMore (R.leaves records.old) (R.leaves records.new) }
-    ensures same { R.params records.new ≡ R.params records.old }
+    ensures reads { Reads R.clean R.params R.leaves records.old records.new }
     ensures taken { R.clean records.new → Tells (R.stands records.old) (R.stands records.new) result (λ c b is. is ≡ is_taken b variant change.now) }
 {
     match change {

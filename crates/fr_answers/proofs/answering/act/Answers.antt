@@ -62,4 +62,4 @@ returns-in-Import-clause-leaves g c = λ clean.
     subst (λ (valid : Checked). LeavesAct stands old new c.args.actor.now valid) (sym c.in-Import.is) (act_import stands old new c.args.actor.now c.in-Import.new asks (c.import.ensures.leaves clean))
 
 pub returns-in-Query-clause-leaves : goal.returns-in-Query-clause-leaves
-returns-in-Query-clause-leaves g c = λ clean cl b books stood sound known left. inl (c.reply.ensures.leaves clean cl books left)
+returns-in-Query-clause-leaves g c = λ clean cl b books stood sound known left. inl (c.reply.ensures.reads.leaves clean cl books left)

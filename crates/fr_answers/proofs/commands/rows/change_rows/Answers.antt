@@ -24,20 +24,20 @@ returns-in_err-taken-clause-does g c = λ clean.
 pub returns-in_err-open_page-clause-does : goal.returns-in_err-open_page-clause-does
 returns-in_err-open_page-clause-does g c = λ clean.
     rows_stopped (g.R.Records.stands c.args.records.now) (g.R.Records.stands c.is_taken.new.records) c.args.supplier c.args.variant c.args.change.now
-    c.in_ok-taken.taken (c.in_ok-taken.ensures.taken (c.open_page.ensures.falls clean)) (g.R.Records.stands c.open_page.new.records)
+    c.in_ok-taken.taken (c.in_ok-taken.ensures.taken (c.open_page.ensures.reads.falls clean)) (g.R.Records.stands c.open_page.new.records)
     (g.R.Lender.lent c.open_page.new.records) c.from_residual-in_err-open_page.result c.in_err-open_page.field-0.0 (search rules) (c.in_err-open_page.ensures.page clean)
 
 pub returns-in_err-edits-clause-does : goal.returns-in_err-edits-clause-does
 returns-in_err-edits-clause-does g c = λ clean.
     rows_refused (g.R.Records.stands c.args.records.now) (g.R.Records.stands c.is_taken.new.records) c.args.supplier c.args.variant c.args.change.now
-    c.in_ok-taken.taken (c.in_ok-taken.ensures.taken (c.open_page.ensures.falls clean)) (g.R.Records.stands c.open_page.new.records)
+    c.in_ok-taken.taken (c.in_ok-taken.ensures.taken (c.open_page.ensures.reads.falls clean)) (g.R.Records.stands c.open_page.new.records)
     (g.R.Lender.lent c.open_page.new.records) c.lent.result.now c.lent.ensures (c.in_ok-open_page.ensures.page clean)
     c.from_residual-in_err-edits.result c.in_err-edits.field-0.0 (search rules) c.in_err-edits.ensures.refusal
 
 pub returns-then-taken-clause-does : goal.returns-then-taken-clause-does
 returns-then-taken-clause-does g c = λ clean.
     rows_taken (g.R.Records.stands c.args.records.now) (g.R.Records.stands c.is_taken.new.records) c.args.supplier c.args.variant c.args.change.now
-    c.in_ok-taken.taken (c.in_ok-taken.ensures.taken (c.open_page.ensures.falls clean)) (g.R.Records.stands c.open_page.new.records)
+    c.in_ok-taken.taken (c.in_ok-taken.ensures.taken (c.open_page.ensures.reads.falls clean)) (g.R.Records.stands c.open_page.new.records)
     (g.R.Lender.lent c.open_page.new.records) c.lent.result.now c.lent.ensures (c.in_ok-open_page.ensures.page clean)
     c.in_ok-edits.edits.items c.in_ok-edits.ensures.edits c.if-taken.true
 
@@ -45,25 +45,25 @@ pub returns-clause-does : goal.returns-clause-does
 returns-clause-does g c = λ clean.
     let late = c.change.ensures.falls clean in
     rows_made (g.R.Records.stands c.args.records.now) (g.R.Records.stands c.is_taken.new.records) c.args.supplier c.args.variant c.args.change.now
-    c.in_ok-taken.taken (c.in_ok-taken.ensures.taken (c.open_page.ensures.falls late)) (g.R.Records.stands c.open_page.new.records)
+    c.in_ok-taken.taken (c.in_ok-taken.ensures.taken (c.open_page.ensures.reads.falls late)) (g.R.Records.stands c.open_page.new.records)
     (g.R.Lender.lent c.open_page.new.records) c.lent.result.now c.lent.ensures (c.in_ok-open_page.ensures.page late)
     c.in_ok-edits.edits.items c.in_ok-edits.ensures.edits c.if-taken.false (search rules)
     (g.R.Records.stands c.change.new.self) c.change.result (rw c.deref.ensures.value at c.change.ensures.applies clean)
 
 pub returns-in_err-taken-clause-leaves : goal.returns-in_err-taken-clause-leaves
-returns-in_err-taken-clause-leaves g c = λ clean. may_stay _ _ _ _ (c.is_taken.ensures.leaves clean)
+returns-in_err-taken-clause-leaves g c = λ clean. may_stay _ _ _ _ (c.is_taken.ensures.reads.leaves clean)
 
 pub returns-in_err-open_page-clause-leaves : goal.returns-in_err-open_page-clause-leaves
 returns-in_err-open_page-clause-leaves g c = λ clean.
-    may_stay _ _ _ _ (λ cl books left. c.open_page.ensures.leaves clean cl books (c.is_taken.ensures.leaves (c.open_page.ensures.falls clean) cl books left))
+    may_stay _ _ _ _ (λ cl books left. c.open_page.ensures.reads.leaves clean cl books (c.is_taken.ensures.reads.leaves (c.open_page.ensures.reads.falls clean) cl books left))
 
 pub returns-in_err-edits-clause-leaves : goal.returns-in_err-edits-clause-leaves
 returns-in_err-edits-clause-leaves g c = λ clean.
-    may_stay _ _ _ _ (λ cl books left. c.open_page.ensures.leaves clean cl books (c.is_taken.ensures.leaves (c.open_page.ensures.falls clean) cl books left))
+    may_stay _ _ _ _ (λ cl books left. c.open_page.ensures.reads.leaves clean cl books (c.is_taken.ensures.reads.leaves (c.open_page.ensures.reads.falls clean) cl books left))
 
 pub returns-then-taken-clause-leaves : goal.returns-then-taken-clause-leaves
 returns-then-taken-clause-leaves g c = λ clean.
-    may_stay _ _ _ _ (λ cl books left. c.open_page.ensures.leaves clean cl books (c.is_taken.ensures.leaves (c.open_page.ensures.falls clean) cl books left))
+    may_stay _ _ _ _ (λ cl books left. c.open_page.ensures.reads.leaves clean cl books (c.is_taken.ensures.reads.leaves (c.open_page.ensures.reads.falls clean) cl books left))
 
 pub returns-clause-leaves : goal.returns-clause-leaves
 returns-clause-leaves g c = λ clean.
@@ -74,9 +74,9 @@ returns-clause-leaves g c = λ clean.
     let new = records.leaves c.change.new.self in
     let made = subst (λ (es : List Edit). LeavesEdited (records.stands c.open_page.new.records) next new es) c.deref.ensures.value (c.change.ensures.leaves clean) in
     may_do stands (records.leaves c.args.records.now) next new (λ cl b. change_rows cl.params b c.args.supplier c.args.variant c.args.change.now)
-    (λ cl books left. c.open_page.ensures.leaves late cl books (c.is_taken.ensures.leaves (c.open_page.ensures.falls late) cl books left)) (λ books.
+    (λ cl books left. c.open_page.ensures.reads.leaves late cl books (c.is_taken.ensures.reads.leaves (c.open_page.ensures.reads.falls late) cl books left)) (λ books.
     rows_made stands (records.stands c.is_taken.new.records) c.args.supplier c.args.variant c.args.change.now
-    c.in_ok-taken.taken (c.in_ok-taken.ensures.taken (c.open_page.ensures.falls late)) (records.stands c.open_page.new.records)
+    c.in_ok-taken.taken (c.in_ok-taken.ensures.taken (c.open_page.ensures.reads.falls late)) (records.stands c.open_page.new.records)
     (g.R.Lender.lent c.open_page.new.records) c.lent.result.now c.lent.ensures (c.in_ok-open_page.ensures.page late)
     c.in_ok-edits.edits.items c.in_ok-edits.ensures.edits c.if-taken.false (search rules)
     (AddsTo books next new) (Ok tt) (λ cl b stood fit left. made cl b books stood fit left))

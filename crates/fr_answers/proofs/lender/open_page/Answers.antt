@@ -1,7 +1,7 @@
 use Rattle.std.proofs.Common.{◌∙◌, sym}
 use Rattle.fr_answers.proofs.CommandLaws.{named-there}
 use Rattle.fr_answers.proofs.RowsLaws.{opens-frozen, opens-none, opens-page, opens-unknown}
-use Rattle.fr_answers.proofs.open_page.open_page.Goals as goal
+use Rattle.fr_answers.proofs.lender.open_page.Goals as goal
 
 pub returns-then-not-branch-clause-page : goal.returns-then-not-branch-clause-page
 returns-then-not-branch-clause-page g c = λ clean.
