@@ -12,10 +12,10 @@ import sqlite3
 from contextlib import closing
 from typing import NamedTuple
 
-from tests import picture
 from tests.lib import messages, naive, schema1
 from tests.lib.case import Case, for_each
 from tests.lib.messages import DONE, FIGURE_LINES, UNKNOWN, command, engine, head, post, refused, text
+from tests.lib.picture import compare
 from tests.lib.preload import Refuser, calls_from
 from tests.lib.program import SECONDS, TOP, ran
 from tests.lib.registers import RegisterCase
@@ -259,7 +259,7 @@ class CommandCase(FileCase):
             yield ended
 
 
-# What the page of a picture shows of the base, as picture.compare takes it.
+# What the page of a picture shows of the base, as `compare` takes it.
 PLAN = {
     "channels": "AB",
     "slots": 4,
@@ -292,7 +292,7 @@ class Commands(CommandCase):
         """How its page looks is no format, so the right one is that which shows the plan where memory is ample."""
         words = ["picture", "car.db", "v1"]
         (_, page, _), _ = self.perform(words)
-        self.see("what is wrong with the page", [], picture.compare(page.decode(), PLAN))
+        self.see("what is wrong with the page", [], compare(page.decode(), PLAN))
         self.tried(words, page)
 
 
