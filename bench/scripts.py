@@ -134,6 +134,9 @@ class Plan:
         start = self.dice.randrange(PAYLOAD_BITS)
         return self.line(supplier, "add_signal", variant=variant, frame=frame, signal=signal, start=start, length=length, order=order)
 
+    def frame_row(self, variant, supplier):
+        return f"frame{self.dice.randrange(FRAMES)},node{self.dice.randrange(NODES)}"
+
     def placement_row(self, variant, supplier):
         """A row for a frame that is there or new, in a slot of its node."""
         frame = f"frame{self.dice.randrange(FRAMES)}"
@@ -154,7 +157,9 @@ class Plan:
             more = {"body": fields["body"] + "more\n"} if self.dice.random() < 0.2 else {}
             return self.line(supplier, "import", **{**fields, **more})
         header, row = self.dice.choice((
-            ("frame,node,slot,channels,base,repetition", self.placement_row), ("frame,signal,start,length,order", self.signal_row),
+            ("frame,node", self.frame_row),
+            ("frame,node,slot,channels,base,repetition", self.placement_row),
+            ("frame,signal,start,length,order", self.signal_row),
         ))
         rows = [row(variant, supplier) for _ in range(self.dice.choice((0, 1, 1, 2, 2, 3, 20)))]
         fields = dict(variant=variant, label=f"label{len(before)}", body="".join(f"{line}\n" for line in [header, *rows]))

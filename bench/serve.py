@@ -7,8 +7,8 @@ the same rows by `sqlite3` in a file of its own. Their answers have to be the sa
 requests a second the program serves; it holds for its machine."""
 import argparse
 import json
+import os
 import shutil
-import socket
 import sqlite3
 import subprocess
 import sys
@@ -20,6 +20,9 @@ from http.server import BaseHTTPRequestHandler, HTTPServer
 from pathlib import Path
 
 TOP = Path(__file__).resolve().parent.parent
+sys.path.append(str(TOP))
+from tests.lib.server import free_port, started
+
 FRAMES = (4, 64, 256)
 PLACEMENTS = 8
 ROWS = 512
@@ -50,12 +53,6 @@ def asked(port, method, path, key, body=None):
 def command(port, key, **request):
     status, text = asked(port, "POST", "/v1/commands", key, json.dumps(request))
     assert status == 200, (request, status, text)
-
-
-def free_port():
-    with socket.socket() as one:
-        one.bind(("127.0.0.1", 0))
-        return one.getsockname()[1]
 
 
 def fill(port):
@@ -139,22 +136,19 @@ def main():
     parser.add_argument("--program", default=str(TOP / "crates/slotplan/out/slotplan"))
     parser.add_argument("--requests", type=int, default=400)
     words = parser.parse_args()
+    os.environ["SLOTPLAN"] = words.program
     with tempfile.TemporaryDirectory() as folder:
         folder = Path(folder)
         (folder / "cluster.toml").write_text(CLUSTER)
         subprocess.run([words.program, "create", "car.db", "cluster.toml"], cwd=folder, check=True)
-        ours, theirs = free_port(), free_port()
-        start = [words.program, "serve", "car.db", str(ours)]
-        with subprocess.Popen(start, cwd=folder, stdout=subprocess.PIPE) as server:
-            server.stdout.readline()
-            fill(ours)
-            server.kill()
+        with started(folder) as (_, _, port):
+            fill(port)
         with sqlite3.connect(folder / "car.db") as file:
             file.execute("PRAGMA wal_checkpoint(TRUNCATE)")
         file.close()
         shutil.copy(folder / "car.db", folder / "other.db")
-        with subprocess.Popen(start, cwd=folder, stdout=subprocess.PIPE) as server:
-            server.stdout.readline()
+        with started(folder) as (_, _, ours):
+            theirs = free_port()
             other = HTTPServer(("127.0.0.1", theirs), handler_of(folder / "other.db"))
             threading.Thread(target=other.serve_forever, daemon=True).start()
             for what, measure in ("schedule", schedules), ("change", changes):
@@ -162,7 +156,6 @@ def main():
                     both = [measure(port, f"v{frames}", words.requests) for port in (ours, theirs)]
                     assert both[0][1] == both[1][1], (what, frames)
                     print(f"{what:9} {frames:4} frames: {both[1][0] / both[0][0]:5.1f} times as many requests a second, {1e6 * both[0][0] / words.requests:6.0f} microseconds each")
-            server.kill()
     return 0
 
 
