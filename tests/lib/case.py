@@ -28,6 +28,8 @@ class Case(unittest.TestCase):
     checks = 0
     # Whether each test of the class is run in a process of its own, and not the class as a whole.
     is_apart = False
+    # Whether it may be skipped, since a program is missing that no gate needs. It says so, and that is no failure.
+    may_be_skipped = False
     # Whether it mostly waits, so that it takes no processor's place.
     waits = False
     # The folders lie in memory.

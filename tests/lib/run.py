@@ -1,7 +1,8 @@
 """Runs classes of tests, several at once: python3 -m tests.lib.run [-f] [-k WORD] [--alone] [NAME..]
 
 A NAME is a module, a class or a test, as `python3 -m unittest` takes it; without one all are run. The program is the one that SLOTPLAN names. The
-last line counts the checks: 'N passed, M failed'. A test that was left out has failed, and so has one that checked nothing."""
+last line counts the checks: 'N passed, M failed'. A test that was left out has failed, and so has one that checked nothing; only one that may be
+skipped has not."""
 import argparse
 import os
 import sys
@@ -49,10 +50,14 @@ class Result(unittest.TestResult):
 
     def addSkip(self, test, reason):
         super().addSkip(test, reason)
-        self.tell(test, f"left out, since {reason}")
+        if getattr(test, "may_be_skipped", False):
+            print(f"skipped: {reason}: {test.id()}", flush=True)
+        else:
+            self.tell(test, f"left out, since {reason}")
 
     def stopTest(self, test):
-        if Case.checks == self.before and self.failed == self.failed_before:
+        was_skipped = bool(self.skipped) and self.skipped[-1][0] is test
+        if Case.checks == self.before and self.failed == self.failed_before and not was_skipped:
             self.tell(test, "it checked nothing")
         super().stopTest(test)
 

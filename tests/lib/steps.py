@@ -23,6 +23,8 @@ TESTED = re.compile(r"^test result: \w+\. (\d+) passed; (\d+) failed", re.M)
 # Lines that tell of a failure are shown once more at the end, so many of each step.
 FAILURE = re.compile(r"wanted|in place of|[Ff]ail|FAIL|[Ee]rror|not proved|left out|Traceback|^crates/slotplan/out/slotplan")
 SHOWN = 10
+# What was skipped is told too.
+SKIPPED = re.compile(r"^skipped: ")
 
 
 def by_last_line(said, status):
@@ -59,13 +61,15 @@ class Step(NamedTuple):
             return subprocess.Popen(self.words, cwd=TOP, env={**os.environ, **self.env}, **how)
 
     def counted(self, status):
-        """What it passed and failed, with lines that tell of a failure. One that counts nothing, or whose status is another than its count, has failed once more."""
+        """What it passed and failed, with lines that tell of a failure, or of what was skipped. One that counts nothing, or whose status is another than its
+        count, has failed once more."""
         said = self.log().read_text(errors="replace")
         count = self.count(said, status)
         passed, failed = count or (0, 0)
         failed += not count or (status != 0) != (failed != 0)
+        skipped = [line for line in said.splitlines() if SKIPPED.search(line)]
         told = [line for line in said.splitlines() if FAILURE.search(line) and not COUNT.fullmatch(line)] or said.splitlines()
-        return passed, failed, told[-SHOWN:] if failed else []
+        return passed, failed, told[-SHOWN:] if failed else skipped
 
 
 class SideBySide:

@@ -1,0 +1,1 @@
+"""Scripts and clients of the register, as README.md lists them."""
