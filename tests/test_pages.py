@@ -8,8 +8,8 @@ from tests.lib.each import each
 from tests.lib.program import TOP
 from tests.lib.tables import CRATES, KINDS, TABLE, files, head, made
 
-PAGES = [TOP / "README.md", TOP / "tests/README.md", *sorted((TOP / "docs").glob("*.md"))]
-PLACES = [*(f"crates/*/{folder}" for folder in ("src", "specs", "proofs", "must-fail", "wrong-bodies")), "tests", "bench"]
+PAGES = [TOP / "README.md", TOP / "tests/README.md", *sorted((TOP / "docs").glob("*.md")), *sorted((TOP / "examples").rglob("*.md"))]
+PLACES = [*(f"crates/*/{folder}" for folder in ("src", "specs", "proofs", "must-fail", "wrong-bodies")), "tests", "bench", "examples"]
 # In DEVELOPING this is any file of a reader's own.
 OWN = "crates/NAME/wrong-bodies/WHAT_IT_DOES.edit"
 NAME = re.compile(r"`([\w./*-]+\.(?:rt|antt|edit|py))`")

@@ -2,7 +2,7 @@
 
 A block behind the words "Save this as `NAME`:" is saved under that name. In a block of the console each line that begins with
 '$ ' is a command, and the lines behind it are what it prints. All commands of a page run in one shell, in a folder that begins
-empty, that of the README with examples/ in it."""
+empty, that of a README with examples/ in it."""
 import re
 import select
 import shutil
@@ -38,6 +38,7 @@ class Shell:
     def __init__(self, folder):
         (folder.parent / "bin").mkdir()
         (folder.parent / "bin/slotplan").symlink_to(Path(program()).resolve())
+        (folder.parent / "bin/python3").symlink_to(sys.executable)
         path = f"{folder.parent}/bin:/usr/local/bin:/usr/bin:/bin"
         self.shell = subprocess.Popen(
             ["bash", "--norc"], cwd=folder, env={"PATH": path, "LC_ALL": "C"}, stdin=subprocess.PIPE, stdout=subprocess.PIPE, stderr=subprocess.STDOUT, bufsize=0
