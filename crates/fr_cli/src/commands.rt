@@ -314,10 +314,10 @@ const PROGRAM_HELP: &str = "\
 Status 0: done. Status 1: refused, or a fault; standard error says which.
 Status 2: the words name no job.
 
-Example: a register file, its schedule, and a server
+Example: a register file, the figures of its cluster, and a server
   slotplan create car.db cluster.toml
-  slotplan serve car.db 8080
-  slotplan schedule car.db v1";
+  slotplan cluster car.db
+  slotplan serve car.db 8080";
 
 const RUN_HELP: &str = "\
 A script is a cluster file, the line ---, and a request on each line after it:
@@ -331,11 +331,11 @@ Example:
   slotplan create car.db cluster.toml";
 
 const MIGRATE_HELP: &str = "\
-End the server of the file first, and keep a copy of the file. A file of schema 2 is left as it
-is: WrongSchema.
+End the server of the file first, and keep a copy of the file and of its log. A file of schema 2
+is left as it is: WrongSchema.
 
 Example:
-  cp car.db car.backup.db
+  mkdir before && cp car.db* before
   slotplan migrate car.db";
 
 const SERVE_HELP: &str = "\
