@@ -415,7 +415,7 @@ class Drawing(AskedCase):
         before = (self.folder / "car.db").read_bytes()
         for supplier, seen, hidden in (None, {b"s1", b"s3", b"f1"}, set()), ("s1", {b"s1", b"f1"}, {b"s3"}), ("s2", {b"s2"}, {b"s1", b"s3", b"f1"}):
             status, page, said = ran(["picture", "car.db", "v1", *of_supplier(supplier)], self.folder)
-            self.see(f"the page for {supplier}", (0, b"", True, True), (status, said, page.startswith(b"<!DOCTYPE html>"), b"<title>v1</title>" in page))
+            self.see(f"the page for {supplier}", (0, b"", True, True), (status, said, page.startswith(b"<!DOCTYPE html>"), b"<title>Plan of v1</title>" in page))
             words = set(re.findall(rb"\w+", re.sub(rb"<style>.*?</style>", b"", page, flags=re.DOTALL)))
             self.see(f"names on the page for {supplier}", (set(), set()), (seen - words, hidden & words))
         self.see("a picture leaves the file", before, (self.folder / "car.db").read_bytes())

@@ -316,7 +316,6 @@ UNAVAILABLE = [
     "CREATE TABLE cluster2 (x INTEGER) STRICT",
     "CREATE TABLE other (x INTEGER) STRICT",
     "CREATE INDEX other ON nodes (name)",
-    "DROP INDEX grants_by_supplier",
     "DROP TABLE dropped",
 ]
 

@@ -15,9 +15,9 @@ def head_of(register, opened, supplier):
     return (
         told
         + (f" This page shows what is {supplier}'s alone." if supplier else "")
-        + f" Channels {of['channels']}; {of.get('cycles', 64)} cycles of {of['macroticks_per_cycle']} macroticks; payload words {of['payload_words']}; "
-        + f"{of['static_slots']} static slots of {of['slot_macroticks']} macroticks, dynamic segment {of['dynamic_macroticks']}, "
-        + f"symbol window {of['symbol_macroticks']}, idle time {of['idle_macroticks']}."
+        + f" Channels {of['channels']}; {of.get('cycles', 64)} cycles of {of['macroticks_per_cycle']} macroticks; payload length {of['payload_words']} two-byte words; "
+        + f"{of['static_slots']} static slots of {of['slot_macroticks']} macroticks; in macroticks: dynamic segment {of['dynamic_macroticks']}, "
+        + f"symbol window {of['symbol_macroticks']}, network idle time {of['idle_macroticks']}."
     )
 
 

@@ -383,6 +383,9 @@ class Register:
         if kind == "signals":
             self.add_signal(supplier, asked)
             return
+        if kind == "frames":
+            self.add_frame(supplier, asked)
+            return
         frame, node = asked["frame"], asked["node"]
         self.see_node(supplier, node)
         there = self.node_of(variant, supplier, frame)
@@ -487,6 +490,7 @@ class Register:
 
 
 FIELDS_OF_ROW = {
+    "frames": ("frame", "node"),
     "placements": ("frame", "node", "slot", "channels", "base", "repetition"),
     "signals": ("frame", "signal", "start", "length", "order"),
 }

@@ -8,7 +8,7 @@ from html.parser import HTMLParser
 BOX = re.compile(r"M(\d+) (\d+)h(\d+)v(\d+)h-(\d+)z")
 TITLE = re.compile(r"(\w+)\n(\w+) of (\w+)\n(\d+) ([AB]) (?:(\d+/\d+)|cycles((?: [\d-]+)+))")
 HELD = re.compile(r"(\w+) of (\w+)\n(\d+) ([AB])")
-GAP = re.compile(r"(nobody holds|not held) (\d+)(?: to (\d+))?")
+GAP = re.compile(r"(nobody holds|not yours) (\d+)(?: to (\d+))?")
 KEY = re.compile(r"([a-h]\d?) (\w+): lanes (\d+), cells (\d+), sent in (\d+) of them \((\d+) %\)")
 SENT = re.compile(r"(?:(\d+/\d+)|cycles((?: [\d-]+)+)) (\w+)")
 # Where channel B stands further right, where the cluster has both.
@@ -256,7 +256,7 @@ def compare_drawing(same, page, lanes, gaps, free, plan):
         same(f"frames of slot {slot} on {channel} that are drawn twice", [], [name for name in names if names.count(name) > 1])
     # Slots of which there is no grant and in which nothing is sent: runs of them are gaps, and lanes of the others may be crossed.
     shown = {slot for slot, _, _, _ in plan["grants"]} | {cell[1] for cell in plan["cells"]}
-    said = "not held" if plan["viewer"] else "nobody holds"
+    said = "not yours" if plan["viewer"] else "nobody holds"
     runs, slot = [], 1
     while slot <= plan["slots"]:
         end = slot

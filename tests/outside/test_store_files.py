@@ -175,7 +175,6 @@ OTHER_SCHEMAS = [
     "CREATE TABLE other (x INTEGER) STRICT",
     "CREATE INDEX other ON nodes (name)",
     "CREATE VIEW other AS SELECT name FROM nodes",
-    "DROP INDEX grants_by_supplier",
     "DROP TABLE dropped",
     "DROP TABLE cluster2",
 ]

@@ -1,6 +1,7 @@
 -- Pages that were the register's before an edit are the register's after it: those that it leaves alone, and the one that was amended.
-use Rattle.std.proofs.Common.{◌≡◌, true, false, not, ◌&&◌, cond, map, List, [], ◌∷◌, ◌++◌, filter, Option, Some, None, Result, Ok, Err, refl, sym, ap, subst, ◌∙◌, inl, inr, true≢false}
+use Rattle.std.proofs.Common.{◌≡◌, Bool, true, false, not, ◌&&◌, cond, map, List, [], ◌∷◌, ◌++◌, filter, Option, Some, None, Result, Ok, Err, refl, sym, ap, subst, ◌∙◌, inl, inr, true≢false}
 use Rattle.std.specs.Prelude.{◌||◌, All, OnOk, is_err}
+use Rattle.std.specs.List.{list_any}
 use Rattle.std.specs.Ordering.{eq_by_cmp}
 use Rattle.std.proofs.lemmas.Bool.{cases_Bool}
 use Rattle.std.proofs.Math.Bool.{and-true}
@@ -20,8 +21,8 @@ use Rattle.fr_base.proofs.AloneCells.{same_text-itself}
 use Rattle.fr_base.proofs.SoundRows.{same_text-is}
 use Rattle.fr_base.proofs.SoundTables.{only-insert_other, same_key, same_some}
 use Rattle.fr_base.proofs.TableLaws.{equal, get-insert}
-use Rattle.fr_world.specs.BookEdits.{SparesOthers, applied, changed_at}
-use Rattle.fr_world.specs.Edits.{IsOf, Leads, Takes, edited, releases}
+use Rattle.fr_world.specs.BookEdits.{SparesOthers, all_applied, applied, changed_at}
+use Rattle.fr_world.specs.Edits.{IsOf, Leads, Takes, all_edited, edited, releases}
 use Rattle.fr_world.specs.Fits.{Fits, FitsVariant}
 use Rattle.fr_world.specs.Pages.{IsKept, PageData, nodes_in, own_rows_of, page_in}
 use Rattle.fr_world.specs.declared.edit.Edit.{Edit}
@@ -29,7 +30,7 @@ use Rattle.fr_world.specs.declared.edit.Edit.TheVariants.{NewVariant, SetRelease
 use Rattle.fr_world.proofs.AgreeLaws.{edits-agree, others-stay}
 use Rattle.fr_world.proofs.PageLaws.{rows-registers}
 use Rattle.fr_answers.specs.KeptPages.{Spares, touches}
-use Rattle.fr_answers.specs.Decided.{MayTake, TakesEach}
+use Rattle.fr_answers.specs.Decided.{LeadsTo, MayTake, TakesEach}
 use Rattle.fr_records.specs.Held.{IsFresh}
 use Rattle.fr_answers.proofs.PageBack.{same-page, same-rows}
 
@@ -128,6 +129,56 @@ module _ (c : Cluster) (b : Book) (page : PageData) (fresh : IsFresh c.params b 
         there = ap (get (applied b edit).variants) variant ∙ agree.1;
         same = same-page new kept p (applied b edit) page.supplier agree.0 shown same_released ∙ ap (λ s. page_in p (applied b edit) s new.variant agree.0) (sym supplier);
       }
+
+-- ---- edits that lead from page to page
+
+no_either : (a b : Bool) → (a || b) ≡ false → (a ≡ false) × (b ≡ false)
+no_either true b h = cc
+no_either false b h = (refl, h)
+
+-- edits leave the parameters
+pub all_edited_params : (rows : OwnRows) (edits : List Edit) → (all_edited rows edits).params ≡ rows.params
+all_edited_params rows [] = refl
+all_edited_params rows (edit ∷ edits) = all_edited_params (edited rows edit) edits ∙ edited_params rows edit
+
+module _ (c : Cluster) (s v : Name) where
+  -- what becomes of the variant is there, has the supplier's rows of the edited page, and is released by the edits or was before
+  abbrev Agrees : Book → Variant → Book → OwnRows → Bool → Type 0
+  Agrees b x d rows freed = (y : Variant) × (get d.variants v ≡ Some y) × (own_rows c.params d s y ≡ rows) × (y.released ≡ (freed || x.released))
+
+  one-agrees : (b : Book) (x : Variant) (edit : Edit) → get b.variants v ≡ Some x → MayTake v (own_rows c.params b s x) edit →
+      Agrees b x (applied b edit) (edited (own_rows c.params b s x) edit) (releases edit)
+  unfolding applied edited own_rows
+  one-agrees b x (KeepImport t label w body count) there may = (x, there, refl, refl)
+  one-agrees b x (NewVariant w parent depth) there may = absurd may.own
+  one-agrees b x (SetReleased w) there may = edits-agree c b s v x (SetReleased w) there may.own
+  one-agrees b x (NewSupplier t key) there may = absurd may.own
+  one-agrees b x (NewNode t n) there may = edits-agree c b s v x (NewNode t n) there may.own
+  one-agrees b x (Rows t w what) there may = edits-agree c b s v x (Rows t w what) there may.own
+
+  all-agree : (edits : List Edit) (b : Book) (x : Variant) → get b.variants v ≡ Some x → TakesEach v (own_rows c.params b s x) edits → list_any releases edits ≡ false →
+      Agrees b x (all_applied b edits) (all_edited (own_rows c.params b s x) edits) false
+  all-agree [] b x there takes still = (x, there, refl, refl)
+  all-agree (edit ∷ edits) b x there takes still =
+      let parts = no_either (releases edit) (list_any releases edits) still in
+      let a = one-agrees b x edit there takes.0 in
+      let rest = all-agree edits (applied b edit) a.0 a.1 (subst (λ r. TakesEach v r edits) (sym a.2) takes.1) parts.1 in
+      (rest.0, rest.1, rest.2 ∙ ap (λ r. all_edited r edits) a.2, rest.3 ∙ a.3 ∙ ap (λ r. r || x.released) parts.0)
+
+-- the page to which they lead
+pub led-fresh : (c : Cluster) (b : Book) (page new : PageData) (edits : List Edit) → IsFresh c.params b page → IsKept new → LeadsTo page edits new → IsFresh c.params (all_applied b edits) new
+led-fresh c b page new edits fresh kept led =
+    let p = c.params in
+    let last = all_applied b edits in
+    let was : own_rows_of page ≡ own_rows p b page.supplier fresh.variant = ap own_rows_of fresh.same ∙ rows-registers c b page.supplier page.variant fresh.variant in
+    let agree = all-agree c page.supplier page.variant edits b fresh.variant fresh.there (subst (λ r. TakesEach page.variant r edits) was led.takes) led.still in
+    let shown : own_rows_of new ≡ own_rows p last page.supplier agree.0 = led.rows ∙ ap (λ r. all_edited r edits) was ∙ sym agree.2 in
+    let same_released : new.released ≡ agree.0.released = led.released ∙ ap (λ (d : PageData). d.released) fresh.same ∙ sym agree.3 in
+    record {
+      variant = agree.0;
+      there = ap (get last.variants) led.variant ∙ agree.1;
+      same = same-page new kept p last page.supplier agree.0 shown same_released ∙ ap (λ s. page_in p last s new.variant agree.0) (sym led.supplier);
+    }
 
 -- pages that the edit leaves as they are
 pub all_untouched : (c : Cluster) (b : Book) (edit : Edit) → Spares b edit → (pages : List PageData) → All (IsFresh c.params b) pages → All (IsFresh c.params (applied b edit)) (filter (λ page. not (touches edit page)) pages)

@@ -1,7 +1,7 @@
 -- What an import comes to, by its label, its supplier's page, the room for it and its rows.
 use Rattle.std.proofs.Common.{◌≡◌, ◌≤◌, ℕ, true, false, not, ◌&&◌, List, [], ◌∷◌, length, Option, Some, None, Result, Ok, Err, refl, sym, ap, subst, ◌∙◌, inl, inr}
-use Rattle.std.specs.List.{AllByRecursion}
-use Rattle.std.specs.Prelude.{⊤, IfSome, MatchResult, is_err, option_map}
+use Rattle.std.specs.List.{AllByRecursion, list_any}
+use Rattle.std.specs.Prelude.{⊤, ◌||◌, IfSome, MatchResult, is_err, option_map}
 use Rattle.fr_base.specs.Refusing.{◌>>=◌, ◌>>◌, ◌or◌, refuse◌when◌}
 use Rattle.fr_base.specs.Tables.{get, contains, len}
 use Rattle.fr_base.specs.Cluster.{Cluster}
@@ -15,11 +15,12 @@ use Rattle.fr_base.specs.declared.answer.Answer.TheVariants.{Imported, RefusedRo
 use Rattle.fr_base.specs.declared.import.RowRead.{RowRead}
 use Rattle.fr_base.specs.declared.limits.TheConstants.{MAX_ROWS}
 use Rattle.fr_base.specs.declared.refusal.Refusal.{Refusal}
-use Rattle.fr_base.specs.declared.refusal.Refusal.TheVariants.{NoVariant, Released, NoSupplier, LabelUsed}
+use Rattle.fr_base.specs.declared.refusal.Refusal.TheVariants.{NoVariant, Released, LabelUsed}
 use Rattle.fr_base.specs.declared.request.Import.{Import}
 use Rattle.fr_base.proofs.ImportForms.{IsRead, few_rows}
 use Rattle.fr_world.specs.BookEdits.{applied, all_applied}
-use Rattle.fr_world.specs.Edits.{Leads}
+use Rattle.fr_world.specs.Drafts.{IsOfSame}
+use Rattle.fr_world.specs.Edits.{Leads, all_edited, edited, releases}
 use Rattle.fr_world.specs.Fits.{AllFit}
 use Rattle.fr_world.specs.ImportLabels.{label_decision, after_label}
 use Rattle.fr_world.specs.ImportLimits.{import_room, new_import}
@@ -31,8 +32,9 @@ use Rattle.fr_world.proofs.BookFits.{import-fits}
 use Rattle.fr_world.proofs.ImportRoom.{new-import-decides}
 use Rattle.fr_world.proofs.LabelLaws.{label-decides}
 use Rattle.fr_world.proofs.RowsDecide.{applied-more, rows-checked}
+use Rattle.fr_world.proofs.RowsLead.{leads-last}
 use Rattle.fr_answers.specs.Carried.{IsRefused, Replies}
-use Rattle.fr_answers.specs.Decided.{Opens, TakesAll, open_page}
+use Rattle.fr_answers.specs.Decided.{LeadsTo, Opens, open_page}
 use Rattle.fr_records.specs.Held.{Applies, Standing, Tells}
 use Rattle.fr_answers.specs.Imports.{AfterNew, GivesImport, GivesRows, OnImported, kept_edits, rows_outcome}
 use Rattle.fr_answers.proofs.FreshLaws.{lead-taken}
@@ -59,12 +61,12 @@ module _ (c : Cluster) (b : Book) (i : Import) (sound : IsSound c b) (known : co
   unfolding new_import open_page ◌or◌ ◌>>=◌ ◌>>◌ refuse◌when◌
   by_page = elim (get b.variants i.variant) as (λ o.
       (o or NoVariant) >>= (λ x. (refuse Released when x.released) >> (import_room i (len (own i.supplier b.imports)) >> Ok (rows_outcome c.params b i (page_in c.params b i.supplier i.variant x))))
-      ≡ (((option_map (page_in c.params b i.supplier i.variant) o or NoVariant) >>= λ page. (refuse Released when page.released) >> ((refuse NoSupplier when not (contains b.suppliers i.supplier)) >> Ok page)) >>= made_of)) [
+      ≡ (((option_map (page_in c.params b i.supplier i.variant) o or NoVariant) >>= λ page. (refuse Released when page.released) >> Ok page) >>= made_of)) [
         | None ↦ refl
         | Some x ↦ elim x.released as (λ r. ((refuse Released when r) >> (import_room i (len (own i.supplier b.imports)) >> Ok (rows_outcome c.params b i (page_in c.params b i.supplier i.variant x))))
-            ≡ (((refuse Released when r) >> ((refuse NoSupplier when not (contains b.suppliers i.supplier)) >> Ok (page_in c.params b i.supplier i.variant x))) >>= made_of)) [
+            ≡ (((refuse Released when r) >> Ok (page_in c.params b i.supplier i.variant x)) >>= made_of)) [
               | true ↦ refl
-              | false ↦ rw known refl
+              | false ↦ refl
             ]
       ]
 
@@ -142,10 +144,28 @@ module _ (i : Import) (page : PageData) (reads : List RowRead) (read : reads ≡
           let same : h ≡ f = cc in
           (same ∙ m.0, m.1)
 
--- the page takes the edits, of which the last keeps the import
-pub page_takes : (i : Import) (count : ℕ) (page : PageData) (edits : List Edit) (last : OwnRows) → Leads page.variant (own_rows_of page) edits last → TakesAll page (kept_edits edits i count)
-page_takes i count page edits last leads =
-    lead-taken page.variant (own_rows_of page) last edits (KeepImport i.supplier i.label i.variant i.body count ∷ []) leads (λ rows. (tt, tt))
+module _ (i : Import) (count : ℕ) where
+  -- the last edit, which keeps the import, is of no page
+  rows-as-led : (edits : List Edit) (rows : OwnRows) → all_edited rows (kept_edits edits i count) ≡ all_edited rows edits
+  unfolding edited
+  rows-as-led [] rows = refl
+  rows-as-led (edit ∷ edits) rows = rows-as-led edits (edited rows edit)
+
+  still-kept : (edits : List Edit) → list_any releases (kept_edits edits i count) ≡ list_any releases edits
+  still-kept [] = refl
+  still-kept (edit ∷ edits) = ap (λ t. releases edit || t) (still-kept edits)
+
+  -- so it leads to the page to which those before it lead
+  pub page_leads : (page new : PageData) (edits : List Edit) → Leads page.variant (own_rows_of page) edits (own_rows_of new) → IsOfSame page new → list_any releases edits ≡ false
+      → LeadsTo page (kept_edits edits i count) new
+  page_leads page new edits leads same still = record {
+    takes = lead-taken page.variant (own_rows_of page) (own_rows_of new) edits (KeepImport i.supplier i.label i.variant i.body count ∷ []) leads (λ rows. (tt, tt));
+    still = still-kept edits ∙ still;
+    rows = leads-last page.variant (own_rows_of page) (own_rows_of new) edits leads ∙ sym (rows-as-led edits (own_rows_of page));
+    supplier = same.supplier;
+    variant = same.variant;
+    released = same.released;
+  }
 
 -- ---- the import
 

@@ -23,7 +23,8 @@ use Rattle.fr_world.proofs.BookFits.{decision-fits}
 use Rattle.fr_world.proofs.FitsLaws.{none_there}
 use Rattle.fr_world.proofs.StepLaws.{grant-decides, revoke-decides, supplier-decides}
 use Rattle.fr_answers.specs.Carried.{Does}
-use Rattle.fr_answers.specs.Decided.{Opens, open_page, is_taken}
+use Rattle.fr_answers.specs.Decided.{IsBeside, Opens, open_page, is_taken}
+use Rattle.fr_answers.specs.declared.commands.rows.BesidePage.{BesidePage}
 use Rattle.fr_records.specs.Held.{Applies, Standing, Tells, held_in, page_of}
 use Rattle.fr_answers.proofs.CommandLaws.{Known, carried}
 
@@ -32,7 +33,7 @@ use Rattle.fr_answers.proofs.CommandLaws.{Known, carried}
 module _ (p : Params) (b : Book) (s v : Name) where
   -- what is made of what is there
   abbrev open_of : Option PageData → Result PageData Refusal
-  open_of there = (there or NoVariant) >>= λ page. (refuse Released when page.released) >> ((refuse NoSupplier when not (contains b.suppliers s)) >> Ok page)
+  open_of there = (there or NoVariant) >>= λ page. (refuse Released when page.released) >> Ok page
 
   open-is : (there : Option PageData) → there ≡ page_of p b s v → open_page p b s v ≡ open_of there
   unfolding open_page
@@ -47,29 +48,22 @@ module _ (p : Params) (b : Book) (s v : Name) where
     unfolding ◌or◌ ◌>>=◌ ◌>>◌ refuse◌when◌
     open-frozen frozen = open-is (Some page) is ∙ rw frozen refl
 
-    pub open-unknown : page.released ≡ false → contains b.suppliers s ≡ false → open_page p b s v ≡ Err NoSupplier
+    pub opened : page.released ≡ false → open_page p b s v ≡ Ok page
     unfolding ◌or◌ ◌>>=◌ ◌>>◌ refuse◌when◌
-    open-unknown still unknown = open-is (Some page) is ∙ rw (still, unknown) refl
-
-    pub opened : page.released ≡ false → contains b.suppliers s ≡ true → open_page p b s v ≡ Ok page
-    unfolding ◌or◌ ◌>>=◌ ◌>>◌ refuse◌when◌
-    opened still known = open-is (Some page) is ∙ rw (still, known) refl
+    opened still = open-is (Some page) is ∙ rw still refl
 
 -- a page that is open is the register's
 pub opened-there : (p : Params) (b : Book) (s v : Name) (page : PageData) → open_page p b s v ≡ Ok page → (x : Variant) × (get b.variants v ≡ Some x) × (page_in p b s v x ≡ page)
 unfolding open_page ◌or◌ ◌>>=◌ ◌>>◌ refuse◌when◌
 opened-there p b s v page =
     elim (get b.variants v) as (λ o. get b.variants v ≡ o
-    → ((option_map (page_in p b s v) o or NoVariant) >>= λ page. (refuse Released when page.released) >> ((refuse NoSupplier when not (contains b.suppliers s)) >> Ok page)) ≡ Ok page
+    → ((option_map (page_in p b s v) o or NoVariant) >>= λ page. (refuse Released when page.released) >> Ok page) ≡ Ok page
     → (x : Variant) × (get b.variants v ≡ Some x) × (page_in p b s v x ≡ page)) [
       | None ↦ λ none is. cc
-      | Some x ↦ λ found. elim x.released as (λ r. ((refuse Released when r) >> ((refuse NoSupplier when not (contains b.suppliers s)) >> Ok (page_in p b s v x))) ≡ Ok page
+      | Some x ↦ λ found. elim x.released as (λ r. ((refuse Released when r) >> Ok (page_in p b s v x)) ≡ Ok page
           → (x : Variant) × (get b.variants v ≡ Some x) × (page_in p b s v x ≡ page)) [
             | true ↦ λ is. cc
-            | false ↦ elim (contains b.suppliers s) as (λ t. ((refuse NoSupplier when not t) >> Ok (page_in p b s v x)) ≡ Ok page → (x : Variant) × (get b.variants v ≡ Some x) × (page_in p b s v x ≡ page)) [
-              | true ↦ λ is. (x, found, (cc))
-              | false ↦ λ is. cc
-            ]
+            | false ↦ λ is. (x, found, (cc))
           ]
     ] refl
 
@@ -104,15 +98,10 @@ module _ (old new : Standing) (s v : Name) (lent : Option PageData) (lends : (c 
         let told = lends c b stood in
         (told.0, inr (open-frozen c.params b s v page (sym is ∙ told.1) frozen))
 
-    pub opens-unknown : page.released ≡ false → ((c : Cluster) (b : Book) → new c b → contains b.suppliers s ≡ false) → Opens old new lent (Err NoSupplier) s v
-    opens-unknown still unknown c b stood sound =
+    pub opens-page : page.released ≡ false → Opens old new lent (Ok tt) s v
+    opens-page still c b stood sound =
         let told = lends c b stood in
-        (told.0, inr (open-unknown c.params b s v page (sym is ∙ told.1) still (unknown c b told.0)))
-
-    pub opens-page : page.released ≡ false → ((c : Cluster) (b : Book) → new c b → contains b.suppliers s ≡ true) → Opens old new lent (Ok tt) s v
-    opens-page still known c b stood sound =
-        let told = lends c b stood in
-        (told.0, has_some (λ page. open_page c.params b s v ≡ Ok page) lent page is (opened c.params b s v page (sym is ∙ told.1) still (known c b told.0)))
+        (told.0, has_some (λ page. open_page c.params b s v ≡ Ok page) lent page is (opened c.params b s v page (sym is ∙ told.1) still))
 
 -- ---- what the register's step is
 
@@ -124,6 +113,10 @@ module _ (c : Cluster) (b : Book) (s v : Name) (change : Change) (sound : IsSoun
   -- what is made of a page
   abbrev made_of : PageData → Result Book Refusal
   made_of page = decision page change >>= λ edits. (refuse Taken when is_taken b v change) >> Ok (all_applied b edits)
+
+  -- where the supplier is there
+  abbrev made_of_known : PageData → Result Book Refusal
+  made_of_known page = (refuse NoSupplier when not (contains b.suppliers s)) >> made_of page
 
   -- what is never taken
   never : (decided : Result (List Edit) Refusal) → (decided >>= λ edits. Ok (all_applied b edits)) ≡ (decided >>= λ edits. (refuse Taken when false) >> Ok (all_applied b edits))
@@ -142,17 +135,17 @@ module _ (c : Cluster) (b : Book) (s v : Name) (change : Change) (sound : IsSoun
       by_kind (Frame f what) = supplier-decides c b s v x f what sound found known ∙ never (decision (page_in c.params b s v x) (Frame f what))
 
   -- it is what the supplier's page decides, in an open variant and for a supplier that is there; but that it may be taken
-  pub rows-told : change_rows c.params b s v change ≡ (open_page c.params b s v >>= made_of)
+  pub rows-told : change_rows c.params b s v change ≡ (open_page c.params b s v >>= made_of_known)
   unfolding change_rows open_page ◌or◌ ◌>>=◌ ◌>>◌ refuse◌when◌
   rows-told =
       elim (get b.variants v) as (λ o. get b.variants v ≡ o → change_rows c.params b s v change
-      ≡ (((option_map (page_in c.params b s v) o or NoVariant) >>= λ page. (refuse Released when page.released) >> ((refuse NoSupplier when not (contains b.suppliers s)) >> Ok page)) >>= made_of)) [
+      ≡ (((option_map (page_in c.params b s v) o or NoVariant) >>= λ page. (refuse Released when page.released) >> Ok page) >>= made_of_known)) [
         | None ↦ λ none. rw none refl
         | Some x ↦ λ found. elim x.released as (λ r. x.released ≡ r → change_rows c.params b s v change
-            ≡ (((refuse Released when r) >> ((refuse NoSupplier when not (contains b.suppliers s)) >> Ok (page_in c.params b s v x))) >>= made_of)) [
+            ≡ (((refuse Released when r) >> Ok (page_in c.params b s v x)) >>= made_of_known)) [
               | true ↦ λ frozen. rw (found, frozen) refl
               | false ↦ λ opened. elim (contains b.suppliers s) as (λ t. contains b.suppliers s ≡ t → change_rows c.params b s v change
-                  ≡ (((refuse NoSupplier when not t) >> Ok (page_in c.params b s v x)) >>= made_of)) [
+                  ≡ ((refuse NoSupplier when not t) >> made_of (page_in c.params b s v x))) [
                     | true ↦ λ known. rows-decide x found known
                     | false ↦ λ unknown. rw (found, opened, unknown) refl
                   ] refl
@@ -167,14 +160,35 @@ unheld b v x (Grant k channel n) found free = none_there (get x.grants (k, chann
 unheld b v x (Revoke k channel) found free = tt
 unheld b v x (Frame f what) found free = tt
 
+-- ---- what is known beside the page
+
+module _ (old mid : Standing) (s v : Name) where
+  -- what is held is not known
+  pub beside_lacked : (change : Change) (said : Result BesidePage Refusal) (r : Result Bool Refusal) (e : Refusal) (says : Cluster → Book → Bool → Type 0) → said ≡ Err e → r ≡ Err e
+      → Tells old mid r says → Tells old mid said (λ c b. IsBeside b s v change)
+  beside_lacked change said (Ok x) e says is lacks told c b stood = cc
+  beside_lacked change (Ok x) (Err f) e says is lacks told c b stood = cc
+  beside_lacked change (Err h) (Err f) e says is lacks told c b stood =
+      let t = told c b stood in
+      let same : h ≡ f = cc in
+      (t.0, same ∙ t.1)
+
+  -- what a grant would have
+  pub beside_grant : (slot : ℕ) (channel : Channel) (node : Name) (taken : Bool) → Tells old mid (Ok taken) (λ c b is. is ≡ held_in b v (slot, channel))
+      → (there : Bool) → ((c : Cluster) (b : Book) → mid c b → contains b.suppliers s ≡ there)
+      → Tells old mid (Ok (record { is_there = there; is_taken = taken })) (λ c b. IsBeside b s v (Grant slot channel node))
+  beside_grant slot channel node taken told there known c b stood =
+      let t = told c b stood in
+      (t.0, (sym (known c b t.0), t.1))
+
 -- ---- the records, by what was asked of them
 
 module _ (old mid : Standing) (s v : Name) (change : Change) where
   abbrev does : Cluster → Book → Result Book Refusal
   does c b = change_rows c.params b s v change
 
-  -- it is not known whether it is taken
-  pub rows_unknown : (r : Result ⊤ Refusal) (asked : Result Bool Refusal) (e : Refusal) → r ≡ Err e → asked ≡ Err e → Tells old mid asked (λ c b is. is ≡ is_taken b v change) → Does old mid r does
+  -- what all rows say of it is not known
+  pub rows_unknown : (r : Result ⊤ Refusal) (asked : Result BesidePage Refusal) (e : Refusal) → r ≡ Err e → asked ≡ Err e → Tells old mid asked (λ c b. IsBeside b s v change) → Does old mid r does
   rows_unknown (Ok x) asked e said lacks tells c b stood sound = cc
   rows_unknown (Err f) (Ok t) e said lacks tells c b stood sound = cc
   rows_unknown (Err f) (Err h) e said lacks tells c b stood sound =
@@ -182,7 +196,7 @@ module _ (old mid : Standing) (s v : Name) (change : Change) where
       let same : f ≡ h = cc in
       (t.0, inl (same ∙ t.1))
 
-  module _ (taken : Bool) (told : Tells old mid (Ok taken) (λ c b is. is ≡ is_taken b v change)) (next : Standing) where
+  module _ (beside : BesidePage) (told : Tells old mid (Ok beside) (λ c b. IsBeside b s v change)) (next : Standing) where
     -- there is no page that is open
     pub rows_stopped : (lent : Option PageData) (r : Result ⊤ Refusal) (e : Refusal) → r ≡ Err e → Opens mid next lent (Err e) s v → Does old next r does
     unfolding ◌>>=◌
@@ -193,7 +207,7 @@ module _ (old mid : Standing) (s v : Name) (change : Change) where
           t.0,
           elim t.1 [
             | inl lacked ↦ inl (sym same ∙ lacked)
-            | inr refused ↦ inr (rows-told c b s v change sound ∙ ap (λ o. o >>= made_of c b s v change sound) refused ∙ ap Err same)
+            | inr refused ↦ inr (rows-told c b s v change sound ∙ ap (λ o. o >>= made_of_known c b s v change sound) refused ∙ ap Err same)
           ],
         )
 
@@ -203,46 +217,59 @@ module _ (old mid : Standing) (s v : Name) (change : Change) where
           let t = opens c b (told c b stood).0 sound in
           (t.0, some_has (λ page. open_page c.params b s v ≡ Ok page) lent page is t.1)
 
-      -- what is decided on it decides, but that it may be taken
-      pub page_told : (decided : Result (List Edit) Refusal) → decision page change ≡ decided →
-          Known old next (λ c b. does c b ≡ (decided >>= λ edits. (refuse Taken when taken) >> Ok (all_applied b edits)))
+      -- what is made of it, where the supplier is there
+      by_page : (c : Cluster) (b : Book) → old c b → (sound : IsSound c b) → does c b ≡ ((refuse NoSupplier when not beside.is_there) >> made_of c b s v change sound page)
       unfolding ◌>>=◌
-      page_told decided decides c b stood sound =
-          let t = page_open c b stood sound in (
-            t.0,
-            rows-told c b s v change sound ∙ ap (λ o. o >>= made_of c b s v change sound) t.1
-                ∙ (λ i. decides i >>= λ edits. (refuse Taken when sym (told c b stood).1 i) >> Ok (all_applied b edits)),
-          )
+      by_page c b stood sound =
+          rows-told c b s v change sound ∙ ap (λ o. o >>= made_of_known c b s v change sound) (page_open c b stood sound).1
+          ∙ ap (λ t. (refuse NoSupplier when not t) >> made_of c b s v change sound page) (sym (told c b stood).1.0)
 
-      -- the page refuses it, or is not known to allow it
-      pub rows_refused : (r : Result ⊤ Refusal) (e : Refusal) → r ≡ Err e → (e ≡ Unavailable) ⊎ (decision page change ≡ Err e) → Does old next r does
-      unfolding ◌>>=◌
-      rows_refused (Ok x) e said refuses c b stood sound = cc
-      rows_refused (Err f) e said refuses c b stood sound =
-          let same : f ≡ e = cc in (
-            (page_open c b stood sound).0,
-            elim refuses [
-              | inl lacked ↦ inl (same ∙ lacked)
-              | inr refused ↦ inr ((page_told (Err e) refused c b stood sound).1 ∙ ap Err (sym same))
-            ],
-          )
+      -- the supplier is not there
+      pub rows_unnamed : not beside.is_there ≡ true → Does old next (Err NoSupplier) does
+      unfolding ◌>>◌ refuse◌when◌
+      rows_unnamed unknown c b stood sound =
+          ((page_open c b stood sound).0, inr (by_page c b stood sound ∙ ap (λ t. (refuse NoSupplier when t) >> made_of c b s v change sound page) unknown))
 
-      module _ (edits : List Edit) (decides : decision page change ≡ Ok edits) where
-        -- it is taken
-        pub rows_taken : taken ≡ true → Does old next (Err Taken) does
-        unfolding ◌>>=◌ ◌>>◌ refuse◌when◌
-        rows_taken held c b stood sound =
-            let t = page_told (Ok edits) decides c b stood sound in
-            (t.0, inr (t.1 ∙ ap (λ t. (refuse Taken when t) >> Ok (all_applied b edits)) held))
+      module _ (there : not beside.is_there ≡ false) where
+        -- what is decided on it decides, but that it may be taken
+        pub page_told : (decided : Result (List Edit) Refusal) → decision page change ≡ decided →
+            Known old next (λ c b. does c b ≡ (decided >>= λ edits. (refuse Taken when beside.is_taken) >> Ok (all_applied b edits)))
+        unfolding ◌>>◌ refuse◌when◌
+        page_told decided decides c b stood sound = (
+          (page_open c b stood sound).0,
+          by_page c b stood sound ∙ ap (λ t. (refuse NoSupplier when t) >> made_of c b s v change sound page) there
+              ∙ (λ i. decides i >>= λ edits. (refuse Taken when sym (told c b stood).1.1 i) >> Ok (all_applied b edits)),
+        )
 
-        -- the edits are made
-        pub rows_made : taken ≡ false → IsChecked page.params change → (new : Standing) (r : Result ⊤ Refusal) → Applies next new r edits → Does old new r does
-        unfolding ◌>>=◌ ◌>>◌ refuse◌when◌
-        rows_made free checked new r = carried old next new does edits r (λ c b stood sound.
-            let t = page_told (Ok edits) decides c b stood sound in
-            let o = opened-there c.params b s v page (page_open c b stood sound).1 in
-            let of_cluster : IsChecked c.params change = subst (λ (q : PageData). IsChecked q.params change) (sym o.2) checked in
-            let fits : AllFit c.params b edits =
-            decision-fits c b s v o.0 change edits sound o.1 of_cluster (unheld b v o.0 change o.1 (sym (told c b stood).1 ∙ free))
-            (ap (λ q. decision q change) o.2 ∙ decides) in
-            (t.0, (fits, t.1 ∙ ap (λ t. (refuse Taken when t) >> Ok (all_applied b edits)) free)))
+        -- the page refuses it, or is not known to allow it
+        pub rows_refused : (r : Result ⊤ Refusal) (e : Refusal) → r ≡ Err e → (e ≡ Unavailable) ⊎ (decision page change ≡ Err e) → Does old next r does
+        unfolding ◌>>=◌
+        rows_refused (Ok x) e said refuses c b stood sound = cc
+        rows_refused (Err f) e said refuses c b stood sound =
+            let same : f ≡ e = cc in (
+              (page_open c b stood sound).0,
+              elim refuses [
+                | inl lacked ↦ inl (same ∙ lacked)
+                | inr refused ↦ inr ((page_told (Err e) refused c b stood sound).1 ∙ ap Err (sym same))
+              ],
+            )
+
+        module _ (edits : List Edit) (decides : decision page change ≡ Ok edits) where
+          -- it is taken
+          pub rows_taken : beside.is_taken ≡ true → Does old next (Err Taken) does
+          unfolding ◌>>=◌ ◌>>◌ refuse◌when◌
+          rows_taken held c b stood sound =
+              let t = page_told (Ok edits) decides c b stood sound in
+              (t.0, inr (t.1 ∙ ap (λ t. (refuse Taken when t) >> Ok (all_applied b edits)) held))
+
+          -- the edits are made
+          pub rows_made : beside.is_taken ≡ false → IsChecked page.params change → (new : Standing) (r : Result ⊤ Refusal) → Applies next new r edits → Does old new r does
+          unfolding ◌>>=◌ ◌>>◌ refuse◌when◌
+          rows_made free checked new r = carried old next new does edits r (λ c b stood sound.
+              let t = page_told (Ok edits) decides c b stood sound in
+              let o = opened-there c.params b s v page (page_open c b stood sound).1 in
+              let of_cluster : IsChecked c.params change = subst (λ (q : PageData). IsChecked q.params change) (sym o.2) checked in
+              let fits : AllFit c.params b edits =
+              decision-fits c b s v o.0 change edits sound o.1 of_cluster (unheld b v o.0 change o.1 (sym (told c b stood).1.1 ∙ free))
+              (ap (λ q. decision q change) o.2 ∙ decides) in
+              (t.0, (fits, t.1 ∙ ap (λ t. (refuse Taken when t) >> Ok (all_applied b edits)) free)))

@@ -29,7 +29,7 @@ use Rattle.fr_answers.specs.Answering.{Acts, Answers, HasPassed, answer_of, is_k
 use Rattle.fr_answers.specs.Carried.{IsRefused, Performs, Replies}
 use Rattle.fr_records.specs.Held.{Standing}
 use Rattle.fr_answers.specs.Imports.{GivesImport}
-use Rattle.fr_answers.proofs.CheckedLaws.{command-checked}
+use Rattle.fr_answers.proofs.CheckedLaws.{command-checked, command-own}
 
 -- who is in the book is in what a cluster file says of it
 pub known-so : (c : Cluster) (b : Book) (actor : Actor) → knows b actor ≡ is_known (file_of c b) actor
@@ -38,7 +38,7 @@ known-so c b (Supplier s) = sym (contains-listed b s)
 
 -- what passed the check
 pub passed : (p : Params) (actor : Actor) (request : Request) (valid : Checked) → check p actor request ≡ Ok valid → HasPassed p actor valid
-passed p actor request (checked.Command command) said = command-checked p actor request command said
+passed p actor request (checked.Command command) said = (command-checked p actor request command said, command-own p actor request command said)
 passed p actor request (checked.Import i) said = (subst (λ r. IfOk r (IsFormed p actor)) said (check-form p actor request)).asks
 passed p actor request (checked.Query query) said = tt
 
@@ -57,7 +57,7 @@ module _ (c : Cluster) (b : Book) (ask : Ask) where
     of_known said is = rw known (ap (λ r. outcome b (r >>= act c b ask.actor)) is)
 
 module _ (now : Standing) (config : ClusterFile) (same : (c : Cluster) (b : Book) → now c b → config ≡ file_of c b) (ask : Ask) where
-  knows-so : (t : Bool) → is_known config ask.actor ≡ t → (c : Cluster) (b : Book) → now c b → knows b ask.actor ≡ t
+  pub knows-so : (t : Bool) → is_known config ask.actor ≡ t → (c : Cluster) (b : Book) → now c b → knows b ask.actor ≡ t
   knows-so t is c b stood = known-so c b ask.actor ∙ ap (λ k. is_known k ask.actor) (sym (same c b stood)) ∙ is
 
   -- who asks is not there

@@ -18,7 +18,7 @@ use Rattle.fr_world.specs.BookEdits.{all_applied}
 use Rattle.fr_world.specs.Fits.{AllFit}
 use Rattle.fr_world.specs.Pages.{PageData, page_in}
 use Rattle.fr_world.specs.declared.edit.Edit.{Edit}
-use Rattle.fr_records.specs.Held.{Applies, IsFresh, Standing, Tells, page_of}
+use Rattle.fr_records.specs.Held.{Applies, IsFresh, Leaving, Reads, Standing, Tells, page_of}
 use Rattle.fr_answers.specs.KeptPages.{AreFresh, EachKept, TurnsFrom, KeptData, StandsWarm, WarmData, bytes_of, given_back, given_up, is_page_of, kept_at, kept_without, lent_at, none_lent, page_at, put_away, put_back, shelved_at, whose, with_page, with_room}
 use Rattle.fr_answers.specs.ImportCounts.{AreCounted, count_of}
 use Rattle.fr_answers.specs.declared.import_counts.ImportCount.{ImportCount}
@@ -149,6 +149,12 @@ turned None old others taken away new left (Err e) ok err same none = inr (same 
 
 pub same_params : {R : Type 0} (params : R → Params) (inside warm : WarmData R) → inside ≡ warm → params inside.records ≡ params warm.records
 same_params params inside warm is = ap (λ w. params w.records) is
+
+-- what was read of the records
+pub reads_inside : {R : Type 0} (clean : R → Type 0) (params : R → Params) (leaves : R → Leaving) (inside warm : WarmData R) → inside ≡ warm → (new : WarmData R) → Reads clean params leaves inside.records new.records →
+    Reads (λ w. clean w.records) (λ w. params w.records) (λ w. leaves w.records) warm new
+reads_inside clean params leaves inside warm is new reads =
+    subst (λ w. Reads (λ w. clean w.records) (λ w. params w.records) (λ w. leaves w.records) w new) is (record { falls = reads.falls; same = reads.same; leaves = reads.leaves })
 
 -- records beside these pages and counts
 abbrev pub Beside : Standing → KeptData → List ImportCount → Standing

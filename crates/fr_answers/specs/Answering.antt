@@ -19,7 +19,7 @@ use Rattle.fr_base.specs.declared.request.Ask.{Ask}
 use Rattle.fr_base.specs.declared.request.Checked.{Checked}
 use Rattle.fr_base.specs.declared.request.Checked.TheVariants as checked
 use Rattle.fr_answers.specs.Carried.{IsRefused}
-use Rattle.fr_answers.specs.Decided.{IsCheckedCommand}
+use Rattle.fr_answers.specs.Decided.{IsCheckedCommand, IsOwnCommand}
 use Rattle.fr_answers.specs.Imports.{AfterNew}
 use Rattle.fr_records.specs.Held.{Leaving, Standing}
 
@@ -28,9 +28,10 @@ abbrev pub is_known : ClusterFile → Actor → Bool
 is_known f Integrator = true
 is_known f (Supplier s) = list_any (λ t. same_text s t.name) f.suppliers
 
--- So much of what the check of a request leaves is needed: a command's values fit the cluster, and an import is of who asks.
+-- So much of what the check of a request leaves is needed: a command's values fit the cluster, and a change of a frame and an import are
+-- of who asks.
 abbrev pub HasPassed : Params → Actor → Checked → Type 0
-HasPassed p actor (checked.Command command) = IsCheckedCommand p command
+HasPassed p actor (checked.Command command) = IsCheckedCommand p command × IsOwnCommand actor command
 HasPassed p actor (checked.Import i) = actor ≡ Supplier i.supplier
 HasPassed p actor (checked.Query query) = ⊤
 

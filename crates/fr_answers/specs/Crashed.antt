@@ -1,7 +1,8 @@
 -- Crashed: when records were asked requests one after another. What a crash leaves then: the book after all that was
 -- answered, or after one request more, which had been answered `Unavailable`. When a register that is found afterwards
 -- is as promised.
-use Rattle.std.specs.Prelude.{◌≡◌, ◌≢◌, ◌⊎◌, List, [], ◌∷◌, ◌++◌, ⊤}
+use Rattle.std.specs.Global.{Vec}
+use Rattle.std.specs.Prelude.{◌≡◌, ◌≢◌, ◌⊎◌, List, [], ◌∷◌, ◌++◌, length, take, Result, MatchResult, ⊤}
 use Rattle.fr_base.specs.Book.{Book}
 use Rattle.fr_base.specs.Cluster.{Cluster}
 use Rattle.fr_base.specs.Run.{IsRun}
@@ -13,6 +14,7 @@ use Rattle.fr_base.specs.declared.refusal.Refusal.TheVariants.{Unavailable}
 use Rattle.fr_base.specs.declared.request.Ask.{Ask}
 use Rattle.fr_answers.specs.Answering.{Answers, KeepsChange, LeavesStep}
 use Rattle.fr_answers.specs.Headline.{WereAnswered}
+use Rattle.fr_answers.specs.declared.running.Stopped.{Stopped}
 use Rattle.fr_records.specs.Held.{Leaving, Standing}
 
 -- The request was answered by one step, or Unavailable; until it was answered a crash left no more than before, or the register after the
@@ -28,6 +30,12 @@ WereAsked stands leaves first [] [] last = last ≡ first
 WereAsked {R} stands leaves first (ask ∷ asks) (answer ∷ answers) last = (after : R) × IsTurn stands leaves first ask answer after × WereAsked stands leaves after asks answers last
 WereAsked stands leaves first [] (_ ∷ _) last = ⊥
 WereAsked stands leaves first (_ ∷ _) [] last = ⊥
+
+-- From the first records to the last all the requests were answered so, or where memory ended, those before were.
+abbrev pub AsksEach : {R : Type 0} → (R → Standing) → (R → Leaving) → R → R → List Ask → Result (Vec Answer) Stopped → Type 0
+AsksEach stands leaves first last asks result = MatchResult result
+    (λ answers. WereAsked stands leaves first asks answers.items last)
+    (λ stopped. WereAsked stands leaves first (take (length stopped.answers.items) asks) stopped.answers.items last)
 
 -- None of the answers is Done.
 abbrev pub NoneDone : List Answer → Type 0
@@ -57,6 +65,12 @@ pub record WereKept (now : Book → Type 0) (leaves : List Book → Type 0) (c :
   pub books : List Book
   pub left : leaves books
   pub each : EachBook (IsOrNext c (WasLacking asks answers) last) books
+
+-- Of a sound book for which the records stood, and which alone a crash left: so it is of all the requests, or where memory ended, of those before.
+abbrev pub KeepsEach : {R : Type 0} → (R → Standing) → (R → Leaving) → R → R → List Ask → Result (Vec Answer) Stopped → Type 0
+KeepsEach stands leaves first last asks result = (c : Cluster) (b : Book) → stands first c b → IsSound c b → leaves first c (b ∷ []) → MatchResult result
+    (λ answers. WereKept (stands last c) (leaves last c) c b asks answers.items)
+    (λ stopped. WereKept (stands last c) (leaves last c) c b (take (length stopped.answers.items) asks) stopped.answers.items)
 
 -- So it is whatever is asked of records of which a crash leaves their book, from a sound book on.
 abbrev pub KeepsAnswered : {R : Type 0} → (R → Standing) → (R → Leaving) → Type 0

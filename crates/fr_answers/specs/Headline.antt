@@ -1,6 +1,7 @@
 -- Promise: what holds of requests that were answered, from a book to the last. Each supplier was answered as if it were
 -- alone. After each of them at most one frame is sent in a cell, by the node that holds the grant.
-use Rattle.std.specs.Prelude.{◌≡◌, ℕ, List, [], ◌∷◌, take, drop, Some, ⊤}
+use Rattle.std.specs.Global.{Vec}
+use Rattle.std.specs.Prelude.{◌≡◌, ℕ, List, [], ◌∷◌, length, take, drop, Some, Result, MatchResult, ⊤}
 use Rattle.fr_base.specs.Alone.{rows_of, asks_of, answers_of, answers_to, book_after}
 use Rattle.fr_base.specs.Book.{Frame, Variant, Book}
 use Rattle.fr_base.specs.Cells.{Cell}
@@ -15,6 +16,8 @@ use Rattle.fr_base.specs.declared.answer.Answer.TheVariants.{Done}
 use Rattle.fr_base.specs.declared.name.Name.{Name}
 use Rattle.fr_base.specs.declared.placement.Placement.{Placement}
 use Rattle.fr_base.specs.declared.request.Ask.{Ask}
+use Rattle.fr_answers.specs.declared.running.Stopped.{Stopped}
+use Rattle.fr_records.specs.Held.{Standing}
 
 -- what the integrator asked was done; a supplier's requests may have any answer
 abbrev pub IsDoneFor : Actor → Answer → Type 0
@@ -66,3 +69,9 @@ pub record WereAnswered (now : Book → Type 0) (c : Cluster) (b : Book) (asks :
   pub run : IsRun c b asks answers last
   pub sound : IsSound c last
   pub promised : IsAsPromised c b asks answers last
+
+-- Of each sound book for which the register stood: all the requests were answered so, or where memory ended, those before were.
+abbrev pub AnswersEach : Standing → Standing → List Ask → Result (Vec Answer) Stopped → Type 0
+AnswersEach old new asks result = (c : Cluster) (b : Book) → old c b → IsSound c b → MatchResult result
+    (λ answers. WereAnswered (new c) c b asks answers.items)
+    (λ stopped. WereAnswered (new c) c b (take (length stopped.answers.items) asks) stopped.answers.items)

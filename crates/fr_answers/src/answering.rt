@@ -1,13 +1,15 @@
 //! How one request is answered: who asks, its check, and what is made of it.
-ghost use Rattle.std.specs.Prelude.{◌≡◌};
+ghost use Rattle.std.specs.Prelude.{◌≡◌, IsTrue};
+ghost use Rattle.std.specs.List.{list_any};
+ghost use Rattle.fr_base.specs.Names.{same_text};
+ghost use Rattle.fr_base.specs.Step.{knows};
 ghost use Rattle.fr_answers.specs.Answering.{Acts, AfterAct, AfterChange, Answers, HasPassed, LeavesAct, LeavesStep, is_known};
 
 use crate::commands::carry_out;
 use crate::imports::import;
 use crate::lender::Lender;
 use crate::queries::reply;
-use crate::suppliers::has_supplier;
-use fr_base::{Actor, Answer, Ask, Checked, Config, Refusal, check};
+use fr_base::{Actor, Answer, Ask, Checked, Config, Name, Refusal, Supplier, check};
 use fr_records::Records;
 use std::alloc::Global;
 
@@ -59,7 +61,21 @@ pub(crate) fn is_known(config: &Config, actor: &Actor) -> bool
     }
 }
 
-// Carries out a request that was checked under the cluster's parameters.
+/// Whether the supplier is there.
+pub(crate) fn has_supplier(config: &Config, supplier: Name) -> bool
+    ensures { result ≡ list_any (λ s. same_text supplier s.name) config.now.suppliers }
+{
+    is_named(config.suppliers(), supplier)
+}
+
+// Whether one of the suppliers has this name.
+fn is_named(suppliers: &[Supplier], name: Name) -> bool
+    ensures { result ≡ list_any (λ s. same_text name s.name) suppliers.now }
+{
+    suppliers.iter().any(|supplier| name == supplier.name)
+}
+
+// Carries out a request that was checked under the cluster's parameters, of an actor that is there.
 fn act<R: Lender>(
     alloc: Global,
     records: &mut R,
@@ -67,6 +83,7 @@ fn act<R: Lender>(
     valid: &Checked<'_>,
 ) -> Result<Answer, Refusal>
     requires passed { HasPassed (R.params records.old) actor.now valid.now }
+    requires known { (c : _) (b : _) → R.stands records.old c b → IsTrue (knows b actor.now) }
     ensures falls { R.clean records.new → R.clean records.old }
     ensures open { R.clean records.new → AfterAct (R.stands records.old) valid.now result (R.serves records.new) }
     ensures leaves { R.clean records.new → LeavesAct (R.stands records.old) (R.leaves records.old) (R.leaves records.new) actor.now valid.now }

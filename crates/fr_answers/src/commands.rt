@@ -1,7 +1,7 @@
 //! Carries commands out, each by its kind.
 ghost use Rattle.fr_base.specs.Step.{perform};
 ghost use Rattle.fr_answers.specs.Carried.{LeavesDone, Performs};
-ghost use Rattle.fr_answers.specs.Decided.{IsCheckedCommand};
+ghost use Rattle.fr_answers.specs.Decided.{FromKnown, IsCheckedCommand};
 ghost use Rattle.std.specs.Prelude.{OnOk};
 
 mod common;
@@ -17,14 +17,15 @@ use crate::lender::Lender;
 use fr_base::{Command, Refusal};
 use std::alloc::Global;
 
-/// Carries out a command whose values were checked under the cluster's parameters. It is refused
-/// as the register refuses it, or with `Unavailable`, and then nothing was done.
+/// Carries out a command whose values were checked under the cluster's parameters. Who changes a frame is
+/// there. It is refused as the register refuses it, or with `Unavailable`, and then nothing was done.
 pub(crate) fn carry_out<R: Lender>(
     alloc: Global,
     records: &mut R,
     command: &Command,
 ) -> Result<(), Refusal>
     requires checked { IsCheckedCommand (R.params records.old) command.now }
+    requires known { FromKnown (R.stands records.old) command.now }
     ensures falls { R.clean records.new → R.clean records.old }
     ensures open { R.clean records.new → OnOk result (R.serves records.new) }
     ensures leaves { R.clean records.new → LeavesDone (R.stands records.old) (R.leaves records.old) (R.leaves records.new) (λ c b. perform c b command.now) }

@@ -1,18 +1,21 @@
 //! Carries an import out, or answers it again.
+#![tactic(auto, using(fr_records::proofs::ReadLaws::reads_none, fr_records::proofs::ReadLaws::reads_then))]
+
 ghost use Rattle.std.specs.Prelude.{◌≡◌, IfSome, IsSome, OnOk, false};
 ghost use Rattle.fr_base.specs.Tables.{get};
 ghost use Rattle.fr_answers.specs.Carried.{Replies};
-ghost use Rattle.fr_answers.specs.Decided.{TakesAll};
+ghost use Rattle.fr_answers.specs.Decided.{LeadsTo};
 ghost use Rattle.fr_answers.specs.Imports.{AfterNew, GivesImport, GivesRows, LeavesImport, LeavesRows, OnImported, kept_edits};
 ghost use Rattle.fr_world.specs.ImportLabels.{label_decision};
-ghost use Rattle.fr_records.specs.Held.{Applies, LeavesEdited, LeavesNoMore};
+ghost use Rattle.fr_records.specs.Held.{Applies, LeavesEdited, Reads};
 
-use crate::lender::Lender;
-use crate::open_page::open_page;
+use crate::lender::{Lender, open_page};
 use fr_base::{Answer, Body, Import, Refusal};
 use fr_records::Records;
 use fr_text::read_import;
-use fr_world::{Edit, RowFault, admit_import, decide_label, decide_rows, rows_are_checked};
+use fr_world::{
+    Draft, Edit, RowFault, admit_import, decide_label, decide_rows, rows_are_checked,
+};
 use std::alloc::Global;
 
 /// Carries out an import with checked names, of a supplier that is there. One that is kept under its
@@ -43,8 +46,7 @@ fn rows_kept<R: Records>(
     records: &mut R,
     import: &Import<'_>,
 ) -> Result<Option<u32>, Refusal>
-    ensures falls { R.clean records.new → R.clean records.old }
-    ensures leaves { R.clean records.new → LeavesNoMore (R.leaves records.old) (R.leaves records.new) }
+    ensures reads { Reads R.clean R.params R.leaves records.old records.new }
     ensures label { R.clean records.new → Replies (R.stands records.old) (R.stands records.new) result
         (λ c b. label_decision (get b.imports (import.now.supplier, import.now.label)) import.now) }
 {
@@ -70,10 +72,10 @@ fn import_rows<R: Lender>(
     let rows = read_import(alloc, &page.params(), import.body.as_slice())?;
     rows_are_checked();
     match decide_rows(alloc, page.clone()?, rows.as_slice()) {
-        Ok(edits) => {
+        Ok(draft) => {
             // A file of which no row is refused has at most 512.
             let count = rows.len() as u32;
-            keep(alloc, records, import, edits, count)?;
+            keep(alloc, records, import, draft, count)?;
             Ok(Answer::Imported { rows: count })
         }
         Err(RowFault::Row { line, refusal }) => Ok(Answer::RefusedRow { line, refusal }),
@@ -81,20 +83,23 @@ fn import_rows<R: Lender>(
     }
 }
 
-// Carries out the edits, which the page that is lent takes, and one more that keeps the import with this count of rows.
+// Carries out the edits that led from the page that is lent to the draft's, and one more that keeps the import with this
+// count of rows. The draft's page is lent then.
 fn keep<R: Lender>(
     alloc: Global,
     records: &mut R,
     import: &Import<'_>,
-    mut edits: Vec<Edit>,
+    draft: Draft,
     rows: u32,
 ) -> Result<(), Refusal>
-    requires takes { IfSome (R.lent records.old) (λ page. TakesAll page (kept_edits edits.items import.now rows)) }
+    requires lent { IsSome (R.lent records.old) }
+    requires leads { IfSome (R.lent records.old) (λ page. LeadsTo page (kept_edits draft.edits.items import.now rows) draft.page) }
     ensures falls { R.clean records.new → R.clean records.old }
     ensures open { R.clean records.new → OnOk result (R.serves records.new) }
-    ensures leaves { R.clean records.new → LeavesEdited (R.stands records.old) (R.leaves records.old) (R.leaves records.new) (kept_edits edits.items import.now rows) }
-    ensures applies { R.clean records.new → Applies (R.stands records.old) (R.stands records.new) result (kept_edits edits.items import.now rows) }
+    ensures leaves { R.clean records.new → LeavesEdited (R.stands records.old) (R.leaves records.old) (R.leaves records.new) (kept_edits draft.edits.items import.now rows) }
+    ensures applies { R.clean records.new → Applies (R.stands records.old) (R.stands records.new) result (kept_edits draft.edits.items import.now rows) }
 {
+    let Draft { page, mut edits } = draft;
     edits.push(Edit::KeepImport {
         supplier: import.supplier,
         label: import.label,
@@ -102,5 +107,5 @@ fn keep<R: Lender>(
         body: Body::copy(alloc, import.body.as_slice())?,
         rows,
     })?;
-    records.change(alloc, &edits)
+    records.change_to(alloc, &edits, page)
 }

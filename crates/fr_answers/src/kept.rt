@@ -1,9 +1,9 @@
 //! What is kept of a register in memory, and how it follows the register's edits.
-ghost use Rattle.std.specs.Prelude.{◌≡◌, [], None, IfSome};
+ghost use Rattle.std.specs.Prelude.{◌≡◌, [], None, Some, IfSome, IsSome};
 ghost use Rattle.fr_base.specs.Book.{Book};
 ghost use Rattle.fr_base.specs.Cluster.{Cluster};
 ghost use Rattle.fr_base.specs.declared.params.Params.{Params};
-ghost use Rattle.fr_answers.specs.Decided.{MayTake, TakesAll};
+ghost use Rattle.fr_answers.specs.Decided.{LeadsTo, MayTake, TakesAll};
 ghost use Rattle.fr_answers.specs.ImportCounts.{AreCounted};
 ghost use Rattle.fr_answers.specs.KeptPages.{AreFollowed, AreFresh, AreOf, none_lent, untouched_by};
 ghost use Rattle.fr_world.specs.BookEdits.{all_applied, applied};
@@ -12,7 +12,7 @@ ghost use Rattle.fr_world.specs.Pages.{own_rows_of};
 
 use crate::import_counts::ImportCounts;
 use crate::pages::Pages;
-use fr_world::Edit;
+use fr_world::{Edit, Page};
 use std::alloc::Global;
 
 /// Pages of a register, and how many imports suppliers keep, as far as that is known.
@@ -45,6 +45,24 @@ impl Kept {
         for edit in edits {
             self.follow_one(alloc, edit);
         }
+    }
+
+    /// Goes on to the register after edits that lead from the page that is lent to this one. It is lent then, and other
+    /// pages that they may change are let go.
+    pub(crate) fn follow_to(&mut self, alloc: Global, edits: &[Edit], page: Page)
+        requires lent { IsSome self.old.pages.lent }
+        requires leads { IfSome self.old.pages.lent (λ before. LeadsTo before edits.now page) }
+        ensures lent { self.new.pages.lent ≡ Some page }
+        ensures others { none_lent self.new.pages ≡ untouched_by edits.now (none_lent self.old.pages) }
+        ensures params { (p : Params) → AreOf p self.old.pages → AreOf p self.new.pages }
+        ensures fresh { (c : Cluster) (b : Book) → AllFit c.params b edits.now → AreFresh c.params b self.old.pages → AreFresh c.params (all_applied b edits.now) self.new.pages }
+        ensures counted { (p : Params) (b : Book) → AllFit p b edits.now → AreCounted b self.old.counts → AreCounted (all_applied b edits.now) self.new.counts }
+    {
+        // Gives the proof that the rows are a page's.
+        let _frames = page.frames();
+        self.pages.lend_read(None);
+        self.follow(alloc, edits);
+        self.pages.lend_read(Some(page));
     }
 
     // Goes on to the register after the edit.

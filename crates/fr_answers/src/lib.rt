@@ -10,12 +10,10 @@ mod kept;
 mod laws;
 mod lender;
 mod listing;
-mod open_page;
 mod pages;
 mod queries;
 mod running;
 mod shelf;
-mod suppliers;
 mod warm;
 
 pub use answering::{answer, decline};

@@ -1,6 +1,6 @@
 //! The variants of the register, listed for who asks.
 ghost use Rattle.fr_answers.specs.Listing.{Lists};
-ghost use Rattle.fr_records.specs.Held.{LeavesNoMore};
+ghost use Rattle.fr_records.specs.Held.{Reads};
 
 use crate::answering::is_known;
 use fr_base::{Actor, Refusal, VariantRow};
@@ -14,8 +14,7 @@ pub fn list_variants<R: Records>(
     records: &mut R,
     actor: &Actor,
 ) -> Result<Vec<VariantRow>, Refusal>
-    ensures falls { R.clean records.new → R.clean records.old }
-    ensures leaves { R.clean records.new → LeavesNoMore (R.leaves records.old) (R.leaves records.new) }
+    ensures reads { Reads R.clean R.params R.leaves records.old records.new }
     ensures lists { R.clean records.new → Lists (R.stands records.old) (R.stands records.new) actor.now result }
 {
     if !is_known(records.config(), actor) {

@@ -1,4 +1,6 @@
 //! Answers queries: by what the register holds, from one supplier's page, or gathered from all.
+#![tactic(auto, using(fr_records::proofs::ReadLaws::reads_none, fr_records::proofs::ReadLaws::reads_then))]
+
 ghost use Rattle.std.specs.Prelude.{◌≡◌, IsSome, Ok, OnOk};
 ghost use Rattle.fr_base.specs.Checks.{is_integrator};
 ghost use Rattle.fr_base.specs.Queries.{found, held, reply};
@@ -6,7 +8,7 @@ ghost use Rattle.fr_base.specs.declared.actor.Actor.TheVariants.{Integrator, Sup
 ghost use Rattle.fr_base.specs.declared.query.Query.TheVariants.{Variant as OfVariant};
 ghost use Rattle.fr_answers.specs.Carried.{Replies};
 ghost use Rattle.fr_answers.specs.Shown.{FindsPage, ShowsAll, ShowsOwn};
-ghost use Rattle.fr_records.specs.Held.{LeavesNoMore};
+ghost use Rattle.fr_records.specs.Held.{Reads};
 
 mod cluster;
 mod frames;
@@ -39,8 +41,7 @@ pub(crate) fn reply<R: Lender>(
     actor: &Actor,
     query: &Query<Name>,
 ) -> Result<Answer, Refusal>
-    ensures falls { R.clean records.new → R.clean records.old }
-    ensures leaves { R.clean records.new → LeavesNoMore (R.leaves records.old) (R.leaves records.new) }
+    ensures reads { Reads R.clean R.params R.leaves records.old records.new }
     ensures replies { R.clean records.new → Replies (R.stands records.old) (R.stands records.new) result (λ c b. reply c.params b actor.now query.now) }
 {
     let rows = find_rows(alloc, records, actor, query)?;
@@ -62,8 +63,7 @@ fn find_rows<R: Lender>(
     actor: &Actor,
     query: &Query<Name>,
 ) -> Result<ReportRows, Refusal>
-    ensures falls { R.clean records.new → R.clean records.old }
-    ensures leaves { R.clean records.new → LeavesNoMore (R.leaves records.old) (R.leaves records.new) }
+    ensures reads { Reads R.clean R.params R.leaves records.old records.new }
     ensures replies { R.clean records.new → Replies (R.stands records.old) (R.stands records.new) result (λ c b. found c.params b actor.now query.now) }
 {
     match query {
@@ -79,8 +79,7 @@ fn held<R: Lender>(
     actor: &Actor,
     inventory: Inventory,
 ) -> Result<ReportRows, Refusal>
-    ensures falls { R.clean records.new → R.clean records.old }
-    ensures leaves { R.clean records.new → LeavesNoMore (R.leaves records.old) (R.leaves records.new) }
+    ensures reads { Reads R.clean R.params R.leaves records.old records.new }
     ensures holds { R.clean records.new → Replies (R.stands records.old) (R.stands records.new) result (λ c b. Ok (held c.params b actor.now inventory)) }
 {
     match inventory {
@@ -107,8 +106,7 @@ fn of_variant<R: Lender>(
     variant: Name,
     report: &Report<Name>,
 ) -> Result<ReportRows, Refusal>
-    ensures falls { R.clean records.new → R.clean records.old }
-    ensures leaves { R.clean records.new → LeavesNoMore (R.leaves records.old) (R.leaves records.new) }
+    ensures reads { Reads R.clean R.params R.leaves records.old records.new }
     ensures replies { R.clean records.new → Replies (R.stands records.old) (R.stands records.new) result (λ c b. found c.params b actor.now (OfVariant variant report.now)) }
 {
     match actor {
@@ -124,8 +122,7 @@ fn of_all<R: Lender>(
     variant: Name,
     report: &Report<Name>,
 ) -> Result<ReportRows, Refusal>
-    ensures falls { R.clean records.new → R.clean records.old }
-    ensures leaves { R.clean records.new → LeavesNoMore (R.leaves records.old) (R.leaves records.new) }
+    ensures reads { Reads R.clean R.params R.leaves records.old records.new }
     ensures replies { R.clean records.new → Replies (R.stands records.old) (R.stands records.new) result (λ c b. found c.params b Integrator (OfVariant variant report.now)) }
 {
     if records.has_variant(variant)? {
@@ -142,8 +139,7 @@ fn show_all<R: Lender>(
     variant: Name,
     report: &Report<Name>,
 ) -> Result<ReportRows, Refusal>
-    ensures falls { R.clean records.new → R.clean records.old }
-    ensures leaves { R.clean records.new → LeavesNoMore (R.leaves records.old) (R.leaves records.new) }
+    ensures reads { Reads R.clean R.params R.leaves records.old records.new }
     ensures shows { R.clean records.new → ShowsAll (R.stands records.old) (R.stands records.new) variant report.now result }
 {
     let params = records.config().params();
@@ -182,8 +178,7 @@ fn of_supplier<R: Lender>(
     variant: Name,
     report: &Report<Name>,
 ) -> Result<ReportRows, Refusal>
-    ensures falls { R.clean records.new → R.clean records.old }
-    ensures leaves { R.clean records.new → LeavesNoMore (R.leaves records.old) (R.leaves records.new) }
+    ensures reads { Reads R.clean R.params R.leaves records.old records.new }
     ensures replies { R.clean records.new → Replies (R.stands records.old) (R.stands records.new) result (λ c b. found c.params b (Supplier supplier) (OfVariant variant report.now)) }
 {
     find_page(alloc, records, supplier, variant)?;
@@ -197,8 +192,7 @@ pub(crate) fn find_page<R: Lender>(
     supplier: Name,
     variant: Name,
 ) -> Result<(), Refusal>
-    ensures falls { R.clean records.new → R.clean records.old }
-    ensures leaves { R.clean records.new → LeavesNoMore (R.leaves records.old) (R.leaves records.new) }
+    ensures reads { Reads R.clean R.params R.leaves records.old records.new }
     ensures lent { OnOk result (IsSome (R.lent records.new)) }
     ensures page { R.clean records.new → FindsPage (R.stands records.old) (R.stands records.new) (R.lent records.new) result supplier variant }
 {

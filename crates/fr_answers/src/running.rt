@@ -1,10 +1,7 @@
 //! Requests answered one after another, by any desk.
-ghost use Rattle.std.specs.Prelude.{◌≡◌, ◌<◌, [], ◌∷◌, length, take, IfOk, IfErr, MatchResult};
-ghost use Rattle.fr_base.specs.Book.{Book};
-ghost use Rattle.fr_base.specs.Cluster.{Cluster};
-ghost use Rattle.fr_base.specs.Sound.{IsSound};
-ghost use Rattle.fr_answers.specs.Crashed.{WereAsked, WereKept};
-ghost use Rattle.fr_answers.specs.Headline.{WereAnswered};
+ghost use Rattle.std.specs.Prelude.{◌≡◌, ◌<◌, length, IfOk, IfErr};
+ghost use Rattle.fr_answers.specs.Crashed.{AsksEach, KeepsEach};
+ghost use Rattle.fr_answers.specs.Headline.{AnswersEach};
 
 use crate::answering::answer;
 use crate::lender::Lender;
@@ -25,15 +22,9 @@ pub fn run<R: Lender>(alloc: Global, records: &mut R, asks: &[Ask]) -> Result<Ve
     ensures falls { R.clean records.new → R.clean records.old }
     ensures each { IfOk result (λ answers. length answers.items ≡ length asks.now) }
     ensures front { IfErr result (λ stopped. length stopped.answers.items < length asks.now) }
-    ensures headline { R.clean records.new → (c : Cluster) (b : Book) → R.stands records.old c b → IsSound c b → MatchResult result
-        (λ answers. WereAnswered (R.stands records.new c) c b asks.now answers.items)
-        (λ stopped. WereAnswered (R.stands records.new c) c b (take (length stopped.answers.items) asks.now) stopped.answers.items) }
-    ensures asked { R.clean records.new → MatchResult result
-        (λ answers. WereAsked R.stands R.leaves records.old asks.now answers.items records.new)
-        (λ stopped. WereAsked R.stands R.leaves records.old (take (length stopped.answers.items) asks.now) stopped.answers.items records.new) }
-    ensures kept { R.clean records.new → (c : Cluster) (b : Book) → R.stands records.old c b → IsSound c b → R.leaves records.old c (b ∷ []) → MatchResult result
-        (λ answers. WereKept (R.stands records.new c) (R.leaves records.new c) c b asks.now answers.items)
-        (λ stopped. WereKept (R.stands records.new c) (R.leaves records.new c) c b (take (length stopped.answers.items) asks.now) stopped.answers.items) }
+    ensures headline { R.clean records.new → AnswersEach (R.stands records.old) (R.stands records.new) asks.now result }
+    ensures asked { R.clean records.new → AsksEach R.stands R.leaves records.old records.new asks.now result }
+    ensures kept { R.clean records.new → KeepsEach R.stands R.leaves records.old records.new asks.now result }
 {
     let mut answers = Vec::new(alloc);
     for ask in asks {

@@ -151,4 +151,10 @@ impl<R: Records> Lender for Warm<R> {
         self.kept.follow(alloc, edits);
         Ok(())
     }
+
+    fn change_to(&mut self, alloc: Global, edits: &[Edit], page: Page) -> Result<(), Refusal> {
+        self.records.apply(alloc, edits)?;
+        self.kept.follow_to(alloc, edits, page);
+        Ok(())
+    }
 }

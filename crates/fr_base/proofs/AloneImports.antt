@@ -54,6 +54,7 @@ module _ (c : Cluster) (s v : Name) where
 
   row-own : (b : Book) → IsSound c b → (r : Row) → IsFormedRow c.params r → Like (act_row c.params b s v r) (act_row c.params (rows_of s b) s v r)
   unfolding act_row
+  row-own b sound (row.AddFrame f n) form = frame_change-own b sound f (Add n)
   row-own b sound (row.Place f n q) form =
       alike_when Like (λ e. refl) NoNode (not (contains b.nodes (s, n))) _ (ap not (rows_of-node s b n)) _ _ (λ _.
       alike_map Like (λ e. refl) (rows_of s) (with_frame c.params b s v f n (frame_at b s v f)) _
@@ -116,6 +117,7 @@ module _ (p : Params) (s t v : Name) (other : same_text t s ≡ false) where
 
   row-other : (b : Book) (r : Row) → IfOk (act_row p b t v r) (Leaves b)
   unfolding act_row
+  row-other b (row.AddFrame f n) = change_rows-other p b v (change.Frame f (Add n)) s t other
   row-other b (row.Place f n q) =
       gives_unless _ _ _ _ (λ _.
       gives_bind _ _ (with_frame p b t v f n (frame_at b t v f)) _ (framed-other b f n (frame_at b t v f)) (λ d mid.

@@ -6,20 +6,21 @@ use Rattle.fr_base.specs.Names.{is_name}
 use Rattle.fr_base.specs.Refusing.{◌>>◌, refuse◌when◌}
 use Rattle.fr_base.specs.Signals.{is_signal_length}
 use Rattle.fr_base.specs.Checks.{name, placement, signal}
-use Rattle.fr_base.specs.ImportRows.{text_at, number_at, placement_row, signal_row, placement_in, signal_in, row_of, row_at, rows_from, header_of, rows_below, rows_of_records, up_to_refused, records_of, rows_of_body}
+use Rattle.fr_base.specs.ImportRows.{text_at, number_at, frame_row, placement_row, signal_row, frame_in, placement_in, signal_in, row_of, row_at, rows_from, header_of, rows_below, rows_of_records, up_to_refused, records_of, rows_of_body}
 use Rattle.fr_base.specs.Sound.{FitsCluster}
 use Rattle.fr_base.specs.declared.limits.TheConstants.{MAX_ROWS}
 use Rattle.fr_base.specs.declared.import.Header.{Header}
-use Rattle.fr_base.specs.declared.import.Header.TheVariants.{Placements, Signals}
+use Rattle.fr_base.specs.declared.import.Header.TheVariants.{Frames, Placements, Signals}
 use Rattle.fr_base.specs.declared.import.Row.{Row}
-use Rattle.fr_base.specs.declared.import.Row.TheVariants.{Place, AddSignal}
+use Rattle.fr_base.specs.declared.import.Row.TheVariants.{AddFrame, Place, AddSignal}
 use Rattle.fr_base.specs.declared.import.RowRead.{RowRead}
 use Rattle.fr_base.specs.declared.params.Params.{Params}
 use Rattle.fr_base.proofs.SoundRefusing.{gives_bind, gives_each, gives_when, gives_unless}
 use Rattle.fr_base.proofs.SoundChecks.{name-form, placement-form, signal-form}
 
--- a row of placements names a frame, and its placement fits the cluster; a row of signals names a signal of 1 to 64 bits
+-- a row of frames names a frame; a row of placements names a frame, and its placement fits the cluster; a row of signals names a signal of 1 to 64 bits
 abbrev pub IsFormedRow : Params → Row → Type 0
+IsFormedRow p (AddFrame f n) = IsTrue (is_name f)
 IsFormedRow p (Place f n q) = IsTrue (is_name f) × FitsCluster p q
 IsFormedRow p (AddSignal f signal) = IsTrue (is_name signal.name) × IsTrue (is_signal_length signal.length)
 
@@ -31,6 +32,12 @@ abbrev pub IsRead : RowRead → Type 0
 IsRead read = is_err read.row ≡ false
 
 module _ (p : Params) where
+  frame_row-form : (frame node : List ℕ) → IfOk (frame_row frame node) (IsFormedRow p)
+  unfolding frame_row
+  frame_row-form frame node =
+      gives_bind _ _ (name frame) _ (name-form frame) (λ f named.
+      gives_each _ (name node) _ (λ n _. named))
+
   placement_row-form : (frame node : List ℕ) (slot : ℕ) (channels : List ℕ) (base repetition : ℕ) → IfOk (placement_row p frame node slot channels base repetition) (IsFormedRow p)
   unfolding placement_row
   placement_row-form frame node slot channels base repetition =
@@ -46,7 +53,11 @@ module _ (p : Params) where
       gives_bind _ _ (signal n start length order) _ (signal-form n start length order h) (λ x form. form)))
 
   row_of-form : (header : Header) (fields : List (List ℕ)) → IfOk (row_of p header fields) (IsFormedRow p)
-  unfolding row_of placement_in signal_in
+  unfolding row_of frame_in placement_in signal_in
+  row_of-form Frames fields =
+      gives_unless _ _ _ _ (λ _.
+      gives_each _ (text_at fields 0) _ (λ frame _.
+      gives_each _ (text_at fields 1) _ (λ node _. frame_row-form frame node)))
   row_of-form Placements fields =
       gives_unless _ _ _ _ (λ _.
       gives_each _ (text_at fields 0) _ (λ frame _.

@@ -7,7 +7,6 @@ use Rattle.fr_base.specs.Tables.{get, len}
 use Rattle.fr_base.specs.Book.{Variant, Book, own}
 use Rattle.fr_base.specs.ImportRows.{rows_of_body}
 use Rattle.fr_base.specs.Step.{with_frame, act_row, at_line, act_rows, imported, import_rows, import}
-use Rattle.fr_base.specs.declared.answer.Answer.{Answer}
 use Rattle.fr_base.specs.declared.answer.Answer.TheVariants.{Done, Imported, Refused, RefusedRow}
 use Rattle.fr_base.specs.declared.answer.FrameRow.{FrameRow}
 use Rattle.fr_base.specs.declared.answer.SignalRow.{SignalRow}

@@ -14,12 +14,12 @@ use Rattle.csv.specs.declared.parser.State.TheVariants as st
 use Rattle.fr_base.specs.Refusing.{◌>>=◌, ◌>>◌, ◌or◌, refuse◌when◌}
 use Rattle.fr_base.specs.Names.{is_name}
 use Rattle.fr_base.specs.Checks.{name, cycles, slot, channels, placement, signal}
-use Rattle.fr_base.specs.ImportRows.{records_of, header_of, text_at, number, number_at, placement_row, signal_row, placement_in, signal_in, row_of, row_at, rows_from, rows_below, rows_of_records, up_to_refused, rows_of_body}
+use Rattle.fr_base.specs.ImportRows.{records_of, header_of, text_at, number, number_at, frame_row, placement_row, signal_row, frame_in, placement_in, signal_in, row_of, row_at, rows_from, rows_below, rows_of_records, up_to_refused, rows_of_body}
 use Rattle.fr_base.specs.declared.channel.Channels.TheVariants as chs
 use Rattle.fr_base.specs.declared.import.Header.{Header}
 use Rattle.fr_base.specs.declared.import.Header.TheVariants.{Signals}
 use Rattle.fr_base.specs.declared.import.Row.{Row}
-use Rattle.fr_base.specs.declared.import.Row.TheVariants.{Place, AddSignal}
+use Rattle.fr_base.specs.declared.import.Row.TheVariants.{AddFrame, Place, AddSignal}
 use Rattle.fr_base.specs.declared.import.RowRead.{RowRead}
 use Rattle.fr_base.specs.declared.params.Params.{Params}
 use Rattle.fr_base.specs.declared.refusal.Refusal.{Refusal}
@@ -37,7 +37,7 @@ rows body = rows_of_body params body
 
 -- what the rows below unfold
 unfoldable pub a_small_file : ⊤
-unfolding csv_on_literals field_at is_utf8 chars encode_utf8 ◌>>=◌ ◌>>◌ ◌or◌ refuse◌when◌ is_name name cycles slot channels placement signal records_of header_of text_at number number_at placement_row signal_row placement_in signal_in row_of row_at rows_from rows_below rows_of_records up_to_refused rows_of_body params rows
+unfolding csv_on_literals field_at is_utf8 chars encode_utf8 ◌>>=◌ ◌>>◌ ◌or◌ refuse◌when◌ is_name name cycles slot channels placement signal records_of header_of text_at number number_at frame_row placement_row signal_row frame_in placement_in signal_in row_of row_at rows_from rows_below rows_of_records up_to_refused rows_of_body params rows
 a_small_file = tt
 
 -- a row that was read, and one that is refused
@@ -67,6 +67,12 @@ pub three_rows : rows (codes "frame,node,slot,channels,base,repetition\nf1,n1,1,
 unfolding a_small_file
 three_rows = refl
 
+-- rows of frames, of which none is sent
+pub two_frames : rows (codes "frame,node\nf,n1\ng,n2\n")
+    ≡ read 2 (AddFrame (codes "f") (codes "n1")) ∷ read 3 (AddFrame (codes "g") (codes "n2")) ∷ []
+unfolding a_small_file
+two_frames = refl
+
 -- a byte order mark, quotes, and lines that end with CR and LF
 pub marked_and_quoted : rows (mark ++ codes "frame,signal,start,length,order\r\n\"f1\",\"x\",0,8,little\r\n")
     ≡ read 2 (little (codes "x") 0 8) ∷ []
@@ -74,13 +80,13 @@ unfolding a_small_file
 marked_and_quoted = refl
 
 -- a header alone has no rows
-pub header_alone : map rows (codes "frame,signal,start,length,order\n" ∷ codes "frame,node,slot,channels,base,repetition" ∷ [])
-    ≡ [] ∷ [] ∷ []
+pub header_alone : map rows (codes "frame,signal,start,length,order\n" ∷ codes "frame,node,slot,channels,base,repetition" ∷ codes "frame,node" ∷ [])
+    ≡ [] ∷ [] ∷ [] ∷ []
 unfolding a_small_file
 header_alone = refl
 
 -- what does not begin with a header: no bytes, empty lines, two marks, a mark behind a quote, a header of another case, with a field
--- less or more, with a space, or a row
+-- less or more, with a space, in another order, or a row
 pub no_header : map rows (
     []
     ∷ codes "\n\r\n"
@@ -90,9 +96,11 @@ pub no_header : map rows (
     ∷ codes "frame,signal,start,length\n"
     ∷ codes "frame,signal,start,length,order,\n"
     ∷ codes "frame, signal,start,length,order\n"
+    ∷ codes "frame, node\nf,n1\n"
+    ∷ codes "node,frame\nn1,f\n"
     ∷ codes "f1,x,0,8,little\n"
     ∷ [])
-    ≡ replicate 9 (refused 1 BadText ∷ [])
+    ≡ replicate 11 (refused 1 BadText ∷ [])
 unfolding a_small_file
 no_header = refl
 
@@ -116,7 +124,11 @@ up_to_the_first_refused = refl
 
 -- ---- single rows
 
--- the rows below a header of placements, and below one of signals
+-- the rows below a header of frames, of placements, and of signals
+unfoldable pub below_frames : List ℕ → List RowRead
+unfolding rows
+below_frames text = rows (codes "frame,node\n" ++ text)
+
 unfoldable pub below_placements : List ℕ → List RowRead
 unfolding rows
 below_placements text = rows (codes "frame,node,slot,channels,base,repetition\n" ++ text)
@@ -157,6 +169,21 @@ pub fields_and_quotes : map below_signals (
     ≡ replicate 5 (refused 2 BadText ∷ []) ++ replicate 2 (refused 2 BadName ∷ []) ++ (read 2 (little (codes "x") 0 8) ∷ []) ∷ []
 unfolding a_small_file below_signals
 fields_and_quotes = refl
+
+-- rows of frames: two fields, each a text and a name
+pub refusals_of_frames : map below_frames (
+    codes "f"
+    ∷ codes "f,n1,"
+    ∷ (codes "1f," ++ 255 ∷ [])
+    ∷ codes "1f,n1"
+    ∷ codes "f,1n"
+    ∷ codes "f, n1"
+    ∷ codes "f,n1"
+    ∷ [])
+    ≡ map (λ why. refused 2 why ∷ []) (BadText ∷ BadText ∷ BadText ∷ BadName ∷ BadName ∷ BadName ∷ [])
+    ++ (read 2 (AddFrame (codes "f") (codes "n1")) ∷ []) ∷ []
+unfolding a_small_file below_frames
+refusals_of_frames = refl
 
 -- the order of refusals: by the text, the names, the cycles, the slot, the channels
 pub refusals_of_placements : map below_placements (

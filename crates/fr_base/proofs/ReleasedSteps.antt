@@ -115,6 +115,7 @@ module _ (v : Name) (x : Variant) (frozen : x.released ≡ true) (p : Params) (s
 
   row-stays : (b : Book) → get b.variants v ≡ Some x → (r : Row) → IfOk (act_row p b s w r) (Stays v x)
   unfolding act_row
+  row-stays b there (row.AddFrame f n) = change_rows-stays b v x there frozen p s w (change.Frame f (Add n))
   row-stays b there (row.Place f n q) =
       gives_unless _ _ _ _ (λ _.
       gives_bind _ _ (with_frame p b s w f n (frame_at b s w f)) _ (framed-stays b there f n (frame_at b s w f)) (λ d mid.

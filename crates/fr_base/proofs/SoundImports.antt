@@ -76,6 +76,7 @@ module _ (p : Params) (s v : Name) where
 
   pub row-keeps : (b : Book) (r : Row) → IfOk (act_row p b s v r) (Keeps b)
   unfolding act_row
+  row-keeps b (row.AddFrame f n) = change_rows-keeps p b s v (change.Frame f (Add n))
   row-keeps b (row.Place f n q) =
       gives_unless _ _ _ _ (λ _.
       gives_bind _ _ (with_frame p b s v f n (frame_at b s v f)) _ (framed-keeps b f n (frame_at b s v f)) (λ d mid.
@@ -97,6 +98,7 @@ module _ (c : Cluster) (s v : Name) where
 
   pub row-sound : (b : Book) → IsSound c b → (r : Row) → IsFormedRow c.params r → IfOk (act_row c.params b s v r) (IsSound c)
   unfolding act_row
+  row-sound b sound (row.AddFrame f n) form = change_rows-sound c b sound s v (change.Frame f (Add n)) form
   row-sound b sound (row.Place f n q) form =
       gives_unless _ _ _ _ (λ _.
       gives_bind _ _ (with_frame c.params b s v f n (frame_at b s v f)) _ (framed-sound b sound f n form.0 (frame_at b s v f)) (λ d mid.

@@ -12,9 +12,9 @@ use Rattle.fr_base.specs.Names.{same_text, is_digit}
 use Rattle.fr_base.specs.Checks.{name, placement, signal}
 use Rattle.fr_base.specs.declared.limits.TheConstants.{MAX_ROWS}
 use Rattle.fr_base.specs.declared.import.Header.{Header}
-use Rattle.fr_base.specs.declared.import.Header.TheVariants.{Placements, Signals}
+use Rattle.fr_base.specs.declared.import.Header.TheVariants.{Frames, Placements, Signals}
 use Rattle.fr_base.specs.declared.import.Row.{Row}
-use Rattle.fr_base.specs.declared.import.Row.TheVariants.{Place, AddSignal}
+use Rattle.fr_base.specs.declared.import.Row.TheVariants.{AddFrame, Place, AddSignal}
 use Rattle.fr_base.specs.declared.import.RowRead.{RowRead}
 use Rattle.fr_base.specs.declared.params.Params.{Params}
 use Rattle.fr_base.specs.declared.refusal.Refusal.{Refusal}
@@ -30,6 +30,7 @@ records_of body = records default_config (strip_bom body)
 
 -- how the first record spells what the rows are
 abbrev pub spelled : Header → List (List ℕ)
+spelled Frames = codes "frame" ∷ codes "node" ∷ []
 spelled Placements = codes "frame" ∷ codes "node" ∷ codes "slot" ∷ codes "channels" ∷ codes "base" ∷ codes "repetition" ∷ []
 spelled Signals = codes "frame" ∷ codes "signal" ∷ codes "start" ∷ codes "length" ∷ codes "order" ∷ []
 
@@ -40,7 +41,8 @@ spells header fields = pointwise same_text fields (spelled header)
 -- the header that a record is
 unfoldable pub header_of : List (List ℕ) → Option Header
 header_of fields =
-    if spells Placements fields then Some Placements
+    if spells Frames fields then Some Frames
+    else if spells Placements fields then Some Placements
     else if spells Signals fields then Some Signals
     else None
 
@@ -69,6 +71,13 @@ number_at fields place = do
 
 -- ---- a row
 
+-- the row of frames with these names
+unfoldable pub frame_row : List ℕ → List ℕ → Result Row Refusal
+frame_row frame node = do
+  f ← name frame
+  n ← name node
+  Ok (AddFrame f n)
+
 -- the row of placements with these fields: its names are asked first, then its cycles, its slot and its channels
 unfoldable pub placement_row : Params → List ℕ → List ℕ → ℕ → List ℕ → ℕ → ℕ → Result Row Refusal
 placement_row p frame node slot channels base repetition = do
@@ -84,6 +93,13 @@ signal_row frame named start length order = do
   n ← name named
   x ← signal n start length order
   Ok (AddSignal f x)
+
+-- the row of frames that a record's fields are, each of its form
+unfoldable pub frame_in : List (List ℕ) → Result Row Refusal
+frame_in fields = do
+  frame ← text_at fields 0
+  node ← text_at fields 1
+  frame_row frame node
 
 -- the row of placements that a record's fields are, each of its form
 unfoldable pub placement_in : Params → List (List ℕ) → Result Row Refusal
@@ -108,6 +124,7 @@ signal_in fields = do
 
 -- the row that the fields are below this header
 abbrev pub row_in : Params → Header → List (List ℕ) → Result Row Refusal
+row_in p Frames fields = frame_in fields
 row_in p Placements fields = placement_in p fields
 row_in p Signals fields = signal_in fields
 

@@ -1,8 +1,8 @@
 -- Step: what each request does. First come its refusals by the book in order, one a line, and then the book after it
 -- and the answer. What refuses a change of a supplier's rows sees those rows alone, and of all rows only which slots
 -- and channels are held and who sends in which cell. What the change makes of grants and frames is said once, for all
--- rows and for the supplier's own. An import's rows are such changes in turn: a row of placements is its frame, added
--- where it is not there, and then its placement; a row of signals adds the signal. All are carried out and the import
+-- rows and for the supplier's own. An import's rows are such changes in turn: a row of frames adds the frame; a row of
+-- placements is its frame, added where it is not there, and then its placement; a row of signals adds the signal. All are carried out and the import
 -- is kept, or the first refused row is told and nothing is changed. An import whose label is kept has its answer again,
 -- or is `LabelUsed`. A refusal leaves the book as it was.
 use Rattle.std.specs.Prelude.{ℕ, suc, ◌==◌, Bool, true, false, not, ◌&&◌, List, [], ◌∷◌, length, nat_le, nat_lt, Option, Some, None, is_some, Result, Ok, Err, ⊤}
@@ -230,9 +230,10 @@ with_frame p b s v f n (Some frame) = do
   refuse NodeDiffers when not (same_text frame.node n)
   Ok b
 
--- What a row does, in an open variant that is there: a row of placements is its frame, of a node that the supplier has, and then its
--- placement; a row of signals adds the signal.
+-- What a row does, in an open variant that is there: a row of frames adds the frame; a row of placements is its frame, of a node that the
+-- supplier has, and then its placement; a row of signals adds the signal.
 unfoldable pub act_row : Params → Book → Name → Name → Row → Result Book Refusal
+act_row p b s v (row.AddFrame f n) = change_rows p b s v (OfFrame f (Add n))
 act_row p b s v (row.Place f n q) = do
   refuse NoNode when not (contains b.nodes (s, n))
   framed ← with_frame p b s v f n (frame_at b s v f)

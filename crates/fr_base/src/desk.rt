@@ -3,6 +3,7 @@ ghost use Rattle.std.specs.Prelude.{[], ◌∷◌, ◌≡◌};
 
 use crate::actor::Actor;
 use crate::answer::Answer;
+use crate::config::Config;
 use crate::request::Ask;
 use std::alloc::Global;
 
@@ -10,7 +11,7 @@ use std::alloc::Global;
 /// is clean: once somebody else may have written to them nothing is known, and it is never clean again.
 pub trait Desk {
     ghost use Rattle.fr_base.specs.Actors.{actor_of};
-    ghost use Rattle.fr_base.specs.Book.{Book};
+    ghost use Rattle.fr_base.specs.Book.{Book, file_of};
     ghost use Rattle.fr_base.specs.Cluster.{Cluster};
     ghost use Rattle.fr_base.specs.Run.{IsRun};
     ghost use Rattle.fr_base.specs.Sound.{IsSound};
@@ -24,6 +25,10 @@ pub trait Desk {
     /// Who asks with this key in a sound register: the integrator, a supplier, or nobody.
     fn actor_of(&self, key: &str) -> Option<Actor>
         ensures { (c : Cluster) (b : Book) → stands self.now c b → IsSound c b → result ≡ actor_of c b key.now };
+
+    /// What a cluster file says of the register's cluster now: the suppliers are those that are there.
+    fn config(&self) -> &Config
+        ensures { (c : Cluster) (b : Book) → stands self.now c b → result.now ≡ file_of c b };
 
     /// Answers a request. In a sound register this is one step of it; or the answer is `Unavailable`,
     /// only where who asks is known and nothing in the request itself refuses it, and the rows stay.

@@ -2,7 +2,7 @@
 ghost use Rattle.std.specs.Prelude.{◌≡◌, option_map};
 ghost use Rattle.std.specs.Result.{result_ok};
 ghost use Rattle.fr_base.specs.Checks.{placement, signal};
-ghost use Rattle.fr_base.specs.ImportRows.{placement_row, signal_row};
+ghost use Rattle.fr_base.specs.ImportRows.{frame_row, placement_row, signal_row};
 
 use crate::checks::{self, read_name};
 use crate::name::Name;
@@ -14,6 +14,8 @@ use crate::signal::Signal;
 /// What the rows of an import's file are, as its first record says.
 #[derive(Clone, Copy, PartialEq, Eq)]
 pub enum Header {
+    /// Frames, which need not be sent anywhere: `frame,node`.
+    Frames,
     /// Frames with placements: `frame,node,slot,channels,base,repetition`.
     Placements,
     /// Signals: `frame,signal,start,length,order`.
@@ -23,6 +25,11 @@ pub enum Header {
 /// A row of an import's file, with checked values.
 #[derive(Clone, Copy, PartialEq, Eq)]
 pub enum Row {
+    /// The node's frame is added.
+    AddFrame {
+        frame: Name,
+        node: Name,
+    },
     /// The node's frame, added where it is not there yet, is sent in the placement's cells too.
     Place {
         frame: Name,
@@ -46,6 +53,15 @@ pub struct RowRead {
 }
 
 impl Row {
+    /// The row of frames with these fields, or `BadName`. What a name is read from need not be a text.
+    #[tactic(auto, unfolding(crate::proofs::ImportLemmas::rows_open))]
+    pub fn frame(frame: &[u8], node: &[u8]) -> Result<Row, Refusal>
+        ensures { result ≡ frame_row frame.now node.now }
+    {
+        let (frame, node) = (read_name(frame)?, read_name(node)?);
+        Ok(Row::AddFrame { frame, node })
+    }
+
     /// The row of placements with these fields, or the first refusal that it meets by itself: `BadName`,
     /// `BadCycles`, `BadSlot`, `BadChannel`, in this order. What a name is read from need not be a text.
     #[tactic(auto, unfolding(crate::proofs::ImportLemmas::rows_open))]

@@ -18,3 +18,4 @@ pub mod PicturingLaws
 pub mod ServingLaws
 mod NumberedLaws
 mod EachFault
+mod CheckingLaws

@@ -85,7 +85,7 @@ numbers_of rows (ReportOn db query) is = asked query.query is.0
     asked (OfVariant variant of) same = report of same
 numbers_of rows (Picture db variant supplier) is = apart _ _ refl is.0
 numbers_of rows (Import db key variant label file) is = apart _ _ refl is.0
-numbers_of rows (Check config) is = apart _ _ refl is.0
+numbers_of rows (Check file) is = apart _ _ refl is.0
 numbers_of rows (Explain word) is = apart _ _ refl is.0
 
 -- without one of them no server is asked for

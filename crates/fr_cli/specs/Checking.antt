@@ -1,14 +1,25 @@
--- Check: what is said of a cluster file, and how that ends. It is one; or it is none, and the line begins with the word
--- of its fault; or it cannot be read, or memory is wanting.
-use Rattle.std.specs.Prelude.{◌≡◌, ◌⊎◌, ◌++◌, ℕ, List, codes, Result, Ok, Err}
+-- Check: what is said of a file, and how that ends. It is a cluster file; or none, and the line begins with the word of its fault. Or its
+-- lines are requests, or its records rows, and how many is said; or each fault of them has a line. Or it cannot be read, or memory is wanting.
+use Rattle.std.specs.Prelude.{◌≡◌, ◌⊎◌, ◌++◌, ◌+◌, ◌-◌, ℕ, Bool, true, false, ◌&&◌, nat_le, if◌then◌else◌, List, [], ◌∷◌, length, codes, decimal, Option, Some, None, Result, Ok, Err}
 use Rattle.std.specs.Global.{Vec}
+use Rattle.std.specs.List.{AllByRecursion}
+use Rattle.std.specs.Str.Lines.{lines}
 use Rattle.fr_base.specs.Cluster.{ClusterFile}
+use Rattle.fr_base.specs.Names.{is_key}
 use Rattle.fr_text.specs.ClusterFile.{config_fault_word, config_of}
 use Rattle.fr_text.specs.declared.cluster_file.ConfigFault.{ConfigFault}
+use Rattle.fr_guide.specs.Faults.{all_fine, all_lines, is_fine}
+use Rattle.fr_guide.specs.Requests.{is_fine_request}
+use Rattle.fr_guide.specs.Rows.{AreToldOfRows, numbers_of}
+use Rattle.fr_guide.specs.declared.line_faults.LineFaults.{LineFaults}
 use Rattle.fr_cli.specs.Endings.{word_line}
+use Rattle.fr_cli.specs.Incoming.{max_line}
+use Rattle.fr_cli.specs.Script.{key_and_text, request_lines}
 use Rattle.fr_cli.specs.declared.failure.Failure.{Failure}
 use Rattle.fr_cli.specs.declared.failure.Failure.TheVariants as failure
 use Rattle.fr_cli.specs.declared.fault.Fault.TheVariants.{CannotOpen, NoMemory}
+use Rattle.fr_cli.specs.declared.text_file.TextFile.{TextFile}
+use Rattle.fr_cli.specs.declared.text_file.TextFile.TheVariants as of
 
 -- The bytes are a cluster file; or they are none, and the line begins with the word of their fault; or memory was wanting.
 abbrev pub IsChecked : List ℕ → Result (Vec ℕ) Failure → Type 0
@@ -17,8 +28,55 @@ IsChecked bytes (Err (failure.Refused line)) = (fault : ConfigFault) × (place :
     × (line.items ≡ word_line (config_fault_word fault ++ codes ": " ++ place))
 IsChecked bytes (Err (failure.Fault fault)) = fault ≡ NoMemory
 
+-- whether a key may be somebody's, and the text is a request, whoever asks
+abbrev pub is_fine_parts : Option (List ℕ × List ℕ) → Bool
+is_fine_parts None = false
+is_fine_parts (Some parts) = is_key parts.0 && is_fine_request parts.1
+
+-- Whether a line is a key and a request, and no longer than one that comes in may be. An empty one is passed over.
+unfoldable pub is_fine_line : List ℕ → Bool
+is_fine_line [] = true
+is_fine_line (b ∷ line) = nat_le (length (b ∷ line)) max_line && is_fine_parts (key_and_text (b ∷ line))
+
+-- the numbers of those lines that are none, the first line with this number
+unfoldable pub bad_lines : ℕ → List (List ℕ) → List ℕ
+bad_lines number [] = []
+bad_lines number (line ∷ more) = if is_fine_line line then bad_lines (number + 1) more else number ∷ bad_lines (number + 1) more
+
+-- Something is told of the line.
+abbrev pub HasFault : LineFaults → Type 0
+HasFault told = is_fine told ≡ false
+
+-- Something is told of just the lines that are no request, by their numbers, from 1 on.
+abbrev pub AreToldOfRequests : List ℕ → List LineFaults → Type 0
+AreToldOfRequests bytes told = (numbers_of told ≡ bad_lines 1 (lines bytes)) × AllByRecursion HasFault told
+
+-- the line that says that so many have no fault
+abbrev pub fine_line : List ℕ → ℕ → List ℕ
+fine_line what count = what ++ codes ": " ++ decimal count ++ codes ", no fault\n"
+
+-- that of requests: how many lines are not empty
+abbrev pub fine_requests : List ℕ → List LineFaults → List ℕ
+fine_requests bytes told = fine_line (codes "requests") (length (request_lines bytes))
+
+-- that of rows: how many records stand below the header
+abbrev pub fine_rows : List LineFaults → List ℕ
+fine_rows told = fine_line (codes "rows") (length told - 1)
+
+-- What is told of the file so has no fault, and that is said so; or each fault is a line; or memory was wanting.
+abbrev pub AreChecked : (List LineFaults → Type 0) → (List LineFaults → List ℕ) → Result (Vec ℕ) Failure → Type 0
+AreChecked AreTold print (Ok text) = (told : List LineFaults) × AreTold told × (all_fine told ≡ true) × (text.items ≡ print told)
+AreChecked AreTold print (Err (failure.Refused line)) = (told : List LineFaults) × AreTold told × (all_fine told ≡ false) × (line.items ≡ all_lines told)
+AreChecked AreTold print (Err (failure.Fault fault)) = fault ≡ NoMemory
+
+-- The bytes of such a file are checked so.
+abbrev pub IsCheckedAs : TextFile → List ℕ → Result (Vec ℕ) Failure → Type 0
+IsCheckedAs (of.Config path) bytes done = IsChecked bytes done
+IsCheckedAs (of.Requests path) bytes done = AreChecked (AreToldOfRequests bytes) (fine_requests bytes) done
+IsCheckedAs (of.Rows path) bytes done = AreChecked (AreToldOfRows bytes) fine_rows done
+
 -- Some bytes were read and checked so; or the file cannot be read, or memory was wanting.
-abbrev pub IsCheckedFile : Result (Vec ℕ) Failure → Type 0
-IsCheckedFile (Ok text) = (bytes : List ℕ) × IsChecked bytes (Ok text)
-IsCheckedFile (Err (failure.Refused line)) = (bytes : List ℕ) × IsChecked bytes (Err (failure.Refused line))
-IsCheckedFile (Err (failure.Fault fault)) = (fault ≡ CannotOpen) ⊎ (fault ≡ NoMemory)
+abbrev pub IsCheckedFile : TextFile → Result (Vec ℕ) Failure → Type 0
+IsCheckedFile file (Ok text) = (bytes : List ℕ) × IsCheckedAs file bytes (Ok text)
+IsCheckedFile file (Err (failure.Refused line)) = (bytes : List ℕ) × IsCheckedAs file bytes (Err (failure.Refused line))
+IsCheckedFile file (Err (failure.Fault fault)) = (fault ≡ CannotOpen) ⊎ (fault ≡ NoMemory)

@@ -73,8 +73,12 @@ abbrev pub import_words : App
 import_words = with_rule (with_rule (with_rule (with_rule (with_rule (new_app (codes "import")) (word (codes "DB"))) (word (codes "KEY")))
     (word (codes "VARIANT"))) (word (codes "LABEL"))) (word (codes "FILE"))
 
+-- a file that may be named
+abbrev pub file : Text → Rule
+file name = record (new_rule name) { long = Some name; action = Some Set; value_names = 1 }
+
 abbrev pub check : App
-check = with_rule (new_app (codes "check")) (word (codes "CONFIG"))
+check = with_rule (with_rule (with_rule (new_app (codes "check")) (free_word (codes "CONFIG"))) (file (codes "requests"))) (file (codes "rows"))
 
 abbrev pub explain : App
 explain = with_rule (new_app (codes "explain")) (free_word (codes "WORD"))

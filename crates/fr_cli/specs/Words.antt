@@ -18,6 +18,8 @@ use Rattle.fr_cli.specs.declared.words.Job.TheVariants.{Run, Create, Migrate, Se
 use Rattle.fr_cli.specs.declared.words.WordFault.{WordFault}
 use Rattle.fr_cli.specs.declared.words.WordFault.TheVariants.{Help, Usage, NoMemory}
 use Rattle.fr_cli.specs.declared.query.Inquiry.{Inquiry}
+use Rattle.fr_cli.specs.declared.text_file.TextFile.{TextFile}
+use Rattle.fr_cli.specs.declared.text_file.TextFile.TheVariants as of
 
 -- The word at this place is this text.
 abbrev pub Has : Text → List Row → Text → Type 0
@@ -52,6 +54,21 @@ HasNames (OfVariant variant report) rows = Has (codes "VARIANT") rows variant.no
 abbrev pub IsQueryIn : List Row → Inquiry → Type 0
 IsQueryIn rows inquiry = HasNames inquiry.query rows × IsOfSupplier inquiry.supplier rows
 
+-- No word stands at this place.
+abbrev pub Lacks : Text → List Row → Type 0
+Lacks name rows = first_of name rows ≡ None
+
+-- The file is the one that the words name, and they name no other.
+abbrev pub IsFileOf : TextFile → List Row → Type 0
+IsFileOf (of.Config path) rows = Has (codes "CONFIG") rows path.now × Lacks (codes "requests") rows × Lacks (codes "rows") rows
+IsFileOf (of.Requests path) rows = Lacks (codes "CONFIG") rows × Has (codes "requests") rows path.now × Lacks (codes "rows") rows
+IsFileOf (of.Rows path) rows = Lacks (codes "CONFIG") rows × Lacks (codes "requests") rows × Has (codes "rows") rows path.now
+
+-- The file is that one. Where none is given, the words name none, or several.
+abbrev pub IsFileIn : Option TextFile → List Row → Type 0
+IsFileIn (Some file) rows = IsFileOf file rows
+IsFileIn None rows = (file : TextFile) → IsFileOf file rows → ⊥
+
 -- The job is the subcommand's of this name, with the words that stand at its places.
 abbrev pub IsJobOf : Job → Text → List Row → Type 0
 IsJobOf Run name rows = name ≡ codes "run"
@@ -66,7 +83,7 @@ IsJobOf (Picture db variant supplier) name rows = (name ≡ codes "picture") × 
     × IsOfSupplier supplier rows
 IsJobOf (Import db key variant label file) name rows = (name ≡ codes "import") × Has (codes "DB") rows db.now × Has (codes "KEY") rows key.now
     × Has (codes "VARIANT") rows variant.now × Has (codes "LABEL") rows label.now × Has (codes "FILE") rows file.now
-IsJobOf (Check config) name rows = (name ≡ codes "check") × Has (codes "CONFIG") rows config.now
+IsJobOf (Check file) name rows = (name ≡ codes "check") × IsFileOf file rows
 IsJobOf (Explain word) name rows = (name ≡ codes "explain") × (option_map (λ w. w.now) word ≡ first_of (codes "WORD") rows)
 
 -- The job is that of the subcommand of this name with these words. Where none is given, the subcommand has none with them.

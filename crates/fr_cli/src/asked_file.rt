@@ -2,7 +2,6 @@
 ghost use Rattle.std.specs.Prelude.{◌≡◌, ◌⊎◌, OnOk};
 ghost use Rattle.std.specs.Io.KnownBytes.{IsAtEnd};
 ghost use Rattle.sqlite_wal.specs.Files.{image_at};
-ghost use Rattle.fr_answers.specs.KeptPages.{StandsWarm};
 ghost use Rattle.fr_cli.specs.Incoming.{HasAnswered, IsAsked};
 
 use crate::fault::{Fault, of_script};
@@ -10,6 +9,7 @@ use crate::guarded::Guarded;
 use crate::incoming::answer_input;
 use crate::script_fault::ScriptFault;
 use crate::watch::Watch;
+use fr_base::Desk;
 use fr_desks::{Left, file_desk};
 use fr_office::Office;
 use fr_records::Records;
@@ -45,8 +45,8 @@ fn ask_office<R: Records, I: Read, O: Write>(
     input: &mut I,
     out: &mut O,
 ) -> (Result<(), ScriptFault>, Office<R>)
-    ensures falls { R.clean result.1.records → R.clean office.records }
-    ensures answered { HasAnswered (R.clean result.1.records) (StandsWarm R.stands office) (StandsWarm R.stands result.1)
+    ensures falls { ⟦<Office<R> as Desk>⟧.clean result.1 → ⟦<Office<R> as Desk>⟧.clean office }
+    ensures answered { HasAnswered (⟦<Office<R> as Desk>⟧.clean result.1) (⟦<Office<R> as Desk>⟧.stands office) (⟦<Office<R> as Desk>⟧.stands result.1)
         (I.remaining input.old) (I.remaining input.new) (O.contents out.old) (O.contents out.new) result.0 }
     ensures end { OnOk result.0 (IsAtEnd (I.remaining input.new)) }
 {

@@ -1,25 +1,55 @@
-//! Checks a cluster file.
-ghost use Rattle.std.specs.Prelude.{◌≡◌, ◌++◌, IfOk, codes};
-ghost use Rattle.fr_cli.specs.Checking.{IsChecked, IsCheckedFile};
+//! Checks the text of a file: of a cluster, of requests, or of an import's rows.
+ghost use Rattle.std.specs.Prelude.{◌≡◌, ◌⊎◌, ◌++◌, IfOk, IfErr, codes};
+ghost use Rattle.fr_guide.specs.Rows.{AreToldOfRows};
+ghost use Rattle.fr_cli.specs.Checking.{AreChecked, AreToldOfRequests, IsChecked, IsCheckedAs, IsCheckedFile, fine_line, fine_requests, fine_rows};
 ghost use Rattle.fr_cli.specs.Endings.{word_line};
 
 use crate::creating::CONFIG_BYTES;
 use crate::failure::Failure;
-use crate::files::read_file;
+use crate::fault::Fault;
+use crate::files::{read_file, read_front};
+use crate::imported_file::IMPORT_BYTES;
+use crate::input::SCRIPT_BYTES;
+use crate::lines::RequestLines;
+use crate::request_file::request_faults;
+use crate::text_file::TextFile;
 use fr_base::NoMemory;
-use fr_guide::{Finding, examine};
+use fr_guide::{Finding, LineFaults, are_fine, examine, fault_lines, row_faults};
 use std::alloc::Global;
 
-/// The line of the figures of the cluster file at `config`. A file that is none is refused, with the line of its fault.
-pub fn check(rt: &HostRuntime, config: &str) -> Result<Vec<u8>, Failure>
-    ensures { IsCheckedFile result }
+/// A line of what the file says, if it is what it is to be. Otherwise it is refused: with the line of a cluster file's fault, or with a
+/// line for each fault of requests or rows.
+pub fn check(rt: &HostRuntime, file: TextFile<'_>) -> Result<Vec<u8>, Failure>
+    ensures { IsCheckedFile file.entry result }
 {
-    let text = read_file(rt, config, CONFIG_BYTES)?;
-    check_text(rt.alloc(), &text)
+    let text = read(rt, file)?;
+    check_as(rt.alloc(), file, &text)
+}
+
+// The file's bytes, as many as are looked at.
+fn read(rt: &HostRuntime, file: TextFile<'_>) -> Result<Vec<u8>, Fault>
+    ensures fault { IfErr result (λ fault. (fault ≡ Fault.CannotOpen) ⊎ (fault ≡ Fault.NoMemory)) }
+{
+    match file {
+        TextFile::Config { path } => read_file(rt, path, CONFIG_BYTES),
+        TextFile::Requests { path } => read_file(rt, path, SCRIPT_BYTES),
+        TextFile::Rows { path } => read_front(rt, path, IMPORT_BYTES),
+    }
+}
+
+// What is said of such a file with this text.
+fn check_as(alloc: Global, file: TextFile<'_>, text: &[u8]) -> Result<Vec<u8>, Failure>
+    ensures { IsCheckedAs file.entry text.now result }
+{
+    match file {
+        TextFile::Config { path: _ } => check_config(alloc, text),
+        TextFile::Requests { path: _ } => check_requests(alloc, text),
+        TextFile::Rows { path: _ } => check_rows(alloc, text),
+    }
 }
 
 // The line of the figures of a cluster file with this text.
-fn check_text(alloc: Global, text: &[u8]) -> Result<Vec<u8>, Failure>
+fn check_config(alloc: Global, text: &[u8]) -> Result<Vec<u8>, Failure>
     ensures { IsChecked text.now result }
 {
     match examine(alloc, text)? {
@@ -28,6 +58,37 @@ fn check_text(alloc: Global, text: &[u8]) -> Result<Vec<u8>, Failure>
             line: fault_line(alloc, &text)?,
         }),
     }
+}
+
+// How many requests there are, none with a fault; or each fault.
+fn check_requests(alloc: Global, text: &[u8]) -> Result<Vec<u8>, Failure>
+    ensures { AreChecked (AreToldOfRequests text.now) (fine_requests text.now) result }
+{
+    let told = request_faults(alloc, text)?;
+    let count = RequestLines::new(text).count();
+    tell(alloc, &told, "requests", count)
+}
+
+// How many rows stand below the header, none with a fault; or each fault.
+fn check_rows(alloc: Global, text: &[u8]) -> Result<Vec<u8>, Failure>
+    ensures { AreChecked (AreToldOfRows text.now) fine_rows result }
+{
+    let told = row_faults(alloc, text)?;
+    let count = told.len().saturating_sub(1);
+    tell(alloc, &told, "rows", count)
+}
+
+// Each fault of these; or, where there is none, that so many have none.
+fn tell(alloc: Global, told: &[LineFaults], what: &str, count: usize) -> Result<Vec<u8>, Failure>
+    ensures { AreChecked (λ x. x ≡ told.now) (λ x. fine_line what.now count) result }
+{
+    if are_fine(told) {
+        let text = format!(in alloc; "{what}: {count}, no fault\n")?;
+        return Ok(text.into_bytes());
+    }
+    Err(Failure::Refused {
+        line: fault_lines(alloc, told)?,
+    })
 }
 
 // The text with a line's end.

@@ -216,13 +216,19 @@ fn check<'a>(alloc: Global) -> Result<Command<'a>, AllocError>
     ensures { IfOk result (IsReadAs app.check) }
 {
     let command = Command::new(alloc, "check")
-        .about("Says what is wrong with a cluster file and where, or prints its figures")
+        .about("Says what is wrong with the text of a file and where, or that nothing is")
         .after_help(CHECK_HELP)
-        .arg(word(
+        .arg(free_word(
             alloc,
             "CONFIG",
-            "The cluster file (TOML), at most 1,048,576 bytes",
-        ))?;
+            "A cluster file (TOML), at most 1,048,576 bytes",
+        ))?
+        .arg(file(
+            alloc,
+            "requests",
+            "Requests, a line each, as ask reads them; at most 16,777,216 bytes",
+        ))?
+        .arg(file(alloc, "rows", "The file (CSV) of an import"))?;
     Ok(command)
 }
 
@@ -262,6 +268,17 @@ fn supplier<'a>(alloc: Global) -> Arg<'a>
         .long("supplier")
         .value_name("NAME")
         .help("Prints what this supplier sees; without it, what the integrator sees")
+        .action(ArgAction::Set)
+}
+
+// A file that may be named.
+fn file<'a>(alloc: Global, name: &'a str, help: &'a str) -> Arg<'a>
+    ensures { (rule_of result ≡ app.file name.entry.now) × (result.global ≡ false) }
+{
+    Arg::new(alloc, name)
+        .long(name)
+        .value_name("FILE")
+        .help(help)
         .action(ArgAction::Set)
 }
 
@@ -430,8 +447,13 @@ Example:
   slotplan import car.db - v1 week47 placements.csv < key.txt";
 
 const CHECK_HELP: &str = "\
+Of a cluster file the first fault is told, of requests and rows each fault with its line.
+The register is not asked: it may still refuse what has no fault here.
+
 Example:
-  slotplan check cluster.toml";
+  slotplan check cluster.toml
+  slotplan check --requests changes.txt
+  slotplan check --rows placements.csv";
 
 const EXPLAIN_HELP: &str = "\
 Example:

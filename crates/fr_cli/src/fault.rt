@@ -5,9 +5,9 @@ ghost use Rattle.fr_cli.specs.Performing.{of_script};
 
 use crate::script_fault::ScriptFault;
 use fr_base::NoMemory;
-use fr_http::{LinkFault, WriteFailed};
+use fr_http::LinkFault;
 use fr_store::StoreFault;
-use fr_text::ConfigFault;
+use fr_text::{ConfigFault, WriteFailed};
 
 /// Why a job was not done, other than by a refusal.
 #[derive(Clone, Copy, Debug, PartialEq, Eq)]

@@ -1,12 +1,11 @@
 //! A register whose files are watched: where others stand in their place, nothing is read from it or written to it.
 ghost use Rattle.std.specs.Prelude.{◌≡◌};
-ghost use Rattle.fr_answers.specs.KeptPages.{StandsWarm};
 ghost use Rattle.fr_base.specs.Book.{Book};
 ghost use Rattle.fr_base.specs.Cluster.{Cluster};
 
 use crate::lasting::Lasting;
 use crate::watch::Watch;
-use fr_base::{Actor, Answer, Ask, Desk, Refusal};
+use fr_base::{Actor, Answer, Ask, Config, Desk, Refusal};
 use fr_office::Office;
 use fr_records::Records;
 use std::alloc::Global;
@@ -46,20 +45,24 @@ impl<'a, R: Records> Guarded<'a, R> {
 
     // Whether the register tells its variants. One that a fault has shut tells nothing any more.
     fn tells(&mut self, alloc: Global) -> bool
-        ensures falls { R.clean self.new.office.records → R.clean self.old.office.records }
-        ensures stays { R.clean self.new.office.records → (c : Cluster) (b : Book) → StandsWarm R.stands self.old.office c b → StandsWarm R.stands self.new.office c b }
+        ensures falls { ⟦<Guarded<'a, R> as Desk>⟧.clean self.new → ⟦<Guarded<'a, R> as Desk>⟧.clean self.old }
+        ensures stays { ⟦<Guarded<'a, R> as Desk>⟧.clean self.new → (c : Cluster) (b : Book) → ⟦<Guarded<'a, R> as Desk>⟧.stands self.old c b → ⟦<Guarded<'a, R> as Desk>⟧.stands self.new c b }
     {
         self.office.variants(alloc, &Actor::Integrator).is_ok()
     }
 }
 
 impl<R: Records> Desk for Guarded<'_, R> {
-    ghost stands = { λ guarded. StandsWarm R.stands guarded.office };
+    ghost stands = { λ guarded. ⟦<Office<R> as Desk>⟧.stands guarded.office };
 
-    ghost clean = { λ guarded. R.clean guarded.office.records };
+    ghost clean = { λ guarded. ⟦<Office<R> as Desk>⟧.clean guarded.office };
 
     fn actor_of(&self, key: &str) -> Option<Actor> {
         self.office.actor_of(key)
+    }
+
+    fn config(&self) -> &Config {
+        self.office.config()
     }
 
     fn ask(&mut self, alloc: Global, ask: &Ask) -> Answer {

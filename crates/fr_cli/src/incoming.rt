@@ -11,12 +11,12 @@ use crate::input::{PIECE_BYTES, SCRIPT_BYTES, SCRIPT_READS, append, try_again};
 use crate::lasting::Lasting;
 use crate::lines::{RequestLines, split_once};
 use crate::script_fault::ScriptFault;
-use fr_http::Output;
+use fr_text::Output;
 use std::alloc::Global;
 use std::io::{Read, Write};
 
 /// How many bytes a line has at most, without its line feed. Its JSON takes some hundred times as much memory.
-const LINE_BYTES: usize = 1_048_576;
+pub const LINE_BYTES: usize = 1_048_576;
 
 /// Answers requests that come in, a line each, in order: the answer to a line is written before more than
 /// what came with it is read. All lines are answered; or a fault ends it, and what was answered stays. It ends

@@ -23,6 +23,7 @@ ghost use Rattle.fr_cli.specs.declared.failure.Failure.{Failure as Ended};
 ghost use Rattle.fr_cli.specs.declared.fault.Fault.{Fault as Word};
 ghost use Rattle.fr_cli.specs.declared.query.Inquiry.{Inquiry};
 ghost use Rattle.fr_cli.specs.declared.script_fault.ScriptFault.{ScriptFault as Early};
+ghost use Rattle.fr_cli.specs.declared.text_file.TextFile.{TextFile};
 
 use crate::asked_file::ask_file;
 use crate::asking::report_on;
@@ -39,7 +40,7 @@ use crate::script::run_script;
 use crate::serving::{Service, serve};
 use crate::words::{Job, WordFault};
 use fr_desks::{Left, file_desk};
-use fr_http::Output;
+use fr_text::Output;
 use sqlite::Start;
 use std::alloc::Global;
 use std::io::{Read, Write};
@@ -75,7 +76,7 @@ pub fn perform<S: Start, R: Read, O: Write, E: Write>(
         × Says (IsNotImported (image_at S.Start) result.1 key.now)
         (IsImportOfFile (image_at S.Start) result.1 key variant label (R.remaining input.old) (R.remaining input.new) body) line_of done
         × IsTold done (O.contents out.old) (O.contents out.new) (E.contents err.old) (E.contents err.new) result.0 }
-    ensures check { (config : Bor (List ℕ)) → job.now ≡ Job.Check config → (done : Result (Vec ℕ) Ended) × IsCheckedFile done
+    ensures check { (file : TextFile) → job.now ≡ Job.Check file → (done : Result (Vec ℕ) Ended) × IsCheckedFile file done
         × IsTold done (O.contents out.old) (O.contents out.new) (E.contents err.old) (E.contents err.new) result.0 }
     ensures explain { (word : Option (Bor (List ℕ))) → job.now ≡ Job.Explain word → (done : Result (Vec ℕ) Ended) × IsExplained word done
         × IsTold done (O.contents out.old) (O.contents out.new) (E.contents err.old) (E.contents err.new) result.0 }
@@ -140,7 +141,7 @@ pub fn perform<S: Start, R: Read, O: Write, E: Write>(
             let (done, left) = import_file(rt, db, start, words, file, input);
             (tell(done, out, &mut err), left)
         }
-        Job::Check { config } => (tell(check(rt, config), out, &mut err), None),
+        Job::Check { file } => (tell(check(rt, file), out, &mut err), None),
         Job::Explain { word } => (tell(explain_word(rt.alloc(), word), out, &mut err), None),
     }
 }

@@ -5,7 +5,7 @@ ghost use Rattle.fr_cli.specs.Endings.{AppendsFront, AppendsLess, IsPrinted, IsT
 
 use crate::failure::Failure;
 use crate::fault::Fault;
-use fr_http::{Output, WRITE_RETRIES, WriteFailed};
+use fr_text::{Output, WRITE_RETRIES, WriteFailed};
 use std::io::Write;
 
 /// Prints the text of a job, or why it was not done, and gives its status.

@@ -9,8 +9,7 @@ use crate::lines::split_script;
 use crate::script_fault::ScriptFault;
 use fr_base::Desk;
 use fr_desks::MemoryDesk;
-use fr_http::Output;
-use fr_text::read_config;
+use fr_text::{Output, read_config};
 use std::alloc::Global;
 use std::io::{Read, Write};
 

@@ -3,8 +3,7 @@ ghost use Rattle.std.specs.Prelude.{◌≡◌, Some};
 ghost use Rattle.fr_cli.specs.ScriptFault.{script_fault_word};
 
 use fr_base::NoMemory;
-use fr_http::WriteFailed;
-use fr_text::ConfigFault;
+use fr_text::{ConfigFault, WriteFailed};
 use std::fmt;
 
 /// Why the run of a script ended before all its lines were answered.

@@ -2,7 +2,6 @@
 ghost use Rattle.std.specs.Prelude.{◌≡◌, ◌⊎◌, ◌∷◌, [], false, IfErr, Result, ⊤};
 ghost use Rattle.std.specs.Io.KnownBytes.{Appends};
 ghost use Rattle.sqlite_wal.specs.Files.{image_at};
-ghost use Rattle.fr_answers.specs.KeptPages.{StandsWarm};
 ghost use Rattle.fr_cli.specs.Performing.{listening};
 ghost use Rattle.fr_cli.specs.Serving.{HasServed, IsAnnounced, IsServed, ServesOne, StopsServing, TellsEach};
 ghost use Rattle.fr_http.specs.Outcome.{asked_before};
@@ -16,10 +15,11 @@ use crate::timed_stream::TimedStream;
 use crate::watch::Watch;
 use fr_base::Desk;
 use fr_desks::{Left, file_desk};
-use fr_http::{LinkFault, Output, Served, serve_one};
+use fr_http::{LinkFault, Served, serve_one};
 use fr_office::Office;
 use fr_records::Records;
 use fr_store::StoreFault;
+use fr_text::Output;
 use sqlite::Start;
 use std::alloc::Global;
 use std::io::{self, ErrorKind, Read, Write};
@@ -86,9 +86,9 @@ fn serve_office<R: Records, O: Write, E: Write>(
     out: &mut O,
     err: &mut Output<'_, E>,
 ) -> (Result<(), Fault>, Office<R>)
-    ensures falls { R.clean result.1.records → R.clean office.records }
+    ensures falls { ⟦<Office<R> as Desk>⟧.clean result.1 → ⟦<Office<R> as Desk>⟧.clean office }
     ensures announced { IsAnnounced service.port (O.contents out.old) (O.contents out.new) result.0 }
-    ensures served { HasServed (R.clean result.1.records) (StandsWarm R.stands office) (StandsWarm R.stands result.1) service.count
+    ensures served { HasServed (⟦<Office<R> as Desk>⟧.clean result.1) (⟦<Office<R> as Desk>⟧.stands office) (⟦<Office<R> as Desk>⟧.stands result.1) service.count
         (Appends (O.contents out.old) (O.contents out.new) (listening service.port)) (E.contents err.old.writer.now) (E.contents err.new.writer.now) result.0 }
     ensures same { err.new.writer.ghost_name ≡ err.old.writer.ghost_name }
 {
@@ -97,7 +97,7 @@ fn serve_office<R: Records, O: Write, E: Write>(
         Err(error) => return (Err(watch_fault(&error)), office),
     };
     let mut guarded = Guarded::new(office, watch);
-    let done = serve_guarded(rt, &mut guarded, service, out, err);
+    let done = listen(rt, &mut guarded, service, out, err);
     (done, guarded.into_office())
 }
 
@@ -112,16 +112,16 @@ fn watch_fault(error: &io::Error) -> Fault
 }
 
 // Listens, and serves as many connections as the service has.
-fn serve_guarded<R: Records, O: Write, E: Write>(
+fn listen<D: Lasting, O: Write, E: Write>(
     rt: &HostRuntime,
-    guarded: &mut Guarded<'_, R>,
+    desk: &mut D,
     service: Service,
     out: &mut O,
     err: &mut Output<'_, E>,
 ) -> Result<(), Fault>
-    ensures falls { R.clean guarded.new.office.records → R.clean guarded.old.office.records }
+    ensures falls { D.clean desk.new → D.clean desk.old }
     ensures announced { IsAnnounced service.port (O.contents out.old) (O.contents out.new) result }
-    ensures served { HasServed (R.clean guarded.new.office.records) (StandsWarm R.stands guarded.old.office) (StandsWarm R.stands guarded.new.office)
+    ensures served { HasServed (D.clean desk.new) (D.stands desk.old) (D.stands desk.new)
         service.count (Appends (O.contents out.old) (O.contents out.new) (listening service.port))
         (E.contents err.old.writer.now) (E.contents err.new.writer.now) result }
     ensures same { err.new.writer.ghost_name ≡ err.old.writer.ghost_name }
@@ -130,7 +130,7 @@ fn serve_guarded<R: Records, O: Write, E: Write>(
         |_| Fault::CannotListen,
     )?;
     announce(rt.alloc(), service.port, out)?;
-    answer_all(rt, &listener, &service, guarded, err)
+    answer_all(rt, &listener, &service, desk, err)
 }
 
 // Prints where it listens.
@@ -143,22 +143,22 @@ fn announce<O: Write>(alloc: Global, port: u16, out: &mut O) -> Result<(), Fault
 }
 
 // Serves so many connections, or fewer, where the register comes to an end.
-fn answer_all<R: Records, E: Write>(
+fn answer_all<D: Lasting, E: Write>(
     rt: &HostRuntime,
     listener: &TcpListener,
     service: &Service,
-    guarded: &mut Guarded<'_, R>,
+    desk: &mut D,
     err: &mut Output<'_, E>,
 ) -> Result<(), Fault>
-    ensures falls { R.clean guarded.new.office.records → R.clean guarded.old.office.records }
-    ensures served { HasServed (R.clean guarded.new.office.records) (StandsWarm R.stands guarded.old.office) (StandsWarm R.stands guarded.new.office)
+    ensures falls { D.clean desk.new → D.clean desk.old }
+    ensures served { HasServed (D.clean desk.new) (D.stands desk.old) (D.stands desk.new)
         service.now.count ⊤ (E.contents err.old.writer.now) (E.contents err.new.writer.now) result }
     ensures fault { IfErr result (λ fault. (fault ≡ Fault.CannotListen) ⊎ (fault ≡ Fault.Register StoreFault.Unavailable)) }
     ensures same { err.new.writer.ghost_name ≡ err.old.writer.ghost_name }
 {
     for _ in 0..service.count {
         let stream = accept(listener)?;
-        if !answer_stream(rt, &stream, service.seconds, guarded, err) {
+        if !answer_stream(rt, &stream, service.seconds, desk, err) {
             return Err(Fault::Register(StoreFault::Unavailable));
         }
     }

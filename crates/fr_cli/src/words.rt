@@ -3,14 +3,18 @@ ghost use Rattle.std.specs.Prelude.{◌≡◌, codes, map, option_map, string_by
 ghost use Rattle.clap.specs.Walk.{first_of, rows_of};
 ghost use Rattle.clap.specs.Words.{found_of, kind_of, subcommand_rows_of};
 ghost use Rattle.fr_base.specs.Queries.{word_of, word_of_inventory};
-ghost use Rattle.fr_cli.specs.Words.{AreTaken, AskFor, HasFrame, IsFaultOf, IsJobFound, IsJobIn, IsJobOf, IsNumberIn, IsOfKind, MayRefuse};
+ghost use Rattle.fr_cli.specs.Words.{AreTaken, AskFor, HasFrame, IsFaultOf, IsFileIn, IsJobFound, IsJobIn, IsJobOf, IsNumberIn, IsOfKind, MayRefuse};
 
 use crate::commands::{MAX_CONNECTIONS, MAX_PORT, MAX_SECONDS, program};
 use crate::query::Inquiry;
+use crate::text_file::TextFile;
 use clap::error::ErrorKind;
 use clap::{ArgMatches, Error};
 use fr_base::{Inventory, Query, Report};
 use std::alloc::Global;
+
+/// What is said of words that `clap` takes, and that name no job: `check` alone has such.
+const NO_JOB: &str = "check takes one file: CONFIG, or --requests FILE, or --rows FILE";
 
 /// What the program is to do.
 #[derive(Clone, Copy, PartialEq, Eq)]
@@ -57,9 +61,9 @@ pub enum Job<'a> {
         label: &'a str,
         file: &'a str,
     },
-    /// Say what is wrong with a cluster file, and where; or its figures.
+    /// Say what is wrong with the text of a file, and where; or that nothing is.
     Check {
-        config: &'a str,
+        file: TextFile<'a>,
     },
     /// Say what a refusal's name or a fault's word means, or list all of them.
     Explain {
@@ -100,7 +104,7 @@ fn read<'a>(alloc: Global, words: &'a [String]) -> Result<Job<'a>, Error>
     let matches = program.try_get_matches_from_mut(words)?;
     match job_of(&matches) {
         Some(job) => Ok(job),
-        None => Err(program.error(ErrorKind::ValueValidation, "no job has these words")?),
+        None => Err(program.error(ErrorKind::ValueValidation, NO_JOB)?),
     }
 }
 
@@ -230,8 +234,23 @@ fn check_job<'a>(found: &ArgMatches<'a>) -> Option<Job<'a>>
     ensures { IsJobIn result (codes "check") (rows_of (found_of found.now)) }
 {
     Some(Job::Check {
-        config: word(found, "CONFIG")?,
+        file: text_file(found)?,
     })
+}
+
+// The one file that is named.
+fn text_file<'a>(found: &ArgMatches<'a>) -> Option<TextFile<'a>>
+    ensures { IsFileIn result (rows_of (found_of found.now)) }
+{
+    let config = word(found, "CONFIG");
+    let requests = word(found, "requests");
+    let rows = word(found, "rows");
+    match (config, requests, rows) {
+        (Some(path), None, None) => Some(TextFile::Config { path }),
+        (None, Some(path), None) => Some(TextFile::Requests { path }),
+        (None, None, Some(path)) => Some(TextFile::Rows { path }),
+        _ => None,
+    }
 }
 
 fn explain_job<'a>(found: &ArgMatches<'a>) -> Job<'a>

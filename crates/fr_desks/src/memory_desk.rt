@@ -1,9 +1,7 @@
 //! The desk of a register in memory, which a script asks.
-ghost use Rattle.std.specs.Prelude.{◌≡◌, ◌<◌, length, take, IfErr, IfOk, MatchResult, ⊤};
-ghost use Rattle.fr_base.specs.Book.{Book, opening};
-ghost use Rattle.fr_base.specs.Cluster.{Cluster};
-ghost use Rattle.fr_base.specs.Sound.{IsSound};
-ghost use Rattle.fr_answers.specs.Headline.{WereAnswered};
+ghost use Rattle.std.specs.Prelude.{◌≡◌, ◌<◌, length, IfErr, IfOk, ⊤};
+ghost use Rattle.fr_base.specs.Book.{opening};
+ghost use Rattle.fr_answers.specs.Headline.{AnswersEach};
 ghost use Rattle.fr_store.specs.declared.fault.StoreFault.TheVariants.{Unavailable};
 
 use fr_answers::Stopped;
@@ -34,6 +32,10 @@ impl Desk for MemoryDesk {
         self.office.actor_of(key)
     }
 
+    fn config(&self) -> &Config {
+        self.office.config()
+    }
+
     fn ask(&mut self, alloc: Global, ask: &Ask) -> Answer {
         self.office.ask(alloc, ask)
     }
@@ -56,9 +58,7 @@ impl MemoryDesk {
     pub fn run(&mut self, alloc: Global, asks: &[Ask]) -> Result<Vec<Answer>, Stopped>
         ensures each { IfOk result (λ answers. length answers.items ≡ length asks.now) }
         ensures front { IfErr result (λ stopped. length stopped.answers.items < length asks.now) }
-        ensures headline { (c : Cluster) (b : Book) → ⟦<MemoryDesk as Desk>⟧.stands self.old c b → IsSound c b → MatchResult result
-            (λ answers. WereAnswered (⟦<MemoryDesk as Desk>⟧.stands self.new c) c b asks.now answers.items)
-            (λ stopped. WereAnswered (⟦<MemoryDesk as Desk>⟧.stands self.new c) c b (take (length stopped.answers.items) asks.now) stopped.answers.items) }
+        ensures headline { AnswersEach (⟦<MemoryDesk as Desk>⟧.stands self.old) (⟦<MemoryDesk as Desk>⟧.stands self.new) asks.now result }
     {
         self.office.run(alloc, asks)
     }

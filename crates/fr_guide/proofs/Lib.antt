@@ -1,5 +1,7 @@
 pub mod EachWord
+pub mod FieldLaws
 pub mod RequestLaws
 pub mod RowLaws
+mod LineLemmas
 mod RowLemmas
 mod TopicLemmas

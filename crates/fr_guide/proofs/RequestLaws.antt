@@ -1,28 +1,24 @@
 -- A request is refused for its form exactly where one of its names or its key has none.
-use Rattle.std.proofs.Common.{◌≡◌, ◌∙◌, ap, refl, sym, ℕ, Bool, true, false, cond, List, [], ◌∷◌, Option, Some, None, Result, Ok, Err}
+use Rattle.std.proofs.Common.{◌≡◌, ◌∙◌, ap, refl, sym, ℕ, Bool, true, false, cond, List, Option, Some, None, Result, Ok, Err}
 use Rattle.std.specs.Prelude.{not, ◌&&◌, nat_le}
 use Rattle.std.specs.List.{list_all}
 use Rattle.fr_base.specs.Channels.{channel_of_text, channels_in, channels_of_text, has_channel}
-use Rattle.fr_base.specs.Checks.{asking, channel, channels, check, cycles, is_integrator, key, name, parent_name, placement, query, report, signal, slot}
+use Rattle.fr_base.specs.Checks.{asking, channel, channels, check, cycles, key, name, parent_name, placement, query, report, signal, slot}
 use Rattle.fr_base.specs.Cycles.{Cycles, are_cycles}
 use Rattle.fr_base.specs.Names.{is_key, is_name}
 use Rattle.fr_base.specs.Refusing.{◌>>=◌, ◌>>◌, ◌or◌, refuse◌when◌}
 use Rattle.fr_base.specs.Signals.{SignalData, is_signal_length, order_of_text}
-use Rattle.fr_base.specs.declared.channel.Channel.{Channel}
-use Rattle.fr_base.specs.declared.channel.Channels.{Channels}
 use Rattle.fr_base.specs.declared.key.Key.{Key}
 use Rattle.fr_base.specs.declared.name.Name.{Name}
 use Rattle.fr_base.specs.declared.params.Params.{Params}
 use Rattle.fr_base.specs.declared.refusal.Refusal.{Refusal}
-use Rattle.fr_base.specs.declared.refusal.Refusal.TheVariants.{BadChannel, BadCycles, BadKey, BadName, BadSignal, BadSlot, NotYours}
+use Rattle.fr_base.specs.declared.refusal.Refusal.TheVariants.{BadChannel, BadCycles, BadKey, BadName, BadSignal, BadSlot}
 use Rattle.fr_base.specs.declared.query.Query.TheVariants.{Register as OfRegister, Variant as OfVariant}
-use Rattle.fr_base.specs.declared.report.Report.{Report}
 use Rattle.fr_base.specs.declared.report.Report.TheVariants.{Grants, Frames, Schedule, Gaps, Layout}
-use Rattle.fr_base.specs.declared.request.Request.{Request}
 use Rattle.fr_base.specs.declared.request.Request.TheVariants as request
 use Rattle.fr_base.specs.declared.signal.Order.{Order}
-use Rattle.fr_guide.specs.Laws.{MisformedRequestsAreRefused, asked_by, is_misformed, is_of_form}
-use Rattle.fr_guide.specs.Requests.{formed_in, have_forms}
+use Rattle.fr_guide.specs.Laws.{MisformedRequestsAreRefused, is_misformed}
+use Rattle.fr_guide.specs.Requests.{formed_in}
 
 -- ---- what is never refused for its form
 

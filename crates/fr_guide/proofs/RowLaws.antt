@@ -7,18 +7,18 @@ use Rattle.std.specs.Str.{is_utf8}
 use Rattle.std.specs.Str.Parse.{digits_value}
 use Rattle.csv.specs.Records.{field_at}
 use Rattle.fr_base.specs.Checks.{name, placement, signal}
-use Rattle.fr_base.specs.ImportRows.{number, number_at, placement_in, placement_row, row_of, signal_in, signal_row, spelled, text_at}
+use Rattle.fr_base.specs.ImportRows.{frame_in, frame_row, number, number_at, placement_in, placement_row, row_of, signal_in, signal_row, spelled, text_at}
 use Rattle.fr_base.specs.Names.{is_digit, is_name}
 use Rattle.fr_base.specs.Refusing.{◌>>=◌, ◌>>◌, ◌or◌, refuse◌when◌}
 use Rattle.fr_base.specs.declared.import.Header.{Header}
-use Rattle.fr_base.specs.declared.import.Header.TheVariants.{Placements, Signals}
+use Rattle.fr_base.specs.declared.import.Header.TheVariants.{Frames, Placements, Signals}
 use Rattle.fr_base.specs.declared.import.Row.{Row}
 use Rattle.fr_base.specs.declared.params.Params.{Params}
 use Rattle.fr_base.specs.declared.refusal.Refusal.{Refusal}
 use Rattle.fr_base.specs.declared.refusal.Refusal.TheVariants.{BadText, BadName}
 use Rattle.fr_guide.proofs.RequestLaws.{formed_behind, is_formed, named, placement-formed, signal-formed}
 use Rattle.fr_guide.specs.Laws.{MisformedRowsAreRefused, is_misformed, is_of_form}
-use Rattle.fr_guide.specs.Rows.{is_fine_placement, is_fine_row, is_fine_signal, name_at}
+use Rattle.fr_guide.specs.Rows.{is_fine_frame, is_fine_placement, is_fine_row, is_fine_signal, name_at}
 
 -- What is refused is refused for its form.
 OnlyForm : {A : Type 0} → Result A Refusal → Type 0
@@ -93,6 +93,9 @@ is_text fields place = by (text_at fields place)
 
 -- ---- rows
 
+two : (t0 t1 m0 m1 : Bool) → (m0 ≡ true → t0 ≡ true) → (m1 ≡ true → t1 ≡ true) → (t0 && (t1 && (m0 && (m1 && true)))) ≡ (m0 && m1)
+two t0 t1 m0 m1 first second = grind (arith, first, second)
+
 six : (t0 t1 n2 t3 n4 n5 m0 m1 : Bool) → (m0 ≡ true → t0 ≡ true) → (m1 ≡ true → t1 ≡ true)
     → (t0 && (t1 && (n2 && (t3 && (n4 && (n5 && (m0 && (m1 && true)))))))) ≡ (m0 && m1 && n2 && t3 && n4 && n5)
 six t0 t1 n2 t3 n4 n5 m0 m1 first second = grind (arith, first, second)
@@ -105,6 +108,15 @@ five t0 t1 n2 n3 t4 m0 m1 first second = grind (arith, first, second)
 names_are : (fields : List (List ℕ)) (one other : List ℕ) → text_at fields 0 ≡ Ok one → text_at fields 1 ≡ Ok other
     → (is_name one && (is_name other && true)) ≡ (is_ok (name_at fields 0) && (is_ok (name_at fields 1) && true))
 names_are fields one other is0 is1 = rw (name_of fields 0 one is0) (rw (name_of fields 1 other is1) refl)
+
+frames : (fields : List (List ℕ)) → is_formed (frame_in fields) ≡ is_fine_frame fields
+unfolding frame_in frame_row is_fine_frame
+frames fields =
+    asked (text_at fields 0) _ _ (text_at-only fields 0) (λ frame is0.
+    asked (text_at fields 1) _ (is_ok (name_at fields 0) && (is_ok (name_at fields 1) && true)) (text_at-only fields 1) (λ node is1.
+    named frame _ _ (named node _ true refl)
+    ∙ names_are fields frame node is0 is1))
+    ∙ two (is_ok (text_at fields 0)) (is_ok (text_at fields 1)) (is_ok (name_at fields 0)) (is_ok (name_at fields 1)) (is_text fields 0) (is_text fields 1)
 
 placements : (p : Params) (fields : List (List ℕ)) → is_formed (placement_in p fields) ≡ is_fine_placement fields
 unfolding placement_in placement_row is_fine_placement
@@ -135,6 +147,11 @@ signals fields =
 
 pub misformed_rows : MisformedRowsAreRefused
 unfolding is_fine_row row_of ◌>>◌ refuse◌when◌
+misformed_rows p Frames fields = by (length fields == length (spelled Frames))
+  where
+    by : (fits : Bool) → (fits && is_fine_frame fields) ≡ is_formed ((refuse BadText when not fits) >> frame_in fields)
+    by true = sym (frames fields)
+    by false = refl
 misformed_rows p Placements fields = by (length fields == length (spelled Placements))
   where
     by : (fits : Bool) → (fits && is_fine_placement fields) ≡ is_formed ((refuse BadText when not fits) >> placement_in p fields)

@@ -4,4 +4,5 @@ pub mod Examining
 pub mod Laws
 pub mod Faults
 pub mod Requests
+pub mod RequestFields
 pub mod Rows

@@ -1,13 +1,14 @@
 -- Fine row: a record below a header is a row's text, whatever the cluster: it has as many fields as the header, its names are names,
--- its numbers are numbers, and each other field is a text. Which records of a file are fine; which lines it has.
-use Rattle.std.specs.Prelude.{ℕ, ◌+◌, ◌≡◌, ◌≤◌, ◌==◌, Bool, true, false, ◌&&◌, List, [], ◌∷◌, length, map, Option, Some, None, Result}
-use Rattle.std.specs.List.{All, count_by}
+-- its numbers are numbers, and each other field is a text. Which records of a file are fine, of which an import takes so many; which lines
+-- the file has.
+use Rattle.std.specs.Prelude.{ℕ, zero, suc, ◌+◌, ◌≡◌, ◌≤◌, ◌==◌, nat_lt, Bool, true, false, not, ◌&&◌, ◌||◌, if◌then◌else◌, List, [], ◌∷◌, length, map, Option, Some, None, Result}
 use Rattle.std.specs.Result.{is_ok}
 use Rattle.fr_base.specs.Checks.{name}
 use Rattle.fr_base.specs.ImportRows.{header_of, number_at, records_of, spelled, text_at}
 use Rattle.fr_base.specs.Refusing.{◌>>=◌}
 use Rattle.fr_base.specs.declared.import.Header.{Header}
-use Rattle.fr_base.specs.declared.import.Header.TheVariants.{Placements, Signals}
+use Rattle.fr_base.specs.declared.import.Header.TheVariants.{Frames, Placements, Signals}
+use Rattle.fr_base.specs.declared.limits.TheConstants.{MAX_IMPORT_BYTES, MAX_ROWS}
 use Rattle.fr_base.specs.declared.name.Name.{Name}
 use Rattle.fr_base.specs.declared.refusal.Refusal.{Refusal}
 use Rattle.fr_guide.specs.Faults.{is_fine}
@@ -17,7 +18,11 @@ use Rattle.fr_guide.specs.declared.line_faults.LineFaults.{LineFaults}
 unfoldable pub name_at : List (List ℕ) → ℕ → Result Name Refusal
 name_at fields place = text_at fields place >>= name
 
--- whether the fields are those of a row of placements
+-- whether the fields are those of a row of frames
+unfoldable pub is_fine_frame : List (List ℕ) → Bool
+is_fine_frame fields = is_ok (name_at fields 0) && is_ok (name_at fields 1)
+
+-- whether they are those of a row of placements
 unfoldable pub is_fine_placement : List (List ℕ) → Bool
 is_fine_placement fields = is_ok (name_at fields 0) && is_ok (name_at fields 1) && is_ok (number_at fields 2) && is_ok (text_at fields 3)
     && is_ok (number_at fields 4) && is_ok (number_at fields 5)
@@ -29,6 +34,7 @@ is_fine_signal fields = is_ok (name_at fields 0) && is_ok (name_at fields 1) && 
 
 -- whether they are, below this header
 abbrev pub has_fine_fields : Header → List (List ℕ) → Bool
+has_fine_fields Frames fields = is_fine_frame fields
 has_fine_fields Placements fields = is_fine_placement fields
 has_fine_fields Signals fields = is_fine_signal fields
 
@@ -36,24 +42,56 @@ has_fine_fields Signals fields = is_fine_signal fields
 unfoldable pub is_fine_row : Header → List (List ℕ) → Bool
 is_fine_row header fields = (length fields == length (spelled header)) && has_fine_fields header fields
 
+-- The records below a header, where so many more rows may stand. What comes behind these is one too many, whatever it holds, and what
+-- comes behind that is not read.
+unfoldable pub fine_rows : Header → ℕ → List (List (List ℕ)) → List Bool
+fine_rows header room [] = []
+fine_rows header zero (fields ∷ records) = false ∷ []
+fine_rows header (suc room) (fields ∷ records) = is_fine_row header fields ∷ fine_rows header room records
+
 -- the records below a header; where there is none, they are not read
 abbrev pub fine_below : Option Header → List (List (List ℕ)) → List Bool
 fine_below None records = false ∷ []
-fine_below (Some header) records = true ∷ map (is_fine_row header) records
+fine_below (Some header) records = true ∷ fine_rows header MAX_ROWS records
 
--- which records of a file are fine, the header first; a file without a record lacks its header
+-- which records are fine, the header first; a file without a record lacks its header
 unfoldable pub fine_records : List (List (List ℕ)) → List Bool
 fine_records [] = false ∷ []
 fine_records (first ∷ records) = fine_below (header_of first) records
 
--- how many lines a file has, as an editor counts them
+-- which records of a file are fine; of one that is too long for an import none is read
+unfoldable pub fine_file : List ℕ → List Bool
+fine_file bytes = if nat_lt MAX_IMPORT_BYTES (length bytes) then false ∷ [] else fine_records (records_of bytes)
+
+-- ---- lines
+
+-- whether these bytes begin with a line feed
+abbrev pub begins_with_feed : List ℕ → Bool
+begins_with_feed [] = false
+begins_with_feed (b ∷ bytes) = b == 10
+
+-- Whether a byte before these ends a line, as an editor counts them: it is a line feed, or a carriage return without one behind.
+abbrev pub ends_line : ℕ → List ℕ → Bool
+ends_line byte after = (byte == 10) || ((byte == 13) && not (begins_with_feed after))
+
+-- how many lines end in these bytes
+unfoldable pub line_ends : List ℕ → ℕ
+line_ends [] = 0
+line_ends (b ∷ bytes) = (if ends_line b bytes then 1 else 0) + line_ends bytes
+
+-- how many lines a file has; behind the last end of a line is one more
 abbrev pub line_count : List ℕ → ℕ
-line_count bytes = count_by (λ b. b == 10) bytes + 1
+line_count bytes = 1 + line_ends bytes
 
--- The line is one of the file's.
-abbrev pub IsLineOf : List ℕ → LineFaults → Type 0
-IsLineOf bytes told = (1 ≤ told.line) × (told.line ≤ line_count bytes)
+-- The numbers do not fall, from the least to the most.
+unfoldable pub AreInOrder : ℕ → ℕ → List ℕ → Type 0
+AreInOrder least most [] = least ≤ most
+AreInOrder least most (n ∷ numbers) = (least ≤ n) × AreInOrder n most numbers
 
--- Of each record something is told exactly where it is not fine; each line is one of the file's.
+-- the numbers of the lines
+abbrev pub numbers_of : List LineFaults → List ℕ
+numbers_of told = map (λ t. t.line) told
+
+-- Of each record something is told exactly where it is not fine. Each line is one of the file's, and they are in order.
 abbrev pub AreToldOfRows : List ℕ → List LineFaults → Type 0
-AreToldOfRows bytes told = (map is_fine told ≡ fine_records (records_of bytes)) × All (IsLineOf bytes) told
+AreToldOfRows bytes told = (map is_fine told ≡ fine_file bytes) × AreInOrder 1 (line_count bytes) (numbers_of told)

@@ -19,6 +19,6 @@ pub use laws::{
     each_config_fault_is_explained, each_refusal_is_explained, misformed_requests_are_refused,
     misformed_rows_are_refused,
 };
-pub use line_faults::{LineFaults, are_fine, fault_lines};
+pub use line_faults::{LineFaults, are_fine, fault_lines, one_fault};
 pub use requests::request_faults;
 pub use rows::row_faults;

@@ -1,6 +1,6 @@
 //! What is wrong with the lines of a file, and how it is printed.
-ghost use Rattle.std.specs.Prelude.{◌≡◌, ◌++◌, IfOk, OnOk};
-ghost use Rattle.fr_guide.specs.Faults.{all_fine, all_lines, fault_line, lines_of};
+ghost use Rattle.std.specs.Prelude.{◌≡◌, ◌++◌, IfOk, OnOk, false};
+ghost use Rattle.fr_guide.specs.Faults.{all_fine, all_lines, are_none, fault_line, lines_of};
 
 use fr_base::NoMemory;
 use std::alloc::Global;
@@ -12,6 +12,15 @@ pub struct LineFaults {
     pub line: usize,
     /// What is wrong, each fault in words; nothing where the line is as it may be.
     pub faults: Vec<String>,
+}
+
+/// What is wrong, where that is one fault.
+pub fn one_fault(alloc: Global, fault: String) -> Result<Vec<String>, NoMemory>
+    ensures { IfOk result (λ faults. are_none faults.items ≡ false) }
+{
+    let mut faults = Vec::new(alloc);
+    faults.push(fault)?;
+    Ok(faults)
 }
 
 /// Whether nothing is wrong with any of the lines.

@@ -1,7 +1,7 @@
 //! What is wrong with the text of a request.
-ghost use Rattle.std.specs.Prelude.{◌≡◌, IfOk, OnOk, Some, true, false};
+ghost use Rattle.std.specs.Prelude.{◌≡◌, IfOk};
 ghost use Rattle.fr_guide.specs.Faults.{are_none};
-ghost use Rattle.fr_guide.specs.Requests.{is_fine, is_fine_request};
+ghost use Rattle.fr_guide.specs.Requests.{is_fine_request};
 
 mod fields;
 mod forms;
@@ -23,17 +23,6 @@ pub fn request_faults(alloc: Global, text: &[u8], before: usize) -> Result<Vec<S
     match read_command(alloc, text) {
         Ok(request) => name_faults(alloc, &request),
         Err(Refusal::Unavailable) => Err(AllocError),
-        Err(_) => some_faults(alloc, text, before),
+        Err(_) => text_faults(alloc, text, before),
     }
-}
-
-// Why a text is no request: something at least.
-fn some_faults(alloc: Global, text: &[u8], before: usize) -> Result<Vec<String>, NoMemory>
-    ensures { IfOk result (λ faults. are_none faults.items ≡ false) }
-{
-    let mut faults = text_faults(alloc, text, before)?;
-    if faults.is_empty() {
-        faults.push(String::from_str(alloc, "the text is no request")?)?;
-    }
-    Ok(faults)
 }

@@ -1,38 +1,61 @@
 //! What is wrong with the rows of an import's file.
-ghost use Rattle.std.specs.Prelude.{◌≡◌, ◌∷◌, ◌++◌, ◌≤◌, [], IfOk, List, OnOk, false, if◌then◌else◌, map, ℕ};
-ghost use Rattle.std.specs.List.{All};
+ghost use Rattle.std.specs.Prelude.{◌≡◌, ◌∷◌, ◌++◌, ◌≤◌, ◌<◌, ◌+◌, ◌^◌, [], IfOk, OnOk, false, if◌then◌else◌, map};
 ghost use Rattle.csv.specs.Records.{fields_of};
 ghost use Rattle.fr_base.specs.ImportRows.{records_of};
+ghost use Rattle.fr_base.specs.declared.limits.TheConstants.{MAX_ROWS};
 ghost use Rattle.fr_guide.specs.Faults.{are_none, is_fine};
-ghost use Rattle.fr_guide.specs.Rows.{AreToldOfRows, IsLineOf, fine_records, is_fine_row, line_count};
+ghost use Rattle.fr_guide.specs.Rows.{AreInOrder, AreToldOfRows, fine_records, fine_rows, line_count, line_ends, numbers_of};
 
 mod fields;
 mod header;
+mod place;
 
-use crate::line_faults::LineFaults;
+use crate::line_faults::{LineFaults, one_fault};
 use crate::rows::fields::field_faults;
 use crate::rows::header::header_faults;
+use crate::rows::place::Place;
 use csv::ByteRecord;
-use fr_base::{Header, NoMemory};
+use fr_base::{Header, MAX_IMPORT_BYTES, MAX_ROWS, NoMemory};
 use fr_text::{Records, header_of};
 use std::alloc::{AllocError, Global};
 
-/// What is wrong with each record of an import's file, the header first: why it is no row, whatever the cluster. Below what is no
-/// header nothing is read.
-#[tactic(auto, unfolding(crate::specs::Rows::fine_records))]
+/// What is wrong with each record of an import's file, the header first: why it is no row, whatever the cluster. A file that is too long is
+/// not read, nor is what stands below what is no header, or behind one row too many.
+#[tactic(auto, unfolding(crate::specs::Rows::fine_file))]
 pub fn row_faults(alloc: Global, body: &[u8]) -> Result<Vec<LineFaults>, NoMemory>
     ensures { IfOk result (λ told. AreToldOfRows body.now told.items) }
+{
+    if body.len() > MAX_IMPORT_BYTES {
+        let line = Place::new(body).line_behind(MAX_IMPORT_BYTES as u64);
+        return one_line(alloc, line, too_long(alloc)?);
+    }
+    record_faults(alloc, body)
+}
+
+// What is wrong with each record of a file that is not too long.
+#[tactic(auto, unfolding(crate::specs::Rows::fine_records))]
+fn record_faults(alloc: Global, body: &[u8]) -> Result<Vec<LineFaults>, NoMemory>
+    ensures rows { IfOk result (λ told. map is_fine told.items ≡ fine_records (records_of body.now)) }
+    ensures lines { IfOk result (λ told. AreInOrder 1 (line_count body.now) (numbers_of told.items)) }
 {
     let mut records = Records::new(alloc, body);
     let mut fields = ByteRecord::new(alloc);
     if !read(&mut records, &mut fields)? {
         return one_line(alloc, 1, no_header(alloc)?);
     }
-    let line = line_of(body, &fields);
+    let mut place = Place::new(body);
+    let line = place.line_behind(bytes_before(&fields));
     match header_of(&fields) {
         Some(header) => {
             let mut told = one_line(alloc, line, Vec::new(alloc))?;
-            tell_rows(alloc, body, header, &mut records, &mut fields, &mut told)?;
+            tell_rows(
+                alloc,
+                header,
+                &mut records,
+                &mut fields,
+                &mut place,
+                &mut told,
+            )?;
             Ok(told)
         }
         None => one_line(alloc, line, header_faults(alloc, &fields)?),
@@ -42,27 +65,36 @@ pub fn row_faults(alloc: Global, body: &[u8]) -> Result<Vec<LineFaults>, NoMemor
 // A line with these faults.
 fn one_line(alloc: Global, line: usize, faults: Vec<String>) -> Result<Vec<LineFaults>, NoMemory>
     ensures told { IfOk result (λ told. map is_fine told.items ≡ are_none faults.items ∷ []) }
-    ensures lines { (bytes : List ℕ) → IfOk result (λ told. 1 ≤ line → line ≤ line_count bytes → All (IsLineOf bytes) told.items) }
+    ensures lines { IfOk result (λ told. numbers_of told.items ≡ line ∷ []) }
 {
     let mut told = Vec::new(alloc);
     told.push(LineFaults { line, faults })?;
     Ok(told)
 }
 
-// Adds what is wrong with each record that is left, a row below this header.
+// Adds what is wrong with each record that is left, a row below this header, up to one row too many.
 fn tell_rows(
     alloc: Global,
-    body: &[u8],
     header: Header,
     records: &mut Records<'_>,
     fields: &mut ByteRecord,
+    place: &mut Place<'_>,
     told: &mut Vec<LineFaults>,
 ) -> Result<(), NoMemory>
-    ensures rows { OnOk result (map is_fine told.new.items ≡ map is_fine told.old.items ++ map (is_fine_row header) records.old) }
-    ensures lines { OnOk result (All (IsLineOf body.now) told.old.items → All (IsLineOf body.now) told.new.items) }
+    requires room { place.old.line + line_ends place.old.rest.now < 2 ^ 64 }
+    ensures rows { OnOk result (map is_fine told.new.items ≡ map is_fine told.old.items ++ fine_rows header MAX_ROWS records.old) }
+    ensures lines { OnOk result (AreInOrder 1 place.old.line (numbers_of told.old.items) → AreInOrder 1 place.new.line (numbers_of told.new.items)) }
+    ensures all { place.new.line + line_ends place.new.rest.now ≡ place.old.line + line_ends place.old.rest.now }
 {
+    let mut room = MAX_ROWS;
     while read(records, fields)? {
-        let line = line_of(body, fields);
+        let line = place.line_behind(bytes_before(fields));
+        if room == 0 {
+            let faults = too_many(alloc)?;
+            told.push(LineFaults { line, faults })?;
+            return Ok(());
+        }
+        room -= 1;
         let faults = field_faults(alloc, header, fields)?;
         told.push(LineFaults { line, faults })?;
     }
@@ -79,28 +111,32 @@ fn read(records: &mut Records<'_>, fields: &mut ByteRecord) -> Result<bool, NoMe
     }
 }
 
+// Behind how many bytes of the file the record was read. Ends of lines may still come before it.
+fn bytes_before(fields: &ByteRecord) -> u64 {
+    fields.position().map_or(0, |position| position.byte())
+}
+
+// What is wrong with a file that is too long.
+fn too_long(alloc: Global) -> Result<Vec<String>, NoMemory>
+    ensures { IfOk result (λ faults. are_none faults.items ≡ false) }
+{
+    let fault = format!(in alloc;
+        "here the file gets longer than {MAX_IMPORT_BYTES} bytes, an import may not be"
+    )?;
+    one_fault(alloc, fault)
+}
+
+// What is wrong with the row behind the last that a file may have.
+fn too_many(alloc: Global) -> Result<Vec<String>, NoMemory>
+    ensures { IfOk result (λ faults. are_none faults.items ≡ false) }
+{
+    let fault = format!(in alloc; "the row is one too many, an import may have {MAX_ROWS}")?;
+    one_fault(alloc, fault)
+}
+
 // What is wrong with a file without a record.
 fn no_header(alloc: Global) -> Result<Vec<String>, NoMemory>
     ensures { IfOk result (λ faults. are_none faults.items ≡ false) }
 {
-    let mut faults = Vec::new(alloc);
-    faults.push(String::from_str(alloc, "the file has no header")?)?;
-    Ok(faults)
-}
-
-// The line at which a record begins: the reader says behind which byte. The ends of the line before it, and empty lines, come first.
-fn line_of(body: &[u8], fields: &ByteRecord) -> usize
-    ensures { (1 ≤ result) × (result ≤ line_count body.now) }
-{
-    let start = fields.position().map_or(0, |position| position.byte());
-    let mut line = 1;
-    for (place, byte) in body.iter().enumerate() {
-        if place as u64 >= start && !matches!(*byte, b'\r' | b'\n') {
-            return line;
-        }
-        if *byte == b'\n' {
-            line += 1;
-        }
-    }
-    line
+    one_fault(alloc, String::from_str(alloc, "the file has no header")?)
 }

@@ -27,7 +27,7 @@ key_bytes_are_ascii : (text : List ℕ) → list_all is_key_byte text ≡ true �
 key_bytes_are_ascii [] h = IsAscii-nil
 key_bytes_are_ascii (c ∷ text) h = IsAscii-cons c text (key_byte_is_ascii c (and_parts _ _ h).0) (key_bytes_are_ascii text (and_parts _ _ h).1)
 
-key_is_text : (text : List ℕ) → is_key text ≡ true → IsUtf8 text
+pub key_is_text : (text : List ℕ) → is_key text ≡ true → IsUtf8 text
 unfolding is_key
 key_is_text text h = IsUtf8-from_ascii text (key_bytes_are_ascii text (and_parts _ _ h).1)
 

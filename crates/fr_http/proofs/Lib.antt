@@ -1,4 +1,3 @@
-mod StreamLemmas
 pub mod HeadLaws
 pub mod RouteLaws
 pub mod ReplyLaws

@@ -13,11 +13,11 @@ use crate::fault::{LinkFault, Unasked};
 use crate::head::{Received, Values};
 use crate::input::Input;
 use crate::method::Method;
-use crate::output::{Output, WriteFailed};
 use crate::plan::{Plan, make_plan};
 use crate::receive::receive;
 use crate::reply::{ReplyText, answer_reply, engine_reply};
 use fr_base::{Answer, Ask, Desk, NoMemory, Refusal};
+use fr_text::{Output, WriteFailed};
 use std::alloc::Global;
 use std::io::{Read, Write};
 

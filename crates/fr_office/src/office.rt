@@ -1,20 +1,20 @@
 //! The office of a register, which answers one request, or a list of them.
-ghost use Rattle.std.specs.Prelude.{◌≡◌, ◌<◌, [], ◌∷◌, None, length, take, IfOk, IfErr, MatchResult};
+ghost use Rattle.std.specs.Prelude.{◌≡◌, ◌<◌, [], None, length, IfOk, IfErr};
 ghost use Rattle.fr_base.specs.Actors.{actor_of};
 ghost use Rattle.fr_base.specs.Book.{Book, file_of};
 ghost use Rattle.fr_base.specs.Cluster.{Cluster};
 ghost use Rattle.fr_base.specs.Sound.{IsSound};
 ghost use Rattle.fr_answers.specs.Answering.{Answers, KeepsChange, LeavesStep};
-ghost use Rattle.fr_answers.specs.Crashed.{WereAsked, WereKept};
-ghost use Rattle.fr_answers.specs.Headline.{WereAnswered};
+ghost use Rattle.fr_answers.specs.Crashed.{AsksEach, KeepsEach};
+ghost use Rattle.fr_answers.specs.Headline.{AnswersEach};
 ghost use Rattle.fr_answers.specs.KeptPages.{StandsWarm};
 ghost use Rattle.fr_answers.specs.Listing.{Lists};
-ghost use Rattle.fr_records.specs.Held.{LeavesNoMore};
+ghost use Rattle.fr_records.specs.Held.{Reads};
 
 mod stored;
 
 use fr_answers::{Stopped, Warm, answer, decline, list_variants, run};
-use fr_base::{Actor, Answer, Ask, Config, Desk, Params, Refusal, VariantRow};
+use fr_base::{Actor, Answer, Ask, Config, Desk, Refusal, VariantRow};
 use fr_records::Records;
 use std::alloc::Global;
 use std::marker::Model;
@@ -47,6 +47,10 @@ impl<R: Records> Desk for Office<R> {
 
     fn actor_of(&self, key: &str) -> Option<Actor> {
         Office::actor_of(self, key)
+    }
+
+    fn config(&self) -> &Config {
+        Office::config(self)
     }
 
     fn ask(&mut self, alloc: Global, ask: &Ask) -> Answer {
@@ -104,13 +108,6 @@ impl<R: Records> Office<R> {
         decline(&self.warm, ask)
     }
 
-    /// The parameters of the register's cluster.
-    pub fn params(&self) -> Params
-        ensures { (c : Cluster) (b : Book) → StandsWarm R.stands self.now c b → result ≡ c.params }
-    {
-        self.warm.config().params()
-    }
-
     /// What a cluster file says of the register's cluster now: the suppliers are those that are there.
     pub fn config(&self) -> &Config
         ensures { (c : Cluster) (b : Book) → StandsWarm R.stands self.now c b → result.now ≡ file_of c b }
@@ -122,8 +119,7 @@ impl<R: Records> Office<R> {
     /// `UnknownKey` where who asks is not there; `Unavailable` where who asks is there, and memory is refused or the
     /// records are.
     pub fn variants(&mut self, alloc: Global, actor: &Actor) -> Result<Vec<VariantRow>, Refusal>
-        ensures falls { R.clean self.new.records → R.clean self.old.records }
-        ensures leaves { R.clean self.new.records → LeavesNoMore (R.leaves self.old.records) (R.leaves self.new.records) }
+        ensures reads { Reads R.clean R.params R.leaves self.old.records self.new.records }
         ensures lists { R.clean self.new.records → Lists (StandsWarm R.stands self.old) (StandsWarm R.stands self.new) actor.now result }
     {
         list_variants(alloc, &mut self.warm, actor)
@@ -142,15 +138,9 @@ impl<R: Records> Office<R> {
         ensures falls { R.clean self.new.records → R.clean self.old.records }
         ensures each { IfOk result (λ answers. length answers.items ≡ length asks.now) }
         ensures front { IfErr result (λ stopped. length stopped.answers.items < length asks.now) }
-        ensures headline { R.clean self.new.records → (c : Cluster) (b : Book) → StandsWarm R.stands self.old c b → IsSound c b → MatchResult result
-            (λ answers. WereAnswered (StandsWarm R.stands self.new c) c b asks.now answers.items)
-            (λ stopped. WereAnswered (StandsWarm R.stands self.new c) c b (take (length stopped.answers.items) asks.now) stopped.answers.items) }
-        ensures asked { R.clean self.new.records → MatchResult result
-            (λ answers. WereAsked (StandsWarm R.stands) (λ office. R.leaves office.records) self.old asks.now answers.items self.new)
-            (λ stopped. WereAsked (StandsWarm R.stands) (λ office. R.leaves office.records) self.old (take (length stopped.answers.items) asks.now) stopped.answers.items self.new) }
-        ensures kept { R.clean self.new.records → (c : Cluster) (b : Book) → StandsWarm R.stands self.old c b → IsSound c b → R.leaves self.old.records c (b ∷ []) → MatchResult result
-            (λ answers. WereKept (StandsWarm R.stands self.new c) (R.leaves self.new.records c) c b asks.now answers.items)
-            (λ stopped. WereKept (StandsWarm R.stands self.new c) (R.leaves self.new.records c) c b (take (length stopped.answers.items) asks.now) stopped.answers.items) }
+        ensures headline { R.clean self.new.records → AnswersEach (StandsWarm R.stands self.old) (StandsWarm R.stands self.new) asks.now result }
+        ensures asked { R.clean self.new.records → AsksEach (StandsWarm R.stands) (λ office. R.leaves office.records) self.old self.new asks.now result }
+        ensures kept { R.clean self.new.records → KeepsEach (StandsWarm R.stands) (λ office. R.leaves office.records) self.old self.new asks.now result }
     {
         run(alloc, &mut self.warm, asks)
     }

@@ -8,3 +8,4 @@ pub mod RunLemmas
 pub mod StripLemmas
 pub mod ReportLaws
 pub mod FrameLaws
+pub mod PlanLaws

@@ -18,7 +18,6 @@ use Rattle.fr_base.specs.declared.request.Checked.{Checked}
 use Rattle.fr_base.specs.declared.request.Checked.TheVariants as checked
 use Rattle.fr_base.specs.declared.request.Request.{Request}
 use Rattle.fr_base.specs.declared.query.Query.{Query}
-use Rattle.fr_base.specs.declared.query.Query.TheVariants.{Variant}
 use Rattle.fr_base.specs.declared.report.Report.{Report}
 use Rattle.fr_base.specs.declared.request.Request.TheVariants as request
 use Rattle.fr_base.proofs.SoundRefusing.{gives_each, gives_unless}
@@ -58,16 +57,13 @@ pub query_stays : (asked : Query (List ℕ)) (c : Cluster) (b : Book) (actor : A
 unfolding check
 query_stays asked = stays (request.Query asked) (λ p actor. gives_each _ (query asked) _ (λ _ _. tt))
 
-pub report_stays : (v : List ℕ) (asked : Report (List ℕ)) (c : Cluster) (b : Book) (actor : Actor) → (step c b actor (asks v asked)).book ≡ b
-report_stays v asked = query_stays (Variant v asked)
-
 -- ---- what its answer tells
 
-module _ {X : Type 0} (old new : Standing) (actor : Actor) (asked given : Request) (kind : Bool → X → Answer) (answer : Answer)
-    (same : (c : Cluster) (b : Book) (actor : Actor) → (step c b actor asked).book ≡ b) (alike : given ≡ asked) (answered : Answered old new actor given answer) where
+module _ {X : Type 0} (old new : Standing) (actor : Actor) (asked : Request) (kind : Bool → X → Answer) (answer : Answer)
+    (same : (c : Cluster) (b : Book) (actor : Actor) → (step c b actor asked).book ≡ b) (answered : Answered old new actor asked answer) where
   told : (c : Cluster) (b : Book) → old c b → IsSound c b → new c b × ((answer ≡ Refused Unavailable) ⊎ (answer ≡ answer_to c b actor asked))
   told c b stood sound =
-      let a = subst (λ request. Answered old new actor request answer) alike answered c b stood sound in
+      let a = answered c b stood sound in
       elim a.2 [
         | inl lack ↦ (subst (λ k. new c k) lack.2 a.1, inl lack.1)
         | inr did ↦ (subst (λ k. new c k) (did.1 ∙ same c b actor) a.1, inr did.0)
@@ -102,17 +98,21 @@ module _ {X : Type 0} (old new : Standing) (actor : Actor) (asked given : Reques
 -- ---- the rows of a report
 
 -- what was made of its answer
-module _ (old new : Standing) (actor : Actor) (v w : List ℕ) (asked : Report (List ℕ)) (alike : w ≡ v) where
-  of_answer : (answer : Answer) → Answered old new actor (asks w asked) answer → Reports old new actor (asks v asked) Told (rows_in answer)
+module _ (old new : Standing) (actor : Actor) (asked : Query (List ℕ)) where
+  of_answer : (answer : Answer) → Answered old new actor (request.Query asked) answer → Reports old new actor (request.Query asked) Told (rows_in answer)
   of_answer (Told all rows) answered =
-      reported old new actor (asks v asked) (asks w asked) Told (Told all rows) (report_stays v asked) (ap (λ name. asks name asked) alike) answered (λ all rows e. cc) all rows rows refl refl
-  of_answer (Refused e) answered = refused old new actor (asks v asked) (asks w asked) Told (Refused e) (report_stays v asked) (ap (λ name. asks name asked) alike) answered e (inr refl)
-  of_answer Done answered = refused old new actor (asks v asked) (asks w asked) Told Done (report_stays v asked) (ap (λ name. asks name asked) alike) answered Unavailable (inl refl)
-  of_answer (Imported n) answered = refused old new actor (asks v asked) (asks w asked) Told (Imported n) (report_stays v asked) (ap (λ name. asks name asked) alike) answered Unavailable (inl refl)
-  of_answer (RefusedRow n e) answered = refused old new actor (asks v asked) (asks w asked) Told (RefusedRow n e) (report_stays v asked) (ap (λ name. asks name asked) alike) answered Unavailable (inl refl)
+      reported old new actor (request.Query asked) Told (Told all rows) (query_stays asked) answered (λ all rows e. cc) all rows rows refl refl
+  of_answer (Refused e) answered = refused old new actor (request.Query asked) Told (Refused e) (query_stays asked) answered e (inr refl)
+  of_answer Done answered = refused old new actor (request.Query asked) Told Done (query_stays asked) answered Unavailable (inl refl)
+  of_answer (Imported n) answered = refused old new actor (request.Query asked) Told (Imported n) (query_stays asked) answered Unavailable (inl refl)
+  of_answer (RefusedRow n e) answered = refused old new actor (request.Query asked) Told (RefusedRow n e) (query_stays asked) answered Unavailable (inl refl)
 
-  pub rows_reported : (answer : Answer) (r : Result ReportRows Refusal) → Answered old new actor (asks w asked) answer → r ≡ rows_in answer → Reports old new actor (asks v asked) Told r
-  rows_reported answer r answered is = subst (Reports old new actor (asks v asked) Told) (sym is) (of_answer answer answered)
+  pub rows_reported : (answer : Answer) (r : Result ReportRows Refusal) → Answered old new actor (request.Query asked) answer → r ≡ rows_in answer → Reports old new actor (request.Query asked) Told r
+  rows_reported answer r answered is = subst (Reports old new actor (request.Query asked) Told) (sym is) (of_answer answer answered)
+
+-- what is told of a variant's name is told of another that is the same
+pub report_same : (old new : Standing) (actor : Actor) (v w : List ℕ) (asked : Report (List ℕ)) (r : Result ReportRows Refusal) → w ≡ v → Reports old new actor (asks w asked) Told r → Reports old new actor (asks v asked) Told r
+report_same old new actor v w asked r alike reports = subst (λ name. Reports old new actor (asks name asked) Told r) alike reports
 
 module _ {X : Type 0} (old new : Standing) (actor : Actor) (asked : Request) (into : X → ReportRows) where
   -- rows of this kind

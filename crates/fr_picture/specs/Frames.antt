@@ -18,7 +18,7 @@ use Rattle.fr_picture.specs.FrameTables.{AreWorstFirst, KeepTies}
 use Rattle.fr_picture.specs.Strips.{HasItsBits}
 use Rattle.fr_picture.specs.declared.frame_table.DrawnFrame.{DrawnFrame}
 use Rattle.fr_picture.specs.declared.signals.DrawnSignal.{DrawnSignal}
-use Rattle.fr_picture.specs.Reports.{answer_to, asks, with_frames, with_gaps, with_signals}
+use Rattle.fr_picture.specs.Reports.{answer_to, asks, asks_variants, with_frames, with_gaps, with_signals}
 
 -- The signals are those of the supplier's frame, each drawn with its bits.
 abbrev pub AreSignals : Cluster → Book → List ℕ → FrameRow → List DrawnSignal → Type 0
@@ -52,6 +52,7 @@ AreFrames c b reader variant frames = (rows : List FrameRow)
 abbrev pub IsOfPlan : List ℕ → Request → Type 0
 IsOfPlan variant asked =
     (asked ≡ asks variant Grants) ⊎ (asked ≡ asks variant Schedule) ⊎ (asked ≡ asks variant Frames) ⊎ (asked ≡ asks variant Gaps)
+    ⊎ (asked ≡ asks_variants)
 
 -- The reader is refused one of these reports so; or it is Unavailable.
 abbrev pub MayRefusePlan : Cluster → Book → Actor → List ℕ → Refusal → Type 0

@@ -12,12 +12,12 @@ use Rattle.fr_picture.specs.declared.texts.Fixed.TheVariants.{CyclesStart, PathS
 use Rattle.fr_picture.specs.Texts.{together, fixed_text}
 
 -- of the same frame
-unfoldable pub is_kin : Rectangle → Rectangle → Bool
-is_kin other r = same_text other.first.frame r.first.frame && same_text other.first.node r.first.node && same_text other.first.supplier r.first.supplier
+unfoldable pub is_of_same_frame : Rectangle → Rectangle → Bool
+is_of_same_frame other r = same_text other.first.frame r.first.frame && same_text other.first.node r.first.node && same_text other.first.supplier r.first.supplier
 
 -- one of the same frame stands in an earlier cycle
-unfoldable pub is_again : List Rectangle → Rectangle → Bool
-is_again all r = list_any (λ other. nat_lt other.first.cycle r.first.cycle && is_kin other r) all
+unfoldable pub was_drawn : List Rectangle → Rectangle → Bool
+was_drawn all r = list_any (λ other. nat_lt other.first.cycle r.first.cycle && is_of_same_frame other r) all
 
 -- they are this high, the first stands in cycle `from`, and each next one so many cycles later
 unfoldable pub follows : ℕ → ℕ → ℕ → List Rectangle → Bool
@@ -103,7 +103,7 @@ kind_text scale kind r = kind_shape scale.width kind r (set_of scale.cycles r.fi
 
 -- all rectangles of the frame, where r is the first of them
 unfoldable pub rectangle_text : Scale → List Rectangle → Rectangle → List ℕ
-rectangle_text scale all r = if is_again all r then [] else kind_text scale (filter (λ other. is_kin other r) all) r
+rectangle_text scale all r = if was_drawn all r then [] else kind_text scale (filter (λ other. is_of_same_frame other r) all) r
 
 unfoldable pub rectangles_text : Scale → List Rectangle → List ℕ
 rectangles_text scale all = flat_map (rectangle_text scale all) all

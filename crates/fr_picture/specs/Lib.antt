@@ -16,3 +16,4 @@ pub mod FrameIndexes
 pub mod Pages
 pub mod Reports
 pub mod Frames
+pub mod Plans

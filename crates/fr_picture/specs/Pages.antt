@@ -28,7 +28,7 @@ use Rattle.fr_picture.specs.Texts.{together, fixed_text}
 
 unfoldable pub head_text : Name → List ℕ
 head_text variant =
-    together (codes "<!DOCTYPE html>\n<html lang=en>\n<meta charset=utf-8>\n<title>" ∷ variant ∷ codes "</title>\n<style>@page{@bottom-left{content:\"Variant "
+    together (codes "<!DOCTYPE html>\n<html lang=en>\n<meta charset=utf-8>\n<title>Plan of " ∷ variant ∷ codes "</title>\n<style>@page{@bottom-left{content:\"Variant "
     ∷ variant ∷ codes "\"}}" ∷ [])
 
 unfoldable pub heading_text : Name → List ℕ
@@ -52,12 +52,12 @@ viewer_text (Some supplier) =
 unfoldable pub cycle_figures : List ℕ → RawParams → List ℕ
 cycle_figures names p =
     together (codes "</p>\n<p>Channels " ∷ names ∷ codes "; " ∷ decimal p.cycles ∷ codes " cycles of " ∷ decimal p.macroticks_per_cycle
-    ∷ codes " macroticks; payload words " ∷ decimal p.payload_words ∷ codes "; " ∷ [])
+    ∷ codes " macroticks; payload length " ∷ decimal p.payload_words ∷ codes " two-byte words; " ∷ [])
 
 unfoldable pub segment_figures : RawParams → List ℕ
 segment_figures p =
-    together (decimal p.static_slots ∷ codes " static slots of " ∷ decimal p.slot_macroticks ∷ codes " macroticks, dynamic segment " ∷ decimal p.dynamic_macroticks
-    ∷ codes ", symbol window " ∷ decimal p.symbol_macroticks ∷ codes ", idle time " ∷ decimal p.idle_macroticks ∷ codes ".</p>\n" ∷ [])
+    together (decimal p.static_slots ∷ codes " static slots of " ∷ decimal p.slot_macroticks ∷ codes " macroticks; in macroticks: dynamic segment " ∷ decimal p.dynamic_macroticks
+    ∷ codes ", symbol window " ∷ decimal p.symbol_macroticks ∷ codes ", network idle time " ∷ decimal p.idle_macroticks ∷ codes ".</p>\n" ∷ [])
 
 -- the cluster's figures
 unfoldable pub cluster_text : Params → List ℕ

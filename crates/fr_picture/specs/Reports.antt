@@ -16,7 +16,9 @@ use Rattle.fr_base.specs.declared.answer.FrameRow.{FrameRow}
 use Rattle.fr_base.specs.declared.answer.Sending.{Sending}
 use Rattle.fr_base.specs.declared.answer.GapRow.{GapRow}
 use Rattle.fr_base.specs.declared.answer.SignalRow.{SignalRow}
-use Rattle.fr_base.specs.declared.query.Query.TheVariants.{Variant}
+use Rattle.fr_base.specs.declared.answer.VariantRow.{VariantRow}
+use Rattle.fr_base.specs.declared.query.Inventory.TheVariants.{Variants}
+use Rattle.fr_base.specs.declared.query.Query.TheVariants.{Register, Variant}
 use Rattle.fr_base.specs.declared.refusal.Refusal.{Refusal}
 use Rattle.fr_base.specs.declared.refusal.Refusal.TheVariants.{Unavailable}
 use Rattle.fr_base.specs.declared.report.Report.{Report}
@@ -35,7 +37,14 @@ answer_to c b actor request = (step c b actor request).answer
 abbrev pub asks : List ℕ → Report (List ℕ) → Request
 asks variant report = Query (Variant variant report)
 
+-- the request for the variants
+abbrev pub asks_variants : Request
+asks_variants = Query (Register Variants)
+
 -- the answers that have these rows
+abbrev pub with_variants : Bool → List VariantRow → Answer
+with_variants all variants = Told all (rows.Variants variants)
+
 abbrev pub with_grants : Bool → List GrantRow → Answer
 with_grants all grants = Told all (rows.Grants grants)
 

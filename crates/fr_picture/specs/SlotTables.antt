@@ -9,7 +9,7 @@ use Rattle.fr_picture.specs.declared.drawing.lane.Lane.{Lane}
 use Rattle.fr_picture.specs.declared.drawing.rectangle.Rectangle.{Rectangle}
 use Rattle.fr_picture.specs.declared.plan.Plan.{Plan}
 use Rattle.fr_picture.specs.declared.texts.Fixed.TheVariants.{Comma, CyclesStart, SlotRow, SlotTableEnd}
-use Rattle.fr_picture.specs.Kinds.{is_again, is_kin, set_of, spans_text, within_text}
+use Rattle.fr_picture.specs.Kinds.{was_drawn, is_of_same_frame, set_of, spans_text, within_text}
 use Rattle.fr_picture.specs.Shares.{mark_text, number_of}
 use Rattle.fr_picture.specs.Texts.{together, fixed_text}
 
@@ -39,7 +39,7 @@ unfoldable pub turn_text : ℕ → List Rectangle → Rectangle → List ℕ
 turn_text cycles kind r = when_text kind r (set_of cycles r.first.cycle kind) ++ frame_text r.first.frame
 
 unfoldable pub sent_text : ℕ → List Rectangle → Rectangle → List ℕ
-sent_text cycles all r = if is_again all r then [] else comma_text all r ++ turn_text cycles (filter (λ other. is_kin other r) all) r
+sent_text cycles all r = if was_drawn all r then [] else comma_text all r ++ turn_text cycles (filter (λ other. is_of_same_frame other r) all) r
 
 unfoldable pub all_sent_text : ℕ → List Rectangle → List ℕ
 all_sent_text cycles all = flat_map (sent_text cycles all) all

@@ -14,7 +14,7 @@ use std::alloc::Global;
 
 /// The frames as the reader sees them, each with its greatest gap and its signals: those first that are never sent, and
 /// then the greater gap first.
-pub fn frames<D: Desk>(
+pub(crate) fn frames<D: Desk>(
     alloc: Global,
     desk: &mut D,
     view: &View<'_>,

@@ -1,7 +1,7 @@
 //! The rectangles of one frame in a lane, drawn as one shape with one title.
 ghost use Rattle.std.specs.Prelude.{◌≡◌, ◌+◌, ◌*◌, ◌/◌, ◌<◌, ◌&&◌, nat_lt, filter, max, length, OnOk, IfOk};
 ghost use Rattle.std.specs.List.{list_any};
-ghost use Rattle.fr_picture.specs.Kinds.{box_text, boxes_text, follows, is_again, is_kin, is_set, is_whole, kind_shape, kind_text, label_text, names_text, names_text_of, path_text, rectangle_text, rectangles_text, set_of, set_start, set_text, span_text, spans_text, within_text};
+ghost use Rattle.fr_picture.specs.Kinds.{box_text, boxes_text, follows, was_drawn, is_of_same_frame, is_set, is_whole, kind_shape, kind_text, label_text, names_text, names_text_of, path_text, rectangle_text, rectangles_text, set_of, set_start, set_text, span_text, spans_text, within_text};
 ghost use Rattle.fr_picture.specs.Texts.{Appends};
 
 use crate::drawing::{Rectangle, Scale};
@@ -10,9 +10,9 @@ use fr_base::{Name, NoMemory, Sending};
 use std::alloc::Global;
 
 // Whether the other rectangle of the lane is of the same frame.
-#[tactic(auto, unfolding(crate::specs::Kinds::is_kin))]
-fn is_kin(other: &Rectangle, one: &Rectangle) -> bool
-    ensures { result ≡ is_kin other.now one.now }
+#[tactic(auto, unfolding(crate::specs::Kinds::is_of_same_frame))]
+fn is_of_same_frame(other: &Rectangle, one: &Rectangle) -> bool
+    ensures { result ≡ is_of_same_frame other.now one.now }
 {
     other.first.frame == one.first.frame
         && other.first.node == one.first.node
@@ -20,16 +20,16 @@ fn is_kin(other: &Rectangle, one: &Rectangle) -> bool
 }
 
 /// The rectangles of a lane that are of the same frame as this one.
-pub(crate) fn kin(
+pub(crate) fn of_same_frame(
     alloc: Global,
     all: &[Rectangle],
     one: &Rectangle,
 ) -> Result<Vec<Rectangle>, NoMemory>
-    ensures { IfOk result (λ kind. kind.items ≡ filter (λ other. is_kin other one.now) all.now) }
+    ensures { IfOk result (λ kind. kind.items ≡ filter (λ other. is_of_same_frame other one.now) all.now) }
 {
     let mut kind = Vec::new(alloc);
     for other in all {
-        if is_kin(other, one) {
+        if is_of_same_frame(other, one) {
             kind.push(*other)?;
         }
     }
@@ -37,11 +37,11 @@ pub(crate) fn kin(
 }
 
 /// Whether a rectangle of the same frame stands in an earlier cycle of the lane.
-#[tactic(auto, unfolding(crate::specs::Kinds::is_again))]
-pub(crate) fn is_again(all: &[Rectangle], one: &Rectangle) -> bool
-    ensures { result ≡ is_again all.now one.now }
+#[tactic(auto, unfolding(crate::specs::Kinds::was_drawn))]
+pub(crate) fn was_drawn(all: &[Rectangle], one: &Rectangle) -> bool
+    ensures { result ≡ was_drawn all.now one.now }
 {
-    all.iter().any(|other| other.first.cycle < one.first.cycle && is_kin(other, one))
+    all.iter().any(|other| other.first.cycle < one.first.cycle && is_of_same_frame(other, one))
 }
 
 // Whether the rectangles are this high and stand behind one another, the first in this cycle and each next so many cycles later.
@@ -106,10 +106,10 @@ fn push_rectangle(
 ) -> Result<(), NoMemory>
     ensures { OnOk result (Appends out.old out.new (rectangle_text scale all.now one.now)) }
 {
-    if is_again(all, one) {
+    if was_drawn(all, one) {
         return Ok(());
     }
-    let kind = kin(alloc, all, one)?;
+    let kind = of_same_frame(alloc, all, one)?;
     push_kind(scale, kind.as_slice(), one, out)
 }
 

@@ -82,7 +82,7 @@ fn push_head(variant: Name, out: &mut String) -> Result<(), NoMemory>
 {
     write!(
         out,
-        "<!DOCTYPE html>\n<html lang=en>\n<meta charset=utf-8>\n<title>{variant}</title>\n<style>@page{{@bottom-left{{content:\"Variant {variant}\"}}}}"
+        "<!DOCTYPE html>\n<html lang=en>\n<meta charset=utf-8>\n<title>Plan of {variant}</title>\n<style>@page{{@bottom-left{{content:\"Variant {variant}\"}}}}"
     )
 }
 
@@ -164,7 +164,7 @@ fn push_cycle_figures(channels: &str, raw: RawParams, out: &mut String) -> Resul
     } = raw;
     write!(
         out,
-        "</p>\n<p>Channels {channels}; {cycles} cycles of {macroticks_per_cycle} macroticks; payload words {payload_words}; "
+        "</p>\n<p>Channels {channels}; {cycles} cycles of {macroticks_per_cycle} macroticks; payload length {payload_words} two-byte words; "
     )
 }
 
@@ -183,7 +183,7 @@ fn push_segments(raw: RawParams, out: &mut String) -> Result<(), NoMemory>
     } = raw;
     write!(
         out,
-        "{static_slots} static slots of {slot_macroticks} macroticks, dynamic segment {dynamic_macroticks}, symbol window {symbol_macroticks}, idle time {idle_macroticks}.</p>\n"
+        "{static_slots} static slots of {slot_macroticks} macroticks; in macroticks: dynamic segment {dynamic_macroticks}, symbol window {symbol_macroticks}, network idle time {idle_macroticks}.</p>\n"
     )
 }
 

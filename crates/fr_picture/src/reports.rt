@@ -3,11 +3,12 @@ ghost use Rattle.std.specs.Prelude.{◌≡◌, IfOk};
 ghost use Rattle.fr_base.specs.declared.answer.Answer.TheVariants.{Report as Told};
 ghost use Rattle.fr_base.specs.declared.report.Report.TheVariants.{Grants, Frames, Schedule, Gaps, Layout};
 ghost use Rattle.fr_base.specs.declared.actor.Actor.TheVariants.{Supplier};
-ghost use Rattle.fr_picture.specs.Reports.{Reports, asks, with_cells, with_frames, with_gaps, with_grants, with_signals};
+ghost use Rattle.fr_base.specs.declared.request.Request.TheVariants.{Query as Queries};
+ghost use Rattle.fr_picture.specs.Reports.{Reports, asks, asks_variants, with_cells, with_frames, with_gaps, with_grants, with_signals, with_variants};
 
 use fr_base::{
-    Actor, Ask, Desk, FrameRow, GapRow, GrantRow, Name, NoMemory, Query, Refusal, Report,
-    ReportRows, Request, Rows, Sending, SignalRow, Text,
+    Actor, Ask, Desk, FrameRow, GapRow, GrantRow, Inventory, Name, NoMemory, Query, Refusal,
+    Report, ReportRows, Request, Rows, Sending, SignalRow, Text, VariantRow,
 };
 use std::alloc::Global;
 
@@ -20,8 +21,23 @@ pub struct View<'a> {
     pub variant: &'a str,
 }
 
+/// The variants, as the reader sees them.
+pub(crate) fn variants<D: Desk>(
+    alloc: Global,
+    desk: &mut D,
+    reader: Actor,
+) -> Result<Rows<VariantRow>, Refusal>
+    ensures falls { D.clean desk.new → D.clean desk.old }
+    ensures reports { D.clean desk.new → Reports (D.stands desk.old) (D.stands desk.new) reader asks_variants with_variants result }
+{
+    match found(alloc, desk, reader, Query::Register(Inventory::Variants))? {
+        ReportRows::Variants(rows) => Ok(rows),
+        _ => Err(Refusal::Unavailable),
+    }
+}
+
 /// Who holds which slot and channel, as the reader sees it.
-pub fn grants<D: Desk>(
+pub(crate) fn grants<D: Desk>(
     alloc: Global,
     desk: &mut D,
     view: &View<'_>,
@@ -36,7 +52,7 @@ pub fn grants<D: Desk>(
 }
 
 /// What is sent in which cell, as the reader sees it.
-pub fn schedule<D: Desk>(
+pub(crate) fn schedule<D: Desk>(
     alloc: Global,
     desk: &mut D,
     view: &View<'_>,
@@ -115,7 +131,20 @@ fn report<D: Desk>(
     ensures reports { D.clean desk.new → Reports (D.stands desk.old) (D.stands desk.new) actor (asks variant.now report) Told result }
 {
     let variant = Text::copy(alloc, variant)?;
-    let request = Request::Query(Query::Variant { variant, report });
+    found(alloc, desk, actor, Query::Variant { variant, report })
+}
+
+// The rows of the answer to a query, as who asks sees them.
+fn found<D: Desk>(
+    alloc: Global,
+    desk: &mut D,
+    actor: Actor,
+    query: Query<Text>,
+) -> Result<ReportRows, Refusal>
+    ensures falls { D.clean desk.new → D.clean desk.old }
+    ensures reports { D.clean desk.new → Reports (D.stands desk.old) (D.stands desk.new) actor (Queries query) Told result }
+{
+    let request = Request::Query(query);
     desk.ask(alloc, &Ask { actor, request }).into_rows()
 }
 

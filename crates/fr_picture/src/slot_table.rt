@@ -5,7 +5,7 @@ ghost use Rattle.fr_picture.specs.SlotTables.{all_sent_text, comma_text, frame_t
 ghost use Rattle.fr_picture.specs.Texts.{Appends};
 
 use crate::drawing::{Lane, Rectangle};
-use crate::kinds::{is_again, kin, push_spans, push_within, set_of};
+use crate::kinds::{of_same_frame, push_spans, push_within, set_of, was_drawn};
 use crate::plan::Plan;
 use crate::shares::{number_of, push_mark};
 use crate::texts::{Fixed, push_fixed};
@@ -160,10 +160,10 @@ fn push_sent(
 ) -> Result<(), NoMemory>
     ensures { OnOk result (Appends out.old out.new (sent_text cycles all.now one.now)) }
 {
-    if is_again(all, one) {
+    if was_drawn(all, one) {
         return Ok(());
     }
-    let kind = kin(alloc, all, one)?;
+    let kind = of_same_frame(alloc, all, one)?;
     push_comma(all, one, out)?;
     push_turn(cycles, kind.as_slice(), one, out)
 }

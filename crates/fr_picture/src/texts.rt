@@ -158,7 +158,7 @@ const FREE: &str = "<use href=#free />";
 
 const GAP_OF_NOBODY: &str = "<use href=#gap /><text class=n y=0>nobody holds ";
 
-const GAP_OF_OTHERS: &str = "<use href=#gap /><text class=n y=0>not held ";
+const GAP_OF_OTHERS: &str = "<use href=#gap /><text class=n y=0>not yours ";
 
 const LANE_END: &str = "</svg>\n";
 
@@ -167,10 +167,10 @@ const HELD_END: &str = "\"/></g>\n";
 const LEGEND_START: &str = "<h2>Suppliers</h2>\n<ul>\n";
 
 const LEGEND_END: &str =
-    "</ul>\n<p>Cycles go down, slots go across. A lane is a slot on a channel. Above and below it stands the letter of the supplier that holds it. Nobody holds a crossed lane, nor the slots of a grey strip. A hatched cell is granted, and nothing is sent in it. The title of a rectangle has its frame, its node and supplier, its slot and channel, and its cycles; 1/4 is base 1 and repetition 4. The tables below say the same.</p>\n";
+    "</ul>\n<p>Cycles go down, slots go across. A lane is a slot on a channel. Above and below it stands the letter of the supplier that holds it. Nobody holds a crossed lane, nor the slots of a grey strip. A hatched cell is granted, and nothing is sent in it. Hover over a rectangle to see its frame, its node and supplier, its slot and channel, and its cycles; 1/4 is base 1 and repetition 4. The tables below say the same.</p>\n";
 
 const LEGEND_END_OF_ONE: &str =
-    "</ul>\n<p>Cycles go down, slots go across. A lane is a slot on a channel. Above and below it stands the letter of the supplier that holds it. A crossed lane and the slots of a grey strip are another supplier's or nobody's. A hatched cell is granted, and nothing is sent in it. The title of a rectangle has its frame, its node and supplier, its slot and channel, and its cycles; 1/4 is base 1 and repetition 4. The tables below say the same.</p>\n";
+    "</ul>\n<p>Cycles go down, slots go across. A lane is a slot on a channel. Above and below it stands the letter of the supplier that holds it. A crossed lane and the slots of a grey strip are another supplier's or nobody's. A hatched cell is granted, and nothing is sent in it. Hover over a rectangle to see its frame, its node and supplier, its slot and channel, and its cycles; 1/4 is base 1 and repetition 4. The tables below say the same.</p>\n";
 
 const OVERVIEW_START: &str =
     "<h2>Overview</h2>\n<p>Each part leads to its drawing. Below it stands the first of its slots.</p>\n<nav>\n";

@@ -36,6 +36,12 @@ Leaving = Cluster → List Book → Type 0
 abbrev pub LeavesNoMore : Leaving → Leaving → Type 0
 LeavesNoMore old new = (c : Cluster) (books : List Book) → old c books → new c books
 
+-- Records were only read: they were clean before if they are now, the cluster's parameters stay, and a crash leaves no more than it did.
+pub record Reads {R : Type 0} (clean : R → Type 0) (params : R → Params) (left : R → Leaving) (old new : R) : Type 0 where
+  pub falls : clean new → clean old
+  pub same : params new ≡ params old
+  pub leaves : clean new → LeavesNoMore (left old) (left new)
+
 -- Of edits that fit, a crash leaves no more than it did before, or the book after them.
 abbrev pub LeavesEdited : Standing → Leaving → Leaving → List Edit → Type 0
 LeavesEdited stands old new edits = (c : Cluster) (b : Book) (books : List Book) → stands c b → AllFit c.params b edits → old c books

@@ -13,7 +13,7 @@ pub trait Records {
     ghost use Rattle.fr_base.specs.Cluster.{Cluster};
     ghost use Rattle.fr_base.specs.Tables.{contains, get, len};
     ghost use Rattle.fr_base.specs.declared.params.Params.{Params};
-    ghost use Rattle.fr_records.specs.Held.{Applies, LeavesEdited, LeavesNoMore, Tells, held_in, page_of};
+    ghost use Rattle.fr_records.specs.Held.{Applies, LeavesEdited, Reads, Tells, held_in, page_of};
     ghost use Rattle.fr_world.specs.BookEdits.{variants_in};
     ghost use Rattle.fr_world.specs.ImportLabels.{kept_of};
     ghost use Rattle.fr_world.specs.Pages.{nodes_in};
@@ -43,9 +43,7 @@ pub trait Records {
 
     /// Whether the variant is there.
     fn has_variant(&mut self, variant: Name) -> Result<bool, Refusal>
-        ensures falls { clean self.new → clean self.old }
-        ensures same { params self.new ≡ params self.old }
-        ensures leaves { clean self.new → LeavesNoMore (leaves self.old) (leaves self.new) }
+        ensures reads { Reads clean params leaves self.old self.new }
         ensures has { clean self.new → Tells (stands self.old) (stands self.new) result (λ c b has. has ≡ contains b.variants variant) };
 
     /// The supplier's page of the variant, if the variant is there. A page has the cluster's parameters.
@@ -55,31 +53,23 @@ pub trait Records {
         supplier: Name,
         variant: Name,
     ) -> Result<Option<Page>, Refusal>
-        ensures falls { clean self.new → clean self.old }
-        ensures same { params self.new ≡ params self.old }
-        ensures leaves { clean self.new → LeavesNoMore (leaves self.old) (leaves self.new) }
+        ensures reads { Reads clean params leaves self.old self.new }
         ensures params { IfOk result (λ found. IfSome found (λ page. page.params ≡ params self.old)) }
         ensures page { clean self.new → Tells (stands self.old) (stands self.new) result (λ c b found. found ≡ page_of c.params b supplier variant) };
 
     /// Whether anybody holds the slot on the channel in the variant.
     fn is_held(&mut self, variant: Name, slot: Slot, channel: Channel) -> Result<bool, Refusal>
-        ensures falls { clean self.new → clean self.old }
-        ensures same { params self.new ≡ params self.old }
-        ensures leaves { clean self.new → LeavesNoMore (leaves self.old) (leaves self.new) }
+        ensures reads { Reads clean params leaves self.old self.new }
         ensures held { clean self.new → Tells (stands self.old) (stands self.new) result (λ c b is. is ≡ held_in b variant (slot, channel)) };
 
     /// The variants, by name.
     fn variants(&mut self, alloc: Global) -> Result<Vec<VariantRow>, Refusal>
-        ensures falls { clean self.new → clean self.old }
-        ensures same { params self.new ≡ params self.old }
-        ensures leaves { clean self.new → LeavesNoMore (leaves self.old) (leaves self.new) }
+        ensures reads { Reads clean params leaves self.old self.new }
         ensures variants { clean self.new → Tells (stands self.old) (stands self.new) result (λ c b rows. rows.items ≡ variants_in b) };
 
     /// The supplier's nodes, in byte order.
     fn nodes(&mut self, alloc: Global, supplier: Name) -> Result<Vec<Name>, Refusal>
-        ensures falls { clean self.new → clean self.old }
-        ensures same { params self.new ≡ params self.old }
-        ensures leaves { clean self.new → LeavesNoMore (leaves self.old) (leaves self.new) }
+        ensures reads { Reads clean params leaves self.old self.new }
         ensures nodes { clean self.new → Tells (stands self.old) (stands self.new) result (λ c b names. names.items ≡ nodes_in b supplier) };
 
     /// The import that the supplier keeps under the label, if one is kept.
@@ -89,16 +79,12 @@ pub trait Records {
         supplier: Name,
         label: Name,
     ) -> Result<Option<KeptImport>, Refusal>
-        ensures falls { clean self.new → clean self.old }
-        ensures same { params self.new ≡ params self.old }
-        ensures leaves { clean self.new → LeavesNoMore (leaves self.old) (leaves self.new) }
+        ensures reads { Reads clean params leaves self.old self.new }
         ensures import { clean self.new → Tells (stands self.old) (stands self.new) result (λ c b found. option_map kept_of found ≡ get b.imports (supplier, label)) };
 
     /// How many imports of the supplier are kept.
     fn imports(&mut self, alloc: Global, supplier: Name) -> Result<usize, Refusal>
-        ensures falls { clean self.new → clean self.old }
-        ensures same { params self.new ≡ params self.old }
-        ensures leaves { clean self.new → LeavesNoMore (leaves self.old) (leaves self.new) }
+        ensures reads { Reads clean params leaves self.old self.new }
         ensures imports { clean self.new → Tells (stands self.old) (stands self.new) result (λ c b count. count ≡ len (own supplier b.imports)) };
 
     /// Carries out the edits, all or none. They fit the records, one after another. Until the answer a crash may

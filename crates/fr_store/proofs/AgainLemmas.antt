@@ -9,7 +9,8 @@ use Rattle.sqlite_wal.specs.Recovery.{Image}
 use Rattle.fr_base.specs.Cluster.{Cluster, ClusterFile, IsWellFormed}
 use Rattle.fr_base.specs.Book.{Book, file_of}
 use Rattle.fr_tables.specs.Rows.{RegisterRow}
-use Rattle.fr_tables.specs.Schema.{register_schema}
+use Rattle.fr_tables.specs.Schema.{IsOurs, register_schema, layout_of}
+use Rattle.fr_tables.proofs.LayoutLemmas.{ours_there}
 use Rattle.fr_tables.specs.Tables.{Tables, HasTables, tables_in, AreOrdered}
 use Rattle.fr_store.specs.StandsFor.{StandsFor}
 use Rattle.fr_store.specs.Reading.{Stands}
@@ -67,18 +68,20 @@ held_stands image s c b h is =
     record { has = subst HasTables (sym is) h.register.is.has; for = subst (λ (d : Database). StandsFor (tables_in d.trees) c b) (sym is) h.for }
 
 -- what was found of it, whose schema is this one's
-pub left_stands : (s : State) (c : Cluster) (b : Book) (db : Trees) → IsRegisterFor c b (database_of db) → s.now.schema ≡ register_schema → s.now.trees ≡ db → Stands s c b
-left_stands s c b db is schema trees =
-    let same : s.now ≡ database_of db = λ i. record { schema = schema i; trees = trees i } in
+pub left_stands : (s : State) (c : Cluster) (b : Book) (db : Trees) → IsRegisterFor c b (database_of db) → IsDatabase s.now → IsOurs s.now.schema → s.now.trees ≡ db → Stands s c b
+left_stands s c b db is sound ours trees =
+    let schema : s.now.schema ≡ register_schema (layout_of s.now.trees) = ours.is ∙ ap register_schema (sym (ours_there s.now sound ours)) in
+    let same : s.now ≡ database_of db = (λ i. let d : Database = record { schema = schema i; trees = s.now.trees } in d) ∙ ap database_of trees in
     record { has = subst HasTables (sym same) is.has; for = subst (λ (d : Database). StandsFor (tables_in d.trees) c b) (sym same) is.for }
 
--- a register whose tables stand for a book, in files
+-- a register in files
+pub holds_register : (image : Image) (db : Database) (f : ClusterFile) → IsRegisterOf f db → IsHeld image db → HoldsRegister f image db.trees
+holds_register image db f is held =
+    let same : database_of db.trees ≡ db = λ i. record { schema = sym is.has.schema i; trees = db.trees } in
+    record { held = subst (IsHeld image) (sym same) held; is = subst (IsRegisterOf f) (sym same) is }
+
+-- one whose tables stand for a book, in files
 pub holds_book : (image : Image) (db : Database) (c : Cluster) (b : Book) → IsRegisterFor c b db → IsHeld image db → HoldsBook c b image
 holds_book image db c b is held =
-    let same : database_of db.trees ≡ db = λ i. record { schema = sym is.has.schema i; trees = db.trees } in
     let of : IsRegisterOf (file_of c b) db = record { has = is.has; tells = tells_of (tables_in db.trees) c b is.for } in
-    record {
-      trees = db.trees;
-      register = record { held = subst (IsHeld image) (sym same) held; is = subst (IsRegisterOf (file_of c b)) (sym same) of };
-      for = is.for;
-    }
+    record { trees = db.trees; register = holds_register image db (file_of c b) of held; for = is.for }

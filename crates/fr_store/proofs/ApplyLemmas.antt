@@ -1,5 +1,5 @@
 -- What the tables stand for after an edit.
-use Rattle.std.proofs.Common.{◌≡◌, ℕ, None, Some, List, [], ◌∷◌, ◌++◌, map, cond, Ordering, Less, Equal, Greater, Result, Ok, Err, OnOk, MatchResult, sym, subst, IsPermutation}
+use Rattle.std.proofs.Common.{◌≡◌, ℕ, None, Some, List, [], ◌∷◌, ◌++◌, map, cond, Ordering, Less, Equal, Greater, sym, subst, IsPermutation}
 use Rattle.std.specs.Ordering.{nat_cmp, is_eq}
 use Rattle.std.specs.Cmp.Lexicographic.{slice_cmp}
 use Rattle.std.specs.FinMap.Entries.{put, find, by_order}
@@ -16,7 +16,7 @@ use Rattle.fr_world.specs.declared.edit.Edit.TheVariants.{NewSupplier, NewNode}
 use Rattle.fr_tables.specs.Rows.{SupplierRow, NodeRow}
 use Rattle.fr_tables.specs.Filling.{supplier_row}
 use Rattle.fr_tables.specs.Tables.{Tables}
-use Rattle.fr_tables.specs.Changes.{Changes, Stays, tables_of}
+use Rattle.fr_tables.specs.Changes.{Changes, tables_of}
 use Rattle.fr_tables.specs.Statements.{with_supplier, with_node}
 use Rattle.fr_store.specs.StandsFor.{StandsFor, HoldsRows, node_row}
 use Rattle.fr_store.specs.Reading.{Stands}
@@ -58,11 +58,10 @@ module _ (s n : Name) where
     each = h.each;
   }
 
-  pub node_applied : {X E : Type 0} (old state : State) (r : Result X E) → MatchResult r (λ _. Changes (with_node row) old state) (λ _. Stays old state) → (c : Cluster) (b : Book) → Stands old c b → get b.nodes (s, n) ≡ None
-      → OnOk r (Stands state c (applied b (NewNode s n)))
-  node_applied old state (Ok x) h c b stands new =
+  pub node_applied : (old state : State) → Changes (with_node row) old state → (c : Cluster) (b : Book) → Stands old c b → get b.nodes (s, n) ≡ None
+      → Stands state c (applied b (NewNode s n))
+  node_applied old state h c b stands new =
       record { has = h.has; for = subst (λ t. StandsFor t c (applied b (NewNode s n))) (sym h.now) (record { heads = stands.for.heads; rows = new_node (tables_of old) c.params.cycles b stands.for.rows new }) }
-  node_applied old state (Err e) h c b stands new = tt
 
 module _ (s : Name) (key : Key) where
   abbrev joining : SupplierRow
@@ -85,8 +84,7 @@ module _ (s : Name) (key : Key) where
     each = h.each;
   }
 
-  pub supplier_applied : {X E : Type 0} (old state : State) (r : Result X E) → MatchResult r (λ _. Changes (with_supplier joining) old state) (λ _. Stays old state) → (c : Cluster) (b : Book) → Stands old c b → get b.suppliers s ≡ None
-      → OnOk r (Stands state c (applied b (NewSupplier s key)))
-  supplier_applied old state (Ok x) h c b stands new =
+  pub supplier_applied : (old state : State) → Changes (with_supplier joining) old state → (c : Cluster) (b : Book) → Stands old c b → get b.suppliers s ≡ None
+      → Stands state c (applied b (NewSupplier s key))
+  supplier_applied old state h c b stands new =
       record { has = h.has; for = subst (λ t. StandsFor t c (applied b (NewSupplier s key))) (sym h.now) (record { heads = stands.for.heads; rows = new_supplier (tables_of old) c.params.cycles b stands.for.rows new }) }
-  supplier_applied old state (Err e) h c b stands new = tt

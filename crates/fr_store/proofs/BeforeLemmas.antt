@@ -13,15 +13,14 @@ use Rattle.fr_base.specs.Book.{Book}
 use Rattle.fr_base.specs.declared.key.Key.{Key}
 use Rattle.fr_base.specs.declared.params.RawParams.{RawParams}
 use Rattle.fr_tables.specs.Rows.{RegisterRow, ClusterRow}
-use Rattle.fr_tables.specs.Tables.{Tables, HasOldTables, HasSomeTables, AreOrderedBefore, tables_in}
-use Rattle.fr_tables.specs.Schema.{old_schema}
+use Rattle.fr_tables.specs.Tables.{Tables, HasTables, HasOldTables, HasSomeTables, AreOrderedBefore, tables_in}
+use Rattle.fr_tables.specs.Schema.{IsOld}
 use Rattle.fr_tables.proofs.TypedLemmas.{has_before}
 use Rattle.fr_tables.specs.Changes.{Changes, Stays, AreListed, tables_of}
 use Rattle.fr_tables.specs.Statements.{cluster_row, cluster2_row, shows_cluster, every, any_order, with_cluster2, without_cluster, with_number}
 use Rattle.fr_tables.specs.Asking.{AreAsBefore, HasNumber, numbered, our_schema_number, old_schema_number}
 use Rattle.fr_tables.specs.Making.{IsRenewed}
 use Rattle.fr_store.specs.Applying.{GoesOn}
-use Rattle.fr_store.specs.Owning.{IsStoredSo}
 use Rattle.fr_store.specs.Before.{StoodFor, StandsBefore, HoldsBookBefore, HoldsOpenable, LeavesMigrated, HasOldIfBefore, database_before, moved}
 use Rattle.fr_store.specs.Opening.{AllowsMigration, Refuses}
 use Rattle.fr_store.specs.Reading.{Stands}
@@ -32,8 +31,7 @@ use Rattle.fr_store.specs.declared.fault.StoreFault.{StoreFault}
 use Rattle.fr_store.specs.declared.fault.StoreFault.TheVariants.{Unavailable}
 use Rattle.fr_store.proofs.AgainLemmas.{holds_book, refused_alone, refused_alone_files}
 use Rattle.fr_store.proofs.FileLemmas.{found_database}
-use Rattle.fr_store.proofs.InsideLemmas.{LeavesStored, keeps_change, keeps_stay, keeps_then, goes_change, goes_then}
-use Rattle.fr_store.proofs.ChainLemmas.{same_tables}
+use Rattle.fr_store.proofs.InsideLemmas.{asked_inside, both_inside, made_inside}
 
 -- ---- the cluster's row
 
@@ -121,16 +119,12 @@ pub renewed_keeps : (old new : State) → IsRenewed old new → KeepsCommit old 
 renewed_keeps old new h = record { was_open = λ up. h.shown.was_open; committed = λ up. h.shown.committed_is }
 
 -- what stays after two statements that follow a query
-pub both_stay : (first second : Tables → Tables) (old read put new : State) → LeavesStored first → LeavesStored second → IsTrue old.in_transaction → IsUnchanged old read → Changes first read put → Changes second put new
-    → KeepsCommit old new × GoesOn old new
-both_stay first second old read put new leaves also inside same step gone =
-    let within = same.0.mode ∙ inside in
-    let begun = goes_change first read put leaves within step in
-    let goes = goes_then read put new begun (goes_change second put new also begun.inside gone) in
-    let keeps = keeps_then read put new (keeps_change first read put within step) (keeps_change second put new begun.inside gone) in (
-      keeps_then old read new (keeps_stay old read (inl same)) keeps,
-      record { inside = goes.inside; has = goes.has; stored = λ v over so. goes.stored v over (subst (IsStoredSo v over) (sym (same_tables old read same)) so) },
-    )
+pub both_stay : (first second : Tables → Tables) (old read put new : State) → IsTrue old.in_transaction → HasTables old.now → IsUnchanged old read
+    → Changes first read put → Changes second put new → KeepsCommit old new × GoesOn new
+both_stay first second old read put new inside has same step gone =
+    let asked = asked_inside old read inside has same in
+    let made = made_inside first read put asked.1.inside step in
+    both_inside old read new asked (both_inside read put new made (made_inside second put new made.1.inside gone))
 
 -- the number that a migrated register says
 pub number_after : (old made moved new : State) → HasNumber old.now old_schema_number → IsRenewed old made → (tables_of moved).register ≡ (tables_of made).register
@@ -218,11 +212,11 @@ pub found_before : (image : Image) (s : State) (c : Cluster) (b : Book) → IsDa
 found_before image s c b sound holds h = held_before image s c b h (found_database image s.now (database_before h.trees) sound holds h.held)
 
 -- tables in order, of the schema before, are such as its version writes
-pub old_if_before : (s : State) → IsDatabase s.now → (s.now.schema ≡ old_schema → AreOrderedBefore s.now.trees) → HasOldIfBefore s.now
+pub old_if_before : (s : State) → IsDatabase s.now → (IsOld s.now.schema → AreOrderedBefore s.now.trees) → HasOldIfBefore s.now
 old_if_before s sound ordered schema = has_before s.now sound schema (ordered schema)
 
 -- such tables, found in files, are those of a register of the schema before by the number too that they say
-pub allowed_opened : (image : Image) (s : State) → IsFound image s.now → (s.now.schema ≡ old_schema → AreOrderedBefore s.now.trees) → s.now.schema ≡ old_schema → (HasSomeTables s.now → HasNumber s.now old_schema_number)
+pub allowed_opened : (image : Image) (s : State) → IsFound image s.now → (IsOld s.now.schema → AreOrderedBefore s.now.trees) → IsOld s.now.schema → (HasSomeTables s.now → HasNumber s.now old_schema_number)
     → AllowsMigration image
 allowed_opened image s found ordered schema number =
     let has = old_if_before s found.sound ordered schema in

@@ -1,11 +1,12 @@
 -- What a crash leaves of a register, after a call.
-use Rattle.std.proofs.Common.{◌≡◌, ◌⊎◌, inl, inr, List, ◌∷◌, Result, Ok, Err, OnOk, OnErr, IsTrue, sym, subst, ◌∙◌}
+use Rattle.std.proofs.Common.{◌≡◌, ◌⊎◌, inl, inr, List, ◌∷◌, Result, Ok, Err, OnOk, OnErr, IsTrue, sym, subst, ap, arith, ◌∙◌}
 use Rattle.sqlite.specs.State.{State, HasCleanDisk, Survives}
 use Rattle.fr_base.specs.Book.{Book}
-use Rattle.fr_base.specs.Cluster.{Cluster}
+use Rattle.fr_base.specs.Cluster.{Cluster, ClusterFile}
 use Rattle.fr_world.specs.BookEdits.{all_applied}
 use Rattle.fr_world.specs.Fits.{AllFit}
 use Rattle.fr_world.specs.declared.edit.Edit.{Edit}
+use Rattle.fr_records.specs.Held.{Reads}
 use Rattle.fr_store.specs.Applying.{LeavesAll}
 use Rattle.fr_store.specs.Crashes.{IsForOne, LeavesOnly, StoredLeaves}
 use Rattle.fr_store.specs.Reading.{Leaves, Stands}
@@ -58,6 +59,33 @@ read_left old new spares clean up leaves c books h =
     only : {A B : Type 0} → A ⊎ (¬ B) → B → A ⊎ ⊥
     only (inl a) b = inl a
     only (inr none) b = absurd (none b)
+
+-- a store of which it was seen whether it is open
+pub reads_looked : {T : Type 0} (state_of : T → State) (file_of : T → ClusterFile) (old new : T) → Survives (state_of old) (state_of new) (λ _. ⊥) → file_of new ≡ file_of old
+    → (HasCleanDisk (state_of new) → Stays (state_of old) (state_of new))
+    → Reads (λ s. HasCleanDisk (state_of s)) (λ s. (file_of s).cluster.params) (λ s. StoredLeaves (state_of s)) old new
+reads_looked state_of file_of old new survives same stays = record {
+  falls = λ clean. omega (arith, survives.clean, clean);
+  same = ap (λ (f : ClusterFile). f.cluster.params) same;
+  leaves = λ clean c books left. stays_left (state_of old) (state_of new) survives clean (stays clean) c books left;
+}
+
+-- a store whose tables were read, after it was seen to be open
+module _ {T : Type 0} (state_of : T → State) (file_of : T → ClusterFile) (old mid new : T) where
+  abbrev OnlyRead : T → T → Type 0
+  OnlyRead = Reads (λ s. HasCleanDisk (state_of s)) (λ s. (file_of s).cluster.params) (λ s. StoredLeaves (state_of s))
+
+  pub reads_on : OnlyRead old mid → (HasCleanDisk (state_of mid) → IsTrue (state_of mid).is_open) → Spares (state_of mid) (state_of new) → file_of new ≡ file_of mid
+      → Leaves (state_of mid) (state_of new) → OnlyRead old new
+  reads_on first up spares same leaves = record {
+    falls = λ clean. first.falls (before clean);
+    same = ap (λ (f : ClusterFile). f.cluster.params) same ∙ first.same;
+    leaves = λ clean c books left.
+        read_left (state_of mid) (state_of new) spares clean (up (before clean)) leaves c books (first.leaves (before clean) c books left);
+  }
+    where
+      before : HasCleanDisk (state_of new) → HasCleanDisk (state_of mid)
+      before clean = omega (arith, spares.clean, clean)
 
 -- where edits were carried out, or none was
 pub edited_left : {X : Type 0} (old new : State) (edits : List Edit) (r : Result X StoreFault) → Survives old new (LeavesAll edits old) → HasCleanDisk new → (c : Cluster) (b : Book) (books : List Book)

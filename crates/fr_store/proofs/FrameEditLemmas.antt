@@ -1,5 +1,5 @@
 -- What the tables stand for after an edit of a frame.
-use Rattle.std.proofs.Common.{◌≡◌, ℕ, Bool, true, false, not, ◌||◌, cond, None, Some, Option, List, [], map, filter, Result, Ok, Err, OnOk, MatchResult, refl, sym, ap, ap₂, ◌∙◌, subst, subst₂, inl, inr, is_some, IsTrue, true≢false}
+use Rattle.std.proofs.Common.{◌≡◌, ℕ, Bool, true, false, not, ◌||◌, cond, None, Some, Option, List, [], map, filter, refl, sym, ap, ap₂, ◌∙◌, subst, subst₂, inl, inr, is_some, IsTrue, true≢false}
 use Rattle.std.specs.List.{list_any}
 use Rattle.std.specs.Ordering.{eq_by_cmp}
 use Rattle.std.proofs.lemmas.Bool.{and_from}
@@ -26,7 +26,7 @@ use Rattle.fr_world.specs.BookEdits.{applied, changed_at}
 use Rattle.fr_world.specs.declared.edit.Edit.TheVariants.{Rows}
 use Rattle.fr_tables.specs.Rows.{FrameRow, PlacementRow, SignalRow, DroppedRow}
 use Rattle.fr_tables.specs.Tables.{Tables}
-use Rattle.fr_tables.specs.Changes.{Changes, Stays, tables_of}
+use Rattle.fr_tables.specs.Changes.{Changes, tables_of}
 use Rattle.fr_tables.specs.Statements as statements
 use Rattle.fr_tables.specs.Statements.{with_dropped, is_dropped, with_frame, without_frame, with_placement, without_placement, is_frame, is_placement, is_placement_of, is_signal, is_signal_of, placement_row, signal_row}
 use Rattle.fr_store.specs.StandsFor.{StandsFor, HoldsRows, HasHeads, IsFine, placement_rows, signal_rows, own_or, is_hidden, of_parent, seen}
@@ -226,16 +226,14 @@ module _ (t : Tables) (count : ℕ) (b : Book) (h : HoldsRows t count b) (v s f 
 
 -- ---- what was changed stands for the book after the edit
 
-pub carried : {X E : Type 0} (change : Tables → Tables) (old new : State) (r : Result X E) (c : Cluster) (next : Book) → MatchResult r (λ _. Changes change old new) (λ _. Stays old new)
-    → HasHeads (change (tables_of old)).register (change (tables_of old)).cluster (change (tables_of old)).cluster2 c → HoldsRows (change (tables_of old)) c.params.cycles next → OnOk r (Stands new c next)
-carried change old new (Ok x) c next h heads rows = record { has = h.has; for = subst (λ t. StandsFor t c next) (sym h.now) (record { heads = heads; rows = rows }) }
-carried change old new (Err e) c next h heads rows = tt
+pub carried : (change : Tables → Tables) (old new : State) (c : Cluster) (next : Book) → Changes change old new
+    → HasHeads (change (tables_of old)).register (change (tables_of old)).cluster (change (tables_of old)).cluster2 c → HoldsRows (change (tables_of old)) c.params.cycles next → Stands new c next
+carried change old new c next h heads rows = record { has = h.has; for = subst (λ t. StandsFor t c next) (sym h.now) (record { heads = heads; rows = rows }) }
 
 -- a frame is dropped by two statements, or by one where the variant is not stored over its parent
-pub ended_over : {X E : Type 0} (v s f : Name) (old mid new : State) (r : Result X E) (c : Cluster) (b : Book) (x : Variant) (frame : Frame) → Stands old c b → IsOpen b v x → get x.frames (s, f) ≡ Some frame
-    → Changes (without_frame v s f) old mid → MatchResult r (λ _. Changes (with_dropped (dropped_row v s f)) mid new) (λ _. Stays mid new) → OnOk r (Stands new c (applied b (Rows s v (OfFrame f Drop))))
-ended_over v s f old mid new (Err e) c b x frame stands is there h k = tt
-ended_over v s f old mid new (Ok n) c b x frame stands is there h k = record {
+pub ended_over : (v s f : Name) (old mid new : State) (c : Cluster) (b : Book) (x : Variant) (frame : Frame) → Stands old c b → IsOpen b v x → get x.frames (s, f) ≡ Some frame
+    → Changes (without_frame v s f) old mid → Changes (with_dropped (dropped_row v s f)) mid new → Stands new c (applied b (Rows s v (OfFrame f Drop)))
+ended_over v s f old mid new c b x frame stands is there h k = record {
   has = k.has;
   for = subst (λ t. StandsFor t c (applied b (Rows s v (OfFrame f Drop)))) (sym (k.now ∙ ap (with_dropped (dropped_row v s f)) h.now)) (record { heads = stands.for.heads; rows = end_over (tables_of old) c.params.cycles b stands.for.rows v s f x is frame there });
 }
@@ -248,6 +246,10 @@ ended_alone v s f old new c b x frame stands is there so h = record {
       (record { heads = stands.for.heads; rows = end_alone (tables_of old) c.params.cycles b stands.for.rows v s f x is frame there (stored_so (tables_of old) c.params.cycles b stands.for.rows v false so) });
 }
 
+pub not_over : (over : Bool) → not over ≡ true → over ≡ false
+not_over true h = absurd cc
+not_over false h = refl
+
 -- the frame that a placement's edit finds
 pub place_fits : (there : Option Frame) (q : Placement) → FitsAt there (Place q) → (frame : Frame) × (there ≡ Some frame) × (contains frame.placements q ≡ false)
 place_fits None q h = absurd (true≢false (sym h))
@@ -257,3 +259,31 @@ place_fits (Some frame) q h = (frame, refl, h)
 pub unplace_fits : (there : Option Frame) (q : Placement) → FitsAt there (Unplace q) → (frame : Frame) × (there ≡ Some frame) × IsTrue (contains frame.placements q)
 unplace_fits None q h = absurd (true≢false (sym h))
 unplace_fits (Some frame) q h = (frame, refl, h)
+
+-- ---- each change of a frame, by its one statement
+
+module _ (v s f : Name) (old new : State) (c : Cluster) (b : Book) (x : Variant) (stands : Stands old c b) (is : IsOpen b v x) where
+  abbrev frame_then : FrameChange → Type 0
+  frame_then what = Stands new c (applied b (Rows s v (OfFrame f what)))
+
+  pub added : (node : Name) → is_some (get x.frames (s, f)) ≡ false → Changes (with_frame (record { variant = v; supplier = s; name = f; node = node })) old new → frame_then (Add node)
+  added node free h = carried _ old new c _ h stands.for.heads (new_frame (tables_of old) c.params.cycles b stands.for.rows v s f x is node free)
+
+  module _ (own : IsTrue (is_own v s f (tables_of old))) where
+    pub placed : (q : Placement) → FitsAt (get x.frames (s, f)) (Place q) → q.cycles.count ≡ c.params.cycles → Changes (with_placement (placement_row v s f q)) old new → frame_then (Place q)
+    placed q fits same h =
+        let there = place_fits (get x.frames (s, f)) q fits in
+        carried _ old new c _ h stands.for.heads (put_placement (tables_of old) c.params.cycles b stands.for.rows v s f x is there.0 there.1 own q there.2 same)
+
+    pub unplaced : (q : Placement) → FitsAt (get x.frames (s, f)) (Unplace q) → Changes (without_placement (placement_row v s f q)) old new → frame_then (Unplace q)
+    unplaced q fits h =
+        let there = unplace_fits (get x.frames (s, f)) q fits in
+        carried _ old new c _ h stands.for.heads (end_placement (tables_of old) c.params.cycles b stands.for.rows v s f x is there.0 there.1 own q there.2)
+
+    pub signal_added : (frame : Frame) → get x.frames (s, f) ≡ Some frame → (signal : SignalData) → Changes (statements.with_signal (signal_row v s f signal)) old new → frame_then (AddSignal signal)
+    signal_added frame there signal h =
+        carried _ old new c _ h stands.for.heads (put_signal (tables_of old) c.params.cycles b stands.for.rows v s f x is frame there own signal)
+
+    pub signal_dropped : (frame : Frame) → get x.frames (s, f) ≡ Some frame → (name : Name) → Changes (statements.without_signal v s f name) old new → frame_then (DropSignal name)
+    signal_dropped frame there name h =
+        carried _ old new c _ h stands.for.heads (end_signal (tables_of old) c.params.cycles b stands.for.rows v s f x is frame there own name)

@@ -1,5 +1,5 @@
 -- What the tables stand for after an import is kept.
-use Rattle.std.proofs.Common.{◌≡◌, ℕ, pos, None, List, Result, Ok, Err, OnOk, MatchResult, sym, subst}
+use Rattle.std.proofs.Common.{◌≡◌, ℕ, pos, None, List, sym, subst}
 use Rattle.sqlite.specs.State.{State}
 use Rattle.fr_base.specs.Tables.{get}
 use Rattle.fr_base.specs.Keys.{owned}
@@ -11,7 +11,7 @@ use Rattle.fr_world.specs.declared.edit.Edit.{Edit}
 use Rattle.fr_world.specs.declared.edit.Edit.TheVariants.{KeepImport}
 use Rattle.fr_tables.specs.Rows.{ImportRow}
 use Rattle.fr_tables.specs.Tables.{Tables}
-use Rattle.fr_tables.specs.Changes.{Changes, Stays, tables_of}
+use Rattle.fr_tables.specs.Changes.{Changes, tables_of}
 use Rattle.fr_tables.specs.Statements.{with_import}
 use Rattle.fr_store.specs.StandsFor.{StandsFor, HoldsRows, import_row}
 use Rattle.fr_store.specs.Reading.{Stands}
@@ -43,7 +43,6 @@ module _ (s label v : Name) (body : List ℕ) (rows : ℕ) where
     each = h.each;
   }
 
-  pub import_kept : {X E : Type 0} (old state : State) (r : Result X E) → MatchResult r (λ _. Changes (with_import row) old state) (λ _. Stays old state) → (c : Cluster) (b : Book) → Stands old c b → get b.imports (s, label) ≡ None
-      → OnOk r (Stands state c (applied b keeping))
-  import_kept old state (Ok done) h c b stands new = record { has = h.has; for = subst (λ t. StandsFor t c (applied b keeping)) (sym h.now) (record { heads = stands.for.heads; rows = keep_import (tables_of old) c.params.cycles b stands.for.rows new }) }
-  import_kept old state (Err e) h c b stands new = tt
+  pub import_kept : (old state : State) → Changes (with_import row) old state → (c : Cluster) (b : Book) → Stands old c b → get b.imports (s, label) ≡ None
+      → Stands state c (applied b keeping)
+  import_kept old state h c b stands new = record { has = h.has; for = subst (λ t. StandsFor t c (applied b keeping)) (sym h.now) (record { heads = stands.for.heads; rows = keep_import (tables_of old) c.params.cycles b stands.for.rows new }) }

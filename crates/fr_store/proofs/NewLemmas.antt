@@ -1,6 +1,7 @@
 -- The tables of a new register stand for the book of a new register.
-use Rattle.std.proofs.Common.{◌≡◌, ◌⊎◌, inl, inr, [], false, map, IsTrue, IsPermutation, refl, sym, subst, arith}
+use Rattle.std.proofs.Common.{◌≡◌, ◌∙◌, ap, ◌⊎◌, inl, inr, [], false, map, IsTrue, IsPermutation, refl, sym, subst, arith}
 use Rattle.std.proofs.lemmas.List.Sorted.{IsPermutation-refl}
+use Rattle.sqlite.specs.Effect.{Database}
 use Rattle.sqlite.specs.State.{State, Survives}
 use Rattle.sqlite.specs.Tree.{Trees}
 use Rattle.fr_base.specs.Tables.{empty, get}
@@ -40,7 +41,7 @@ new_stands f s fine is = record { has = is.has; for = subst (λ t. StandsFor t f
 -- the trees of a new register are one
 pub new_at : (f : ClusterFile) (s : State) (db : Trees) → db ≡ s.now.trees → IsNewOf f s.now → IsNewOf f (database_of db)
 new_at f s db same is =
-    let there : s.now ≡ database_of db = λ i. record { schema = is.has.schema i; trees = sym same i } in
+    let there : s.now ≡ database_of db = (λ i. let d : Database = record { schema = is.has.schema i; trees = s.now.trees } in d) ∙ ap database_of (sym same) in
     subst (IsNewOf f) there is
 
 -- a crash that leaves a new register leaves one of the book of a new register

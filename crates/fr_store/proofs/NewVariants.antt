@@ -1,5 +1,5 @@
 -- What the tables stand for after a variant is opened.
-use Rattle.std.proofs.Common.{◌≡◌, inl, inr, ℕ, pos, Bool, true, false, is_some, true≢false, IsTrue, not, cond, None, Some, List, [], ◌∷◌, ◌++◌, map, flat_map, refl, sym, ap, ap₂, ◌∙◌, subst, append-nil, Result, Ok, Err, OnOk, MatchResult, IsPermutation}
+use Rattle.std.proofs.Common.{◌≡◌, inl, inr, ℕ, pos, Bool, true, false, is_some, true≢false, IsTrue, not, cond, None, Some, List, [], ◌∷◌, ◌++◌, map, flat_map, refl, sym, ap, ap₂, ◌∙◌, subst, append-nil, IsPermutation}
 use Rattle.std.specs.List.{All, AllByRecursion, list_any}
 use Rattle.std.proofs.lemmas.List.Folds.{list_any_none}
 use Rattle.std.specs.Ordering.{is_eq, eq_by_cmp}
@@ -21,7 +21,7 @@ use Rattle.fr_world.specs.BookEdits.{applied}
 use Rattle.fr_world.specs.declared.edit.Edit.TheVariants.{NewVariant}
 use Rattle.fr_tables.specs.Rows.{VariantRow, GrantRow, DroppedRow, flag}
 use Rattle.fr_tables.specs.Tables.{Tables}
-use Rattle.fr_tables.specs.Changes.{Changes, Copies, Stays, tables_of}
+use Rattle.fr_tables.specs.Changes.{Changes, Copies, tables_of}
 use Rattle.fr_tables.specs.Statements.{with_variant, with_grants, grant_for, grants_for, is_dropped}
 use Rattle.fr_store.specs.StandsFor.{StandsFor, HoldsRows, Stored, Entry, HasItsParent, IsAsStored, IsFine, own_or, of_parent, seen, is_hidden, of_frames, variant_row, grant_rows, frame_row, placement_rows, signal_rows}
 use Rattle.fr_store.specs.Reading.{Stands}
@@ -151,10 +151,9 @@ module _ (v : Name) (depth : ℕ) where
       subst (λ u. HoldsRows u count (applied b (NewVariant v None depth))) (no_rows_more (with_variant opened_row t))
       (new_stands t count b stands v opened false none tt (none_shown t (insert b.variants v opened)) (no_frames count) [] (IsPermutation-refl []))
 
-  pub empty_opened : {X E : Type 0} (old state : State) (r : Result X E) → MatchResult r (λ _. Changes (with_variant opened_row) old state) (λ _. Stays old state) → (c : Cluster) (b : Book) → Stands old c b → get b.variants v ≡ None
-      → OnOk r (Stands state c (applied b (NewVariant v None depth)))
-  empty_opened old state (Ok done) h c b stands none = record { has = h.has; for = subst (λ t. StandsFor t c (applied b (NewVariant v None depth))) (sym h.now) (record { heads = stands.for.heads; rows = opened_empty (tables_of old) c.params.cycles b stands.for.rows none }) }
-  empty_opened old state (Err e) h c b stands none = tt
+  pub empty_opened : (old state : State) → Changes (with_variant opened_row) old state → (c : Cluster) (b : Book) → Stands old c b → get b.variants v ≡ None
+      → Stands state c (applied b (NewVariant v None depth))
+  empty_opened old state h c b stands none = record { has = h.has; for = subst (λ t. StandsFor t c (applied b (NewVariant v None depth))) (sym h.now) (record { heads = stands.for.heads; rows = opened_empty (tables_of old) c.params.cycles b stands.for.rows none }) }
 
 -- ---- opened over a parent, with copies of its grants
 
@@ -200,10 +199,9 @@ module _ (v p : Name) (depth : ℕ) where
       (subst (λ rs. IsPermutation rs gs) (turned_grants x) (grants_copied t count b stands p v x at gs grants)) in
       rw at made
 
-  pub opened_with : {X E : Type 0} (old mid state : State) (r : Result X E) → Changes (with_variant child_row) old mid → MatchResult r (λ _. Copies (grants_for p v) with_grants mid state) (λ _. Stays mid state)
-      → (c : Cluster) (b : Book) → Stands old c b → get b.variants v ≡ None → IsOpenedFrom b.variants (Some p) depth → OnOk r (Stands state c (applied b (NewVariant v (Some p) depth)))
-  opened_with old mid state (Err e) h copies c b stands none from = tt
-  opened_with old mid state (Ok done) h copies c b stands none from = record {
+  pub opened_with : (old mid state : State) → Changes (with_variant child_row) old mid → Copies (grants_for p v) with_grants mid state
+      → (c : Cluster) (b : Book) → Stands old c b → get b.variants v ≡ None → IsOpenedFrom b.variants (Some p) depth → Stands state c (applied b (NewVariant v (Some p) depth))
+  opened_with old mid state h copies c b stands none from = record {
     has = copies.added.has;
     for = subst (λ t. StandsFor t c (applied b (NewVariant v (Some p) depth))) (sym (copies.added.now ∙ ap (with_grants copies.copies) h.now))
         (record { heads = stands.for.heads; rows = opened_from (tables_of old) c.params.cycles b stands.for.rows none from copies.copies (subst (λ t. IsPermutation (grants_for p v t) copies.copies) h.now copies.same) });

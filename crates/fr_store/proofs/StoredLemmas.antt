@@ -3,13 +3,12 @@ use Rattle.std.proofs.Common.{◌≡◌, ℕ, suc, Bool, true, false, None, Some
 use Rattle.std.specs.Ordering.{eq_by_cmp}
 use Rattle.fr_base.specs.Tables.{Table, get, insert}
 use Rattle.fr_base.specs.Keys.{names}
-use Rattle.fr_base.specs.Book.{Frame, Variant, Book}
+use Rattle.fr_base.specs.Book.{Variant}
 use Rattle.fr_base.specs.declared.name.Name.{Name}
 use Rattle.fr_base.proofs.SoundTables.{same_some, same_key}
-use Rattle.fr_base.proofs.TableLaws.{equal, get-insert, same_table}
+use Rattle.fr_base.proofs.TableLaws.{equal, get-insert}
 use Rattle.fr_tables.specs.Rows.{DroppedRow}
-use Rattle.fr_tables.specs.Tables.{Tables}
-use Rattle.fr_store.specs.StandsFor.{HoldsRows, Stored, HasItsParent, IsAsStored, of_parent, own_or, is_hidden, seen}
+use Rattle.fr_store.specs.StandsFor.{Stored, HasItsParent, IsAsStored, of_parent, own_or, is_hidden, seen}
 
 -- the variant is the same but for its grants and its release
 pub record IsStill (x y : Variant) : Type 0 where
@@ -81,16 +80,3 @@ module _ (dropped : List DroppedRow) (vs ws : Table names Variant) (more : Exten
             ∙ ap (own_or (get stored.own k) (is_hidden dropped v stored k)) (of_parent_still x.parent x.depth same k));
         fine = λ k f there. h.fine k f (ap (λ frames. get frames k) (sym still.frames) ∙ there);
       }
-
--- ---- a variant that is not stored over its parent
-
-module _ (t : Tables) (count : ℕ) (b : Book) (stands : HoldsRows t count b) (v : Name) (x : Variant) (there : get b.variants v ≡ Some x) (not_over : (stands.stored v).overlay ≡ false) where
-  own_alone : (o inherited : Option Frame) (hidden : Bool) → hidden ≡ true → own_or o hidden inherited ≡ o
-  own_alone (Some f) inherited hidden h = refl
-  own_alone None inherited hidden h = rw h refl
-
-  -- its own frames are those that it shows
-  pub own_frames : (stands.stored v).own ≡ x.frames
-  unfolding seen
-  own_frames = same_table (stands.stored v).own x.frames (λ k.
-      sym ((stands.each v x there).frames k ∙ own_alone (get (stands.stored v).own k) (of_parent b.variants x.parent k) (is_hidden t.dropped v (stands.stored v) k) (rw not_over refl)))

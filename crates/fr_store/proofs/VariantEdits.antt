@@ -1,5 +1,5 @@
 -- What the tables stand for after a variant's grants or its release change.
-use Rattle.std.proofs.Common.{inl, inr, ◌≡◌, ℕ, pos, Bool, true, false, not, ◌&&◌, None, Some, List, [], ◌∷◌, ◌++◌, map, filter, flat_map, Result, Ok, Err, OnOk, MatchResult, if◌then◌else◌, refl, sym, ap, ◌∙◌, subst, IsPermutation, bytes_eq}
+use Rattle.std.proofs.Common.{inl, inr, ◌≡◌, ℕ, pos, Bool, true, false, not, ◌&&◌, None, Some, List, [], ◌∷◌, ◌++◌, map, filter, flat_map, if◌then◌else◌, refl, sym, ap, ◌∙◌, subst, IsPermutation, bytes_eq}
 use Rattle.std.specs.Ordering.{is_eq, eq_by_cmp, int_eq}
 use Rattle.std.proofs.lemmas.List.Elements.{All-weaker}
 use Rattle.std.proofs.lemmas.List.Sorted.{IsPermutation-map}
@@ -22,7 +22,7 @@ use Rattle.fr_world.specs.declared.edit.Edit.{Edit}
 use Rattle.fr_world.specs.declared.edit.Edit.TheVariants.{SetReleased, Rows}
 use Rattle.fr_tables.specs.Rows.{VariantRow, GrantRow}
 use Rattle.fr_tables.specs.Tables.{Tables}
-use Rattle.fr_tables.specs.Changes.{Changes, Stays, tables_of}
+use Rattle.fr_tables.specs.Changes.{Changes, tables_of}
 use Rattle.fr_tables.specs.Statements.{with_grant, without_grant, with_released, is_grant_at, is_variant, released_row}
 use Rattle.fr_store.specs.StandsFor.{StandsFor, HoldsRows, Stored, Entry, of_frames, IsAsStored, variant_row, grant_rows, frame_row, placement_rows, signal_rows}
 use Rattle.fr_store.specs.Reading.{Stands}
@@ -94,10 +94,9 @@ module _ (s v n : Name) (slot : ℕ) (channel : Channel) where
       (more_of names b.variants v x y there grant_rows t.grants stands.grants granted_row (grant_more x free)) in
       rw there made
 
-  pub granted : {X E : Type 0} (old state : State) (r : Result X E) → MatchResult r (λ _. Changes (with_grant granted_row) old state) (λ _. Stays old state) → (c : Cluster) (b : Book) → Stands old c b → (x : Variant) → get b.variants v ≡ Some x
-      → get x.grants (slot, channel) ≡ None → OnOk r (Stands state c (applied b granting))
-  granted old state (Ok done) h c b stands x there free = record { has = h.has; for = subst (λ t. StandsFor t c (applied b granting)) (sym h.now) (record { heads = stands.for.heads; rows = put_grant (tables_of old) c.params.cycles b stands.for.rows x there free }) }
-  granted old state (Err e) h c b stands x there free = tt
+  pub granted : (old state : State) → Changes (with_grant granted_row) old state → (c : Cluster) (b : Book) → Stands old c b → (x : Variant) → get b.variants v ≡ Some x
+      → get x.grants (slot, channel) ≡ None → Stands state c (applied b granting)
+  granted old state h c b stands x there free = record { has = h.has; for = subst (λ t. StandsFor t c (applied b granting)) (sym h.now) (record { heads = stands.for.heads; rows = put_grant (tables_of old) c.params.cycles b stands.for.rows x there free }) }
 
 -- ---- the end of a grant
 
@@ -145,10 +144,9 @@ module _ (s v : Name) (slot : ℕ) (channel : Channel) where
       (less_of names b.variants v x y there grant_rows t.grants stands.grants stays (grant_less x) others_stay) in
       rw there made
 
-  pub revoked : {X E : Type 0} (old state : State) (r : Result X E) → MatchResult r (λ _. Changes (without_grant v (pos slot) (text_of_channel channel)) old state) (λ _. Stays old state) → (c : Cluster) (b : Book) → Stands old c b
-      → (x : Variant) → get b.variants v ≡ Some x → OnOk r (Stands state c (applied b revoking))
-  revoked old state (Ok done) h c b stands x there = record { has = h.has; for = subst (λ t. StandsFor t c (applied b revoking)) (sym h.now) (record { heads = stands.for.heads; rows = end_grant (tables_of old) c.params.cycles b stands.for.rows x there }) }
-  revoked old state (Err e) h c b stands x there = tt
+  pub revoked : (old state : State) → Changes (without_grant v (pos slot) (text_of_channel channel)) old state → (c : Cluster) (b : Book) → Stands old c b
+      → (x : Variant) → get b.variants v ≡ Some x → Stands state c (applied b revoking)
+  revoked old state h c b stands x there = record { has = h.has; for = subst (λ t. StandsFor t c (applied b revoking)) (sym h.now) (record { heads = stands.for.heads; rows = end_grant (tables_of old) c.params.cycles b stands.for.rows x there }) }
 
 -- ---- the release
 
@@ -172,7 +170,6 @@ module _ (v : Name) where
       (same_of names b.variants v x y there grant_rows t.grants stands.grants refl) in
       rw there made
 
-  pub released : {X E : Type 0} (old state : State) (r : Result X E) → MatchResult r (λ _. Changes (with_released v) old state) (λ _. Stays old state) → (c : Cluster) (b : Book) → Stands old c b → (x : Variant)
-      → get b.variants v ≡ Some x → OnOk r (Stands state c (applied b (SetReleased v)))
-  released old state (Ok done) h c b stands x there = record { has = h.has; for = subst (λ t. StandsFor t c (applied b (SetReleased v))) (sym h.now) (record { heads = stands.for.heads; rows = set_released (tables_of old) c.params.cycles b stands.for.rows x there }) }
-  released old state (Err e) h c b stands x there = tt
+  pub released : (old state : State) → Changes (with_released v) old state → (c : Cluster) (b : Book) → Stands old c b → (x : Variant)
+      → get b.variants v ≡ Some x → Stands state c (applied b (SetReleased v))
+  released old state h c b stands x there = record { has = h.has; for = subst (λ t. StandsFor t c (applied b (SetReleased v))) (sym h.now) (record { heads = stands.for.heads; rows = set_released (tables_of old) c.params.cycles b stands.for.rows x there }) }

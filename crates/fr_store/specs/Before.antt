@@ -10,7 +10,7 @@ use Rattle.fr_base.specs.Cluster.{Cluster}
 use Rattle.fr_base.specs.Book.{Book}
 use Rattle.fr_base.specs.declared.key.Key.{Key}
 use Rattle.fr_base.specs.declared.params.RawParams.{RawParams}
-use Rattle.fr_tables.specs.Schema.{old_schema}
+use Rattle.fr_tables.specs.Schema.{IsOld, old_schema, layout_of}
 use Rattle.fr_tables.specs.Rows.{RegisterRow, ClusterRow}
 use Rattle.fr_tables.specs.Tables.{Tables, HasTables, HasOldTables, tables_in}
 use Rattle.fr_tables.specs.Changes.{tables_of}
@@ -40,7 +40,7 @@ pub record StandsBefore (s : State) (c : Cluster) (b : Book) : Type 0 where
   pub for : StoodFor (tables_of s) c b
 
 abbrev pub database_before : Trees → Database
-database_before db = record { schema = old_schema; trees = db }
+database_before db = record { schema = old_schema (layout_of db).index (layout_of db).before; trees = db }
 
 -- the files hold a register of the schema before, whose tables stand for this cluster and this book
 pub record HoldsBookBefore (c : Cluster) (b : Book) (image : Image) : Type 0 where
@@ -71,7 +71,7 @@ LeavesMigrated old db = (c : Cluster) (b : Book) → StandsBefore old c b → Is
 
 -- where the database has the schema before, its tables are such as that schema's version writes
 abbrev pub HasOldIfBefore : Database → Type 0
-HasOldIfBefore db = db.schema ≡ old_schema → HasOldTables db
+HasOldIfBefore db = IsOld db.schema → HasOldTables db
 
 -- Statements inside a transaction over tables of the schema before commit nothing, and where none fails the transaction goes on.
 abbrev pub KeepsBefore : {X E : Type 0} → State → State → Result X E → Type 0

@@ -1,6 +1,5 @@
--- Edit of a frame: what it makes of the tables. A frame whose placements or signals change is the variant's own by
--- then.
-use Rattle.std.specs.Prelude.{◌≡◌, false, Option, Some, is_some, IsTrue, Result, OnOk, ⊤}
+-- Edit of a frame: what it makes of the tables.
+use Rattle.std.specs.Prelude.{◌≡◌, false, Option, Some, is_some, IsTrue, Result, OnOk}
 use Rattle.sqlite.specs.State.{State, HasCleanDisk}
 use Rattle.fr_base.specs.Tables.{get, contains}
 use Rattle.fr_base.specs.Cluster.{Cluster}
@@ -8,14 +7,11 @@ use Rattle.fr_base.specs.Book.{Frame, Variant, Book}
 use Rattle.fr_base.specs.declared.name.Name.{Name}
 use Rattle.fr_base.specs.declared.request.Change.TheVariants.{Frame as OfFrame}
 use Rattle.fr_base.specs.declared.request.FrameChange.{FrameChange}
-use Rattle.fr_base.specs.declared.request.FrameChange.TheVariants.{Add, Drop, Place, Unplace}
+use Rattle.fr_base.specs.declared.request.FrameChange.TheVariants.{Add, Place, Unplace}
 use Rattle.fr_world.specs.BookEdits.{applied}
 use Rattle.fr_world.specs.Fits.{IsOpen, IsCounted}
 use Rattle.fr_world.specs.declared.edit.Edit.TheVariants.{Rows}
-use Rattle.fr_tables.specs.Changes.{tables_of}
 use Rattle.fr_store.specs.Reading.{Stands}
-use Rattle.fr_tables.specs.Tables.{Tables}
-use Rattle.fr_store.specs.Owning.{is_own}
 
 -- a frame and a placement that are added are new, and a frame that is changed or dropped is there, and a placement that ends; `there` is what stands at the frame's name
 abbrev pub FitsAt : Option Frame → FrameChange → Type 0
@@ -24,21 +20,8 @@ FitsAt (Some frame) (Place q) = contains frame.placements q ≡ false
 FitsAt (Some frame) (Unplace q) = IsTrue (contains frame.placements q)
 FitsAt there what = IsTrue (is_some there)
 
--- a frame whose placements or signals change is the variant's own
-abbrev pub OwnIfChanged : FrameChange → Name → Name → Name → Tables → Type 0
-OwnIfChanged (Add node) v s f t = ⊤
-OwnIfChanged Drop v s f t = ⊤
-OwnIfChanged what v s f t = IsTrue (is_own v s f t)
-
 -- Statements inside a transaction make this change of the supplier's frame in the open variant, or fail.
 abbrev pub EditsFrame : {X E : Type 0} → Name → Name → Name → FrameChange → State → State → Result X E → Type 0
 EditsFrame v s f what old new r =
-    HasCleanDisk new → IsTrue old.in_transaction → (c : Cluster) (b : Book) (x : Variant) → Stands old c b → IsOpen b v x → FitsAt (get x.frames (s, f)) what → IsCounted c.params (OfFrame f what)
-    → OwnIfChanged what v s f (tables_of old) → OnOk r (Stands new c (applied b (Rows s v (OfFrame f what))))
-
--- Statements inside a transaction make the frame the open variant's own, where the change is of its placements or signals, and what the
--- tables stand for stays; or one fails.
-abbrev pub OwnsChanged : {X E : Type 0} → Name → Name → Name → FrameChange → State → State → Result X E → Type 0
-OwnsChanged v s f what old new r =
-    HasCleanDisk new → IsTrue old.in_transaction → (c : Cluster) (b : Book) (x : Variant) → Stands old c b → IsOpen b v x → FitsAt (get x.frames (s, f)) what
-    → OnOk r (Stands new c b × OwnIfChanged what v s f (tables_of new))
+    HasCleanDisk new → IsTrue old.in_transaction → (c : Cluster) (b : Book) (x : Variant) → Stands old c b → IsOpen b v x
+    → FitsAt (get x.frames (s, f)) what → IsCounted c.params (OfFrame f what) → OnOk r (Stands new c (applied b (Rows s v (OfFrame f what))))

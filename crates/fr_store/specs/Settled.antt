@@ -16,7 +16,7 @@ use Rattle.fr_tables.specs.Tables.{HasTables, tables_in}
 -- the trees of tables that stand for a book
 pub is_left : (s : State) (c : Cluster) (b : Book) (db : Trees) → db ≡ s.now.trees → Stands s c b → IsRegisterFor c b (database_of db)
 is_left s c b db is stands = record {
-  has = subst HasTables (λ i. let d : Database = record { schema = stands.has.schema i; trees = sym is i } in d) stands.has;
+  has = subst HasTables ((λ i. let d : Database = record { schema = stands.has.schema i; trees = s.now.trees } in d) ∙ ap database_of (sym is)) stands.has;
   for = subst (λ trees. StandsFor (tables_in trees) c b) (sym is) stands.for;
 }
 

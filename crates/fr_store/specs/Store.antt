@@ -9,7 +9,7 @@ use Rattle.sqlite.specs.State.{State, Shows, HasCleanDisk, KeepsCommit}
 use Rattle.sqlite_schema.specs.Names.{same_name}
 use Rattle.fr_base.specs.Cluster.{Cluster, ClusterFile, IsWellFormed}
 use Rattle.fr_base.specs.Book.{Book, file_of}
-use Rattle.fr_tables.specs.Schema.{all_tables}
+use Rattle.fr_tables.specs.Schema.{all_tables, register_schema, layout_made}
 use Rattle.fr_tables.specs.Tables.{Tables, HasTables, tables_in}
 use Rattle.fr_tables.specs.Statements.{cluster2_row}
 use Rattle.fr_tables.specs.Filling.{supplier_row, with_config}
@@ -52,9 +52,10 @@ pub record IsOpenable (db : Database) : Type 0 where
 
 -- ---- a new register
 
--- the database is a new register of this cluster
+-- the database is a new register of this cluster, with all its tables and the index where they are made
 pub record IsNewOf (f : ClusterFile) (db : Database) : Type 0 where
   pub has : HasTables db
+  pub schema : db.schema ≡ register_schema layout_made
   pub rows : tables_in db.trees ≡ with_config f no_rows
 
 -- Statements inside a transaction make a new register where no table is, or fail and commit nothing.

@@ -15,7 +15,7 @@ use Rattle.sqlite.specs.Tree.{Trees}
 use Rattle.sqlite_wal.specs.Recovery.{Image}
 use Rattle.fr_base.specs.Cluster.{Cluster, ClusterFile}
 use Rattle.fr_base.specs.Book.{Book, file_of}
-use Rattle.fr_tables.specs.Schema.{register_schema}
+use Rattle.fr_tables.specs.Schema.{register_schema, layout_of}
 use Rattle.fr_store.specs.StandsFor.{StandsFor}
 use Rattle.fr_tables.specs.Tables.{tables_in}
 use Rattle.fr_store.specs.Reading.{Stands}
@@ -32,8 +32,9 @@ pub record IsFound (image : Image) (db : Database) : Type 0 where
   pub sound : IsDatabase db
   pub only : (trees : Trees) → HoldsDatabase image trees → db.trees ≡ trees
 
+-- the tables of this schema, with the last one and the index where the trees list them
 abbrev pub database_of : Trees → Database
-database_of db = record { schema = register_schema; trees = db }
+database_of db = record { schema = register_schema (layout_of db); trees = db }
 
 -- the files hold a register of this cluster, in these trees
 pub record HoldsRegister (f : ClusterFile) (image : Image) (db : Trees) : Type 0 where

@@ -14,9 +14,7 @@ ghost use Rattle.fr_tables.specs.Tables.{HasTables};
 ghost use Rattle.fr_store.specs.declared.fault.StoreFault.TheVariants.{Unavailable};
 
 use crate::applying::edits::carry_out;
-use crate::applying::ready::make_ready;
-use crate::applying::seen::{Seen, see_variant};
-use crate::applying::suppliers::config_after;
+use crate::applying::joining::config_after;
 use crate::fault::StoreFault;
 use crate::store::Store;
 use fr_world::Edit;
@@ -31,14 +29,8 @@ fn all<S: Alter>(tx: &mut Transaction<'_, S>, edits: &[Edit]) -> Result<(), Stor
     ensures refused { IfErr result (λ fault. fault ≡ Unavailable) }
     ensures survives { Survives (state S.Store tx.old.conn.now) (state S.Store tx.new.conn.now) (λ _. ⊥) }
 {
-    let mut seen = Seen {
-        variant: None,
-        overlay: false,
-    };
     for edit in edits {
-        seen = see_variant(tx, seen, edit)?;
-        make_ready(tx, edit, seen.overlay)?;
-        carry_out(tx, edit, seen.overlay)?;
+        carry_out(tx, edit)?;
     }
     Ok(())
 }

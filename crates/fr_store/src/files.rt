@@ -7,7 +7,7 @@ ghost use Rattle.sqlite.specs.Effect.{IsDatabase};
 ghost use Rattle.sqlite.specs.State.{HasCleanDisk, Opens, IsLive};
 ghost use Rattle.sqlite.specs.Files.{file_state, image_of, HoldsDatabase};
 ghost use Rattle.fr_base.specs.Book.{opening};
-ghost use Rattle.fr_tables.specs.Schema.{register_schema, old_schema};
+ghost use Rattle.fr_tables.specs.Schema.{IsOurs, IsOld};
 ghost use Rattle.fr_store.specs.Opening.{AllowsCreation, Explains, ExplainsFiles, ForbidsFiles};
 ghost use Rattle.fr_tables.specs.Changes.{tables_of};
 ghost use Rattle.fr_store.specs.Reading.{Stands, TellsOpened};
@@ -20,7 +20,7 @@ ghost use Rattle.fr_store.specs.declared.fault.StoreFault.TheVariants as fault;
 use crate::fault::StoreFault;
 use crate::store::Store;
 use fr_base::Config;
-use fr_tables::settle::settle;
+use fr_tables::reopen::reopen;
 use sqlite::{Connection, Error, ErrorCode, FileStore, Files, Options};
 use sqlite_disk::Disk;
 use std::alloc::Global;
@@ -51,8 +51,8 @@ pub(crate) fn connected<D: Disk + Drop>(
     requires log { IsTrue (D.Disk.is_usable files.log) }
     requires db { IsTrue (D.Disk.is_usable files.db) }
     ensures opens { IfOk result (λ c. HasCleanDisk (file_state c) → Opens (file_state c) × IsLive (file_state c)) }
-    ensures ordered { IfOk result (λ c. HasCleanDisk (file_state c) → (file_state c).now.schema ≡ register_schema → AreOrdered (file_state c).now.trees) }
-    ensures ordered_before { IfOk result (λ c. HasCleanDisk (file_state c) → (file_state c).now.schema ≡ old_schema → AreOrderedBefore (file_state c).now.trees) }
+    ensures ordered { IfOk result (λ c. HasCleanDisk (file_state c) → IsOurs (file_state c).now.schema → AreOrdered (file_state c).now.trees) }
+    ensures ordered_before { IfOk result (λ c. HasCleanDisk (file_state c) → IsOld (file_state c).now.schema → AreOrderedBefore (file_state c).now.trees) }
     ensures found { IfOk result (λ c. HasCleanDisk (file_state c) → (db : _) → HoldsDatabase (image_of D.Disk files) db → (file_state c).now.trees ≡ db) }
     ensures reads { IfOk result (λ c. HasCleanDisk (file_state c) → IsFound (image_of D.Disk files) (file_state c).now) }
     ensures honest { IfOk result (λ c. HasCleanDisk (file_state c) → AreClean D.Disk files.log files.db) }
@@ -67,7 +67,7 @@ pub(crate) fn connected<D: Disk + Drop>(
         }
         Err((_, left)) => return Err((StoreFault::Unavailable, left.into_files())),
     };
-    match settle(alloc, conn) {
+    match reopen(alloc, conn) {
         Ok(conn) => Ok(conn),
         Err((_, store)) => Err((StoreFault::Unavailable, store.close())),
     }

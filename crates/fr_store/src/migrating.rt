@@ -5,7 +5,7 @@ ghost use Rattle.sqlite.specs.State.{HasCleanDisk, IsUnchanged, Survives};
 ghost use Rattle.sqlite.specs.Held.{state};
 ghost use Rattle.fr_tables.specs.Asking.{AreAsBefore, HasNumber, numbered, old_schema_number, our_schema_number};
 ghost use Rattle.fr_tables.specs.Changes.{Stays, tables_of};
-ghost use Rattle.fr_tables.specs.Schema.{old_schema};
+ghost use Rattle.fr_tables.specs.Schema.{IsOld};
 ghost use Rattle.fr_tables.specs.Tables.{HasOldTables, HasSomeTables, HasTables};
 ghost use Rattle.fr_store.specs.Applying.{StaysInside};
 ghost use Rattle.fr_store.specs.Before.{StandsBefore, MovesCluster, Migrates, MakesOpenable, KeepsBefore, LeavesMigrated, HasOldIfBefore};
@@ -133,7 +133,7 @@ pub fn migrate_on<S: Alter>(alloc: Global, conn: &mut Connection<S>) -> Result<(
     ensures migrated { HasCleanDisk (state S.Store conn.new) → (c : _) (b : _) → StandsBefore (state S.Store conn.old) c b → OnOk result (Stands (state S.Store conn.new) c b) }
     ensures committed { HasCleanDisk (state S.Store conn.new) → OnOk result ((state S.Store conn.new).committed ≡ (state S.Store conn.new).now) }
     ensures opens { HasCleanDisk (state S.Store conn.new) → HasOldTables (state S.Store conn.old).now → OnOk result (IsOpenable (state S.Store conn.new).now) }
-    ensures before { OnOk result ((state S.Store conn.old).now.schema ≡ old_schema) }
+    ensures before { OnOk result (IsOld (state S.Store conn.old).now.schema) }
     ensures numbered { HasCleanDisk (state S.Store conn.new) → OnOk result (HasSomeTables (state S.Store conn.old).now → HasNumber (state S.Store conn.old).now old_schema_number) }
     ensures told { HasCleanDisk (state S.Store conn.new) → IfErr result (Refuses old_schema_number (state S.Store conn.old).now) }
     ensures known { HasCleanDisk (state S.Store conn.new) → (c : _) (b : _) → StandsBefore (state S.Store conn.old) c b → IfErr result (λ e. e ≡ fault.Unavailable) }

@@ -4,7 +4,7 @@ ghost use Rattle.std.specs.Prelude.{◌≡◌, ◌≢◌, ◌≤◌, ℤ, IsTrue
 ghost use Rattle.sqlite.specs.State.{HasCleanDisk, Survives};
 ghost use Rattle.sqlite.specs.Held.{state};
 ghost use Rattle.fr_base.specs.Cluster.{IsWellFormed};
-ghost use Rattle.fr_tables.specs.Schema.{register_schema};
+ghost use Rattle.fr_tables.specs.Schema.{IsOurs};
 ghost use Rattle.fr_tables.specs.Statements.{shows_register, cluster2_row, shows_cluster2, shows_supplier, shows_variant, every, any_order, suppliers_cmp, variants_cmp};
 ghost use Rattle.fr_tables.specs.ClusterRows.{shown_supplier};
 ghost use Rattle.fr_tables.specs.Filling.{supplier_row};
@@ -23,7 +23,7 @@ use crate::reading::opened_variants;
 use crate::schemas::{expect_number, is_ours};
 use crate::store::Store;
 use fr_base::Config;
-use fr_tables::asking::asked;
+use fr_tables::asking::ask_and_undo;
 use fr_tables::cluster;
 use sqlite::{Alter, Connection, Row};
 use std::alloc::Global;
@@ -37,7 +37,7 @@ fn has_opened_variants<S: Alter>(alloc: Global, conn: &mut Connection<S>) -> boo
     ensures autocommit { conn.new.in_transaction ≡ false }
     ensures survives { Survives (state S.Store conn.old) (state S.Store conn.new) (λ _. ⊥) }
 {
-    match asked(
+    match ask_and_undo(
         conn,
         "SELECT name, parent, depth, released, overlay FROM variants ORDER BY name",
     ) {
@@ -58,13 +58,13 @@ fn config<S: Alter>(alloc: Global, conn: &mut Connection<S>) -> Option<Config>
     ensures autocommit { conn.new.in_transaction ≡ false }
     ensures survives { Survives (state S.Store conn.old) (state S.Store conn.new) (λ _. ⊥) }
 {
-    let Ok(cluster) = asked(
+    let Ok(cluster) = ask_and_undo(
         conn,
         "SELECT static_slots, slot_macroticks, dynamic_macroticks, symbol_macroticks, idle_macroticks, macroticks_per_cycle, payload_words, channels, integrator, cycles FROM cluster2",
     ) else {
         return None;
     };
-    let Ok(suppliers) = asked(conn, "SELECT name, key FROM suppliers ORDER BY name") else {
+    let Ok(suppliers) = ask_and_undo(conn, "SELECT name, key FROM suppliers ORDER BY name") else {
         return None;
     };
     if !has_opened_variants(alloc, conn) {
@@ -93,10 +93,10 @@ pub(crate) fn config_of(
 const NUMBER: i64 = 2;
 
 /// The cluster of the register that the tables are, or why they are not opened.
-fn recognized<S: Alter>(alloc: Global, conn: &mut Connection<S>) -> Result<Config, StoreFault>
+fn read_config<S: Alter>(alloc: Global, conn: &mut Connection<S>) -> Result<Config, StoreFault>
     requires { conn.old.in_transaction ≡ false }
     ensures formed { IfOk result IsWellFormed }
-    ensures ours { OnOk result ((state S.Store conn.new).now.schema ≡ register_schema) }
+    ensures ours { OnOk result (IsOurs (state S.Store conn.new).now.schema) }
     ensures stands { HasCleanDisk (state S.Store conn.new) → AreOrdered (state S.Store conn.old).now.trees → IfOk result (λ c. IsRegisterOf c (state S.Store conn.new).now) }
     ensures variants { HasCleanDisk (state S.Store conn.new) → HasTables (state S.Store conn.new).now → OnOk result (TellsOpened (tables_of (state S.Store conn.new))) }
     ensures open { HasCleanDisk (state S.Store conn.new) → OnOk result (IsTrue (state S.Store conn.new).is_open) }
@@ -128,7 +128,7 @@ impl<S: Alter + Drop> Store<S> {
         ensures open { IfOk result (λ s. HasCleanDisk (state S.Store s.conn) → IsTrue (state S.Store conn).is_open × IsTrue (state S.Store s.conn).is_open) }
         ensures opened { IfOk result (λ s. HasCleanDisk (state S.Store s.conn) → ((state S.Store s.conn).now ≡ (state S.Store conn).now) × ((state S.Store s.conn).committed ≡ (state S.Store conn).committed)) }
         ensures serves { IfOk result (λ s. HasCleanDisk (state S.Store s.conn) → Serves (state S.Store s.conn)) }
-        ensures ours { IfOk result (λ s. (state S.Store s.conn).now.schema ≡ register_schema) }
+        ensures ours { IfOk result (λ s. IsOurs (state S.Store s.conn).now.schema) }
         ensures stands { IfOk result (λ s. HasCleanDisk (state S.Store s.conn) → AreOrdered (state S.Store conn).now.trees → IsRegisterOf s.config (state S.Store s.conn).now) }
         ensures variants { IfOk result (λ s. HasCleanDisk (state S.Store s.conn) → HasTables (state S.Store s.conn).now → TellsOpened (tables_of (state S.Store s.conn))) }
         ensures again { IfOk result (λ s. HasCleanDisk (state S.Store s.conn) → FindsAgain (state S.Store conn) (state S.Store s.conn) s.config) }
@@ -144,7 +144,7 @@ impl<S: Alter + Drop> Store<S> {
         if !conn.is_autocommit() {
             return Err((StoreFault::Unavailable, conn));
         }
-        match recognized(alloc, &mut conn) {
+        match read_config(alloc, &mut conn) {
             Ok(config) => Ok(Store { conn, config }),
             Err(fault) => Err((fault, conn)),
         }

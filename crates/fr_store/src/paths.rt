@@ -10,7 +10,7 @@ ghost use Rattle.fr_store.specs.Crashes.{LeavesOnly, Serves};
 ghost use Rattle.fr_store.specs.Opening.{AllowsCreation, Explains, ExplainsFiles, ForbidsFiles};
 ghost use Rattle.fr_tables.specs.Changes.{tables_of};
 ghost use Rattle.fr_store.specs.Reading.{Stands, TellsOpened};
-ghost use Rattle.fr_tables.specs.Schema.{register_schema, old_schema};
+ghost use Rattle.fr_tables.specs.Schema.{IsOurs, IsOld};
 ghost use Rattle.fr_tables.specs.Tables.{AreOrdered, AreOrderedBefore};
 ghost use Rattle.fr_store.specs.Store.{IsNewOf, IsRegisterFor, IsRegisterOf, MayForbid};
 ghost use Rattle.fr_store.specs.StoreFiles.{HoldsRegister, FindsBook, FindsLeft, IsFound, IsHeld, SurvivesSince, database_of, image_left, outcomes_left};
@@ -20,7 +20,7 @@ use crate::fault::StoreFault;
 use crate::files::closed;
 use crate::store::Store;
 use fr_base::Config;
-use fr_tables::settle::settle;
+use fr_tables::reopen::reopen;
 use sqlite::{Connection, Error, ErrorCode, FileFrom, FileStore, Leftover, Start};
 use std::rt::HostRuntime;
 
@@ -31,8 +31,8 @@ pub(crate) fn connected_at<S: Start>(
     start: S,
 ) -> Result<Connection<FileStore<FileFrom<S>>>, (StoreFault, Option<Leftover<FileFrom<S>>>)>
     ensures opens { IfOk result (λ c. HasCleanDisk (file_state c) → Opens (file_state c) × IsLive (file_state c)) }
-    ensures ordered { IfOk result (λ c. HasCleanDisk (file_state c) → (file_state c).now.schema ≡ register_schema → AreOrdered (file_state c).now.trees) }
-    ensures ordered_before { IfOk result (λ c. HasCleanDisk (file_state c) → (file_state c).now.schema ≡ old_schema → AreOrderedBefore (file_state c).now.trees) }
+    ensures ordered { IfOk result (λ c. HasCleanDisk (file_state c) → IsOurs (file_state c).now.schema → AreOrdered (file_state c).now.trees) }
+    ensures ordered_before { IfOk result (λ c. HasCleanDisk (file_state c) → IsOld (file_state c).now.schema → AreOrderedBefore (file_state c).now.trees) }
     ensures found { IfOk result (λ c. HasCleanDisk (file_state c) → (db : _) → HoldsDatabase (image_at S.Start) db → (file_state c).now.trees ≡ db) }
     ensures reads { IfOk result (λ c. HasCleanDisk (file_state c) → IsFound (image_at S.Start) (file_state c).now) }
     ensures told { IfErr result (λ e. IfSome e.1 (λ left. IsCleanLeft left → (db : _) → HoldsDatabase (image_at S.Start) db → e.0 ≡ fault.Unavailable)) }
@@ -47,7 +47,7 @@ pub(crate) fn connected_at<S: Start>(
         }
         Err((_, left)) => return Err((StoreFault::Unavailable, left)),
     };
-    match settle(rt.alloc(), conn) {
+    match reopen(rt.alloc(), conn) {
         Ok(conn) => Ok(conn),
         Err((_, store)) => Err((StoreFault::Unavailable, Some(Leftover::Store(store)))),
     }

@@ -1,20 +1,20 @@
 //! Whether tables are of this schema, or of the one before.
 
-ghost use Rattle.std.specs.Prelude.{◌≡◌, ◌≢◌, IsTrue, IfOk, IfErr, OnOk, false, ◌≤◌};
+ghost use Rattle.std.specs.Prelude.{◌≡◌, ◌≢◌, IsTrue, IfOk, IfErr, IfSome, OnOk, ◌<◌, None, false, ◌≤◌};
 ghost use Rattle.sqlite.specs.State.{HasCleanDisk, Survives};
 ghost use Rattle.sqlite.specs.Held.{state};
 ghost use Rattle.sqlite_trees.specs.View.{doubt};
 ghost use Rattle.fr_tables.specs.Asking.{AreAsBefore, HasNumber};
 ghost use Rattle.fr_tables.specs.Making.{IsFresh};
-ghost use Rattle.fr_tables.specs.Schema.{register_schema, old_schema};
-ghost use Rattle.fr_tables.specs.Tables.{HasTables, HasOldTables, HasSomeTables};
+ghost use Rattle.fr_tables.specs.Schema.{IsOurs, IsOld, register_schema, old_schema, layout_made};
+ghost use Rattle.fr_tables.specs.Tables.{HasSomeTables};
 ghost use Rattle.fr_store.specs.Opening.{Refuses};
 ghost use Rattle.fr_store.specs.declared.fault.StoreFault.TheVariants as fault;
 
 use crate::fault::StoreFault;
 use fr_tables::asking::number;
 use fr_tables::making;
-use fr_tables::schema::same_schema;
+use fr_tables::schema::{add_stats, move_index, move_table, same_schema};
 use sqlite::{Alter, Connection, Error};
 use sqlite_schema::schema::Schema;
 use std::alloc::Global;
@@ -22,7 +22,7 @@ use std::alloc::Global;
 /// Makes the tables, in a database with none.
 fn make<S: Alter>(conn: &mut Connection<S>) -> Result<(), Error>
     requires { conn.old.in_transaction ≡ false }
-    ensures made { HasCleanDisk (state S.Store conn.new) → IsFresh 0 0 (state S.Store conn.old).now → OnOk result (HasTables (state S.Store conn.new).now) }
+    ensures made { HasCleanDisk (state S.Store conn.new) → IsFresh 0 0 (state S.Store conn.old).now → OnOk result ((state S.Store conn.new).now.schema ≡ register_schema layout_made) }
     ensures clean { doubt (state S.Store conn.old).is_clean ≤ doubt (state S.Store conn.new).is_clean }
 {
     let mut tx = conn.transaction();
@@ -33,7 +33,7 @@ fn make<S: Alter>(conn: &mut Connection<S>) -> Result<(), Error>
 /// Makes the tables of the schema before, in a database with none.
 fn make_before<S: Alter>(conn: &mut Connection<S>) -> Result<(), Error>
     requires { conn.old.in_transaction ≡ false }
-    ensures made { HasCleanDisk (state S.Store conn.new) → IsFresh 0 0 (state S.Store conn.old).now → OnOk result (HasOldTables (state S.Store conn.new).now) }
+    ensures made { HasCleanDisk (state S.Store conn.new) → IsFresh 0 0 (state S.Store conn.old).now → OnOk result ((state S.Store conn.new).now.schema ≡ old_schema layout_made.index None) }
     ensures clean { doubt (state S.Store conn.old).is_clean ≤ doubt (state S.Store conn.new).is_clean }
 {
     let mut tx = conn.transaction();
@@ -41,39 +41,138 @@ fn make_before<S: Alter>(conn: &mut Connection<S>) -> Result<(), Error>
     tx.commit()
 }
 
-/// The schema that this version makes.
-fn our_schema(alloc: Global) -> Result<Schema, Error>
-    ensures { IfOk result (λ schema. schema ≡ register_schema) }
+/// Where `cluster2` stands; and the index, and the table that ANALYZE makes, before `cluster2` or behind it, if they are
+/// there.
+#[derive(Clone, Copy)]
+struct Layout {
+    cluster2: u32,
+    index: Option<u32>,
+    before: Option<u32>,
+    behind: Option<u32>,
+}
+
+/// The schema that this version makes, but with these in these trees.
+fn our_schema(
+    alloc: Global,
+    cluster2: u32,
+    index: Option<u32>,
+    before: Option<u32>,
+    behind: Option<u32>,
+) -> Result<Schema, Error>
+    ensures { IfOk result (λ schema. schema ≡ register_schema (record { cluster2 = cluster2; index = index; before = before; behind = behind })) }
 {
     let mut conn = Connection::open_in_memory(alloc)?;
     make(&mut conn)?;
-    Ok(conn.schema().copy(alloc)?)
+    let mut schema = conn.schema().copy(alloc)?;
+    move_index(&mut schema, index)?;
+    move_table(alloc, &mut schema, cluster2, before, behind)?;
+    Ok(schema)
 }
 
-/// The schema that the version before made.
-fn schema_before(alloc: Global) -> Result<Schema, Error>
-    ensures { IfOk result (λ schema. schema ≡ old_schema) }
+/// The schema that the version before made, but with the index and the table that ANALYZE makes in these trees, if they
+/// are there.
+fn schema_before(alloc: Global, index: Option<u32>, stats: Option<u32>) -> Result<Schema, Error>
+    ensures { IfOk result (λ schema. schema ≡ old_schema index stats) }
 {
     let mut conn = Connection::open_in_memory(alloc)?;
     make_before(&mut conn)?;
-    Ok(conn.schema().copy(alloc)?)
+    let mut schema = conn.schema().copy(alloc)?;
+    move_index(&mut schema, index)?;
+    add_stats(alloc, &mut schema, stats)?;
+    Ok(schema)
 }
 
-/// Whether the schema is that of this version. Want of memory is told as false.
-pub(crate) fn is_ours(alloc: Global, schema: &Schema) -> bool
-    ensures { IsTrue result → schema.now ≡ register_schema }
+const TABLES: usize = 11;
+
+const KEYS: usize = 10;
+
+/// The tree of the table at this place, if there is one.
+fn table_at(schema: &Schema, place: usize) -> Option<u32> {
+    match schema.tables.as_slice().get(place) {
+        Some(table) => Some(table.tree),
+        None => None,
+    }
+}
+
+/// The tree of the index after those of the keys, if there is one.
+fn index_of(schema: &Schema) -> Option<u32> {
+    match schema.indexes.as_slice().get(KEYS) {
+        Some(index) => Some(index.tree),
+        None => None,
+    }
+}
+
+/// Whether the first table behind the eleven is the one that ANALYZE makes, by its name.
+fn has_stats_first(schema: &Schema) -> bool {
+    match schema.tables.as_slice().get(TABLES) {
+        Some(table) => table.name.as_slice() == b"sqlite_stat1".as_slice(),
+        None => false,
+    }
+}
+
+/// Where these stand, if this is the schema of this version.
+fn layout_of(schema: &Schema) -> Option<Layout> {
+    let index = index_of(schema);
+    let first = table_at(schema, TABLES);
+    let second = table_at(schema, TABLES + 1);
+    if has_stats_first(schema) {
+        let behind = table_at(schema, TABLES + 2);
+        let cluster2 = second?;
+        return Some(Layout {
+            cluster2,
+            index,
+            before: first,
+            behind,
+        });
+    }
+    let cluster2 = first?;
+    Some(Layout {
+        cluster2,
+        index,
+        before: None,
+        behind: second,
+    })
+}
+
+/// Whether the tree, if there is one, stands behind those of the eleven tables and before the other.
+fn is_between(place: Option<u32>, other: u32) -> bool
+    ensures { IsTrue result → IfSome place (λ tree. (20 < tree) × (tree < other)) }
 {
-    match our_schema(alloc) {
+    match place {
+        Some(tree) => tree > 20 && tree < other,
+        None => true,
+    }
+}
+
+/// Whether the schema is that of this version, wherever `cluster2`, the index and the table that ANALYZE makes stand
+/// behind the other tables. Want of memory is told as false.
+pub(crate) fn is_ours(alloc: Global, schema: &Schema) -> bool
+    ensures { IsTrue result → IsOurs schema.now }
+{
+    let Some(layout) = layout_of(schema) else {
+        return false;
+    };
+    let tree = layout.cluster2;
+    if tree <= 20 || tree >= 25 || !is_between(layout.before, tree) {
+        return false;
+    }
+    match our_schema(alloc, tree, layout.index, layout.before, layout.behind) {
         Ok(ours) => same_schema(schema, &ours),
         Err(_) => false,
     }
 }
 
-/// Whether the schema is that of the version before. Want of memory is told as false.
+/// Whether the schema is that of the version before, wherever the index and the table that ANALYZE makes stand, if they
+/// are there. Want of memory is told as false.
 pub(crate) fn is_before(alloc: Global, schema: &Schema) -> bool
-    ensures { IsTrue result → schema.now ≡ old_schema }
+    ensures { IsTrue result → IsOld schema.now }
 {
-    match schema_before(alloc) {
+    let index = index_of(schema);
+    let stats = table_at(schema, TABLES);
+    if !is_between(index, 24) || !is_between(stats, 24) {
+        return false;
+    }
+    match schema_before(alloc, index, stats) {
         Ok(before) => same_schema(schema, &before),
         Err(_) => false,
     }

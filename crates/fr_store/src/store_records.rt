@@ -3,6 +3,7 @@ ghost use Rattle.std.specs.Prelude.{◌≡◌, Ok, Err, IfErr, IsTrue, MatchResu
 ghost use Rattle.sqlite.specs.Held.{state};
 ghost use Rattle.sqlite.specs.State.{HasCleanDisk};
 ghost use Rattle.fr_base.specs.declared.refusal.Refusal.TheVariants.{Unavailable};
+ghost use Rattle.fr_records.specs.Held.{Reads};
 ghost use Rattle.fr_store.specs.Crashes.{Serves, StoredLeaves};
 ghost use Rattle.fr_store.specs.Stored.{StandsStored};
 ghost use Rattle.fr_store.specs.Settled.{stored_settled};
@@ -33,8 +34,8 @@ impl<S: Alter> Records for Store<S> {
     }
 
     fn has_variant(&mut self, variant: Name) -> Result<bool, Refusal> {
-        see_open(self)?;
-        answer(self.has_variant(&variant))
+        require_open(self)?;
+        or_unavailable(self.has_variant(&variant))
     }
 
     fn page(
@@ -43,24 +44,24 @@ impl<S: Alter> Records for Store<S> {
         supplier: Name,
         variant: Name,
     ) -> Result<Option<Page>, Refusal> {
-        see_open(self)?;
-        answer(self.page(alloc, &supplier, &variant))
+        require_open(self)?;
+        or_unavailable(self.page(alloc, &supplier, &variant))
     }
 
     fn is_held(&mut self, variant: Name, slot: Slot, channel: Channel) -> Result<bool, Refusal> {
-        see_open(self)?;
-        let holder = answer(self.holder(&variant, slot, channel))?;
+        require_open(self)?;
+        let holder = or_unavailable(self.holder(&variant, slot, channel))?;
         Ok(holder.is_some())
     }
 
     fn variants(&mut self, alloc: Global) -> Result<Vec<VariantRow>, Refusal> {
-        see_open(self)?;
-        answer(self.variants(alloc))
+        require_open(self)?;
+        or_unavailable(self.variants(alloc))
     }
 
     fn nodes(&mut self, alloc: Global, supplier: Name) -> Result<Vec<Name>, Refusal> {
-        see_open(self)?;
-        answer(self.nodes(alloc, &supplier))
+        require_open(self)?;
+        or_unavailable(self.nodes(alloc, &supplier))
     }
 
     fn import(
@@ -69,28 +70,27 @@ impl<S: Alter> Records for Store<S> {
         supplier: Name,
         label: Name,
     ) -> Result<Option<KeptImport>, Refusal> {
-        see_open(self)?;
-        answer(self.import(alloc, &supplier, &label))
+        require_open(self)?;
+        or_unavailable(self.import(alloc, &supplier, &label))
     }
 
     fn imports(&mut self, _alloc: Global, supplier: Name) -> Result<usize, Refusal> {
-        see_open(self)?;
-        answer(self.imports(&supplier))
+        require_open(self)?;
+        or_unavailable(self.imports(&supplier))
     }
 
     fn apply(&mut self, alloc: Global, edits: &[Edit]) -> Result<(), Refusal> {
-        see_open(self)?;
-        answer(self.apply(alloc, edits))
+        require_open(self)?;
+        or_unavailable(self.apply(alloc, edits))
     }
 }
 
-// That the register can be asked. Of one that a fault has shut nothing is told and nothing is changed.
-fn see_open<S: Alter>(store: &mut Store<S>) -> Result<(), Refusal>
-    ensures falls { HasCleanDisk (state S.Store store.new.conn) → HasCleanDisk (state S.Store store.old.conn) }
+// Makes sure that the register can be asked. Of one that a fault has shut nothing is told and nothing is changed.
+fn require_open<S: Alter>(store: &mut Store<S>) -> Result<(), Refusal>
+    ensures reads { Reads (λ s. HasCleanDisk (state S.Store s.conn)) (λ s. s.config.cluster.params) (λ s. StoredLeaves (state S.Store s.conn)) store.old store.new }
     ensures config { store.new.config ≡ store.old.config }
     ensures open { HasCleanDisk (state S.Store store.new.conn) → OnOk result (IsTrue (state S.Store store.new.conn).is_open) }
     ensures stands { HasCleanDisk (state S.Store store.new.conn) → (c : _) (b : _) → StandsStored store.old.config (state S.Store store.old.conn) c b → StandsStored store.new.config (state S.Store store.new.conn) c b }
-    ensures leaves { HasCleanDisk (state S.Store store.new.conn) → (c : _) (books : _) → StoredLeaves (state S.Store store.old.conn) c books → StoredLeaves (state S.Store store.new.conn) c books }
     ensures refused { IfErr result (λ e. e ≡ Unavailable) }
 {
     if store.is_ready() {
@@ -100,8 +100,8 @@ fn see_open<S: Alter>(store: &mut Store<S>) -> Result<(), Refusal>
     }
 }
 
-// What the store answers. Its faults are the register's `Unavailable`.
-fn answer<T>(told: Result<T, StoreFault>) -> Result<T, Refusal>
+// What the store tells. Its faults are the register's `Unavailable`.
+fn or_unavailable<T>(told: Result<T, StoreFault>) -> Result<T, Refusal>
     ensures { MatchResult told (λ x. result ≡ Ok x) (λ _. result ≡ Err Unavailable) }
 {
     told.map_err(|_| Refusal::Unavailable)

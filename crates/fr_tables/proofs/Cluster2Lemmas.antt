@@ -1,13 +1,15 @@
 -- What the statements on the row of `cluster2` do.
-use Rattle.std.proofs.Common.{ℕ, List, [], ◌∷◌, codes, lit≤, Ok, Err, Result, MatchResult, refl}
+use Rattle.std.proofs.Common.{◌<◌, None, Some, ◌≡◌, ◌⊎◌, ◌==◌, false, inl, inr, ℕ, Option, arith, sym, subst, List, [], ◌∷◌, codes, lit≤, Ok, Err, Result, MatchResult, refl}
+use Rattle.std.proofs.lemmas.Bool.{cases_Bool}
+use Rattle.std.proofs.lemmas.Bool.Decides.{nat_tests}
 use Rattle.sqlite.specs.declared.types.Value.TheVariants.{Null, Int, Text}
 use Rattle.sqlite.specs.declared.error.Error.{Error}
 use Rattle.sqlite.specs.Order.{Row}
-use Rattle.sqlite.specs.Term.{lit, col}
+use Rattle.sqlite.specs.Term.{Term, lit, col}
 use Rattle.sqlite.specs.Listing.{understood}
 use Rattle.sqlite.specs.State.{State, ExecutesInside}
 use Rattle.sqlite_tied.specs.Compute.{everything}
-use Rattle.fr_tables.specs.Schema.{register_schema, cluster2}
+use Rattle.fr_tables.specs.Schema.{Layout, IsNear, IsBehind, layout_of, register_schema, cluster2}
 use Rattle.fr_tables.specs.Rows.{Cluster2Row, of_cluster2, cluster2_in}
 use Rattle.fr_tables.specs.Tables.{HasTables}
 use Rattle.fr_tables.specs.Changes.{Changes, Stays}
@@ -15,8 +17,10 @@ use Rattle.fr_tables.specs.Statements.{with_cluster2, shows_cluster2, every, any
 use Rattle.fr_tables.proofs.Compared.{cast_null, cast_integer}
 use Rattle.fr_tables.proofs.InsertLemmas.{Adds, adds, added}
 use Rattle.fr_tables.proofs.ChangeLemmas.{cluster2_made}
+use Rattle.fr_tables.proofs.BehindLemmas.{works_same}
 use Rattle.fr_tables.proofs.RunLemmas.{stays_inside}
 use Rattle.fr_tables.proofs.FindLemmas.{Queries}
+use Rattle.fr_tables.proofs.ReadLemmas.{Reads}
 
 abbrev insert_text : List ℕ
 insert_text = codes "INSERT INTO cluster2 (static_slots, slot_macroticks, dynamic_macroticks, symbol_macroticks, idle_macroticks, macroticks_per_cycle, payload_words, channels, integrator, cycles) VALUES (?1, ?2, ?3, ?4, ?5, ?6, ?7, ?8, ?9, ?10)"
@@ -25,9 +29,10 @@ insert_text = codes "INSERT INTO cluster2 (static_slots, slot_macroticks, dynami
 abbrev pub given : Cluster2Row → Row
 given c = Int c.static_slots ∷ Int c.slot_macroticks ∷ Int c.dynamic_macroticks ∷ Int c.symbol_macroticks ∷ Int c.idle_macroticks ∷ Int c.macroticks_per_cycle ∷ Int c.payload_words ∷ Text c.channels ∷ Text c.integrator ∷ Int c.cycles ∷ []
 
-insert_is : (c : Cluster2Row) → Adds register_schema cluster2.name cluster2.tree cluster2.columns cluster2.key cluster2.primary cluster2.uniques cluster2.checks cluster2.references insert_text (given c) (of_cluster2 c)
+insert_by : (c : Cluster2Row) (tree : ℕ) (index before behind : Option ℕ) → let l : Layout = record { cluster2 = tree; index = index; before = before; behind = behind } in
+    Adds (register_schema l) cluster2.name tree cluster2.columns cluster2.key cluster2.primary cluster2.uniques cluster2.checks cluster2.references insert_text (given c) (of_cluster2 c)
 unfolding understood everything
-insert_is c = record {
+insert_by c tree index None behind = record {
   at = 11;
   terms = lit Null ∷ lit Null ∷ col 0 0 ∷ col 0 1 ∷ col 0 2 ∷ col 0 3 ∷ col 0 4 ∷ col 0 5 ∷ col 0 6 ∷ col 0 7 ∷ col 0 8 ∷ col 0 9 ∷ [];
   width = 12;
@@ -40,26 +45,150 @@ insert_is c = record {
   typed = refl;
   gives = refl;
   stores = rw (cast_null, cast_integer c.static_slots, cast_integer c.slot_macroticks, cast_integer c.dynamic_macroticks, cast_integer c.symbol_macroticks, cast_integer c.idle_macroticks, cast_integer c.macroticks_per_cycle, cast_integer c.payload_words, cast_integer c.cycles);
-  idle = λ new. refl;
+  idle = λ new. works_same (record { cluster2 = tree; index = index; before = None; behind = behind }) 0 tree [] (new ∷ []);
 }
+insert_by c tree index (Some at) behind = record {
+  at = 12;
+  terms = lit Null ∷ lit Null ∷ col 0 0 ∷ col 0 1 ∷ col 0 2 ∷ col 0 3 ∷ col 0 4 ∷ col 0 5 ∷ col 0 6 ∷ col 0 7 ∷ col 0 8 ∷ col 0 9 ∷ [];
+  width = 12;
+  source = Null ∷ of_cluster2 c;
+  is = refl;
+  plain = (refl, refl);
+  place = refl;
+  whole = lit≤ tt;
+  arity = refl;
+  typed = refl;
+  gives = refl;
+  stores = rw (cast_null, cast_integer c.static_slots, cast_integer c.slot_macroticks, cast_integer c.dynamic_macroticks, cast_integer c.symbol_macroticks, cast_integer c.idle_macroticks, cast_integer c.macroticks_per_cycle, cast_integer c.payload_words, cast_integer c.cycles);
+  idle = λ new. works_same (record { cluster2 = tree; index = index; before = Some at; behind = behind }) 0 tree [] (new ∷ []);
+}
+
+insert_is : (c : Cluster2Row) (l : Layout) → Adds (register_schema l) cluster2.name l.cluster2 cluster2.columns cluster2.key cluster2.primary cluster2.uniques cluster2.checks cluster2.references insert_text (given c) (of_cluster2 c)
+insert_is c l = insert_by c l.cluster2 l.index l.before l.behind
 
 pub inserts : (c : Cluster2Row) (old new : State) (r : Result ℕ Error) → HasTables old.now → ExecutesInside 0 insert_text (given c) old new r
     → MatchResult r (λ _. Changes (with_cluster2 c) old new) (λ _. Stays old new)
 inserts c old new (Err e) was h = stays_inside insert_text _ old new e h
 inserts c old new (Ok count) was h =
-    let did = adds register_schema cluster2.name cluster2.tree cluster2.columns cluster2.key cluster2.primary cluster2.uniques cluster2.checks cluster2.references insert_text (given c) (of_cluster2 c) (insert_is c) old new count was.schema h.0 in
-    cluster2_made old new was _ did.wrote (added register_schema cluster2.name cluster2.tree cluster2.columns cluster2.key cluster2.primary cluster2.uniques cluster2.checks cluster2.references of_cluster2 cluster2_in c (λ id. refl) old new did was.cluster2)
+    let l = layout_of old.now.trees in
+    let did = adds (register_schema l) cluster2.name l.cluster2 cluster2.columns cluster2.key cluster2.primary cluster2.uniques cluster2.checks cluster2.references insert_text (given c) (of_cluster2 c) (insert_is c l) old new count was.schema h.0 in
+    cluster2_made old new was _ did.wrote (added (register_schema l) cluster2.name l.cluster2 cluster2.columns cluster2.key cluster2.primary cluster2.uniques cluster2.checks cluster2.references of_cluster2 cluster2_in c (λ id. refl) old new did was.cluster2)
 
 abbrev pub select_text : List ℕ
 select_text = codes "SELECT static_slots, slot_macroticks, dynamic_macroticks, symbol_macroticks, idle_macroticks, macroticks_per_cycle, payload_words, channels, integrator, cycles FROM cluster2"
 
-pub its_row : Queries register_schema of_cluster2 shows_cluster2 (every) any_order 22 select_text ([])
+abbrev its_columns : List Term
+its_columns = col 1 2 ∷ col 1 3 ∷ col 1 4 ∷ col 1 5 ∷ col 1 6 ∷ col 1 7 ∷ col 1 8 ∷ col 1 9 ∷ col 1 10 ∷ col 1 11 ∷ []
+
+abbrev its_names : List (List ℕ)
+its_names = codes "static_slots" ∷ codes "slot_macroticks" ∷ codes "dynamic_macroticks" ∷ codes "symbol_macroticks" ∷ codes "idle_macroticks" ∷ codes "macroticks_per_cycle" ∷ codes "payload_words" ∷ codes "channels" ∷ codes "integrator" ∷ codes "cycles" ∷ []
+
+-- what the text means, where the table stands in this tree
+abbrev ReadsAt : ℕ → Option ℕ → Option ℕ → Option ℕ → Type 0
+ReadsAt tree index before behind = Reads (register_schema (record { cluster2 = tree; index = index; before = before; behind = behind })) select_text tree [] [] its_columns
+
+-- with no table of ANALYZE before it
+first : (index behind : Option ℕ) → ReadsAt 21 index None behind
 unfolding understood everything
-its_row = record {
+first index behind = record { names = its_names; is = refl; unlisted = refl; plain = (refl, refl); stored = λ db. refl }
+
+second : (index behind : Option ℕ) → ReadsAt 22 index None behind
+unfolding understood everything
+second index behind = record { names = its_names; is = refl; unlisted = refl; plain = (refl, refl); stored = λ db. refl }
+
+third : (index behind : Option ℕ) → ReadsAt 23 index None behind
+unfolding understood everything
+third index behind = record { names = its_names; is = refl; unlisted = refl; plain = (refl, refl); stored = λ db. refl }
+
+fourth : (index behind : Option ℕ) → ReadsAt 24 index None behind
+unfolding understood everything
+fourth index behind = record { names = its_names; is = refl; unlisted = refl; plain = (refl, refl); stored = λ db. refl }
+
+-- with one in a tree before it
+second_behind_first : (index behind : Option ℕ) → ReadsAt 22 index (Some 21) behind
+unfolding understood everything
+second_behind_first index behind = record { names = its_names; is = refl; unlisted = refl; plain = (refl, refl); stored = λ db. refl }
+
+third_behind_first : (index behind : Option ℕ) → ReadsAt 23 index (Some 21) behind
+unfolding understood everything
+third_behind_first index behind = record { names = its_names; is = refl; unlisted = refl; plain = (refl, refl); stored = λ db. refl }
+
+third_behind_second : (index behind : Option ℕ) → ReadsAt 23 index (Some 22) behind
+unfolding understood everything
+third_behind_second index behind = record { names = its_names; is = refl; unlisted = refl; plain = (refl, refl); stored = λ db. refl }
+
+fourth_behind_first : (index behind : Option ℕ) → ReadsAt 24 index (Some 21) behind
+unfolding understood everything
+fourth_behind_first index behind = record { names = its_names; is = refl; unlisted = refl; plain = (refl, refl); stored = λ db. refl }
+
+fourth_behind_second : (index behind : Option ℕ) → ReadsAt 24 index (Some 22) behind
+unfolding understood everything
+fourth_behind_second index behind = record { names = its_names; is = refl; unlisted = refl; plain = (refl, refl); stored = λ db. refl }
+
+fourth_behind_third : (index behind : Option ℕ) → ReadsAt 24 index (Some 23) behind
+unfolding understood everything
+fourth_behind_third index behind = record { names = its_names; is = refl; unlisted = refl; plain = (refl, refl); stored = λ db. refl }
+
+fourth_left : (tree : ℕ) → IsNear tree → (tree == 21) ≡ false → (tree == 22) ≡ false → (tree == 23) ≡ false → tree ≡ 24
+fourth_left tree (low, high) a b c = grind (arith, nat_tests)
+
+one_of_four : (tree : ℕ) → IsNear tree → (tree ≡ 21) ⊎ ((tree ≡ 22) ⊎ ((tree ≡ 23) ⊎ (tree ≡ 24)))
+one_of_four tree behind = elim (cases_Bool (tree == 21)) [
+  | inl is ↦ inl (grind (arith, nat_tests))
+  | inr past ↦ elim (cases_Bool (tree == 22)) [
+    | inl is ↦ inr (inl (grind (arith, nat_tests)))
+    | inr further ↦ elim (cases_Bool (tree == 23)) [ inl is ↦ inr (inr (inl (grind (arith, nat_tests)))) | inr last ↦ inr (inr (inr (fourth_left tree behind past further last))) ]
+  ]
+]
+
+first_behind : (index behind : Option ℕ) (at : ℕ) → 20 < at → at < 21 → ReadsAt 21 index (Some at) behind
+first_behind index behind at low high = absurd (omega (arith, low, high))
+
+second_behind : (index behind : Option ℕ) (at : ℕ) → 20 < at → at < 22 → ReadsAt 22 index (Some at) behind
+second_behind index behind at low high = elim (one_of_four at (low, omega (arith, high))) [
+  | inl is ↦ subst (λ a. ReadsAt 22 index (Some a) behind) (sym is) (second_behind_first index behind)
+  | inr (inl is) ↦ absurd (omega (arith, is, high))
+  | inr (inr (inl is)) ↦ absurd (omega (arith, is, high))
+  | inr (inr (inr is)) ↦ absurd (omega (arith, is, high))
+]
+
+third_behind : (index behind : Option ℕ) (at : ℕ) → 20 < at → at < 23 → ReadsAt 23 index (Some at) behind
+third_behind index behind at low high = elim (one_of_four at (low, omega (arith, high))) [
+  | inl is ↦ subst (λ a. ReadsAt 23 index (Some a) behind) (sym is) (third_behind_first index behind)
+  | inr (inl is) ↦ subst (λ a. ReadsAt 23 index (Some a) behind) (sym is) (third_behind_second index behind)
+  | inr (inr (inl is)) ↦ absurd (omega (arith, is, high))
+  | inr (inr (inr is)) ↦ absurd (omega (arith, is, high))
+]
+
+fourth_behind : (index behind : Option ℕ) (at : ℕ) → 20 < at → at < 24 → ReadsAt 24 index (Some at) behind
+fourth_behind index behind at low high = elim (one_of_four at (low, omega (arith, high))) [
+  | inl is ↦ subst (λ a. ReadsAt 24 index (Some a) behind) (sym is) (fourth_behind_first index behind)
+  | inr (inl is) ↦ subst (λ a. ReadsAt 24 index (Some a) behind) (sym is) (fourth_behind_second index behind)
+  | inr (inr (inl is)) ↦ subst (λ a. ReadsAt 24 index (Some a) behind) (sym is) (fourth_behind_third index behind)
+  | inr (inr (inr is)) ↦ absurd (omega (arith, is, high))
+]
+
+reads_by : (tree : ℕ) (index before behind : Option ℕ) → IsBehind (record { cluster2 = tree; index = index; before = before; behind = behind }) → ReadsAt tree index before behind
+reads_by tree index None behind near = elim (one_of_four tree near.0) [
+  | inl is ↦ subst (λ t. ReadsAt t index None behind) (sym is) (first index behind)
+  | inr (inl is) ↦ subst (λ t. ReadsAt t index None behind) (sym is) (second index behind)
+  | inr (inr (inl is)) ↦ subst (λ t. ReadsAt t index None behind) (sym is) (third index behind)
+  | inr (inr (inr is)) ↦ subst (λ t. ReadsAt t index None behind) (sym is) (fourth index behind)
+]
+reads_by tree index (Some at) behind near = elim (one_of_four tree near.0) [
+  | inl is ↦ subst (λ t. ReadsAt t index (Some at) behind) (sym is) (first_behind index behind at near.1.0 (subst (λ t. at < t) is near.1.1))
+  | inr (inl is) ↦ subst (λ t. ReadsAt t index (Some at) behind) (sym is) (second_behind index behind at near.1.0 (subst (λ t. at < t) is near.1.1))
+  | inr (inr (inl is)) ↦ subst (λ t. ReadsAt t index (Some at) behind) (sym is) (third_behind index behind at near.1.0 (subst (λ t. at < t) is near.1.1))
+  | inr (inr (inr is)) ↦ subst (λ t. ReadsAt t index (Some at) behind) (sym is) (fourth_behind index behind at near.1.0 (subst (λ t. at < t) is near.1.1))
+]
+
+pub its_row : (l : Layout) → IsBehind l → Queries (register_schema l) of_cluster2 shows_cluster2 (every) any_order l.cluster2 select_text ([])
+unfolding understood everything
+its_row l behind = record {
   tests = [];
   order = [];
-  project = col 1 2 ∷ col 1 3 ∷ col 1 4 ∷ col 1 5 ∷ col 1 6 ∷ col 1 7 ∷ col 1 8 ∷ col 1 9 ∷ col 1 10 ∷ col 1 11 ∷ [];
-  is = record { names = codes "static_slots" ∷ codes "slot_macroticks" ∷ codes "dynamic_macroticks" ∷ codes "symbol_macroticks" ∷ codes "idle_macroticks" ∷ codes "macroticks_per_cycle" ∷ codes "payload_words" ∷ codes "channels" ∷ codes "integrator" ∷ codes "cycles" ∷ []; is = refl; unlisted = refl; plain = (refl, refl); stored = λ db. refl };
+  project = its_columns;
+  is = reads_by l.cluster2 l.index l.before l.behind behind;
   tested = λ p. refl;
   compared = λ a b. refl;
   projected = λ p. refl;

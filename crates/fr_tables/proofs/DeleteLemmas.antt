@@ -40,6 +40,7 @@ use Rattle.sqlite_rules.specs.Action.{Writes, works}
 use Rattle.std.proofs.lemmas.List.{map-id}
 use Rattle.fr_tables.specs.Tables.{AreKept}
 use Rattle.fr_tables.proofs.Steps.{went, same_value}
+use Rattle.fr_tables.proofs.Written.{IsStill}
 use Rattle.fr_tables.proofs.RunLemmas.{deletes}
 use Rattle.fr_tables.proofs.ReadLemmas.{scan, scanned}
 
@@ -144,7 +145,7 @@ pub record Deletes (schema : Schema) (table : Table) (text : List ℕ) (tests : 
 
 -- the rows with these rowids, which pass the tests, are taken out, and then the actions are carried out
 pub record HasDeleted (schema : Schema) (table : Table) (tests : List Term) (params : Row) (old new : State) : Type 0 where
-  pub schema_is : new.now.schema ≡ schema
+  pub still : IsStill schema new.now
   pub found : List Row
   pub same : IsPermutation (filter (λ r. list_all (holds (params ∷ r ∷ [])) tests) (old.now.trees table.tree)) found
   pub writes : Writes schema Enforced old.now.trees (edit_of old.now.trees table (map (λ r. id_in (rowid r)) found) Given 0 []) (Ok new.now.trees)
@@ -165,7 +166,7 @@ deleted schema table text tests d params old new count has h =
     let trees : ran.written.trees ≡ edited.0 = ap (λ (w : Written). w.trees) (same_value edited.2) in
     let now : new.now.trees ≡ edited.0 = ap (λ (d : Database). d.trees) ran.now ∙ trees in
     record {
-      schema_is = ap (λ (d : Database). d.schema) ran.now;
+      still = ran.still;
       found = scans.found;
       same = scans.same;
       writes = subst₂ (λ gone t. Writes schema Enforced db (edit_of db table gone Given 0 []) (Ok t)) ids (sym now) edited.1;

@@ -15,6 +15,7 @@ pub and_then : (f g h : Tables → Tables) → ((t : Tables) → g (f t) ≡ h t
 and_then f g h same old mid new inside a b = record {
   has = b.has;
   now = b.now ∙ ap g a.now ∙ same (tables_of old);
+  schema = b.schema ∙ a.schema;
   shown = record {
     was_open = a.shown.was_open;
     is_open = b.shown.is_open;
@@ -38,6 +39,7 @@ pub none_yet : (old : State) → IsTrue old.is_open → IsTrue old.in_transactio
 none_yet old up inside was = record {
   has = was;
   now = ap (λ rows. record (tables_of old) { suppliers = rows }) (sym (append-nil (tables_of old).suppliers));
+  schema = refl;
   shown = record { was_open = up; is_open = up; now_is = refl; committed_is = rw inside refl; mode = refl };
 }
 

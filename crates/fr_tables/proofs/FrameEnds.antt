@@ -1,5 +1,6 @@
 -- What the deletion of a frame does.
-use Rattle.std.proofs.Common.{◌≡◌, inl, inr, ℕ, ℤ, List, [], ◌∷◌, codes, map, filter, not, Bool, true, false, ◌&&◌, ◌||◌, bytes_eq, Ok, Err, Result, MatchResult, refl, sym, ap, subst, subst₂, ◌∙◌}
+use Rattle.std.proofs.Common.{◌≡◌, ◌<◌, ◌≤◌, ◌==◌, lit≤, MatchBool, inl, inr, ℕ, ℤ, List, [], ◌∷◌, codes, map, filter, not, Bool, true, false, ◌&&◌, ◌||◌, bytes_eq, Ok, Err, Result, MatchResult, refl, sym, ap, subst, subst₂, ◌∙◌}
+use Rattle.std.specs.Bool.{⊤}
 use Rattle.std.specs.List.{AllByRecursion, list_all, list_any}
 use Rattle.std.specs.List.Sorted.{IsPermutation}
 use Rattle.std.proofs.lemmas.Bool.{cases_Bool, and_parts, false_from_ne_true}
@@ -28,14 +29,15 @@ use Rattle.sqlite_schema.specs.declared.schema.Among.TheVariants.{All}
 use Rattle.sqlite_schema.specs.Rules.{agree, has_parent, is_among}
 use Rattle.sqlite_tied.specs.Compute.{everything}
 use Rattle.sqlite_tied.proofs.RuleLemmas.{and_true}
-use Rattle.fr_tables.specs.Schema.{register_schema, all_tables, frames, placements, signals}
+use Rattle.fr_tables.specs.Schema.{Layout, layout_of, register_schema, tables_at, frames, placements, signals}
 use Rattle.fr_tables.specs.Rows.{FrameRow, of_register, register_in, of_cluster, cluster_in, of_supplier, supplier_in, of_node, node_in, of_variant, variant_in, of_grant, grant_in, of_frame, frame_in, of_placement, placement_in, of_signal, signal_in, of_import, import_in, of_dropped, of_cluster2, dropped_in, cluster2_in}
 use Rattle.fr_tables.specs.Tables.{HasTables, AreKept}
 use Rattle.fr_tables.specs.Changes.{Changes, Stays, tables_of}
 use Rattle.fr_tables.specs.Statements.{is_frame, without_frame}
 use Rattle.fr_tables.proofs.Compared.{equal_texts}
 use Rattle.fr_tables.proofs.Written.{AreMade}
-use Rattle.fr_tables.proofs.ChangeLemmas.{same, others, whole}
+use Rattle.fr_tables.proofs.BehindLemmas.{last_of}
+use Rattle.fr_tables.proofs.ChangeLemmas.{apart, same, others, whole}
 use Rattle.fr_tables.proofs.RunLemmas.{stays_inside}
 use Rattle.fr_tables.proofs.DeleteLemmas.{Deletes, deleted, erased, erased_rows, filtered_rows, left_of, mapped_from, has_permuted, has_own_id, same_id}
 use Rattle.fr_tables.proofs.CascadeLemmas.{frame_key, work, cascades}
@@ -75,7 +77,7 @@ record Children {X : Type 0} (columns : X → Row) (child : Table) (variant_of s
       → agree plain frame_key (id ∷ of_frame f) frame_key (other ∷ columns x) ≡ (bytes_eq f.variant (variant_of x) && (bytes_eq f.supplier (supplier_of x) && bytes_eq f.name (frame_of x)))
   pub agrees_back : (id other : Value) (f : FrameRow) (x : X)
       → agree plain frame_key (other ∷ columns x) frame_key (id ∷ of_frame f) ≡ (bytes_eq (variant_of x) f.variant && (bytes_eq (supplier_of x) f.supplier && bytes_eq (frame_of x) f.name))
-  pub parent_of : (db : Trees) (id : Value) (x : X) → list_all (λ ref. not (is_among All ref) || has_parent register_schema.tables db (id ∷ columns x) ref) child.references ≡ true
+  pub parent_of : (l : Layout) (db : Trees) (id : Value) (x : X) → list_all (λ ref. not (is_among All ref) || has_parent (register_schema l).tables db (id ∷ columns x) ref) child.references ≡ true
       → list_any (λ parent. agree plain frame_key parent frame_key (id ∷ columns x)) (db 11) ≡ true
 
 placements_refer : Children of_placement placements (λ p. p.variant) (λ p. p.supplier) (λ p. p.frame)
@@ -83,7 +85,7 @@ unfolding everything
 placements_refer = record {
   agrees = λ id other f p. rw (equal_texts f.variant p.variant, equal_texts f.supplier p.supplier, equal_texts f.name p.frame, and_true);
   agrees_back = λ id other f p. rw (equal_texts p.variant f.variant, equal_texts p.supplier f.supplier, equal_texts p.frame f.name, and_true);
-  parent_of = λ db id p h. rw and_true at h;
+  parent_of = λ l db id p h. rw and_true at h;
 }
 
 signals_refer : Children of_signal signals (λ s. s.variant) (λ s. s.supplier) (λ s. s.frame)
@@ -91,7 +93,7 @@ unfolding everything
 signals_refer = record {
   agrees = λ id other f s. rw (equal_texts f.variant s.variant, equal_texts f.supplier s.supplier, equal_texts f.name s.frame, and_true);
   agrees_back = λ id other f s. rw (equal_texts s.variant f.variant, equal_texts s.supplier f.supplier, equal_texts s.frame f.name, and_true);
-  parent_of = λ db id s h. rw and_true at h;
+  parent_of = λ l db id s h. rw and_true at h;
 }
 
 -- ---- the statement
@@ -102,9 +104,9 @@ delete_text = codes "DELETE FROM frames WHERE variant = ?1 AND supplier = ?2 AND
 abbrev tests : List Term
 tests = op2 (Compare Eq Binary) (col 1 1) (col 0 0) ∷ op2 (Compare Eq Binary) (col 1 2) (col 0 1) ∷ op2 (Compare Eq Binary) (col 1 3) (col 0 2) ∷ []
 
-delete_is : Deletes register_schema frames delete_text tests
+delete_is : (l : Layout) → Deletes (register_schema l) frames delete_text tests
 unfolding understood everything
-delete_is = record { at = 6; is = refl; plain = (refl, refl); place = refl; stored = λ db. refl }
+delete_is l = record { at = 6; is = refl; plain = (refl, refl); place = refl; stored = λ db. refl }
 
 module _ (variant supplier name : List ℕ) where
   abbrev params : Row
@@ -159,13 +161,13 @@ module _ (variant supplier name : List ℕ) where
         cc
 
     -- the rows of this frame are gone, and the others are as they were
-    children_left : (db next : Trees) (found olds before after : List Row) (ids : List ℤ) → AreKept of_frame frame_in (db 11) → IsPermutation (filter test (db 11)) found
+    children_left : (l : Layout) (db next : Trees) (found olds before after : List Row) (ids : List ℤ) → AreKept of_frame frame_in (db 11) → IsPermutation (filter test (db 11)) found
         → olds ≡ map (λ id. row_at (db 11) id) (map (λ r. id_in (rowid r)) found) → next 11 ≡ filter (λ r. not (test r)) (db 11)
         → AreKept columns read before → after ≡ filter (λ r. not (list_any (λ id. has_rowid id r) ids)) before
         → ((id : ℤ) → Has ids id → (r : Row) × Has before r × (list_any (is_child_of (work child olds) r) (pairs olds []) ≡ true) × (rowid r ≡ Int id))
-        → AllByRecursion (λ r. list_all (λ ref. not (is_among All ref) || has_parent register_schema.tables next r ref) child.references ≡ true) after
+        → AllByRecursion (λ r. list_all (λ ref. not (is_among All ref) || has_parent (register_schema l).tables next r ref) child.references ≡ true) after
         → AreMade columns read after (filter (λ x. not (is_of x)) (map read before))
-    children_left db next found olds before after ids frames_kept same are frames_are kept left children refers =
+    children_left l db next found olds before after ids frames_kept same are frames_are kept left children refers =
         let is_child = λ (r : Row). list_any (λ id. has_rowid id r) ids in
         let child_in = λ (r : Row) (h : Has before r) (any : is_child r ≡ true).
         let id = some_has (λ id. has_rowid id r) ids any in
@@ -177,49 +179,54 @@ module _ (variant supplier name : List ℕ) where
         let typed : r ≡ rowid r ∷ columns (read r) = all_has _ before r kept.typed h in
         let here : Has after r = subst (λ rows. Has rows r) (sym left) (has_kept (λ r. not (is_child r)) before r h (ap not kept_row)) in
         let refers_row = all_has _ after r refers here in
-        let held = refer.parent_of next (rowid r) (read r) (subst (λ y. list_all (λ ref. not (is_among All ref) || has_parent register_schema.tables next y ref) child.references ≡ true) typed refers_row) in
+        let held = refer.parent_of l next (rowid r) (read r) (subst (λ y. list_all (λ ref. not (is_among All ref) || has_parent (register_schema l).tables next y ref) child.references ≡ true) typed refers_row) in
         let not_in : is_of (read r) ≡ false = false_from_ne_true _ (orphan_not db (next 11) r frames_are frames_kept held) in not_in in
         let each = λ (r : Row) (h : Has before r).
         let it : is_child r ≡ is_of (read r) = elim (cases_Bool (is_child r)) [ inl any ↦ any ∙ sym (child_in r h any) | inr none ↦ none ∙ sym (other_in r h none) ] in it in
         let rest = filtered_rows columns read is_child is_of before each kept in
         record { kept = subst (AreKept columns read) (sym left) rest.0; values_are = ap (map read) left ∙ rest.1 }
 
+  -- the last table is another one
+  unless : (l : Layout) (tree : ℕ) {P : Type 0} → 20 < l.cluster2 → tree ≤ 20 → MatchBool (l.cluster2 == tree) ⊤ P → P
+  unless l tree after low h = rw (apart l.cluster2 tree after low) at h
+
   ends : (old new : State) (count : ℕ) → HasTables old.now → Executes delete_text params old new (Ok count) → Changes (without_frame variant supplier name) old new
   ends old new count was h =
       let db = old.now.trees in
       let next = new.now.trees in
-      let did = deleted register_schema frames delete_text tests delete_is params old new count was.schema h in
+      let l = layout_of old.now.trees in
+      let did = deleted (register_schema l) frames delete_text tests (delete_is l) params old new count was.schema h in
       let gone = map (λ r. id_in (rowid r)) did.found in
-      let c = cascades db next gone did.writes in
+      let c = cascades l db next gone did.writes in
       let mid = c.mid in
       let between = c.children.between in
       let s = c.children.of_signals in
       let p = c.children.of_placements in
-      let k = others 11 db mid all_tables c.others in
-      let l = others 15 mid between all_tables s.others in
-      let m = others 13 between next all_tables p.others in
+      let k = others 11 db mid (tables_at l) c.others in
+      let n = others 15 mid between (tables_at l) s.others in
+      let m = others 13 between next (tables_at l) p.others in
       let frames_left = erased_rows of_frame frame_in test (is_frame variant supplier name) (db 11) did.found passes was.frames did.same in
-      let next_frames : next 11 ≡ mid 11 = m.1.1.1.1.1.1.0 ∙ l.1.1.1.1.1.1.0 in
+      let next_frames : next 11 ≡ mid 11 = m.1.1.1.1.1.1.0 ∙ n.1.1.1.1.1.1.0 in
       let frames_are : next 11 ≡ filter (λ r. not (test r)) (db 11) = next_frames ∙ c.frames_left ∙ erased test (db 11) did.found was.frames.rise was.frames.numbered did.same in
-      let before13 : between 13 ≡ db 13 = l.1.1.1.1.1.1.1.0 ∙ k.1.1.1.1.1.1.1.0 in
+      let before13 : between 13 ≡ db 13 = n.1.1.1.1.1.1.1.0 ∙ k.1.1.1.1.1.1.1.0 in
       let before15 : mid 15 ≡ db 15 = k.1.1.1.1.1.1.1.1.0 in
       let left13 : next 13 ≡ filter (λ r. not (list_any (λ id. has_rowid id r) p.ids)) (db 13) = p.left ∙ ap (λ rows. without_all rows p.ids) before13 ∙ left_of p.ids (db 13) in
       let left15 : next 15 ≡ filter (λ r. not (list_any (λ id. has_rowid id r) s.ids)) (db 15) = m.1.1.1.1.1.1.1.1.0 ∙ s.left ∙ ap (λ rows. without_all rows s.ids) before15 ∙ left_of s.ids (db 15) in
-      whole old new (without_frame variant supplier name (tables_of old)) did.schema_is did.shown
-      (same of_register register_in (db 0) (next 0) (m.0 ∙ l.0 ∙ k.0) was.register)
-      (same of_cluster cluster_in (db 1) (next 1) (m.1.0 ∙ l.1.0 ∙ k.1.0) was.cluster)
-      (same of_supplier supplier_in (db 2) (next 2) (m.1.1.0 ∙ l.1.1.0 ∙ k.1.1.0) was.suppliers)
-      (same of_node node_in (db 5) (next 5) (m.1.1.1.0 ∙ l.1.1.1.0 ∙ k.1.1.1.0) was.nodes)
-      (same of_variant variant_in (db 7) (next 7) (m.1.1.1.1.0 ∙ l.1.1.1.1.0 ∙ k.1.1.1.1.0) was.variants)
-      (same of_grant grant_in (db 9) (next 9) (m.1.1.1.1.1.0 ∙ l.1.1.1.1.1.0 ∙ k.1.1.1.1.1.0) was.grants)
+      whole old new (without_frame variant supplier name (tables_of old)) was did.still did.shown
+      (same of_register register_in (db 0) (next 0) (m.0 ∙ n.0 ∙ k.0) was.register)
+      (same of_cluster cluster_in (db 1) (next 1) (m.1.0 ∙ n.1.0 ∙ k.1.0) was.cluster)
+      (same of_supplier supplier_in (db 2) (next 2) (m.1.1.0 ∙ n.1.1.0 ∙ k.1.1.0) was.suppliers)
+      (same of_node node_in (db 5) (next 5) (m.1.1.1.0 ∙ n.1.1.1.0 ∙ k.1.1.1.0) was.nodes)
+      (same of_variant variant_in (db 7) (next 7) (m.1.1.1.1.0 ∙ n.1.1.1.1.0 ∙ k.1.1.1.1.0) was.variants)
+      (same of_grant grant_in (db 9) (next 9) (m.1.1.1.1.1.0 ∙ n.1.1.1.1.1.0 ∙ k.1.1.1.1.1.0) was.grants)
       (record { kept = subst (AreKept of_frame frame_in) (sym (next_frames ∙ c.frames_left)) frames_left.0; values_are = ap (map frame_in) (next_frames ∙ c.frames_left) ∙ frames_left.1 })
-      (children_left of_placement placement_in placements _ _ _ placements_refer db next did.found (taken_by db (edit_of db frames gone Given 0 [])) (db 13) (next 13) p.ids was.frames did.same refl frames_are was.placements left13
+      (children_left of_placement placement_in placements _ _ _ placements_refer l db next did.found (taken_by db (edit_of db frames gone Given 0 [])) (db 13) (next 13) p.ids was.frames did.same refl frames_are was.placements left13
       (λ id there. let it = p.children id there in (it.0, subst (λ rows. Has rows it.0) before13 it.1, it.2, it.3)) did.refers.1.1.1.1.1.1.1.0)
-      (children_left of_signal signal_in signals _ _ _ signals_refer db next did.found (taken_by db (edit_of db frames gone Given 0 [])) (db 15) (next 15) s.ids was.frames did.same refl frames_are was.signals left15
+      (children_left of_signal signal_in signals _ _ _ signals_refer l db next did.found (taken_by db (edit_of db frames gone Given 0 [])) (db 15) (next 15) s.ids was.frames did.same refl frames_are was.signals left15
       (λ id there. let it = s.children id there in (it.0, subst (λ rows. Has rows it.0) before15 it.1, it.2, it.3)) did.refers.1.1.1.1.1.1.1.1.0)
-      (same of_import import_in (db 17) (next 17) (m.1.1.1.1.1.1.1.1.1.0 ∙ l.1.1.1.1.1.1.1.1.1.0 ∙ k.1.1.1.1.1.1.1.1.1.0) was.imports)
-      (same of_dropped dropped_in (db 19) (next 19) (m.1.1.1.1.1.1.1.1.1.1.0 ∙ l.1.1.1.1.1.1.1.1.1.1.0 ∙ k.1.1.1.1.1.1.1.1.1.1.0) was.dropped)
-      (same of_cluster2 cluster2_in (db 22) (next 22) (m.1.1.1.1.1.1.1.1.1.1.1.0 ∙ l.1.1.1.1.1.1.1.1.1.1.1.0 ∙ k.1.1.1.1.1.1.1.1.1.1.1.0) was.cluster2)
+      (same of_import import_in (db 17) (next 17) (m.1.1.1.1.1.1.1.1.1.0 ∙ n.1.1.1.1.1.1.1.1.1.0 ∙ k.1.1.1.1.1.1.1.1.1.0) was.imports)
+      (same of_dropped dropped_in (db 19) (next 19) (m.1.1.1.1.1.1.1.1.1.1.0 ∙ n.1.1.1.1.1.1.1.1.1.1.0 ∙ k.1.1.1.1.1.1.1.1.1.1.0) was.dropped)
+      (same of_cluster2 cluster2_in (db l.cluster2) (next l.cluster2) (unless l 13 was.behind.0.0 (lit≤ tt) (last_of _ l m.1.1.1.1.1.1.1.1.1.1.1) ∙ unless l 15 was.behind.0.0 (lit≤ tt) (last_of _ l n.1.1.1.1.1.1.1.1.1.1.1) ∙ unless l 11 was.behind.0.0 (lit≤ tt) (last_of _ l k.1.1.1.1.1.1.1.1.1.1.1)) was.cluster2)
       (without_frame variant supplier name) refl
 
   pub deletes : (old new : State) (r : Result ℕ Error) → HasTables old.now → ExecutesInside 0 delete_text params old new r

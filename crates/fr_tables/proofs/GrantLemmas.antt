@@ -1,5 +1,5 @@
 -- What the statements on grants do.
-use Rattle.std.proofs.Common.{◌≡◌, ℕ, ℤ, List, [], ◌∷◌, codes, lit≤, Ok, Err, Result, MatchResult, ◌==◌, length, bytes_eq, inl, inr, refl}
+use Rattle.std.proofs.Common.{◌≡◌, ℕ, ℤ, List, [], ◌∷◌, codes, lit≤, Ok, Err, Result, MatchResult, ◌==◌, length, bytes_eq, inl, inr, refl, None, ◌∙◌}
 use Rattle.std.proofs.lemmas.Bool.{cases_Bool}
 use Rattle.sqlite.specs.declared.types.Value.TheVariants.{Null, Int, Text}
 use Rattle.sqlite.specs.declared.error.Error.{Error}
@@ -14,7 +14,7 @@ use Rattle.sqlite_sql.specs.declared.ops.CompareOp.TheVariants.{Eq}
 use Rattle.sqlite.specs.Collation.TheVariants.{Binary}
 use Rattle.sqlite_tied.specs.Compute.{everything}
 use Rattle.sqlite_tied.proofs.RuleLemmas.{and_true}
-use Rattle.fr_tables.specs.Schema.{register_schema, grants}
+use Rattle.fr_tables.specs.Schema.{Layout, layout_of, register_schema, old_schema, grants}
 use Rattle.fr_tables.specs.Rows.{GrantRow, of_grant, grant_in}
 use Rattle.fr_tables.specs.Tables.{HasTables}
 use Rattle.fr_tables.specs.Changes.{Changes, Stays, Copies}
@@ -24,15 +24,16 @@ use Rattle.fr_tables.proofs.InsertLemmas.{Adds, adds, added}
 use Rattle.fr_tables.proofs.RemoveLemmas.{Removes, removes}
 use Rattle.fr_tables.proofs.CopyLemmas.{CopiesBy, makes_copies}
 use Rattle.fr_tables.proofs.ChangeLemmas.{grants_made}
+use Rattle.fr_tables.proofs.BehindLemmas.{works_same}
 use Rattle.fr_tables.proofs.RunLemmas.{stays_inside}
 use Rattle.fr_tables.proofs.FindLemmas.{Queries}
 
 abbrev insert_text : List ℕ
 insert_text = codes "INSERT INTO grants (variant, slot, channel, supplier, node) VALUES (?1, ?2, ?3, ?4, ?5)"
 
-insert_is : (g : GrantRow) → Adds register_schema grants.name grants.tree grants.columns grants.key grants.primary grants.uniques grants.checks grants.references insert_text (of_grant g) (of_grant g)
+insert_is : (g : GrantRow) (l : Layout) → Adds (register_schema l) grants.name grants.tree grants.columns grants.key grants.primary grants.uniques grants.checks grants.references insert_text (of_grant g) (of_grant g)
 unfolding understood everything
-insert_is g = record {
+insert_is g l = record {
   at = 5;
   terms = lit Null ∷ col 0 0 ∷ col 0 1 ∷ col 0 2 ∷ col 0 3 ∷ col 0 4 ∷ [];
   width = 6;
@@ -45,15 +46,16 @@ insert_is g = record {
   typed = refl;
   gives = refl;
   stores = rw (cast_null, cast_integer g.slot);
-  idle = λ new. refl;
+  idle = λ new. works_same l 0 9 [] (new ∷ []);
 }
 
 pub inserts : (g : GrantRow) (old new : State) (r : Result ℕ Error) → HasTables old.now → ExecutesInside 0 insert_text (of_grant g) old new r
     → MatchResult r (λ _. Changes (with_grant g) old new) (λ _. Stays old new)
 inserts g old new (Err e) was h = stays_inside insert_text (of_grant g) old new e h
 inserts g old new (Ok count) was h =
-    let did = adds register_schema grants.name grants.tree grants.columns grants.key grants.primary grants.uniques grants.checks grants.references insert_text (of_grant g) (of_grant g) (insert_is g) old new count was.schema h.0 in
-    grants_made old new was _ did.wrote (added register_schema grants.name grants.tree grants.columns grants.key grants.primary grants.uniques grants.checks grants.references of_grant grant_in g (λ id. refl) old new did was.grants)
+    let l = layout_of old.now.trees in
+    let did = adds (register_schema l) grants.name grants.tree grants.columns grants.key grants.primary grants.uniques grants.checks grants.references insert_text (of_grant g) (of_grant g) (insert_is g l) old new count was.schema h.0 in
+    grants_made old new was _ did.wrote (added (register_schema l) grants.name grants.tree grants.columns grants.key grants.primary grants.uniques grants.checks grants.references of_grant grant_in g (λ id. refl) old new did was.grants)
 
 -- ---- the end of a grant
 
@@ -67,8 +69,8 @@ delete_is : (variant : List ℕ) (slot : ℤ) (channel : List ℕ) → Removes o
 unfolding understood everything
 delete_is variant slot channel = record {
   tests = at_place;
-  is = record { at = 5; is = refl; plain = (refl, refl); place = refl; stored = λ db. refl };
-  idle = λ olds. refl;
+  is = λ l. record { at = 5; is = refl; plain = (refl, refl); place = refl; stored = λ db. refl };
+  idle = λ l olds. works_same l 0 9 olds [];
   tested = λ p. rw (equal_texts p.1.variant variant, equal_integers p.1.slot slot, equal_texts p.1.channel channel, and_true);
 }
 
@@ -76,16 +78,19 @@ pub deletes : (variant : List ℕ) (slot : ℤ) (channel : List ℕ) (old new : 
     → ExecutesInside 0 delete_text (Text variant ∷ Int slot ∷ Text channel ∷ []) old new r → MatchResult r (λ _. Changes (without_grant variant slot channel) old new) (λ _. Stays old new)
 deletes variant slot channel old new (Err e) was h = stays_inside delete_text _ old new e h
 deletes variant slot channel old new (Ok count) was h =
-    let did = removes of_grant grant_in _ grants delete_text _ (delete_is variant slot channel) old new count was.schema was.grants h.0 in grants_made old new was _ did.0 did.1
+    let did = removes of_grant grant_in _ grants delete_text _ (delete_is variant slot channel) (layout_of old.now.trees) old new count was.schema was.grants h.0 in grants_made old new was _ did.0 did.1
 
 -- ---- the copies for another variant
 
 abbrev copy_text : List ℕ
 copy_text = codes "INSERT INTO grants (variant, slot, channel, supplier, node) SELECT ?2, slot, channel, supplier, node FROM grants WHERE variant = ?1"
 
-copy_idle : (news : List Row) → works register_schema Enforced 0 9 [] news ≡ []
+copy_idle_alone : (news : List Row) → works (old_schema None None) Enforced 0 9 [] news ≡ []
 unfolding everything
-copy_idle news = elim (cases_Bool (length news == 0)) [ inl none ↦ rw none | inr some ↦ rw some ]
+copy_idle_alone news = elim (cases_Bool (length news == 0)) [ inl none ↦ rw none | inr some ↦ rw some ]
+
+copy_idle : (l : Layout) (news : List Row) → works (register_schema l) Enforced 0 9 [] news ≡ []
+copy_idle l news = works_same l 0 9 [] news ∙ copy_idle_alone news
 
 copy_is : (parent child : List ℕ) → CopiesBy of_grant grant_in (λ g. bytes_eq g.variant parent) (grant_for child)
     grants.name grants.tree grants.columns grants.key grants.primary grants.uniques grants.checks grants.references copy_text (Text parent ∷ Text child ∷ [])
@@ -93,7 +98,7 @@ unfolding understood everything
 copy_is parent child = record {
   tests = op2 (Compare Eq Binary) (col 1 1) (col 0 0) ∷ [];
   project = lit Null ∷ col 0 1 ∷ col 1 2 ∷ col 1 3 ∷ col 1 4 ∷ col 1 5 ∷ [];
-  is = record { at = 5; by = Binary ∷ Binary ∷ Binary ∷ Binary ∷ Binary ∷ Binary ∷ []; is = refl; plain = (refl, refl); place = refl; bare = refl; stored = λ db. refl; idle = copy_idle };
+  is = λ l. record { at = 5; by = Binary ∷ Binary ∷ Binary ∷ Binary ∷ Binary ∷ Binary ∷ []; is = refl; plain = (refl, refl); place = refl; bare = refl; stored = λ db. refl; idle = copy_idle l };
   tested = λ p. rw (equal_texts p.1.variant parent, and_true);
   gives = λ p. rw (cast_null, cast_integer p.1.slot);
 }
@@ -103,7 +108,7 @@ pub copies : (parent child : List ℕ) (old new : State) (r : Result ℕ Error) 
 copies parent child old new (Err e) was h = stays_inside copy_text _ old new e h
 copies parent child old new (Ok count) was h =
     let did = makes_copies of_grant grant_in _ _ grants.name grants.tree grants.columns grants.key grants.primary grants.uniques grants.checks grants.references copy_text _ (copy_is parent child)
-    (λ id x. refl) old new count was.schema was.grants h.0 in
+    (λ id x. refl) (layout_of old.now.trees) old new count was.schema was.grants h.0 in
     record { copies = did.copied; same = did.same; added = grants_made old new was _ did.wrote did.made }
 
 -- ---- what is asked
@@ -111,9 +116,9 @@ copies parent child old new (Ok count) was h =
 abbrev pub select_text : List ℕ
 select_text = codes "SELECT slot, channel, node FROM grants WHERE variant = ?1 AND supplier = ?2"
 
-pub by_supplier : (variant supplier : List ℕ) → Queries register_schema of_grant shows_grant (is_grant_of variant supplier) any_order 9 select_text (Text variant ∷ Text supplier ∷ [])
+pub by_supplier : (variant supplier : List ℕ) (l : Layout) → Queries (register_schema l) of_grant shows_grant (is_grant_of variant supplier) any_order 9 select_text (Text variant ∷ Text supplier ∷ [])
 unfolding understood everything
-by_supplier variant supplier = record {
+by_supplier variant supplier l = record {
   tests = op2 (Compare Eq Binary) (col 1 1) (col 0 0) ∷ op2 (Compare Eq Binary) (col 1 4) (col 0 1) ∷ [];
   order = [];
   project = col 1 2 ∷ col 1 3 ∷ col 1 5 ∷ [];
@@ -126,10 +131,10 @@ by_supplier variant supplier = record {
 abbrev pub holder_text : List ℕ
 holder_text = codes "SELECT supplier, node FROM grants WHERE variant = ?1 AND slot = ?2 AND channel = ?3"
 
-pub by_place : (variant : List ℕ) (slot : ℤ) (channel : List ℕ)
-    → Queries register_schema of_grant shows_holder (is_grant_at variant slot channel) any_order 9 holder_text (Text variant ∷ Int slot ∷ Text channel ∷ [])
+pub by_place : (variant : List ℕ) (slot : ℤ) (channel : List ℕ) (l : Layout)
+    → Queries (register_schema l) of_grant shows_holder (is_grant_at variant slot channel) any_order 9 holder_text (Text variant ∷ Int slot ∷ Text channel ∷ [])
 unfolding understood everything
-by_place variant slot channel = record {
+by_place variant slot channel l = record {
   tests = at_place;
   order = [];
   project = col 1 4 ∷ col 1 5 ∷ [];

@@ -12,7 +12,7 @@ use Rattle.sqlite_value.specs.Keys.{ascending}
 use Rattle.sqlite_value.proofs.OrderLemmas.{value_cmp-Text, then-Equal}
 use Rattle.sqlite_tied.specs.Compute.{everything}
 use Rattle.sqlite_tied.proofs.RuleLemmas.{and_true}
-use Rattle.fr_tables.specs.Schema.{register_schema, imports}
+use Rattle.fr_tables.specs.Schema.{Layout, layout_of, register_schema, imports}
 use Rattle.fr_tables.specs.Rows.{ImportRow, of_import, import_in}
 use Rattle.fr_tables.specs.Tables.{HasTables}
 use Rattle.fr_tables.specs.Changes.{Changes, Stays}
@@ -20,15 +20,16 @@ use Rattle.fr_tables.specs.Statements.{with_import, is_import, is_import_of, sho
 use Rattle.fr_tables.proofs.Compared.{equal_texts, cast_null, cast_integer}
 use Rattle.fr_tables.proofs.InsertLemmas.{Adds, adds, added}
 use Rattle.fr_tables.proofs.ChangeLemmas.{imports_made}
+use Rattle.fr_tables.proofs.BehindLemmas.{works_same}
 use Rattle.fr_tables.proofs.RunLemmas.{stays_inside}
 use Rattle.fr_tables.proofs.FindLemmas.{Queries}
 
 abbrev insert_text : List ℕ
 insert_text = codes "INSERT INTO imports (supplier, label, variant, body, rows) VALUES (?1, ?2, ?3, ?4, ?5)"
 
-insert_is : (i : ImportRow) → Adds register_schema imports.name imports.tree imports.columns imports.key imports.primary imports.uniques imports.checks imports.references insert_text (of_import i) (of_import i)
+insert_is : (i : ImportRow) (l : Layout) → Adds (register_schema l) imports.name imports.tree imports.columns imports.key imports.primary imports.uniques imports.checks imports.references insert_text (of_import i) (of_import i)
 unfolding understood everything
-insert_is i = record {
+insert_is i l = record {
   at = 9;
   terms = lit Null ∷ col 0 0 ∷ col 0 1 ∷ col 0 2 ∷ col 0 3 ∷ col 0 4 ∷ [];
   width = 6;
@@ -41,22 +42,23 @@ insert_is i = record {
   typed = refl;
   gives = refl;
   stores = rw (cast_null, cast_integer i.rows);
-  idle = λ new. refl;
+  idle = λ new. works_same l 0 17 [] (new ∷ []);
 }
 
 pub inserts : (i : ImportRow) (old new : State) (r : Result ℕ Error) → HasTables old.now → ExecutesInside 0 insert_text (of_import i) old new r
     → MatchResult r (λ _. Changes (with_import i) old new) (λ _. Stays old new)
 inserts i old new (Err e) was h = stays_inside insert_text _ old new e h
 inserts i old new (Ok count) was h =
-    let did = adds register_schema imports.name imports.tree imports.columns imports.key imports.primary imports.uniques imports.checks imports.references insert_text (of_import i) (of_import i) (insert_is i) old new count was.schema h.0 in
-    imports_made old new was _ did.wrote (added register_schema imports.name imports.tree imports.columns imports.key imports.primary imports.uniques imports.checks imports.references of_import import_in i (λ id. refl) old new did was.imports)
+    let l = layout_of old.now.trees in
+    let did = adds (register_schema l) imports.name imports.tree imports.columns imports.key imports.primary imports.uniques imports.checks imports.references insert_text (of_import i) (of_import i) (insert_is i l) old new count was.schema h.0 in
+    imports_made old new was _ did.wrote (added (register_schema l) imports.name imports.tree imports.columns imports.key imports.primary imports.uniques imports.checks imports.references of_import import_in i (λ id. refl) old new did was.imports)
 
 abbrev pub select_text : List ℕ
 select_text = codes "SELECT variant, body, rows FROM imports WHERE supplier = ?1 AND label = ?2"
 
-pub by_label : (supplier : List ℕ) (label : List ℕ) → Queries register_schema of_import shows_import (is_import supplier label) any_order 17 select_text (Text supplier ∷ Text label ∷ [])
+pub by_label : (supplier : List ℕ) (label : List ℕ) (l : Layout) → Queries (register_schema l) of_import shows_import (is_import supplier label) any_order 17 select_text (Text supplier ∷ Text label ∷ [])
 unfolding understood everything
-by_label supplier label = record {
+by_label supplier label l = record {
   tests = op2 (Compare Eq Binary) (col 1 1) (col 0 0) ∷ op2 (Compare Eq Binary) (col 1 2) (col 0 1) ∷ [];
   order = [];
   project = col 1 3 ∷ col 1 4 ∷ col 1 5 ∷ [];
@@ -69,9 +71,9 @@ by_label supplier label = record {
 abbrev pub labels_text : List ℕ
 labels_text = codes "SELECT label FROM imports WHERE supplier = ?1 ORDER BY label"
 
-pub by_supplier : (supplier : List ℕ) → Queries register_schema of_import shows_label (is_import_of supplier) labels_cmp 17 labels_text (Text supplier ∷ [])
+pub by_supplier : (supplier : List ℕ) (l : Layout) → Queries (register_schema l) of_import shows_label (is_import_of supplier) labels_cmp 17 labels_text (Text supplier ∷ [])
 unfolding understood everything
-by_supplier supplier = record {
+by_supplier supplier l = record {
   tests = op2 (Compare Eq Binary) (col 1 1) (col 0 0) ∷ [];
   order = (col 1 2, ascending Binary) ∷ [];
   project = col 1 2 ∷ [];

@@ -33,7 +33,7 @@ use Rattle.sqlite_rules.specs.Action.{works}
 use Rattle.sqlite_schema.specs.declared.schema.Keys.TheVariants.{Enforced}
 use Rattle.fr_tables.proofs.RunLemmas.{inserts}
 use Rattle.fr_tables.specs.Tables.{AreKept}
-use Rattle.fr_tables.proofs.Written.{WritesTo, AreMade}
+use Rattle.fr_tables.proofs.Written.{IsStill, WritesTo, AreMade}
 use Rattle.fr_tables.proofs.KeptLemmas.{put_next}
 use Rattle.fr_tables.proofs.Steps.{went, same_value, names_of, tail_of}
 use Rattle.sqlite_typing.specs.Types.{accepts_terms}
@@ -92,7 +92,7 @@ module _ (schema : Schema) (name : List ℕ) (tree : ℕ) (columns : List Column
       ap (λ row. put_row (with_rowid Chosen (db tree) row) (db tree)) a.stores in
       record {
         wrote = record {
-          schema_is = ap (λ (d : Database). d.schema) ran.now;
+          still = ran.still;
           others = subst (λ (d : Database). AllByRecursion (λ t. t.tree ≢ tree → d.trees t.tree ≡ db t.tree) schema.tables) (sym ran.now) all.tables;
           shown = ran.shown;
         };
@@ -118,7 +118,7 @@ module _ (schema : Schema) (name : List ℕ) (tree : ℕ) (columns : List Column
     pub idle : (news : List Row) → works schema Enforced 0 tree [] news ≡ []
 
   pub record HasCopied {X : Type 0} (store : X → Row) (xs : List X) (params : Row) (tests : List Term) (project : List Term) (old new : State) : Type 0 where
-    pub schema_is : new.now.schema ≡ schema
+    pub still : IsStill schema new.now
     pub rows : List Row
     pub scans : Scans store xs params tests [] project rows
     pub applies : Applies schema Enforced old.now.trees (edit_of old.now.trees it [] Chosen 0 rows) new.now.trees
@@ -136,7 +136,7 @@ module _ (schema : Schema) (name : List ℕ) (tree : ℕ) (columns : List Column
       let next = ran.written.trees in
       let all = one_step schema Enforced db next (edit_of db it [] Chosen 0 step.0) (k.idle _) step.2 in
       record {
-        schema_is = ap (λ (d : Database). d.schema) ran.now;
+        still = ran.still;
         rows = step.0;
         scans = scanned k.by from tests [] project params store xs (overlay db []) step.0 (k.stored db ∙ are) (answers.answer Null);
         applies = subst (λ (d : Database). Applies schema Enforced db (edit_of db it [] Chosen 0 step.0) d.trees) (sym ran.now) all;

@@ -1,6 +1,8 @@
 pub mod Steps
 pub mod Written
 pub mod KeptLemmas
+pub mod LayoutLemmas
+pub mod BehindLemmas
 pub mod RunLemmas
 pub mod ReadLemmas
 pub mod FindLemmas

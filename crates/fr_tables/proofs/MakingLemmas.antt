@@ -1,5 +1,5 @@
 -- What the statements that make the tables do.
-use Rattle.std.proofs.Common.{◌≡◌, ◌++◌, ℕ, List, [], ◌∷◌, map, take, false, None, Ok, Err, Result, MatchResult, IsTrue, refl, sym, ap, subst, ◌∙◌}
+use Rattle.std.proofs.Common.{◌≡◌, ◌++◌, lit≤, ℕ, Option, Some, List, [], ◌∷◌, map, take, false, arith, None, Ok, Err, Result, MatchResult, IsTrue, refl, sym, ap, subst, ◌∙◌}
 use Rattle.std.specs.List.{AllByRecursion}
 use Rattle.sqlite.specs.Command.TheVariants.{CreateTable, CreateIndex}
 use Rattle.sqlite.specs.Compile.{table_defined_by, index_defined_by}
@@ -8,14 +8,15 @@ use Rattle.sqlite.specs.Does.{Tally, Does, lacks_sequence}
 use Rattle.sqlite.specs.Table.{Table}
 use Rattle.sqlite.specs.Tree.{Trees}
 use Rattle.sqlite.specs.Schema.{Schema}
-use Rattle.sqlite.specs.Effect.{Database}
+use Rattle.sqlite.specs.Effect.{Database, IsDatabase}
+use Rattle.sqlite_catalog.specs.Listing.{IsSound}
 use Rattle.sqlite.specs.Listing.{understood}
 use Rattle.sqlite.specs.State.{State, mode_of, Shows, Writes, Executes, ExecutesInside}
 use Rattle.sqlite.specs.declared.error.Error.{Error}
 use Rattle.sqlite.proofs.Callers.{IsPlain, command_of, statement_of, runs_as}
 use Rattle.sqlite_tied.specs.Compute.{everything}
 use Rattle.sqlite_trees.proofs.ListLemmas.{all-append}
-use Rattle.fr_tables.specs.Schema.{schema_of, all_tables, register_schema, grants, grants_index, register_at, cluster_at, suppliers_at, nodes_at, variants_at, grants_at, frames_at, placements_at, signals_at, imports_at, dropped_at, cluster2_at, old_tables, old_schema}
+use Rattle.fr_tables.specs.Schema.{Layout, IsBehind, HasRoom, renewed_layout, layout_made, layout_of, schema_of, all_tables, register_schema, grants, grants_index, register_at, cluster_at, suppliers_at, nodes_at, variants_at, grants_at, frames_at, placements_at, signals_at, imports_at, dropped_at, cluster2_at, old_tables, old_schema}
 use Rattle.fr_tables.specs.SchemaText.{index_text, register_text, cluster_text, suppliers_text, nodes_text, variants_text, grants_text, frames_text, placements_text, signals_text, imports_text, dropped_text, cluster2_text}
 use Rattle.sqlite_schema.specs.declared.schema.Index.{Index}
 use Rattle.sqlite.specs.Order.{Row}
@@ -24,6 +25,7 @@ use Rattle.fr_tables.specs.Rows.{of_register, of_cluster, of_supplier, of_node, 
 use Rattle.fr_tables.specs.Changes.{Stays}
 use Rattle.fr_tables.specs.Making.{IsFresh, Enlarges, IsOldMade, IsRenewed, no_rows}
 use Rattle.fr_tables.proofs.Steps.{went, same_value}
+use Rattle.fr_tables.proofs.LayoutLemmas.{layout_listed, old_listed}
 use Rattle.fr_tables.proofs.RunLemmas.{stays_inside}
 
 -- the text makes that table, and the schema is then that one
@@ -40,6 +42,7 @@ record IsAdded (before after : Schema) (old new : State) : Type 0 where
   pub schema : new.now.schema ≡ after
   pub empty : new.now.trees (next_tree before) ≡ []
   pub others : KeepsRows before.tables old.now.trees new.now.trees
+  pub sound : IsDatabase new.now
 
 adds_table : (before after : Schema) (table : Table) (text : List ℕ) → Defines before after table text → (old new : State) (count : ℕ) → old.now.schema ≡ before → Executes text [] old new (Ok count)
     → IsAdded before after old new
@@ -57,6 +60,7 @@ adds_table before after table text d old new count has h =
       schema = ap (λ (d : Database). d.schema) now ∙ schema;
       empty = ap (λ (d : Database). d.trees (next_tree before)) now ∙ subst (λ s. first.0.trees (next_tree s) ≡ []) has made.empty;
       others = subst (λ (d : Database). KeepsRows before.tables old.now.trees d.trees) (sym now) (subst (λ (s : Schema). KeepsRows s.tables old.now.trees first.0.trees) has made.others);
+      sound = w.sound;
     }
 
 still_empty : (ts : List Table) (db next : Trees) → AllByRecursion (λ t. db t.tree ≡ []) ts → KeepsRows ts db next → AllByRecursion (λ t. next t.tree ≡ []) ts
@@ -131,20 +135,22 @@ record IsIndex : Type 0 where
   pub plain : IsPlain (understood (schema_of 11 10) index_text)
   pub made : Index
   pub defines : index_defined_by grants index_text ≡ Ok made
-  pub leaves : indexed (schema_of 11 10) grants made ≡ old_schema
+  pub leaves : indexed (schema_of 11 10) grants made ≡ old_schema layout_made.index None
 
 index_is : IsIndex
 unfolding understood everything
-index_is = record { command = refl; whole = refl; plain = (refl, refl); made = record grants_index { tree = 0 }; defines = refl; leaves = refl }
+index_is = record { command = refl; whole = refl; plain = (refl, refl); made = grants_index 0; defines = refl; leaves = refl }
 
 none_kept : {X : Type 0} (columns : X → Row) (read : Row → X) (rows : List Row) → rows ≡ [] → AreKept columns read rows
 none_kept columns read rows none = subst (AreKept columns read) (sym none) (record { rise = tt; numbered = tt; typed = tt })
 
 -- tables with no row
-empty_tables : (db : Database) → db.schema ≡ old_schema → AllByRecursion (λ t. db.trees t.tree ≡ []) old_tables → HasOldTables db × (old_tables_in db.trees ≡ no_rows)
-empty_tables db schema e = (
+empty_tables : (db : Database) → db.schema ≡ old_schema (layout_of db.trees).index (layout_of db.trees).before → HasRoom (layout_of db.trees).index → HasRoom (layout_of db.trees).before → AllByRecursion (λ t. db.trees t.tree ≡ []) old_tables → HasOldTables db × (old_tables_in db.trees ≡ no_rows)
+empty_tables db schema one two e = (
   record {
     schema = schema;
+    first = one;
+    second = two;
     register = none_kept of_register register_in (db.trees 0) e.0;
     cluster = none_kept of_cluster cluster_in (db.trees 1) e.1.0;
     suppliers = none_kept of_supplier supplier_in (db.trees 2) e.1.1.0;
@@ -185,14 +191,32 @@ makes_old old new (Ok count) inside was h =
     let same : it.index ≡ index_is.made = cc in
     let now : new.now ≡ all.0 = ap (λ (p : Tally × Database). p.1) (same_value all.2) in
     let empty = subst (λ (d : Database). AllByRecursion (λ t. d.trees t.tree ≡ []) old_tables) (sym now) (still_empty old_tables old.now.trees all.0.trees was.empty it.rows) in
-    let tables = empty_tables new.now (ap (λ (d : Database). d.schema) now ∙ it.is ∙ ap (indexed schema grants) same ∙ index_is.leaves) empty in
-    record { has = tables.0; empty = tables.1; shown = subst (λ b. Shows old new new.now old.committed b) (sym inside) h.1 }
+    let is : new.now.schema ≡ old_schema layout_made.index None = ap (λ (d : Database). d.schema) now ∙ it.is ∙ ap (indexed schema grants) same ∙ index_is.leaves in
+    let there = old_listed new.now.trees layout_made.index None (subst (λ s. IsSound s new.now.trees) is w.sound).lists.listed in
+    let tables = empty_tables new.now (is ∙ (λ i. old_schema (sym there.0 i) (sym there.1 i))) (subst HasRoom (sym there.0) (lit≤ tt, lit≤ tt)) (subst HasRoom (sym there.1) tt) empty in
+    record {
+      has = tables.0;
+      schema = is;
+      placed = λ i. renewed_layout (there.0 i) (there.1 i);
+      empty = tables.1;
+      shown = subst (λ b. Shows old new new.now old.committed b) (sym inside) h.1;
+    }
 
 -- ---- the table that is made last
 
-cluster2_is : Defines old_schema register_schema (cluster2_at 0) cluster2_text
+cluster2_is : (index stats : Option ℕ) → Defines (old_schema index stats) (register_schema (renewed_layout index stats)) (cluster2_at 0) cluster2_text
 unfolding understood everything
-cluster2_is = record { command = refl; whole = refl; plain = (refl, refl); defines = refl; leaves = refl; uncounted = refl }
+cluster2_is None None = record { command = refl; whole = refl; plain = (refl, refl); defines = refl; leaves = refl; uncounted = refl }
+cluster2_is None (Some other) = record { command = refl; whole = refl; plain = (refl, refl); defines = refl; leaves = refl; uncounted = refl }
+cluster2_is (Some tree) None = record { command = refl; whole = refl; plain = (refl, refl); defines = refl; leaves = refl; uncounted = refl }
+cluster2_is (Some tree) (Some other) = record { command = refl; whole = refl; plain = (refl, refl); defines = refl; leaves = refl; uncounted = refl }
+
+-- it is behind the others
+behind_all : (index stats : Option ℕ) → HasRoom index → HasRoom stats → IsBehind (renewed_layout index stats)
+behind_all None None one two = ((lit≤ tt, lit≤ tt), tt)
+behind_all None (Some other) one two = ((omega arith, omega (arith, two.1)), (two.0, omega arith))
+behind_all (Some tree) None one two = ((omega arith, omega (arith, one.1)), tt)
+behind_all (Some tree) (Some other) one two = ((omega arith, omega (arith, one.1, two.1)), (two.0, omega arith))
 
 still_kept : {X : Type 0} (columns : X → Row) (read : Row → X) (before after : List Row) → after ≡ before → AreKept columns read before → AreKept columns read after
 still_kept columns read before after is kept = subst (AreKept columns read) (sym is) kept
@@ -200,13 +224,18 @@ still_kept columns read before after is kept = subst (AreKept columns read) (sym
 pub renews : (old new : State) (r : Result ℕ Error) → IsTrue old.in_transaction → HasOldTables old.now → ExecutesInside 0 cluster2_text [] old new r → MatchResult r (λ _. IsRenewed old new) (λ _. Stays old new)
 renews old new (Err e) inside was h = stays_inside cluster2_text [] old new e h
 renews old new (Ok count) inside was h =
-    let added = adds_table old_schema register_schema (cluster2_at 0) cluster2_text cluster2_is old new count was.schema h.0 in
+    let here = layout_of old.now.trees in
+    let l = renewed_layout here.index here.before in
+    let added = adds_table (old_schema here.index here.before) (register_schema l) (cluster2_at 0) cluster2_text (cluster2_is here.index here.before) old new count was.schema h.0 in
+    let placed : layout_of new.now.trees ≡ l = layout_listed new.now.trees l (subst (λ s. IsSound s new.now.trees) added.schema added.sound).lists.listed in
+    let none : new.now.trees (layout_of new.now.trees).cluster2 ≡ [] = ap (λ (x : Layout). new.now.trees x.cluster2) placed ∙ added.empty in
     let k = added.others in
     let db = old.now.trees in
     let next = new.now.trees in
     record {
       has = record {
-        schema = added.schema;
+        schema = added.schema ∙ ap register_schema (sym placed);
+        behind = subst IsBehind (sym placed) (behind_all here.index here.before was.first was.second);
         register = still_kept of_register register_in (db 0) (next 0) k.0 was.register;
         cluster = still_kept of_cluster cluster_in (db 1) (next 1) k.1.0 was.cluster;
         suppliers = still_kept of_supplier supplier_in (db 2) (next 2) k.1.1.0 was.suppliers;
@@ -218,8 +247,9 @@ renews old new (Ok count) inside was h =
         signals = still_kept of_signal signal_in (db 15) (next 15) k.1.1.1.1.1.1.1.1.0 was.signals;
         imports = still_kept of_import import_in (db 17) (next 17) k.1.1.1.1.1.1.1.1.1.0 was.imports;
         dropped = still_kept of_dropped dropped_in (db 19) (next 19) k.1.1.1.1.1.1.1.1.1.1.0 was.dropped;
-        cluster2 = none_kept of_cluster2 cluster2_in (next 22) added.empty;
+        cluster2 = none_kept of_cluster2 cluster2_in (next (layout_of next).cluster2) none;
       };
+      schema = added.schema;
       same = λ i. record {
         register = map register_in (k.0 i);
         cluster = map cluster_in (k.1.0 i);
@@ -232,7 +262,7 @@ renews old new (Ok count) inside was h =
         signals = map signal_in (k.1.1.1.1.1.1.1.1.0 i);
         imports = map import_in (k.1.1.1.1.1.1.1.1.1.0 i);
         dropped = map dropped_in (k.1.1.1.1.1.1.1.1.1.1.0 i);
-        cluster2 = map cluster2_in (added.empty i);
+        cluster2 = map cluster2_in (none i);
       };
       shown = subst (λ b. Shows old new new.now old.committed b) (sym inside) h.1;
     }

@@ -1,5 +1,5 @@
 -- What the statements on placements do.
-use Rattle.std.proofs.Common.{◌≡◌, ℕ, List, [], ◌∷◌, codes, lit≤, Ok, Err, Result, MatchResult, ◌==◌, length, inl, inr, refl}
+use Rattle.std.proofs.Common.{◌≡◌, ℕ, List, [], ◌∷◌, codes, lit≤, Ok, Err, Result, MatchResult, ◌==◌, length, inl, inr, refl, None, ◌∙◌}
 use Rattle.std.proofs.lemmas.Bool.{cases_Bool}
 use Rattle.sqlite.specs.declared.types.Value.TheVariants.{Null, Text}
 use Rattle.sqlite.specs.declared.error.Error.{Error}
@@ -16,7 +16,7 @@ use Rattle.sqlite_value.specs.Keys.{ascending}
 use Rattle.sqlite_value.proofs.OrderLemmas.{value_cmp-Int, value_cmp-Text, then-Equal}
 use Rattle.sqlite_tied.specs.Compute.{everything}
 use Rattle.sqlite_tied.proofs.RuleLemmas.{and_true}
-use Rattle.fr_tables.specs.Schema.{register_schema, placements}
+use Rattle.fr_tables.specs.Schema.{Layout, layout_of, register_schema, old_schema, placements}
 use Rattle.fr_tables.specs.Rows.{PlacementRow, of_placement, placement_in}
 use Rattle.fr_tables.specs.Tables.{HasTables}
 use Rattle.fr_tables.specs.Changes.{Changes, Stays, Copies}
@@ -26,15 +26,16 @@ use Rattle.fr_tables.proofs.InsertLemmas.{Adds, adds, added}
 use Rattle.fr_tables.proofs.RemoveLemmas.{Removes, removes}
 use Rattle.fr_tables.proofs.CopyLemmas.{CopiesBy, makes_copies}
 use Rattle.fr_tables.proofs.ChangeLemmas.{placements_made}
+use Rattle.fr_tables.proofs.BehindLemmas.{works_same}
 use Rattle.fr_tables.proofs.RunLemmas.{stays_inside}
 use Rattle.fr_tables.proofs.FindLemmas.{Queries}
 
 abbrev insert_text : List ℕ
 insert_text = codes "INSERT INTO placements (variant, supplier, frame, slot, channels, base, repetition) VALUES (?1, ?2, ?3, ?4, ?5, ?6, ?7)"
 
-insert_is : (p : PlacementRow) → Adds register_schema placements.name placements.tree placements.columns placements.key placements.primary placements.uniques placements.checks placements.references insert_text (of_placement p) (of_placement p)
+insert_is : (p : PlacementRow) (l : Layout) → Adds (register_schema l) placements.name placements.tree placements.columns placements.key placements.primary placements.uniques placements.checks placements.references insert_text (of_placement p) (of_placement p)
 unfolding understood everything
-insert_is p = record {
+insert_is p l = record {
   at = 7;
   terms = lit Null ∷ col 0 0 ∷ col 0 1 ∷ col 0 2 ∷ col 0 3 ∷ col 0 4 ∷ col 0 5 ∷ col 0 6 ∷ [];
   width = 8;
@@ -47,15 +48,16 @@ insert_is p = record {
   typed = refl;
   gives = refl;
   stores = rw (cast_null, cast_integer p.slot, cast_integer p.base, cast_integer p.repetition);
-  idle = λ new. refl;
+  idle = λ new. works_same l 0 13 [] (new ∷ []);
 }
 
 pub inserts : (p : PlacementRow) (old new : State) (r : Result ℕ Error) → HasTables old.now → ExecutesInside 0 insert_text (of_placement p) old new r
     → MatchResult r (λ _. Changes (with_placement p) old new) (λ _. Stays old new)
 inserts p old new (Err e) was h = stays_inside insert_text _ old new e h
 inserts p old new (Ok count) was h =
-    let did = adds register_schema placements.name placements.tree placements.columns placements.key placements.primary placements.uniques placements.checks placements.references insert_text (of_placement p) (of_placement p) (insert_is p) old new count was.schema h.0 in
-    placements_made old new was _ did.wrote (added register_schema placements.name placements.tree placements.columns placements.key placements.primary placements.uniques placements.checks placements.references of_placement placement_in p (λ id. refl) old new did was.placements)
+    let l = layout_of old.now.trees in
+    let did = adds (register_schema l) placements.name placements.tree placements.columns placements.key placements.primary placements.uniques placements.checks placements.references insert_text (of_placement p) (of_placement p) (insert_is p l) old new count was.schema h.0 in
+    placements_made old new was _ did.wrote (added (register_schema l) placements.name placements.tree placements.columns placements.key placements.primary placements.uniques placements.checks placements.references of_placement placement_in p (λ id. refl) old new did was.placements)
 
 abbrev delete_text : List ℕ
 delete_text = codes "DELETE FROM placements WHERE variant = ?1 AND supplier = ?2 AND frame = ?3 AND slot = ?4 AND channels = ?5 AND base = ?6 AND repetition = ?7"
@@ -64,8 +66,8 @@ delete_is : (q : PlacementRow) → Removes of_placement (is_placement q) placeme
 unfolding understood everything
 delete_is q = record {
   tests = op2 (Compare Eq Binary) (col 1 1) (col 0 0) ∷ op2 (Compare Eq Binary) (col 1 2) (col 0 1) ∷ op2 (Compare Eq Binary) (col 1 3) (col 0 2) ∷ op2 (Compare Eq Binary) (col 1 4) (col 0 3) ∷ op2 (Compare Eq Binary) (col 1 5) (col 0 4) ∷ op2 (Compare Eq Binary) (col 1 6) (col 0 5) ∷ op2 (Compare Eq Binary) (col 1 7) (col 0 6) ∷ [];
-  is = record { at = 7; is = refl; plain = (refl, refl); place = refl; stored = λ db. refl };
-  idle = λ olds. refl;
+  is = λ l. record { at = 7; is = refl; plain = (refl, refl); place = refl; stored = λ db. refl };
+  idle = λ l olds. works_same l 0 13 olds [];
   tested = λ p. rw (equal_texts p.1.variant q.variant, equal_texts p.1.supplier q.supplier, equal_texts p.1.frame q.frame, equal_integers p.1.slot q.slot, equal_texts p.1.channels q.channels, equal_integers p.1.base q.base, equal_integers p.1.repetition q.repetition, and_true);
 }
 
@@ -73,11 +75,14 @@ pub deletes : (q : PlacementRow) (old new : State) (r : Result ℕ Error) → Ha
     → MatchResult r (λ _. Changes (without_placement q) old new) (λ _. Stays old new)
 deletes q old new (Err e) was h = stays_inside delete_text _ old new e h
 deletes q old new (Ok count) was h =
-    let did = removes of_placement placement_in _ placements delete_text _ (delete_is q) old new count was.schema was.placements h.0 in placements_made old new was _ did.0 did.1
+    let did = removes of_placement placement_in _ placements delete_text _ (delete_is q) (layout_of old.now.trees) old new count was.schema was.placements h.0 in placements_made old new was _ did.0 did.1
 
-copy_idle : (news : List Row) → works register_schema Enforced 0 13 [] news ≡ []
+copy_idle_alone : (news : List Row) → works (old_schema None None) Enforced 0 13 [] news ≡ []
 unfolding everything
-copy_idle news = elim (cases_Bool (length news == 0)) [ inl none ↦ rw none | inr some ↦ rw some ]
+copy_idle_alone news = elim (cases_Bool (length news == 0)) [ inl none ↦ rw none | inr some ↦ rw some ]
+
+copy_idle : (l : Layout) (news : List Row) → works (register_schema l) Enforced 0 13 [] news ≡ []
+copy_idle l news = works_same l 0 13 [] news ∙ copy_idle_alone news
 
 abbrev copy_one_text : List ℕ
 copy_one_text = codes "INSERT INTO placements (variant, supplier, frame, slot, channels, base, repetition) SELECT ?2, supplier, frame, slot, channels, base, repetition FROM placements WHERE variant = ?1 AND supplier = ?3 AND frame = ?4"
@@ -88,7 +93,7 @@ unfolding understood everything
 copy_one_is from to supplier frame = record {
   tests = op2 (Compare Eq Binary) (col 1 1) (col 0 0) ∷ op2 (Compare Eq Binary) (col 1 2) (col 0 2) ∷ op2 (Compare Eq Binary) (col 1 3) (col 0 3) ∷ [];
   project = lit Null ∷ col 0 1 ∷ col 1 2 ∷ col 1 3 ∷ col 1 4 ∷ col 1 5 ∷ col 1 6 ∷ col 1 7 ∷ [];
-  is = record { at = 7; by = Binary ∷ Binary ∷ Binary ∷ Binary ∷ Binary ∷ Binary ∷ Binary ∷ Binary ∷ []; is = refl; plain = (refl, refl); place = refl; bare = refl; stored = λ db. refl; idle = copy_idle };
+  is = λ l. record { at = 7; by = Binary ∷ Binary ∷ Binary ∷ Binary ∷ Binary ∷ Binary ∷ Binary ∷ Binary ∷ []; is = refl; plain = (refl, refl); place = refl; bare = refl; stored = λ db. refl; idle = copy_idle l };
   tested = λ p. rw (equal_texts p.1.variant from, equal_texts p.1.supplier supplier, equal_texts p.1.frame frame, and_true);
   gives = λ p. rw (cast_null, cast_integer p.1.slot, cast_integer p.1.base, cast_integer p.1.repetition);
 }
@@ -97,15 +102,15 @@ pub copies_one : (from to supplier frame : List ℕ) (old new : State) (r : Resu
     → MatchResult r (λ _. Copies (placement_copies from to supplier frame) with_placements old new) (λ _. Stays old new)
 copies_one from to supplier frame old new (Err e) was h = stays_inside copy_one_text _ old new e h
 copies_one from to supplier frame old new (Ok count) was h =
-    let did = makes_copies of_placement placement_in _ _ placements.name placements.tree placements.columns placements.key placements.primary placements.uniques placements.checks placements.references copy_one_text _ (copy_one_is from to supplier frame) (λ id x. refl) old new count was.schema was.placements h.0 in
+    let did = makes_copies of_placement placement_in _ _ placements.name placements.tree placements.columns placements.key placements.primary placements.uniques placements.checks placements.references copy_one_text _ (copy_one_is from to supplier frame) (λ id x. refl) (layout_of old.now.trees) old new count was.schema was.placements h.0 in
     record { copies = did.copied; same = did.same; added = placements_made old new was _ did.wrote did.made }
 
 abbrev pub select_text : List ℕ
 select_text = codes "SELECT frame, slot, channels, base, repetition FROM placements WHERE variant = ?1 AND supplier = ?2 ORDER BY frame, slot, channels, base, repetition"
 
-pub by_supplier : (variant : List ℕ) (supplier : List ℕ) → Queries register_schema of_placement shows_placement (is_placed_by variant supplier) placements_cmp 13 select_text (Text variant ∷ Text supplier ∷ [])
+pub by_supplier : (variant : List ℕ) (supplier : List ℕ) (l : Layout) → Queries (register_schema l) of_placement shows_placement (is_placed_by variant supplier) placements_cmp 13 select_text (Text variant ∷ Text supplier ∷ [])
 unfolding understood everything
-by_supplier variant supplier = record {
+by_supplier variant supplier l = record {
   tests = op2 (Compare Eq Binary) (col 1 1) (col 0 0) ∷ op2 (Compare Eq Binary) (col 1 2) (col 0 1) ∷ [];
   order = (col 1 3, ascending Binary) ∷ (col 1 4, ascending Binary) ∷ (col 1 5, ascending Binary) ∷ (col 1 6, ascending Binary) ∷ (col 1 7, ascending Binary) ∷ [];
   project = col 1 3 ∷ col 1 4 ∷ col 1 5 ∷ col 1 6 ∷ col 1 7 ∷ [];

@@ -14,7 +14,7 @@ use Rattle.sqlite_rules.specs.Lists.{Has}
 use Rattle.sqlite_rules.proofs.ListLemmas.{all_has, all_from, has_filtered}
 use Rattle.sqlite_trees.specs.View.{is_int}
 use Rattle.sqlite_trees.proofs.ListLemmas.{all_weaker, all-map, ascending-map, ascending_weaker, map-map}
-use Rattle.fr_tables.specs.Schema.{register_schema}
+use Rattle.fr_tables.specs.Schema.{Layout, register_schema}
 use Rattle.fr_tables.specs.Tables.{AreKept}
 use Rattle.fr_tables.proofs.Written.{WritesTo, AreMade}
 use Rattle.fr_tables.proofs.DeleteLemmas.{own_id, has_permuted}
@@ -24,7 +24,7 @@ use Rattle.fr_tables.proofs.UpdateLemmas.{UpdatesBy, updated, renewed, turned, r
 pub record Renews {X : Type 0} (columns : X → Row) (passes : X → Bool) (next : X → X) (table : Table) (text : List ℕ) (params : Row) : Type 0 where
   pub tests : List Term
   pub terms : List Term
-  pub is : UpdatesBy register_schema table text tests terms
+  pub is : (l : Layout) → UpdatesBy (register_schema l) table text tests terms
   pub tested : (p : Value × X) → list_all (holds (params ∷ (p.0 ∷ columns p.1) ∷ [])) tests ≡ passes p.1
   pub gives : (n : ℤ) (x : X) → renewed table terms params (Int n ∷ columns x) ≡ Int n ∷ columns (next x)
 
@@ -63,11 +63,11 @@ module _ {X : Type 0} (columns : X → Row) (read : Row → X) (reads : (id : Va
       elim (test r) as (λ b. cond b (heir r) r ≡ rowid (cond b (heir r) r) ∷ columns (read (cond b (heir r) r)))
       [ true ↦ ap (λ x. rowid r ∷ columns x) (sym (reads (rowid r) (next (read r)))) | false ↦ typed ]
 
-  pub renews : (old new : State) (count : ℕ) → old.now.schema ≡ register_schema → AreKept columns read (old.now.trees table.tree) → Executes text params old new (Ok count)
-      → WritesTo register_schema table.tree old new × AreMade columns read (new.now.trees table.tree) (map changed (map read (old.now.trees table.tree)))
-  renews old new count has kept h =
+  pub renews : (l : Layout) (old new : State) (count : ℕ) → old.now.schema ≡ register_schema l → AreKept columns read (old.now.trees table.tree) → Executes text params old new (Ok count)
+      → WritesTo (register_schema l) table.tree old new × AreMade columns read (new.now.trees table.tree) (map changed (map read (old.now.trees table.tree)))
+  renews l old new count has kept h =
       let rows = old.now.trees table.tree in
-      let did = updated register_schema table text d.tests d.terms d.is params old new count has h in
+      let did = updated (register_schema l) table text d.tests d.terms (d.is l) params old new count has h in
       let all = did.applies in
       let there = λ (r : Row) (k : Has did.found r). let x : Has rows r = (has_filtered test rows r (has_permuted (filter test rows) did.found r did.same k)).0 in x in
       let news : map (renewed table d.terms params) did.found ≡ map heir did.found = map_on _ _ did.found (all_from _ did.found (λ r k. heir_of rows r kept (there r k))) in
@@ -82,6 +82,6 @@ module _ {X : Type 0} (columns : X → Row) (read : Row → X) (reads : (id : Va
       } in
       let values : map read (map (turned test heir) rows) ≡ map changed (map read rows) =
       map-map _ _ rows ∙ map_on _ _ rows (all_from _ rows (λ r k. turned_in rows r kept k)) ∙ sym (map-map changed read rows) in (
-        record { schema_is = did.schema_is; others = all.tables; shown = did.shown },
+        record { still = did.still; others = all.tables; shown = did.shown },
         record { kept = subst (AreKept columns read) (sym rows_are) now_kept; values_are = ap (map read) rows_are ∙ values },
       )

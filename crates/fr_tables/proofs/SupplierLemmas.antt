@@ -9,7 +9,7 @@ use Rattle.sqlite.specs.Collation.TheVariants.{Binary}
 use Rattle.sqlite_value.specs.Keys.{ascending}
 use Rattle.sqlite_value.proofs.OrderLemmas.{value_cmp-Text, then-Equal}
 use Rattle.sqlite_tied.specs.Compute.{everything}
-use Rattle.fr_tables.specs.Schema.{register_schema, suppliers}
+use Rattle.fr_tables.specs.Schema.{Layout, layout_of, register_schema, suppliers}
 use Rattle.fr_tables.specs.Rows.{SupplierRow, of_supplier, supplier_in}
 use Rattle.fr_tables.specs.Tables.{HasTables}
 use Rattle.fr_tables.specs.Changes.{Changes, Stays}
@@ -17,15 +17,16 @@ use Rattle.fr_tables.specs.Statements.{with_supplier, shows_supplier, suppliers_
 use Rattle.fr_tables.proofs.Compared.{cast_null}
 use Rattle.fr_tables.proofs.InsertLemmas.{Adds, adds, added}
 use Rattle.fr_tables.proofs.ChangeLemmas.{suppliers_made}
+use Rattle.fr_tables.proofs.BehindLemmas.{works_same}
 use Rattle.fr_tables.proofs.RunLemmas.{stays_inside}
 use Rattle.fr_tables.proofs.FindLemmas.{Queries}
 
 abbrev insert_text : List ℕ
 insert_text = codes "INSERT INTO suppliers (name, key) VALUES (?1, ?2)"
 
-insert_is : (s : SupplierRow) → Adds register_schema suppliers.name suppliers.tree suppliers.columns suppliers.key suppliers.primary suppliers.uniques suppliers.checks suppliers.references insert_text (of_supplier s) (of_supplier s)
+insert_is : (s : SupplierRow) (l : Layout) → Adds (register_schema l) suppliers.name suppliers.tree suppliers.columns suppliers.key suppliers.primary suppliers.uniques suppliers.checks suppliers.references insert_text (of_supplier s) (of_supplier s)
 unfolding understood everything
-insert_is s = record {
+insert_is s l = record {
   at = 2;
   terms = lit Null ∷ col 0 0 ∷ col 0 1 ∷ [];
   width = 3;
@@ -38,22 +39,23 @@ insert_is s = record {
   typed = refl;
   gives = refl;
   stores = rw cast_null;
-  idle = λ new. refl;
+  idle = λ new. works_same l 0 2 [] (new ∷ []);
 }
 
 pub inserts : (s : SupplierRow) (old new : State) (r : Result ℕ Error) → HasTables old.now → ExecutesInside 0 insert_text (of_supplier s) old new r
     → MatchResult r (λ _. Changes (with_supplier s) old new) (λ _. Stays old new)
 inserts s old new (Err e) was h = stays_inside insert_text _ old new e h
 inserts s old new (Ok count) was h =
-    let did = adds register_schema suppliers.name suppliers.tree suppliers.columns suppliers.key suppliers.primary suppliers.uniques suppliers.checks suppliers.references insert_text (of_supplier s) (of_supplier s) (insert_is s) old new count was.schema h.0 in
-    suppliers_made old new was _ did.wrote (added register_schema suppliers.name suppliers.tree suppliers.columns suppliers.key suppliers.primary suppliers.uniques suppliers.checks suppliers.references of_supplier supplier_in s (λ id. refl) old new did was.suppliers)
+    let l = layout_of old.now.trees in
+    let did = adds (register_schema l) suppliers.name suppliers.tree suppliers.columns suppliers.key suppliers.primary suppliers.uniques suppliers.checks suppliers.references insert_text (of_supplier s) (of_supplier s) (insert_is s l) old new count was.schema h.0 in
+    suppliers_made old new was _ did.wrote (added (register_schema l) suppliers.name suppliers.tree suppliers.columns suppliers.key suppliers.primary suppliers.uniques suppliers.checks suppliers.references of_supplier supplier_in s (λ id. refl) old new did was.suppliers)
 
 abbrev pub select_text : List ℕ
 select_text = codes "SELECT name, key FROM suppliers ORDER BY name"
 
-pub by_name : Queries register_schema of_supplier shows_supplier (every) suppliers_cmp 2 select_text ([])
+pub by_name : (l : Layout) → Queries (register_schema l) of_supplier shows_supplier (every) suppliers_cmp 2 select_text ([])
 unfolding understood everything
-by_name = record {
+by_name l = record {
   tests = [];
   order = (col 1 1, ascending Binary) ∷ [];
   project = col 1 1 ∷ col 1 2 ∷ [];

@@ -15,7 +15,7 @@ use Rattle.sqlite_sql.specs.Ops.{is_null}
 use Rattle.sqlite_trees.specs.View.{View, IsShaped, IsOrdered, is_int}
 use Rattle.sqlite_trees.specs.declared.store.Shape.TheVariants as shape
 use Rattle.sqlite_trees.specs.Objects.{IsListed, catalog_tree}
-use Rattle.sqlite_trees.proofs.ListLemmas.{all_weaker}
+use Rattle.sqlite_trees.proofs.ListLemmas.{all-append, all_weaker}
 use Rattle.sqlite_catalog.proofs.LayoutLemmas.{laid_out, objects_rise}
 use Rattle.std.proofs.lemmas.Bool.{cases_Bool}
 use Rattle.sqlite_schema.specs.declared.schema.Column.{Column}
@@ -23,7 +23,9 @@ use Rattle.sqlite_schema.specs.declared.schema.Constraint.TheVariants.{Datatype,
 use Rattle.sqlite_schema.specs.Names.{is_key}
 use Rattle.sqlite_schema.specs.Rules.{are_typed, are_present, has_computed, is_of, suits}
 use Rattle.sqlite_catalog.specs.Listing.{IsSound}
-use Rattle.fr_tables.specs.Schema.{register_schema, old_schema, register, cluster, suppliers, nodes, variants, grants, frames, placements, signals, imports, dropped, cluster2}
+use Rattle.fr_tables.specs.Schema.{register_schema, old_schema, register, cluster, suppliers, nodes, variants, grants, frames, placements, signals, imports, dropped, cluster2_at, tables_and, tables_at, behind_them, old_tables, layout_of, Layout, IsBehind, HasRoom, IsOurs, IsOld}
+use Rattle.fr_tables.proofs.LayoutLemmas.{ours_there, old_there}
+use Rattle.fr_tables.proofs.BehindLemmas.{last_of}
 use Rattle.fr_tables.specs.Rows.{words, number, bytes, maybe_words, of_maybe, of_register, of_cluster, of_supplier, of_node, of_variant, of_grant, of_frame, of_placement, of_signal, of_import, of_dropped, register_in, cluster_in, supplier_in, node_in, variant_in, grant_in, frame_in, placement_in, signal_in, import_in, dropped_in, of_cluster2, cluster2_in}
 use Rattle.fr_tables.specs.Tables.{AreKept, HasTables, HasOldTables, AreOrdered, AreOrderedBefore, AreRising}
 
@@ -167,12 +169,14 @@ module _ {X : Type 0} (columns : X → Row) (read : Row → X) (t : Table) (says
   kept rows ordered typed present = record { rise = ordered.0; numbered = ordered.1; typed = all_typed rows ordered.1 typed present }
 
 -- trees that obey the schema before, in order, are its tables
-typed_before : (db : Trees) → IsSound old_schema db → AreOrderedBefore db → HasOldTables (record { schema = old_schema; trees = db })
-typed_before db sound o =
+typed_before : (db : Trees) → HasRoom (layout_of db).index → HasRoom (layout_of db).before → IsSound (old_schema (layout_of db).index (layout_of db).before) db → AreOrderedBefore db → HasOldTables (record { schema = old_schema (layout_of db).index (layout_of db).before; trees = db })
+typed_before db one two sound o =
     let t = sound.obeys.rules Datatype in
     let p = sound.obeys.rules NotNull in
     record {
       schema = refl;
+      first = one;
+      second = two;
       register = kept of_register register_in register (λ row. refl) refl refl (db 0) o.0 t.0 p.0;
       cluster = kept of_cluster cluster_in cluster (λ row. refl) refl refl (db 1) o.1.0 t.1.0 p.1.0;
       suppliers = kept of_supplier supplier_in suppliers (λ row. refl) refl refl (db 2) o.1.1.0 t.1.1.0 p.1.1.0;
@@ -186,18 +190,23 @@ typed_before db sound o =
       dropped = kept of_dropped dropped_in dropped (λ row. refl) refl refl (db 19) o.1.1.1.1.1.1.1.1.1.1.0 t.1.1.1.1.1.1.1.1.1.1.0 p.1.1.1.1.1.1.1.1.1.1.0;
     }
 
-pub has_before : (db : Database) → IsSound db.schema db.trees → db.schema ≡ old_schema → AreOrderedBefore db.trees → HasOldTables db
-has_before db sound schema ordered =
-    let same : record { schema = old_schema; trees = db.trees } ≡ db = λ i. record { schema = sym schema i; trees = db.trees } in
-    subst HasOldTables same (typed_before db.trees (subst (λ s. IsSound s db.trees) schema sound) ordered)
+pub has_before : (db : Database) → IsSound db.schema db.trees → IsOld db.schema → AreOrderedBefore db.trees → HasOldTables db
+has_before db sound old ordered =
+    let there = old_there db sound old in
+    let l = layout_of db.trees in
+    let schema : db.schema ≡ old_schema l.index l.before = old.is ∙ (λ i. old_schema (sym there.0 i) (sym there.1 i)) in
+    let same : record { schema = old_schema l.index l.before; trees = db.trees } ≡ db = λ i. record { schema = sym schema i; trees = db.trees } in
+    subst HasOldTables same
+    (typed_before db.trees (subst HasRoom (sym there.0) old.first) (subst HasRoom (sym there.1) old.second) (subst (λ s. IsSound s db.trees) schema sound) ordered)
 
 -- trees that obey the register's schema, in order, are its tables
-typed_tables : (db : Trees) → IsSound register_schema db → AreOrdered db → HasTables (record { schema = register_schema; trees = db })
-typed_tables db sound o =
+typed_tables : (db : Trees) → IsBehind (layout_of db) → IsSound (register_schema (layout_of db)) db → AreOrdered db → HasTables (record { schema = register_schema (layout_of db); trees = db })
+typed_tables db behind sound o =
     let t = sound.obeys.rules Datatype in
     let p = sound.obeys.rules NotNull in
     record {
       schema = refl;
+      behind = behind;
       register = kept of_register register_in register (λ row. refl) refl refl (db 0) o.0 t.0 p.0;
       cluster = kept of_cluster cluster_in cluster (λ row. refl) refl refl (db 1) o.1.0 t.1.0 p.1.0;
       suppliers = kept of_supplier supplier_in suppliers (λ row. refl) refl refl (db 2) o.1.1.0 t.1.1.0 p.1.1.0;
@@ -209,17 +218,29 @@ typed_tables db sound o =
       signals = kept of_signal signal_in signals (λ row. refl) refl refl (db 15) o.1.1.1.1.1.1.1.1.0 t.1.1.1.1.1.1.1.1.0 p.1.1.1.1.1.1.1.1.0;
       imports = kept of_import import_in imports (λ row. refl) refl refl (db 17) o.1.1.1.1.1.1.1.1.1.0 t.1.1.1.1.1.1.1.1.1.0 p.1.1.1.1.1.1.1.1.1.0;
       dropped = kept of_dropped dropped_in dropped (λ row. refl) refl refl (db 19) o.1.1.1.1.1.1.1.1.1.1.0 t.1.1.1.1.1.1.1.1.1.1.0 p.1.1.1.1.1.1.1.1.1.1.0;
-      cluster2 = kept of_cluster2 cluster2_in cluster2 (λ row. refl) refl refl (db 22) o.1.1.1.1.1.1.1.1.1.1.1.0 t.1.1.1.1.1.1.1.1.1.1.1.0 p.1.1.1.1.1.1.1.1.1.1.1.0;
+      cluster2 = kept of_cluster2 cluster2_in (cluster2_at (layout_of db).cluster2) (λ row. refl) refl refl (db (layout_of db).cluster2) o.1.1.1.1.1.1.1.1.1.1.1.0 (last_of _ (layout_of db) t.1.1.1.1.1.1.1.1.1.1.1) (last_of _ (layout_of db) p.1.1.1.1.1.1.1.1.1.1.1);
     }
 
-pub has_tables : (db : Database) → IsSound db.schema db.trees → db.schema ≡ register_schema → AreOrdered db.trees → HasTables db
-has_tables db sound schema ordered =
-    let same : record { schema = register_schema; trees = db.trees } ≡ db = λ i. record { schema = sym schema i; trees = db.trees } in
-    subst HasTables same (typed_tables db.trees (subst (λ s. IsSound s db.trees) schema sound) ordered)
+pub has_tables : (db : Database) → IsSound db.schema db.trees → IsOurs db.schema → AreOrdered db.trees → HasTables db
+has_tables db sound ours ordered =
+    let there = ours_there db sound ours in
+    let schema : db.schema ≡ register_schema (layout_of db.trees) = ours.is ∙ ap register_schema (sym there) in
+    let same : record { schema = register_schema (layout_of db.trees); trees = db.trees } ≡ db = λ i. record { schema = sym schema i; trees = db.trees } in
+    subst HasTables same (typed_tables db.trees (subst IsBehind (sym there) ours.behind) (subst (λ s. IsSound s db.trees) schema sound) ordered)
 
 -- and tables are in order
 pub in_order : (db : Database) → HasTables db → AreOrdered db.trees
 in_order db h = ((h.register.rise, h.register.numbered), ((h.cluster.rise, h.cluster.numbered), ((h.suppliers.rise, h.suppliers.numbered), ((h.nodes.rise, h.nodes.numbered), ((h.variants.rise, h.variants.numbered), ((h.grants.rise, h.grants.numbered), ((h.frames.rise, h.frames.numbered), ((h.placements.rise, h.placements.numbered), ((h.signals.rise, h.signals.numbered), ((h.imports.rise, h.imports.numbered), ((h.dropped.rise, h.dropped.numbered), ((h.cluster2.rise, h.cluster2.numbered), tt))))))))))))
+
+-- of tables that are in order those are that are a register's
+abbrev Rising : Trees → Table → Type 0
+Rising db t = IsTable (db t.tree) × AllByRecursion (λ r. IsTrue (is_int (rowid r))) (db t.tree)
+
+pub eleven_rise : (more : List Table) (db : Trees) → AreRising (tables_and more) db → AreRising old_tables db
+eleven_rise more db k = (k.0, (k.1.0, (k.1.1.0, (k.1.1.1.0, (k.1.1.1.1.0, (k.1.1.1.1.1.0, (k.1.1.1.1.1.1.0, (k.1.1.1.1.1.1.1.0, (k.1.1.1.1.1.1.1.1.0, (k.1.1.1.1.1.1.1.1.1.0, (k.1.1.1.1.1.1.1.1.1.1.0, tt)))))))))))
+
+pub ours_rise : (l : Layout) (db : Trees) → AreRising (tables_at l) db → AreRising (tables_and (cluster2_at l.cluster2 ∷ [])) db
+ours_rise l db k = all-append (Rising db) old_tables (cluster2_at l.cluster2 ∷ []) (eleven_rise (behind_them l) db k) (last_of (Rising db) l k.1.1.1.1.1.1.1.1.1.1.1, tt)
 
 -- the tables of a sound store are in order, whatever its schema is
 pub ordered_in : (schema : Schema) (v : View) → IsOrdered v.shape v.trees → IsListed (v.trees catalog_tree) v.shape v.reals → IsSound schema v.trees → AreRising schema.tables v.trees

@@ -43,6 +43,7 @@ use Rattle.sqlite_rules.specs.Calls.{ids_of}
 use Rattle.sqlite_rules.specs.Edit.{Edit, numbered, taken_by}
 use Rattle.sqlite_rules.specs.Action.{Writes}
 use Rattle.sqlite_rules.proofs.PlaceLemmas.{given}
+use Rattle.fr_tables.proofs.Written.{IsStill}
 use Rattle.fr_tables.proofs.RunLemmas.{updates}
 use Rattle.fr_tables.proofs.ReadLemmas.{scan, scanned}
 use Rattle.fr_tables.proofs.DeleteLemmas.{erased, has_permuted, mapped_from}
@@ -148,7 +149,7 @@ abbrev pub edit_by : Table → List Term → Row → List Row → Edit
 edit_by table columns params found = record { table = table; gone = map (λ r. id_in (rowid r)) found; news = map (renewed table columns params) found }
 
 pub record HasUpdated (schema : Schema) (table : Table) (tests : List Term) (columns : List Term) (params : Row) (old new : State) : Type 0 where
-  pub schema_is : new.now.schema ≡ schema
+  pub still : IsStill schema new.now
   pub found : List Row
   pub same : IsPermutation (filter (λ r. list_all (holds (params ∷ r ∷ [])) tests) (old.now.trees table.tree)) found
   pub applies : Applies schema Enforced old.now.trees (edit_by table columns params found) new.now.trees
@@ -175,7 +176,7 @@ updated schema table text tests columns d params old new count has h =
     let writes : Writes schema Enforced db (edit_by table columns params found) (Ok new.now.trees) = subst₂ (λ e t. Writes schema Enforced db e (Ok t)) edit (sym now) edited.1 in
     let none = d.idle (taken_by db (edit_by table columns params found)) (map (renewed table columns params) found) (simp length-map) in
     record {
-      schema_is = ap (λ (d : Database). d.schema) ran.now;
+      still = ran.still;
       found = found;
       same = scans.same;
       applies = one_step schema Enforced db new.now.trees (edit_by table columns params found) none writes;

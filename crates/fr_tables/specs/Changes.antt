@@ -11,10 +11,11 @@ use Rattle.fr_tables.specs.Tables.{Tables, HasTables, tables_in}
 abbrev pub tables_of : State → Tables
 tables_of s = tables_in s.now.trees
 
--- the tables are changed so, and outside a transaction the change is committed
+-- the tables are changed so, the schema stays, and outside a transaction the change is committed
 pub record Changes (change : Tables → Tables) (old new : State) : Type 0 where
   pub has : HasTables new.now
   pub now : tables_of new ≡ change (tables_of old)
+  pub schema : new.now.schema ≡ old.now.schema
   pub shown : Shows old new new.now (if old.in_transaction then old.committed else new.now) old.in_transaction
 
 -- nothing is changed, or the transaction is undone

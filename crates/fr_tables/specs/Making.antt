@@ -1,10 +1,11 @@
 -- Making: how far the tables are made. They have no row, and there are so many of them, all of the schema before, or
 -- all of this one. How the schema before becomes this one.
-use Rattle.std.specs.Prelude.{◌≡◌, ℕ, [], take, Result, MatchResult, IsTrue}
+use Rattle.std.specs.Prelude.{◌≡◌, ℕ, None, [], take, Result, MatchResult, IsTrue}
 use Rattle.std.specs.List.{AllByRecursion}
 use Rattle.sqlite.specs.Effect.{Database}
+use Rattle.sqlite.specs.Tree.{Trees}
 use Rattle.sqlite.specs.State.{State, Shows, HasCleanDisk, KeepsCommit}
-use Rattle.fr_tables.specs.Schema.{schema_of, all_tables}
+use Rattle.fr_tables.specs.Schema.{Layout, schema_of, all_tables, old_schema, register_schema, layout_of, layout_made, renewed_layout}
 use Rattle.fr_tables.specs.Tables.{Tables, HasTables, HasOldTables, old_tables_in}
 use Rattle.fr_tables.specs.Changes.{Stays, tables_of}
 
@@ -25,15 +26,22 @@ MakesTable count others next others_next old new r =
 abbrev pub no_rows : Tables
 no_rows = record { register = []; cluster = []; suppliers = []; nodes = []; variants = []; grants = []; frames = []; placements = []; signals = []; imports = []; dropped = []; cluster2 = [] }
 
+-- where the tables of the schema before would have `cluster2`
+abbrev pub renewed_at : Trees → Layout
+renewed_at db = renewed_layout (layout_of db).index (layout_of db).before
+
 -- all tables are there, with no row
 pub record IsMade (old new : State) : Type 0 where
   pub has : HasTables new.now
+  pub schema : new.now.schema ≡ register_schema layout_made
   pub empty : tables_of new ≡ no_rows
   pub shown : Shows old new new.now old.committed old.in_transaction
 
 -- all tables of the schema before are there, with no row
 pub record IsOldMade (old new : State) : Type 0 where
   pub has : HasOldTables new.now
+  pub schema : new.now.schema ≡ old_schema layout_made.index None
+  pub placed : renewed_at new.now.trees ≡ layout_made
   pub empty : old_tables_in new.now.trees ≡ no_rows
   pub shown : Shows old new new.now old.committed old.in_transaction
 
@@ -48,6 +56,7 @@ MakesOldWhole old new r = HasCleanDisk new → IsTrue old.in_transaction → IsF
 -- the tables of the schema before are those of this one, `cluster2` with no row
 pub record IsRenewed (old new : State) : Type 0 where
   pub has : HasTables new.now
+  pub schema : new.now.schema ≡ register_schema (renewed_at old.now.trees)
   pub same : tables_of new ≡ old_tables_in old.now.trees
   pub shown : Shows old new new.now old.committed old.in_transaction
 

@@ -1,12 +1,19 @@
 -- Schema: the tables with their columns, keys and rules, as SQLite reads them from the statements that make them; and
--- so the tables of the schema before, which lack the last one.
-use Rattle.std.specs.Prelude.{◌++◌, ℕ, true, false, List, [], ◌∷◌, map, take, codes, pos, Option, Some, None}
+-- so the tables of the schema before, which lack the last one. Where the last one, the index and the table of ANALYZE
+-- stand, by the list of objects.
+use Rattle.std.specs.Prelude.{◌≡◌, ◌++◌, ◌-◌, ◌<◌, ℕ, zero, suc, IfSome, option_map, filter, Bool, true, false, if◌then◌else◌, unwrap_or, List, [], ◌∷◌, map, take, codes, pos, bytes_eq, Option, Some, None}
 use Rattle.sqlite.specs.Collation.TheVariants.{Binary}
-use Rattle.sqlite.specs.declared.types.Value.TheVariants.{Null, Int}
+use Rattle.sqlite.specs.declared.types.Value.{Value}
+use Rattle.sqlite.specs.declared.types.Value.TheVariants.{Null, Int, Text as Words}
+use Rattle.sqlite.specs.Order.{Row, column as cell}
+use Rattle.sqlite.specs.Tree.{Trees, rowid}
+use Rattle.sqlite_trees.specs.Objects.{catalog_tree, number_in}
+use Rattle.sqlite_catalog.specs.Listing.{is_table_row, is_index_row}
 use Rattle.sqlite.specs.Table.{Table}
 use Rattle.sqlite.specs.Schema.{Schema}
+use Rattle.sqlite.specs.Change.{next_tree}
 use Rattle.sqlite.specs.Kind.{Kind}
-use Rattle.sqlite.specs.Kind.TheVariants.{Integer, Text, Blob}
+use Rattle.sqlite.specs.Kind.TheVariants.{Integer, Text, Blob, Any}
 use Rattle.sqlite.specs.Term.{Term, lit, col, op2}
 use Rattle.sqlite_sql.specs.declared.ops.BinaryOp.TheVariants.{Compare, And, Or}
 use Rattle.sqlite_sql.specs.declared.ops.CompareOp.TheVariants.{Eq, Ge, Le}
@@ -167,15 +174,59 @@ imports = imports_at 17
 abbrev pub dropped : Table
 dropped = dropped_at 19
 
--- made after the index, so that its tree is the same in a register that was made before it
+-- the table that ANALYZE makes
+abbrev pub loose : List ℕ → Column
+loose name = record { name = name; kind = Any; is_strict = false; not_null = false; default = Null; collation = Binary }
+
+abbrev pub stats_table : ℕ → Table
+stats_table tree = table (codes "sqlite_stat1") tree (loose (codes "tbl") ∷ loose (codes "idx") ∷ loose (codes "stat") ∷ []) None [] [] [] []
+
+abbrev pub stats_at : Option ℕ → List Table
+stats_at None = []
+stats_at (Some tree) = stats_table tree ∷ []
+
+-- where what was made after these tables stands, since another SQLite may have moved or made it: the tree of `cluster2`;
+-- that of the index, if there is one; and that of the table that ANALYZE makes, before `cluster2` or behind it
+pub record Layout : Type 0 where
+  pub cluster2 : ℕ
+  pub index : Option ℕ
+  pub before : Option ℕ
+  pub behind : Option ℕ
+
+-- the tree is one of the first four behind the tables of the schema before
+abbrev pub IsNear : ℕ → Type 0
+IsNear tree = (20 < tree) × (tree < 25)
+
+-- `cluster2` stands there, and the table of ANALYZE, if it is before that, between them
+abbrev pub IsBehind : Layout → Type 0
+IsBehind l = IsNear l.cluster2 × IfSome l.before (λ tree. (20 < tree) × (tree < l.cluster2))
+
+-- the tree is one of the first three there, if there is one, so that `cluster2` will be one of the four
+abbrev pub HasRoom : Option ℕ → Type 0
+HasRoom place = IfSome place (λ tree. (20 < tree) × (tree < 24))
+
+-- as they are made: `cluster2` after the index, as in a register of the schema before
+abbrev pub layout_made : Layout
+layout_made = record { cluster2 = 22; index = Some 21; before = None; behind = None }
+
 abbrev pub cluster2 : Table
-cluster2 = cluster2_at 22
+cluster2 = cluster2_at layout_made.cluster2
 
 abbrev pub old_tables : List Table
 old_tables = register ∷ cluster ∷ suppliers ∷ nodes ∷ variants ∷ grants ∷ frames ∷ placements ∷ signals ∷ imports ∷ dropped ∷ []
 
+-- with more behind them
+abbrev pub tables_and : List Table → List Table
+tables_and more = register ∷ cluster ∷ suppliers ∷ nodes ∷ variants ∷ grants ∷ frames ∷ placements ∷ signals ∷ imports ∷ dropped ∷ more
+
+abbrev pub behind_them : Layout → List Table
+behind_them l = stats_at l.before ++ cluster2_at l.cluster2 ∷ stats_at l.behind
+
+abbrev pub tables_at : Layout → List Table
+tables_at l = tables_and (behind_them l)
+
 abbrev pub all_tables : List Table
-all_tables = register ∷ cluster ∷ suppliers ∷ nodes ∷ variants ∷ grants ∷ frames ∷ placements ∷ signals ∷ imports ∷ dropped ∷ cluster2 ∷ []
+all_tables = tables_at layout_made
 
 abbrev unique : List ℕ → ℕ → ℕ → List ℕ → Index
 unique name tree table columns = record { name = name; tree = tree; table = table; columns = columns; order = plain; is_unique = true }
@@ -189,16 +240,87 @@ key_indexes =
     ∷ unique (codes "sqlite_autoindex_imports_1") 18 17 (1 ∷ 2 ∷ []) ∷ unique (codes "sqlite_autoindex_dropped_1") 20 19 (1 ∷ 2 ∷ 3 ∷ []) ∷ []
 
 -- by which a variant's grants to a supplier are found
-abbrev pub grants_index : Index
-grants_index = record { name = codes "grants_by_supplier"; tree = 21; table = 9; columns = 1 ∷ 4 ∷ []; order = plain; is_unique = false }
+abbrev pub grants_index : ℕ → Index
+grants_index tree = record { name = codes "grants_by_supplier"; tree = tree; table = 9; columns = 1 ∷ 4 ∷ []; order = plain; is_unique = false }
+
+-- no statement needs it
+abbrev pub index_at : Option ℕ → List Index
+index_at None = []
+index_at (Some tree) = grants_index tree ∷ []
 
 -- the first so many tables, with the first so many indexes
 abbrev pub schema_of : ℕ → ℕ → Schema
 schema_of count others = record { tables = take count all_tables; indexes = take others key_indexes; views = [] }
 
 -- the schema before that of this version
-abbrev pub old_schema : Schema
-old_schema = record { tables = old_tables; indexes = key_indexes ++ grants_index ∷ []; views = [] }
+abbrev pub old_schema : Option ℕ → Option ℕ → Schema
+old_schema index stats = record { tables = tables_and (stats_at stats); indexes = key_indexes ++ index_at index; views = [] }
 
-abbrev pub register_schema : Schema
-register_schema = record { tables = all_tables; indexes = key_indexes ++ grants_index ∷ []; views = [] }
+abbrev pub register_schema : Layout → Schema
+register_schema l = record { tables = tables_at l; indexes = key_indexes ++ index_at l.index; views = [] }
+
+-- the schema is that of this version, wherever these stand
+pub record IsOurs (schema : Schema) : Type 0 where
+  pub layout : Layout
+  pub is : schema ≡ register_schema layout
+  pub behind : IsBehind layout
+
+-- the schema is the one before, wherever the index and the table of ANALYZE stand, if they are there
+pub record IsOld (schema : Schema) : Type 0 where
+  pub index : Option ℕ
+  pub stats : Option ℕ
+  pub is : schema ≡ old_schema index stats
+  pub first : HasRoom index
+  pub second : HasRoom stats
+
+-- where a register of the schema before has them once `cluster2` is made: it stands behind all others
+abbrev pub renewed_layout : Option ℕ → Option ℕ → Layout
+renewed_layout index stats = record { cluster2 = next_tree (old_schema index stats); index = index; before = stats; behind = None }
+
+-- the last index is in this tree, or none where none is given; the last table is in this tree, with the table of ANALYZE
+-- before it and behind it where trees are given for that
+abbrev pub moved_index : Option ℕ → Index → List Index
+moved_index None last = []
+moved_index (Some tree) last = record last { tree = tree } ∷ []
+
+abbrev pub MovesIndex : Option ℕ → Schema → Schema → Type 0
+MovesIndex tree old new = (before : List Index) (last : Index) → old.indexes ≡ before ++ last ∷ [] → new ≡ record old { indexes = before ++ moved_index tree last }
+
+abbrev pub MovesTable : ℕ → Option ℕ → Option ℕ → Schema → Schema → Type 0
+MovesTable tree before behind old new =
+    (front : List Table) (last : Table) → old.tables ≡ front ++ last ∷ [] → new ≡ record old { tables = front ++ (stats_at before ++ record last { tree = tree } ∷ stats_at behind) }
+
+abbrev pub AddsStats : Option ℕ → Schema → Schema → Type 0
+AddsStats tree old new = new ≡ record old { tables = old.tables ++ stats_at tree }
+
+-- ---- what the list of objects says
+
+abbrev pub is_word : List ℕ → Value → Bool
+is_word word (Words said) = bytes_eq said word
+is_word word _ = false
+
+-- the row at a place of a list, if it has as many
+abbrev pub row_at : ℕ → List Row → Option Row
+row_at n [] = None
+row_at zero (r ∷ rows) = Some r
+row_at (suc n) (r ∷ rows) = row_at n rows
+
+-- the tree of an object
+abbrev pub tree_in : Row → ℕ
+tree_in r = number_in (rowid r) - 1
+
+abbrev pub is_stats : Option Row → Bool
+is_stats None = false
+is_stats (Some r) = is_word (codes "sqlite_stat1") (cell r 2)
+
+-- by the tables that are listed after the eleven
+abbrev pub layout_by : Option ℕ → Option Row → Option Row → Option Row → Layout
+layout_by index first second third =
+    if is_stats first
+    then record { cluster2 = unwrap_or (option_map tree_in second) 0; index = index; before = option_map tree_in first; behind = option_map tree_in third }
+    else record { cluster2 = unwrap_or (option_map tree_in first) 0; index = index; before = None; behind = option_map tree_in second }
+
+unfoldable pub layout_of : Trees → Layout
+layout_of db =
+    let listed = filter is_table_row (db catalog_tree) in
+    layout_by (option_map tree_in (row_at 10 (filter is_index_row (db catalog_tree)))) (row_at 11 listed) (row_at 12 listed) (row_at 13 listed)

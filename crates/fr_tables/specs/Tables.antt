@@ -7,7 +7,7 @@ use Rattle.sqlite.specs.Table.{Table}
 use Rattle.sqlite.specs.Tree.{Trees, IsTable, rowid}
 use Rattle.sqlite_trees.specs.View.{is_int}
 use Rattle.sqlite.specs.Effect.{Database}
-use Rattle.fr_tables.specs.Schema.{register_schema, all_tables, old_schema, old_tables}
+use Rattle.fr_tables.specs.Schema.{IsBehind, HasRoom, register_schema, tables_and, cluster2_at, layout_of, old_schema, old_tables}
 use Rattle.fr_tables.specs.Rows.{
   RegisterRow,
   ClusterRow,
@@ -74,7 +74,7 @@ tables_in db = record {
   signals = map signal_in (db 15);
   imports = map import_in (db 17);
   dropped = map dropped_in (db 19);
-  cluster2 = map cluster2_in (db 22);
+  cluster2 = map cluster2_in (db (layout_of db).cluster2);
 }
 
 -- those of the schema before, which had no `cluster2`
@@ -89,7 +89,8 @@ pub record AreKept {X : Type 0} (columns : X → Row) (read : Row → X) (rows :
 
 -- the database has the tables, and each row its table's columns
 pub record HasTables (db : Database) : Type 0 where
-  pub schema : db.schema ≡ register_schema
+  pub schema : db.schema ≡ register_schema (layout_of db.trees)
+  pub behind : IsBehind (layout_of db.trees)
   pub register : AreKept of_register register_in (db.trees 0)
   pub cluster : AreKept of_cluster cluster_in (db.trees 1)
   pub suppliers : AreKept of_supplier supplier_in (db.trees 2)
@@ -101,11 +102,13 @@ pub record HasTables (db : Database) : Type 0 where
   pub signals : AreKept of_signal signal_in (db.trees 15)
   pub imports : AreKept of_import import_in (db.trees 17)
   pub dropped : AreKept of_dropped dropped_in (db.trees 19)
-  pub cluster2 : AreKept of_cluster2 cluster2_in (db.trees 22)
+  pub cluster2 : AreKept of_cluster2 cluster2_in (db.trees (layout_of db.trees).cluster2)
 
 -- the database has the tables of the schema before
 pub record HasOldTables (db : Database) : Type 0 where
-  pub schema : db.schema ≡ old_schema
+  pub schema : db.schema ≡ old_schema (layout_of db.trees).index (layout_of db.trees).before
+  pub first : HasRoom (layout_of db.trees).index
+  pub second : HasRoom (layout_of db.trees).before
   pub register : AreKept of_register register_in (db.trees 0)
   pub cluster : AreKept of_cluster cluster_in (db.trees 1)
   pub suppliers : AreKept of_supplier supplier_in (db.trees 2)
@@ -128,7 +131,7 @@ AreRising ts db = AllByRecursion (λ t. IsTable (db t.tree) × AllByRecursion (�
 
 -- so in each table of this schema
 abbrev pub AreOrdered : Trees → Type 0
-AreOrdered = AreRising all_tables
+AreOrdered db = AreRising (tables_and (cluster2_at (layout_of db).cluster2 ∷ [])) db
 
 -- and in each of the one before
 abbrev pub AreOrderedBefore : Trees → Type 0

@@ -13,7 +13,7 @@ use sqlite::{Alter, Connection, Error, Row};
 use sqlite_value::value::ValueRef;
 
 /// Asks in a transaction that is undone, so that whatever the text means there, the tables stay.
-pub fn asked<S: Alter>(conn: &mut Connection<S>, sql: &str) -> Result<Vec<Row>, Error>
+pub fn ask_and_undo<S: Alter>(conn: &mut Connection<S>, sql: &str) -> Result<Vec<Row>, Error>
     requires { conn.old.in_transaction ≡ false }
     ensures number { HasCleanDisk (state S.Store conn.new) → sql.now ≡ number_text → HasSomeTables (state S.Store conn.old).now → IfOk result (λ rows. IsPermutation (map shows_register (tables_of (state S.Store conn.old)).register) rows.items) }
     ensures told { HasCleanDisk (state S.Store conn.new) → sql.now ≡ number_text → HasSomeTables (state S.Store conn.old).now → IfErr result (λ e. (x : _) → e ≢ SqlInputError x) }
@@ -55,7 +55,7 @@ pub fn number<S: Alter>(conn: &mut Connection<S>) -> Result<Option<i64>, Error>
     ensures autocommit { conn.new.in_transaction ≡ false }
     ensures survives { Survives (state S.Store conn.old) (state S.Store conn.new) (λ _. ⊥) }
 {
-    match asked(conn, "SELECT schema FROM register") {
+    match ask_and_undo(conn, "SELECT schema FROM register") {
         Ok(rows) => Ok(number_of(rows.as_slice())),
         Err(Error::SqlInputError(_)) => Ok(None),
         Err(error) => Err(error),

@@ -5,7 +5,7 @@ pub mod asking;
 pub mod cluster;
 pub mod filling;
 pub mod making;
+pub mod reopen;
 pub mod schema;
-pub mod settle;
 pub mod tables;
 pub mod values;

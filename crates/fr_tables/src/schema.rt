@@ -1,12 +1,14 @@
-//! Whether two schemas are the same.
+//! Whether two schemas are the same; and a schema whose last table or last index is put into another tree.
 
-ghost use Rattle.std.specs.Prelude.{◌≡◌, IsTrue};
+ghost use Rattle.std.specs.Prelude.{◌≡◌, [], IsTrue, IfOk, OnOk};
+ghost use Rattle.fr_tables.specs.Schema.{AddsStats, MovesIndex, MovesTable, loose, stats_table};
 
 use sqlite_items::Items;
 use sqlite_schema::code::{Op, Terms};
-use sqlite_schema::schema::{Column, Index, Reference, Schema, Table};
-use sqlite_value::keys::Order;
+use sqlite_schema::schema::{Column, Index, Kind, Reference, Schema, Stamps, Table};
+use sqlite_value::keys::{Collation, Order};
 use sqlite_value::value::{Bytes, Value};
+use std::alloc::{AllocError, Global};
 
 fn same_places(a: &[usize], b: &[usize]) -> bool
     ensures { IsTrue result → a.now ≡ b.now }
@@ -216,4 +218,96 @@ pub fn same_schema(a: &Schema, b: &Schema) -> bool
         && b.views.is_empty()
         && same_indexes(a.indexes.as_slice(), b.indexes.as_slice())
         && same_tables(a.tables.as_slice(), b.tables.as_slice())
+}
+
+/// A column that holds values of any kind.
+fn loose(alloc: Global, name: &str) -> Result<Column, AllocError>
+    ensures { IfOk result (λ column. column ≡ loose name.now) }
+{
+    Ok(Column {
+        name: Bytes::from_slice(alloc, name.as_bytes())?,
+        kind: Kind::Any,
+        is_strict: false,
+        not_null: false,
+        default: Value::Null,
+        collation: Collation::Binary,
+    })
+}
+
+fn no_terms(alloc: Global) -> Terms
+    ensures { result ≡ [] }
+{
+    Terms {
+        nodes: Items::new(alloc),
+        roots: Items::new(alloc),
+    }
+}
+
+/// The table that ANALYZE makes.
+fn stats_table(alloc: Global, tree: u32) -> Result<Table, AllocError>
+    ensures { IfOk result (λ table. table ≡ stats_table tree) }
+{
+    let mut columns = Items::new(alloc);
+    columns.push(loose(alloc, "tbl")?)?;
+    columns.push(loose(alloc, "idx")?)?;
+    columns.push(loose(alloc, "stat")?)?;
+    Ok(Table {
+        name: Bytes::from_slice(alloc, b"sqlite_stat1")?,
+        tree,
+        columns,
+        key: None,
+        primary: Items::new(alloc),
+        uniques: Items::new(alloc),
+        orders: Items::new(alloc),
+        checks: no_terms(alloc),
+        references: Items::new(alloc),
+        computed: Items::new(alloc),
+        stamps: Stamps {
+            places: Items::new(alloc),
+            terms: no_terms(alloc),
+            formats: Items::new(alloc),
+        },
+        is_counted: false,
+    })
+}
+
+/// Adds the table that ANALYZE makes in this tree, where one is given.
+pub fn add_stats(alloc: Global, schema: &mut Schema, tree: Option<u32>) -> Result<(), AllocError>
+    ensures { OnOk result (AddsStats tree schema.old schema.new) }
+{
+    if let Some(tree) = tree {
+        schema.tables.push(stats_table(alloc, tree)?)?;
+    }
+    Ok(())
+}
+
+/// Puts the last table into another tree, and the table that ANALYZE makes before it and behind it, where trees are given
+/// for that.
+pub fn move_table(
+    alloc: Global,
+    schema: &mut Schema,
+    tree: u32,
+    before: Option<u32>,
+    behind: Option<u32>,
+) -> Result<(), AllocError>
+    ensures { OnOk result (MovesTable tree before behind schema.old schema.new) }
+{
+    if let Some(mut table) = schema.tables.pop() {
+        add_stats(alloc, schema, before)?;
+        table.tree = tree;
+        schema.tables.push(table)?;
+        add_stats(alloc, schema, behind)?;
+    }
+    Ok(())
+}
+
+/// Puts the last index into another tree, or takes it out where none is given.
+pub fn move_index(schema: &mut Schema, tree: Option<u32>) -> Result<(), AllocError>
+    ensures { OnOk result (MovesIndex tree schema.old schema.new) }
+{
+    if let (Some(mut index), Some(tree)) = (schema.indexes.pop(), tree) {
+        index.tree = tree;
+        schema.indexes.push(index)?;
+    }
+    Ok(())
 }

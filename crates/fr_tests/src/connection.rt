@@ -2,26 +2,42 @@
 //! writes that are tried again too seldom, too often, or after another error. Replies are typed by hand from the
 //! formats.
 use fr_base::{
-    Actor, Answer, Ask, Channel, Desk, Name, NoMemory, Query, Refusal, Report, ReportRows, Request,
-    Rows, Sending, Slot,
+    Actor, Answer, Ask, Channel, Config, Desk, Name, NoMemory, Query, Refusal, Report, ReportRows,
+    Request, Rows, Sending, Slot,
 };
 use fr_http::{LinkFault, Served, serve_one};
+use fr_text::read_config;
 use std::alloc::Global;
 use std::io;
 use std::io::{ErrorKind, Read, Write};
 use std::test::Fail;
 
+const CLUSTER: &str = "\
+channels = 'A'
+static_slots = 4
+slot_macroticks = 10
+dynamic_macroticks = 40
+symbol_macroticks = 10
+idle_macroticks = 10
+macroticks_per_cycle = 100
+payload_words = 1
+integrator = 'integrator1'
+suppliers = {s1 = 'supplier01'}
+";
+
 /// A desk that knows one key, counts what it is asked, and answers a schedule with one line and all else with `Done`. Of
 /// its rows nothing is said: it is never clean.
 #[derive(Drop)]
 struct Counter {
+    config: Config,
     supplier: Name,
     sending: Sending,
     asked: u32,
 }
 
 impl Counter {
-    fn new() -> Result<Counter, Fail> {
+    fn new(alloc: Global) -> Result<Counter, Fail> {
+        let config = read_config(alloc, CLUSTER.as_bytes()).map_err(|_| "no cluster file")?;
         let supplier = Name::read("s1").ok_or("no name")?;
         let sending = Sending {
             cycle: 0,
@@ -32,6 +48,7 @@ impl Counter {
             supplier,
         };
         Ok(Counter {
+            config,
             supplier,
             sending,
             asked: 0,
@@ -59,6 +76,10 @@ impl Desk for Counter {
         } else {
             None
         }
+    }
+
+    fn config(&self) -> &Config {
+        &self.config
     }
 
     fn ask(&mut self, alloc: Global, ask: &Ask) -> Answer {
@@ -276,7 +297,7 @@ fn served(alloc: Global, input: &[u8], desk: &mut Counter) -> (Result<Served, Li
 
 #[test]
 fn each_request_has_its_reply(rt: HostRuntime) -> Result<(), Fail> {
-    let mut desk = Counter::new()?;
+    let mut desk = Counter::new(rt.alloc())?;
     for (input, reply) in REPLIES {
         let (done, written) = served(rt.alloc(), input.as_bytes(), &mut desk);
         assert!(rt; done.is_ok(), "{input}");
@@ -299,7 +320,7 @@ fn with_many(alloc: Global, before: &str, count: usize, after: &str) -> Result<V
 
 #[test]
 fn a_head_has_at_most_8192_bytes(rt: HostRuntime) -> Result<(), Fail> {
-    let mut desk = Counter::new()?;
+    let mut desk = Counter::new(rt.alloc())?;
     let (before, after) = ("GET /", " HTTP/1.1\r\n\r\n");
     let room = 8192 - before.len() - after.len();
     for (count, reply) in [
@@ -318,7 +339,7 @@ fn a_head_has_at_most_8192_bytes(rt: HostRuntime) -> Result<(), Fail> {
 /// Wherever the input ends or a read fails nothing is asked, and nothing but a whole interim reply is written.
 #[test]
 fn a_request_is_asked_once_it_is_whole(rt: HostRuntime) -> Result<(), Fail> {
-    let mut desk = Counter::new()?;
+    let mut desk = Counter::new(rt.alloc())?;
     let bytes = ADD_FRAME.as_bytes();
     let head = ADD_FRAME.len() - 58;
     for end in 0..bytes.len() {
@@ -368,7 +389,7 @@ fn cut_off(
     room: usize,
     error: ErrorKind,
 ) -> Result<(Result<Served, LinkFault>, u32, usize), Fail> {
-    let mut desk = Counter::new()?;
+    let mut desk = Counter::new(alloc)?;
     let mut writer = Sink::new(alloc, room, error);
     let mut reader = whole(ADD_FRAME.as_bytes());
     let ended = serve_one(alloc, &mut reader, &mut writer, &mut desk);
@@ -398,7 +419,7 @@ fn a_failed_write_is_told(rt: HostRuntime) -> Result<(), Fail> {
 /// A connection has 100,000 reads, interrupted ones too, and 1,000 interrupted writes.
 #[test]
 fn interruptions_are_counted(rt: HostRuntime) -> Result<(), Fail> {
-    let mut desk = Counter::new()?;
+    let mut desk = Counter::new(rt.alloc())?;
     let done = Ok(Served {
         status: 200,
         asked: true,

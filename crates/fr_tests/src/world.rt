@@ -286,7 +286,7 @@ fn three_rows(
     ];
     match decide_rows(alloc, page, &reads) {
         Err(RowFault::Unavailable) => Err(Fail::from("no memory")),
-        decided => Ok(decided.map(|edits| edits.len())),
+        decided => Ok(decided.map(|draft| draft.edits.len())),
     }
 }
 

@@ -31,7 +31,7 @@ use Rattle.fr_base.specs.Channels.{channels_of_text}
 use Rattle.fr_base.specs.Signals.{order_of_text}
 use Rattle.fr_base.specs.Checks.{name, placement as placement_of, cycles as cycles_of, slot as slot_of, channels as channels_of, signal as signal_of}
 use Rattle.fr_base.proofs.NameLemmas.{name_is_text}
-use Rattle.fr_base.specs.ImportRows.{records_of, text_at, number, number_at, placement_row, signal_row, placement_in, signal_in, row_of, row_at, rows_from, rows_below, rows_of_records, up_to_refused, rows_of_body}
+use Rattle.fr_base.specs.ImportRows.{records_of, text_at, number, number_at, placement_row, signal_row, frame_in, placement_in, signal_in, row_of, row_at, rows_from, rows_below, rows_of_records, up_to_refused, rows_of_body}
 use Rattle.fr_base.specs.declared.import.Header.{Header}
 use Rattle.fr_base.specs.declared.import.Header.TheVariants.{Placements, Signals}
 use Rattle.fr_base.specs.declared.import.Row.{Row}
@@ -44,7 +44,7 @@ use Rattle.fr_text.specs.ImportText.{records_left, left_of, IsPlain}
 
 -- what a proof about a row opens
 unfoldable pub rows_open : ⊤
-unfolding ◌>>=◌ ◌>>◌ ◌or◌ refuse◌when◌ text_at number_at placement_in signal_in row_of
+unfolding ◌>>=◌ ◌>>◌ ◌or◌ refuse◌when◌ text_at number_at frame_in placement_in signal_in row_of
 rows_open = tt
 
 -- what a proof about a number opens

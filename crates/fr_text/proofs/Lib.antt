@@ -1,3 +1,4 @@
+mod StreamLemmas
 pub mod ClusterFileLemmas
 pub mod WellFormedLaws
 pub mod FieldsLemmas

@@ -8,7 +8,7 @@ ghost use Rattle.csv.specs.Records.{field_at, fields_of};
 ghost use Rattle.fr_base.specs.Names.{same_text};
 ghost use Rattle.fr_base.specs.declared.params.RawParams.{RawParams};
 ghost use Rattle.fr_base.specs.declared.params.Params.{Params};
-ghost use Rattle.fr_base.specs.ImportRows.{records_of, spelled, header_of, text_at, number, number_at, placement_in, signal_in, row_of, rows_from, rows_below, rows_of_records, rows_of_body, up_to_refused};
+ghost use Rattle.fr_base.specs.ImportRows.{records_of, spelled, header_of, text_at, number, number_at, frame_in, placement_in, signal_in, row_of, rows_from, rows_below, rows_of_records, rows_of_body, up_to_refused};
 
 use csv::{ByteRecord, Reader, ReaderBuilder};
 use fr_base::{Header, MAX_ROWS, Name, NoMemory, Params, Refusal, Row, RowRead, Rows};
@@ -128,6 +128,7 @@ pub fn names(header: Header) -> &'static [&'static str]
     ensures { map (λ name. name.now) result.now ≡ spelled header }
 {
     match header {
+        Header::Frames => &["frame", "node"],
         Header::Placements => &["frame", "node", "slot", "channels", "base", "repetition"],
         Header::Signals => &["frame", "signal", "start", "length", "order"],
     }
@@ -138,7 +139,9 @@ pub fn names(header: Header) -> &'static [&'static str]
 pub fn header_of(fields: &ByteRecord) -> Option<Header>
     ensures { result ≡ header_of (fields_of fields.now) }
 {
-    if has_fields(fields, names(Header::Placements)) {
+    if has_fields(fields, names(Header::Frames)) {
+        Some(Header::Frames)
+    } else if has_fields(fields, names(Header::Placements)) {
         Some(Header::Placements)
     } else if has_fields(fields, names(Header::Signals)) {
         Some(Header::Signals)
@@ -179,6 +182,7 @@ fn push_row(
     ensures read { IfOk result (λ read. read ≡ is_ok (row_of params.now header (fields_of fields.now))) }
 {
     match header {
+        Header::Frames => {}
         Header::Placements => {
             if let Some(row) = plain_placement(params, fields) {
                 rows.push(RowRead { line, row: Ok(row) })?;
@@ -241,9 +245,20 @@ fn row_of(params: &Params, header: Header, fields: &ByteRecord) -> Result<Row, R
         return Err(Refusal::BadText);
     }
     match header {
+        Header::Frames => frame_in(fields),
         Header::Placements => placement_in(params, fields),
         Header::Signals => signal_in(fields),
     }
+}
+
+/// The row of frames that the fields are.
+#[tactic(auto, unfolding(crate::proofs::ImportTextLemmas::rows_open))]
+fn frame_in(fields: &ByteRecord) -> Result<Row, Refusal>
+    ensures { result ≡ frame_in (fields_of fields.now) }
+{
+    let frame = text_at(fields, 0)?.as_bytes();
+    let node = text_at(fields, 1)?.as_bytes();
+    Row::frame(frame, node)
 }
 
 /// The row of placements that the fields are.

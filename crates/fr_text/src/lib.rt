@@ -1,5 +1,5 @@
 //! The texts of the register: the cluster file and the requests, read; the answers and their
-//! reports, written.
+//! reports, written. The output to which a text is written.
 #![tactic(auto)]
 
 mod answer_text;
@@ -7,6 +7,7 @@ mod cluster_file;
 mod fields;
 mod import_text;
 mod laws;
+mod output;
 mod report;
 mod request_text;
 mod style;
@@ -16,5 +17,6 @@ pub use answer_text::write_answer;
 pub use cluster_file::{ConfigFault, read_config};
 pub use import_text::{Records, header_of, names, number_at, read_import, text_at};
 pub use laws::written_is_read_back;
+pub use output::{Output, WRITE_RETRIES, WriteFailed};
 pub use report::write_lines;
 pub use request_text::read_command;

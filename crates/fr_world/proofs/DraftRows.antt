@@ -87,6 +87,7 @@ frame-keeps d f n = gives_unless _ _ _ _ (λ _. with-keeps d f n (get d.page.fra
 
 row-keeps : (d : DraftData) (r : Row) → IfOk (make_row d r) (Keeps d)
 unfolding make_row
+row-keeps d (row.AddFrame f n) = make-keeps d (change.Frame f (Add n))
 row-keeps d (row.Place f n q) =
     gives_bind _ (Keeps d) (make_frame d f n) _ (frame-keeps d f n) (λ m mid.
     gives_bind_last _ (Keeps m) _ (make-keeps m (change.Frame f (Place q))) (λ e last. last ∙ mid))

@@ -112,10 +112,10 @@ module _ (c : Cluster) (start : Book) (s v : Name) where
         by_answer (Ok t) = refl
         by_answer (Err e) = refl
 
-    drawn : (edits : List Edit) → b ≡ all_applied start edits → IsFormedFrame c.params f what → (t : ⊤) → admits_alone page (change.Frame f what) ≡ Ok t →
-        Draws (applied b edit) (record { variant = v; page = rows_after (change.Frame f what) page; edits = edits ++ Rows page.supplier v (change.Frame f what) ∷ [] })
+    drawn : (frozen : Bool) (edits : List Edit) → b ≡ all_applied start edits → IsFormedFrame c.params f what → (t : ⊤) → admits_alone page (change.Frame f what) ≡ Ok t →
+        Draws (applied b edit) (record { variant = v; released = frozen; page = rows_after (change.Frame f what) page; edits = edits ++ Rows page.supplier v (change.Frame f what) ∷ [] })
     unfolding ◌>>◌ edited own_rows
-    drawn edits led form t admitted =
+    drawn frozen edits led form t admitted =
         let made : change_rows c.params b s v (change.Frame f what) ≡ Ok (applied b edit) = change-made ∙ ap (λ r. r >> Ok (applied b edit)) admitted in
         let after = edits-agree c b s v x edit there (refl, refl) in
         let kept : Keeps b (applied b edit) = of_ok (Keeps b) _ _ made (change_rows-keeps c.params b s v (change.Frame f what)) in
@@ -130,19 +130,19 @@ module _ (c : Cluster) (start : Book) (s v : Name) where
           edits = ap (λ d. applied d edit) led ∙ sym (applied-more start edits edit);
         }
 
-    change-like : (edits : List Edit) → b ≡ all_applied start edits → IsFormedFrame c.params f what →
-        Like (change_rows c.params b s v (change.Frame f what)) (make (record { variant = v; page = page; edits = edits }) (change.Frame f what))
+    change-like : (frozen : Bool) (edits : List Edit) → b ≡ all_applied start edits → IsFormedFrame c.params f what →
+        Like (change_rows c.params b s v (change.Frame f what)) (make (record { variant = v; released = frozen; page = page; edits = edits }) (change.Frame f what))
     unfolding make ◌>>◌
-    change-like edits led form = subst (λ r. Like r (make (record { variant = v; page = page; edits = edits }) (change.Frame f what))) (sym change-made) (by_answer (admits_alone page (change.Frame f what)) refl)
+    change-like frozen edits led form = subst (λ r. Like r (make (record { variant = v; released = frozen; page = page; edits = edits }) (change.Frame f what))) (sym change-made) (by_answer (admits_alone page (change.Frame f what)) refl)
       where
-        by_answer : (r : Result ⊤ Refusal) → admits_alone page (change.Frame f what) ≡ r → Like (r >> Ok (applied b edit)) (r >> Ok (with_change (record { variant = v; page = page; edits = edits }) (change.Frame f what)))
-        by_answer (Ok t) e = drawn edits led form t e
+        by_answer : (r : Result ⊤ Refusal) → admits_alone page (change.Frame f what) ≡ r → Like (r >> Ok (applied b edit)) (r >> Ok (with_change (record { variant = v; released = frozen; page = page; edits = edits }) (change.Frame f what)))
+        by_answer (Ok t) e = drawn frozen edits led form t e
         by_answer (Err r) e = refl
 
   make-like : (b : Book) (d : DraftData) → Draws b d → (f : Name) (what : FrameChange) → IsFormedFrame c.params f what → Like (change_rows c.params b s v (change.Frame f what)) (make d (change.Frame f what))
   make-like b d draws f what form =
-      subst (λ d. Like (change_rows c.params b s v (change.Frame f what)) (make d (change.Frame f what))) (λ i. record { variant = sym draws.variant i; page = sym draws.page i; edits = d.edits })
-      (change-like b draws.x draws.there draws.unreleased draws.known draws.sound f what d.edits draws.edits form)
+      subst (λ d. Like (change_rows c.params b s v (change.Frame f what)) (make d (change.Frame f what))) (λ i. record { variant = sym draws.variant i; released = d.released; page = sym draws.page i; edits = d.edits })
+      (change-like b draws.x draws.there draws.unreleased draws.known draws.sound f what d.released d.edits draws.edits form)
 
   -- ---- a row
 
@@ -165,6 +165,7 @@ module _ (c : Cluster) (start : Book) (s v : Name) where
 
   row-like : (b : Book) (d : DraftData) → Draws b d → (r : Row) → IsFormedRow c.params r → Like (act_row c.params b s v r) (make_row d r)
   unfolding act_row make_row make_frame
+  row-like b d draws (row.AddFrame f n) form = make-like b d draws f (Add n) form
   row-like b d draws (row.Place f n q) form =
       like_first _ _ _ _ _ _ (node-shown b d draws n)
       (like_bind (book_frame c.params b s v f n (frame_at b s v f)) (with_frame d f n (get d.page.frames (d.page.supplier, f))) _ _
@@ -211,6 +212,7 @@ rows-decide c b s v x body sound there unreleased known =
 -- ---- the rows of a file are checked
 
 formed-checked : (p : Params) (r : Result Row Refusal) → IfOk r (IsFormedRow p) → IfOk r (IsCheckedRow p)
+formed-checked p (Ok (row.AddFrame f n)) form = tt
 formed-checked p (Ok (row.Place f n q)) form = form.1
 formed-checked p (Ok (row.AddSignal f signal)) form = form.1
 formed-checked p (Err e) form = tt

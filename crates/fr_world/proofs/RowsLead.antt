@@ -1,6 +1,6 @@
 -- A page takes the edits that rows are decided to, each of which changes a frame.
-use Rattle.std.proofs.Common.{◌≡◌, ◌≤◌, ◌++◌, List, [], ◌∷◌, Option, Some, None, Ok, IfOk, refl, sym, subst}
-use Rattle.std.specs.List.{AllByRecursion}
+use Rattle.std.proofs.Common.{◌≡◌, ◌≤◌, ◌++◌, Bool, false, List, [], ◌∷◌, Option, Some, None, Ok, IfOk, refl, sym, subst}
+use Rattle.std.specs.List.{AllByRecursion, list_any}
 use Rattle.std.proofs.lemmas.List.Elements.{recursion_from_All}
 use Rattle.fr_base.specs.Tables.{get}
 use Rattle.fr_base.specs.Names.{same_text}
@@ -20,12 +20,12 @@ use Rattle.fr_base.proofs.ParametersLaws.{few_words}
 use Rattle.fr_base.proofs.SoundRefusing.{gives_bind, gives_next, gives_unless}
 use Rattle.fr_base.proofs.SoundImports.{at_line-gives}
 use Rattle.fr_world.specs.Decisions.{IsChecked, admits_alone}
-use Rattle.fr_world.specs.Edits.{FitsPage, FitsRows, Leads, Takes, all_edited, edited, rows_after}
+use Rattle.fr_world.specs.Edits.{FitsPage, FitsRows, Leads, Takes, all_edited, edited, releases, rows_after}
 use Rattle.fr_world.specs.Fits.{IsCounted}
 use Rattle.fr_world.specs.Pages.{IsKept, IsPage, PageData, own_rows_of}
 use Rattle.fr_world.specs.RowDecisions.{AreChecked, DraftData, IsCheckedRow, draft_of, make, make_frame, make_read, make_row, make_rows, rows_decision, with_frame}
 use Rattle.fr_world.specs.declared.edit.Edit.{Edit}
-use Rattle.fr_world.specs.declared.edit.Edit.TheVariants.{Rows}
+use Rattle.fr_world.specs.declared.edit.Edit.TheVariants.{NewVariant, SetReleased, NewSupplier, NewNode, Rows, KeepImport}
 use Rattle.fr_world.proofs.LeadsLaws.{rows-leave}
 
 module _ (v : Name) where
@@ -36,7 +36,7 @@ module _ (v : Name) where
   leads-more page mid (e ∷ edits) edit led takes fits = (led.0, led.1, leads-more (edited page e) mid edits edit led.2 takes fits)
 
   -- where edits lead
-  leads-last : (page last : OwnRows) (edits : List Edit) → Leads v page edits last → last ≡ all_edited page edits
+  pub leads-last : (page last : OwnRows) (edits : List Edit) → Leads v page edits last → last ≡ all_edited page edits
   leads-last page last [] led = led
   leads-last page last (e ∷ edits) led = leads-last (edited page e) last edits led.2
 
@@ -56,18 +56,32 @@ abbrev pub IsOfFrame : Params → Edit → Type 0
 IsOfFrame p (Rows s v (change.Frame f what)) = IsCounted p (change.Frame f what)
 IsOfFrame p _ = ⊥
 
+-- edits of frames release no variant
+pub none-releases : (p : Params) (edits : List Edit) → AllByRecursion (IsOfFrame p) edits → list_any releases edits ≡ false
+none-releases p [] all = refl
+none-releases p (Rows s v (change.Frame f what) ∷ edits) all = none-releases p edits all.1
+none-releases p (Rows s v (change.Grant slot channel node) ∷ edits) all = absurd all.0
+none-releases p (Rows s v (change.Revoke slot channel) ∷ edits) all = absurd all.0
+none-releases p (NewVariant v parent depth ∷ edits) all = absurd all.0
+none-releases p (SetReleased v ∷ edits) all = absurd all.0
+none-releases p (NewSupplier s key ∷ edits) all = absurd all.0
+none-releases p (NewNode s n ∷ edits) all = absurd all.0
+none-releases p (KeepImport s label v body rows ∷ edits) all = absurd all.0
+
 frames-more : (p : Params) (edits : List Edit) (edit : Edit) → AllByRecursion (IsOfFrame p) edits → IsOfFrame p edit → AllByRecursion (IsOfFrame p) (edits ++ edit ∷ [])
 frames-more p [] edit all one = (one, tt)
 frames-more p (e ∷ edits) edit all one = (all.0, frames-more p edits edit all.1 one)
 
-module _ (v : Name) (start : OwnRows) (words : start.params.payload_words ≤ 127) where
-  -- the edits led to the page, and its parameters are those of the start
-  record IsLed (d : DraftData) : Type 0 where
-    variant : d.variant ≡ v
+module _ (v : Name) (frozen : Bool) (start : OwnRows) (words : start.params.payload_words ≤ 127) where
+  -- the edits led to the page, and its parameters and its supplier are those of the start
+  pub record IsLed (d : DraftData) : Type 0 where
+    pub variant : d.variant ≡ v
+    pub released : d.released ≡ frozen
+    pub supplier : d.page.supplier ≡ start.supplier
     params : d.page.params ≡ start.params
-    leads : Leads v start d.edits d.page
+    pub leads : Leads v start d.edits d.page
     page : IsPage d.page
-    frames : AllByRecursion (IsOfFrame start.params) d.edits
+    pub frames : AllByRecursion (IsOfFrame start.params) d.edits
 
   make-led : (d : DraftData) → IsLed d → (f : Name) (part : FrameChange) → IsChecked start.params (change.Frame f part) → IfOk (make d (change.Frame f part)) IsLed
   unfolding make edited
@@ -77,6 +91,8 @@ module _ (v : Name) (start : OwnRows) (words : start.params.payload_words ≤ 12
       (rows-leave d.page led.page (subst (λ (p : Params). p.payload_words ≤ 127) (sym led.params) words) what (subst (λ p. IsChecked p what) (sym led.params) checked))
       (λ _ leaves. record {
         variant = led.variant;
+        released = led.released;
+        supplier = led.supplier;
         params = led.params;
         leads = leads-more v start d.page d.edits _ led.leads (record { own = (refl, led.variant); leaves = leaves.1 }) leaves.0;
         page = leaves.1;
@@ -90,6 +106,7 @@ module _ (v : Name) (start : OwnRows) (words : start.params.payload_words ≤ 12
 
   row-led : (d : DraftData) → IsLed d → (r : Row) → IsCheckedRow start.params r → IfOk (make_row d r) IsLed
   unfolding make_row make_frame
+  row-led d led (row.AddFrame f n) checked = make-led d led f (Add n) tt
   row-led d led (row.Place f n q) checked =
       gives_bind _ IsLed (make_frame d f n) _
       (gives_unless _ _ _ _ (λ _. frame-led d led f n (get d.page.frames (d.page.supplier, f))))
@@ -113,12 +130,22 @@ module _ (rows : PageData) (params : check_params rows.params ≡ Ok rows.params
   abbrev AreLed : List Edit → Type 0
   AreLed edits = Leads rows.variant page edits (all_edited page edits) × AllByRecursion (IsOfFrame rows.params) edits
 
+  abbrev words : rows.params.payload_words ≤ 127
+  words = few_words rows.params params
+
+  drafted : IfOk (make_rows (draft_of rows) reads) (IsLed rows.variant rows.released page words)
+  drafted =
+      rows-led rows.variant rows.released page words reads (draft_of rows)
+      (record { variant = refl; released = refl; supplier = refl; params = refl; leads = refl; page = kept.page; frames = tt }) (recursion_from_All _ reads checked)
+
+  -- the draft that they make is of the same supplier and variant, and they lead to its page
+  pub draft-led : (d : DraftData) → make_rows (draft_of rows) reads ≡ Ok d → IsLed rows.variant rows.released page words d
+  draft-led d e = subst (λ r. IfOk r (IsLed rows.variant rows.released page words)) e drafted
+
   decided : IfOk (rows_decision rows reads) AreLed
   unfolding rows_decision
   decided =
-      let words = few_words rows.params params in
-      gives_bind _ (IsLed rows.variant page words) (make_rows (draft_of rows) reads) _
-      (rows-led rows.variant page words reads (draft_of rows) (record { variant = refl; params = refl; leads = refl; page = kept.page; frames = tt }) (recursion_from_All _ reads checked))
+      gives_bind _ (IsLed rows.variant rows.released page words) (make_rows (draft_of rows) reads) _ drafted
       (λ d led. (subst (Leads rows.variant page d.edits) (leads-last rows.variant page d.page d.edits led.leads) led.leads, led.frames))
 
   pub frames-lead : (edits : List Edit) → rows_decision rows reads ≡ Ok edits → AreLed edits

@@ -1,6 +1,6 @@
 -- Decision on rows: what the rows of an import are decided to on a page, the edits or the first refused row. Each is
 -- decided on the rows that those before it left. Which rows are checked.
-use Rattle.std.specs.Prelude.{◌++◌, not, List, [], ◌∷◌, Option, Some, None, Result, Ok, IfOk, IsTrue, All}
+use Rattle.std.specs.Prelude.{◌++◌, Bool, not, List, [], ◌∷◌, Option, Some, None, Result, Ok, IfOk, IsTrue, All, ⊤}
 use Rattle.fr_base.specs.Refusing.{◌>>=◌, ◌>>◌, refuse◌when◌}
 use Rattle.fr_base.specs.Tables.{get, contains}
 use Rattle.fr_base.specs.Names.{same_text}
@@ -24,9 +24,10 @@ use Rattle.fr_world.specs.Pages.{PageData, own_rows_of}
 use Rattle.fr_world.specs.declared.edit.Edit.{Edit}
 use Rattle.fr_world.specs.declared.edit.Edit.TheVariants.{Rows}
 
--- a supplier's rows of the variant, and the edits that led to them
+-- a supplier's rows of the variant, whether the variant is released, and the edits that led to them
 pub record DraftData : Type 0 where
   pub variant : Name
+  pub released : Bool
   pub page : OwnRows
   pub edits : List Edit
 
@@ -52,8 +53,9 @@ make_frame d f n = do
   refuse NoNode when not (contains d.page.nodes (d.page.supplier, n))
   with_frame d f n (get d.page.frames (d.page.supplier, f))
 
--- a row of placements is its frame, and then its placement; a row of signals adds the signal
+-- a row of frames adds the frame; a row of placements is its frame, and then its placement; a row of signals adds the signal
 unfoldable pub make_row : DraftData → Row → Result DraftData Refusal
+make_row d (row.AddFrame f n) = make d (change.Frame f (Add n))
 make_row d (row.Place f n q) = do
   framed ← make_frame d f n
   make framed (change.Frame f (Place q))
@@ -72,7 +74,7 @@ make_rows d (read ∷ rest) = do
 
 -- a page before any row
 abbrev pub draft_of : PageData → DraftData
-draft_of rows = record { variant = rows.variant; page = own_rows_of rows; edits = [] }
+draft_of rows = record { variant = rows.variant; released = rows.released; page = own_rows_of rows; edits = [] }
 
 -- the edits that lead a page to what the rows make of it, or the first refused row
 unfoldable pub rows_decision : PageData → List RowRead → Result (List Edit) RefusedAt
@@ -82,6 +84,7 @@ rows_decision rows reads = do
 
 -- A row's placement fits the cluster, and a row's signal has a length.
 abbrev pub IsCheckedRow : Params → Row → Type 0
+IsCheckedRow p (row.AddFrame f n) = ⊤
 IsCheckedRow p (row.Place f n q) = FitsCluster p q
 IsCheckedRow p (row.AddSignal f signal) = IsTrue (is_signal_length signal.length)
 

@@ -16,6 +16,7 @@ mod signals;
 use crate::edit::Edit;
 use crate::page::Page;
 use fr_base::{Change, FrameChange, Name, Refusal};
+pub use draft::Draft;
 pub use import_rows::{RowFault, decide_rows};
 use std::alloc::Global;
 

@@ -28,7 +28,7 @@ mod suppliers;
 mod triggerings;
 mod variants;
 
-pub use decision::{RowFault, decide, decide_rows};
+pub use decision::{Draft, RowFault, decide, decide_rows};
 pub use edit::Edit;
 pub use frame_rows::{frame_row, gap_row, push_signal_rows};
 pub use gap::greatest_gap;

@@ -3,7 +3,7 @@ ghost use Rattle.fr_base.specs.Step.{add_node};
 ghost use Rattle.fr_answers.specs.Carried.{Does, MayLeave};
 ghost use Rattle.std.specs.Prelude.{OnOk};
 
-use crate::suppliers::has_supplier;
+use crate::answering::has_supplier;
 use fr_base::{Name, Refusal};
 use fr_records::Records;
 use fr_world::decide_node;

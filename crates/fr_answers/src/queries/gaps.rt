@@ -1,11 +1,13 @@
 //! The greatest gaps that a query shows.
+#![tactic(auto, using(fr_records::proofs::ReadLaws::reads_none, fr_records::proofs::ReadLaws::reads_then))]
+
 ghost use Rattle.std.specs.Prelude.{◌≡◌, ◌++◌, OnOk};
 ghost use Rattle.std.specs.List.{flat_map};
 ghost use Rattle.fr_base.specs.Book.{own};
 ghost use Rattle.fr_base.specs.Queries.{gaps_of};
 ghost use Rattle.fr_answers.specs.Shown.{Gathers};
 ghost use Rattle.fr_world.specs.Pages.{own_rows_of};
-ghost use Rattle.fr_records.specs.Held.{LeavesNoMore};
+ghost use Rattle.fr_records.specs.Held.{Reads};
 
 use crate::lender::Lender;
 use crate::queries::find_page;
@@ -33,8 +35,7 @@ pub(crate) fn gather_gaps<R: Lender>(
     suppliers: &[Name],
     variant: Name,
 ) -> Result<Rows<GapRow>, Refusal>
-    ensures falls { R.clean records.new → R.clean records.old }
-    ensures leaves { R.clean records.new → LeavesNoMore (R.leaves records.old) (R.leaves records.new) }
+    ensures reads { Reads R.clean R.params R.leaves records.old records.new }
     ensures gathers { R.clean records.new → Gathers (R.stands records.old) (R.stands records.new) result variant (λ p x rows. rows ≡ flat_map (λ s. gaps_of p (own s x.frames)) suppliers.now) }
 {
     let mut rows = Rows::new(alloc);

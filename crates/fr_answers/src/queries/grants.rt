@@ -1,10 +1,12 @@
 //! The grants that a query shows.
+#![tactic(auto, using(fr_records::proofs::ReadLaws::reads_none, fr_records::proofs::ReadLaws::reads_then))]
+
 ghost use Rattle.std.specs.Prelude.{◌≡◌, IfOk, OnOk};
 ghost use Rattle.fr_base.specs.Queries.{grants_of};
 ghost use Rattle.fr_answers.specs.Shared.{grants_among, grants_held, with_rows};
 ghost use Rattle.fr_answers.specs.Shown.{Gathers};
 ghost use Rattle.fr_world.specs.Pages.{own_rows_of};
-ghost use Rattle.fr_records.specs.Held.{LeavesNoMore};
+ghost use Rattle.fr_records.specs.Held.{Reads};
 
 use crate::lender::Lender;
 use crate::queries::find_page;
@@ -44,8 +46,7 @@ pub(crate) fn gather_grants<R: Lender>(
     suppliers: &[Name],
     variant: Name,
 ) -> Result<Rows<GrantRow>, Refusal>
-    ensures falls { R.clean records.new → R.clean records.old }
-    ensures leaves { R.clean records.new → LeavesNoMore (R.leaves records.old) (R.leaves records.new) }
+    ensures reads { Reads R.clean R.params R.leaves records.old records.new }
     ensures gathers { R.clean records.new → Gathers (R.stands records.old) (R.stands records.new) result variant (λ p x rows. rows ≡ grants_of (grants_among suppliers.now x.grants)) }
 {
     let held = gather_holders(alloc, records, suppliers, variant)?;
@@ -59,8 +60,7 @@ fn gather_holders<R: Lender>(
     suppliers: &[Name],
     variant: Name,
 ) -> Result<BTreeMap<ChannelSlot, Holder>, Refusal>
-    ensures falls { R.clean records.new → R.clean records.old }
-    ensures leaves { R.clean records.new → LeavesNoMore (R.leaves records.old) (R.leaves records.new) }
+    ensures reads { Reads R.clean R.params R.leaves records.old records.new }
     ensures gathers { R.clean records.new → Gathers (R.stands records.old) (R.stands records.new) result variant (λ p x held. grants_held held.entries ≡ grants_among suppliers.now x.grants) }
 {
     let mut held = BTreeMap::new(alloc);

@@ -1,10 +1,12 @@
 //! The signals that a query of a frame's layout shows.
+#![tactic(auto, using(fr_records::proofs::ReadLaws::reads_none, fr_records::proofs::ReadLaws::reads_then))]
+
 ghost use Rattle.std.specs.Prelude.{◌≡◌, ◌==◌, ◌++◌, not, IfOk, OnOk};
 ghost use Rattle.fr_base.specs.Queries.{named, signals_of};
 ghost use Rattle.fr_base.specs.Tables.{len};
 ghost use Rattle.fr_answers.specs.Shown.{AreSignals, Gathers};
 ghost use Rattle.fr_world.specs.Pages.{own_rows_of};
-ghost use Rattle.fr_records.specs.Held.{LeavesNoMore};
+ghost use Rattle.fr_records.specs.Held.{Reads};
 
 use crate::lender::Lender;
 use crate::queries::find_page;
@@ -40,8 +42,7 @@ pub(crate) fn gather_signals<R: Lender>(
     variant: Name,
     name: Name,
 ) -> Result<Option<Rows<SignalRow>>, Refusal>
-    ensures falls { R.clean records.new → R.clean records.old }
-    ensures leaves { R.clean records.new → LeavesNoMore (R.leaves records.old) (R.leaves records.new) }
+    ensures reads { Reads R.clean R.params R.leaves records.old records.new }
     ensures gathers { R.clean records.new → Gathers (R.stands records.old) (R.stands records.new) result variant (λ p x found. AreSignals name suppliers.now x found) }
 {
     let mut rows = Rows::new(alloc);

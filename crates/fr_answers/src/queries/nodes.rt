@@ -1,10 +1,12 @@
 //! The nodes that a query shows.
+#![tactic(auto, using(fr_records::proofs::ReadLaws::reads_none, fr_records::proofs::ReadLaws::reads_then))]
+
 ghost use Rattle.std.specs.Prelude.{◌≡◌, ◌++◌, map, OnOk};
 ghost use Rattle.std.specs.List.{flat_map};
 ghost use Rattle.fr_base.specs.Book.{own};
 ghost use Rattle.fr_base.specs.Queries.{nodes_of, seen_nodes};
 ghost use Rattle.fr_answers.specs.Shown.{node_of, Sees};
-ghost use Rattle.fr_records.specs.Held.{LeavesNoMore, Tells};
+ghost use Rattle.fr_records.specs.Held.{Reads, Tells};
 
 use crate::queries::suppliers::supplier_names;
 use fr_base::{Actor, Name, NoMemory, NodeRow, Refusal, Rows};
@@ -17,8 +19,7 @@ pub(crate) fn node_rows<R: Records>(
     records: &mut R,
     actor: &Actor,
 ) -> Result<Rows<NodeRow>, Refusal>
-    ensures falls { R.clean records.new → R.clean records.old }
-    ensures leaves { R.clean records.new → LeavesNoMore (R.leaves records.old) (R.leaves records.new) }
+    ensures reads { Reads R.clean R.params R.leaves records.old records.new }
     ensures nodes { R.clean records.new → Sees (R.stands records.old) (R.stands records.new) result (λ c b rows. rows ≡ nodes_of (seen_nodes actor.now b.nodes)) }
 {
     match actor {
@@ -36,8 +37,7 @@ fn gather_nodes<R: Records>(
     records: &mut R,
     suppliers: &[Name],
 ) -> Result<Rows<NodeRow>, Refusal>
-    ensures falls { R.clean records.new → R.clean records.old }
-    ensures leaves { R.clean records.new → LeavesNoMore (R.leaves records.old) (R.leaves records.new) }
+    ensures reads { Reads R.clean R.params R.leaves records.old records.new }
     ensures nodes { R.clean records.new → Tells (R.stands records.old) (R.stands records.new) result (λ c b rows. rows ≡ flat_map (λ s. nodes_of (own s b.nodes)) suppliers.now) }
 {
     let mut rows = Rows::new(alloc);

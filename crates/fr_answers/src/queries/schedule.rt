@@ -1,4 +1,6 @@
 //! The schedule that a query shows.
+#![tactic(auto, using(fr_records::proofs::ReadLaws::reads_none, fr_records::proofs::ReadLaws::reads_then))]
+
 ghost use Rattle.std.specs.Prelude.{◌≡◌, IfOk};
 ghost use Rattle.fr_base.specs.Cells.{cluster_cells};
 ghost use Rattle.fr_answers.specs.Shared.{placements_among};
@@ -6,7 +8,7 @@ ghost use Rattle.fr_answers.specs.Shown.{Gathers};
 ghost use Rattle.fr_base.specs.Queries.{sendings_of};
 ghost use Rattle.fr_world.specs.Pages.{own_rows_of};
 ghost use Rattle.fr_world.specs.Sendings.{sent_in};
-ghost use Rattle.fr_records.specs.Held.{LeavesNoMore};
+ghost use Rattle.fr_records.specs.Held.{Reads};
 
 use crate::lender::Lender;
 use crate::queries::find_page;
@@ -32,8 +34,7 @@ pub(crate) fn gather_schedule<R: Lender>(
     suppliers: &[Name],
     variant: Name,
 ) -> Result<Rows<Sending>, Refusal>
-    ensures falls { R.clean records.new → R.clean records.old }
-    ensures leaves { R.clean records.new → LeavesNoMore (R.leaves records.old) (R.leaves records.new) }
+    ensures reads { Reads R.clean R.params R.leaves records.old records.new }
     ensures gathers { R.clean records.new → Gathers (R.stands records.old) (R.stands records.new) result variant (λ p x rows. rows ≡ sent_in (placements_among suppliers.now x) (cluster_cells params.now)) }
 {
     let triggerings = gather_triggerings(alloc, records, suppliers, variant)?;
@@ -47,8 +48,7 @@ fn gather_triggerings<R: Lender>(
     suppliers: &[Name],
     variant: Name,
 ) -> Result<Triggerings, Refusal>
-    ensures falls { R.clean records.new → R.clean records.old }
-    ensures leaves { R.clean records.new → LeavesNoMore (R.leaves records.old) (R.leaves records.new) }
+    ensures reads { Reads R.clean R.params R.leaves records.old records.new }
     ensures gathers { R.clean records.new → Gathers (R.stands records.old) (R.stands records.new) result variant (λ p x triggerings. triggerings ≡ placements_among suppliers.now x) }
 {
     let mut triggerings = Triggerings::new(alloc);

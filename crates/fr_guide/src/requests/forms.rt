@@ -1,4 +1,6 @@
 //! The requests, and the fields of each.
+ghost use Rattle.std.specs.Prelude.{◌≡◌, map, option_map};
+ghost use Rattle.fr_guide.specs.RequestFields.{fields_of, kind_of};
 
 /// What a field of a request has to be.
 #[derive(Clone, Copy, PartialEq, Eq)]
@@ -15,7 +17,10 @@ pub const REQUESTS: &str =
     "open_variant, release, add_supplier, add_node, grant, revoke, add_frame, drop_frame, place, unplace, add_signal, drop_signal, import, cluster, variants, nodes, grants, frames, schedule, gaps, layout";
 
 /// The fields of the request of this name, besides `do`.
-pub fn fields_of(request: &str) -> Option<&'static [&'static str]> {
+#[tactic(auto, unfolding(crate::specs::RequestFields::requests))]
+pub fn fields_of(request: &str) -> Option<&'static [&'static str]>
+    ensures { option_map (λ names. map (λ name. name.now) names.now) result ≡ fields_of request.now }
+{
     match request {
         "cluster" | "variants" | "nodes" => Some(&[]),
         "open_variant" => Some(&["variant", "from"]),
@@ -42,7 +47,10 @@ pub fn fields_of(request: &str) -> Option<&'static [&'static str]> {
 }
 
 /// What the field of this name has to be.
-pub fn kind_of(field: &str) -> Kind {
+#[tactic(auto, unfolding(crate::specs::RequestFields::kind_of, crate::specs::RequestFields::numbers, fr_text::specs::Fields::is_among))]
+pub fn kind_of(field: &str) -> Kind
+    ensures { result ≡ kind_of field.now }
+{
     match field {
         "slot" | "base" | "repetition" | "start" | "length" => Kind::Number,
         "from" => Kind::TextOrNull,

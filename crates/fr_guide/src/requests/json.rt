@@ -1,39 +1,40 @@
 //! Why a text is no request: it is no JSON, no object, or an object of other fields.
+ghost use Rattle.std.specs.Prelude.{◌≡◌, IfOk, OnOk, is_some};
+ghost use Rattle.serde_json.specs.Errors.{IsMemory};
+ghost use Rattle.fr_text.specs.RequestText.{request_of};
+ghost use Rattle.fr_guide.specs.Faults.{are_none};
+
+use crate::line_faults::one_fault;
 use crate::requests::fields::field_faults;
 use fr_base::NoMemory;
 use serde_json::{Error, Value};
 use std::alloc::{AllocError, Global};
 
 /// Why a text is no request, which begins behind so many bytes of its line.
-pub fn text_faults(alloc: Global, text: &[u8], before: usize) -> Result<Vec<String>, NoMemory> {
+pub fn text_faults(alloc: Global, text: &[u8], before: usize) -> Result<Vec<String>, NoMemory>
+    ensures { IfOk result (λ faults. are_none faults.items ≡ is_some (request_of text.now)) }
+{
     let Ok(text) = str::from_utf8(text) else {
-        return one(alloc, String::from_str(alloc, "the text is not UTF-8")?);
+        return one_fault(alloc, String::from_str(alloc, "the text is not UTF-8")?);
     };
     let value = match Value::from_str(alloc, text) {
         Ok(value) => value,
-        Err(error) => return one(alloc, no_json(alloc, text, before, &error)?),
+        Err(error) => return one_fault(alloc, no_json(alloc, text, before, &error)?),
     };
     match value.as_object() {
         Some(fields) => field_faults(alloc, fields),
-        None => one(alloc, no_object(alloc, &value)?),
+        None => one_fault(alloc, no_object(alloc, &value)?),
     }
-}
-
-// One fault.
-fn one(alloc: Global, fault: String) -> Result<Vec<String>, NoMemory> {
-    let mut faults = Vec::new(alloc);
-    faults.push(fault)?;
-    Ok(faults)
 }
 
 // What is said of JSON that is no object.
 fn no_object(alloc: Global, value: &Value) -> Result<String, NoMemory> {
-    let kind = kind(value);
+    let kind = kind_name(value);
     format!(in alloc; "the text is {kind}, a request is an object, in braces")
 }
 
 /// What kind of value it is.
-pub fn kind(value: &Value) -> &'static str {
+pub fn kind_name(value: &Value) -> &'static str {
     match value {
         Value::Null => "null",
         Value::Bool(_) => "true or false",
@@ -45,7 +46,9 @@ pub fn kind(value: &Value) -> &'static str {
 }
 
 // Where a text is no JSON.
-fn no_json(alloc: Global, text: &str, before: usize, error: &Error) -> Result<String, NoMemory> {
+fn no_json(alloc: Global, text: &str, before: usize, error: &Error) -> Result<String, NoMemory>
+    ensures { OnOk result (¬ (IsMemory error.now)) }
+{
     if error.is_memory() {
         return Err(AllocError);
     }

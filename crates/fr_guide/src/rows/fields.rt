@@ -4,8 +4,9 @@ ghost use Rattle.std.specs.Result.{is_ok};
 ghost use Rattle.csv.specs.Records.{fields_of};
 ghost use Rattle.fr_base.specs.ImportRows.{number_at, text_at};
 ghost use Rattle.fr_guide.specs.Faults.{are_none};
-ghost use Rattle.fr_guide.specs.Rows.{has_fine_fields, is_fine_placement, is_fine_row, is_fine_signal, name_at};
+ghost use Rattle.fr_guide.specs.Rows.{has_fine_fields, is_fine_frame, is_fine_placement, is_fine_row, is_fine_signal, name_at};
 
+use crate::line_faults::one_fault;
 use crate::shown::shown_bytes;
 use csv::ByteRecord;
 use fr_base::{Header, Name, NoMemory};
@@ -21,14 +22,29 @@ pub fn field_faults(
 ) -> Result<Vec<String>, NoMemory>
     ensures { IfOk result (λ faults. are_none faults.items ≡ is_fine_row header (fields_of fields.now)) }
 {
-    if fields.len() == names(header).len() {
-        match header {
-            Header::Placements => placement_faults(alloc, fields),
-            Header::Signals => signal_faults(alloc, fields),
-        }
-    } else {
-        count_faults(alloc, header, fields)
+    if fields.len() != names(header).len() {
+        return count_faults(alloc, header, fields);
     }
+    let faults = match header {
+        Header::Frames => frame_faults(alloc, fields)?,
+        Header::Placements => placement_faults(alloc, fields)?,
+        Header::Signals => signal_faults(alloc, fields)?,
+    };
+    if !faults.is_empty() && fields.iter().all(<[u8]>::is_empty) {
+        return one_fault(alloc, String::from_str(alloc, "all fields are empty")?);
+    }
+    Ok(faults)
+}
+
+// What is wrong with the fields of a row of frames.
+#[tactic(auto, unfolding(crate::specs::Rows::is_fine_frame))]
+fn frame_faults(alloc: Global, fields: &ByteRecord) -> Result<Vec<String>, NoMemory>
+    ensures { IfOk result (λ faults. are_none faults.items ≡ is_fine_frame (fields_of fields.now)) }
+{
+    let mut faults = Vec::new(alloc);
+    add_name(alloc, &mut faults, fields, 0, "frame")?;
+    add_name(alloc, &mut faults, fields, 1, "node")?;
+    Ok(faults)
 }
 
 // What is wrong with the fields of a row of placements.
@@ -141,20 +157,26 @@ fn count_faults(alloc: Global, header: Header, fields: &ByteRecord) -> Result<Ve
 {
     let (found, wanted) = (fields.len(), names(header).len());
     let hint = hint(fields, wanted);
-    let mut faults = Vec::new(alloc);
-    faults.push(format!(in alloc;
+    let fault = format!(in alloc;
         "the number of fields is {found}, the header has {wanted}{hint}"
-    )?)?;
-    Ok(faults)
+    )?;
+    one_fault(alloc, fault)
 }
 
 // What may have gone wrong.
 fn hint(fields: &ByteRecord, wanted: usize) -> &'static str {
     if fields.iter().skip(wanted).all(<[u8]>::is_empty) && fields.len() > wanted {
         ": those behind are empty"
-    } else if fields.get(0).is_some_and(|first| first.contains(&b';')) {
+    } else if fields.iter().any(|field| field.contains(&b'\n')) {
+        ": one goes over several lines, so a double quote may be open"
+    } else if fields.get(0).is_some_and(has_other_separator) {
         ": fields are separated by commas"
     } else {
         ""
     }
+}
+
+/// Whether a field has what other programs write between fields.
+pub fn has_other_separator(field: &[u8]) -> bool {
+    field.iter().any(|byte| matches!(*byte, b';' | b'\t'))
 }

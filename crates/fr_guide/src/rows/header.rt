@@ -2,6 +2,8 @@
 ghost use Rattle.std.specs.Prelude.{◌≡◌, IfOk, false};
 ghost use Rattle.fr_guide.specs.Faults.{are_none};
 
+use crate::line_faults::one_fault;
+use crate::rows::fields::has_other_separator;
 use crate::shown::shown_bytes;
 use csv::ByteRecord;
 use fr_base::{Header, NoMemory};
@@ -12,9 +14,7 @@ use std::alloc::Global;
 pub fn header_faults(alloc: Global, fields: &ByteRecord) -> Result<Vec<String>, NoMemory>
     ensures { IfOk result (λ faults. are_none faults.items ≡ false) }
 {
-    let mut faults = Vec::new(alloc);
-    faults.push(header_fault(alloc, fields)?)?;
-    Ok(faults)
+    one_fault(alloc, header_fault(alloc, fields)?)
 }
 
 // What a header may be.
@@ -22,7 +22,7 @@ fn header_fault(alloc: Global, fields: &ByteRecord) -> Result<String, NoMemory> 
     let found = listed(alloc, fields)?;
     let hint = hint(fields);
     format!(in alloc;
-        "the header is \"{found}\", it may be \"frame,node,slot,channels,base,repetition\" or \"frame,signal,start,length,order\"{hint}"
+        "the header is \"{found}\", it may be \"frame,node\", \"frame,node,slot,channels,base,repetition\" or \"frame,signal,start,length,order\"{hint}"
     )
 }
 
@@ -42,13 +42,20 @@ fn listed(alloc: Global, fields: &ByteRecord) -> Result<String, NoMemory> {
 // What may have gone wrong.
 fn hint(fields: &ByteRecord) -> &'static str {
     let first = fields.get(0).unwrap_or(b"");
-    if first.contains(&b';') {
-        ", with commas and no semicolons"
-    } else if is_meant(fields, Header::Placements) || is_meant(fields, Header::Signals) {
-        ", just so: in this order, in small letters, without spaces, and with no field behind"
+    if first.contains(&0) {
+        ", in UTF-8 and not in UTF-16"
+    } else if has_other_separator(first) || is_any_meant(fields) {
+        ", just so: with commas, in this order, in small letters, without spaces, and with no field behind"
     } else {
         ""
     }
+}
+
+// Whether one of the headers is meant. The names of frames stand in the header of placements too, so nothing else may stand beside them.
+fn is_any_meant(fields: &ByteRecord) -> bool {
+    is_meant(fields, Header::Placements)
+        || is_meant(fields, Header::Signals)
+        || is_meant(fields, Header::Frames) && fields.iter().skip(2).all(<[u8]>::is_empty)
 }
 
 // Whether each name of the header stands somewhere among the fields, in small or capital letters.

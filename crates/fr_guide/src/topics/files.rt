@@ -21,10 +21,11 @@ pub fn topics() -> [Topic; 7]
 
 const CANNOT_OPEN: Topic = Topic {
     word: "CannotOpen",
-    about: "a fault of a file. The cluster file or the import's file cannot be read.",
+    about: "a fault of a file. The file cannot be read: a cluster's, an import's or one of requests.",
     help: "\
 There is no such file, you may not read it, or it is a folder or a pipe, as `/dev/stdin` behind a `|` and `<(..)` are.
-A cluster file of more than 1048576 bytes is not read, nor a file that takes more than 100000 reads.
+A cluster file of more than 1048576 bytes is not read, nor requests of more than 16777216 bytes, nor a file that takes
+more than 100000 reads.
 Look at the path and at the file's permissions.
 ",
 };

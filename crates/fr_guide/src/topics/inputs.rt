@@ -21,7 +21,7 @@ const TOO_LONG: Topic = Topic {
     word: "TooLong",
     about: "a fault of `run`, `ask` and `import` with `-`. Standard input is too long, or a line of it.",
     help: "\
-Of `run` and `ask` it has at most 16777216 bytes, and a line of `ask` 1048576. The key's line of `import` has at most 8192.
+For `run` and `ask` it has at most 16777216 bytes, a line of `ask` 1048576, and the key's line of `import` 8192.
 `run` has answered nothing. `ask` has answered the lines before, and what they did is in the file;
 but not those of the last 8192 bytes or less that it read at once.
 A script's register ends with the script, so a second script would begin anew.

@@ -16,7 +16,7 @@ const BAD_ROW: Topic = Topic {
     about: "refusal 29. A row of an import is refused, and nothing of the file is carried out.",
     help: "\
 The answer names the row by its line, and says the row's own refusal.
-The header is line 1, and empty lines are not counted.
+The header is line 1, and empty lines are not counted. `slotplan check --rows FILE` counts each line.
 Look that refusal up, and fix the row. The file may be sent again under the same label.
 ",
 };

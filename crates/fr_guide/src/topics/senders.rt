@@ -17,9 +17,9 @@ const BAD_TEXT: Topic = Topic {
     help: "\
 The line has no space after its key; the text is not UTF-8, or not one JSON object; `do` names no request;
 or a field is missing, unknown, of another kind, or no whole number of 0 to 4294967295.
-In an import the header is neither of the two; or a row does not have the header's fields, or has one that is not UTF-8,
+In an import the header is none of the three; or a row does not have the header's fields, or has one that is not UTF-8,
 or a number that is not 1 to 10 digits, or above 4294967295: `+1` is none, nor are eleven digits.
-Compare the fields with those of the request. Write numbers without quotes and without a point.
+`slotplan check --requests FILE` and `check --rows FILE` say in which line and field, and what may stand there.
 ",
 };
 
@@ -50,7 +50,7 @@ const BAD_NAME: Topic = Topic {
     help: "\
 A name is 1 to 32 ASCII letters, digits and underscores, and begins with a letter.
 That holds for variants, suppliers, nodes, frames, signals and the labels of imports.
-In a cluster file a supplier's name is meant; `slotplan check` shows which one.
+`slotplan check` shows which one: of a cluster file, where it is a supplier's, of requests, or of rows.
 Choose another name. Hyphens, spaces and letters with accents are not allowed. Case matters.
 ",
 };

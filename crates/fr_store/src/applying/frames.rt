@@ -1,117 +1,81 @@
-//! The edits of a supplier's frame in a variant, carried out in the tables.
+//! A change of a supplier's frame in a variant, carried out in the tables.
 
-ghost use Rattle.std.specs.Prelude.{◌≡◌};
+ghost use Rattle.std.specs.Prelude.{◌≡◌, IfErr};
 ghost use Rattle.sqlite.specs.State.{Survives};
 ghost use Rattle.sqlite.specs.Held.{state};
-ghost use Rattle.fr_base.specs.declared.request.FrameChange.TheVariants.{Add, Drop, Place, Unplace, AddSignal, DropSignal};
+ghost use Rattle.fr_base.specs.declared.request.FrameChange.TheVariants.{Drop};
 ghost use Rattle.fr_store.specs.Applying.{StaysInside};
-ghost use Rattle.fr_tables.specs.Changes.{Makes, tables_of};
 ghost use Rattle.fr_store.specs.FrameEdits.{EditsFrame};
-ghost use Rattle.fr_store.specs.Owning.{IsStoredSo};
-ghost use Rattle.fr_tables.specs.Statements.{with_frame, with_placement, without_placement, with_signal, without_signal, placement_row, signal_row};
+ghost use Rattle.fr_store.specs.declared.fault.StoreFault.TheVariants.{Unavailable};
 
-use fr_base::{Name, Placement, Signal};
-use fr_tables::tables;
-use sqlite::{Alter, Error, Transaction};
+use crate::applying::level::read_level;
+use crate::applying::owning::make_own;
+use crate::fault::StoreFault;
+use fr_base::{FrameChange, Name};
+use fr_tables::tables::{dropped, frames, placements, signals};
+use sqlite::{Alter, Transaction};
 
-/// Adds a frame, which the node sends.
-pub fn new_frame<S: Alter>(
+/// Changes the frame. Before its placements or signals change it is the variant's own.
+pub fn change_frame<S: Alter>(
     tx: &mut Transaction<'_, S>,
     variant: &Name,
     supplier: &Name,
     frame: &Name,
-    node: &Name,
-) -> Result<usize, Error>
+    change: &FrameChange,
+) -> Result<(), StoreFault>
     ensures same_reference { tx.new.conn.ghost_name ≡ tx.old.conn.ghost_name }
-    ensures added { Makes (with_frame (record { variant = variant.now; supplier = supplier.now; name = frame.now; node = node.now })) (state S.Store tx.old.conn.now) (state S.Store tx.new.conn.now) result }
-    ensures stands { EditsFrame variant.now supplier.now frame.now (Add node.now) (state S.Store tx.old.conn.now) (state S.Store tx.new.conn.now) result }
-    ensures survives { Survives (state S.Store tx.old.conn.now) (state S.Store tx.new.conn.now) (λ _. ⊥) }
-{
-    tables::frames::insert(tx, variant, supplier, frame, node)
-}
-
-/// Drops a frame with its placements and signals. A variant that is stored over its parent then has not
-/// the parent's either.
-pub fn end_frame<S: Alter>(
-    tx: &mut Transaction<'_, S>,
-    variant: &Name,
-    supplier: &Name,
-    frame: &Name,
-    overlay: bool,
-) -> Result<usize, Error>
-    ensures same_reference { tx.new.conn.ghost_name ≡ tx.old.conn.ghost_name }
-    ensures stands { IsStoredSo variant.now overlay (tables_of (state S.Store tx.old.conn.now))
-        → EditsFrame variant.now supplier.now frame.now Drop (state S.Store tx.old.conn.now) (state S.Store tx.new.conn.now) result }
+    ensures changed { EditsFrame variant.now supplier.now frame.now change.now (state S.Store tx.old.conn.now) (state S.Store tx.new.conn.now) result }
     ensures stays { StaysInside (state S.Store tx.old.conn.now) (state S.Store tx.new.conn.now) result }
+    ensures refused { IfErr result (λ fault. fault ≡ Unavailable) }
     ensures survives { Survives (state S.Store tx.old.conn.now) (state S.Store tx.new.conn.now) (λ _. ⊥) }
 {
-    let count = tables::frames::delete(tx, variant, supplier, frame)?;
-    if overlay {
-        return tables::dropped::insert(tx, variant, supplier, frame);
+    match change {
+        FrameChange::Add { node } => {
+            frames::insert(tx, variant, supplier, frame, node)?;
+            Ok(())
+        }
+        FrameChange::Drop => drop_frame(tx, variant, supplier, frame),
+        FrameChange::Place(placement) => {
+            make_own(tx, variant, supplier, frame)?;
+            placements::insert(tx, variant, supplier, frame, placement)?;
+            Ok(())
+        }
+        FrameChange::Unplace(placement) => {
+            make_own(tx, variant, supplier, frame)?;
+            placements::delete(tx, variant, supplier, frame, placement)?;
+            Ok(())
+        }
+        FrameChange::AddSignal(signal) => {
+            make_own(tx, variant, supplier, frame)?;
+            signals::insert(tx, variant, supplier, frame, signal)?;
+            Ok(())
+        }
+        FrameChange::DropSignal(signal) => {
+            make_own(tx, variant, supplier, frame)?;
+            signals::delete(tx, variant, supplier, frame, signal)?;
+            Ok(())
+        }
     }
-    Ok(count)
 }
 
-/// Adds a placement of a frame.
-pub fn put_placement<S: Alter>(
+// Drops the frame with its placements and signals. A variant that is stored over its parent then has not the parent's either.
+fn drop_frame<S: Alter>(
     tx: &mut Transaction<'_, S>,
     variant: &Name,
     supplier: &Name,
     frame: &Name,
-    placement: &Placement,
-) -> Result<usize, Error>
+) -> Result<(), StoreFault>
     ensures same_reference { tx.new.conn.ghost_name ≡ tx.old.conn.ghost_name }
-    ensures added { Makes (with_placement (placement_row variant.now supplier.now frame.now placement.now)) (state S.Store tx.old.conn.now) (state S.Store tx.new.conn.now) result }
-    ensures stands { EditsFrame variant.now supplier.now frame.now (Place placement.now) (state S.Store tx.old.conn.now) (state S.Store tx.new.conn.now) result }
+    ensures changed { EditsFrame variant.now supplier.now frame.now Drop (state S.Store tx.old.conn.now) (state S.Store tx.new.conn.now) result }
+    ensures stays { StaysInside (state S.Store tx.old.conn.now) (state S.Store tx.new.conn.now) result }
+    ensures refused { IfErr result (λ fault. fault ≡ Unavailable) }
     ensures survives { Survives (state S.Store tx.old.conn.now) (state S.Store tx.new.conn.now) (λ _. ⊥) }
 {
-    tables::placements::insert(tx, variant, supplier, frame, placement)
-}
-
-/// Ends a placement of a frame.
-pub fn end_placement<S: Alter>(
-    tx: &mut Transaction<'_, S>,
-    variant: &Name,
-    supplier: &Name,
-    frame: &Name,
-    placement: &Placement,
-) -> Result<usize, Error>
-    ensures same_reference { tx.new.conn.ghost_name ≡ tx.old.conn.ghost_name }
-    ensures ended { Makes (without_placement (placement_row variant.now supplier.now frame.now placement.now)) (state S.Store tx.old.conn.now) (state S.Store tx.new.conn.now) result }
-    ensures stands { EditsFrame variant.now supplier.now frame.now (Unplace placement.now) (state S.Store tx.old.conn.now) (state S.Store tx.new.conn.now) result }
-    ensures survives { Survives (state S.Store tx.old.conn.now) (state S.Store tx.new.conn.now) (λ _. ⊥) }
-{
-    tables::placements::delete(tx, variant, supplier, frame, placement)
-}
-
-/// Adds a signal to a frame's payload.
-pub fn put_signal<'names, S: Alter>(
-    tx: &mut Transaction<'_, S>,
-    variant: &'names Name,
-    supplier: &'names Name,
-    frame: &'names Name,
-    signal: &Signal,
-) -> Result<usize, Error>
-    ensures same_reference { tx.new.conn.ghost_name ≡ tx.old.conn.ghost_name }
-    ensures added { Makes (with_signal (signal_row variant.now supplier.now frame.now signal.now)) (state S.Store tx.old.conn.now) (state S.Store tx.new.conn.now) result }
-    ensures stands { EditsFrame variant.now supplier.now frame.now (AddSignal signal.now) (state S.Store tx.old.conn.now) (state S.Store tx.new.conn.now) result }
-    ensures survives { Survives (state S.Store tx.old.conn.now) (state S.Store tx.new.conn.now) (λ _. ⊥) }
-{
-    tables::signals::insert(tx, variant, supplier, frame, signal)
-}
-
-/// Drops a signal of a frame.
-pub fn end_signal<S: Alter>(
-    tx: &mut Transaction<'_, S>,
-    variant: &Name,
-    supplier: &Name,
-    frame: &Name,
-    signal: &Name,
-) -> Result<usize, Error>
-    ensures same_reference { tx.new.conn.ghost_name ≡ tx.old.conn.ghost_name }
-    ensures dropped { Makes (without_signal variant.now supplier.now frame.now signal.now) (state S.Store tx.old.conn.now) (state S.Store tx.new.conn.now) result }
-    ensures stands { EditsFrame variant.now supplier.now frame.now (DropSignal signal.now) (state S.Store tx.old.conn.now) (state S.Store tx.new.conn.now) result }
-    ensures survives { Survives (state S.Store tx.old.conn.now) (state S.Store tx.new.conn.now) (λ _. ⊥) }
-{
-    tables::signals::delete(tx, variant, supplier, frame, signal)
+    let level = read_level(tx, variant)?;
+    frames::delete(tx, variant, supplier, frame)?;
+    if !level.overlay {
+        return Ok(());
+    }
+    dropped::insert(tx, variant, supplier, frame)?;
+    Ok(())
 }

@@ -19,9 +19,9 @@ use std::alloc::Global;
 
 /// A page, and the edits that led to it.
 #[derive(Drop)]
-pub(super) struct Draft {
-    page: Page,
-    pub(super) edits: Vec<Edit>,
+pub struct Draft {
+    pub page: Page,
+    pub edits: Vec<Edit>,
 }
 
 impl Draft {
@@ -43,6 +43,7 @@ impl Draft {
         ensures err { IfErr result (λ e. (e ≡ Unavailable) ⊎ (make_row (draft_data self.old) row.now ≡ Err e)) }
     {
         match row {
+            Row::AddFrame { frame, node } => self.add_frame(alloc, *frame, *node),
             Row::Place {
                 frame,
                 node,

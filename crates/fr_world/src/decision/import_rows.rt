@@ -1,13 +1,13 @@
 //! What the rows of an import are decided to, on the supplier's page.
 ghost use Rattle.std.specs.Prelude.{◌≡◌, ◌⊎◌, false, Ok, Err, IfOk, IfErr, OnOk};
-ghost use Rattle.fr_world.specs.Edits.{Leads, all_edited};
-ghost use Rattle.fr_world.specs.Drafts.{draft_data};
+ghost use Rattle.std.specs.List.{list_any};
+ghost use Rattle.fr_world.specs.Edits.{Leads, releases};
+ghost use Rattle.fr_world.specs.Drafts.{IsOfSame, draft_data};
 ghost use Rattle.fr_world.specs.Pages.{own_rows_of};
 ghost use Rattle.fr_world.specs.RowDecisions.{AreChecked, IsCheckedRow, make_read, rows_decision};
 ghost use Rattle.fr_world.specs.RowFaults.{IsFault};
 
 use super::draft::Draft;
-use crate::edit::Edit;
 use crate::page::Page;
 use fr_base::{Refusal, RowRead};
 use std::alloc::Global;
@@ -26,20 +26,24 @@ pub enum RowFault {
     Unavailable,
 }
 
-/// The edits that lead the page to what the rows of an import make of it, or the first row that is
+/// What the rows of an import make of the page, and the edits that led to it; or the first row that is
 /// refused. Each row is decided on the page that those before it left: a row is refused by its own text,
 /// or, of
 ///
+/// - frames: `NoNode`, `Exists`, `Limit`;
 /// - placements: `NoNode`; then, where the frame is not there yet, `Limit`, or else `NodeDiffers`; then
 ///   the placement's `NotGranted`, `Limit`, `CellTaken`;
 /// - signals: `NoFrame`, `Exists`, `Limit`, `OutOfPayload`, `BitTaken`.
 ///
-/// The page, whose variant is open, is given up, and the rows were read under its parameters.
-pub fn decide_rows(alloc: Global, page: Page, rows: &[RowRead]) -> Result<Vec<Edit>, RowFault>
+/// The page, whose variant is open, is given up where a row is refused, and the rows were read under its
+/// parameters.
+pub fn decide_rows(alloc: Global, page: Page, rows: &[RowRead]) -> Result<Draft, RowFault>
     requires open { page.released ≡ false }
     requires checked { AreChecked page.params rows.now }
-    ensures edits { IfOk result (λ edits. rows_decision page rows.now ≡ Ok edits.items) }
-    ensures leads { IfOk result (λ edits. Leads page.variant (own_rows_of page) edits.items (all_edited (own_rows_of page) edits.items)) }
+    ensures edits { IfOk result (λ draft. rows_decision page rows.now ≡ Ok draft.edits.items) }
+    ensures leads { IfOk result (λ draft. Leads page.variant (own_rows_of page) draft.edits.items (own_rows_of draft.page)) }
+    ensures page { IfOk result (λ draft. IsOfSame page draft.page) }
+    ensures still { IfOk result (λ draft. list_any releases draft.edits.items ≡ false) }
     ensures fault { IfErr result (IsFault (rows_decision page rows.now)) }
 {
     // They give the proof that the parameters make a cluster, and that the page's rows are kept.
@@ -48,7 +52,7 @@ pub fn decide_rows(alloc: Global, page: Page, rows: &[RowRead]) -> Result<Vec<Ed
     for read in rows {
         make_read(alloc, &mut draft, read)?;
     }
-    Ok(draft.edits)
+    Ok(draft)
 }
 
 // What the row does, as it was read.

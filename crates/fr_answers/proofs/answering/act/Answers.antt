@@ -4,8 +4,15 @@ use Rattle.fr_base.specs.declared.answer.Answer.TheVariants.{Done}
 use Rattle.fr_base.specs.declared.request.Checked.{Checked}
 use Rattle.fr_answers.specs.Answering.{Acts, HasPassed, LeavesAct}
 use Rattle.fr_answers.proofs.StepLaws.{command_done, command_refused, import_acts, query_acts}
+use Rattle.fr_answers.proofs.CheckedLaws.{from-known}
 use Rattle.fr_answers.proofs.CrashLaws.{act_command, act_import}
 use Rattle.fr_answers.proofs.answering.act.Goals as goal
+
+pub carry_out-requires : goal.carry_out-requires
+carry_out-requires g c =
+    let stands = g.R.Records.stands c.args.records.now in
+    let fits = subst (λ (valid : Checked). HasPassed (g.R.Records.params c.args.records.now) c.args.actor.now valid) c.in-Command.is c.requires.passed in
+    record { checked = fits.0; known = from-known stands c.args.actor.now c.in-Command.command fits.1 c.requires.known }
 
 pub returns-in_err-carry_out-in-Command-clause-acts : goal.returns-in_err-carry_out-in-Command-clause-acts
 returns-in_err-carry_out-in-Command-clause-acts g c = λ clean.
@@ -62,4 +69,4 @@ returns-in-Import-clause-leaves g c = λ clean.
     subst (λ (valid : Checked). LeavesAct stands old new c.args.actor.now valid) (sym c.in-Import.is) (act_import stands old new c.args.actor.now c.in-Import.new asks (c.import.ensures.leaves clean))
 
 pub returns-in-Query-clause-leaves : goal.returns-in-Query-clause-leaves
-returns-in-Query-clause-leaves g c = λ clean cl b books stood sound known left. inl (c.reply.ensures.leaves clean cl books left)
+returns-in-Query-clause-leaves g c = λ clean cl b books stood sound known left. inl (c.reply.ensures.reads.leaves clean cl books left)

@@ -1,7 +1,7 @@
-use Rattle.std.proofs.Common.{rules, ◌≡◌, Ok, Err, subst, ◌∷◌, inl, inr, sym}
+use Rattle.std.proofs.Common.{rules, ◌≡◌, true, Ok, Err, subst, ◌∷◌, inl, inr, sym}
 use Rattle.fr_base.specs.declared.params.Params.{Params}
 use Rattle.fr_answers.specs.Answering.{HasPassed, WhereChanged}
-use Rattle.fr_answers.proofs.StepLaws.{acted, acts_so, passed, unchecked, unknown}
+use Rattle.fr_answers.proofs.StepLaws.{acted, acts_so, knows-so, passed, unchecked, unknown}
 use Rattle.fr_base.specs.Step.{Outcome}
 use Rattle.fr_answers.proofs.DoneLaws.{changed_so}
 use Rattle.fr_answers.proofs.answering.answer.Goals as goal
@@ -14,7 +14,10 @@ pub act-requires : goal.act-requires
 act-requires g c =
     let cluster : c.params-params.result ≡ g.R.Records.params c.args.records.now = search rules in
     let fits = passed c.params-params.result c.args.ask.now.actor c.args.ask.now.request c.in-Ok.valid (search rules) in
-    record { passed = subst (λ (p : Params). HasPassed p c.args.ask.now.actor c.in-Ok.valid) cluster fits }
+    record {
+      passed = subst (λ (p : Params). HasPassed p c.args.ask.now.actor c.in-Ok.valid) cluster fits;
+      known = knows-so (g.R.Records.stands c.args.records.now) c.config-config.result.now c.config-config.ensures.config c.args.ask.now true (search rules);
+    }
 
 pub returns-in-Ok-act-clause-answers : goal.returns-in-Ok-act-clause-answers
 returns-in-Ok-act-clause-answers g c = λ clean.

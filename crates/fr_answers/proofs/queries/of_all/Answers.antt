@@ -7,7 +7,7 @@ returns-then-branch-clause-replies g c = λ now.
     let old = records.stands c.args.records.now in
     let mid = records.stands c.has_variant.new.self in
     let has = c.in_ok-has_variant.field-0 in
-    all-replied old mid c.args.variant c.args.report.now has (c.in_ok-has_variant.ensures.has (c.show_all.ensures.falls now))
+    all-replied old mid c.args.variant c.args.report.now has (c.in_ok-has_variant.ensures.has (c.show_all.ensures.reads.falls now))
     (records.stands c.show_all.new.records) c.show_all.result c.if-branch.true (c.show_all.ensures.shows now)
 
 pub returns-else-branch-clause-replies : goal.returns-else-branch-clause-replies

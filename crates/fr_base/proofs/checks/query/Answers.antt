@@ -1,4 +1,4 @@
-use Rattle.std.proofs.Common.{rules, ◌≡◌}
+use Rattle.std.proofs.Common.{rules}
 use Rattle.fr_base.specs.Refusing.{◌>>=◌}
 use Rattle.fr_base.specs.Checks.{check}
 use Rattle.fr_base.proofs.ChecksLemmas.{query_read}

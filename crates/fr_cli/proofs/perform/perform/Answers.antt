@@ -2,6 +2,7 @@ use Rattle.std.proofs.Common.{rules, ◌∙◌, List, ℕ, Option, ap, subst, sy
 use Rattle.std.specs.Borrow.{Bor}
 use Rattle.sqlite_wal.specs.Files.{image_at}
 use Rattle.fr_text.specs.AnswerText.{report_of}
+use Rattle.fr_cli.specs.Checking.{IsCheckedFile}
 use Rattle.fr_cli.specs.Asking.{IsForReader, line_of, query_of}
 use Rattle.fr_cli.specs.Faults.{IsNotImported, IsNotReported}
 use Rattle.fr_cli.specs.Performing.{Says}
@@ -13,6 +14,7 @@ use Rattle.fr_cli.specs.RegisterFiles.{IsAnswerOfFile, IsImportOfFile, IsReadOfF
 use Rattle.fr_cli.specs.Serving.{IsAnnounced, IsServed}
 use Rattle.fr_cli.specs.declared.imported_file.GivenWords.{GivenWords}
 use Rattle.fr_cli.specs.declared.query.Inquiry.{Inquiry}
+use Rattle.fr_cli.specs.declared.text_file.TextFile.{TextFile}
 use Rattle.fr_cli.specs.declared.words.Job.{Job}
 use Rattle.fr_cli.specs.declared.words.Job.TheVariants as job
 use Rattle.fr_cli.proofs.perform.perform.Goals as goal
@@ -76,3 +78,14 @@ returns-in-Serve-clause-serve g c db port count seconds is =
     let served = subst (λ n. IsServed (image_at g.S.Start) c.serve-done.result.1 port n out out' (g.E.Write.contents c.new-err.result.writer.now) told done) (ap count_in same) ported in
     let from = subst (λ e. IsServed (image_at g.S.Start) c.serve-done.result.1 port count out out' (g.E.Write.contents e) told done) c.new-err.ensures.holds served in
     (done, search rules, announced, (told, from, search rules))
+
+-- the file that a job checks
+file_in : TextFile → Job → TextFile
+file_in file (job.Check checked) = checked
+file_in file _ = file
+
+pub returns-in-Check-clause-check : goal.returns-in-Check-clause-check
+unfolding file_in
+returns-in-Check-clause-check g c file is =
+    let checked = subst (λ f. IsCheckedFile f c.check.result) (ap (file_in file) (sym c.in-Check.is ∙ is)) c.check.ensures in
+    (c.check.result, checked, search rules)

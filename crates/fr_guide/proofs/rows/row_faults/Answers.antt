@@ -1,21 +1,13 @@
-use Rattle.std.proofs.Common.{◌∙◌, ◌∷◌, [], ap, arith, rules}
-use Rattle.fr_guide.proofs.RowLemmas.{a_header, all_told, no_header, no_record, one_told}
+use Rattle.std.proofs.Common.{◌≡◌, arith, rules}
+use Rattle.fr_guide.proofs.LineLemmas.{room_in}
+use Rattle.fr_guide.proofs.RowLemmas.{long_file, told_long}
 use Rattle.fr_guide.proofs.rows.row_faults.Goals as goal
-use Rattle.fr_guide.specs.Faults.{are_none}
 
-pub returns-then-not-branch : goal.returns-then-not-branch
-returns-then-not-branch c =
-    one_told _ _ _ _ c.one_line.ensures.told (c.one_line.ensures.lines c.args.body.now) (omega arith) (omega arith)
-    (ap (λ b. b ∷ []) c.in_ok-no_header.ensures ∙ no_record _ _ _ _ _ c.new-records.ensures c.in_ok-read.ensures (search rules))
+pub line_behind-line-requires : goal.line_behind-line-requires
+line_behind-line-requires c = record { room = room_in c.args.body.now _ c.new.ensures.all (search rules) }
 
-pub returns : goal.returns
-returns c =
-    one_told _ _ _ _ c.one_line-in-None.ensures.told (c.one_line-in-None.ensures.lines c.args.body.now) c.line_of-line.ensures.0 c.line_of-line.ensures.1
-    (ap (λ b. b ∷ []) c.in_ok-header_faults-in-None.ensures ∙ no_header _ _ _ _ _ c.new-records.ensures c.in_ok-read.ensures (search rules) (search rules))
-
-pub returns-in-Some : goal.returns-in-Some
-returns-in-Some c = (
-  all_told _ _ _ _ c.in_ok-tell_rows-in-Some.ensures.rows (c.in_ok-told-in-Some.ensures.told ∙ ap (λ l. are_none l ∷ []) c.new.ensures.items)
-      (a_header _ _ _ _ _ c.in-Some.header c.new-records.ensures c.in_ok-read.ensures (search rules) (search rules)),
-  c.in_ok-tell_rows-in-Some.ensures.lines (c.in_ok-told-in-Some.ensures.lines c.args.body.now c.line_of-line.ensures.0 c.line_of-line.ensures.1),
-)
+pub returns-then-body-gt-MAX_IMPORT_BYTES : goal.returns-then-body-gt-MAX_IMPORT_BYTES
+returns-then-body-gt-MAX_IMPORT_BYTES c =
+    let at : c.line_behind-line.result ≡ c.line_behind-line.new.self.line = c.line_behind-line.ensures.line in
+    told_long _ _ _ (search rules) c.one_line.ensures.lines (long_file _ (search (rules, arith)))
+    (omega (arith, at, c.line_behind-line.ensures.order, c.new.ensures.line)) (omega (arith, at, c.line_behind-line.ensures.all, c.new.ensures.all))

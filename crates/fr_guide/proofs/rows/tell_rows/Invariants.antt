@@ -1,15 +1,16 @@
--- What is told so far and what is asked of the records that are left is what is asked of all.
-use Rattle.std.proofs.Common.{◌≡◌, ◌++◌, length, map}
-use Rattle.std.specs.List.{All}
+-- What is told so far and what is asked of the records that are left is what is asked of all. The lines are in order up to the place.
+use Rattle.std.proofs.Common.{◌≡◌, ◌+◌, ◌++◌, length, map}
+use Rattle.fr_base.specs.declared.limits.TheConstants.{MAX_ROWS}
 use Rattle.fr_guide.specs.Faults.{is_fine}
-use Rattle.fr_guide.specs.Rows.{IsLineOf, is_fine_row}
+use Rattle.fr_guide.specs.Rows.{AreInOrder, fine_rows, line_ends, numbers_of}
 use Rattle.fr_guide.proofs.rows.tell_rows.Given as goal
 
-abbrev pub invariant-loop-fields : goal.invariant-loop-fields
-invariant-loop-fields l = record {
-  rows : map is_fine l.told.items ++ map (is_fine_row l.header) l.records ≡ map is_fine l.fn.told.items ++ map (is_fine_row l.header) l.fn.records;
-  lines : All (IsLineOf l.body) l.fn.told.items → All (IsLineOf l.body) l.told.items;
+abbrev pub invariant-loop-place : goal.invariant-loop-place
+invariant-loop-place l = record {
+  rows : map is_fine l.told.items ++ fine_rows l.header l.room l.records ≡ map is_fine l.fn.told.items ++ fine_rows l.header MAX_ROWS l.fn.records;
+  lines : AreInOrder 1 l.fn.place.line (numbers_of l.fn.told.items) → AreInOrder 1 l.place.line (numbers_of l.told.items);
+  all : l.place.line + line_ends l.place.rest.now ≡ l.fn.place.line + line_ends l.fn.place.rest.now;
 }
 
-abbrev pub decreases-loop-fields : goal.decreases-loop-fields
-decreases-loop-fields l = length l.records
+abbrev pub decreases-loop-place : goal.decreases-loop-place
+decreases-loop-place l = length l.records

@@ -10,5 +10,5 @@ invariant-loop-edit g l =
     let old = state g.S.Store l.fn.tx.conn.now in
     let now = state g.S.Store l.tx.conn.now in
     (l.tx.conn.ghost_name ≡ l.fn.tx.conn.ghost_name)
-    × (HasCleanDisk now → IsTrue old.in_transaction → HasTables old.now → HasCome l.edits l.edit-index l.seen old now)
+    × (HasCleanDisk now → IsTrue old.in_transaction → HasTables old.now → HasCome l.edits l.edit-index old now)
     × Survives old now (λ _. ⊥)

@@ -2,7 +2,7 @@ use Rattle.std.proofs.Common.{rules, ◌≡◌, Err, inr, arith, sym, subst}
 use Rattle.sqlite.specs.State.{HasCleanDisk}
 use Rattle.sqlite.specs.Held.{state}
 use Rattle.fr_tables.specs.Asking.{HasNumber, old_schema_number}
-use Rattle.fr_tables.specs.Schema.{old_schema}
+use Rattle.fr_tables.specs.Schema.{IsOld}
 use Rattle.fr_tables.specs.Tables.{HasOldTables}
 use Rattle.fr_store.proofs.BeforeLemmas.{still_before, same_after, migration_survives, as_before_then, undone_then, on_error, on_ok, same_fault, only_unavailable_before}
 use Rattle.fr_store.proofs.migrating.migrate_on.Goals as goal
@@ -35,7 +35,7 @@ returns-clause-unharmed g c clean has =
     let clean_mid : HasCleanDisk mid = omega (arith, c.see_open.ensures.survives.clean, clean_late) in
     let first = c.expect_number.ensures.same clean_mid in
     let same = same_after old mid late first (c.in_ok-see_open.ensures.open clean_late) in
-    let schema : old.now.schema ≡ old_schema = search rules in
+    let schema : IsOld old.now.schema = search rules in
     undone_then old late (state g.S.Store c.in_one.new.conn) c.in_one.result (as_before_then old mid late first (c.see_open.ensures.same clean_late))
     (c.in_one.ensures.undone clean (subst HasOldTables (sym same) (has schema)))
 

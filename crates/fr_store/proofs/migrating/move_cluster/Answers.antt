@@ -33,7 +33,7 @@ returns-clause-stays g c clean inside has =
     let clean_read : HasCleanDisk read = omega (arith, c.insert.ensures.survives.clean, clean_put) in
     let listed = c.in_ok-rows.ensures.listed clean_read has in
     let step = c.in_ok-insert.ensures.added clean_put (listed.1.0.mode ∙ inside) (has_still old read listed.1 has) in
-    both_stay _ without_cluster old read put new (λ t v over so. so) (λ t v over so. so) inside listed.1 step (c.in_ok-delete.ensures.ended clean (step.shown.mode ∙ listed.1.0.mode ∙ inside) step.has)
+    both_stay _ without_cluster old read put new inside has listed.1 step (c.in_ok-delete.ensures.ended clean (step.shown.mode ∙ listed.1.0.mode ∙ inside) step.has)
 
 pub returns-clause-number : goal.returns-clause-number
 returns-clause-number g c clean inside has =

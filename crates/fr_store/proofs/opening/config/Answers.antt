@@ -11,14 +11,14 @@ use Rattle.fr_store.proofs.opening.config.Goals as goal
 
 pub returns-clause-cluster : goal.returns-clause-cluster
 returns-clause-cluster g c clean up was =
-    let before : HasCleanDisk (state g.S.Store c.asked.new.conn) = omega (arith, c.asked-2.ensures.survives.clean, c.has_opened_variants.ensures.survives.clean, clean) in
+    let before : HasCleanDisk (state g.S.Store c.ask_and_undo.new.conn) = omega (arith, c.ask_and_undo-2.ensures.survives.clean, c.has_opened_variants.ensures.survives.clean, clean) in
     one_cluster (tables_of (state g.S.Store c.args.conn.now)).cluster2 c.in-Ok.cluster.items c.read.result (c.in-Ok.ensures.cluster before refl was) (rw c.as_slice.ensures.value at c.read.ensures.cluster)
 
 pub returns-clause-suppliers : goal.returns-clause-suppliers
 returns-clause-suppliers g c clean up was =
-    let then : HasCleanDisk (state g.S.Store c.asked-2.new.conn) = omega (arith, c.has_opened_variants.ensures.survives.clean, clean) in
-    let before : HasCleanDisk (state g.S.Store c.asked.new.conn) = omega (arith, c.asked-2.ensures.survives.clean, then) in
-    let there = (c.asked-2.ensures.same then (c.has_opened_variants.ensures.same clean up).0).0 in
-    let same = (c.asked.ensures.same before there).1 in
+    let then : HasCleanDisk (state g.S.Store c.ask_and_undo-2.new.conn) = omega (arith, c.has_opened_variants.ensures.survives.clean, clean) in
+    let before : HasCleanDisk (state g.S.Store c.ask_and_undo.new.conn) = omega (arith, c.ask_and_undo-2.ensures.survives.clean, then) in
+    let there = (c.ask_and_undo-2.ensures.same then (c.has_opened_variants.ensures.same clean up).0).0 in
+    let same = (c.ask_and_undo.ensures.same before there).1 in
     subst (λ (d : Database). IfSome c.read.result (λ k. IsPermutation (map supplier_row k.suppliers) (tables_in d.trees).suppliers)) same
-    (all_suppliers (tables_of (state g.S.Store c.asked.new.conn)).suppliers c.in-Ok-asked.suppliers.items c.read.result (c.in-Ok-asked.ensures.suppliers then refl (subst HasTables (sym same) was)) (rw c.as_slice-2.ensures.value at c.read.ensures.suppliers))
+    (all_suppliers (tables_of (state g.S.Store c.ask_and_undo.new.conn)).suppliers c.in-Ok-ask_and_undo.suppliers.items c.read.result (c.in-Ok-ask_and_undo.ensures.suppliers then refl (subst HasTables (sym same) was)) (rw c.as_slice-2.ensures.value at c.read.ensures.suppliers))

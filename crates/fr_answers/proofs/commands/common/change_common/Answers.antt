@@ -16,10 +16,10 @@ returns-clause-does g c = λ clean.
     (c.in_ok-variants.ensures.variants (c.apply.ensures.falls clean)) c.in_ok-edit.edit c.apply.result (search rules) (c.apply.ensures.applies clean)
 
 pub returns-in_err-variants-clause-leaves : goal.returns-in_err-variants-clause-leaves
-returns-in_err-variants-clause-leaves g c = λ clean. may_stay _ _ _ _ (c.variants.ensures.leaves clean)
+returns-in_err-variants-clause-leaves g c = λ clean. may_stay _ _ _ _ (c.variants.ensures.reads.leaves clean)
 
 pub returns-in_err-edit-clause-leaves : goal.returns-in_err-edit-clause-leaves
-returns-in_err-edit-clause-leaves g c = λ clean. may_stay _ _ _ _ (c.variants.ensures.leaves clean)
+returns-in_err-edit-clause-leaves g c = λ clean. may_stay _ _ _ _ (c.variants.ensures.reads.leaves clean)
 
 pub returns-clause-leaves : goal.returns-clause-leaves
 returns-clause-leaves g c = λ clean.
@@ -28,6 +28,6 @@ returns-clause-leaves g c = λ clean.
     let late = c.apply.ensures.falls clean in
     let mid = records.leaves c.variants.new.self in
     let new = records.leaves c.apply.new.self in
-    may_do stands (records.leaves c.args.records.now) mid new (λ cl b. common b c.args.command.now) (c.variants.ensures.leaves late) (λ books.
+    may_do stands (records.leaves c.args.records.now) mid new (λ cl b. common b c.args.command.now) (c.variants.ensures.reads.leaves late) (λ books.
     common_carried stands (records.stands c.variants.new.self) (AddsTo books mid new) c.args.command.now c.in_ok-variants.variants.items (c.in_ok-variants.ensures.variants late) c.in_ok-edit.edit (Ok tt)
     (search rules) (λ cl b stood fit left. c.apply.ensures.leaves clean cl b books stood fit left))

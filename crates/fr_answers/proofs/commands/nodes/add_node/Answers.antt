@@ -29,10 +29,10 @@ pub returns-then-not-has_supplier-clause-leaves : goal.returns-then-not-has_supp
 returns-then-not-has_supplier-clause-leaves g c = λ clean. may_stay _ _ _ _ (λ cl books left. left)
 
 pub returns-in_err-nodes-clause-leaves : goal.returns-in_err-nodes-clause-leaves
-returns-in_err-nodes-clause-leaves g c = λ clean. may_stay _ _ _ _ (c.nodes.ensures.leaves clean)
+returns-in_err-nodes-clause-leaves g c = λ clean. may_stay _ _ _ _ (c.nodes.ensures.reads.leaves clean)
 
 pub returns-in_err-edit-clause-leaves : goal.returns-in_err-edit-clause-leaves
-returns-in_err-edit-clause-leaves g c = λ clean. may_stay _ _ _ _ (c.nodes.ensures.leaves clean)
+returns-in_err-edit-clause-leaves g c = λ clean. may_stay _ _ _ _ (c.nodes.ensures.reads.leaves clean)
 
 pub returns-clause-leaves : goal.returns-clause-leaves
 returns-clause-leaves g c = λ clean.
@@ -41,7 +41,7 @@ returns-clause-leaves g c = λ clean.
     let late = c.apply.ensures.falls clean in
     let mid = records.leaves c.nodes.new.self in
     let new = records.leaves c.apply.new.self in
-    may_do stands (records.leaves c.args.records.now) mid new (λ cl b. add_node b c.args.supplier c.args.node) (c.nodes.ensures.leaves late) (λ books.
+    may_do stands (records.leaves c.args.records.now) mid new (λ cl b. add_node b c.args.supplier c.args.node) (c.nodes.ensures.reads.leaves late) (λ books.
     node_carried stands (records.stands c.nodes.new.self) (AddsTo books mid new) c.args.supplier c.args.node c.in_ok-nodes.nodes.items
     (named-there stands c.config.result.now c.args.supplier c.has_supplier.result _ c.config.ensures.config c.has_supplier.ensures c.if-not-has_supplier.false)
     (c.in_ok-nodes.ensures.nodes late) c.in_ok-edit.edit (Ok tt) (search rules) (λ cl b stood fit left. c.apply.ensures.leaves clean cl b books stood fit left))

@@ -1,7 +1,7 @@
 use Rattle.std.proofs.Common.{◌≡◌, take}
 use Rattle.fr_base.specs.Queries.{frames_of}
 use Rattle.fr_answers.proofs.GatherLaws.{IsSoFar, each_own}
-use Rattle.fr_records.specs.Held.{LeavesNoMore}
+use Rattle.fr_records.specs.Held.{Reads}
 use Rattle.fr_answers.proofs.queries.frames.gather_frames.Given as goal
 
 -- the rows of the suppliers so far
@@ -9,8 +9,7 @@ abbrev pub invariant-loop-supplier : goal.invariant-loop-supplier
 invariant-loop-supplier g l =
     let records = g.R.Records in
     record {
-      falls : records.clean l.records → records.clean l.fn.records;
-      leaves : records.clean l.records → LeavesNoMore (records.leaves l.fn.records) (records.leaves l.records);
+      reads : Reads records.clean records.params records.leaves l.fn.records l.records;
       gathered : records.clean l.records →
           IsSoFar (records.stands l.fn.records) (records.stands l.records) l.variant (λ p x. l.rows ≡ each_own (λ p t. frames_of t) p x (take l.supplier-index l.suppliers));
     }

@@ -2,13 +2,13 @@ use Rattle.std.proofs.Common.{◌+◌, ◌∙◌, ◌++◌, [], ◌∷◌, take,
 use Rattle.std.proofs.lemmas.List.{take_more}
 use Rattle.fr_answers.proofs.GrantLaws.{held-none, held-more, held-all}
 use Rattle.fr_answers.proofs.OwnReplies.{finds-lent}
+use Rattle.fr_records.proofs.ReadLaws.{reads_none, reads_then}
 use Rattle.fr_answers.proofs.queries.grants.gather_holders.Goals as goal
 
 pub loop-supplier-init : goal.loop-supplier-init
 loop-supplier-init g c =
     record {
-      falls = λ now. now;
-      leaves = λ now cl books left. left;
+      reads = reads_none _ _ _ _;
       gathered = λ now. held-none (g.R.Records.stands c.args.records.now) c.args.variant c.new-held.result.entries c.new-held.ensures.empty;
     }
 
@@ -18,12 +18,11 @@ loop-supplier-preserved g c =
     let i = c.loop-supplier.supplier-index in
     let suppliers = c.args.suppliers.now in
     record {
-      falls = λ now. c.loop-supplier.invariant.falls (c.find_page.ensures.falls now);
-      leaves = λ now cl books left. c.find_page.ensures.leaves now cl books (c.loop-supplier.invariant.leaves (c.find_page.ensures.falls now) cl books left);
+      reads = reads_then _ _ _ _ _ _ c.loop-supplier.invariant.reads c.find_page.ensures.reads;
       gathered = λ now.
           held-more (records.stands c.args.records.now) c.args.variant (records.stands c.loop-supplier.records) (records.stands c.find_page.new.records)
           c.supplier-item.result (take i suppliers) (take (i + 1) suppliers) c.lent.result.now c.loop-supplier.held.entries c.add_grants.new.held.entries
-          (c.loop-supplier.invariant.gathered (c.find_page.ensures.falls now)) (finds-lent _ _ _ _ _ _ c.lent.ensures (c.in_ok-find_page.ensures.page now)) c.in_ok-add_grants.ensures
+          (c.loop-supplier.invariant.gathered (c.find_page.ensures.reads.falls now)) (finds-lent _ _ _ _ _ _ c.lent.ensures (c.in_ok-find_page.ensures.page now)) c.in_ok-add_grants.ensures
           (take_more suppliers i c.supplier-item.result c.loop-supplier-test.true ∙ ap (λ s. take i suppliers ++ s ∷ []) (sym c.supplier-item.is));
     }
 

@@ -1,6 +1,6 @@
 use Rattle.std.proofs.Common.{take}
 use Rattle.fr_answers.proofs.GrantLaws.{HoldsSoFar}
-use Rattle.fr_records.specs.Held.{LeavesNoMore}
+use Rattle.fr_records.specs.Held.{Reads}
 use Rattle.fr_answers.proofs.queries.grants.gather_holders.Given as goal
 
 -- the grants of the suppliers so far
@@ -8,7 +8,6 @@ abbrev pub invariant-loop-supplier : goal.invariant-loop-supplier
 invariant-loop-supplier g l =
     let records = g.R.Records in
     record {
-      falls : records.clean l.records → records.clean l.fn.records;
-      leaves : records.clean l.records → LeavesNoMore (records.leaves l.fn.records) (records.leaves l.records);
+      reads : Reads records.clean records.params records.leaves l.fn.records l.records;
       gathered : records.clean l.records → HoldsSoFar (records.stands l.fn.records) (records.stands l.records) l.variant (take l.supplier-index l.suppliers) l.held.entries;
     }

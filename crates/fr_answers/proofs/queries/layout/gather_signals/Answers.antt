@@ -2,6 +2,7 @@ use Rattle.std.proofs.Common.{◌≡◌, ◌+◌, ◌∙◌, ◌++◌, ◌||◌,
 use Rattle.std.proofs.lemmas.List.{take_more}
 use Rattle.fr_answers.proofs.GatherLaws.{IsFound, IsSoFar, found-more, gathered-more, or_with, or_without, signals-gathered, signals-none, signals_named}
 use Rattle.fr_answers.proofs.OwnReplies.{finds-lent}
+use Rattle.fr_records.proofs.ReadLaws.{reads_none, reads_then}
 use Rattle.fr_answers.proofs.queries.layout.gather_signals.Goals as goal
 use Rattle.fr_answers.proofs.queries.layout.gather_signals.Goals.{then-branch, else-branch, then-found, else-found}
 
@@ -22,15 +23,14 @@ loop-supplier-preserved g c =
       | else-branch w ↦ w.found-is ∙ sym (or_without c.loop-supplier.found has w.if-branch.false)
     ] in
     record {
-      falls = λ now. c.loop-supplier.invariant.falls (c.find_page.ensures.falls now);
-      leaves = λ now cl books left. c.find_page.ensures.leaves now cl books (c.loop-supplier.invariant.leaves (c.find_page.ensures.falls now) cl books left);
+      reads = reads_then _ _ _ _ _ _ c.loop-supplier.invariant.reads c.find_page.ensures.reads;
       gathered = λ now.
           gathered-more (signals_named c.args.name) old c.args.variant mid new s (take i suppliers) (take (i + 1) suppliers) c.lent.result.now c.loop-supplier.rows c.push_signals.new.rows
-          (c.loop-supplier.invariant.gathered (c.find_page.ensures.falls now)) (finds-lent _ _ _ _ _ _ c.lent.ensures (c.in_ok-find_page.ensures.page now)) c.in_ok-push_signals.ensures.rows more;
+          (c.loop-supplier.invariant.gathered (c.find_page.ensures.reads.falls now)) (finds-lent _ _ _ _ _ _ c.lent.ensures (c.in_ok-find_page.ensures.page now)) c.in_ok-push_signals.ensures.rows more;
       found = λ now.
           subst (λ found. IsSoFar old new c.args.variant (λ p x. IsFound c.args.name (take (i + 1) suppliers) found x)) (sym now_found)
           (found-more old mid new c.args.name s c.args.variant (take i suppliers) (take (i + 1) suppliers) c.lent.result.now c.loop-supplier.found has
-          (c.loop-supplier.invariant.found (c.find_page.ensures.falls now)) (finds-lent _ _ _ _ _ _ c.lent.ensures (c.in_ok-find_page.ensures.page now)) c.in_ok-push_signals.ensures.found more);
+          (c.loop-supplier.invariant.found (c.find_page.ensures.reads.falls now)) (finds-lent _ _ _ _ _ _ c.lent.ensures (c.in_ok-find_page.ensures.page now)) c.in_ok-push_signals.ensures.found more);
     }
 
 pub returns-clause-gathers : goal.returns-clause-gathers

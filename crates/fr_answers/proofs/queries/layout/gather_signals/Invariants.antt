@@ -1,6 +1,6 @@
 use Rattle.std.proofs.Common.{◌≡◌, take}
 use Rattle.fr_answers.proofs.GatherLaws.{IsFound, IsSoFar, each_own, signals_named}
-use Rattle.fr_records.specs.Held.{LeavesNoMore}
+use Rattle.fr_records.specs.Held.{Reads}
 use Rattle.fr_answers.proofs.queries.layout.gather_signals.Given as goal
 
 -- the signals of the suppliers so far, and whether there was a frame of the name
@@ -8,8 +8,7 @@ abbrev pub invariant-loop-supplier : goal.invariant-loop-supplier
 invariant-loop-supplier g l =
     let records = g.R.Records in
     record {
-      falls : records.clean l.records → records.clean l.fn.records;
-      leaves : records.clean l.records → LeavesNoMore (records.leaves l.fn.records) (records.leaves l.records);
+      reads : Reads records.clean records.params records.leaves l.fn.records l.records;
       gathered : records.clean l.records →
           IsSoFar (records.stands l.fn.records) (records.stands l.records) l.variant (λ p x. l.rows ≡ each_own (signals_named l.name) p x (take l.supplier-index l.suppliers));
       found : records.clean l.records →

@@ -1,6 +1,6 @@
 use Rattle.std.proofs.Common.{take}
 use Rattle.fr_answers.proofs.RegisterReplies.{AreNodes}
-use Rattle.fr_records.specs.Held.{LeavesNoMore}
+use Rattle.fr_records.specs.Held.{Reads}
 use Rattle.fr_answers.proofs.queries.nodes.gather_nodes.Given as goal
 
 -- the nodes of the suppliers so far
@@ -8,7 +8,6 @@ abbrev pub invariant-loop-supplier : goal.invariant-loop-supplier
 invariant-loop-supplier g l =
     let records = g.R.Records in
     record {
-      falls : records.clean l.records → records.clean l.fn.records;
-      leaves : records.clean l.records → LeavesNoMore (records.leaves l.fn.records) (records.leaves l.records);
+      reads : Reads records.clean records.params records.leaves l.fn.records l.records;
       gathered : records.clean l.records → AreNodes (records.stands l.fn.records) (records.stands l.records) l.rows (take l.supplier-index l.suppliers);
     }

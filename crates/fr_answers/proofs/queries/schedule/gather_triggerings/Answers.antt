@@ -3,6 +3,7 @@ use Rattle.std.proofs.lemmas.List.{take_more}
 use Rattle.fr_base.specs.Book.{placements_of}
 use Rattle.fr_answers.proofs.GatherLaws.{gathered-more, gathered-all}
 use Rattle.fr_answers.proofs.OwnReplies.{finds-lent}
+use Rattle.fr_records.proofs.ReadLaws.{reads_none, reads_then}
 use Rattle.fr_answers.proofs.queries.schedule.gather_triggerings.Goals as goal
 
 pub loop-supplier-preserved : goal.loop-supplier-preserved
@@ -11,12 +12,11 @@ loop-supplier-preserved g c =
     let i = c.loop-supplier.supplier-index in
     let suppliers = c.args.suppliers.now in
     record {
-      falls = λ now. c.loop-supplier.invariant.falls (c.find_page.ensures.falls now);
-      leaves = λ now cl books left. c.find_page.ensures.leaves now cl books (c.loop-supplier.invariant.leaves (c.find_page.ensures.falls now) cl books left);
+      reads = reads_then _ _ _ _ _ _ c.loop-supplier.invariant.reads c.find_page.ensures.reads;
       gathered = λ now.
           gathered-more (λ p t. placements_of t) (records.stands c.args.records.now) c.args.variant (records.stands c.loop-supplier.records) (records.stands c.find_page.new.records)
           c.supplier-item.result (take i suppliers) (take (i + 1) suppliers) c.lent.result.now c.loop-supplier.triggerings c.push_page.new.self
-          (c.loop-supplier.invariant.gathered (c.find_page.ensures.falls now)) (finds-lent _ _ _ _ _ _ c.lent.ensures (c.in_ok-find_page.ensures.page now)) c.in_ok-push_page.ensures.ok
+          (c.loop-supplier.invariant.gathered (c.find_page.ensures.reads.falls now)) (finds-lent _ _ _ _ _ _ c.lent.ensures (c.in_ok-find_page.ensures.page now)) c.in_ok-push_page.ensures.ok
           (take_more suppliers i c.supplier-item.result c.loop-supplier-test.true ∙ ap (λ s. take i suppliers ++ s ∷ []) (sym c.supplier-item.is));
     }
 

@@ -1,4 +1,4 @@
-use Rattle.std.proofs.Common.{rules, ◌≡◌}
+use Rattle.std.proofs.Common.{rules}
 use Rattle.fr_base.proofs.QueryLemmas.{query_read, variant_unread, report_unread}
 use Rattle.fr_base.proofs.query.Query.read.Goals as goal
 

@@ -1,4 +1,4 @@
-use Rattle.std.proofs.Common.{rules, ◌≡◌}
+use Rattle.std.proofs.Common.{rules}
 use Rattle.fr_base.proofs.QueryLemmas.{layout_read, layout_unread}
 use Rattle.fr_base.proofs.report.Report.read.Goals as goal
 

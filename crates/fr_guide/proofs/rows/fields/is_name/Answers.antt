@@ -1,4 +1,4 @@
-use Rattle.std.proofs.Common.{◌∙◌, ap, sym}
+use Rattle.std.proofs.Common.{◌∙◌, ap}
 use Rattle.std.specs.Prelude.{is_some}
 use Rattle.fr_guide.proofs.RowLaws.{name_found, no_name_in}
 use Rattle.fr_guide.proofs.rows.fields.is_name.Goals as goal

@@ -1,51 +1,45 @@
-use Rattle.std.proofs.Common.{sym, subst}
+use Rattle.std.proofs.Common.{Ok, subst, sym}
+use Rattle.std.specs.Prelude.{⊤}
 use Rattle.sqlite.specs.Held.{state}
 use Rattle.fr_store.specs.Applying.{CarriesOut}
-use Rattle.fr_tables.specs.Statements.{with_released}
-use Rattle.fr_store.proofs.InsideLemmas.{one_stays, with_released_stored}
+use Rattle.fr_store.specs.declared.fault.StoreFault.{StoreFault}
+use Rattle.fr_store.proofs.ApplyLemmas.{node_applied, supplier_applied}
+use Rattle.fr_store.proofs.ImportEdits.{import_kept}
+use Rattle.fr_store.proofs.VariantEdits.{released}
 use Rattle.fr_store.proofs.applying.edits.carry_out.Goals as goal
 
 pub returns-in-NewVariant-clause-carried : goal.returns-in-NewVariant-clause-carried
 returns-in-NewVariant-clause-carried g c =
-    subst (λ edit. CarriesOut edit c.args.overlay (state g.S.Store c.args.tx.now.conn.now) (state g.S.Store c.new_variant.new.tx.conn.now) c.new_variant.result) (sym c.in-NewVariant.is) c.new_variant.ensures.carried
-
-pub returns-in-SetReleased-clause-stays : goal.returns-in-SetReleased-clause-stays
-returns-in-SetReleased-clause-stays g c clean inside has =
-    one_stays (with_released c.in-SetReleased.variant) (state g.S.Store c.args.tx.now.conn.now) (state g.S.Store c.set_released.new.tx.conn.now) c.set_released.result (with_released_stored c.in-SetReleased.variant) inside
-    (c.set_released.ensures.released clean inside has)
+    subst (λ edit. CarriesOut edit (state g.S.Store c.args.tx.now.conn.now) (state g.S.Store c.open_variant.new.tx.conn.now) c.open_variant.result) (sym c.in-NewVariant.is) c.open_variant.ensures.carried
 
 pub returns-in-Rows-clause-carried : goal.returns-in-Rows-clause-carried
 returns-in-Rows-clause-carried g c =
-    subst (λ edit. CarriesOut edit c.args.overlay (state g.S.Store c.args.tx.now.conn.now) (state g.S.Store c.change_rows.new.tx.conn.now) c.change_rows.result) (sym c.in-Rows.is) c.change_rows.ensures.carried
+    subst (λ edit. CarriesOut edit (state g.S.Store c.args.tx.now.conn.now) (state g.S.Store c.change_rows.new.tx.conn.now) c.change_rows.result) (sym c.in-Rows.is) c.change_rows.ensures.carried
 
-pub returns-in-SetReleased-clause-carried : goal.returns-in-SetReleased-clause-carried
-returns-in-SetReleased-clause-carried g c =
-    subst (λ edit. CarriesOut edit c.args.overlay (state g.S.Store c.args.tx.now.conn.now) (state g.S.Store c.set_released.new.tx.conn.now) c.set_released.result) (sym c.in-SetReleased.is)
-    (λ clean inside cluster b stands fits so ready. c.set_released.ensures.stands clean inside cluster b stands fits.0 fits.1.there)
+pub returns-in_ok-release-in-SetReleased-clause-carried : goal.returns-in_ok-release-in-SetReleased-clause-carried
+returns-in_ok-release-in-SetReleased-clause-carried g c =
+    let old = state g.S.Store c.args.tx.now.conn.now in
+    let new = state g.S.Store c.release.new.tx.conn.now in
+    subst (λ edit. CarriesOut {X = ⊤} {E = StoreFault} edit old new (Ok tt)) (sym c.in-SetReleased.is)
+    (λ clean inside cluster b stands fits. released c.in-SetReleased.variant old new (c.in_ok-release-in-SetReleased.ensures.released clean inside stands.has) cluster b stands fits.0 fits.1.there)
 
-pub returns-in-NewNode-clause-carried : goal.returns-in-NewNode-clause-carried
-returns-in-NewNode-clause-carried g c =
-    subst (λ edit. CarriesOut edit c.args.overlay (state g.S.Store c.args.tx.now.conn.now) (state g.S.Store c.new_node.new.tx.conn.now) c.new_node.result) (sym c.in-NewNode.is)
-    (λ clean inside cluster b stands fits so ready. c.new_node.ensures.stands clean inside cluster b stands fits.1)
+pub returns-in_ok-insert-in-NewSupplier-clause-carried : goal.returns-in_ok-insert-in-NewSupplier-clause-carried
+returns-in_ok-insert-in-NewSupplier-clause-carried g c =
+    let old = state g.S.Store c.args.tx.now.conn.now in
+    let new = state g.S.Store c.insert.new.tx.conn.now in
+    subst (λ edit. CarriesOut {X = ⊤} {E = StoreFault} edit old new (Ok tt)) (sym c.in-NewSupplier.is)
+    (λ clean inside cluster b stands fits. supplier_applied c.in-NewSupplier.supplier c.in-NewSupplier.key old new (c.in_ok-insert-in-NewSupplier.ensures.added clean inside stands.has) cluster b stands fits)
 
-pub returns-in-KeepImport-clause-carried : goal.returns-in-KeepImport-clause-carried
-returns-in-KeepImport-clause-carried g c =
-    subst (λ edit. CarriesOut edit c.args.overlay (state g.S.Store c.args.tx.now.conn.now) (state g.S.Store c.keep_import.new.tx.conn.now) c.keep_import.result) (sym c.in-KeepImport.is)
-    (λ clean inside cluster b stands fits so ready. c.keep_import.ensures.stands clean inside cluster b stands fits.2)
+pub returns-in_ok-insert-in-NewNode-clause-carried : goal.returns-in_ok-insert-in-NewNode-clause-carried
+returns-in_ok-insert-in-NewNode-clause-carried g c =
+    let old = state g.S.Store c.args.tx.now.conn.now in
+    let new = state g.S.Store c.insert-in-NewNode.new.tx.conn.now in
+    subst (λ edit. CarriesOut {X = ⊤} {E = StoreFault} edit old new (Ok tt)) (sym c.in-NewNode.is)
+    (λ clean inside cluster b stands fits. node_applied c.in-NewNode.supplier c.in-NewNode.node old new (c.in_ok-insert-in-NewNode.ensures.added clean inside stands.has) cluster b stands fits.1)
 
-pub returns-in-NewNode-clause-stays : goal.returns-in-NewNode-clause-stays
-returns-in-NewNode-clause-stays g c clean inside has =
-    one_stays _ (state g.S.Store c.args.tx.now.conn.now) (state g.S.Store c.new_node.new.tx.conn.now) c.new_node.result (λ t v over so. so) inside (c.new_node.ensures.added clean inside has)
-
-pub returns-in-KeepImport-clause-stays : goal.returns-in-KeepImport-clause-stays
-returns-in-KeepImport-clause-stays g c clean inside has =
-    one_stays _ (state g.S.Store c.args.tx.now.conn.now) (state g.S.Store c.keep_import.new.tx.conn.now) c.keep_import.result (λ t v over so. so) inside (c.keep_import.ensures.added clean inside has)
-
-pub returns-in-NewSupplier-clause-carried : goal.returns-in-NewSupplier-clause-carried
-returns-in-NewSupplier-clause-carried g c =
-    subst (λ edit. CarriesOut edit c.args.overlay (state g.S.Store c.args.tx.now.conn.now) (state g.S.Store c.join.new.tx.conn.now) c.join.result) (sym c.in-NewSupplier.is)
-    (λ clean inside cluster b stands fits so ready. c.join.ensures.stands clean inside cluster b stands fits)
-
-pub returns-in-NewSupplier-clause-stays : goal.returns-in-NewSupplier-clause-stays
-returns-in-NewSupplier-clause-stays g c clean inside has =
-    one_stays _ (state g.S.Store c.args.tx.now.conn.now) (state g.S.Store c.join.new.tx.conn.now) c.join.result (λ t v over so. so) inside (c.join.ensures.added clean inside has)
+pub returns-in_ok-insert-in-KeepImport-clause-carried : goal.returns-in_ok-insert-in-KeepImport-clause-carried
+returns-in_ok-insert-in-KeepImport-clause-carried g c =
+    let old = state g.S.Store c.args.tx.now.conn.now in
+    let new = state g.S.Store c.insert-in-KeepImport.new.tx.conn.now in
+    subst (λ edit. CarriesOut {X = ⊤} {E = StoreFault} edit old new (Ok tt)) (sym c.in-KeepImport.is)
+    (λ clean inside cluster b stands fits. import_kept c.in-KeepImport.supplier c.in-KeepImport.label c.in-KeepImport.variant c.in-KeepImport.body c.in-KeepImport.rows old new (c.in_ok-insert-in-KeepImport.ensures.added clean inside stands.has) cluster b stands fits.2)

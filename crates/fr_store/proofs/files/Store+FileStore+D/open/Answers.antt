@@ -1,9 +1,9 @@
-use Rattle.std.proofs.Common.{◌≡◌, ◌∙◌, arith, ap, sym, subst}
+use Rattle.std.proofs.Common.{◌≡◌, ◌∙◌, arith, sym, subst}
 use Rattle.sqlite.specs.Effect.{Database}
 use Rattle.sqlite.specs.State.{HasCleanDisk}
 use Rattle.sqlite.specs.Files.{file_state, image_of}
 use Rattle.fr_tables.specs.Asking.{our_schema_number}
-use Rattle.fr_tables.specs.Schema.{register_schema}
+use Rattle.fr_tables.specs.Schema.{IsOurs}
 use Rattle.fr_store.specs.Opening.{Explains}
 use Rattle.fr_store.specs.StoreFiles.{IsFound, database_of}
 use Rattle.fr_store.proofs.FileLemmas.{held_as, refused_opened, refused_unopened, same_database, found_database}
@@ -21,8 +21,8 @@ pub returns-in-Ok-open_on-clause-stands : goal.returns-in-Ok-open_on-clause-stan
 returns-in-Ok-open_on-clause-stands g c clean =
     let before : HasCleanDisk (file_state c.in-Ok.conn) = omega (arith, c.in-Ok-open_on.ensures.survives.clean, clean) in
     let same = c.in-Ok-open_on.ensures.opened clean in
-    let schema : (file_state c.in-Ok.conn).now.schema ≡ register_schema = ap (λ (d : Database). d.schema) (sym same.0) ∙ c.in-Ok-open_on.ensures.ours in
-    c.in-Ok-open_on.ensures.stands clean (c.in-Ok.ensures.ordered before schema)
+    let ours : IsOurs (file_state c.in-Ok.conn).now.schema = subst (λ (d : Database). IsOurs d.schema) same.0 c.in-Ok-open_on.ensures.ours in
+    c.in-Ok-open_on.ensures.stands clean (c.in-Ok.ensures.ordered before ours)
 
 pub returns-in-Ok-open_on-clause-opened : goal.returns-in-Ok-open_on-clause-opened
 returns-in-Ok-open_on-clause-opened g c clean k db holds =
@@ -62,8 +62,9 @@ pub returns-in-Ok-open_on-clause-left : goal.returns-in-Ok-open_on-clause-left
 returns-in-Ok-open_on-clause-left g c clean k b db held is =
     let before : HasCleanDisk (file_state c.in-Ok.conn) = omega (arith, c.in-Ok-open_on.ensures.survives.clean, clean) in
     let same = c.in-Ok-open_on.ensures.opened clean in
-    let schema : (file_state c.in-Ok.conn).now.schema ≡ register_schema = ap (λ (d : Database). d.schema) (sym same.0) ∙ c.in-Ok-open_on.ensures.ours in
-    c.in-Ok-open_on.ensures.again clean k b (left_stands (file_state c.in-Ok.conn) k b db is schema (c.in-Ok.ensures.found before db held))
+    let opens = c.in-Ok.ensures.opens before in
+    let ours : IsOurs (file_state c.in-Ok.conn).now.schema = subst (λ (d : Database). IsOurs d.schema) same.0 c.in-Ok-open_on.ensures.ours in
+    c.in-Ok-open_on.ensures.again clean k b (left_stands (file_state c.in-Ok.conn) k b db is (opens.1 opens.0.is_open).0 ours (c.in-Ok.ensures.found before db held))
 
 pub returns-in-Ok-open_on-clause-open : goal.returns-in-Ok-open_on-clause-open
 returns-in-Ok-open_on-clause-open g c clean = (c.in-Ok-open_on.ensures.open clean).1

@@ -14,7 +14,7 @@ returns-in-Ok-clause-opened g c clean =
 
 pub returns-in-Ok-clause-again : goal.returns-in-Ok-clause-again
 returns-in-Ok-clause-again g c clean =
-    found_again (state g.S.Store c.args.conn) (state g.S.Store c.recognized.new.conn) c.in-Ok.config (c.in-Ok.ensures.same clean (c.in-Ok.ensures.open clean)).1 c.in-Ok.ensures.formed (c.in-Ok.ensures.stands clean)
+    found_again (state g.S.Store c.args.conn) (state g.S.Store c.read_config.new.conn) c.in-Ok.config (c.in-Ok.ensures.same clean (c.in-Ok.ensures.open clean)).1 c.in-Ok.ensures.formed (c.in-Ok.ensures.stands clean)
 
 pub returns-in-Err-clause-known : goal.returns-in-Err-clause-known
 returns-in-Err-clause-known g c clean k is = only_unavailable k (state g.S.Store c.args.conn).now c.in-Err.fault is (c.in-Err.ensures.told clean)
@@ -22,4 +22,4 @@ returns-in-Err-clause-known g c clean k is = only_unavailable k (state g.S.Store
 pub returns-in-Ok-clause-serves : goal.returns-in-Ok-clause-serves
 returns-in-Ok-clause-serves g c clean =
     let up = c.in-Ok.ensures.open clean in
-    record { up = up; settled = λ db may. g.met.S.Store.settled c.recognized.new.conn.store db up may }
+    record { up = up; settled = λ db may. g.met.S.Store.settled c.read_config.new.conn.store db up may }

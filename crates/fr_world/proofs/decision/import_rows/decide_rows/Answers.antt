@@ -7,7 +7,7 @@ use Rattle.fr_world.specs.Drafts.{draft_data}
 use Rattle.fr_world.specs.RowDecisions.{IsCheckedRow, draft_of, make_rows, rows_decision}
 use Rattle.fr_world.specs.RowFaults.{IsFault}
 use Rattle.fr_world.proofs.DraftRows.{fault-on, read-params, rows-fault, rows-next}
-use Rattle.fr_world.proofs.RowsLead.{rows-lead}
+use Rattle.fr_world.proofs.RowsLead.{draft-led, none-releases}
 use Rattle.fr_world.proofs.decision.import_rows.decide_rows.Goals as goal
 
 pub loop-read-init : goal.loop-read-init
@@ -55,5 +55,27 @@ returns-clause-edits c =
     ap (λ r. r >>= λ last. Ok last.edits) (c.loop-read.invariant.0 ∙ ap (make_rows d) none)
 
 pub returns-clause-leads : goal.returns-clause-leads
+unfolding make_rows
 returns-clause-leads c =
-    rows-lead c.args.page c.args.rows.now c.loop-read.draft.edits.items (subst (λ p. check_params p ≡ Ok p) c.params.ensures c.raw-raw.ensures.checked) c.frames-frames.ensures.kept c.requires.checked (returns-clause-edits c)
+    let d = draft_data c.loop-read.draft in
+    let over = c.loop-read-test.false in
+    let none : drop c.loop-read.read-index c.args.rows.now ≡ [] = drop_all c.loop-read.read-index c.args.rows.now (omega (arith, over)) in
+    (draft-led c.args.page (subst (λ p. check_params p ≡ Ok p) c.params.ensures c.raw-raw.ensures.checked) c.frames-frames.ensures.kept c.args.rows.now c.requires.checked d (c.loop-read.invariant.0 ∙ ap (make_rows d) none)).leads
+
+pub returns-clause-page : goal.returns-clause-page
+unfolding make_rows
+returns-clause-page c =
+    let d = draft_data c.loop-read.draft in
+    let over = c.loop-read-test.false in
+    let none : drop c.loop-read.read-index c.args.rows.now ≡ [] = drop_all c.loop-read.read-index c.args.rows.now (omega (arith, over)) in
+    let led = draft-led c.args.page (subst (λ p. check_params p ≡ Ok p) c.params.ensures c.raw-raw.ensures.checked) c.frames-frames.ensures.kept c.args.rows.now c.requires.checked d (c.loop-read.invariant.0 ∙ ap (make_rows d) none) in
+    record { supplier = led.supplier; variant = led.variant; released = led.released }
+
+pub returns-clause-still : goal.returns-clause-still
+unfolding make_rows
+returns-clause-still c =
+    let d = draft_data c.loop-read.draft in
+    let over = c.loop-read-test.false in
+    let none : drop c.loop-read.read-index c.args.rows.now ≡ [] = drop_all c.loop-read.read-index c.args.rows.now (omega (arith, over)) in
+    let led = draft-led c.args.page (subst (λ p. check_params p ≡ Ok p) c.params.ensures c.raw-raw.ensures.checked) c.frames-frames.ensures.kept c.args.rows.now c.requires.checked d (c.loop-read.invariant.0 ∙ ap (make_rows d) none) in
+    none-releases c.args.page.params d.edits led.frames

@@ -23,6 +23,7 @@ returns-clause-ok c =
     let old = c.args.self.now in
     λ i. record {
       variant = c.in_ok-amend.ensures.rest.1 i;
+      released = c.in_ok-amend.ensures.rest.2 i;
       page = c.in_ok-amend.ensures.page i;
       edits = (c.in_ok-push.ensures.items ∙ λ j. old.edits.items ++ Rows (c.supplier.ensures j) (c.variant.ensures j) (change.Frame c.args.frame c.args.change) ∷ []) i;
     }

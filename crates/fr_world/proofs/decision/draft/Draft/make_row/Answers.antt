@@ -1,12 +1,26 @@
 use Rattle.std.proofs.Common.{◌≡◌, ◌∙◌, Err, IfErr, sym, ap, subst, rules}
 use Rattle.fr_base.specs.Sound.{FitsCluster}
 use Rattle.fr_base.specs.declared.request.Change.TheVariants as change
-use Rattle.fr_base.specs.declared.request.FrameChange.TheVariants.{Place, AddSignal}
+use Rattle.fr_base.specs.declared.request.FrameChange.TheVariants.{Add, Place, AddSignal}
 use Rattle.fr_world.specs.Drafts.{draft_data}
 use Rattle.fr_world.specs.RowDecisions.{IsCheckedRow, make, make_frame, make_row}
 use Rattle.fr_world.proofs.AmendLaws.{on_ok}
 use Rattle.fr_world.proofs.DraftRows.{Refused, if_err, refused-so, frame-params, place-row, place-refused}
 use Rattle.fr_world.proofs.decision.draft.Draft.make_row.Goals as goal
+
+pub returns-in-AddFrame-clause-ok : goal.returns-in-AddFrame-clause-ok
+unfolding make_row
+returns-in-AddFrame-clause-ok c =
+    let d = draft_data c.args.self.now in
+    on_ok c.add_frame.result (λ is. ap (make_row d) c.in-AddFrame.is ∙ is) c.add_frame.ensures.ok
+
+pub returns-in-AddFrame-clause-err : goal.returns-in-AddFrame-clause-err
+unfolding make_row
+returns-in-AddFrame-clause-err c =
+    let d = draft_data c.args.self.now in
+    if_err _ _ c.add_frame.result
+    (refused-so (make d (change.Frame c.in-AddFrame.frame (Add c.in-AddFrame.node))) (make_row d c.args.row.now) (λ e is. ap (make_row d) c.in-AddFrame.is ∙ is))
+    c.add_frame.ensures.err
 
 pub returns-in_err-make_frame-in-Place-clause-err : goal.returns-in_err-make_frame-in-Place-clause-err
 returns-in_err-make_frame-in-Place-clause-err c =

@@ -1,0 +1,97 @@
+//! Reads the plan of a variant of a register's desk: who holds which slot, what is sent in which cell, the frames, and the
+//! variant's state.
+ghost use Rattle.std.specs.Prelude.{◌≡◌, [], ◌∷◌, IfOk, IfSome, Contains, map};
+ghost use Rattle.fr_picture.specs.Frames.{MayRefusePlan};
+ghost use Rattle.fr_picture.specs.Plans.{IsListed, IsPlan, supplier_of, suppliers_seen};
+ghost use Rattle.fr_picture.specs.Reports.{Reads};
+
+use crate::drawn_frames::frames;
+use crate::plan::Plan;
+use crate::reports::{View, grants, schedule, variants};
+use fr_base::{Actor, Config, Desk, Name, NoMemory, Refusal, Supplier, VariantRow};
+use std::alloc::Global;
+
+/// The variant's plan, as the reader sees it.
+pub fn read_plan<D: Desk>(alloc: Global, desk: &mut D, view: &View<'_>) -> Result<Plan, Refusal>
+    ensures falls { D.clean desk.new → D.clean desk.old }
+    ensures reads { D.clean desk.new → Reads (D.stands desk.old) (D.stands desk.new) result
+        (λ c b plan. IsPlan c b view.now.reader view.now.variant.now plan)
+        (λ c b e. MayRefusePlan c b view.now.reader view.now.variant.now e) }
+{
+    let grants = grants(alloc, desk, view)?;
+    let cells = schedule(alloc, desk, view)?;
+    let frames = frames(alloc, desk, view)?;
+    let row = variant_row(alloc, desk, view)?;
+    let config = desk.config();
+    let suppliers = suppliers_seen(alloc, config, view.reader)?;
+    Ok(Plan {
+        params: config.params(),
+        variant: row.variant,
+        parent: row.parent,
+        released: row.released,
+        supplier: supplier_of(view.reader),
+        suppliers,
+        grants,
+        cells,
+        frames,
+    })
+}
+
+// The variant among those of the register. Where there are reports of it, it is one of them.
+fn variant_row<D: Desk>(alloc: Global, desk: &mut D, view: &View<'_>) -> Result<VariantRow, Refusal>
+    ensures falls { D.clean desk.new → D.clean desk.old }
+    ensures reads { D.clean desk.new → Reads (D.stands desk.old) (D.stands desk.new) result
+        (λ c b row. IsListed c b view.now.reader row × (row.variant ≡ view.now.variant.now))
+        (λ c b e. MayRefusePlan c b view.now.reader view.now.variant.now e) }
+{
+    let rows = variants(alloc, desk, view.reader)?;
+    match find(rows.as_slice(), view.variant) {
+        Some(row) => Ok(*row),
+        None => Err(Refusal::Unavailable),
+    }
+}
+
+// The variant of this name.
+fn find<'a>(rows: &'a [VariantRow], variant: &str) -> Option<&'a VariantRow>
+    ensures { IfSome result (λ row. Contains rows.now row.now × (row.now.variant ≡ variant.now)) }
+{
+    rows.iter().find(|row| row.variant.as_str() == variant)
+}
+
+// Whose rows alone the reader sees.
+fn supplier_of(reader: Actor) -> Option<Name>
+    ensures { result ≡ supplier_of reader }
+{
+    match reader {
+        Actor::Integrator => None,
+        Actor::Supplier(supplier) => Some(supplier),
+    }
+}
+
+// The suppliers that may have rows that the reader sees: all of the register, or the reader alone.
+fn suppliers_seen(alloc: Global, config: &Config, reader: Actor) -> Result<Vec<Name>, NoMemory>
+    ensures { IfOk result (λ names. names.items ≡ suppliers_seen reader config.now.suppliers) }
+{
+    match reader {
+        Actor::Integrator => names(alloc, config.suppliers()),
+        Actor::Supplier(supplier) => only(alloc, supplier),
+    }
+}
+
+fn names(alloc: Global, suppliers: &[Supplier]) -> Result<Vec<Name>, NoMemory>
+    ensures { IfOk result (λ names. names.items ≡ map (λ s. s.name) suppliers.now) }
+{
+    let mut names = Vec::new(alloc);
+    for supplier in suppliers {
+        names.push(supplier.name)?;
+    }
+    Ok(names)
+}
+
+fn only(alloc: Global, name: Name) -> Result<Vec<Name>, NoMemory>
+    ensures { IfOk result (λ names. names.items ≡ name ∷ []) }
+{
+    let mut names = Vec::new(alloc);
+    names.push(name)?;
+    Ok(names)
+}

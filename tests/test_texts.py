@@ -1,0 +1,269 @@
+"""What `check` says of the texts of requests and rows.
+
+Each mistake is one at which a register answers `BadText`, `BadName` or `BadKey`, which name neither line nor field. What is wanted was typed by hand from
+docs/FORMATS.md; none of it is the program's own output. The register itself is asked too: it refuses so just the lines and rows that are told of."""
+import json
+
+from tests.lib.program import ran
+from tests.lib.registers import RegisterCase
+
+REQUESTS = (
+    "open_variant, release, add_supplier, add_node, grant, revoke, add_frame, drop_frame, place, unplace, add_signal, drop_signal, import, cluster, "
+    "variants, nodes, grants, frames, schedule, gaps, layout"
+)
+NAME = "a name is 1 to 32 ASCII letters, digits and underscores, a letter first"
+NUMBER = "it may be a whole number from 0 to 4294967295, without quotes"
+TEXT = "it may be a text, in double quotes"
+NO_KEY = "the key is none, which is 8 to 64 ASCII letters and digits"
+NO_SPACE = "there is no space: a line is a key, a space and a request"
+OPEN = 'integrator1 {"do":"open_variant","variant":"v1"}'
+# Lines of requests, each with what is told of it.
+LINES = [
+    (OPEN, []),
+    ("", []),
+    ('supplier01 {"do":"add-frame","variant":"v1","frame":"f1","node":"n1"}', [f'field "do" is "add-frame", it may be: {REQUESTS}']),
+    (
+        'supplier01 {"do":"place","variant":"v1","frames":"f1","slot":1,"channels":"A","base":0,"repetition":64}',
+        ['field "frames" is none of place: variant, frame, slot, channels, base, repetition', 'field "frame" of place is missing'],
+    ),
+    ('supplier01 {"do":"place","variant":"v1","frame":"f1","slot":"1","channels":"A","base":0,"repetition":64}', [f'field "slot" is the text "1", {NUMBER}']),
+    (
+        'supplier01 {"do":"place","variant":"v1","frame":"f1","slot":1,"channel":"A","base":0,"repetition":64}',
+        ['field "channel" is none of place: variant, frame, slot, channels, base, repetition', 'field "channels" of place is missing'],
+    ),
+    ("supplier01 {'do':'schedule','variant':'v1'}", ["column 13: the text is no JSON: texts stand in double quotes"]),
+    ('supplier01 {"do":"schedule";"variant":"v1"}', ["column 28: the text is no JSON: ; may not stand here"]),
+    ('supplier01 {"do":"schedule","variant":"v1",}', ["column 44: the text is no JSON: } may not stand here"]),
+    ('supplier01 {"do":"schedule","variant":"v1"', ["the text is no JSON: it ends too early"]),
+    ("supplier01 ", ["the text is no JSON: it ends too early"]),
+    ('supplier01 {"do":"Schedule","variant":"v1"}', [f'field "do" is "Schedule", it may be: {REQUESTS}']),
+    ('supplier01 {"Do":"schedule","variant":"v1"}', [f'field "do" is missing, it may be: {REQUESTS}']),
+    ('supplier01 {"do":7,"variant":"v1"}', [f'field "do" is a number, it may be: {REQUESTS}']),
+    ('supplier01 ["schedule"]', ["the text is a list, a request is an object, in braces"]),
+    ("supplier01", [NO_SPACE]),
+    (" ", [NO_KEY, "the text is no JSON: it ends too early"]),
+    ('supplier-01 {"do":"schedule","variant":"v1"}', [NO_KEY]),
+    ('supplier01 {"do":"nodes","supplier":"s1"}', ['field "supplier" is none of nodes, which has no fields']),
+    ('supplier01 {"do":"add_frame","variant":"v-1","frame":"1f","node":"n1"}', [f'field "variant" is "v-1", {NAME}', f'field "frame" is "1f", {NAME}']),
+    ('supplier01 {"do":"layout","variant":"v1","frame":"f 1"}', [f'field "frame" is "f 1", {NAME}']),
+    ('integrator1 {"do":"open_variant","variant":"v2","from":""}', [f'field "from" is "", {NAME}']),
+    ('integrator1 {"do":"open_variant","variant":"v2","from":7}', [f'field "from" is 7, {TEXT}, or null']),
+    ('integrator1 {"do":"open_variant","variant":"v2","from":null}', []),
+    ('integrator1 {"do":"add_supplier","supplier":"s2","key":"short"}', ['field "key" is no key, which is 8 to 64 ASCII letters and digits']),
+    ('integrator1 {"do":"add_supplier","supplier":"s2","key":12345678}', [f'field "key" is a number, {TEXT}']),
+    (
+        'supplier01 {"do":"place","variant":"v1","frame":"f1","slot":1.0,"channels":"A","base":-1,"repetition":4294967296}',
+        [f'field "slot" is 1.0, {NUMBER}', f'field "base" is -1, {NUMBER}', f'field "repetition" is 4294967296, {NUMBER}'],
+    ),
+    # These have their form, though the register refuses them.
+    ('supplier01 {"do":"place","variant":"v1","frame":"f1","slot":9,"channels":"C","base":9,"repetition":3}', []),
+    ('supplier01 {"do":"drop_frame","variant":"v9","frame":"f9"}', []),
+]
+# As which a register refuses what is told of, whose key may be nobody's.
+MISFORMED = {"BadText", "BadName", "BadKey", "UnknownKey"}
+LINE_BYTES, REQUEST_BYTES = 1_048_576, 16_777_216
+
+PLACEMENTS = "frame,node,slot,channels,base,repetition"
+SIGNALS = "frame,signal,start,length,order"
+HEADERS = f'it may be "frame,node", "{PLACEMENTS}" or "{SIGNALS}"'
+JUST_SO = ", just so: with commas, in this order, in small letters, without spaces, and with no field behind"
+IS_NAME = "it may be 1 to 32 ASCII letters, digits and underscores, a letter first"
+IS_NUMBER = "it may be 1 to 10 digits, at most 4294967295"
+# First lines that are no header.
+NO_HEADERS = [
+    (f"F{PLACEMENTS[1:]}", JUST_SO),
+    ("node,frame,slot,channels,base,repetition", JUST_SO),
+    (f"{PLACEMENTS},,,", JUST_SO),
+    (PLACEMENTS.replace(",", ", "), JUST_SO),
+    (PLACEMENTS.replace(",", ";"), JUST_SO),
+    ("node,frame", JUST_SO),
+    ("Frame, Node", JUST_SO),
+    ("frame,node,", JUST_SO),
+    ("frame", ""),
+    ("f1,n1,1,A,0,64", ""),
+    (PLACEMENTS.replace("channels", "channel"), ""),
+]
+ROW = "f1,n1,1,A,0,64"
+# Rows of placements, each with what is told of it.
+ROWS = [
+    (ROW, []),
+    ("f1;n1;1;A;0;64", ["the number of fields is 1, the header has 6: fields are separated by commas"]),
+    ("f1\tn1\t1\tA\t0\t64", ["the number of fields is 1, the header has 6: fields are separated by commas"]),
+    ("f1,n1,1,A,0,64,,,", ["the number of fields is 9, the header has 6: those behind are empty"]),
+    (",,,,,", ["all fields are empty"]),
+    (",n1,1,A,0,64", [f'field "frame" is "", {IS_NAME}']),
+    ("f1,n1,1,A,0", ["the number of fields is 5, the header has 6"]),
+    ("f-1,n1,+1,A,0,64", [f'field "frame" is "f-1", {IS_NAME}', f'field "slot" is "+1", {IS_NUMBER}']),
+    (
+        "f1, n1,1,A,00000000001,4294967296",
+        [f'field "node" is " n1", {IS_NAME}', f'field "base" is "00000000001", {IS_NUMBER}', f'field "repetition" is "4294967296", {IS_NUMBER}'],
+    ),
+    ("f1,n1,1.0,A,0,64", [f'field "slot" is "1.0", {IS_NUMBER}']),
+    ('"f1",n1,"1",A,0,1', []),
+    # They have their form, though the register refuses them.
+    ("f9,n9,9,C,9,3", []),
+]
+# What an import has at most.
+MAX_ROWS, MAX_BYTES = 512, 65_536
+ONE_TOO_MANY = "the row is one too many, an import may have 512"
+TOO_LONG = "here the file gets longer than 65536 bytes, an import may not be"
+OPEN_QUOTE = "the number of fields is 1, the header has 6: one goes over several lines, so a double quote may be open"
+
+
+class TextCase(RegisterCase):
+    """A test that gives `check` a file."""
+
+    flag = ""
+
+    def told(self, text, *faults, fine=""):
+        """Each of these faults of the file is told on standard error, with its line; where there is none, standard output says so."""
+        text = text if isinstance(text, bytes) else text.encode()
+        (self.folder / "file").write_bytes(text)
+        said = "".join(f"line {line}: {fault}\n" for line, fault in faults)
+        wanted = (1, b"", said.encode()) if faults else (0, f"{fine}, no fault\n".encode(), b"")
+        self.see(f"check {self.flag} of {text[:200]!r}", wanted, ran(["check", self.flag, "file"], self.folder))
+
+
+def numbered(lines, first=1):
+    """The faults of lines, each with the number of its line."""
+    return [(number, fault) for number, (_, faults) in enumerate(lines, first) for fault in faults]
+
+
+class Requests(TextCase):
+    """`check --requests` tells of each fault of a request's text, with its line and its field"""
+
+    flag = "--requests"
+
+    def test_each_alone(self):
+        for line, faults in LINES:
+            self.told(f"{line}\n", *numbered([(line, faults)]), fine=f"requests: {int(line != '')}")
+
+    def test_all_together(self):
+        """The last line needs no end."""
+        for end in "\n", "\r\n":
+            self.told(end.join(line for line, _ in LINES), *numbered(LINES))
+
+    def test_fine(self):
+        fine = [line for line, faults in LINES if not faults]
+        self.told("\n".join(fine), fine=f"requests: {len(fine) - 1}")
+        self.told("", fine="requests: 0")
+
+    def test_bytes(self):
+        """What is no text, and what another program put before the first line."""
+        self.told(b'supplier01 {"do":"\xff"}', (1, "the text is not UTF-8"))
+        self.told(f"\ufeff{OPEN}\n{OPEN}", (1, f"{NO_KEY}: a byte order mark stands before it"))
+        wide = f"{OPEN}\n".encode("utf-16-le")
+        self.told(wide, (1, f"{NO_KEY}: the file is UTF-16, and has to be UTF-8"), (1, "column 24: the text is no JSON from here on"), (2, NO_SPACE))
+
+    def test_lengths(self):
+        """A line is as long as `ask` takes it, and so is the file."""
+        before, behind = 'supplier01 {"do":"import","variant":"v1","label":"w1","body":"', '"}'
+        longest = before + "x" * (LINE_BYTES - len(before + behind)) + behind
+        self.told(f"{OPEN}\n{longest}\n", fine="requests: 2")
+        self.told(f"{OPEN}\n{longest} \nx\n", (2, "the line has more than 1048576 bytes"), (3, NO_SPACE))
+        self.told("\n" * REQUEST_BYTES, fine="requests: 0")
+        (self.folder / "file").write_bytes(b"\n" * (REQUEST_BYTES + 1))
+        self.fault(["check", self.flag, "file"], "CannotOpen")
+
+    def test_the_register_refuses_just_these(self):
+        self.create()
+        asked = [(line, faults) for line, faults in LINES if line]
+        _, answers, _ = ran(["ask", "car.db"], self.folder, "".join(f"{line}\n" for line, _ in asked).encode())
+        for (line, faults), answer in zip(asked, answers.splitlines(), strict=True):
+            self.see(f"whether {line} is misformed", bool(faults), json.loads(answer).get("refused") in MISFORMED)
+
+
+class Rows(TextCase):
+    """`check --rows` tells of each fault of a row's text, with its line in the file and its field"""
+
+    flag = "--rows"
+
+    def test_headers(self):
+        for header, hint in NO_HEADERS:
+            self.told(f"{header}\nf1\n", (1, f'the header is "{header}", {HEADERS}{hint}'))
+        self.told(f"\n\n{ROW}\n", (3, f'the header is "{ROW}", {HEADERS}'))
+        for empty in "", "\n\n", "\ufeff":
+            self.told(empty, (1, "the file has no header"))
+
+    def test_each_alone(self):
+        for row, faults in ROWS:
+            self.told(f"{PLACEMENTS}\n{row}\n", *numbered([(row, faults)], 2), fine="rows: 1")
+
+    def test_all_together(self):
+        """Empty lines are counted, and so are those within a field; a byte order mark is passed over."""
+        for end in "\n", "\r\n", "\r":
+            rows = [(PLACEMENTS, []), ("", []), *ROWS]
+            at = len(rows) + 1
+            text = f"\ufeff{''.join(row + end for row, _ in rows)}\"f{end}9\",n1,1,A,0,1{end}x,n1,1,A,x,1"
+            field = "f" + "?" * len(end) + "9"
+            self.told(text, *numbered(rows), (at, f'field "frame" is "{field}", {IS_NAME}'), (at + 2, f'field "base" is "x", {IS_NUMBER}'))
+
+    def test_signals(self):
+        rows = [
+            (SIGNALS, []),
+            ("f1,s 1,0,8,little", [f'field "signal" is "s 1", {IS_NAME}']),
+            ("f1,s1,,8,little", [f'field "start" is "", {IS_NUMBER}']),
+            ("f1,s1,0,99,Little", []),
+            ("f1,s1,0,x,big", [f'field "length" is "x", {IS_NUMBER}']),
+        ]
+        self.told("\n".join(row for row, _ in rows), *numbered(rows))
+        self.told(f"{SIGNALS}\nf1,s1,0,8,little\n", fine="rows: 1")
+
+    def test_frames(self):
+        rows = [
+            ("frame,node", []),
+            ("f1,n1", []),
+            ("f1", ["the number of fields is 1, the header has 2"]),
+            ("f1,n1,", ["the number of fields is 3, the header has 2: those behind are empty"]),
+            ("f-1, n1", [f'field "frame" is "f-1", {IS_NAME}', f'field "node" is " n1", {IS_NAME}']),
+        ]
+        self.told("\n".join(row for row, _ in rows), *numbered(rows))
+        self.told("frame,node\nf1,n1\n", fine="rows: 1")
+
+    def test_open_quote(self):
+        self.told(f'{PLACEMENTS}\n{ROW}\n"f1,n1,1,A,0,64\n{ROW}\n{ROW}\n', (3, OPEN_QUOTE))
+
+    def test_bytes(self):
+        """What is no text."""
+        head = f"{PLACEMENTS}\n{ROW}\n".encode()
+        self.told(head + b"f\xff,n1,1,\xc3,0,64\n", (3, f'field "frame" is "f?", {IS_NAME}'), (3, 'field "channels" is "?", it may be UTF-8'))
+        wide = "??" + "".join(f"{it}?" for it in PLACEMENTS)
+        self.told(f"{PLACEMENTS}\n".encode("utf-16"), (1, f'the header is "{wide}", {HEADERS}, in UTF-8 and not in UTF-16'))
+
+    def test_limits(self):
+        """One row too many is told of, and what comes behind it is not read; of a file that is too long nothing is."""
+        self.told("\n".join([PLACEMENTS, *[ROW] * MAX_ROWS]), fine=f"rows: {MAX_ROWS}")
+        self.told("\n".join([PLACEMENTS, *[ROW] * (MAX_ROWS + 1)]), (MAX_ROWS + 2, ONE_TOO_MANY))
+        self.told("\n".join([PLACEMENTS, "x", "", *[ROW] * MAX_ROWS, "y"]), (2, "the number of fields is 1, the header has 6"), (MAX_ROWS + 3, ONE_TOO_MANY))
+        # Each row has 128 bytes with its end, and the header's line 64.
+        rows = [PLACEMENTS + " " * (63 - len(PLACEMENTS)), *['f1,n1,1,A,0,"64' + " " * 111 + '"'] * 511]
+        self.see("how long the rows are", 64 + 511 * 128, len("\n".join(rows)) + 1)
+        fine = f'{PLACEMENTS}\n{ROW}{" " * (MAX_BYTES - len(PLACEMENTS) - len(ROW) - 1)}'
+        self.told(fine, (2, f'field "repetition" is "64{" " * 62}", {IS_NUMBER}'))
+        self.told(f"{fine}x", (2, TOO_LONG))
+        self.told(f"{PLACEMENTS}\nx\n{'y' * MAX_BYTES}\n", (3, TOO_LONG))
+        self.told("z" * (16 * MAX_BYTES), (1, TOO_LONG))
+
+    def test_the_register_refuses_just_these(self):
+        self.create()
+        self.ask(OPEN.encode(), b'{"ok":"done"}\n')
+        for at, (row, faults) in enumerate(ROWS):
+            (self.folder / "file").write_text(f"{PLACEMENTS}\n{row}\n")
+            _, _, said = ran(["import", "car.db", "supplier01", "v1", f"w{at}", "file"], self.folder)
+            self.see(f"whether {row} is misformed", bool(faults), json.loads(said)["row"]["refused"] in MISFORMED)
+
+
+class OneFile(TextCase):
+    """One file is named, and it is read as far as it goes"""
+
+    def test_words(self):
+        (self.folder / "file").write_text("")
+        for words in (), ("file", "--rows", "file"), ("--rows", "file", "--requests", "file"), ("file", "--requests", "file", "--rows", "file"):
+            status, written, said = ran(["check", *words], self.folder)
+            self.see(f"check {words}", (2, b""), (status, written))
+            self.see(f"whether it is said of {words} which files are taken", True, b"--requests FILE" in said and b"--rows FILE" in said)
+
+    def test_not_read(self):
+        for flag in "--requests", "--rows":
+            for path in "none", ".", "/dev/null", "":
+                self.fault(["check", flag, path], "CannotOpen")
