@@ -13,9 +13,7 @@ use crate::lender::{Lender, open_page};
 use fr_base::{Answer, Body, Import, Refusal};
 use fr_records::Records;
 use fr_text::read_import;
-use fr_world::{
-    Draft, Edit, RowFault, admit_import, decide_label, decide_rows, rows_are_checked,
-};
+use fr_world::{Draft, Edit, RowFault, admit_import, decide_label, decide_rows, rows_are_checked};
 use std::alloc::Global;
 
 /// Carries out an import with checked names, of a supplier that is there. One that is kept under its

@@ -15,8 +15,8 @@ mod signals;
 
 use crate::edit::Edit;
 use crate::page::Page;
-use fr_base::{Change, FrameChange, Name, Refusal};
 pub use draft::Draft;
+use fr_base::{Change, FrameChange, Name, Refusal};
 pub use import_rows::{RowFault, decide_rows};
 use std::alloc::Global;
 
