@@ -5,10 +5,10 @@
 #               proved program tried, as each of two compilers made it. An hour or two
 # make edits    asks the prover of every wrong body, also of those that the gate leaves out; CRATES='fr_base ..' names some.
 #               Run it when a contract has changed; no part of the gate
-# make tables   writes the tables of files in docs/MAP.md and docs/DEFINITIONS.md from the heads of the files, and tests/CLASSES.md from the
-#               classes of tests; the gate compares them
+# make map      prints what each file of the crates, the tests and bench/ is for; CRATES='fr_base tests ..' names some
+# make calls    prints what each public call of CRATES='fr_base ..' promises: its text, and its clauses
 # make try      tries the built program alone, as the gate does: rows, examples, faults, limits, counts of cycles, register files and
-#               their migration, the server, the commands of docs/TUTORIAL.md and README.md, docs/openapi.yaml, and pictures of plans;
+#               their migration, the server, the commands of docs/TUTORIAL.md, docs/HTTP.md and README.md, docs/openapi.yaml, and pictures;
 #               and every so many cases of make hostile and make refuse
 # make look     draws the plans of the examples and one at the limits into out/look; where there is chromium, it takes screenshots of the
 #               pages, and counts their cells as the browser has them
@@ -34,7 +34,7 @@ unproved := out/unproved/slotplan
 build_log := out/build.log
 sources := -name out -prune -o \( -name '*.rt' -o -name '*.antt' -o -name crates.txt \)
 
-.PHONY: run run-unproved test prove edits tables try look hostile refuse store install bench bench-all build toolchain
+.PHONY: run run-unproved test prove edits map calls try look hostile refuse store install bench bench-all build toolchain
 
 # A program is run where no source is newer.
 run:
@@ -60,8 +60,11 @@ prove: toolchain
 edits: toolchain
 	@python3 tests/edits.py $(CRATES)
 
-tables:
-	@python3 -m tests.lib.tables
+map:
+	@python3 -m tests.lib.heads $(CRATES)
+
+calls:
+	@python3 -m tests.lib.calls $(CRATES)
 
 try: build
 	@SLOTPLAN=$(program) python3 -m tests.lib.run

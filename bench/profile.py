@@ -46,8 +46,8 @@ def each(program, before, more, room):
 
 def of_change(of):
     every, commit = of("fr_cli::script::answer_requests"), of("sqlite::connection::Connection::commit")
-    applied = of("fr_answers::warm::WarmRecords::apply")
-    page = of("fr_answers::pages::Pages::take", "fr_answers::pages::Pages::keep")
+    applied = of("fr_office::warm::WarmRecords::apply")
+    page = of("fr_office::pages::Pages::take", "fr_office::pages::Pages::keep")
     decision = of("fr_world::decision::decide", "fr_world::page::Page::amend")
     text, answer = of("fr_text::request_text::read_command"), of("fr_text::answer_text::write_answer")
     return [every, text, page, decision, applied - commit, commit, answer, every / applied]
@@ -55,7 +55,7 @@ def of_change(of):
 
 def of_schedule(of):
     every, answer = of("fr_cli::script::answer_requests"), of("fr_text::answer_text::write_answer")
-    return [every, of("fr_text::request_text::read_command"), of("fr_answers::queries::show"), answer, every / answer]
+    return [every, of("fr_text::request_text::read_command"), of("fr_office::queries::show"), answer, every / answer]
 
 
 def show(frames, costs):

@@ -13,7 +13,7 @@ from contextlib import closing
 
 from tests.lib import formats, schema1
 from tests.lib.messages import (
-    CLUSTER, CONTINUE, DONE, FIGURE_LINES, UNKNOWN, command, done, engine, first_requests, head, in_cycles, json, post, read, refused, text,
+    CLUSTER, CONTINUE, DONE, FIGURE_LINES, UNKNOWN, command, done, engine, first_requests, head, html, in_cycles, json, post, read, refused, text,
 )
 from tests.lib.program import BY_RATTLE, PROVED, SECONDS, TOP, UNPROVED, program, ran
 from tests.lib.registers import RegisterCase
@@ -260,26 +260,27 @@ class Explaining(RegisterCase):
 
 
 class Version(RegisterCase):
-    """`--version` names the toolchain that proves the program, or says that nothing was proved."""
+    """`--version` names the logic that proves the program, or says that nothing was proved."""
 
     def setUp(self):
         super().setUp()
         if not shutil.which("rt"):
             self.skipTest("there is no command rt on PATH")
-        self.line = subprocess.run(["rt", "version"], capture_output=True, timeout=SECONDS, check=True).stdout
+        line = subprocess.run(["rt", "version"], capture_output=True, timeout=SECONDS, check=True).stdout
+        self.logic = line.split(maxsplit=1)[1]
 
     def test_program(self):
-        kit = self.line.split()[0]
+        proved, unproved = b"slotplan 1.0\n" + self.logic, b"slotplan 1.0\nunproved\n"
         if program() in map(str, (PROVED, BY_RATTLE)):
-            self.tell(["--version"], b"slotplan 1.0\n" + self.line)
+            self.tell(["--version"], proved)
         elif program() == str(UNPROVED):
-            self.tell(["--version"], b"slotplan 1.0\nunproved: compiled by " + kit + b"\n")
+            self.tell(["--version"], unproved)
         else:
-            said = {b"slotplan 1.0\n" + self.line, b"slotplan 1.0\nunproved: compiled by " + kit + b"\n"}
+            said = {proved, unproved}
             self.see("the version", True, ran(["--version"], self.folder)[1] in said)
 
     def test_readme(self):
-        self.see("the README names the toolchain too", True, self.line.strip() in (TOP / "README.md").read_bytes())
+        self.see("the README names the logic too", True, self.logic.strip() in (TOP / "README.md").read_bytes())
 
 
 # ---- requests on standard input
@@ -426,6 +427,26 @@ class Drawing(AskedCase):
         self.turned_down(["picture", "car.db", "1v"], refused(4, "BadName"))
         for supplier in "s4", "S1", "s 1", "":
             self.turned_down(["picture", "car.db", "v1", "--supplier", supplier], refused(14, "NoSupplier"))
+
+    def test_over_http(self):
+        """A server gives the owner of a key the page that the command writes for it. Those of the four owners are four pages."""
+        owners = {"integrator1": None, "supplier01": "s1", "supplier02": "s2", "supplier03": "s3"}
+        pages = {key: ran(["picture", "car.db", "v1", *of_supplier(supplier)], self.folder) for key, supplier in owners.items()}
+        self.see("how the pages are written", {(0, b"")}, {(status, said) for status, _, said in pages.values()})
+        self.see("how many pages there are", 4, len({page for _, page, _ in pages.values()}))
+        path = "/v1/variants/v1/picture"
+        self.in_turn("car.db", [
+            *((head("GET", path, key), html(page)) for key, (_, page, _) in pages.items()),
+            (head("GET", path + "?x=1", "supplier01"), html(pages["supplier01"][1])),
+            (head("GET", "/v1/variants/v9/picture", "supplier01"), NO_VARIANT),
+            (head("GET", "/v1/variants/1v/picture", "integrator1"), json(refused(4, "BadName"), "422 Unprocessable Entity")),
+            (head("GET", path), UNKNOWN),
+            (head("GET", path, "nobody123"), UNKNOWN),
+            (head("GET", "/v1/variants/1v/picture", "nobody123"), UNKNOWN),
+            (head("POST", path, "supplier01"), engine("405 Method Not Allowed", "allow: GET")),
+            (head("GET", path + "/", "supplier01"), engine("404 Not Found")),
+            (head("GET", "/v1/variants/v1/schedule", "supplier01"), text(b"00 0001 A f1 n1\n32 0001 A f1 n1\n")),
+        ])
 
     def test_full_output(self):
         status, _, said = self.shell('"$1" picture car.db v1 > /dev/full')

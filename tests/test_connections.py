@@ -1,7 +1,7 @@
 """What no contract says of the built program: where its server listens, how long a connection lasts, what it reads and writes in which order, and how
 many connections it serves; and what is read as a file, in how many reads.
 
-What is wanted was typed by hand from docs/HTTP.md, docs/FORMATS.md and docs/DECISIONS.md, or is made by their rules; none of it is the program's own
+What is wanted was typed by hand from docs/HTTP.md and docs/FORMATS.md, or is made by their rules; none of it is the program's own
 output."""
 import fcntl
 import os

@@ -1,29 +1,33 @@
-"""The pages name the files that are there, and their tables are as the heads of the files have them. It needs nothing built."""
+"""What the pages name is there: files, commands, calls and what their links lead to; and each file says what it is for. It needs nothing built."""
 import re
 from fnmatch import fnmatch
+from functools import cache
 
-from tests.lib import classes
+from tests.lib.calls import calls
 from tests.lib.case import Case
 from tests.lib.each import each
+from tests.lib.heads import CRATES, FOLDERS, KINDS, files, head, is_class_of_tests, modules, said_by, sentences
 from tests.lib.program import TOP
-from tests.lib.tables import CRATES, KINDS, TABLE, files, head, made
 
-PAGES = [TOP / "README.md", TOP / "tests/README.md", *sorted((TOP / "docs").glob("*.md")), *sorted((TOP / "examples").rglob("*.md"))]
+PAGES = [TOP / "README.md", *(path for place in ("docs", "tests", "bench", "examples") for path in sorted((TOP / place).rglob("*.md")))]
+# Pages on the code, in which a word of code is a word of the sources.
+ON_CODE = [TOP / f"docs/{name}.md" for name in ("PROVED", "DEFINITIONS", "DEVELOPING")]
 PLACES = [*(f"crates/*/{folder}" for folder in ("src", "specs", "proofs", "must-fail", "wrong-bodies")), "tests", "bench", "examples"]
 # In DEVELOPING this is any file of a reader's own.
 OWN = "crates/NAME/wrong-bodies/WHAT_IT_DOES.edit"
-NAME = re.compile(r"`([\w./*-]+\.(?:rt|antt|edit|py))`")
-PART = re.compile(r"^## (.*)$", re.M)
-KIND = {kind.folder: kind for kind in KINDS}
+FILE = re.compile(r"`([\w./*-]+\.(?:rt|antt|edit|py))`")
+CODE = re.compile(r"^```.*?\n(.*?)^```|`([^`\n]+)`", re.M | re.DOTALL)
+WORD = re.compile(r"`(\w+(?:::\w+)*)`")
+LINK = re.compile(r"\]\(([^)#\s]*)(?:#([^)\s]*))?\)")
+HEADING = re.compile(r"^#+ (.*)$", re.M)
+SLOTPLAN = re.compile(r"(?:^|\$ |-- |\| |bin/)slotplan ([a-z]+)", re.M)
+MAKE = re.compile(r"(?:^|\$ )make ((?:[a-z][\w/-]*(?: |$))+)", re.M)
+MODULE = re.compile(r"python3 -m ((?:tests|examples)\.[\w.]+)")
 
 
-def parts(text):
-    """The parts of a page that are on crates: which crates the heading names, and the text."""
-    _, *split = PART.split(text)
-    for heading, part in zip(split[::2], split[1::2]):
-        crates = [crate for crate in CRATES if re.search(rf"[`/]{crate}[`/]", heading)]
-        if crates:
-            yield crates, part
+def codes(page):
+    """What stands in a page as code, in a line or in a block."""
+    return "\n".join(block or line for block, line in CODE.findall(page.read_text()))
 
 
 def missing(names, paths):
@@ -31,53 +35,92 @@ def missing(names, paths):
     return sorted(name for name in set(names) - {OWN} if not any(fnmatch(f"/{path}", f"*/{name}") for path in paths))
 
 
-class FilesOnPages(Case):
-    """MAP and DEFINITIONS have each file once, as its head says, and no page names a file that is not there."""
+def anchors(page):
+    """The names by which links lead to a page's headings."""
+    return {re.sub(r"[^\w -]", "", heading.lower()).replace(" ", "-") for heading in HEADING.findall(page.read_text())}
 
-    def test_names(self):
+
+@cache
+def texts():
+    """What the sources say, and beside them the tests, the Makefile, the list of crates and the formats. Each has its file's name before it."""
+    paths = [path for kind in ("crates/*/src/**/*.rt", "crates/*/specs/*.antt", "tests/**/*.py") for path in TOP.glob(kind)]
+    return [f"{path.stem}\n{path.read_text()}" for path in [*paths, *(TOP / name for name in ("Makefile", "crates.txt", "HANDLES", "docs/FORMATS.md"))]]
+
+
+@cache
+def words():
+    return {word for text in texts() for word in re.findall(r"\w+", text)}
+
+
+@cache
+def is_declared(whose, name):
+    """Whether some source that has the word `whose`, or is named so, has a function, a field, a case or a definition of this name."""
+    declared = re.compile(rf"\bfn {name}\b|^\s*(?:pub )?{name}\b(?:: |,|\(| \{{)|\bghost {name}\b|^{name}\b", re.M)
+    return any(re.search(rf"\b{whose}\b", text) and declared.search(text) for text in texts())
+
+
+class NamesOnPages(Case):
+    """Each file, command, call and page that a page names is there."""
+
+    def on_each(self, what, found, pages=PAGES):
+        for page in pages:
+            self.see(f"{page.relative_to(TOP)}: {what} that are not there", [], sorted(set(found(page))))
+
+    def test_files(self):
         """The end of a file's path is enough, as `specs/Book.antt`."""
         paths = [str(path.relative_to(TOP)) for place in PLACES for path in TOP.glob(f"{place}/**/*")]
-        for page in PAGES:
-            self.see(f"{page.relative_to(TOP)}: files that are not there", [], missing(NAME.findall(page.read_text()), paths))
+        self.on_each("files", lambda page: missing(FILE.findall(page.read_text()), paths))
 
-    @each(*KIND)
-    def test_crates(self, folder):
-        """Each crate has its table, and each file a head."""
-        kind = KIND[folder]
-        tables = list(TABLE.finditer(kind.page.read_text()))
-        for crate in CRATES:
-            there = files(kind, crate)
-            wanted = [folder] if there else []
-            self.see(f"lines <!-- files of crates/{crate}/.. -->", wanted, [table[2] for table in tables if table[1] == crate and not table[3]])
-            self.see(f"crates/{crate}/{folder}: files without a head", [], [file for file in there if not head(kind, crate, file)])
+    def test_links(self):
+        def lost(page):
+            for path, anchor in LINK.findall(page.read_text()):
+                if ":" not in path:
+                    to = (page.parent / path).resolve() if path else page
+                    if not to.exists() or anchor and anchor not in anchors(to):
+                        yield f"{path}#{anchor}"
 
-    @each(*KIND)
-    def test_rows(self, folder):
-        text = KIND[folder].page.read_text()
-        for old, new in zip(TABLE.finditer(text), TABLE.finditer(made(KIND[folder], text)), strict=True):
-            was, now = old[0].splitlines(), new[0].splitlines()
-            changed = [text for text in was + now if (text in was) != (text in now)] or [text for at, text in enumerate(now) if was[at] != text]
-            self.see(f"{was[0]}: rows that make tables changes", [], changed)
+        self.on_each("ends of links", lost)
 
-    @each(*KIND)
-    def test_parts(self, folder):
-        """In a part on a crate a name is that of a file of the crate."""
-        kind = KIND[folder]
-        for crates, part in parts(kind.page.read_text()):
-            own = [file for crate in crates for file in files(kind, crate)]
-            names = [name.removeprefix(f"{folder}/") for name in NAME.findall(part) if name.endswith(kind.ending)]
-            self.see(f"no files of {', '.join(crates)}", [], missing(names, own))
+    def test_commands(self):
+        """Of `slotplan` by its help, of `make` by the Makefile."""
+        jobs = {path.stem for path in (TOP / "tests/help").iterdir()}
+        targets = set(re.findall(r"^([\w/-]+):", (TOP / "Makefile").read_text(), re.M)) | {"out/unproved/slotplan"}
+        self.see("there are commands and targets", (True, True), ("serve" in jobs, "prove" in targets))
+        self.on_each("commands of slotplan", lambda page: set(SLOTPLAN.findall(codes(page))) - jobs)
+        self.on_each("targets of make", lambda page: {word for found in MAKE.findall(codes(page)) for word in found.split()} - targets)
+        self.on_each("modules", lambda page: [it for it in MODULE.findall(codes(page)) if not list(TOP.glob(f"{it.replace('.', '/')}*"))])
+
+    def test_words(self):
+        """`Type::call` is a call, a field or a case of the type; any other word of code stands in the sources."""
+
+        def lost(page):
+            for name in WORD.findall(page.read_text()):
+                *whose, last = name.split("::")
+                if not set(name.split("::")) <= words() or whose and not is_declared(whose[-1], last):
+                    yield name
+
+        self.on_each("words of the sources", lost, ON_CODE)
 
 
-class ClassesOnPage(Case):
-    """tests/CLASSES.md has each class of tests, and tests/README.md each module, with what it says of itself."""
+class Heads(Case):
+    """Each file of the sources, the tests and the benchmarks says what it is for."""
 
-    def test_first_lines(self):
-        silent = [name for name, module in classes.modules() for node in [module, *classes.classes(module)] if not classes.said_by(node)]
-        self.see("modules that say nothing of themselves, or of a class", [], silent)
+    @each(*CRATES)
+    def test_crates(self, crate):
+        """A head of a file of src/ is one or two sentences."""
+        for kind in KINDS:
+            for path in files(crate, kind):
+                said = sentences(head(path, kind.comment))
+                self.see(f"{path.relative_to(TOP)}: it has a head", True, said >= 1)
+                self.see(f"{path.relative_to(TOP)}: it is short", True, said <= 2 or kind.folder != "src")
 
-    def test_lines(self):
-        readme = classes.README.read_text()
-        self.see("where the list is to stand", 1, readme.count(classes.MARK))
-        for page, now in (classes.PAGE, classes.page()), (classes.README, classes.made(readme)):
-            self.see(f"lines of {page.name} that make tables changes", [], sorted(set(page.read_text().splitlines()) ^ set(now.splitlines())))
+    @each(*CRATES)
+    def test_calls(self, crate):
+        """Each public call has a text, and a clause."""
+        silent = [call.name for call in calls(crate) if not call.text or not call.clauses]
+        self.see("calls that say nothing of themselves", [], silent)
+
+    @each(*FOLDERS)
+    def test_modules(self, folder):
+        silent = [str(path) for path, module in modules(folder) for it in [module, *filter(is_class_of_tests, module.body)] if not said_by(it)]
+        self.see("files and classes that say nothing of themselves", [], silent)

@@ -238,6 +238,12 @@ class Requests(FileCase):
             said = b"" if reply else NO_MEMORY
             self.see(what, True, (found in states.get(reply, []) and ended == (0, said)) or (reply, ended, found))
 
+    def test_picture(self):
+        """How its page looks is no format, so the right one is that of the command, which is compared with the plan below."""
+        self.anew()
+        _, page, _ = ran(["picture", "car.db", "v1"], self.folder)
+        self.tried(head("GET", "/v1/variants/v1/picture", "integrator1"), messages.html(page))
+
 
 # ---- commands on files
 

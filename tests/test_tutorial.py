@@ -1,4 +1,4 @@
-"""docs/TUTORIAL.md and README.md, followed with the built program as a reader does."""
+"""docs/TUTORIAL.md, docs/HTTP.md and README.md, followed with the built program as a reader does."""
 import shutil
 
 from tests.lib.case import Case
@@ -7,7 +7,7 @@ from tests.lib.program import TOP
 
 
 class Following(Case):
-    """Each command of TUTORIAL, and of the README's plan in a file, prints what stands behind it there."""
+    """Each command of TUTORIAL and HTTP, and of the README's plan in a file, prints what stands behind it there."""
 
     def setUp(self):
         super().setUp()
@@ -24,6 +24,9 @@ class Following(Case):
 
     def test_tutorial(self):
         self.follows("docs/TUTORIAL.md")
+
+    def test_http(self):
+        self.follows("docs/HTTP.md")
 
     def test_readme(self):
         self.follows("README.md")

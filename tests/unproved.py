@@ -16,10 +16,10 @@ import time
 from pathlib import Path
 
 TOP = Path(__file__).resolve().parent.parent
-# What the program says of its version: the line of the kit, by which it is proved.
+# What the program says of its version: the logic by which it is proved.
 VERSIONED = "crates/fr_cli/src/commands.rt"
-VERSION = re.compile(r'^(const VERSION: &str = "[\d.]+\\n)(\S+) logic \w+(";)$', re.M)
-UNPROVED = r"\1unproved: compiled by \2\3"
+VERSION = re.compile(r'^(const VERSION: &str = "[\d.]+\\n)logic \w+(";)$', re.M)
+UNPROVED = r"\1unproved\2"
 # `rt` finds the kit by the folder in which these two truly lie.
 COPIED = "bin/rt", "bin/rtlib.py"
 # Those that are no links.

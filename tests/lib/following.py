@@ -2,7 +2,7 @@
 
 A block behind the words "Save this as `NAME`:" is saved under that name. In a block of the console each line that begins with
 '$ ' is a command, and the lines behind it are what it prints. All commands of a page run in one shell, in a folder that begins
-empty, that of a README with examples/ in it."""
+empty, those of README and HTTP with examples/ in it."""
 import re
 import select
 import shutil
@@ -21,7 +21,7 @@ SECONDS = 30
 BLOCK = re.compile(r"(?P<before>[^\n]*)\n\n```(?P<kind>\w+)\n(?P<text>.*?)```\n", re.DOTALL)
 SAVED = re.compile(r"Save this as `([\w.]+)`:")
 # What of the repository lies in the folder where a page begins.
-THERE = {"README.md": ("examples",)}
+THERE = {"README.md": ("examples",), "docs/HTTP.md": ("examples",)}
 
 
 class Step(NamedTuple):
@@ -111,7 +111,7 @@ def follow(page, there=()):
 
 
 def main(path):
-    text, _ = follow(path.read_text(), THERE.get(path.name, ()))
+    text, _ = follow(path.read_text(), THERE.get(str(path), ()))
     print(text, end="")
 
 

@@ -51,6 +51,10 @@ def text(body):
     return reply("200 OK", "text/plain; charset=us-ascii", body)
 
 
+def html(body):
+    return reply("200 OK", "text/html; charset=utf-8", body)
+
+
 def engine(status, *fields):
     """A reply of the engine, which the register was not asked for."""
     return "\r\n".join([f"HTTP/1.1 {status}", "content-length: 0", *fields, "connection: close", "", ""]).encode()

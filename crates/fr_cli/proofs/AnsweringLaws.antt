@@ -10,8 +10,8 @@ use Rattle.fr_base.specs.declared.answer.Answer.TheVariants.{Done, Refused}
 use Rattle.fr_base.specs.declared.refusal.Refusal.{Refusal}
 use Rattle.fr_base.specs.declared.refusal.Refusal.TheVariants.{Unavailable}
 use Rattle.fr_base.specs.declared.request.Ask.{Ask}
-use Rattle.fr_answers.specs.Answering.{Answers}
-use Rattle.fr_records.specs.Held.{Standing}
+use Rattle.fr_office.specs.Answering.{Answers}
+use Rattle.fr_world.specs.Held.{Standing}
 use Rattle.fr_cli.specs.Answering.{AnswersLine, AnswersLines, Anything, Reads, WasCutShort}
 use Rattle.fr_cli.specs.Asking.{line_of}
 use Rattle.fr_cli.specs.ScriptRun.{AreAnswered, Replied}

@@ -10,7 +10,7 @@ use Rattle.sqlite_wal.specs.Recovery.{Image}
 use Rattle.fr_base.specs.Book.{Book}
 use Rattle.fr_base.specs.Cluster.{Cluster}
 use Rattle.fr_desks.specs.FileDesk.{FindsHeld, Held, IsLeftWith}
-use Rattle.fr_records.specs.Held.{Standing}
+use Rattle.fr_world.specs.Held.{Standing}
 use Rattle.fr_cli.specs.Answering.{AnswersLines, BeginWith, GoOnBehind, WasCutShort}
 use Rattle.fr_cli.specs.Incoming.{AreFirstOf, AreFirstOfAll, AreShort, EndsAsking, EndsLines, HasAnswered, HasAsked, HasHeard, HasLongLine, IsAsked, max_line}
 use Rattle.fr_cli.specs.Performing.{of_script}

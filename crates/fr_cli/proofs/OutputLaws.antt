@@ -3,7 +3,7 @@ use Rattle.std.proofs.Common.{◌≡◌, ℕ, List, ◌++◌}
 use Rattle.fr_base.specs.Book.{opening}
 use Rattle.fr_base.specs.Cluster.{ClusterFile, IsWellFormed}
 use Rattle.fr_base.proofs.SoundLaws.{opening-sound}
-use Rattle.fr_records.specs.Held.{Standing}
+use Rattle.fr_world.specs.Held.{Standing}
 use Rattle.fr_cli.specs.Answering.{AnswersLines}
 use Rattle.fr_cli.specs.Output.{IsAnsweredTo}
 use Rattle.fr_cli.proofs.ScriptRunLaws.{answered-sound, collision-free_after, script-alone}

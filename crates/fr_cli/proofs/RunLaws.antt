@@ -6,7 +6,7 @@ use Rattle.std.specs.Option.{option_map}
 use Rattle.fr_base.specs.Book.{opening}
 use Rattle.fr_base.specs.Cluster.{ClusterFile, IsWellFormed}
 use Rattle.fr_text.specs.ClusterFile.{config_of}
-use Rattle.fr_records.specs.Held.{Standing}
+use Rattle.fr_world.specs.Held.{Standing}
 use Rattle.fr_cli.specs.Answering.{Anything, HasWritten}
 use Rattle.fr_cli.specs.Output.{IsAnsweredTo, IsCutShort, IsOutputTo, LacksMemory}
 use Rattle.fr_cli.specs.Runs.{IsRunOf}

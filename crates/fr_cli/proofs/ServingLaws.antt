@@ -17,7 +17,7 @@ use Rattle.fr_http.specs.declared.fault.LinkFault.{LinkFault}
 use Rattle.fr_http.specs.declared.fault.LinkFault.TheVariants.{ReadFailed}
 use Rattle.fr_http.specs.declared.serve.Served.{Served}
 use Rattle.fr_http.proofs.ExchangeLaws.{exchanges-sound}
-use Rattle.fr_records.specs.Held.{Standing}
+use Rattle.fr_world.specs.Held.{Standing}
 use Rattle.fr_cli.specs.Endings.{AppendsFront, word_line}
 use Rattle.fr_cli.specs.Faults.{link_word}
 use Rattle.fr_cli.specs.Performing.{listening}

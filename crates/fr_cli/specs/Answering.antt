@@ -17,7 +17,7 @@ use Rattle.fr_cli.specs.ScriptRun.{AreAnswered, Replied}
 use Rattle.fr_cli.specs.declared.script_fault.ScriptFault.{ScriptFault}
 use Rattle.fr_cli.specs.declared.script_fault.ScriptFault.TheVariants.{NoMemory, WriteFailed}
 use Rattle.fr_http.specs.Connection.{InSound}
-use Rattle.fr_records.specs.Held.{Standing}
+use Rattle.fr_world.specs.Held.{Standing}
 
 -- What the line asks was read so, in a sound book; or memory was wanting.
 abbrev pub Reads : Standing → List ℕ → Result Ask Refusal → Type 0

@@ -18,7 +18,7 @@ use Rattle.fr_base.specs.declared.name.Name.{Name}
 use Rattle.fr_base.specs.declared.refusal.Refusal.{Refusal}
 use Rattle.fr_base.specs.declared.request.Ask.{Ask}
 use Rattle.fr_base.specs.declared.request.Request.{Request}
-use Rattle.fr_answers.specs.Headline.{IsCollisionFree}
+use Rattle.fr_office.specs.Headline.{IsCollisionFree}
 use Rattle.fr_cli.specs.Asked.{ask_in, request_in, sender_of}
 
 -- ---- how lines may be answered

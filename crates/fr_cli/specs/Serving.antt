@@ -13,7 +13,7 @@ use Rattle.fr_http.specs.Connection.{InSound}
 use Rattle.fr_http.specs.Exchanges.{AreExchanged, Exchange, IsExchange}
 use Rattle.fr_http.specs.declared.fault.LinkFault.{LinkFault}
 use Rattle.fr_http.specs.declared.serve.Served.{Served}
-use Rattle.fr_records.specs.Held.{Standing}
+use Rattle.fr_world.specs.Held.{Standing}
 use Rattle.fr_cli.specs.Endings.{AppendsFront, word_line}
 use Rattle.fr_cli.specs.Faults.{IsNotOpened, link_word}
 use Rattle.fr_cli.specs.Performing.{listening}

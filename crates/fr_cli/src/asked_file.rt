@@ -12,7 +12,7 @@ use crate::watch::Watch;
 use fr_base::Desk;
 use fr_desks::{Left, file_desk};
 use fr_office::Office;
-use fr_records::Records;
+use fr_world::Records;
 use sqlite::Start;
 use std::io::{self, ErrorKind, Read, Write};
 

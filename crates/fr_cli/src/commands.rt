@@ -299,8 +299,8 @@ fn free_word<'a>(alloc: Global, name: &'a str, help: &'a str) -> Arg<'a>
     Arg::new(alloc, name).help(help).action(ArgAction::Set)
 }
 
-/// The program's version, and the line of the toolchain that it is proved with.
-const VERSION: &str = "1.0\nrattle-kit-13f logic dac8208d650f15bf";
+/// The program's version, and the logic that it is proved with.
+const VERSION: &str = "1.0\nlogic dac8208d650f15bf";
 
 const PROGRAM_ABOUT: &str = "\
 Plans the static segment of a FlexRay bus: a register in which an integrator grants

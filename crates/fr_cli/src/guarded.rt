@@ -7,7 +7,7 @@ use crate::lasting::Lasting;
 use crate::watch::Watch;
 use fr_base::{Actor, Answer, Ask, Config, Desk, Refusal};
 use fr_office::Office;
-use fr_records::Records;
+use fr_world::Records;
 use std::alloc::Global;
 
 /// The office of a register whose files are watched. While the files at its path are those that it left there it

@@ -9,9 +9,9 @@ use Rattle.sqlite_wal.specs.Reads.{AreClean}
 use Rattle.sqlite_wal.specs.Recovery.{Image}
 use Rattle.fr_base.specs.Book.{Book}
 use Rattle.fr_base.specs.Cluster.{Cluster, ClusterFile}
-use Rattle.fr_records.specs.Held.{Leaving, Standing}
-use Rattle.fr_answers.specs.Crashed.{EachBook, IsOrNext, WasLacking}
-use Rattle.fr_answers.proofs.CrashedLaws.{is_found, were_kept}
+use Rattle.fr_world.specs.Held.{Leaving, Standing}
+use Rattle.fr_office.specs.Crashed.{EachBook, IsOrNext, WasLacking}
+use Rattle.fr_office.proofs.CrashedLaws.{is_found, were_kept}
 use Rattle.fr_store.specs.Crashes.{IsForOne}
 use Rattle.fr_store.specs.Store.{IsRegisterFor}
 use Rattle.fr_store.specs.StoreFiles.{HoldsBook, IsHeld, database_of}

@@ -15,7 +15,7 @@ use Rattle.sqlite_wal.specs.Reads.{AreClean}
 use Rattle.sqlite_wal.specs.Recovery.{Image}
 use Rattle.fr_base.specs.Book.{Book}
 use Rattle.fr_base.specs.Cluster.{Cluster, ClusterFile}
-use Rattle.fr_records.specs.Held.{Leaving, Standing}
+use Rattle.fr_world.specs.Held.{Leaving, Standing}
 use Rattle.fr_store.specs.Crashes.{HoldsOne}
 use Rattle.fr_store.specs.Opening.{RefusesFiles}
 use Rattle.fr_store.specs.Store.{IsRegisterFor, IsRegisterOf}

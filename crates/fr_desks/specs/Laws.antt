@@ -11,8 +11,8 @@ use Rattle.fr_base.specs.Cluster.{Cluster, ClusterFile}
 use Rattle.fr_base.specs.Sound.{IsSound}
 use Rattle.fr_base.specs.declared.answer.Answer.{Answer}
 use Rattle.fr_base.specs.declared.request.Ask.{Ask}
-use Rattle.fr_records.specs.Held.{Leaving, Standing}
-use Rattle.fr_answers.specs.Crashed.{IsFound, WereAsked}
+use Rattle.fr_world.specs.Held.{Leaving, Standing}
+use Rattle.fr_office.specs.Crashed.{IsFound, WereAsked}
 use Rattle.fr_desks.specs.FileDesk.{AreGivenUp, FindsHeld, FindsLeft, IsLeftBy, LeavesBook}
 
 -- Where nobody else writes to them, files that were left with a book are opened with this book, after a crash too.

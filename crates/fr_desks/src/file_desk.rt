@@ -16,8 +16,8 @@ ghost use Rattle.sqlite_wal.specs.Reads.{AreClean};
 
 use fr_base::{Config, Desk};
 use fr_office::Office;
-use fr_records::Records;
 use fr_store::{Store, StoreFault, migrate_at};
+use fr_world::Records;
 use sqlite::{FileFrom, FileStore, Files, Leftover, Start};
 use sqlite_disk::Disk;
 use std::fs;
@@ -143,7 +143,7 @@ fn closed<S: Start>(desk: FileDesk<S>) -> Result<Files<FileFrom<S>>, Leftover<Fi
     ensures left { IfErr result (λ left. (IsCleanLeft left → ⟦<FileDesk<S> as Desk>⟧.clean desk) × ((c : Cluster) (b : Book) → IsLeftWith left c b)) }
     ensures book { IfOk result (λ files. (c : Cluster) (b : Book) → ⟦<FileDesk<S> as Desk>⟧.stands desk c b → LeavesBook ⟦<FileFrom<S> as Disk>⟧ files c b) }
 {
-    let conn = desk.into_store().into_connection();
+    let conn = desk.into_records().into_connection();
     // Gives the proof that what is committed is a database.
     let _schema = conn.schema();
     match conn.close_files() {

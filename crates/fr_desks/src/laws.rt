@@ -6,8 +6,8 @@ ghost use Rattle.sqlite_wal.specs.Files.{image_at};
 use crate::file_desk::FileDesk;
 use fr_base::Desk;
 use fr_office::Office;
-use fr_records::Records;
 use fr_store::Store;
+use fr_world::Records;
 use sqlite::{FileStore, Start};
 use sqlite_disk::Disk;
 

@@ -1,12 +1,11 @@
 //! The desk of a register in memory, which a script asks.
 ghost use Rattle.std.specs.Prelude.{◌≡◌, ◌<◌, length, IfErr, IfOk, ⊤};
 ghost use Rattle.fr_base.specs.Book.{opening};
-ghost use Rattle.fr_answers.specs.Headline.{AnswersEach};
+ghost use Rattle.fr_office.specs.Headline.{AnswersEach};
 ghost use Rattle.fr_store.specs.declared.fault.StoreFault.TheVariants.{Unavailable};
 
-use fr_answers::Stopped;
 use fr_base::{Actor, Answer, Ask, Config, Desk};
-use fr_office::Office;
+use fr_office::{Office, Stopped};
 use fr_store::{MemoryFile, Store, StoreFault};
 use sqlite::FileStore;
 use std::alloc::Global;

@@ -1,5 +1,5 @@
 -- Who has which key in the register of one supplier alone.
-use Rattle.std.proofs.Common.{◌≡◌, ℕ, Bool, true, false, cond, ◌&&◌, List, [], ◌∷◌, find, filter, Option, Some, None, refl, inl, inr}
+use Rattle.std.proofs.Common.{◌≡◌, ℕ, Bool, true, false, cond, ◌&&◌, List, [], ◌∷◌, find, filter, Option, Some, None, Result, refl, inl, inr}
 use Rattle.std.specs.Option.{option_map}
 use Rattle.std.proofs.lemmas.Bool.{cases_Bool}
 use Rattle.fr_base.specs.Actors.{actor_of}
@@ -14,8 +14,11 @@ use Rattle.fr_base.specs.declared.answer.Answer.{Answer}
 use Rattle.fr_base.specs.declared.answer.Answer.TheVariants.{Refused}
 use Rattle.fr_base.specs.declared.key.Key.{Key}
 use Rattle.fr_base.specs.declared.name.Name.{Name}
+use Rattle.fr_base.specs.declared.refusal.Refusal.{Refusal}
 use Rattle.fr_base.specs.declared.refusal.Refusal.TheVariants.{Unavailable}
 use Rattle.fr_base.specs.declared.request.Request.{Request}
+use Rattle.fr_picture.specs.declared.plan.Plan.{Plan}
+use Rattle.fr_http.specs.Exchanges.{is_own_picture}
 
 -- whether it is the integrator or the supplier
 abbrev pub is_heard : Name → Option Actor → Bool
@@ -41,6 +44,11 @@ module _ (s : Name) where
   pub mine-heard : (actor : Actor) (request : Request) (answer : Answer) → is_mine s actor request answer ≡ true → is_heard s (Some actor) ≡ true
   mine-heard Integrator request answer mine = refl
   mine-heard (Supplier t) request answer mine = and_left _ _ mine
+
+  -- whose picture is the supplier's is heard
+  pub picture-heard : (reader : Actor) (drawn : Result Plan Refusal) → is_own_picture s reader drawn ≡ true → is_heard s (Some reader) ≡ true
+  picture-heard Integrator drawn own = cc
+  picture-heard (Supplier t) drawn own = and_left _ _ own
 
   abbrev sending : Option (Name × Key) → Option Actor
   sending row = option_map (λ r. Supplier r.0) row

@@ -13,19 +13,22 @@ use Rattle.fr_base.specs.declared.answer.Answer.{Answer}
 use Rattle.fr_base.specs.declared.name.Name.{Name}
 use Rattle.fr_base.specs.declared.refusal.Refusal.TheVariants.{BadText, UnknownKey}
 use Rattle.fr_base.specs.declared.request.Ask.{Ask}
-use Rattle.fr_base.specs.declared.request.Request.{Request}
 use Rattle.fr_base.proofs.SoundSteps.{step-sound}
 use Rattle.fr_base.proofs.AloneSteps.{step-alone, step-not_mine}
-use Rattle.fr_http.specs.Exchanges.{AreExchanged, Asks, Exchange, IsReplied, is_own, own_exchanges}
+use Rattle.fr_http.specs.Exchanges.{AreExchanged, Answered, Asks, Deals, Dealing, Drawn, Exchange, IsReplied, asked_in, is_own, own_exchanges}
 use Rattle.fr_http.specs.Head.{HeadData, key_of, said}
-use Rattle.fr_http.specs.Outcome.{IsOutcome, by_engine, front, holder, outcome_of, plan_of}
-use Rattle.fr_http.specs.Routes.{method_of, path_of, request_by}
+use Rattle.fr_http.specs.Outcome.{IsOutcome, asked_by, by_engine, front, holder, outcome_of, plan_of}
+use Rattle.fr_http.specs.Routes.{matter_by, method_of, path_of}
 use Rattle.fr_http.specs.declared.asked.Asked.{Asked}
+use Rattle.fr_http.specs.declared.asked.Asked.TheVariants as asked
+use Rattle.fr_http.specs.declared.asked.Matter.{Matter}
+use Rattle.fr_http.specs.declared.asked.Matter.TheVariants as matter
 use Rattle.fr_http.specs.declared.fault.Unasked.{Unasked}
 use Rattle.fr_http.specs.declared.fault.Unasked.TheVariants.{Refused, Fault}
 use Rattle.fr_http.specs.declared.fault.LinkFault.TheVariants.{Truncated}
 use Rattle.fr_http.specs.declared.method.Method.{Method}
-use Rattle.fr_http.proofs.AloneActors.{actor-alone, is_heard, mine-heard, not_lacked}
+use Rattle.fr_http.proofs.AloneActors.{actor-alone, is_heard, mine-heard, not_lacked, picture-heard}
+use Rattle.fr_http.proofs.AlonePictures.{picture-alone}
 
 -- ---- what bytes ask, where the key of who asks has the same holder
 
@@ -35,33 +38,39 @@ unfolding ◌>>=◌
 bind_alike (Ok x) f g v same is = same x is
 bind_alike (Err e) f g v same is = absurd cc
 
+-- who asks
+abbrev sender : Asked → Actor
+sender (asked.Request ask method) = ask.actor
+sender (asked.Picture reader variant) = reader
+
 actor_in : Actor → Result Asked Unasked → Actor
-actor_in other (Ok asked) = asked.ask.actor
+actor_in other (Ok asked) = sender asked
 actor_in other (Err unasked) = other
 
 -- the last line: who asks, if there is someone
-abbrev asks_found : Option Actor → Request → Method → Result Asked Unasked
-asks_found found request method = (found or Refused UnknownKey) >>= λ actor. Ok (record { ask = record { actor = actor; request = request }; method = method })
+abbrev asks_found : Option Actor → Matter → Method → Result Asked Unasked
+asks_found found what method = (found or Refused UnknownKey) >>= λ actor. Ok (asked_by actor method what)
 
-module _ (who alone : List ℕ → Option Actor) (asked : Asked) (heard : (key : List ℕ) → who key ≡ Some asked.ask.actor → alone key ≡ Some asked.ask.actor) where
-  is_found : (found : Option Actor) (request : Request) (method : Method) → asks_found found request method ≡ Ok asked → found ≡ Some asked.ask.actor
+module _ (who alone : List ℕ → Option Actor) (asked : Asked) (heard : (key : List ℕ) → who key ≡ Some (sender asked) → alone key ≡ Some (sender asked)) where
+  is_found : (found : Option Actor) (what : Matter) (method : Method) → asks_found found what method ≡ Ok asked → found ≡ Some (sender asked)
   unfolding ◌>>=◌ ◌or◌ actor_in
-  is_found None request method is = absurd cc
-  is_found (Some actor) request method is = ap Some (ap (actor_in actor) is)
+  is_found None what method is = absurd cc
+  is_found (Some actor) (matter.Request request) method is = ap Some (ap (actor_in actor) is)
+  is_found (Some actor) (matter.Picture variant) method is = ap Some (ap (actor_in actor) is)
 
-  held_alike : (key : Option (List ℕ)) (request : Request) (method : Method) → asks_found (holder who key) request method ≡ Ok asked → asks_found (holder alone key) request method ≡ Ok asked
-  held_alike None request method is = is
-  held_alike (Some key) request method is =
-      let found = is_found (who key) request method is in
-      ap (λ o. asks_found o request method) (heard key found ∙ sym found) ∙ is
+  held_alike : (key : Option (List ℕ)) (what : Matter) (method : Method) → asks_found (holder who key) what method ≡ Ok asked → asks_found (holder alone key) what method ≡ Ok asked
+  held_alike None what method is = is
+  held_alike (Some key) what method is =
+      let found = is_found (who key) what method is in
+      ap (λ o. asks_found o what method) (heard key found ∙ sym found) ∙ is
 
   asks_alike : (head : HeadData) (rest : List ℕ) → outcome_of who head rest ≡ Ok asked → outcome_of alone head rest ≡ Ok asked
   unfolding outcome_of
   asks_alike head rest =
       bind_alike (by_engine (plan_of head)) _ _ asked (λ plan.
       bind_alike (front plan.length rest or Fault Truncated) _ _ asked (λ body.
-      bind_alike (request_by plan.route (path_of head.target) body or Refused BadText) _ _ asked (λ request.
-      held_alike (key_of head) request (method_of plan.route))))
+      bind_alike (matter_by plan.route (path_of head.target) body or Refused BadText) _ _ asked (λ what.
+      held_alike (key_of head) what (method_of plan.route))))
 
   outcome_alike : (bytes before : List ℕ) → IsOutcome who bytes before (Ok asked) → IsOutcome alone bytes before (Ok asked)
   outcome_alike bytes before (inl by_head) = inl (record {
@@ -86,18 +95,18 @@ cause_in other (Ok asked) = other
 cause_in other (Err unasked) = unasked
 
 module _ (who alone : List ℕ → Option Actor) (unasked : Unasked) (known : unasked ≢ Refused UnknownKey) where
-  not_refused : (found : Option Actor) (request : Request) (method : Method) → asks_found found request method ≡ Err unasked → ⊥
+  not_refused : (found : Option Actor) (what : Matter) (method : Method) → asks_found found what method ≡ Err unasked → ⊥
   unfolding ◌>>=◌ ◌or◌ cause_in
-  not_refused None request method is = known (sym (ap (cause_in unasked) is))
-  not_refused (Some actor) request method is = cc
+  not_refused None what method is = known (sym (ap (cause_in unasked) is))
+  not_refused (Some actor) what method is = cc
 
   unasked_alike : (head : HeadData) (rest : List ℕ) → outcome_of who head rest ≡ Err unasked → outcome_of alone head rest ≡ Err unasked
   unfolding outcome_of
   unasked_alike head rest =
       bind_refused_alike (by_engine (plan_of head)) _ _ unasked (λ plan.
       bind_refused_alike (front plan.length rest or Fault Truncated) _ _ unasked (λ body.
-      bind_refused_alike (request_by plan.route (path_of head.target) body or Refused BadText) _ _ unasked (λ request is.
-      absurd (not_refused (holder who (key_of head)) request (method_of plan.route) is))))
+      bind_refused_alike (matter_by plan.route (path_of head.target) body or Refused BadText) _ _ unasked (λ what is.
+      absurd (not_refused (holder who (key_of head)) what (method_of plan.route) is))))
 
   unasked_outcome_alike : (bytes before : List ℕ) → IsOutcome who bytes before (Err unasked) → IsOutcome alone bytes before (Err unasked)
   unasked_outcome_alike bytes before (inl by_head) = inl (record {
@@ -126,9 +135,13 @@ module _ (c : Cluster) (b last : Book) where
   step-keeps sound ask answer (inl lacks) = subst (IsSound c) (sym lacks.2) sound
   step-keeps sound ask answer (inr steps) = subst (IsSound c) (sym steps.1) (step-sound c b sound ask.actor ask.request)
 
-  asks-sound : (x : Exchange) (a : Option (Asked × Answer)) → IsSound c b → Asks c b x a last → IsSound c last
+  deals-keep : IsSound c b → (dealing : Dealing) → Deals c b dealing last → IsSound c last
+  deals-keep sound (Answered ask method answer) deals = step-keeps sound ask answer deals
+  deals-keep sound (Drawn reader variant drawn) deals = subst (IsSound c) (sym deals.0) sound
+
+  asks-sound : (x : Exchange) (a : Option Dealing) → IsSound c b → Asks c b x a last → IsSound c last
   asks-sound x None sound so = subst (IsSound c) (sym so.0) sound
-  asks-sound x (Some (asked, answer)) sound so = step-keeps sound asked.ask answer so.step
+  asks-sound x (Some dealing) sound so = deals-keep sound dealing so.deals
 
 module _ (s : Name) (c : Cluster) (b last : Book) where
   step-own : IsSound c b → (ask : Ask) (answer : Answer) → is_mine s ask.actor ask.request answer ≡ true → IsRun c b (ask ∷ []) (answer ∷ []) last →
@@ -143,22 +156,36 @@ module _ (s : Name) (c : Cluster) (b last : Book) where
   step-other ask answer other (inr steps) =
       ap (rows_of s) steps.1 ∙ step-not_mine c b s ask.actor ask.request (ap (is_mine s ask.actor ask.request) (sym steps.0) ∙ other)
 
-  asks-own : (x : Exchange) (a : Option (Asked × Answer)) → IsSound c b → is_own s a ≡ true → Asks c b x a last → Asks c (rows_of s b) x a (rows_of s last)
+  own-heard : (dealing : Dealing) → is_own s (Some dealing) ≡ true → is_heard s (Some (sender (asked_in dealing))) ≡ true
+  own-heard (Answered ask method answer) own = mine-heard s ask.actor ask.request answer own
+  own-heard (Drawn reader variant drawn) own = picture-heard s reader drawn own
+
+  deals-own : IsSound c b → (dealing : Dealing) → is_own s (Some dealing) ≡ true → Deals c b dealing last → Deals c (rows_of s b) dealing (rows_of s last)
+  deals-own sound (Answered ask method answer) own deals = step-own sound ask answer own deals
+  deals-own sound (Drawn reader variant drawn) own deals = (ap (rows_of s) deals.0, picture-alone c b s sound reader variant drawn own deals.1)
+
+  deals-other : (dealing : Dealing) → is_own s (Some dealing) ≡ false → Deals c b dealing last → rows_of s last ≡ rows_of s b
+  deals-other (Answered ask method answer) other deals = step-other ask answer other deals
+  deals-other (Drawn reader variant drawn) other deals = ap (rows_of s) deals.0
+
+  asks-own : (x : Exchange) (a : Option Dealing) → IsSound c b → is_own s a ≡ true → Asks c b x a last → Asks c (rows_of s b) x a (rows_of s last)
   asks-own x None sound own so = cc
-  asks-own x (Some (asked, answer)) sound own so =
-      let ask = asked.ask in
-      let heard : (key : List ℕ) → actor_of c b key ≡ Some ask.actor → actor_of c (rows_of s b) key ≡ Some ask.actor =
-      λ key has. actor-alone s c b key (ap (is_heard s) has ∙ mine-heard s ask.actor ask.request answer own) ∙ has in
+  asks-own x (Some dealing) sound own so =
+      let asked = asked_in dealing in
+      let heard : (key : List ℕ) → actor_of c b key ≡ Some (sender asked) → actor_of c (rows_of s b) key ≡ Some (sender asked) =
+      λ key has. actor-alone s c b key (ap (is_heard s) has ∙ own-heard dealing own) ∙ has in
       record {
         before = so.before;
         outcome = outcome_alike (actor_of c b) (actor_of c (rows_of s b)) asked heard x.read so.before so.outcome;
-        step = step-own sound ask answer own so.step;
+        deals = deals-own sound dealing own so.deals;
+        reply = so.reply;
+        is_reply = so.is_reply;
         told = so.told;
       }
 
-  asks-other : (x : Exchange) (a : Option (Asked × Answer)) → is_own s a ≡ false → Asks c b x a last → rows_of s last ≡ rows_of s b
+  asks-other : (x : Exchange) (a : Option Dealing) → is_own s a ≡ false → Asks c b x a last → rows_of s last ≡ rows_of s b
   asks-other x None other so = ap (rows_of s) so.0
-  asks-other x (Some (asked, answer)) other so = step-other asked.ask answer other so.step
+  asks-other x (Some dealing) other so = deals-other dealing other so.deals
 
 -- ---- connections one after another
 

@@ -7,4 +7,6 @@ pub mod ServeLaws
 pub mod KeyLaws
 mod WorkedRows
 pub mod AloneActors
+pub mod AlonePictures
+pub mod DealingLaws
 pub mod ExchangeLaws

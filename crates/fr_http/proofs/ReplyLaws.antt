@@ -1,14 +1,12 @@
 -- Laws of replies.
-use Rattle.std.proofs.Common.{◌≡◌, ℕ, List, [], ◌++◌, length, take, drop, sym, ap, ◌∙◌, append-nil, arith, Bool, Result, Ok, Err, OnOk}
+use Rattle.std.proofs.Common.{◌≡◌, ℕ, List, [], ◌++◌, length, take, drop, sym, ap, ◌∙◌, append-nil, arith, Result, Ok, Err, OnOk}
 use Rattle.std.proofs.Math.Seq.{take-append_seam, drop-append_seam}
 use Rattle.fr_text.proofs.WordsLemmas.{adds}
 use Rattle.std.specs.Prelude.{codes}
 use Rattle.http.specs.StatusCode.{IsStatusCode}
-use Rattle.fr_http.specs.Reply.{allow, answer_reply, body_of, closing, engine_reply, field_line, is_report, print, status_line, status_of_answer, status_of_rejection, type_of}
+use Rattle.fr_http.specs.Reply.{allow, closing, engine_reply, field_line, print, reply_with, status_line, status_of_rejection}
 use Rattle.fr_http.specs.Replying.{head_with}
 use Rattle.fr_http.specs.declared.fault.Rejection.{Rejection}
-use Rattle.fr_http.specs.declared.method.Method.{Method}
-use Rattle.fr_base.specs.declared.answer.Answer.{Answer}
 use Rattle.fr_base.specs.Refusals.{status_of}
 use Rattle.fr_base.specs.declared.refusal.Refusal.{Refusal}
 use Rattle.fr_base.specs.declared.refusal.Refusal.TheVariants.{BadText, UnknownKey, NotYours, BadName, BadCycles, BadSlot, BadChannel, BadSignal, LabelUsed, NoVariant, Released, NotReleased, TooDeep, NoSupplier, NoNode, NoFrame, NoSignal, NoPlacement, Exists, NodeDiffers, NotGranted, InUse, Limit, Taken, CellTaken, OutOfPayload, BitTaken, Unavailable, BadKey, KeyTaken}
@@ -67,14 +65,6 @@ engine_written rejection status old bytes empty is written =
     let fields = field_line (codes "content-length") (codes "0") ++ allow rejection in
     written ∙ ap (λ o. o ++ (status_line status ++ fields ++ closing)) empty ∙ ap (λ s. status_line s ++ fields ++ closing) is ∙ sym (append-nil _)
 
-pub answer_written : (method : Method) (answer : Answer) (status n : ℕ) (report : Bool) (type body bytes : List ℕ) → report ≡ is_report method answer
-    → status ≡ status_of_answer answer → type ≡ type_of report → n ≡ length body → body ≡ body_of report answer → bytes ≡ head_with status type n ++ body
-    → bytes ≡ print (answer_reply method answer)
-unfolding print answer_reply
-answer_written method answer status n report type body bytes is_r is_s is_t is_n is_b written =
-    let t : type ≡ type_of (is_report method answer) = is_t ∙ ap type_of is_r in
-    let b : body ≡ body_of (is_report method answer) answer = is_b ∙ ap (λ r. body_of r answer) is_r in
-    let size : n ≡ length (body_of (is_report method answer) answer) = is_n ∙ ap length b in
-    written ∙ ap (λ x. head_with x type n ++ body) is_s ∙ ap (λ x. head_with (status_of_answer answer) x n ++ body) t
-    ∙ ap (λ x. head_with (status_of_answer answer) (type_of (is_report method answer)) x ++ body) size
-    ∙ ap (λ x. head_with (status_of_answer answer) (type_of (is_report method answer)) (length (body_of (is_report method answer) answer)) ++ x) b
+pub body_written : (status n : ℕ) (type body bytes : List ℕ) → n ≡ length body → bytes ≡ head_with status type n ++ body → bytes ≡ print (reply_with status type body)
+unfolding print
+body_written status n type body bytes size written = written ∙ ap (λ k. head_with status type k ++ body) size

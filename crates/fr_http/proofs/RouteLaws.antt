@@ -1,5 +1,5 @@
 -- Laws of paths and routes.
-use Rattle.std.proofs.Common.{◌≡◌, ℕ, ◌<◌, Bool, true, false, cond, List, [], ◌∷◌, take, length, map, get_or, ◌≤◌, ◌+◌, refl, sym, ap, ◌∙◌, arith, Option, Some, None, Result, Ok, Err, IsUtf8, Bor, codes}
+use Rattle.std.proofs.Common.{◌≡◌, ℕ, ◌<◌, Bool, true, false, cond, List, [], ◌∷◌, take, length, map, get_or, ◌≤◌, ◌+◌, refl, sym, ap, ◌∙◌, arith, Option, Some, None, Result, Ok, Err, IsUtf8, Bor}
 use Rattle.std.proofs.lemmas.Bool.{ltb-false}
 use Rattle.std.proofs.lemmas.List.{map-append, take_all, take_more}
 use Rattle.std.proofs.lemmas.Grind.{fold-append}

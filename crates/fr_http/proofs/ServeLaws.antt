@@ -5,25 +5,26 @@ use Rattle.std.specs.Io.KnownBytes.{Appends, Consumes, Keeps}
 use Rattle.httparse.specs.Grammar.{RequestHead}
 use Rattle.fr_base.specs.Actors.{actor_of}
 use Rattle.fr_base.specs.Book.{Book}
+use Rattle.fr_base.specs.Cluster.{Cluster}
 use Rattle.fr_base.specs.Refusing.{◌>>=◌, ◌>>◌, ◌or◌}
+use Rattle.fr_base.specs.Sound.{IsSound}
 use Rattle.fr_base.specs.declared.actor.Actor.{Actor}
-use Rattle.fr_base.specs.declared.answer.Answer.{Answer}
 use Rattle.fr_base.specs.declared.refusal.Refusal.TheVariants.{BadText, UnknownKey}
-use Rattle.fr_base.specs.declared.request.Request.{Request}
-use Rattle.fr_http.specs.Asking.{FindsActor, MakesRequest, Standing}
+use Rattle.fr_http.specs.Asking.{FindsActor, MakesMatter, Standing}
 use Rattle.std.specs.Prelude.{IfOk, OnErr}
-use Rattle.fr_http.specs.Reply.{Reply, answer_reply, print}
+use Rattle.fr_http.specs.Reply.{Reply, print}
 use Rattle.fr_http.specs.Replying.{IsReply}
 use Rattle.fr_http.specs.declared.reply.ReplyText.{ReplyText}
 use Rattle.fr_http.specs.declared.serve.Served.{Served}
-use Rattle.fr_http.specs.Connection.{AppendsFront, HasAnswered, HasReplied, HasSent, HasTaken, IsConnection, InSound, ReadsNoMore, Takes}
-use Rattle.fr_http.specs.Exchanges.{IsBrokenOff, IsExchange, IsFront, IsInterim, IsUnasked, unasked_reply}
+use Rattle.fr_http.specs.Connection.{AppendsFront, HasAnswered, HasDealt, HasReplied, HasSent, HasTaken, IsConnection, InSound, ReadsNoMore, Takes}
+use Rattle.fr_http.specs.Exchanges.{Deals, Dealing, IsAnswered, IsBrokenOff, IsExchange, IsFront, IsInterim, IsTold, IsUnasked, unasked_reply}
 use Rattle.fr_http.specs.Head.{BeginsWith, HeadData, key_of, max_head, said}
-use Rattle.fr_http.specs.Outcome.{IsOutcome, Wanted, asked_before, continue_if, continue_reply, due, front, holder, interim, outcome_of, plan_of}
+use Rattle.fr_http.specs.Outcome.{IsOutcome, Wanted, asked_before, asked_by, continue_if, continue_reply, due, front, holder, interim, outcome_of, plan_of}
 use Rattle.fr_http.specs.Planning.{Plans}
 use Rattle.fr_http.specs.Reading.{HasReceived, LacksBody}
-use Rattle.fr_http.specs.Routes.{method_of, path_of, request_by}
+use Rattle.fr_http.specs.Routes.{matter_by, method_of, path_of}
 use Rattle.fr_http.specs.declared.asked.Asked.{Asked}
+use Rattle.fr_http.specs.declared.asked.Matter.{Matter}
 use Rattle.fr_http.specs.declared.fault.LinkFault.{LinkFault}
 use Rattle.fr_http.specs.declared.fault.LinkFault.TheVariants.{Truncated, ReadFailed, TooManyReads, WriteFailed, NoMemory}
 use Rattle.fr_http.specs.declared.fault.Rejection.{Rejection}
@@ -42,20 +43,20 @@ unfolding outcome_of ◌>>=◌ ◌>>◌ ◌or◌
 cut who head rest w h none = rw h (rw none refl)
 
 no_text : (who : List ℕ → Option Actor) (head : HeadData) (rest body : List ℕ) (w : Wanted) → plan_of head ≡ Ok w → front w.length rest ≡ Some body
-    → request_by w.route (path_of head.target) body ≡ None → outcome_of who head rest ≡ Err (Refused BadText)
+    → matter_by w.route (path_of head.target) body ≡ None → outcome_of who head rest ≡ Err (Refused BadText)
 unfolding outcome_of ◌>>=◌ ◌>>◌ ◌or◌
 no_text who head rest body w h there none = rw h (rw there (rw none refl))
 
-nobody : (who : List ℕ → Option Actor) (head : HeadData) (rest body : List ℕ) (w : Wanted) (request : Request) → plan_of head ≡ Ok w → front w.length rest ≡ Some body
-    → request_by w.route (path_of head.target) body ≡ Some request → holder who (key_of head) ≡ None → outcome_of who head rest ≡ Err (Refused UnknownKey)
+nobody : (who : List ℕ → Option Actor) (head : HeadData) (rest body : List ℕ) (w : Wanted) (what : Matter) → plan_of head ≡ Ok w → front w.length rest ≡ Some body
+    → matter_by w.route (path_of head.target) body ≡ Some what → holder who (key_of head) ≡ None → outcome_of who head rest ≡ Err (Refused UnknownKey)
 unfolding outcome_of ◌>>=◌ ◌>>◌ ◌or◌
-nobody who head rest body w request h there made none = rw h (rw there (rw made (rw none refl)))
+nobody who head rest body w what h there made none = rw h (rw there (rw made (rw none refl)))
 
-asks : (who : List ℕ → Option Actor) (head : HeadData) (rest body : List ℕ) (w : Wanted) (request : Request) (actor : Actor) → plan_of head ≡ Ok w
-    → front w.length rest ≡ Some body → request_by w.route (path_of head.target) body ≡ Some request → holder who (key_of head) ≡ Some actor
-    → outcome_of who head rest ≡ Ok (record { ask = record { actor = actor; request = request }; method = method_of w.route })
+asks : (who : List ℕ → Option Actor) (head : HeadData) (rest body : List ℕ) (w : Wanted) (what : Matter) (actor : Actor) → plan_of head ≡ Ok w
+    → front w.length rest ≡ Some body → matter_by w.route (path_of head.target) body ≡ Some what → holder who (key_of head) ≡ Some actor
+    → outcome_of who head rest ≡ Ok (asked_by actor (method_of w.route) what)
 unfolding outcome_of ◌>>=◌ ◌>>◌ ◌or◌
-asks who head rest body w request actor h there made found = rw h (rw there (rw made (rw found refl)))
+asks who head rest body w what actor h there made found = rw h (rw there (rw made (rw found refl)))
 
 interim_none : (head : HeadData) (r : Rejection) → plan_of head ≡ Err r → interim head ≡ []
 unfolding interim
@@ -237,12 +238,12 @@ module _ (stands : Standing) (input mid left held now : Option (List ℕ)) (rece
   no_body invited behind (WriteFailed asked) lacks = absurd lacks
   no_body invited behind (NoMemory asked) lacks = by_head invited behind _ (lacks, is_interim invited)
 
-  -- the request's text is none, or memory was wanting
-  pub no_request : (invited : Invited input mid held now received w) → Behind mid left received w more → (body : List ℕ) → front w.length (received.1 ++ more) ≡ Some body
-      → (unasked : Unasked) → MakesRequest w.route (path_of received.0.target) body (Err unasked) → HasTaken stands input left held now (Err unasked)
-  no_request invited behind body there unasked (inl lacks) =
+  -- a request's text is none, or memory was wanting
+  pub no_matter : (invited : Invited input mid held now received w) → Behind mid left received w more → (body : List ℕ) → front w.length (received.1 ++ more) ≡ Some body
+      → (unasked : Unasked) → MakesMatter w.route (path_of received.0.target) body (Err unasked) → HasTaken stands input left held now (Err unasked)
+  no_matter invited behind body there unasked (inl lacks) =
       subst (λ u. HasTaken stands input left held now (Err u)) (sym lacks) (by_head invited behind _ (refl, is_interim invited))
-  no_request invited behind body there unasked (inr (is, none)) =
+  no_matter invited behind body there unasked (inr (is, none)) =
       subst (λ u. HasTaken stands input left held now (Err u)) (sym is) (by_head invited behind _ (
         is_interim invited,
         λ c b s i.
@@ -251,24 +252,24 @@ module _ (stands : Standing) (input mid left held now : Option (List ℕ)) (rece
 
   -- the key is nobody's
   pub no_actor : (invited : Invited input mid held now received w) → Behind mid left received w more → (body : List ℕ) → front w.length (received.1 ++ more) ≡ Some body
-      → (request : Request) → request_by w.route (path_of received.0.target) body ≡ Some request → FindsActor stands received.0 None
+      → (what : Matter) → matter_by w.route (path_of received.0.target) body ≡ Some what → FindsActor stands received.0 None
       → HasTaken stands input left held now (Err (Refused UnknownKey))
-  no_actor invited behind body there request made none =
+  no_actor invited behind body there what made none =
       by_head invited behind _ (
         is_interim invited,
         λ c b s i.
-            outcome_with invited (actor_of c b) _ (nobody (actor_of c b) received.0 (received.1 ++ more) body w request invited.plan there made (sym (none c b s i))),
+            outcome_with invited (actor_of c b) _ (nobody (actor_of c b) received.0 (received.1 ++ more) body w what invited.plan there made (sym (none c b s i))),
       )
 
   -- the register is to be asked
   pub to_ask : (invited : Invited input mid held now received w) → Behind mid left received w more → (body : List ℕ) → front w.length (received.1 ++ more) ≡ Some body
-      → (request : Request) → request_by w.route (path_of received.0.target) body ≡ Some request → (actor : Actor) → FindsActor stands received.0 (Some actor)
-      → HasTaken stands input left held now (Ok (record { ask = record { actor = actor; request = request }; method = method_of w.route }))
-  to_ask invited behind body there request made actor found =
+      → (what : Matter) → matter_by w.route (path_of received.0.target) body ≡ Some what → (actor : Actor) → FindsActor stands received.0 (Some actor)
+      → HasTaken stands input left held now (Ok (asked_by actor (method_of w.route) what))
+  to_ask invited behind body there what made actor found =
       by_head invited behind _ (
         is_interim invited,
         λ c b s i.
-            outcome_with invited (actor_of c b) _ (asks (actor_of c b) received.0 (received.1 ++ more) body w request actor invited.plan there made (sym (found c b s i))),
+            outcome_with invited (actor_of c b) _ (asks (actor_of c b) received.0 (received.1 ++ more) body w what actor invited.plan there made (sym (found c b s i))),
       )
 
 -- ---- replies
@@ -289,30 +290,44 @@ front_behind : (before text front : List ℕ) → IsFront front text → IsFront
 front_behind before text front (missing, is) = (missing, ap (λ t. before ++ t) is ∙ sym (append_assoc before front missing))
 
 module _ (clean : Type 0) (old new : Standing) (input left held mid now : Option (List ℕ)) where
+  -- the register dealt with what the bytes ask, and that was the reply
+  answered : {written : List ℕ} {done : Result Served LinkFault} {a : Option Dealing} {reply : Reply} (asked : Asked) (dealt : HasDealt clean old new asked reply)
+      (t : HasTaken old input left held mid (Ok asked)) (c : Cluster) (b last : Book) → old c b → IsSound c b → Deals c b dealt.dealing last
+      → IsTold (record { read = t.bytes; written = written; done = done; asked = a }) t.written reply
+      → IsAnswered c b (record { read = t.bytes; written = written; done = done; asked = a }) dealt.dealing last
+  answered {reply = reply} asked dealt t c b last stood sound deals told = record {
+    before = t.written;
+    outcome = subst (λ o. IsOutcome (actor_of c b) t.bytes t.written (Ok o)) (sym dealt.is_asked) (t.takes.1 c b stood sound);
+    deals = deals;
+    reply = reply;
+    is_reply = dealt.is_reply;
+    told = told;
+  }
+
   -- the register was asked
   pub served_asked : (asked : Asked) (done : Result Served LinkFault) → HasTaken old input left held mid (Ok asked) → HasAnswered clean old new asked mid now done
       → IsConnection clean old new input left held now done
   served_asked asked (Ok served) t h = record {
     bytes = t.bytes;
-    written = t.written ++ print (answer_reply asked.method h.answer);
+    written = t.written ++ print h.reply;
     consumed = t.consumed;
-    appended = Appends-trans _ _ _ _ _ t.appended h.reply.0;
+    appended = Appends-trans _ _ _ _ _ t.appended h.replied.0;
     exchanged = λ cl c b s i.
-        let (last, run, stands) = h.step cl c b s i in
-        (Some (asked, h.answer), last, (h.reply.2, record { before = t.written; outcome = t.takes.1 c b s i; step = run; told = (refl, h.reply.1) }), stands);
+        let (last, deals, stands) = h.dealt.deals cl c b s i in
+        (Some h.dealt.dealing, last, (h.replied.2, answered asked h.dealt t c b last s i deals (refl, h.replied.1)), stands);
     truncated = λ e. grind (arith, e);
     silent = tt;
     bound = t.bound;
   }
-  served_asked asked (Err fault) t h = unanswered h.reply
+  served_asked asked (Err fault) t h = unanswered h.replied
     where
-      exchanged : (f : LinkFault) (written : List ℕ) → asked_before f ≡ true → IsBrokenOff f written t.written (answer_reply asked.method h.answer) → clean → InSound old (λ c b. (a : Option (Asked × Answer)) × (last : Book)
+      exchanged : (f : LinkFault) (written : List ℕ) → asked_before f ≡ true → IsBrokenOff f written t.written h.reply → clean → InSound old (λ c b. (a : Option Dealing) × (last : Book)
           × IsExchange c b (record { read = t.bytes; written = written; done = Err f; asked = a }) last × new c last)
       exchanged f written before broken cl c b s i =
-          let (last, run, stands) = h.step cl c b s i in
-          (Some (asked, h.answer), last, (before, record { before = t.written; outcome = t.takes.1 c b s i; step = run; told = broken }), stands)
+          let (last, deals, stands) = h.dealt.deals cl c b s i in
+          (Some h.dealt.dealing, last, (before, answered asked h.dealt t c b last s i deals broken), stands)
 
-      unanswered : HasReplied (answer_reply asked.method h.answer) true mid now (Err fault) → IsConnection clean old new input left held now (Err fault)
+      unanswered : HasReplied h.reply true mid now (Err fault) → IsConnection clean old new input left held now (Err fault)
       unanswered (inl (is, keeps)) = subst (λ f. IsConnection clean old new input left held now (Err f)) (sym is) (record {
         bytes = t.bytes;
         written = t.written;
@@ -338,7 +353,7 @@ module _ (clean : Type 0) (old : Standing) (input left held mid now : Option (Li
   -- nothing was asked, and no reply was written whole
   not_asked : (bytes written : List ℕ) (fault : LinkFault) → asked_before fault ≡ false
       → InSound old (λ c b. IsUnasked c b (record { read = bytes; written = written; done = Err fault; asked = None }) (Err fault)) → clean
-      → InSound old (λ c b. (a : Option (Asked × Answer)) × (last : Book) × IsExchange c b (record { read = bytes; written = written; done = Err fault; asked = a }) last × old c last)
+      → InSound old (λ c b. (a : Option Dealing) × (last : Book) × IsExchange c b (record { read = bytes; written = written; done = Err fault; asked = a }) last × old c last)
   not_asked bytes written fault before unasked cl c b s i = (None, b, (before, (refl, unasked c b s i)), s)
 
   -- a reply was to be written without asking

@@ -17,9 +17,11 @@ use Rattle.fr_text.specs.Report.{lines_of, lines_of_rows, node_line, schedule_li
 use Rattle.fr_text.specs.Styles.{plain_lines, json_lines}
 use Rattle.fr_text.specs.Words.{right_in}
 use Rattle.fr_http.specs.Head.{HeadData, values}
-use Rattle.fr_http.specs.Routes.{of_variant, part, request_by, route_of, router, table, with_route}
+use Rattle.fr_http.specs.Routes.{matter_by, of_variant, part, route_of, router, table, with_route}
 use Rattle.fr_http.specs.Outcome.{due, interim, length_in, outcome_of, plan_of}
-use Rattle.fr_http.specs.Reply.{answer_reply, body_of, engine_reply, print, status_line}
+use Rattle.fr_http.specs.Reply.{answer_reply, body_of, engine_reply, page_reply, print, status_line}
+use Rattle.fr_http.specs.declared.asked.Asked.TheVariants as asked
+use Rattle.fr_http.specs.declared.asked.Matter.TheVariants as matter
 use Rattle.fr_http.specs.declared.fault.Rejection.TheVariants.{BadRequest, NotFound, MethodNotAllowed, LengthRequired, PayloadTooLarge, HeadTooLarge, NotImplemented}
 use Rattle.fr_http.specs.declared.fault.Unasked.TheVariants.{Refused, Fault}
 use Rattle.fr_http.specs.declared.fault.LinkFault.TheVariants.{Truncated}
@@ -27,11 +29,11 @@ use Rattle.fr_http.specs.declared.method.Method.TheVariants.{Get, Post}
 use Rattle.fr_base.specs.declared.query.Inventory.TheVariants.{Cluster, Variants, Nodes}
 use Rattle.fr_base.specs.declared.query.Query.TheVariants.{Register as OfRegister, Variant as OfVariant}
 use Rattle.fr_base.specs.declared.report.Report.TheVariants.{Grants, Frames, Schedule, Gaps, Layout}
-use Rattle.fr_http.specs.declared.routes.Route.TheVariants.{Commands, Import, Query}
+use Rattle.fr_http.specs.declared.routes.Route.TheVariants.{Commands, Import, Query, Picture}
 
 -- what an answer unfolds to compute these definitions
 unfoldable rows : ⊤
-unfolding seek param_step scan values part request_by route_of router table with_route interim due length_in outcome_of plan_of answer_reply engine_reply body_of print ◌>>=◌ ◌>>◌ ◌or◌ refuse◌when◌ report_of text_of text_of_refusal lines_of lines_of_rows node_line schedule_line plain_lines json_lines right_in digits
+unfolding seek param_step scan values part matter_by route_of router table with_route interim due length_in outcome_of plan_of answer_reply engine_reply page_reply body_of print ◌>>=◌ ◌>>◌ ◌or◌ refuse◌when◌ report_of text_of text_of_refusal lines_of lines_of_rows node_line schedule_line plain_lines json_lines right_in digits
 rows = tt
 
 -- ---- routes
@@ -40,9 +42,11 @@ rows = tt
 pub routes :
     map route_of (
     codes "/v1/commands" ∷ codes "/v1/variants/v1/imports/a" ∷ codes "/v1/variants/v1/grants" ∷ codes "/v1/variants/v1/frames"
-    ∷ codes "/v1/variants/v1/schedule" ∷ codes "/v1/variants/v1/gaps" ∷ codes "/v1/variants/v1/frames/f1/layout" ∷ codes "/v1/variants/1%20v/gaps" ∷ []
+    ∷ codes "/v1/variants/v1/schedule" ∷ codes "/v1/variants/v1/gaps" ∷ codes "/v1/variants/v1/frames/f1/layout" ∷ codes "/v1/variants/1%20v/gaps"
+    ∷ codes "/v1/variants/v1/picture" ∷ []
     )
-    ≡ Some Commands ∷ Some Import ∷ Some (of_variant Grants) ∷ Some (of_variant Frames) ∷ Some (of_variant Schedule) ∷ Some (of_variant Gaps) ∷ Some (of_variant (Layout 5)) ∷ Some (of_variant Gaps) ∷ []
+    ≡ Some Commands ∷ Some Import ∷ Some (of_variant Grants) ∷ Some (of_variant Frames) ∷ Some (of_variant Schedule) ∷ Some (of_variant Gaps) ∷ Some (of_variant (Layout 5)) ∷ Some (of_variant Gaps)
+    ∷ Some Picture ∷ []
 unfolding rows
 routes = refl
 
@@ -60,14 +64,16 @@ pub no_routes :
 unfolding rows
 no_routes = refl
 
-pub requests :
-    request_by Import (codes "/v1/variants/v1/imports/a") (codes "x")
-    ∷ request_by (of_variant Schedule) (codes "/v1/variants/v1/schedule") []
-    ∷ request_by (of_variant (Layout 5)) (codes "/v1/variants/v1/frames/f1/layout") []
+pub matters :
+    matter_by Import (codes "/v1/variants/v1/imports/a") (codes "x")
+    ∷ matter_by (of_variant Schedule) (codes "/v1/variants/v1/schedule") []
+    ∷ matter_by (of_variant (Layout 5)) (codes "/v1/variants/v1/frames/f1/layout") []
+    ∷ matter_by Picture (codes "/v1/variants/v1/picture") []
     ∷ []
-    ≡ Some (request.Import (codes "v1") (codes "a") (codes "x")) ∷ Some (request.Query (OfVariant (codes "v1") Schedule)) ∷ Some (request.Query (OfVariant (codes "v1") (Layout (codes "f1")))) ∷ []
+    ≡ Some (matter.Request (request.Import (codes "v1") (codes "a") (codes "x"))) ∷ Some (matter.Request (request.Query (OfVariant (codes "v1") Schedule)))
+    ∷ Some (matter.Request (request.Query (OfVariant (codes "v1") (Layout (codes "f1"))))) ∷ Some (matter.Picture (codes "v1")) ∷ []
 unfolding rows
-requests = refl
+matters = refl
 
 -- ---- heads
 
@@ -126,9 +132,15 @@ who key = if same_text key (codes "supplier01") then Some (actor.Supplier (codes
 
 pub asks_schedule :
     outcome_of who (head (codes "GET") (codes "/v1/variants/v1/schedule") ((codes "Host", codes "localhost") ∷ (codes "X-Office-Key", codes "supplier01") ∷ [])) []
-    ≡ Ok (record { ask = record { actor = actor.Supplier (codes "s1"); request = request.Query (OfVariant (codes "v1") Schedule) }; method = Get })
+    ≡ Ok (asked.Request (record { actor = actor.Supplier (codes "s1"); request = request.Query (OfVariant (codes "v1") Schedule) }) Get)
 unfolding rows
 asks_schedule = refl
+
+pub asks_picture :
+    outcome_of who (head (codes "GET") (codes "/v1/variants/v1/picture") ((codes "X-Office-Key", codes "supplier01") ∷ [])) []
+    ≡ Ok (asked.Picture (actor.Supplier (codes "s1")) (codes "v1"))
+unfolding rows
+asks_picture = refl
 
 -- a name that is none is found out when the register is asked; a key that stands twice, or not at all, is nobody's
 pub unknown_keys :
@@ -143,7 +155,7 @@ unknown_keys = refl
 pub imports :
     map (λ rest. outcome_of who (head (codes "POST") (codes "/v1/variants/v1/imports/a") ((codes "x-office-key", codes "supplier01") ∷ length_field (codes "2") ∷ [])) rest)
     (codes "xyz" ∷ codes "x" ∷ [])
-    ≡ Ok (record { ask = record { actor = actor.Supplier (codes "s1"); request = request.Import (codes "v1") (codes "a") (codes "xy") }; method = Post })
+    ≡ Ok (asked.Request (record { actor = actor.Supplier (codes "s1"); request = request.Import (codes "v1") (codes "a") (codes "xy") }) Post)
     ∷ Err (Fault Truncated) ∷ []
 unfolding rows
 imports = refl
@@ -167,6 +179,11 @@ pub empty_reply :
     ≡ codes "HTTP/1.1 200 OK\r\ncontent-type: text/plain; charset=us-ascii\r\ncontent-length: 0\r\nconnection: close\r\n\r\n"
 unfolding rows
 empty_reply = refl
+
+pub picture_reply :
+    print (page_reply (codes "<p>")) ≡ codes "HTTP/1.1 200 OK\r\ncontent-type: text/html; charset=utf-8\r\ncontent-length: 3\r\nconnection: close\r\n\r\n<p>"
+unfolding rows
+picture_reply = refl
 
 pub done_reply :
     print (answer_reply Post answer.Done)

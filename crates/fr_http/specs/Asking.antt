@@ -11,7 +11,8 @@ use Rattle.fr_base.specs.declared.request.Request.{Request}
 use Rattle.fr_text.specs.RequestText.{request_of}
 use Rattle.fr_http.specs.Head.{HeadData, key_of}
 use Rattle.fr_http.specs.Outcome.{holder}
-use Rattle.fr_http.specs.Routes.{request_by}
+use Rattle.fr_http.specs.Routes.{matter_by}
+use Rattle.fr_http.specs.declared.asked.Matter.{Matter}
 use Rattle.fr_http.specs.declared.fault.LinkFault.TheVariants.{NoMemory}
 use Rattle.fr_http.specs.declared.fault.Unasked.{Unasked}
 use Rattle.fr_http.specs.declared.fault.Unasked.TheVariants.{Fault, Refused}
@@ -26,11 +27,11 @@ abbrev pub MakesCommand : List ℕ → Result Request Unasked → Type 0
 MakesCommand body (Ok request) = request_of body ≡ Some request
 MakesCommand body (Err unasked) = (unasked ≡ Fault (NoMemory false)) ⊎ ((unasked ≡ Refused BadText) × (request_of body ≡ None))
 
--- The request is the route's; or its text is none; or memory was wanting.
-abbrev pub MakesRequest : Route → List ℕ → List ℕ → Result Request Unasked → Type 0
-MakesRequest route path body (Ok request) = request_by route path body ≡ Some request
-MakesRequest route path body (Err unasked) =
-    (unasked ≡ Fault (NoMemory false)) ⊎ ((unasked ≡ Refused BadText) × (request_by route path body ≡ None))
+-- The matter is the route's; or a request's text is none; or memory was wanting.
+abbrev pub MakesMatter : Route → List ℕ → List ℕ → Result Matter Unasked → Type 0
+MakesMatter route path body (Ok matter) = matter_by route path body ≡ Some matter
+MakesMatter route path body (Err unasked) =
+    (unasked ≡ Fault (NoMemory false)) ⊎ ((unasked ≡ Refused BadText) × (matter_by route path body ≡ None))
 
 -- In a sound book this is who has the head's key.
 abbrev pub FindsActor : Standing → HeadData → Option Actor → Type 0

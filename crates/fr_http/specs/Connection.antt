@@ -1,20 +1,22 @@
 -- Connection: what was read and written on a connection, how it ended, that it was an exchange, and what became of the
 -- register.
-use Rattle.std.specs.Prelude.{ℕ, ◌≡◌, ◌≤◌, ◌⊎◌, Bool, true, false, List, [], ◌∷◌, length, Option, Result, Ok, Err, IfErr, IsErrOf}
+use Rattle.std.specs.Prelude.{ℕ, ◌≡◌, ◌≤◌, ◌⊎◌, Bool, true, false, List, length, Option, Result, Ok, Err, IfErr, IsErrOf}
+use Rattle.std.specs.Global.{Vec}
 use Rattle.std.specs.Io.KnownBytes.{Appends, Consumes, IsAtEnd, Keeps}
 use Rattle.httparse.specs.Grammar.{RequestHead}
 use Rattle.fr_base.specs.Actors.{actor_of}
 use Rattle.fr_base.specs.Book.{Book}
 use Rattle.fr_base.specs.Cluster.{Cluster}
-use Rattle.fr_base.specs.Run.{IsRun}
 use Rattle.fr_base.specs.Sound.{IsSound}
 use Rattle.fr_base.specs.declared.actor.Actor.{Actor}
-use Rattle.fr_base.specs.declared.answer.Answer.{Answer}
+use Rattle.fr_base.specs.declared.refusal.Refusal.{Refusal}
+use Rattle.fr_picture.specs.Pages.{IsPage}
+use Rattle.fr_picture.specs.declared.plan.Plan.{Plan}
 use Rattle.fr_http.specs.Asking.{Standing}
-use Rattle.fr_http.specs.Exchanges.{IsExchange, IsFront, IsInterim, IsInterimFront}
+use Rattle.fr_http.specs.Exchanges.{Deals, Dealing, IsExchange, IsFront, IsInterim, IsInterimFront, IsReplyTo, MayDraw, asked_in}
 use Rattle.fr_http.specs.Head.{BeginsWith, max_head, said}
 use Rattle.fr_http.specs.Outcome.{IsOutcome, Wanted, asked_before, plan_of}
-use Rattle.fr_http.specs.Reply.{Reply, answer_reply, print}
+use Rattle.fr_http.specs.Reply.{Reply, print}
 use Rattle.fr_http.specs.declared.asked.Asked.{Asked}
 use Rattle.fr_http.specs.declared.fault.LinkFault.{LinkFault}
 use Rattle.fr_http.specs.declared.fault.LinkFault.TheVariants.{Truncated, WriteFailed, NoMemory}
@@ -44,7 +46,7 @@ pub record IsConnection (clean : Type 0) (old new : Standing) (input left held n
   pub written : List ℕ
   pub consumed : Consumes input left bytes
   pub appended : Appends held now written
-  pub exchanged : clean → InSound old (λ c b. (asked : Option (Asked × Answer)) × (last : Book)
+  pub exchanged : clean → InSound old (λ c b. (asked : Option Dealing) × (last : Book)
       × IsExchange c b (record { read = bytes; written = written; done = done; asked = asked }) last × new c last)
   pub truncated : IsErrOf done Truncated → IsAtEnd left × ((who : List ℕ → Option Actor) → IsOutcome who bytes written (Err (Fault Truncated)))
   pub silent : IfErr done (λ fault. is_silent fault ≡ true → IsInterim bytes written)
@@ -88,9 +90,26 @@ HasReplied reply asked held now (Ok served) = Appends held now (print reply) × 
 HasReplied reply asked held now (Err fault) =
     ((fault ≡ NoMemory asked) × Keeps held now) ⊎ ((fault ≡ WriteFailed asked) × AppendsFront held now (print reply))
 
--- In this book the register answered what is asked by a step, and it stands for the book after it. The reply was written, or nothing of it
--- for want of memory, or a front of it where a write failed.
+-- The register dealt with what is asked, and it stands for the book after it. This is the reply to that.
+pub record HasDealt (clean : Type 0) (old new : Standing) (asked : Asked) (reply : Reply) : Type 0 where
+  pub dealing : Dealing
+  pub is_asked : asked_in dealing ≡ asked
+  pub deals : clean → InSound old (λ c b. (last : Book) × Deals c b dealing last × new c last)
+  pub is_reply : IsReplyTo dealing reply
+
+-- This is the plan's page, or why there is no plan.
+abbrev pub IsPageOf : Result Plan Refusal → Result (Vec ℕ) Refusal → Type 0
+IsPageOf (Ok plan) (Ok page) = IsPage plan page.items
+IsPageOf (Ok plan) (Err _) = ⊥
+IsPageOf (Err refusal) page = page ≡ Err refusal
+
+-- The page is that of a plan that may be drawn, or there is none for a cause that may be; and the register stands for the same book as before.
+abbrev pub HasDrawn : Type 0 → Standing → Standing → Actor → List ℕ → Result (Vec ℕ) Refusal → Type 0
+HasDrawn clean old new reader variant page =
+    (drawn : Result Plan Refusal) × IsPageOf drawn page × (clean → InSound old (λ c b. new c b × MayDraw c b reader variant drawn))
+
+-- The register dealt with what is asked. The reply was written, or nothing of it for want of memory, or a front of it where a write failed.
 pub record HasAnswered (clean : Type 0) (old new : Standing) (asked : Asked) (held now : Option (List ℕ)) (done : Result Served LinkFault) : Type 0 where
-  pub answer : Answer
-  pub step : clean → InSound old (λ c b. (last : Book) × IsRun c b (asked.ask ∷ []) (answer ∷ []) last × new c last)
-  pub reply : HasReplied (answer_reply asked.method answer) true held now done
+  pub reply : Reply
+  pub dealt : HasDealt clean old new asked reply
+  pub replied : HasReplied reply true held now done

@@ -1,36 +1,58 @@
--- Exchange: what happened on a connection: the bytes read and written, and what the register was asked, with its
--- answer. When that is an exchange with a register from a book, and when a list of them is one after another. Which of
--- them are one supplier's.
-use Rattle.std.specs.Prelude.{◌≡◌, ◌⊎◌, ⊤, ℕ, Bool, false, List, [], ◌∷◌, ◌++◌, filter, Option, Some, None, is_some, Result, Ok, Err, MatchResult}
+-- Exchange: what happened on a connection: the bytes read and written, and what the register was asked, with what it
+-- gave, which is a request's answer or a picture's plan. When that is an exchange with a register from a book, and when a
+-- list of them is one after another. Which of them are one supplier's.
+use Rattle.std.specs.Prelude.{◌≡◌, ◌⊎◌, ⊤, ℕ, Bool, false, not, ◌&&◌, List, [], ◌∷◌, ◌++◌, filter, Option, Some, None, is_some, Result, Ok, Err, MatchResult}
 use Rattle.httparse.specs.Grammar.{RequestHead}
 use Rattle.fr_base.specs.Actors.{actor_of}
-use Rattle.fr_base.specs.Alone.{is_mine}
+use Rattle.fr_base.specs.Alone.{is_mine, lacked}
 use Rattle.fr_base.specs.Book.{Book}
 use Rattle.fr_base.specs.Cluster.{Cluster}
+use Rattle.fr_base.specs.Names.{same_text}
 use Rattle.fr_base.specs.Run.{IsRun}
+use Rattle.fr_base.specs.declared.actor.Actor.{Actor}
+use Rattle.fr_base.specs.declared.actor.Actor.TheVariants.{Integrator, Supplier}
 use Rattle.fr_base.specs.declared.answer.Answer.{Answer}
 use Rattle.fr_base.specs.declared.answer.Answer.TheVariants as answer
 use Rattle.fr_base.specs.declared.name.Name.{Name}
+use Rattle.fr_base.specs.declared.refusal.Refusal.{Refusal}
+use Rattle.fr_base.specs.declared.request.Ask.{Ask}
+use Rattle.fr_picture.specs.Frames.{MayRefusePlan}
+use Rattle.fr_picture.specs.Pages.{IsPage}
+use Rattle.fr_picture.specs.Plans.{IsPlan}
+use Rattle.fr_picture.specs.declared.plan.Plan.{Plan}
 use Rattle.fr_http.specs.Head.{BeginsWith, said}
 use Rattle.fr_http.specs.Outcome.{IsOutcome, asked_before, continue_reply, interim}
-use Rattle.fr_http.specs.Reply.{Reply, answer_reply, engine_reply, print}
+use Rattle.fr_http.specs.Reply.{Reply, answer_reply, engine_reply, page_reply, print}
 use Rattle.fr_http.specs.declared.asked.Asked.{Asked}
+use Rattle.fr_http.specs.declared.asked.Asked.TheVariants as asked
 use Rattle.fr_http.specs.declared.fault.LinkFault.{LinkFault}
 use Rattle.fr_http.specs.declared.fault.LinkFault.TheVariants.{WriteFailed}
 use Rattle.fr_http.specs.declared.fault.Unasked.{Unasked}
 use Rattle.fr_http.specs.declared.fault.Unasked.TheVariants.{Engine, Refused, Fault}
-use Rattle.fr_http.specs.declared.method.Method.TheVariants.{Post}
+use Rattle.fr_http.specs.declared.method.Method.{Method}
+use Rattle.fr_http.specs.declared.method.Method.TheVariants.{Get, Post}
 use Rattle.fr_http.specs.declared.serve.Served.{Served}
 
 -- ---- one connection
 
+-- What the register was asked, and what it gave: a request with its method, and its answer; or the picture of a variant, and the plan, as the
+-- reader sees it, or why there is none.
+pub data Dealing : Type 0 where
+  Answered : Ask → Method → Answer → Dealing
+  Drawn : Actor → List ℕ → Result Plan Refusal → Dealing
+
+-- what was asked
+abbrev pub asked_in : Dealing → Asked
+asked_in (Answered ask method answer) = asked.Request ask method
+asked_in (Drawn reader variant drawn) = asked.Picture reader variant
+
 -- What happened on a connection: the bytes that were read of it, and those that were written to it; how it ended; and what the register
--- was asked, with its answer, if it was asked.
+-- was asked, with what it gave, if it was asked.
 pub record Exchange : Type 0 where
   pub read : List ℕ
   pub written : List ℕ
   pub done : Result Served LinkFault
-  pub asked : Option (Asked × Answer)
+  pub asked : Option Dealing
 
 -- whether the register was asked
 abbrev pub was_asked : Result Served LinkFault → Bool
@@ -58,12 +80,30 @@ IsTold x before reply = MatchResult x.done
     (λ served. (x.written ≡ before ++ print reply) × (served.status ≡ reply.status))
     (λ fault. IsBrokenOff fault x.written before reply)
 
--- From this book the bytes read ask this. The register answered so by one step, to the last book, and that was the reply.
-pub record IsAnswered (c : Cluster) (b : Book) (x : Exchange) (asked : Asked) (answer : Answer) (last : Book) : Type 0 where
+-- From this book this may be drawn: the variant's plan, as the reader sees it, or why there is none.
+abbrev pub MayDraw : Cluster → Book → Actor → List ℕ → Result Plan Refusal → Type 0
+MayDraw c b reader variant drawn = MatchResult drawn (IsPlan c b reader variant) (MayRefusePlan c b reader variant)
+
+-- From this book the register deals with what is asked so, and then the book is the last. A request is answered by one step. A picture leaves
+-- the book as it is.
+abbrev pub Deals : Cluster → Book → Dealing → Book → Type 0
+Deals c b (Answered ask method answer) last = IsRun c b (ask ∷ []) (answer ∷ []) last
+Deals c b (Drawn reader variant drawn) last = (last ≡ b) × MayDraw c b reader variant drawn
+
+-- The reply is the answer's, by the request's method; or it has the page of the plan; or it is the refusal of a GET.
+abbrev pub IsReplyTo : Dealing → Reply → Type 0
+IsReplyTo (Answered ask method answer) reply = reply ≡ answer_reply method answer
+IsReplyTo (Drawn reader variant (Ok plan)) reply = (page : List ℕ) × IsPage plan page × (reply ≡ page_reply page)
+IsReplyTo (Drawn reader variant (Err refusal)) reply = reply ≡ answer_reply Get (answer.Refused refusal)
+
+-- From this book the bytes read ask this. The register dealt with it so, to the last book, and that was the reply.
+pub record IsAnswered (c : Cluster) (b : Book) (x : Exchange) (dealing : Dealing) (last : Book) : Type 0 where
   pub before : List ℕ
-  pub outcome : IsOutcome (actor_of c b) x.read before (Ok asked)
-  pub step : IsRun c b (asked.ask ∷ []) (answer ∷ []) last
-  pub told : IsTold x before (answer_reply asked.method answer)
+  pub outcome : IsOutcome (actor_of c b) x.read before (Ok (asked_in dealing))
+  pub deals : Deals c b dealing last
+  pub reply : Reply
+  pub is_reply : IsReplyTo dealing reply
+  pub told : IsTold x before reply
 
 -- From this book the bytes read ask nothing, for this cause, to which there is a reply.
 pub record IsReplied (c : Cluster) (b : Book) (x : Exchange) : Type 0 where
@@ -92,8 +132,8 @@ IsUnasked c b x (Err (WriteFailed _)) = IsReplied c b x ⊎ IsInterimFront x.rea
 IsUnasked c b x (Err _) = IsInterim x.read x.written
 
 -- The register was asked, and answered; or it was not, and the book stays.
-abbrev pub Asks : Cluster → Book → Exchange → Option (Asked × Answer) → Book → Type 0
-Asks c b x (Some (asked, answer)) last = IsAnswered c b x asked answer last
+abbrev pub Asks : Cluster → Book → Exchange → Option Dealing → Book → Type 0
+Asks c b x (Some dealing) last = IsAnswered c b x dealing last
 Asks c b x None last = (last ≡ b) × IsUnasked c b x x.done
 
 -- From this book a connection may be served so, and then the book is the last.
@@ -107,11 +147,22 @@ abbrev pub AreExchanged : Cluster → Book → List Exchange → Book → Type 0
 AreExchanged c b [] last = last ≡ b
 AreExchanged c b (x ∷ xs) last = (next : Book) × IsExchange c b x next × AreExchanged c next xs last
 
+-- whether there is no plan because memory or the store was wanting
+abbrev pub lacks_plan : Result Plan Refusal → Bool
+lacks_plan (Ok plan) = false
+lacks_plan (Err refusal) = lacked refusal
+
+-- whether a picture that the reader asked for is the supplier's: its own, unless it was Unavailable
+abbrev pub is_own_picture : Name → Actor → Result Plan Refusal → Bool
+is_own_picture s (Supplier t) drawn = same_text t s && not (lacks_plan drawn)
+is_own_picture s Integrator drawn = false
+
 -- whether what was asked, and answered so, is the supplier's: its own, unless it was answered Unavailable; or the integrator's, and it was
 -- done and is common or names the supplier
-abbrev pub is_own : Name → Option (Asked × Answer) → Bool
+abbrev pub is_own : Name → Option Dealing → Bool
 is_own s None = false
-is_own s (Some (asked, answer)) = is_mine s asked.ask.actor asked.ask.request answer
+is_own s (Some (Answered ask method answer)) = is_mine s ask.actor ask.request answer
+is_own s (Some (Drawn reader variant drawn)) = is_own_picture s reader drawn
 
 -- the exchanges that are the supplier's, in order
 abbrev pub own_exchanges : Name → List Exchange → List Exchange

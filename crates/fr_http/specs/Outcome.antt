@@ -11,8 +11,11 @@ use Rattle.fr_base.specs.Refusing.{◌>>=◌, ◌>>◌, ◌or◌, refuse◌when�
 use Rattle.fr_base.specs.declared.actor.Actor.{Actor}
 use Rattle.fr_base.specs.declared.refusal.Refusal.TheVariants.{BadText, UnknownKey}
 use Rattle.fr_http.specs.Head.{BeginsWith, HasNoHead, HeadData, key_of, max_fields, max_head, said, same_but_case, values}
-use Rattle.fr_http.specs.Routes.{method_of, path_of, request_by, route_of, text_of_method}
+use Rattle.fr_http.specs.Routes.{matter_by, method_of, path_of, route_of, text_of_method}
 use Rattle.fr_http.specs.declared.asked.Asked.{Asked}
+use Rattle.fr_http.specs.declared.asked.Asked.TheVariants as asked
+use Rattle.fr_http.specs.declared.asked.Matter.{Matter}
+use Rattle.fr_http.specs.declared.asked.Matter.TheVariants as matter
 use Rattle.fr_http.specs.declared.fault.LinkFault.{LinkFault}
 use Rattle.fr_http.specs.declared.fault.LinkFault.TheVariants.{Truncated, ReadFailed, TooManyReads, WriteFailed, NoMemory}
 use Rattle.fr_http.specs.declared.fault.Rejection.{Rejection}
@@ -103,14 +106,19 @@ abbrev pub holder : (List ℕ → Option Actor) → Option (List ℕ) → Option
 holder who None = None
 holder who (Some key) = who key
 
+-- what this actor asks by this method: a request; or a picture, which is the reader's
+abbrev pub asked_by : Actor → Method → Matter → Asked
+asked_by actor method (matter.Request request) = asked.Request (record { actor = actor; request = request }) method
+asked_by actor method (matter.Picture variant) = asked.Picture actor variant
+
 -- What is asked, or why nothing is, by the head and by what came after it. The input ended there, if a body is cut short.
 unfoldable pub outcome_of : (List ℕ → Option Actor) → HeadData → List ℕ → Result Asked Unasked
 outcome_of who head rest = do
   plan ← by_engine (plan_of head)
   body ← front plan.length rest or Fault Truncated
-  request ← request_by plan.route (path_of head.target) body or Refused BadText
+  matter ← matter_by plan.route (path_of head.target) body or Refused BadText
   actor ← holder who (key_of head) or Refused UnknownKey
-  Ok (record { ask = record { actor = actor; request = request }; method = method_of plan.route })
+  Ok (asked_by actor (method_of plan.route) matter)
 
 -- Why nothing is asked by bytes that begin with no head: no head can come of them; or they are too many, or some of their
 -- lines and an empty line would be a head with too many fields; or the input ended before they were too many.

@@ -1,4 +1,4 @@
--- Reply: the bytes of a reply, the engine's own or to an answer of the register.
+-- Reply: the bytes of a reply, the engine's own, with a page, or to an answer of the register.
 use Rattle.std.specs.Prelude.{ℕ, Bool, true, false, ◌==◌, List, [], ◌++◌, length, codes, decimal, unwrap_or, if◌then◌else◌}
 use Rattle.http.specs.StatusCode.{reason_phrase}
 use Rattle.fr_base.specs.Refusals.{status_of}
@@ -97,6 +97,10 @@ reply_with status type body = record { status = status; fields = body_fields sta
 unfoldable pub body_of : Bool → Answer → List ℕ
 body_of true answer = report_of answer
 body_of false answer = text_of answer
+
+-- the reply that has a page
+unfoldable pub page_reply : List ℕ → Reply
+page_reply page = reply_with 200 (codes "text/html; charset=utf-8") page
 
 -- the reply to a request by this method
 unfoldable pub answer_reply : Method → Answer → Reply

@@ -1,4 +1,4 @@
--- Route: which request a path asks for, by `matchit`, and its names.
+-- Route: what a path asks for, by `matchit`, and its names.
 use Rattle.std.specs.Prelude.{ℕ, ◌==◌, List, [], ◌∷◌, codes, Option, Some, None, Result, Ok, Err, if◌then◌else◌, unwrap_or}
 use Rattle.std.specs.List.{before_first, fold, list_all, slice_get, slice_split}
 use Rattle.std.specs.Option.{option_map}
@@ -15,13 +15,14 @@ use Rattle.fr_base.specs.declared.query.Inventory.TheVariants.{Cluster, Variants
 use Rattle.fr_base.specs.declared.query.Query.TheVariants.{Register as OfRegister, Variant as OfVariant}
 use Rattle.fr_base.specs.declared.report.Report.{Report}
 use Rattle.fr_base.specs.declared.report.Report.TheVariants.{Grants, Frames, Schedule, Gaps, Layout}
-use Rattle.fr_base.specs.declared.request.Request.{Request}
 use Rattle.fr_base.specs.declared.request.Request.TheVariants as request
 use Rattle.fr_text.specs.RequestText.{request_of}
+use Rattle.fr_http.specs.declared.asked.Matter.{Matter}
+use Rattle.fr_http.specs.declared.asked.Matter.TheVariants as matter
 use Rattle.fr_http.specs.declared.method.Method.{Method}
 use Rattle.fr_http.specs.declared.method.Method.TheVariants.{Get, Post}
 use Rattle.fr_http.specs.declared.routes.Route.{Route}
-use Rattle.fr_http.specs.declared.routes.Route.TheVariants.{Commands, Import, Query}
+use Rattle.fr_http.specs.declared.routes.Route.TheVariants.{Commands, Import, Query, Picture}
 
 -- a method as a request spells it
 abbrev pub text_of_method : Method → List ℕ
@@ -33,6 +34,7 @@ abbrev pub method_of : Route → Method
 method_of Commands = Post
 method_of Import = Post
 method_of (Query asked) = Get
+method_of Picture = Get
 
 -- what the register holds
 abbrev pub of_register : Inventory → Route
@@ -55,6 +57,7 @@ table =
     ∷ (codes "/v1/variants/{variant}/schedule", of_variant Schedule)
     ∷ (codes "/v1/variants/{variant}/gaps", of_variant Gaps)
     ∷ (codes "/v1/variants/{variant}/frames/{frame}/layout", of_variant (Layout 5))
+    ∷ (codes "/v1/variants/{variant}/picture", Picture)
     ∷ []
 
 -- one more route, as `matchit` reads its text and keeps it
@@ -85,8 +88,9 @@ route_of path = if list_all is_ascii path then matched path else None
 unfoldable pub part : ℕ → List ℕ → List ℕ
 part n path = unwrap_or (slice_get (slice_split (λ b. b == 47) path) n) []
 
--- the request for a route: its names are parts of the path, and a command's text or an import's file is the body
-unfoldable pub request_by : Route → List ℕ → List ℕ → Option Request
-request_by Commands path body = request_of body
-request_by Import path body = Some (request.Import (part 3 path) (part 5 path) body)
-request_by (Query asked) path body = Some (request.Query (query_with (λ slashes. part slashes path) asked))
+-- what a route asks for: its names are parts of the path, and a command's text or an import's file is the body
+unfoldable pub matter_by : Route → List ℕ → List ℕ → Option Matter
+matter_by Commands path body = option_map matter.Request (request_of body)
+matter_by Import path body = Some (matter.Request (request.Import (part 3 path) (part 5 path) body))
+matter_by (Query asked) path body = Some (matter.Request (request.Query (query_with (λ slashes. part slashes path) asked)))
+matter_by Picture path body = Some (matter.Picture (part 3 path))

@@ -1,8 +1,9 @@
-//! Makes what is asked of a head and a body: the request, and who asks it.
+//! Makes what is asked of a head and a body, and finds who asks it.
 ghost use Rattle.std.specs.Prelude.{◌≡◌, IfOk};
-ghost use Rattle.fr_http.specs.Asking.{FindsActor, MakesCommand, MakesRequest, unasked_by};
+ghost use Rattle.fr_http.specs.Asking.{FindsActor, MakesCommand, MakesMatter, unasked_by};
 ghost use Rattle.fr_http.specs.Routes.{part};
 
+use crate::asked::Matter;
 use crate::fault::{LinkFault, Unasked};
 use crate::head::Received;
 use crate::plan::Plan;
@@ -12,25 +13,28 @@ use fr_text::read_command;
 use std::alloc::Global;
 use std::str;
 
-/// The request for a route, with the body that came for it.
-#[tactic(auto, unfolding(crate::specs::Routes::request_by))]
-pub(crate) fn request(alloc: Global, plan: &Plan<'_>, body: &[u8]) -> Result<Request, Unasked>
-    ensures { MakesRequest plan.now.route plan.now.path.now body.now result }
+/// What a route asks for, with the body that came for it.
+#[tactic(auto, unfolding(crate::specs::Routes::matter_by))]
+pub(crate) fn matter(alloc: Global, plan: &Plan<'_>, body: &[u8]) -> Result<Matter, Unasked>
+    ensures { MakesMatter plan.now.route plan.now.path.now body.now result }
 {
     match plan.route {
-        Route::Commands => command(alloc, body),
-        Route::Import => Ok(Request::Import {
+        Route::Commands => Ok(Matter::Request(command(alloc, body)?)),
+        Route::Import => Ok(Matter::Request(Request::Import {
             variant: name(alloc, plan.path, 3)?,
             label: name(alloc, plan.path, 5)?,
             body: Body::copy(alloc, body)?,
-        }),
+        })),
         Route::Query(asked) => {
             let names = PathNames {
                 alloc,
                 path: plan.path,
             };
-            Ok(Request::Query(asked.read(&names)?))
+            Ok(Matter::Request(Request::Query(asked.read(&names)?)))
         }
+        Route::Picture => Ok(Matter::Picture {
+            variant: name(alloc, plan.path, 3)?,
+        }),
     }
 }
 

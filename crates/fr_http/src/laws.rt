@@ -1,6 +1,7 @@
 //! Laws of connections. On connections one after another each supplier has the exchanges of a register that holds it
-//! alone, and the register is sound after each. What asks nothing has the same reply from every register, unless its key is
-//! nobody's.
+//! alone, and the register is sound after each.
+//!
+//! What asks nothing has the same reply from every register, unless its key is nobody's.
 ghost use Rattle.fr_http.specs.Laws.{ExchangesAreAlone, ExchangesAreSoundThroughout, UnaskedIsAlike};
 
 /// On connections that are served one after another each supplier has the same exchanges as with a

@@ -5,6 +5,7 @@
 mod asked;
 mod asking;
 mod body;
+mod dealing;
 mod fault;
 mod head;
 mod input;

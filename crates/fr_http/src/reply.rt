@@ -1,7 +1,7 @@
 //! Writes the bytes of a reply.
 ghost use Rattle.std.specs.Prelude.{◌≡◌, ◌++◌, IfOk, OnOk};
 ghost use Rattle.fr_base.specs.Refusals.{status_of};
-ghost use Rattle.fr_http.specs.Reply.{allow, answer_reply, authenticate, body_of, closing, engine_reply, field_line, is_report, phrase_of, status_line, status_of_answer, status_of_rejection, type_of};
+ghost use Rattle.fr_http.specs.Reply.{allow, answer_reply, authenticate, body_of, closing, engine_reply, field_line, is_report, page_reply, phrase_of, reply_with, status_line, status_of_answer, status_of_rejection, type_of};
 ghost use Rattle.fr_http.specs.Replying.{IsReply, head_with};
 
 use crate::fault::Rejection;
@@ -65,8 +65,16 @@ fn status_of_rejection(rejection: Rejection) -> StatusCode
     }
 }
 
-/// The reply that gives a request by this method its answer. Its head is written behind its body, and
-/// then turned to the front, so that no more memory is taken than the reply has bytes.
+/// The reply that has this page.
+#[tactic(auto, unfolding(crate::specs::Reply::page_reply))]
+pub(crate) fn page_reply(page: Vec<u8>) -> Result<ReplyText, NoMemory>
+    ensures { IfOk result (λ reply. IsReply (page_reply page.items) reply) }
+{
+    reply_with(StatusCode::OK, "text/html; charset=utf-8", page)
+}
+
+/// The reply that gives a request by this method its answer.
+#[tactic(auto, unfolding(crate::specs::Reply::answer_reply))]
 pub(crate) fn answer_reply(
     alloc: Global,
     method: Method,
@@ -75,14 +83,21 @@ pub(crate) fn answer_reply(
     ensures { IfOk result (λ reply. IsReply (answer_reply method answer.now) reply) }
 {
     let report = is_report(method, answer);
-    let mut bytes = write_body(alloc, report, answer)?;
-    let status = status_of_answer(answer);
-    let length = bytes.len();
-    push_head(status, type_of(report), length, &mut bytes)?;
-    bytes.rotate_left(length);
+    let body = write_body(alloc, report, answer)?;
+    reply_with(status_of_answer(answer), type_of(report), body)
+}
+
+// The reply that has this body. Its head is written behind the body, and then turned to the front, so that no more memory is
+// taken than the reply has bytes.
+fn reply_with(status: StatusCode, body_type: &str, mut body: Vec<u8>) -> Result<ReplyText, NoMemory>
+    ensures { IfOk result (λ reply. IsReply (reply_with status body_type.now body.items) reply) }
+{
+    let length = body.len();
+    push_head(status, body_type, length, &mut body)?;
+    body.rotate_left(length);
     Ok(ReplyText {
         status: status.as_u16(),
-        bytes,
+        bytes: body,
     })
 }
 

@@ -20,6 +20,8 @@ pub enum Route {
     Import,
     /// A query. Each name in it is said by how many slashes of the path stand before it.
     Query(Query<usize>),
+    /// The page of a variant's plan.
+    Picture,
 }
 
 impl Route {
@@ -29,7 +31,7 @@ impl Route {
     {
         match self {
             Route::Commands | Route::Import => Method::Post,
-            Route::Query(_) => Method::Get,
+            Route::Query(_) | Route::Picture => Method::Get,
         }
     }
 }
@@ -96,7 +98,7 @@ fn of_variant(report: Report<usize>) -> Route
 
 // The routes, each behind the text of the paths that match it.
 #[tactic(auto, unfolding(crate::specs::Routes::table))]
-fn routes() -> [(&'static str, Route); 10]
+fn routes() -> [(&'static str, Route); 11]
     ensures { map (λ entry. (entry.0.now, entry.1)) result ≡ table }
 {
     [
@@ -116,6 +118,7 @@ fn routes() -> [(&'static str, Route); 10]
             "/v1/variants/{variant}/frames/{frame}/layout",
             of_variant(Report::Layout { frame: 5 }),
         ),
+        ("/v1/variants/{variant}/picture", Route::Picture),
     ]
 }
 

@@ -7,8 +7,9 @@ ghost use Rattle.fr_http.specs.Exchanges.{was_asked};
 ghost use Rattle.fr_http.specs.Outcome.{continue_if, continue_reply, due, is_continue};
 
 use crate::asked::Asked;
-use crate::asking::{actor, request};
+use crate::asking::{actor, matter};
 use crate::body::read_body;
+use crate::dealing::deal;
 use crate::fault::{LinkFault, Unasked};
 use crate::head::{Received, Values};
 use crate::input::Input;
@@ -16,7 +17,7 @@ use crate::method::Method;
 use crate::plan::{Plan, make_plan};
 use crate::receive::receive;
 use crate::reply::{ReplyText, answer_reply, engine_reply};
-use fr_base::{Answer, Ask, Desk, NoMemory, Refusal};
+use fr_base::{Answer, Desk, NoMemory, Refusal};
 use fr_text::{Output, WriteFailed};
 use std::alloc::Global;
 use std::io::{Read, Write};
@@ -91,12 +92,9 @@ fn take<R: Read, W: Write, D: Desk>(
     let plan = make_plan(alloc, &received)?;
     invite(&received, &plan, output)?;
     let body = read_body(alloc, input, received.rest(), plan.length)?;
-    let request = request(alloc, &plan, &body)?;
+    let matter = matter(alloc, &plan, &body)?;
     let actor = actor(desk, &received).ok_or(Unasked::Refused(Refusal::UnknownKey))?;
-    Ok(Asked {
-        ask: Ask { actor, request },
-        method: plan.route.method(),
-    })
+    Ok(matter.asked_by(actor, plan.route.method()))
 }
 
 // Writes the interim reply, if it is due.
@@ -140,7 +138,7 @@ fn expects_continue(mut values: Values<'_>) -> bool
     false
 }
 
-// Asks the register, and writes its answer.
+// Deals with what is asked, and writes the reply.
 fn answer<W: Write, D: Desk>(
     alloc: Global,
     asked: &Asked,
@@ -153,8 +151,7 @@ fn answer<W: Write, D: Desk>(
     ensures retries { output.new.retries ≤ output.old.retries }
     ensures same { output.new.writer.ghost_name ≡ output.old.writer.ghost_name }
 {
-    let answer = desk.ask(alloc, &asked.ask);
-    send(answer_reply(alloc, asked.method, &answer), output, true)
+    send(deal(alloc, asked, desk), output, true)
 }
 
 // Writes a reply, if there was memory for it.

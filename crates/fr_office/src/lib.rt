@@ -1,7 +1,27 @@
-//! The office of a register: it answers requests one after another, each of the integrator or of a
-//! supplier, and each supplier is answered as if it were alone.
+//! The office of a register: it answers requests one after another, each of the integrator or of a supplier, from the
+//! records of the register. Each supplier is answered as if it were alone.
 #![tactic(auto)]
 
+mod answering;
+mod commands;
+mod import_counts;
+mod imports;
+mod kept;
+mod laws;
+mod lender;
+mod listing;
 mod office;
+mod pages;
+mod queries;
+mod running;
+mod shelf;
+mod warm;
 
+pub use answering::{answer, decline};
+pub use laws::answers_are_kept;
+pub use lender::Lender;
+pub use listing::list_variants;
 pub use office::Office;
+pub use running::{Stopped, run};
+pub use shelf::MAX_BYTES;
+pub use warm::Warm;

@@ -4,29 +4,30 @@ ghost use Rattle.fr_base.specs.Actors.{actor_of};
 ghost use Rattle.fr_base.specs.Book.{Book, file_of};
 ghost use Rattle.fr_base.specs.Cluster.{Cluster};
 ghost use Rattle.fr_base.specs.Sound.{IsSound};
-ghost use Rattle.fr_answers.specs.Answering.{Answers, KeepsChange, LeavesStep};
-ghost use Rattle.fr_answers.specs.Crashed.{AsksEach, KeepsEach};
-ghost use Rattle.fr_answers.specs.Headline.{AnswersEach};
-ghost use Rattle.fr_answers.specs.KeptPages.{StandsWarm};
-ghost use Rattle.fr_answers.specs.Listing.{Lists};
-ghost use Rattle.fr_records.specs.Held.{Reads};
+ghost use Rattle.fr_office.specs.Answering.{Answers, KeepsChange, LeavesStep};
+ghost use Rattle.fr_office.specs.Crashed.{AsksEach, KeepsEach};
+ghost use Rattle.fr_office.specs.Headline.{AnswersEach};
+ghost use Rattle.fr_office.specs.KeptPages.{StandsWarm};
+ghost use Rattle.fr_office.specs.Listing.{Lists};
+ghost use Rattle.fr_world.specs.Held.{Reads};
 
-mod stored;
-
-use fr_answers::{Stopped, Warm, answer, decline, list_variants, run};
+use crate::answering::{answer, decline};
+use crate::listing::list_variants;
+use crate::running::{Stopped, run};
+use crate::warm::Warm;
 use fr_base::{Actor, Answer, Ask, Config, Desk, Refusal, VariantRow};
-use fr_records::Records;
+use fr_world::Records;
 use std::alloc::Global;
 use std::marker::Model;
 
 /// The office of a register, which answers requests from its records. It keeps pages of them in memory, the one that
-/// was used last and others of at most twice [`MAX_BYTES`](fr_answers::MAX_BYTES), and none that is stale.
+/// was used last and others of at most twice [`MAX_BYTES`](crate::MAX_BYTES), and none that is stale.
 pub struct Office<R: Records> {
     warm: Warm<R>,
 }
 
 impl<R: Records> Model for Office<R> {
-    ghost use Rattle.fr_answers.specs.KeptPages.{WarmData};
+    ghost use Rattle.fr_office.specs.KeptPages.{WarmData};
 
     ghost Value = { WarmData R };
 

@@ -6,7 +6,7 @@ use Rattle.fr_base.specs.Cluster.{Cluster, ClusterFile}
 use Rattle.fr_world.specs.BookEdits.{all_applied}
 use Rattle.fr_world.specs.Fits.{AllFit}
 use Rattle.fr_world.specs.declared.edit.Edit.{Edit}
-use Rattle.fr_records.specs.Held.{Reads}
+use Rattle.fr_world.specs.Held.{Reads}
 use Rattle.fr_store.specs.Applying.{LeavesAll}
 use Rattle.fr_store.specs.Crashes.{IsForOne, LeavesOnly, StoredLeaves}
 use Rattle.fr_store.specs.Reading.{Leaves, Stands}

@@ -23,7 +23,7 @@ use Rattle.fr_store.specs.declared.slot_holder.Holder as store
 use Rattle.fr_store.proofs.AgainLemmas as again
 use Rattle.fr_store.proofs.ChainLemmas.{still_stands}
 use Rattle.fr_store.proofs.JoinedLemmas.{follows, cluster_after}
-use Rattle.fr_records.specs.Held.{held_in}
+use Rattle.fr_world.specs.Held.{held_in}
 use Rattle.fr_store.specs.Stored.{StandsStored}
 
 -- what the store tells is answered so

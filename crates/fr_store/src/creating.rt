@@ -95,7 +95,9 @@ fn is_bare(schema: &Schema) -> bool
 
 impl<S: Alter + Drop> Store<S> {
     /// Makes a register of this cluster, where no table is. What a crash then leaves is this register. It is
-    /// NotEmpty where one of a register's tables is there already. A refusal hands the connection back, its tables as they were.
+    /// NotEmpty where one of a register's tables is there already, whatever the case of its name and whatever its columns.
+    /// Within a transaction, or where another table, index or view is there, it is Unavailable. A refusal hands the
+    /// connection back, its tables as they were.
     pub fn create_on(
         alloc: Global,
         mut conn: Connection<S>,

@@ -43,6 +43,10 @@ pub(crate) fn closed<D: Disk + Drop>(conn: Connection<FileStore<D>>) -> Option<F
 }
 
 /// The database that the files hold, or an empty one where they are empty.
+// What a crash leaves of files that are refused here is not proved. Three steps are missing in what the kit says of a refused
+// open. Pages are taken to have sums only where the first page says so, but the converse is not said, so the size of a page
+// that the files held may be another than the one that was taken. The store is not said to be numbered, as `opens_again`
+// needs it. And that an image is nothing, and that it holds a database, are not shown to exclude each other.
 pub(crate) fn connected<D: Disk + Drop>(
     alloc: Global,
     files: Files<D>,
@@ -100,7 +104,8 @@ impl<D: Disk + Drop> Store<FileStore<D>> {
 
     /// Makes a register of this cluster in files that hold no table: all of it, or nothing. It is NotEmpty
     /// where one of a register's tables is found in them already; then they hold what they held, and so does what a
-    /// crash leaves. Else a refusal is Unavailable. It gives the files back, unless they fail to close.
+    /// crash leaves. Else a refusal is Unavailable. It gives the files back, unless they fail to close, so that the caller
+    /// can try again. The log's salts need a seed, which `options` give, since files alone give none.
     pub fn create(
         alloc: Global,
         files: Files<D>,

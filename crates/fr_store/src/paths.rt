@@ -57,6 +57,7 @@ impl<S: Start> Store<FileStore<FileFrom<S>>> {
     /// Makes a register of this cluster in the file at a path, or in a new one: all of it, or nothing. It is NotEmpty
     /// where the file holds one of a register's tables already, and then it holds what it held. `start` says what is
     /// supposed of the file. A refusal gives back what is left of the files, unless they were not opened or fail to close.
+    /// Other paths than those of files, `:memory:` and `file:..`, are Unavailable.
     pub fn create_at(
         rt: &HostRuntime,
         path: &str,
@@ -96,7 +97,8 @@ impl<S: Start> Store<FileStore<FileFrom<S>>> {
 
     /// The register in the file at a path. `start` says what is supposed of the file. Where there is no file it is
     /// NotARegister, and a database with no table is then there. Else the faults are those of `open`. A refusal gives back
-    /// what is left of the files, unless they were not opened or fail to close.
+    /// what is left of the files, unless they were not opened or fail to close. Other paths than those of files are
+    /// Unavailable.
     pub fn open_at(
         rt: &HostRuntime,
         path: &str,

@@ -3,7 +3,7 @@ ghost use Rattle.std.specs.Prelude.{◌≡◌, Ok, Err, IfErr, IsTrue, MatchResu
 ghost use Rattle.sqlite.specs.Held.{state};
 ghost use Rattle.sqlite.specs.State.{HasCleanDisk};
 ghost use Rattle.fr_base.specs.declared.refusal.Refusal.TheVariants.{Unavailable};
-ghost use Rattle.fr_records.specs.Held.{Reads};
+ghost use Rattle.fr_world.specs.Held.{Reads};
 ghost use Rattle.fr_store.specs.Crashes.{Serves, StoredLeaves};
 ghost use Rattle.fr_store.specs.Stored.{StandsStored};
 ghost use Rattle.fr_store.specs.Settled.{stored_settled};
@@ -11,8 +11,7 @@ ghost use Rattle.fr_store.specs.Settled.{stored_settled};
 use crate::fault::StoreFault;
 use crate::store::Store;
 use fr_base::{Channel, Config, Name, Refusal, Slot, VariantRow};
-use fr_records::Records;
-use fr_world::{Edit, KeptImport, Page};
+use fr_world::{Edit, KeptImport, Page, Records};
 use sqlite::Alter;
 use std::alloc::Global;
 

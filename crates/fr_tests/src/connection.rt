@@ -1,6 +1,7 @@
 //! Tests of `fr_http`. The check would let pass a request that is not served though there is memory, and reads and
-//! writes that are tried again too seldom, too often, or after another error. Replies are typed by hand from the
-//! formats.
+//! writes that are tried again too seldom, too often, or after another error.
+//!
+//! Replies are typed by hand from the formats.
 use fr_base::{
     Actor, Answer, Ask, Channel, Config, Desk, Name, NoMemory, Query, Refusal, Report, ReportRows,
     Request, Rows, Sending, Slot,

@@ -1,5 +1,5 @@
 //! Runs of a script from readers and to writers that are interrupted or fail. A contract says which of their errors may be
-//! tried again. No contract says that a run tries them so, and how often.
+//! tried again, and none that a run tries them so, and how often.
 use fr_cli::{ScriptFault, run_script};
 use std::alloc::Global;
 use std::io;

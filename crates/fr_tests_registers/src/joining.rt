@@ -1,5 +1,7 @@
 //! Tests of `fr_desks`. The check would let pass a supplier that can never join, since that is always `Unavailable`,
-//! though memory is there. What is wanted was worked out by hand from the formats.
+//! though memory is there.
+//!
+//! What is wanted was worked out by hand from the formats.
 use crate::asks::{CLUSTER, DONE, FIRST, Line, are_answers};
 use crate::registers::{desk, run};
 use fr_base::{Actor, Ask, Name};

@@ -1,7 +1,7 @@
-//! Tests of `fr_answers`. The check would let pass a run that stops though there is memory, or that asks a request twice.
+//! Tests of `fr_office`. The check would let pass a run that stops though there is memory, or that asks a request twice.
 use crate::asks::{DONE, Line, are_answers, push_lines};
 use crate::warm::{office, unread};
-use fr_answers::{Warm, run};
+use fr_office::{Warm, run};
 use std::test::Fail;
 
 /// What is asked of records that count how often a page is read.

@@ -112,7 +112,7 @@ fn counted<S: Alter + Drop>(
     let mut office = Office::new(alloc, store);
     let count = count_done(alloc, &mut office, lines)?;
     carry_out(alloc, &mut office, &NOT_YOURS)?;
-    Ok((count, office.into_store()))
+    Ok((count, office.into_records()))
 }
 
 // How many requests were done before the first that was not. After that none is.

@@ -34,5 +34,5 @@ pub(crate) fn after<S: Alter + Drop>(
 ) -> Result<Store<S>, Fail> {
     let mut office = Office::new(alloc, store);
     carry_out(alloc, &mut office, lines)?;
-    Ok(office.into_store())
+    Ok(office.into_records())
 }

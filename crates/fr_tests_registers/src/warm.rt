@@ -1,14 +1,12 @@
-//! Tests of `fr_answers`. The check would let pass pages that are read again, and imports counted again, though there
+//! Tests of `fr_office`. The check would let pass pages that are read again, and imports counted again, though there
 //! is memory to keep the pages and the counts.
 ghost use Rattle.std.specs.Prelude.{◌≡◌, IfOk, IfSome};
 
 use crate::asks::{CLUSTER, DONE, Line, ask, carry_out};
-use fr_answers::MAX_BYTES;
 use fr_base::{Channel, Config, Name, Params, Refusal, Slot, VariantRow};
-use fr_office::Office;
-use fr_records::Records;
+use fr_office::{MAX_BYTES, Office};
 use fr_text::read_config;
-use fr_world::{ChannelSlot, Edit, KeptImport, Page, PageRows};
+use fr_world::{ChannelSlot, Edit, KeptImport, Page, PageRows, Records};
 use std::alloc::Global;
 use std::collections::{BTreeMap, BTreeSet};
 use std::test::Fail;

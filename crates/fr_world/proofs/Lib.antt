@@ -43,3 +43,4 @@ pub mod DraftRows
 pub mod UsedLaws
 pub mod ClaimLaws
 pub mod PlaceLaws
+pub mod ReadLaws

@@ -21,3 +21,4 @@ pub mod Suppliers
 pub mod Sendings
 pub mod Amends
 pub mod Building
+pub mod Held

@@ -31,7 +31,7 @@ pub(super) struct View {
 }
 
 /// The supplier's view of the variant, if the variant is there. `Unavailable` where more than so many variants
-/// are laid one over the other.
+/// are laid one over the other, as where they are one another's parents. The depths in their rows play no part.
 pub(super) fn view_of<S: Alter>(
     alloc: Global,
     conn: &mut Connection<S>,

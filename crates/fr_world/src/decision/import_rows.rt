@@ -36,7 +36,8 @@ pub enum RowFault {
 /// - signals: `NoFrame`, `Exists`, `Limit`, `OutOfPayload`, `BitTaken`.
 ///
 /// The page, whose variant is open, is given up where a row is refused, and the rows were read under its
-/// parameters.
+/// parameters. Who wants to keep it gives a copy: to read a page anew takes many times as long. Neither the
+/// label nor the limits of imports are asked for, and no edit keeps the import.
 pub fn decide_rows(alloc: Global, page: Page, rows: &[RowRead]) -> Result<Draft, RowFault>
     requires open { page.released ≡ false }
     requires checked { AreChecked page.params rows.now }

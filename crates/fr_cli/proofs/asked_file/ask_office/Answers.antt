@@ -1,4 +1,4 @@
-use Rattle.fr_answers.specs.KeptPages.{StandsWarm}
+use Rattle.fr_office.specs.KeptPages.{StandsWarm}
 use Rattle.fr_cli.proofs.IncomingLaws.{asked_none}
 use Rattle.fr_cli.proofs.asked_file.ask_office.Goals as goal
 

@@ -8,7 +8,7 @@ use Rattle.fr_desks.proofs.file_desk.closed.Goals as goal
 
 pub returns-in-Ok-clause-clean : goal.returns-in-Ok-clause-clean
 returns-in-Ok-clause-clean g c are =
-    subst (λ s. HasCleanDisk (file_state s.conn)) c.into_store.ensures
+    subst (λ s. HasCleanDisk (file_state s.conn)) c.into_records.ensures
     (subst (λ conn. HasCleanDisk (file_state conn)) c.into_connection-conn.ensures (c.in-Ok.ensures.copied are).was_clean)
 
 pub returns-in-Err-clause-left : goal.returns-in-Err-clause-left
@@ -16,7 +16,7 @@ returns-in-Err-clause-left g c = (
   λ clean.
       let before : HasCleanDisk (file_state c.into_connection-conn.result) =
       omega (arith, c.in-Err.ensures.err.0.quiet.clean, no_doubt _ clean) in
-      subst (λ s. HasCleanDisk (file_state s.conn)) c.into_store.ensures (subst (λ conn. HasCleanDisk (file_state conn)) c.into_connection-conn.ensures before),
+      subst (λ s. HasCleanDisk (file_state s.conn)) c.into_records.ensures (subst (λ conn. HasCleanDisk (file_state conn)) c.into_connection-conn.ensures before),
   λ k b. tt,
 )
 
@@ -24,12 +24,12 @@ pub returns-in-Ok-clause-book : goal.returns-in-Ok-clause-book
 returns-in-Ok-clause-book g c k b stood are =
     let copied = c.in-Ok.ensures.copied are in
     let sound = (c.schema-schema.ensures.live copied.was_open).1 in
-    let there : StandsStored c.into_store.result.config (file_state c.into_store.result.conn) k b =
-    subst (λ s. StandsStored s.config (file_state s.conn) k b) (sym c.into_store.ensures) stood.0 in
-    let stored : StandsStored c.into_store.result.config (file_state c.into_connection-conn.result) k b =
-    subst (λ conn. StandsStored c.into_store.result.config (file_state conn) k b) (sym c.into_connection-conn.ensures) there in (
-      holds_committed c.into_store.result.config (file_state c.into_connection-conn.result) k b _ copied.was_open (record { holds = copied.seen.both; sound = sound }) stored,
+    let there : StandsStored c.into_records.result.config (file_state c.into_records.result.conn) k b =
+    subst (λ s. StandsStored s.config (file_state s.conn) k b) (sym c.into_records.ensures) stood.0 in
+    let stored : StandsStored c.into_records.result.config (file_state c.into_connection-conn.result) k b =
+    subst (λ conn. StandsStored c.into_records.result.config (file_state conn) k b) (sym c.into_connection-conn.ensures) there in (
+      holds_committed c.into_records.result.config (file_state c.into_connection-conn.result) k b _ copied.was_open (record { holds = copied.seen.both; sound = sound }) stored,
       λ image left.
-          holds_committed c.into_store.result.config (file_state c.into_connection-conn.result) k b image copied.was_open
+          holds_committed c.into_records.result.config (file_state c.into_connection-conn.result) k b image copied.was_open
           (record { holds = (copied.left image left).both; sound = sound }) stored,
     )

@@ -1,12 +1,12 @@
 use Rattle.std.proofs.Common.{rules, ◌≡◌, ◌++◌, Err, Ok, None, Some, sym, length, ◌≤◌, ◌-◌, subst, ap, ◌∙◌}
 use Rattle.fr_base.specs.declared.refusal.Refusal.TheVariants.{UnknownKey}
-use Rattle.fr_http.specs.Asking.{FindsActor, MakesRequest}
+use Rattle.fr_http.specs.Asking.{FindsActor, MakesMatter}
 use Rattle.fr_http.specs.Connection.{HasTaken}
-use Rattle.fr_http.specs.Outcome.{Wanted, front}
+use Rattle.fr_http.specs.Outcome.{Wanted, asked_by, front}
 use Rattle.fr_http.specs.Reading.{LacksBody}
-use Rattle.fr_http.specs.Routes.{path_of, request_by}
+use Rattle.fr_http.specs.Routes.{matter_by, method_of, path_of}
 use Rattle.fr_http.specs.declared.fault.Unasked.TheVariants.{Fault, Refused}
-use Rattle.fr_http.proofs.ServeLaws.{no_actor, no_body, no_request, not_invited, planned_nothing, received_nothing, to_ask}
+use Rattle.fr_http.proofs.ServeLaws.{no_actor, no_body, no_matter, not_invited, planned_nothing, received_nothing, to_ask}
 use Rattle.fr_http.proofs.serve.take.Goals as goal
 
 pub returns-in_err-received-clause-taken : goal.returns-in_err-received-clause-taken
@@ -45,20 +45,20 @@ returns-in_err-body-clause-taken g c =
     (subst (λ r. LacksBody plan.length (r ++ more) left fault) c.rest.ensures lacks)
     )
 
-pub returns-in_err-request-clause-taken : goal.returns-in_err-request-clause-taken
-returns-in_err-request-clause-taken g c =
+pub returns-in_err-matter-clause-taken : goal.returns-in_err-matter-clause-taken
+returns-in_err-matter-clause-taken g c =
     let received = c.in_ok-received.received in
     let plan = c.in_ok-plan.plan in
     let w : Wanted = record { route = plan.route; length = plan.length } in
-    let unasked = c.in_err-request.field-0.0 in
-    let is : c.from_residual-in_err-request.result ≡ Err unasked = search rules in
+    let unasked = c.in_err-matter.field-0.0 in
+    let is : c.from_residual-in_err-matter.result ≡ Err unasked = search rules in
     let (more, consumed, there, few) = c.in_ok-body.ensures.body in
     let body = c.in_ok-body.body.items in
-    let makes : MakesRequest plan.route (path_of received.0.target) body (Err unasked) =
-    subst (λ b. MakesRequest plan.route (path_of received.0.target) b (Err unasked)) c.deref.ensures.value
-    (subst (λ p. MakesRequest plan.route p c.deref.result.now (Err unasked)) c.in_ok-plan.ensures.1 c.in_err-request.ensures) in
+    let makes : MakesMatter plan.route (path_of received.0.target) body (Err unasked) =
+    subst (λ b. MakesMatter plan.route (path_of received.0.target) b (Err unasked)) c.deref.ensures.value
+    (subst (λ p. MakesMatter plan.route p c.deref.result.now (Err unasked)) c.in_ok-plan.ensures.1 c.in_err-matter.ensures) in
     subst (HasTaken _ _ _ _ _) (sym is) (
-    no_request _ _ _ _ _ _ received w more (record { has = c.in_ok-received.ensures.received; plan = c.in_ok-plan.ensures.0; written = c.in_ok-invite.ensures.ok }) (record { consumed = consumed; bound = subst (λ r. length more ≤ plan.length - length r) c.rest.ensures few }) body
+    no_matter _ _ _ _ _ _ received w more (record { has = c.in_ok-received.ensures.received; plan = c.in_ok-plan.ensures.0; written = c.in_ok-invite.ensures.ok }) (record { consumed = consumed; bound = subst (λ r. length more ≤ plan.length - length r) c.rest.ensures few }) body
     (subst (λ r. front plan.length (r ++ more) ≡ Some body) c.rest.ensures there) unasked makes
     )
 
@@ -70,13 +70,13 @@ returns-in_err-actor-clause-taken g c =
     let is : c.from_residual-in_err-actor.result ≡ Err (Refused UnknownKey) = search rules in
     let (more, consumed, there, few) = c.in_ok-body.ensures.body in
     let body = c.in_ok-body.body.items in
-    let request = c.in_ok-request.request in
-    let makes : request_by plan.route (path_of received.0.target) body ≡ Some request =
-    ap (λ p. request_by plan.route p body) (sym c.in_ok-plan.ensures.1) ∙ ap (request_by plan.route plan.path.now) (sym c.deref.ensures.value) ∙ c.in_ok-request.ensures in
+    let what = c.in_ok-matter.matter in
+    let makes : matter_by plan.route (path_of received.0.target) body ≡ Some what =
+    ap (λ p. matter_by plan.route p body) (sym c.in_ok-plan.ensures.1) ∙ ap (matter_by plan.route plan.path.now) (sym c.deref.ensures.value) ∙ c.in_ok-matter.ensures in
     let nobody : c.actor.result ≡ None = search rules in
     subst (HasTaken _ _ _ _ _) (sym is) (
     no_actor _ _ _ _ _ _ received w more (record { has = c.in_ok-received.ensures.received; plan = c.in_ok-plan.ensures.0; written = c.in_ok-invite.ensures.ok }) (record { consumed = consumed; bound = subst (λ r. length more ≤ plan.length - length r) c.rest.ensures few }) body
-    (subst (λ r. front plan.length (r ++ more) ≡ Some body) c.rest.ensures there) request makes (subst (FindsActor _ received.0) nobody c.actor.ensures)
+    (subst (λ r. front plan.length (r ++ more) ≡ Some body) c.rest.ensures there) what makes (subst (FindsActor _ received.0) nobody c.actor.ensures)
     )
 
 pub returns-clause-taken : goal.returns-clause-taken
@@ -86,13 +86,14 @@ returns-clause-taken g c =
     let w : Wanted = record { route = plan.route; length = plan.length } in
     let (more, consumed, there, few) = c.in_ok-body.ensures.body in
     let body = c.in_ok-body.body.items in
-    let request = c.in_ok-request.request in
+    let what = c.in_ok-matter.matter in
     let actor = c.in_ok-actor.actor in
-    let makes : request_by plan.route (path_of received.0.target) body ≡ Some request =
-    ap (λ p. request_by plan.route p body) (sym c.in_ok-plan.ensures.1) ∙ ap (request_by plan.route plan.path.now) (sym c.deref.ensures.value) ∙ c.in_ok-request.ensures in
+    let makes : matter_by plan.route (path_of received.0.target) body ≡ Some what =
+    ap (λ p. matter_by plan.route p body) (sym c.in_ok-plan.ensures.1) ∙ ap (matter_by plan.route plan.path.now) (sym c.deref.ensures.value) ∙ c.in_ok-matter.ensures in
     let found : c.actor.result ≡ Some actor = search rules in
-    subst (λ m. HasTaken (g.D.Desk.stands c.args.desk.now) (g.R.Read.remaining c.args.input.now.reader.now) (g.R.Read.remaining c.read_body.new.input.reader.now)
-    (g.W.Write.contents c.args.output.now.writer.now) (g.W.Write.contents c.invite.new.output.writer.now) (Ok (record { ask = record { actor = actor; request = request }; method = m }))) (sym c.method.ensures) (
+    let is : c.asked_by.result ≡ asked_by actor (method_of plan.route) what = c.asked_by.ensures ∙ ap (λ m. asked_by actor m what) c.method.ensures in
+    subst (λ o. HasTaken (g.D.Desk.stands c.args.desk.now) (g.R.Read.remaining c.args.input.now.reader.now) (g.R.Read.remaining c.read_body.new.input.reader.now)
+    (g.W.Write.contents c.args.output.now.writer.now) (g.W.Write.contents c.invite.new.output.writer.now) (Ok o)) (sym is) (
     to_ask _ _ _ _ _ _ received w more (record { has = c.in_ok-received.ensures.received; plan = c.in_ok-plan.ensures.0; written = c.in_ok-invite.ensures.ok }) (record { consumed = consumed; bound = subst (λ r. length more ≤ plan.length - length r) c.rest.ensures few }) body
-    (subst (λ r. front plan.length (r ++ more) ≡ Some body) c.rest.ensures there) request makes actor (subst (FindsActor _ received.0) found c.actor.ensures)
+    (subst (λ r. front plan.length (r ++ more) ≡ Some body) c.rest.ensures there) what makes actor (subst (FindsActor _ received.0) found c.actor.ensures)
     )

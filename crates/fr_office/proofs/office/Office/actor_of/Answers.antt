@@ -1,6 +1,6 @@
 use Rattle.std.proofs.Common.{rules, ◌≡◌, ap, subst, sym, ◌∙◌}
 use Rattle.fr_base.specs.Actors.{actor_of}
-use Rattle.fr_answers.specs.KeptPages.{StandsWarm}
+use Rattle.fr_office.specs.KeptPages.{StandsWarm}
 use Rattle.fr_office.proofs.office.Office.actor_of.Goals as goal
 
 pub returns : goal.returns

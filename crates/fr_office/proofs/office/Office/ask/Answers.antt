@@ -1,6 +1,6 @@
 use Rattle.std.proofs.Common.{subst, sym}
-use Rattle.fr_answers.specs.KeptPages.{StandsWarm}
-use Rattle.fr_answers.proofs.CrashedLaws.{keeps_change}
+use Rattle.fr_office.specs.KeptPages.{StandsWarm}
+use Rattle.fr_office.proofs.CrashedLaws.{keeps_change}
 use Rattle.fr_office.proofs.office.Office.ask.Goals as goal
 
 pub returns-clause-answers : goal.returns-clause-answers

@@ -1,6 +1,6 @@
 use Rattle.std.proofs.Common.{subst}
-use Rattle.fr_answers.specs.Answering.{Answers}
-use Rattle.fr_answers.specs.KeptPages.{StandsWarm}
+use Rattle.fr_office.specs.Answering.{Answers}
+use Rattle.fr_office.specs.KeptPages.{StandsWarm}
 use Rattle.fr_office.proofs.office.Office.decline.Goals as goal
 
 pub returns-clause-answers : goal.returns-clause-answers

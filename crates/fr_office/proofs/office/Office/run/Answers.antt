@@ -1,5 +1,5 @@
 use Rattle.std.proofs.Common.{[], ◌∷◌, subst, sym}
-use Rattle.fr_answers.specs.KeptPages.{StandsWarm}
+use Rattle.fr_office.specs.KeptPages.{StandsWarm}
 use Rattle.fr_office.proofs.office.Office.run.Goals as goal
 
 pub returns-clause-headline : goal.returns-clause-headline

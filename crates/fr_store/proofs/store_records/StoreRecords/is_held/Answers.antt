@@ -3,7 +3,7 @@ use Rattle.sqlite.specs.Held.{state}
 use Rattle.sqlite.specs.State.{HasCleanDisk}
 use Rattle.fr_base.specs.declared.refusal.Refusal.TheVariants.{Unavailable}
 use Rattle.fr_store.specs.Reading.{as_holder, holder_in}
-use Rattle.fr_records.specs.Held.{held_in}
+use Rattle.fr_world.specs.Held.{held_in}
 use Rattle.fr_store.proofs.StoredLaws.{told, held_as}
 use Rattle.fr_store.proofs.CrashLemmas.{reads_on}
 use Rattle.fr_store.proofs.store_records.StoreRecords.is_held.Goals as goal

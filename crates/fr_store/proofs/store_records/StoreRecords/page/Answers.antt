@@ -3,7 +3,7 @@ use Rattle.sqlite.specs.Held.{state}
 use Rattle.sqlite.specs.State.{HasCleanDisk}
 use Rattle.fr_base.specs.Cluster.{ClusterFile}
 use Rattle.fr_base.specs.declared.params.Params.{Params}
-use Rattle.fr_records.specs.Held.{page_of}
+use Rattle.fr_world.specs.Held.{page_of}
 use Rattle.fr_store.proofs.StoredLaws.{answered, given, told}
 use Rattle.fr_store.proofs.CrashLemmas.{reads_on}
 use Rattle.fr_store.proofs.store_records.StoreRecords.page.Goals as goal

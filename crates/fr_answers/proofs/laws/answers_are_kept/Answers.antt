@@ -1,5 +1,0 @@
-use Rattle.fr_answers.proofs.CrashedLaws.{keeps_answered}
-use Rattle.fr_answers.proofs.laws.answers_are_kept.Goals as goal
-
-pub returns : goal.returns
-returns g c = keeps_answered g.R.Records.stands g.R.Records.leaves

@@ -1,8 +1,0 @@
-use Rattle.std.proofs.Common.{◌≡◌, ◌+◌, sum_by}
-use Rattle.std.specs.Map.{values_of}
-use Rattle.fr_answers.specs.KeptPages.{bytes_of}
-use Rattle.fr_answers.proofs.shelf.total.Given as goal
-
--- the bytes so far, with those of the pages that are left
-abbrev pub invariant-loop-page : goal.invariant-loop-page
-invariant-loop-page l = l.bytes + sum_by bytes_of l.page-iterator ≡ sum_by bytes_of (values_of l.pages.entries)

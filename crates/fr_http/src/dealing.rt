@@ -1,0 +1,52 @@
+//! Deals with what is asked: the register answers a request, and a picture is drawn of what its reports say. What comes of
+//! it is a reply.
+ghost use Rattle.std.specs.Prelude.{IfOk};
+ghost use Rattle.fr_http.specs.Connection.{HasDealt, HasDrawn};
+ghost use Rattle.fr_http.specs.Reply.{Reply};
+ghost use Rattle.fr_http.specs.Replying.{IsReply};
+
+use crate::asked::Asked;
+use crate::method::Method;
+use crate::reply::{ReplyText, answer_reply, page_reply};
+use fr_base::{Actor, Answer, Desk, NoMemory, Refusal};
+use fr_picture::{View, read_plan, write_page};
+use std::alloc::Global;
+
+/// The reply to what is asked.
+pub(crate) fn deal<D: Desk>(
+    alloc: Global,
+    asked: &Asked,
+    desk: &mut D,
+) -> Result<ReplyText, NoMemory>
+    ensures falls { D.clean desk.new → D.clean desk.old }
+    ensures dealt { (reply : Reply) × HasDealt (D.clean desk.new) (D.stands desk.old) (D.stands desk.new) asked.now reply
+        × IfOk result (IsReply reply) }
+{
+    match asked {
+        Asked::Request { ask, method } => {
+            let answer = desk.ask(alloc, ask);
+            answer_reply(alloc, *method, &answer)
+        }
+        Asked::Picture { reader, variant } => {
+            match picture(alloc, *reader, variant.as_str(), desk) {
+                Ok(page) => page_reply(page),
+                Err(refusal) => answer_reply(alloc, Method::Get, &Answer::Refused(refusal)),
+            }
+        }
+    }
+}
+
+// The page of the variant's plan, as the reader sees it, or why there is none. Want of memory is `Unavailable`.
+fn picture<D: Desk>(
+    alloc: Global,
+    reader: Actor,
+    variant: &str,
+    desk: &mut D,
+) -> Result<Vec<u8>, Refusal>
+    ensures falls { D.clean desk.new → D.clean desk.old }
+    ensures drawn { HasDrawn (D.clean desk.new) (D.stands desk.old) (D.stands desk.new) reader variant.now result }
+{
+    let plan = read_plan(alloc, desk, &View { reader, variant })?;
+    let page = write_page(alloc, &plan)?;
+    Ok(page.into_bytes())
+}

@@ -1,0 +1,145 @@
+-- Pages that follow an edit of the register: which of them are left, and that none is stale.
+use Rattle.std.proofs.Common.{◌≡◌, inl, inr, Bool, ◌&&◌, true, false, not, true≢false, List, [], ◌∷◌, All, filter, Option, Some, None, refl, sym, ap, subst, ◌∙◌}
+use Rattle.std.specs.Prelude.{IfSome, if◌then◌else◌}
+use Rattle.std.proofs.lemmas.List.Elements.{All-filter}
+use Rattle.fr_base.specs.Book.{Book}
+use Rattle.fr_base.specs.Cluster.{Cluster}
+use Rattle.fr_base.specs.Names.{same_text}
+use Rattle.fr_base.specs.Step.{OwnRows}
+use Rattle.fr_base.specs.declared.name.Name.{Name}
+use Rattle.fr_base.specs.declared.params.Params.{Params}
+use Rattle.fr_base.specs.declared.request.Change.{Change}
+use Rattle.fr_base.proofs.AloneCells.{same_text-itself}
+use Rattle.fr_world.specs.BookEdits.{applied}
+use Rattle.fr_world.specs.Edits.{IsOf, edited}
+use Rattle.fr_world.specs.Fits.{Fits}
+use Rattle.fr_world.specs.Pages.{PageData, own_rows_of}
+use Rattle.fr_world.specs.declared.edit.Edit.{Edit}
+use Rattle.fr_world.specs.declared.edit.Edit.TheVariants.{NewVariant, SetReleased, NewSupplier, NewNode, Rows, KeepImport}
+use Rattle.fr_world.specs.Held.{IsFresh}
+use Rattle.fr_office.specs.Decided.{MayTake, TakesAll, TakesEach}
+use Rattle.fr_office.specs.KeptPages.{Amends, AreFollowed, AreFresh, AreOf, KeptData, kept_where, kept_without, lent_where, none_lent, touches}
+use Rattle.fr_office.proofs.FreshLaws.{all_untouched, amended-fresh, edited_params, fit_spares, untouched-fresh}
+
+-- ---- what each kind of edit does
+
+-- those that it may change are let go
+pub where-followed : (edit : Edit) (old new : KeptData) → new ≡ kept_where (λ page. not (touches edit page)) old → AreFollowed edit old new
+where-followed edit old new is = subst (AreFollowed edit old) (sym is) (record { lent = lent old.lent; others = refl })
+  where
+    lent : (o : Option PageData) → Amends edit o (lent_where (λ page. not (touches edit page)) o)
+    lent None = tt
+    lent (Some page) = elim (touches edit page) as (λ b. touches edit page ≡ b → Amends edit (Some page) (if not b then Some page else None)) [
+      | true ↦ λ yes. yes
+      | false ↦ λ no. inr (no, refl)
+    ] refl
+
+all_pass : {A : Type 0} (test : A → Bool) → ((x : A) → test x ≡ true) → (xs : List A) → xs ≡ filter test xs
+all_pass test passes [] = refl
+all_pass test passes (x ∷ xs) = rw (passes x) (ap (λ rest. x ∷ rest) (all_pass test passes xs))
+
+-- it changes none
+pub same-followed : (edit : Edit) (kept : KeptData) → ((page : PageData) → touches edit page ≡ false) → AreFollowed edit kept kept
+same-followed edit kept never = record {
+  lent = lent kept.lent;
+  others = λ i. record { lent = None; recent = all_pass (λ page. not (touches edit page)) passes kept.recent i; earlier = all_pass (λ page. not (touches edit page)) passes kept.earlier i };
+}
+  where
+    passes : (page : PageData) → not (touches edit page) ≡ true
+    passes page = ap not (never page)
+
+    lent : (o : Option PageData) → Amends edit o o
+    lent None = tt
+    lent (Some page) = inr (never page, refl)
+
+-- it is made in the page that is lent
+pub rows-followed : (edit : Edit) (s v : Name) (what : Change) (old new : KeptData) → edit ≡ Rows s v what → Amends edit old.lent new.lent → none_lent new ≡ kept_without s v (none_lent old) → AreFollowed edit old new
+rows-followed edit s v what old new is lent others = record {
+  lent = lent;
+  others = others ∙ (λ i. kept_where (λ page. not (touches (sym is i) page)) (none_lent old));
+}
+
+-- an edit of the page's rows is one that may change it
+pub own-touched : (page : PageData) (edit : Edit) → IsOf page.supplier page.variant edit → touches edit page ≡ true
+own-touched page (NewVariant v parent depth) own = absurd own
+own-touched page (SetReleased v) own = ap (same_text page.variant) own ∙ same_text-itself page.variant
+own-touched page (NewSupplier s key) own = absurd own
+own-touched page (NewNode s n) own = ap (same_text page.supplier) own ∙ same_text-itself page.supplier
+own-touched page (Rows s v what) own =
+    (λ i. same_text page.supplier (own.0 i) && same_text page.variant (own.1 i)) ∙ (λ i. same_text-itself page.supplier i && same_text-itself page.variant i)
+own-touched page (KeepImport s label v body rows) own = absurd own
+
+-- ---- what is so of pages that follow it
+
+-- the page that is lent takes the first of the edits that it takes
+pub first_takes : (edit : Edit) (edits : List Edit) (lent : Option PageData) → IfSome lent (λ page. TakesAll page (edit ∷ edits)) → IfSome lent (λ page. MayTake page.variant (own_rows_of page) edit)
+first_takes edit edits None takes = tt
+first_takes edit edits (Some page) takes = takes.0
+
+named-itself : (s t : Name) → s ≡ t → same_text t s ≡ false → ⊥
+named-itself s t same other = true≢false (sym (same_text-itself t) ∙ ap (same_text t) (sym same) ∙ other)
+
+-- an edit that leaves the page as it is leaves its rows
+untouched-rows : (page : PageData) (edit : Edit) → touches edit page ≡ false → MayTake page.variant (own_rows_of page) edit → edited (own_rows_of page) edit ≡ own_rows_of page
+unfolding edited
+untouched-rows page (NewVariant v parent depth) other takes = refl
+untouched-rows page (SetReleased v) other takes = refl
+untouched-rows page (NewSupplier s key) other takes = refl
+untouched-rows page (NewNode s n) other takes = absurd (named-itself s page.supplier takes.own other)
+untouched-rows page (Rows s v what) other takes =
+    absurd (true≢false (sym (own-touched page (Rows s v what) takes.own) ∙ other))
+untouched-rows page (KeepImport s label v body rows) other takes = refl
+
+module _ (edit : Edit) (old new : KeptData) (followed : AreFollowed edit old new) where
+  left_recent : new.recent ≡ filter (λ page. not (touches edit page)) old.recent
+  left_recent = ap (λ (k : KeptData). k.recent) followed.others
+
+  left_earlier : new.earlier ≡ filter (λ page. not (touches edit page)) old.earlier
+  left_earlier = ap (λ (k : KeptData). k.earlier) followed.others
+
+  -- the page that is lent takes the edits behind it
+  pub next_takes : (edits : List Edit) → IfSome old.lent (λ page. TakesAll page (edit ∷ edits)) → IfSome new.lent (λ page. TakesAll page edits)
+  next_takes edits takes = next old.lent new.lent followed.lent takes
+    where
+      next : (o n : Option PageData) → Amends edit o n → IfSome o (λ page. TakesAll page (edit ∷ edits)) → IfSome n (λ page. TakesAll page edits)
+      next None None lent takes = tt
+      next (Some page) None lent takes = tt
+      next None (Some now) lent takes = absurd lent
+      next (Some page) (Some now) lent takes = elim lent [
+        | inl made ↦ subst (λ v. TakesEach v (own_rows_of now) edits) (sym made.variant) (subst (λ (rows : OwnRows). TakesEach page.variant rows edits) (sym made.rows) takes.1)
+        | inr same ↦ subst (λ page. TakesAll page edits) (sym same.1) (subst (λ (rows : OwnRows). TakesEach page.variant rows edits) (untouched-rows page edit same.0 takes.0) takes.1)
+      ]
+
+  -- they have the same parameters
+  pub next_params : (p : Params) → AreOf p old → AreOf p new
+  next_params p each = (
+    next old.lent new.lent followed.lent each.0,
+    subst (All (λ page. page.params ≡ p)) (sym left_recent) (All-filter (λ page. not (touches edit page)) (λ page. page.params ≡ p) old.recent each.1),
+    subst (All (λ page. page.params ≡ p)) (sym left_earlier) (All-filter (λ page. not (touches edit page)) (λ page. page.params ≡ p) old.earlier each.2),
+  )
+    where
+      next : (o n : Option PageData) → Amends edit o n → IfSome o (λ page. page.params ≡ p) → IfSome n (λ page. page.params ≡ p)
+      next None None lent of = tt
+      next (Some page) None lent of = tt
+      next None (Some now) lent of = absurd lent
+      next (Some page) (Some now) lent of = elim lent [
+        | inl made ↦ ap (λ (r : OwnRows). r.params) made.rows ∙ edited_params (own_rows_of page) edit ∙ of
+        | inr same ↦ ap (λ (q : PageData). q.params) same.1 ∙ of
+      ]
+
+  -- none is stale
+  pub next_fresh : (c : Cluster) (b : Book) → Fits c.params b edit → AreFresh c.params b old → AreFresh c.params (applied b edit) new
+  next_fresh c b fits each = (
+    next old.lent new.lent followed.lent each.0,
+    subst (All (IsFresh c.params (applied b edit))) (sym left_recent) (all_untouched c b edit (fit_spares c.params b edit fits) old.recent each.1),
+    subst (All (IsFresh c.params (applied b edit))) (sym left_earlier) (all_untouched c b edit (fit_spares c.params b edit fits) old.earlier each.2),
+  )
+    where
+      next : (o n : Option PageData) → Amends edit o n → IfSome o (IsFresh c.params b) → IfSome n (IsFresh c.params (applied b edit))
+      next None None lent fresh = tt
+      next (Some page) None lent fresh = tt
+      next None (Some now) lent fresh = absurd lent
+      next (Some page) (Some now) lent fresh = elim lent [
+        | inl made ↦ amended-fresh c b page fresh edit now made.own made.kept made.rows made.supplier made.variant made.released
+        | inr same ↦ subst (IsFresh c.params (applied b edit)) (sym same.1) (untouched-fresh c b page fresh edit same.0 (fit_spares c.params b edit fits))
+      ]

@@ -1,0 +1,89 @@
+use Rattle.std.proofs.Common.{rules, arith, ◌≡◌, ◌≤◌, length, subst, Ok, false}
+use Rattle.fr_base.specs.declared.limits.TheConstants.{MAX_ROWS}
+use Rattle.fr_base.specs.declared.answer.Answer.TheVariants.{Imported, RefusedRow}
+use Rattle.fr_office.specs.Decided.{LeadsTo}
+use Rattle.fr_office.specs.Imports.{GivesRows, LeavesRows, kept_edits}
+use Rattle.fr_office.proofs.CrashLaws.{AddsTo}
+use Rattle.fr_office.proofs.ImportLaws.{few_made, page_leads, rows_refused, rows_kept, rows_lacked}
+use Rattle.fr_office.proofs.RowsLaws.{has_some, some_has}
+use Rattle.fr_office.proofs.imports.import_rows.Goals as goal
+
+pub overflow_cast-count : goal.overflow_cast-count
+overflow_cast-count g c =
+    let few : length c.in_ok-rows.rows ≤ MAX_ROWS = few_made c.lent-page.result.now c.args.import.now.body c.in_ok-rows.rows c.in-Ok.draft.edits.items (search rules) (search rules) in
+    let counted : c.len-count.result ≡ length c.in_ok-rows.rows = search rules in
+    omega (arith, few, counted)
+
+pub keep-requires : goal.keep-requires
+keep-requires g c =
+    let lent = g.R.Lender.lent c.args.records.now in
+    let page = c.lent-page.result.now in
+    let i = c.args.import.now in
+    let copy = c.in_ok-clone.field-0 in
+    let same : copy ≡ page = search rules in
+    let count = c.len-count.result in
+    let draft = c.in-Ok.draft in
+    let leads = subst (λ page. LeadsTo page (kept_edits draft.edits.items i count) draft.page) same
+    (page_leads i count copy draft.page draft.edits.items c.in-Ok.ensures.leads c.in-Ok.ensures.page c.in-Ok.ensures.still) in
+    record { lent = c.requires.lent; leads = has_some (λ page. LeadsTo page (kept_edits draft.edits.items i count) draft.page) lent page c.lent-page.ensures leads }
+
+pub returns-in-Ok-clause-gives : goal.returns-in-Ok-clause-gives
+returns-in-Ok-clause-gives g c = λ clean.
+    let records = g.R.Records in
+    let old = records.stands c.args.records.now in
+    let new = records.stands c.keep.new.records in
+    let lent = g.R.Lender.lent c.args.records.now in
+    let page = c.lent-page.result.now in
+    let i = c.args.import.now in
+    let unreleased : page.released ≡ false = some_has (λ page. page.released ≡ false) lent page c.lent-page.ensures c.requires.open in
+    has_some (GivesRows old new (Ok (Imported c.len-count.result)) i) lent page c.lent-page.ensures
+    (rows_kept i page c.in_ok-rows.rows (search rules) old new c.in-Ok.draft.edits.items (search rules) unreleased c.len-count.result (search rules) c.keep.result (search rules) (c.keep.ensures.applies clean))
+
+pub returns-in_err-keep-in-Ok-clause-gives : goal.returns-in_err-keep-in-Ok-clause-gives
+returns-in_err-keep-in-Ok-clause-gives g c = λ clean.
+    let records = g.R.Records in
+    let old = records.stands c.args.records.now in
+    let new = records.stands c.keep.new.records in
+    let lent = g.R.Lender.lent c.args.records.now in
+    let page = c.lent-page.result.now in
+    let i = c.args.import.now in
+    let unreleased : page.released ≡ false = some_has (λ page. page.released ≡ false) lent page c.lent-page.ensures c.requires.open in
+    has_some (GivesRows old new c.from_residual-in_err-keep-in-Ok.result i) lent page c.lent-page.ensures
+    (rows_lacked i page c.in_ok-rows.rows (search rules) old new c.in-Ok.draft.edits.items (search rules) unreleased c.len-count.result (search rules) c.from_residual-in_err-keep-in-Ok.result c.keep.result
+    c.in_err-keep-in-Ok.field-0.0 (search rules) (search rules) (c.keep.ensures.applies clean))
+
+pub returns-in-Err-Row-clause-gives : goal.returns-in-Err-Row-clause-gives
+returns-in-Err-Row-clause-gives g c = λ clean.
+    let old = g.R.Records.stands c.args.records.now in
+    let lent = g.R.Lender.lent c.args.records.now in
+    let page = c.lent-page.result.now in
+    let i = c.args.import.now in
+    has_some (GivesRows old old (Ok (RefusedRow _ _)) i) lent page c.lent-page.ensures (rows_refused i page c.in_ok-rows.rows (search rules) old _ _ (search rules))
+
+pub returns-in-Ok-clause-leaves : goal.returns-in-Ok-clause-leaves
+returns-in-Ok-clause-leaves g c = λ clean.
+    let records = g.R.Records in
+    let stands = records.stands c.args.records.now in
+    let old = records.leaves c.args.records.now in
+    let new = records.leaves c.keep.new.records in
+    let lent = g.R.Lender.lent c.args.records.now in
+    let page = c.lent-page.result.now in
+    let i = c.args.import.now in
+    let unreleased : page.released ≡ false = some_has (λ page. page.released ≡ false) lent page c.lent-page.ensures c.requires.open in
+    has_some (LeavesRows stands old new i) lent page c.lent-page.ensures (λ cl b books stood sound known free opened left.
+    (rows_kept i page c.in_ok-rows.rows (search rules) stands (AddsTo books old new) c.in-Ok.draft.edits.items (search rules) unreleased c.len-count.result (search rules) (Ok tt) (search rules)
+    (λ k d there fit before. c.keep.ensures.leaves clean k d books there fit before) cl b stood sound known free opened).1 left)
+
+pub returns-in_err-keep-in-Ok-clause-leaves : goal.returns-in_err-keep-in-Ok-clause-leaves
+returns-in_err-keep-in-Ok-clause-leaves g c = λ clean.
+    let records = g.R.Records in
+    let stands = records.stands c.args.records.now in
+    let old = records.leaves c.args.records.now in
+    let new = records.leaves c.keep.new.records in
+    let lent = g.R.Lender.lent c.args.records.now in
+    let page = c.lent-page.result.now in
+    let i = c.args.import.now in
+    let unreleased : page.released ≡ false = some_has (λ page. page.released ≡ false) lent page c.lent-page.ensures c.requires.open in
+    has_some (LeavesRows stands old new i) lent page c.lent-page.ensures (λ cl b books stood sound known free opened left.
+    (rows_kept i page c.in_ok-rows.rows (search rules) stands (AddsTo books old new) c.in-Ok.draft.edits.items (search rules) unreleased c.len-count.result (search rules) (Ok tt) (search rules)
+    (λ k d there fit before. c.keep.ensures.leaves clean k d books there fit before) cl b stood sound known free opened).1 left)

@@ -1,0 +1,84 @@
+-- Answering: a request is one step of a sound book, or `Unavailable` where that may be, and the records stand for the
+-- book after it. What a crash leaves of the records until it is answered, and that it leaves a change that was
+-- answered.
+use Rattle.std.specs.Prelude.{◌≡◌, ◌⊎◌, Bool, true, List, [], ◌∷◌, Result, Ok, Err, IsTrue, MatchResult, OnOk, ⊤}
+use Rattle.std.specs.List.{list_any}
+use Rattle.fr_base.specs.Book.{Book}
+use Rattle.fr_base.specs.Cluster.{Cluster, ClusterFile}
+use Rattle.fr_base.specs.Names.{same_text}
+use Rattle.fr_base.specs.Run.{IsRun}
+use Rattle.fr_base.specs.Sound.{IsSound}
+use Rattle.fr_base.specs.Step.{Outcome, act, knows, step}
+use Rattle.fr_base.specs.declared.actor.Actor.{Actor}
+use Rattle.fr_base.specs.declared.actor.Actor.TheVariants.{Integrator, Supplier}
+use Rattle.fr_base.specs.declared.answer.Answer.{Answer}
+use Rattle.fr_base.specs.declared.answer.Answer.TheVariants.{Done, Imported, Refused}
+use Rattle.fr_base.specs.declared.params.Params.{Params}
+use Rattle.fr_base.specs.declared.refusal.Refusal.{Refusal}
+use Rattle.fr_base.specs.declared.request.Ask.{Ask}
+use Rattle.fr_base.specs.declared.request.Checked.{Checked}
+use Rattle.fr_base.specs.declared.request.Checked.TheVariants as checked
+use Rattle.fr_office.specs.Carried.{IsRefused}
+use Rattle.fr_office.specs.Decided.{IsCheckedCommand, IsOwnCommand}
+use Rattle.fr_office.specs.Imports.{AfterNew}
+use Rattle.fr_world.specs.Held.{Leaving, Standing}
+
+-- whether who asks is in what a cluster file says
+abbrev pub is_known : ClusterFile → Actor → Bool
+is_known f Integrator = true
+is_known f (Supplier s) = list_any (λ t. same_text s t.name) f.suppliers
+
+-- So much of what the check of a request leaves is needed: a command's values fit the cluster, and a change of a frame and an import are
+-- of who asks.
+abbrev pub HasPassed : Params → Actor → Checked → Type 0
+HasPassed p actor (checked.Command command) = IsCheckedCommand p command × IsOwnCommand actor command
+HasPassed p actor (checked.Import i) = actor ≡ Supplier i.supplier
+HasPassed p actor (checked.Query query) = ⊤
+
+-- In a sound book that knows who asks, a request with checked values was carried out as the definition has it, and the records stand
+-- for the book after it; or nothing was done.
+abbrev pub Acts : Standing → Standing → Result Answer Refusal → Actor → Checked → Type 0
+Acts old new r actor valid = (c : Cluster) (b : Book) → old c b → IsSound c b → IsTrue (knows b actor) → MatchResult r
+    (λ answer. (after : Book) × (act c b actor valid ≡ Ok (record { book = after; answer = answer })) × new c after)
+    (λ e. IsRefused new c b e (act c b actor valid))
+
+-- the answer to a request, whose refusal is one too
+abbrev pub answer_of : Result Answer Refusal → Answer
+answer_of (Ok answer) = answer
+answer_of (Err refusal) = Refused refusal
+
+-- In a sound book the request was answered by one step, or it is Unavailable where it may be; and the records stand for the book after it.
+abbrev pub Answers : Standing → Standing → Ask → Answer → Type 0
+Answers old new ask answer = (c : Cluster) (b : Book) → old c b → IsSound c b → (last : Book) × new c last × IsRun c b (ask ∷ []) (answer ∷ []) last
+
+-- This holds after a command or a new import with checked values that was carried out.
+abbrev pub AfterAct : Standing → Checked → Result Answer Refusal → Type 0 → Type 0
+AfterAct stands (checked.Command command) r P = OnOk r P
+AfterAct stands (checked.Import i) r P = AfterNew stands i r P
+AfterAct stands (checked.Query query) r P = ⊤
+
+-- This holds after a step that leads from one book to another, where its answer tells of a change. An import that was there already has
+-- such an answer too, and changes nothing.
+abbrev pub WhereChanged : Book → Book → Answer → Type 0 → Type 0
+WhereChanged before after Done P = P
+WhereChanged before after (Imported rows) P = (after ≡ before) ⊎ P
+WhereChanged before after _ P = ⊤
+
+-- So after a request to records of a sound book.
+abbrev pub AfterChange : Standing → Ask → Answer → Type 0 → Type 0
+AfterChange stands ask answer P = (c : Cluster) (b : Book) → stands c b → IsSound c b → WhereChanged b (step c b ask.actor ask.request).book answer P
+
+-- Of a request with checked values, a crash leaves no more than it did before, or the book after it.
+abbrev pub LeavesAct : Standing → Leaving → Leaving → Actor → Checked → Type 0
+LeavesAct stands old new actor valid = (c : Cluster) (b : Book) (books : List Book) → stands c b → IsSound c b → IsTrue (knows b actor) → old c books
+    → new c books ⊎ ((after : Outcome) × (act c b actor valid ≡ Ok after) × new c (after.book ∷ books))
+
+-- So with any request.
+abbrev pub LeavesStep : Standing → Leaving → Leaving → Ask → Type 0
+LeavesStep stands old new ask = (c : Cluster) (b : Book) (books : List Book) → stands c b → IsSound c b → old c books
+    → new c books ⊎ new c ((step c b ask.actor ask.request).book ∷ books)
+
+-- A change that was answered is kept: a crash leaves the register after the step, and no other.
+abbrev pub KeepsChange : Standing → Leaving → Ask → Answer → Type 0
+KeepsChange stands new ask answer = (c : Cluster) (b : Book) → stands c b → IsSound c b
+    → WhereChanged b (step c b ask.actor ask.request).book answer (new c ((step c b ask.actor ask.request).book ∷ []))

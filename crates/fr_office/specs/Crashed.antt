@@ -1,0 +1,85 @@
+-- Crashed: when records were asked requests one after another. What a crash leaves then: the book after all that was
+-- answered, or after one request more, which had been answered `Unavailable`. When a register that is found afterwards
+-- is as promised.
+use Rattle.std.specs.Global.{Vec}
+use Rattle.std.specs.Prelude.{◌≡◌, ◌≢◌, ◌⊎◌, List, [], ◌∷◌, ◌++◌, length, take, Result, MatchResult, ⊤}
+use Rattle.fr_base.specs.Book.{Book}
+use Rattle.fr_base.specs.Cluster.{Cluster}
+use Rattle.fr_base.specs.Run.{IsRun}
+use Rattle.fr_base.specs.Sound.{IsSound}
+use Rattle.fr_base.specs.Step.{step}
+use Rattle.fr_base.specs.declared.answer.Answer.{Answer}
+use Rattle.fr_base.specs.declared.answer.Answer.TheVariants.{Done, Refused}
+use Rattle.fr_base.specs.declared.refusal.Refusal.TheVariants.{Unavailable}
+use Rattle.fr_base.specs.declared.request.Ask.{Ask}
+use Rattle.fr_office.specs.Answering.{Answers, KeepsChange, LeavesStep}
+use Rattle.fr_office.specs.Headline.{WereAnswered}
+use Rattle.fr_office.specs.declared.running.Stopped.{Stopped}
+use Rattle.fr_world.specs.Held.{Leaving, Standing}
+
+-- The request was answered by one step, or Unavailable; until it was answered a crash left no more than before, or the register after the
+-- step; and a change that was answered is kept.
+pub record IsTurn {R : Type 0} (stands : R → Standing) (leaves : R → Leaving) (old : R) (ask : Ask) (answer : Answer) (new : R) : Type 0 where
+  pub answers : Answers (stands old) (stands new) ask answer
+  pub left : LeavesStep (stands old) (leaves old) (leaves new) ask
+  pub keeps : KeepsChange (stands old) (leaves new) ask answer
+
+-- From the first records to the last the requests were answered so, one after another.
+abbrev pub WereAsked : {R : Type 0} → (R → Standing) → (R → Leaving) → R → List Ask → List Answer → R → Type 0
+WereAsked stands leaves first [] [] last = last ≡ first
+WereAsked {R} stands leaves first (ask ∷ asks) (answer ∷ answers) last = (after : R) × IsTurn stands leaves first ask answer after × WereAsked stands leaves after asks answers last
+WereAsked stands leaves first [] (_ ∷ _) last = ⊥
+WereAsked stands leaves first (_ ∷ _) [] last = ⊥
+
+-- From the first records to the last all the requests were answered so, or where memory ended, those before were.
+abbrev pub AsksEach : {R : Type 0} → (R → Standing) → (R → Leaving) → R → R → List Ask → Result (Vec Answer) Stopped → Type 0
+AsksEach stands leaves first last asks result = MatchResult result
+    (λ answers. WereAsked stands leaves first asks answers.items last)
+    (λ stopped. WereAsked stands leaves first (take (length stopped.answers.items) asks) stopped.answers.items last)
+
+-- None of the answers is Done.
+abbrev pub NoneDone : List Answer → Type 0
+NoneDone [] = ⊤
+NoneDone (answer ∷ answers) = (answer ≢ Done) × NoneDone answers
+
+-- This was asked and answered Unavailable, and no request behind it was answered Done.
+abbrev pub WasLacking : List Ask → List Answer → Ask → Type 0
+WasLacking (first ∷ asks) (answer ∷ answers) ask = ((ask ≡ first) × (answer ≡ Refused Unavailable) × NoneDone answers) ⊎ WasLacking asks answers ask
+WasLacking [] answers ask = ⊥
+WasLacking asks [] ask = ⊥
+
+-- It is the book, or the one after one of these requests more.
+abbrev pub IsOrNext : Cluster → (Ask → Type 0) → Book → Book → Type 0
+IsOrNext c Of book x = (x ≡ book) ⊎ ((ask : Ask) × Of ask × (x ≡ (step c book ask.actor ask.request).book))
+
+abbrev pub EachBook : (Book → Type 0) → List Book → Type 0
+EachBook P [] = ⊤
+EachBook P (book ∷ books) = P book × EachBook P books
+
+-- The requests were answered so, and the register now stands for the book to which that led. What a crash leaves is this book, or the one
+-- after one request more, which had been answered Unavailable.
+pub record WereKept (now : Book → Type 0) (leaves : List Book → Type 0) (c : Cluster) (b : Book) (asks : List Ask) (answers : List Answer) : Type 0 where
+  pub last : Book
+  pub stands : now last
+  pub run : IsRun c b asks answers last
+  pub books : List Book
+  pub left : leaves books
+  pub each : EachBook (IsOrNext c (WasLacking asks answers) last) books
+
+-- Of a sound book for which the records stood, and which alone a crash left: so it is of all the requests, or where memory ended, of those before.
+abbrev pub KeepsEach : {R : Type 0} → (R → Standing) → (R → Leaving) → R → R → List Ask → Result (Vec Answer) Stopped → Type 0
+KeepsEach stands leaves first last asks result = (c : Cluster) (b : Book) → stands first c b → IsSound c b → leaves first c (b ∷ []) → MatchResult result
+    (λ answers. WereKept (stands last c) (leaves last c) c b asks answers.items)
+    (λ stopped. WereKept (stands last c) (leaves last c) c b (take (length stopped.answers.items) asks) stopped.answers.items)
+
+-- So it is whatever is asked of records of which a crash leaves their book, from a sound book on.
+abbrev pub KeepsAnswered : {R : Type 0} → (R → Standing) → (R → Leaving) → Type 0
+KeepsAnswered {R} stands leaves = (c : Cluster) (b : Book) (first last : R) (asks : List Ask) (answers : List Answer) → WereAsked stands leaves first asks answers last → stands first c b → IsSound c b
+    → leaves first c (b ∷ []) → WereKept (stands last c) (leaves last c) c b asks answers
+
+-- A register that is found afterwards is as promised: of the requests as they were answered, or of these and one more, which had been
+-- answered Unavailable.
+abbrev pub IsFound : (Book → Type 0) → Cluster → Book → List Ask → List Answer → Type 0
+IsFound now c b asks answers =
+    WereAnswered now c b asks answers
+    ⊎ ((ask : Ask) × (answer : Answer) × WasLacking asks answers ask × WereAnswered now c b (asks ++ ask ∷ []) (answers ++ answer ∷ []))

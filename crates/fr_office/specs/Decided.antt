@@ -1,0 +1,98 @@
+-- Decided: what is asked of all rows beside a supplier's page. Before the page decides the variant is open, and a
+-- supplier whom the integrator names is there. After it a slot and channel that are to be granted are not held. Who
+-- changes a frame asks for itself. Which edits a page takes.
+use Rattle.std.specs.Prelude.{◌≡◌, ◌⊎◌, Bool, false, List, [], ◌∷◌, Option, Result, Ok, Err, IfSome, IsTrue, MatchResult, ⊤}
+use Rattle.std.specs.List.{list_any}
+use Rattle.fr_base.specs.Refusing.{◌>>=◌, ◌>>◌, ◌or◌, refuse◌when◌}
+use Rattle.fr_base.specs.Tables.{contains}
+use Rattle.fr_base.specs.Book.{Book}
+use Rattle.fr_base.specs.Cluster.{Cluster}
+use Rattle.fr_base.specs.Sound.{IsSound}
+use Rattle.fr_base.specs.Step.{OwnRows}
+use Rattle.fr_base.specs.declared.actor.Actor.{Actor}
+use Rattle.fr_base.specs.declared.actor.Actor.TheVariants.{Supplier}
+use Rattle.fr_base.specs.declared.name.Name.{Name}
+use Rattle.fr_base.specs.declared.params.Params.{Params}
+use Rattle.fr_base.specs.declared.refusal.Refusal.{Refusal}
+use Rattle.fr_base.specs.declared.refusal.Refusal.TheVariants.{NoVariant, Released, Unavailable}
+use Rattle.fr_base.specs.declared.request.Command.{Command}
+use Rattle.fr_base.specs.declared.request.Command.TheVariants.{Rows}
+use Rattle.fr_base.specs.declared.request.Change.{Change}
+use Rattle.fr_base.specs.declared.request.Change.TheVariants.{Grant, Revoke, Frame}
+use Rattle.fr_office.specs.declared.commands.rows.BesidePage.{BesidePage}
+use Rattle.fr_world.specs.Held.{Standing, page_of, held_in}
+use Rattle.fr_world.specs.Decisions.{IsChecked}
+use Rattle.fr_world.specs.Edits.{Takes, all_edited, edited, releases}
+use Rattle.fr_world.specs.Pages.{PageData, own_rows_of}
+use Rattle.fr_world.specs.declared.edit.Edit.{Edit}
+use Rattle.fr_world.specs.declared.edit.Edit.TheVariants.{KeepImport}
+
+-- the supplier's page of the variant, where the variant is open
+unfoldable pub open_page : Params → Book → Name → Name → Result PageData Refusal
+open_page p b s v = do
+  page ← page_of p b s v or NoVariant
+  refuse Released when page.released
+  Ok page
+
+-- whether what is to be granted in the variant is held
+abbrev pub is_taken : Book → Name → Change → Bool
+is_taken b v (Grant slot channel node) = held_in b v (slot, channel)
+is_taken b v (Revoke slot channel) = false
+is_taken b v (Frame f change) = false
+
+-- what is known of the change beside its supplier's page
+abbrev pub IsBeside : Book → Name → Name → Change → BesidePage → Type 0
+IsBeside b s v change beside = (beside.is_there ≡ contains b.suppliers s) × (beside.is_taken ≡ is_taken b v change)
+
+-- The supplier's page of the variant, where the variant is open, is the one that is lent; else it is refused as the
+-- definition has it, or the answer is Unavailable. The records stand for the same book as before.
+abbrev pub Opens : Standing → Standing → Option PageData → Result ⊤ Refusal → Name → Name → Type 0
+Opens old new lent r s v = (c : Cluster) (b : Book) → old c b → IsSound c b → new c b × MatchResult r
+    (λ _. IfSome lent (λ page. open_page c.params b s v ≡ Ok page))
+    (λ e. (e ≡ Unavailable) ⊎ (open_page c.params b s v ≡ Err e))
+
+-- The page takes the edit, or the edit keeps an import.
+abbrev pub MayTake : Name → OwnRows → Edit → Type 0
+MayTake v rows (KeepImport s label w body count) = ⊤
+MayTake v rows edit = Takes v rows edit
+
+-- The page takes the edits, one after another, but for those that keep an import.
+abbrev pub TakesEach : Name → OwnRows → List Edit → Type 0
+TakesEach v rows [] = ⊤
+TakesEach v rows (edit ∷ edits) = MayTake v rows edit × TakesEach v (edited rows edit) edits
+
+abbrev pub TakesAll : PageData → List Edit → Type 0
+TakesAll page edits = TakesEach page.variant (own_rows_of page) edits
+
+-- The page takes the edits, and is the new one after them. None of them releases the variant.
+pub record LeadsTo (page : PageData) (edits : List Edit) (new : PageData) : Type 0 where
+  pub takes : TakesAll page edits
+  pub still : list_any releases edits ≡ false
+  pub rows : own_rows_of new ≡ all_edited (own_rows_of page) edits
+  pub supplier : new.supplier ≡ page.supplier
+  pub variant : new.variant ≡ page.variant
+  pub released : new.released ≡ page.released
+
+-- A supplier that changes a frame is there; a supplier that is granted something need not be.
+abbrev pub IsOfKnown : Book → Name → Change → Type 0
+IsOfKnown b s (Frame f change) = IsTrue (contains b.suppliers s)
+IsOfKnown b s _ = ⊤
+
+-- So it is with a command, in each book for which the records stand.
+abbrev pub FromKnown : Standing → Command → Type 0
+FromKnown stands (Rows s v change) = (c : Cluster) (b : Book) → stands c b → IsOfKnown b s change
+FromKnown stands _ = ⊤
+
+-- Who changes a frame is the supplier that asks.
+abbrev pub IsOwnChange : Actor → Name → Change → Type 0
+IsOwnChange actor s (Frame f change) = actor ≡ Supplier s
+IsOwnChange actor s _ = ⊤
+
+abbrev pub IsOwnCommand : Actor → Command → Type 0
+IsOwnCommand actor (Rows s v change) = IsOwnChange actor s change
+IsOwnCommand actor _ = ⊤
+
+-- A change in the command has a placement that fits the cluster, or a signal that has a length.
+abbrev pub IsCheckedCommand : Params → Command → Type 0
+IsCheckedCommand p (Rows s v change) = IsChecked p change
+IsCheckedCommand p _ = ⊤

@@ -1,0 +1,179 @@
+-- Kept pages: when no page that is kept is stale; when records stand for a book with pages and counts kept beside them;
+-- which page is found; how many bytes a page takes at most; which pages are let go where one that was lent has no room
+-- among the others; what an edit may change.
+use Rattle.std.specs.Prelude.{◌≡◌, ◌⊎◌, ℕ, ◌+◌, ◌*◌, Bool, true, false, ◌&&◌, ◌||◌, not, if◌then◌else◌, nat_le, min, List, [], ◌∷◌, length, find, filter, sum_by, All, Option, Some, None, IfSome, ⊤}
+use Rattle.std.specs.Option.{option_or}
+use Rattle.std.specs.Ordering.{match_ordering}
+use Rattle.fr_base.specs.Book.{Variant, Book}
+use Rattle.fr_base.specs.Keys.{owned}
+use Rattle.fr_base.specs.Names.{same_text}
+use Rattle.fr_base.specs.Tables.{get}
+use Rattle.fr_base.specs.declared.name.Name.{Name}
+use Rattle.fr_base.specs.declared.params.Params.{Params}
+use Rattle.fr_world.specs.BookEdits.{SparesOthers}
+use Rattle.fr_world.specs.Edits.{IsOf, edited, releases}
+use Rattle.fr_world.specs.Pages.{IsKept, PageData, own_rows_of}
+use Rattle.fr_world.specs.Held.{IsFresh, Standing}
+use Rattle.fr_office.specs.ImportCounts.{AreCounted}
+use Rattle.fr_office.specs.declared.import_counts.ImportCount.{ImportCount}
+use Rattle.fr_office.specs.declared.shelf.TheConstants.{FRAME_BYTES, GRANT_BYTES, MAX_BYTES, MOST_FRAMES, MOST_GRANTS, PAGE_BYTES}
+use Rattle.fr_world.specs.declared.edit.Edit.{Edit}
+use Rattle.fr_world.specs.declared.edit.Edit.TheVariants.{NewVariant, SetReleased, NewSupplier, NewNode, Rows, KeepImport}
+
+-- the page that is lent, which was used last; those that were used last before it, and those that were used last before them
+pub record KeptData : Type 0 where
+  pub lent : Option PageData
+  pub recent : List PageData
+  pub earlier : List PageData
+
+-- each page that is kept is such a one
+abbrev pub EachKept : (PageData → Type 0) → KeptData → Type 0
+EachKept P kept = IfSome kept.lent P × All P kept.recent × All P kept.earlier
+
+-- Each page has these parameters.
+abbrev pub AreOf : Params → KeptData → Type 0
+AreOf p kept = EachKept (λ page. page.params ≡ p) kept
+
+-- No page is stale.
+abbrev pub AreFresh : Params → Book → KeptData → Type 0
+AreFresh p b kept = EachKept (IsFresh p b) kept
+
+-- records, and beside them pages and counts of the imports that suppliers keep
+pub record WarmData (R : Type 0) : Type 0 where
+  pub records : R
+  pub pages : KeptData
+  pub counts : List ImportCount
+
+-- The records stand for the book, no page beside them is stale, and each count is right.
+abbrev pub StandsWarm : {R : Type 0} → (R → Standing) → WarmData R → Standing
+StandsWarm stands warm c b = stands warm.records c b × AreFresh c.params b warm.pages × AreCounted b warm.counts
+
+-- ---- pages by whose they are
+
+-- whether it is the supplier's page of the variant
+abbrev pub is_page_of : Name → Name → PageData → Bool
+is_page_of s v page = same_text page.supplier s && same_text page.variant v
+
+-- the supplier's page of the variant, where it is among them
+abbrev pub page_at : Name → Name → List PageData → Option PageData
+page_at s v pages = find (is_page_of s v) pages
+
+-- the pages of other suppliers or variants
+abbrev pub others_than : Name → Name → List PageData → List PageData
+others_than s v pages = filter (λ page. not (is_page_of s v page)) pages
+
+-- whose page it is
+abbrev pub whose : PageData → Name × Name
+whose page = (page.supplier, page.variant)
+
+-- the pages with this one among them, by whose they are, in place of its supplier's in its variant
+abbrev pub with_page : PageData → List PageData → List PageData
+with_page page [] = page ∷ []
+with_page page (other ∷ pages) = match_ordering (owned.compare (whose page) (whose other)) (page ∷ other ∷ pages) (page ∷ pages) (other ∷ with_page page pages)
+
+-- how many bytes a page takes at most; none has more frames and grants than are counted
+abbrev pub bytes_of : PageData → ℕ
+bytes_of page = PAGE_BYTES + min (length page.frames) MOST_FRAMES * FRAME_BYTES + min (length page.grants) MOST_GRANTS * GRANT_BYTES
+
+-- ---- pages that are kept
+
+-- the page that is lent, where it is the supplier's of the variant
+abbrev pub lent_at : Name → Name → Option PageData → Option PageData
+lent_at s v None = None
+lent_at s v (Some page) = if is_page_of s v page then Some page else None
+
+-- the supplier's page of the variant, where it is among those that are not lent
+abbrev pub shelved_at : Name → Name → KeptData → Option PageData
+shelved_at s v kept = option_or (page_at s v kept.recent) (page_at s v kept.earlier)
+
+-- the supplier's page of the variant, where it is kept
+abbrev pub kept_at : Name → Name → KeptData → Option PageData
+kept_at s v kept = option_or (lent_at s v kept.lent) (shelved_at s v kept)
+
+-- the pages that are not lent, of other suppliers or variants
+abbrev pub kept_without : Name → Name → KeptData → KeptData
+kept_without s v kept = record kept { recent = others_than s v kept.recent; earlier = others_than s v kept.earlier }
+
+-- Where so many bytes more are too many for the pages that were used last, these are those that were used before, and the others are let go.
+abbrev pub with_room : ℕ → KeptData → KeptData
+with_room bytes kept = if nat_le (sum_by bytes_of kept.recent + bytes) MAX_BYTES then kept else record kept { recent = []; earlier = kept.recent }
+
+-- the pages once none is lent
+abbrev pub none_lent : KeptData → KeptData
+none_lent kept = record kept { lent = None }
+
+-- the pages once the one that was lent is among those that were used before it, in place of its supplier's in its variant
+abbrev pub put_back : Option PageData → KeptData → KeptData
+put_back None kept = kept
+put_back (Some page) kept = let others = with_room (bytes_of page) kept in record others { recent = with_page page others.recent }
+
+abbrev pub put_away : KeptData → KeptData
+put_away kept = put_back kept.lent (none_lent kept)
+
+-- the pages once the one that was lent is given up where it has room
+abbrev pub given_back : Option PageData → KeptData → KeptData
+given_back None kept = kept
+given_back (Some page) kept = with_room (bytes_of page) kept
+
+abbrev pub given_up : KeptData → KeptData
+given_up kept = given_back kept.lent (none_lent kept)
+
+-- The pages once the supplier's page of the variant is lent: as they were, where it was lent before. Else it is no more among those that
+-- are not lent, and the one that was lent before is, or it is given up.
+abbrev pub TurnsFrom : Option PageData → KeptData → KeptData → KeptData → Type 0
+TurnsFrom (Some page) old others new = new ≡ old
+TurnsFrom None old others new = (none_lent new ≡ none_lent (put_away others)) ⊎ (none_lent new ≡ none_lent (given_up others))
+
+abbrev pub Turns : Name → Name → KeptData → KeptData → Type 0
+Turns s v old new = TurnsFrom (lent_at s v old.lent) old (kept_without s v old) new
+
+-- ---- edits
+
+-- whether the edit may change what the page has
+abbrev pub touches : Edit → PageData → Bool
+touches (NewVariant v parent depth) page = same_text page.variant v
+touches (SetReleased v) page = same_text page.variant v
+touches (NewSupplier s key) page = false
+touches (NewNode s n) page = same_text page.supplier s
+touches (Rows s v what) page = is_page_of s v page
+touches (KeepImport s label v body rows) page = false
+
+-- the pages that pass a test
+abbrev pub lent_where : (PageData → Bool) → Option PageData → Option PageData
+lent_where test None = None
+lent_where test (Some page) = if test page then Some page else None
+
+abbrev pub kept_where : (PageData → Bool) → KeptData → KeptData
+kept_where test kept = record { lent = lent_where test kept.lent; recent = filter test kept.recent; earlier = filter test kept.earlier }
+
+-- the pages that edits leave as they are, one after another
+abbrev pub untouched_by : List Edit → KeptData → KeptData
+untouched_by [] kept = kept
+untouched_by (edit ∷ edits) kept = untouched_by edits (kept_where (λ page. not (touches edit page)) kept)
+
+-- The page is the one before with the edit of its rows made in it.
+pub record IsAmended (page : PageData) (edit : Edit) (new : PageData) : Type 0 where
+  pub own : IsOf page.supplier page.variant edit
+  pub rows : own_rows_of new ≡ edited (own_rows_of page) edit
+  pub supplier : new.supplier ≡ page.supplier
+  pub variant : new.variant ≡ page.variant
+  pub released : new.released ≡ (releases edit || page.released)
+  pub kept : IsKept new
+
+-- The page that is lent is the one before: with the edit made in it, or as it was where the edit leaves it so. None is where none was, or
+-- where the edit may change it.
+abbrev pub Amends : Edit → Option PageData → Option PageData → Type 0
+Amends edit None None = ⊤
+Amends edit (Some page) None = touches edit page ≡ true
+Amends edit None (Some new) = ⊥
+Amends edit (Some page) (Some new) = IsAmended page edit new ⊎ ((touches edit page ≡ false) × (new ≡ page))
+
+-- So it is with the page that is lent, and the others are those that the edit leaves as they are.
+pub record AreFollowed (edit : Edit) (old new : KeptData) : Type 0 where
+  pub lent : Amends edit old.lent new.lent
+  pub others : none_lent new ≡ untouched_by (edit ∷ []) (none_lent old)
+
+-- The edit grants or ends nothing that a supplier other than its own holds.
+abbrev pub Spares : Book → Edit → Type 0
+Spares b (Rows s v what) = (x : Variant) → get b.variants v ≡ Some x → SparesOthers s x (Rows s v what)
+Spares b _ = ⊤

@@ -1,0 +1,100 @@
+//! How one request is answered: who asks, its check, and what is made of it.
+ghost use Rattle.std.specs.Prelude.{◌≡◌, IsTrue};
+ghost use Rattle.std.specs.List.{list_any};
+ghost use Rattle.fr_base.specs.Names.{same_text};
+ghost use Rattle.fr_base.specs.Step.{knows};
+ghost use Rattle.fr_office.specs.Answering.{Acts, AfterAct, AfterChange, Answers, HasPassed, LeavesAct, LeavesStep, is_known};
+
+use crate::commands::carry_out;
+use crate::imports::import;
+use crate::lender::Lender;
+use crate::queries::reply;
+use fr_base::{Actor, Answer, Ask, Checked, Config, Name, Refusal, Supplier, check};
+use fr_world::Records;
+use std::alloc::Global;
+
+/// Answers a request: `UnknownKey` where who asks is not there; then what the request's own text refuses;
+/// then it is carried out, or `Unavailable`.
+pub fn answer<R: Lender>(alloc: Global, records: &mut R, ask: &Ask) -> Answer
+    ensures falls { R.clean records.new → R.clean records.old }
+    ensures open { R.clean records.new → AfterChange (R.stands records.old) ask.now result (R.serves records.new) }
+    ensures leaves { R.clean records.new → LeavesStep (R.stands records.old) (R.leaves records.old) (R.leaves records.new) ask.now }
+    ensures answers { R.clean records.new → Answers (R.stands records.old) (R.stands records.new) ask.now result }
+{
+    let config = records.config();
+    if !is_known(config, &ask.actor) {
+        return Answer::Refused(Refusal::UnknownKey);
+    }
+    let params = config.params();
+    match check(&params, &ask.actor, &ask.request) {
+        Ok(valid) => match act(alloc, records, &ask.actor, &valid) {
+            Ok(answer) => answer,
+            Err(refusal) => Answer::Refused(refusal),
+        },
+        Err(refusal) => Answer::Refused(refusal),
+    }
+}
+
+/// What a request is answered while the records are not to be had: `UnknownKey` where who asks is not there; then what
+/// the request's own text refuses it for; else `Unavailable`.
+pub fn decline<R: Records>(records: &R, ask: &Ask) -> Answer
+    ensures refused { (refusal : Refusal) × (result ≡ Answer.Refused refusal) }
+    ensures answers { Answers (R.stands records.now) (R.stands records.now) ask.now result }
+{
+    let file = records.config();
+    if !is_known(file, &ask.actor) {
+        return Answer::Refused(Refusal::UnknownKey);
+    }
+    match check(&file.params(), &ask.actor, &ask.request) {
+        Ok(_valid) => Answer::Refused(Refusal::Unavailable),
+        Err(refusal) => Answer::Refused(refusal),
+    }
+}
+
+/// Whether who asks is there.
+pub(crate) fn is_known(config: &Config, actor: &Actor) -> bool
+    ensures { result ≡ is_known config.now actor.now }
+{
+    match actor {
+        Actor::Integrator => true,
+        Actor::Supplier(supplier) => has_supplier(config, *supplier),
+    }
+}
+
+/// Whether the supplier is there.
+pub(crate) fn has_supplier(config: &Config, supplier: Name) -> bool
+    ensures { result ≡ list_any (λ s. same_text supplier s.name) config.now.suppliers }
+{
+    is_named(config.suppliers(), supplier)
+}
+
+// Whether one of the suppliers has this name.
+fn is_named(suppliers: &[Supplier], name: Name) -> bool
+    ensures { result ≡ list_any (λ s. same_text name s.name) suppliers.now }
+{
+    suppliers.iter().any(|supplier| name == supplier.name)
+}
+
+// Carries out a request that was checked under the cluster's parameters, of an actor that is there.
+fn act<R: Lender>(
+    alloc: Global,
+    records: &mut R,
+    actor: &Actor,
+    valid: &Checked<'_>,
+) -> Result<Answer, Refusal>
+    requires passed { HasPassed (R.params records.old) actor.now valid.now }
+    requires known { (c : _) (b : _) → R.stands records.old c b → IsTrue (knows b actor.now) }
+    ensures falls { R.clean records.new → R.clean records.old }
+    ensures open { R.clean records.new → AfterAct (R.stands records.old) valid.now result (R.serves records.new) }
+    ensures leaves { R.clean records.new → LeavesAct (R.stands records.old) (R.leaves records.old) (R.leaves records.new) actor.now valid.now }
+    ensures acts { R.clean records.new → Acts (R.stands records.old) (R.stands records.new) result actor.now valid.now }
+{
+    match valid {
+        Checked::Command(command) => {
+            carry_out(alloc, records, command)?;
+            Ok(Answer::Done)
+        }
+        Checked::Import(new) => import(alloc, records, new),
+        Checked::Query(query) => reply(alloc, records, actor, query),
+    }
+}

@@ -1,0 +1,25 @@
+//! The integrator's command by which a supplier joins.
+ghost use Rattle.fr_base.specs.Step.{add_supplier};
+ghost use Rattle.fr_office.specs.Carried.{Does, MayLeave};
+ghost use Rattle.std.specs.Prelude.{OnOk};
+
+use fr_base::{Key, Name, Refusal};
+use fr_world::{Records, decide_supplier};
+use std::alloc::Global;
+
+/// The supplier is there from now on, with this key and without nodes. Else `Exists`, `KeyTaken`, `Limit`, the
+/// first that applies.
+pub(crate) fn add_supplier<R: Records>(
+    alloc: Global,
+    records: &mut R,
+    supplier: Name,
+    key: Key,
+) -> Result<(), Refusal>
+    ensures falls { R.clean records.new → R.clean records.old }
+    ensures open { R.clean records.new → OnOk result (R.serves records.new) }
+    ensures leaves { R.clean records.new → MayLeave (R.stands records.old) (R.leaves records.old) (R.leaves records.new) (λ c b. add_supplier c b supplier key) }
+    ensures does { R.clean records.new → Does (R.stands records.old) (R.stands records.new) result (λ c b. add_supplier c b supplier key) }
+{
+    let edit = decide_supplier(records.config(), supplier, key)?;
+    records.apply(alloc, &[edit])
+}

@@ -1,0 +1,110 @@
+//! Carries an import out, or answers it again.
+#![tactic(auto, using(fr_world::proofs::ReadLaws::reads_none, fr_world::proofs::ReadLaws::reads_then))]
+
+ghost use Rattle.std.specs.Prelude.{◌≡◌, IfSome, IsSome, OnOk, false};
+ghost use Rattle.fr_base.specs.Tables.{get};
+ghost use Rattle.fr_office.specs.Carried.{Replies};
+ghost use Rattle.fr_office.specs.Decided.{LeadsTo};
+ghost use Rattle.fr_office.specs.Imports.{AfterNew, GivesImport, GivesRows, LeavesImport, LeavesRows, OnImported, kept_edits};
+ghost use Rattle.fr_world.specs.ImportLabels.{label_decision};
+ghost use Rattle.fr_world.specs.Held.{Applies, LeavesEdited, Reads};
+
+use crate::lender::{Lender, open_page};
+use fr_base::{Answer, Body, Import, Refusal};
+use fr_text::read_import;
+use fr_world::{
+    Draft, Edit, Records, RowFault, admit_import, decide_label, decide_rows, rows_are_checked,
+};
+use std::alloc::Global;
+
+/// Carries out an import with checked names, of a supplier that is there. One that is kept under its
+/// label is answered as before. Of a new one the variant, the room for it and its rows are decided in
+/// turn, and it is kept with what its rows change.
+pub(crate) fn import<R: Lender>(
+    alloc: Global,
+    records: &mut R,
+    import: &Import<'_>,
+) -> Result<Answer, Refusal>
+    ensures falls { R.clean records.new → R.clean records.old }
+    ensures open { R.clean records.new → AfterNew (R.stands records.old) import.now result (R.serves records.new) }
+    ensures leaves { R.clean records.new → LeavesImport (R.stands records.old) (R.leaves records.old) (R.leaves records.new) import.now }
+    ensures gives { R.clean records.new → GivesImport (R.stands records.old) (R.stands records.new) result import.now }
+{
+    if let Some(rows) = rows_kept(alloc, records, import)? {
+        return Ok(Answer::Imported { rows });
+    }
+    let count = records.imports(alloc, import.supplier)?;
+    open_page(alloc, records, import.supplier, import.variant)?;
+    admit_import(import, count)?;
+    import_rows(alloc, records, import)
+}
+
+// How many rows the import has, where it is kept under its label.
+fn rows_kept<R: Records>(
+    alloc: Global,
+    records: &mut R,
+    import: &Import<'_>,
+) -> Result<Option<u32>, Refusal>
+    ensures reads { Reads R.clean R.params R.leaves records.old records.new }
+    ensures label { R.clean records.new → Replies (R.stands records.old) (R.stands records.new) result
+        (λ c b. label_decision (get b.imports (import.now.supplier, import.now.label)) import.now) }
+{
+    let kept = records.import(alloc, import.supplier, import.label)?;
+    decide_label(kept.as_ref(), import)
+}
+
+// Carries out the rows of the import's file, as they are decided on a copy of the page that is lent, and keeps it; or
+// tells the first row that is refused.
+fn import_rows<R: Lender>(
+    alloc: Global,
+    records: &mut R,
+    import: &Import<'_>,
+) -> Result<Answer, Refusal>
+    requires lent { IsSome (R.lent records.old) }
+    requires open { IfSome (R.lent records.old) (λ page. page.released ≡ false) }
+    ensures falls { R.clean records.new → R.clean records.old }
+    ensures open { R.clean records.new → OnImported result (R.serves records.new) }
+    ensures leaves { R.clean records.new → IfSome (R.lent records.old) (LeavesRows (R.stands records.old) (R.leaves records.old) (R.leaves records.new) import.now) }
+    ensures gives { R.clean records.new → IfSome (R.lent records.old) (GivesRows (R.stands records.old) (R.stands records.new) result import.now) }
+{
+    let page = records.lent();
+    let rows = read_import(alloc, &page.params(), import.body.as_slice())?;
+    rows_are_checked();
+    match decide_rows(alloc, page.clone()?, rows.as_slice()) {
+        Ok(draft) => {
+            // A file of which no row is refused has at most 512.
+            let count = rows.len() as u32;
+            keep(alloc, records, import, draft, count)?;
+            Ok(Answer::Imported { rows: count })
+        }
+        Err(RowFault::Row { line, refusal }) => Ok(Answer::RefusedRow { line, refusal }),
+        Err(RowFault::Unavailable) => Err(Refusal::Unavailable),
+    }
+}
+
+// Carries out the edits that led from the page that is lent to the draft's, and one more that keeps the import with this
+// count of rows. The draft's page is lent then.
+fn keep<R: Lender>(
+    alloc: Global,
+    records: &mut R,
+    import: &Import<'_>,
+    draft: Draft,
+    rows: u32,
+) -> Result<(), Refusal>
+    requires lent { IsSome (R.lent records.old) }
+    requires leads { IfSome (R.lent records.old) (λ page. LeadsTo page (kept_edits draft.edits.items import.now rows) draft.page) }
+    ensures falls { R.clean records.new → R.clean records.old }
+    ensures open { R.clean records.new → OnOk result (R.serves records.new) }
+    ensures leaves { R.clean records.new → LeavesEdited (R.stands records.old) (R.leaves records.old) (R.leaves records.new) (kept_edits draft.edits.items import.now rows) }
+    ensures applies { R.clean records.new → Applies (R.stands records.old) (R.stands records.new) result (kept_edits draft.edits.items import.now rows) }
+{
+    let Draft { page, mut edits } = draft;
+    edits.push(Edit::KeepImport {
+        supplier: import.supplier,
+        label: import.label,
+        variant: import.variant,
+        body: Body::copy(alloc, import.body.as_slice())?,
+        rows,
+    })?;
+    records.change_to(alloc, &edits, page)
+}

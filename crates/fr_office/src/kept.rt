@@ -1,0 +1,87 @@
+//! What is kept of a register in memory, and how it follows the register's edits.
+ghost use Rattle.std.specs.Prelude.{◌≡◌, [], None, Some, IfSome, IsSome};
+ghost use Rattle.fr_base.specs.Book.{Book};
+ghost use Rattle.fr_base.specs.Cluster.{Cluster};
+ghost use Rattle.fr_base.specs.declared.params.Params.{Params};
+ghost use Rattle.fr_office.specs.Decided.{LeadsTo, MayTake, TakesAll};
+ghost use Rattle.fr_office.specs.ImportCounts.{AreCounted};
+ghost use Rattle.fr_office.specs.KeptPages.{AreFollowed, AreFresh, AreOf, none_lent, untouched_by};
+ghost use Rattle.fr_world.specs.BookEdits.{all_applied, applied};
+ghost use Rattle.fr_world.specs.Fits.{AllFit, Fits};
+ghost use Rattle.fr_world.specs.Pages.{own_rows_of};
+
+use crate::import_counts::ImportCounts;
+use crate::pages::Pages;
+use fr_world::{Edit, Page};
+use std::alloc::Global;
+
+/// Pages of a register, and how many imports suppliers keep, as far as that is known.
+#[derive(Drop)]
+pub(crate) struct Kept {
+    pub(crate) pages: Pages,
+    pub(crate) counts: ImportCounts,
+}
+
+impl Kept {
+    /// No page, and of no supplier is the number known.
+    pub(crate) fn new(alloc: Global) -> Kept
+        ensures { result ≡ record { pages = record { lent = None; recent = []; earlier = [] }; counts = [] } }
+    {
+        Kept {
+            pages: Pages::new(alloc),
+            counts: ImportCounts::new(alloc),
+        }
+    }
+
+    /// Goes on to the register after edits. The page that is lent takes those of its rows, one after another; where memory
+    /// is refused it is let go, as other pages are that they may change.
+    pub(crate) fn follow(&mut self, alloc: Global, edits: &[Edit])
+        requires takes { IfSome self.old.pages.lent (λ page. TakesAll page edits.now) }
+        ensures others { none_lent self.new.pages ≡ untouched_by edits.now (none_lent self.old.pages) }
+        ensures params { (p : Params) → AreOf p self.old.pages → AreOf p self.new.pages }
+        ensures fresh { (c : Cluster) (b : Book) → AllFit c.params b edits.now → AreFresh c.params b self.old.pages → AreFresh c.params (all_applied b edits.now) self.new.pages }
+        ensures counted { (p : Params) (b : Book) → AllFit p b edits.now → AreCounted b self.old.counts → AreCounted (all_applied b edits.now) self.new.counts }
+    {
+        for edit in edits {
+            self.follow_one(alloc, edit);
+        }
+    }
+
+    /// Goes on to the register after edits that lead from the page that is lent to this one. It is lent then, and other
+    /// pages that they may change are let go.
+    pub(crate) fn follow_to(&mut self, alloc: Global, edits: &[Edit], page: Page)
+        requires lent { IsSome self.old.pages.lent }
+        requires leads { IfSome self.old.pages.lent (λ before. LeadsTo before edits.now page) }
+        ensures lent { self.new.pages.lent ≡ Some page }
+        ensures others { none_lent self.new.pages ≡ untouched_by edits.now (none_lent self.old.pages) }
+        ensures params { (p : Params) → AreOf p self.old.pages → AreOf p self.new.pages }
+        ensures fresh { (c : Cluster) (b : Book) → AllFit c.params b edits.now → AreFresh c.params b self.old.pages → AreFresh c.params (all_applied b edits.now) self.new.pages }
+        ensures counted { (p : Params) (b : Book) → AllFit p b edits.now → AreCounted b self.old.counts → AreCounted (all_applied b edits.now) self.new.counts }
+    {
+        // Gives the proof that the rows are a page's.
+        let _frames = page.frames();
+        self.pages.lend_read(None);
+        self.follow(alloc, edits);
+        self.pages.lend_read(Some(page));
+    }
+
+    // Goes on to the register after the edit.
+    fn follow_one(&mut self, alloc: Global, edit: &Edit)
+        requires takes { IfSome self.old.pages.lent (λ page. MayTake page.variant (own_rows_of page) edit.now) }
+        ensures pages { AreFollowed edit.now self.old.pages self.new.pages }
+        ensures counts { (p : Params) (b : Book) → Fits p b edit.now → AreCounted b self.old.counts → AreCounted (applied b edit.now) self.new.counts }
+    {
+        match edit {
+            Edit::NewVariant { variant, .. } => self.pages.let_go_of_variant(*variant),
+            Edit::SetReleased { variant } => self.pages.let_go_of_variant(*variant),
+            Edit::NewSupplier { .. } => {}
+            Edit::NewNode { supplier, .. } => self.pages.let_go_of_supplier(*supplier),
+            Edit::Rows {
+                supplier,
+                variant,
+                ..
+            } => self.pages.amend(alloc, *supplier, *variant, edit),
+            Edit::KeepImport { supplier, .. } => self.counts.add_one(*supplier),
+        }
+    }
+}

@@ -1,0 +1,77 @@
+//! Records that lend a supplier's page, so that it need not be read for each request. The page on which a supplier's rows
+//! change.
+#![tactic(auto, using(fr_world::proofs::ReadLaws::reads_none, fr_world::proofs::ReadLaws::reads_then))]
+
+ghost use Rattle.std.specs.Prelude.{◌≡◌, Option, Some, false, IfOk, IfSome, IsSome, OnOk, is_some};
+ghost use Rattle.fr_office.specs.Decided.{Opens};
+ghost use Rattle.fr_world.specs.Held.{Reads};
+
+use fr_base::{Name, Refusal};
+use fr_world::{Edit, Page, Records};
+use std::alloc::Global;
+
+/// Records that lend one page at a time. It stays with them, so that none is lost, whatever comes of the request.
+pub trait Lender: Records {
+    ghost use Rattle.fr_office.specs.Decided.{LeadsTo, TakesAll};
+    ghost use Rattle.fr_world.specs.Held.{Applies, LeavesEdited, Reads, Tells, page_of};
+    ghost use Rattle.fr_world.specs.Pages.{PageData};
+
+    /// The page that is lent, if one is.
+    ghost lent: { Self → Option PageData };
+
+    /// Lends the supplier's page of the variant in place of the one that was lent before, and says whether the variant
+    /// is there. Where it is not, no page is lent. A page has the cluster's parameters.
+    fn lend(&mut self, alloc: Global, supplier: Name, variant: Name) -> Result<bool, Refusal>
+        ensures reads { Reads Self.clean Self.params Self.leaves self.old self.new }
+        ensures there { IfOk result (λ there. there ≡ is_some (lent self.new)) }
+        ensures params { IfSome (lent self.new) (λ page. page.params ≡ Self.params self.old) }
+        ensures lends { Self.clean self.new → Tells (Self.stands self.old) (Self.stands self.new) result (λ c b _. lent self.new ≡ page_of c.params b supplier variant) };
+
+    /// The page that is lent.
+    fn lent(&self) -> &Page
+        requires { IsSome (lent self.now) }
+        ensures { lent self.now ≡ Some result.now };
+
+    /// Carries out the edits as `apply` does. The page that is lent takes them, one after another, but for those that
+    /// keep an import.
+    fn change(&mut self, alloc: Global, edits: &[Edit]) -> Result<(), Refusal>
+        requires takes { IfSome (lent self.old) (λ page. TakesAll page edits.now) }
+        ensures falls { Self.clean self.new → Self.clean self.old }
+        ensures same { Self.params self.new ≡ Self.params self.old }
+        ensures open { Self.clean self.new → OnOk result (Self.serves self.new) }
+        ensures leaves { Self.clean self.new → LeavesEdited (Self.stands self.old) (Self.leaves self.old) (Self.leaves self.new) edits.now }
+        ensures applies { Self.clean self.new → Applies (Self.stands self.old) (Self.stands self.new) result edits.now };
+
+    /// Carries out the edits as `apply` does. They lead from the page that is lent to this one, which is lent then: no
+    /// edit is made in a page once more.
+    fn change_to(&mut self, alloc: Global, edits: &[Edit], page: Page) -> Result<(), Refusal>
+        requires lent { IsSome (lent self.old) }
+        requires leads { IfSome (lent self.old) (λ before. LeadsTo before edits.now page) }
+        ensures falls { Self.clean self.new → Self.clean self.old }
+        ensures same { Self.params self.new ≡ Self.params self.old }
+        ensures open { Self.clean self.new → OnOk result (Self.serves self.new) }
+        ensures leaves { Self.clean self.new → LeavesEdited (Self.stands self.old) (Self.leaves self.old) (Self.leaves self.new) edits.now }
+        ensures applies { Self.clean self.new → Applies (Self.stands self.old) (Self.stands self.new) result edits.now };
+}
+
+/// Lends the supplier's page of the variant, where the variant is open. Else `NoVariant`, `Released`.
+pub(crate) fn open_page<R: Lender>(
+    alloc: Global,
+    records: &mut R,
+    supplier: Name,
+    variant: Name,
+) -> Result<(), Refusal>
+    ensures reads { Reads R.clean R.params R.leaves records.old records.new }
+    ensures lent { OnOk result (IsSome (R.lent records.new)) }
+    ensures open { OnOk result (IfSome (R.lent records.new) (λ page. page.released ≡ false)) }
+    ensures params { IfSome (R.lent records.new) (λ page. page.params ≡ R.params records.old) }
+    ensures page { R.clean records.new → Opens (R.stands records.old) (R.stands records.new) (R.lent records.new) result supplier variant }
+{
+    if !records.lend(alloc, supplier, variant)? {
+        return Err(Refusal::NoVariant);
+    }
+    if records.lent().released() {
+        return Err(Refusal::Released);
+    }
+    Ok(())
+}

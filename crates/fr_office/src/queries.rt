@@ -1,0 +1,231 @@
+//! Answers queries: by what the register holds, from one supplier's page, or gathered from all.
+#![tactic(auto, using(fr_world::proofs::ReadLaws::reads_none, fr_world::proofs::ReadLaws::reads_then))]
+
+ghost use Rattle.std.specs.Prelude.{◌≡◌, IsSome, Ok, OnOk};
+ghost use Rattle.fr_base.specs.Checks.{is_integrator};
+ghost use Rattle.fr_base.specs.Queries.{found, held, reply};
+ghost use Rattle.fr_base.specs.declared.actor.Actor.TheVariants.{Integrator, Supplier};
+ghost use Rattle.fr_base.specs.declared.query.Query.TheVariants.{Variant as OfVariant};
+ghost use Rattle.fr_office.specs.Carried.{Replies};
+ghost use Rattle.fr_office.specs.Shown.{FindsPage, ShowsAll, ShowsOwn};
+ghost use Rattle.fr_world.specs.Held.{Reads};
+
+mod cluster;
+mod frames;
+mod gaps;
+mod grants;
+mod layout;
+mod nodes;
+mod schedule;
+mod suppliers;
+
+use crate::lender::Lender;
+use crate::queries::cluster::cluster_rows;
+use crate::queries::frames::{gather_frames, push_frames};
+use crate::queries::gaps::{gather_gaps, push_gaps};
+use crate::queries::grants::{gather_grants, page_grants};
+use crate::queries::layout::{gather_signals, push_signals};
+use crate::queries::nodes::node_rows;
+use crate::queries::schedule::{gather_schedule, page_schedule};
+use crate::queries::suppliers::supplier_names;
+use fr_base::{Actor, Answer, Inventory, Name, Query, Refusal, Report, ReportRows, Rows};
+use fr_world::Page;
+use std::alloc::Global;
+
+/// The answer to a query with checked values: to a supplier of its own rows, to the integrator of those
+/// of all. `NoVariant`, for a layout then `NoFrame`, and `Unavailable` where memory is refused or the
+/// records are.
+pub(crate) fn reply<R: Lender>(
+    alloc: Global,
+    records: &mut R,
+    actor: &Actor,
+    query: &Query<Name>,
+) -> Result<Answer, Refusal>
+    ensures reads { Reads R.clean R.params R.leaves records.old records.new }
+    ensures replies { R.clean records.new → Replies (R.stands records.old) (R.stands records.new) result (λ c b. reply c.params b actor.now query.now) }
+{
+    let rows = find_rows(alloc, records, actor, query)?;
+    let all = is_integrator(actor);
+    Ok(Answer::Report { all, rows })
+}
+
+// Whether the integrator asks.
+fn is_integrator(actor: &Actor) -> bool
+    ensures { result ≡ is_integrator actor.now }
+{
+    matches!(actor, Actor::Integrator)
+}
+
+// The rows of the answer to a query.
+fn find_rows<R: Lender>(
+    alloc: Global,
+    records: &mut R,
+    actor: &Actor,
+    query: &Query<Name>,
+) -> Result<ReportRows, Refusal>
+    ensures reads { Reads R.clean R.params R.leaves records.old records.new }
+    ensures replies { R.clean records.new → Replies (R.stands records.old) (R.stands records.new) result (λ c b. found c.params b actor.now query.now) }
+{
+    match query {
+        Query::Register(inventory) => held(alloc, records, actor, *inventory),
+        Query::Variant { variant, report } => of_variant(alloc, records, actor, *variant, report),
+    }
+}
+
+// What the register holds, as the actor sees it.
+fn held<R: Lender>(
+    alloc: Global,
+    records: &mut R,
+    actor: &Actor,
+    inventory: Inventory,
+) -> Result<ReportRows, Refusal>
+    ensures reads { Reads R.clean R.params R.leaves records.old records.new }
+    ensures holds { R.clean records.new → Replies (R.stands records.old) (R.stands records.new) result (λ c b. Ok (held c.params b actor.now inventory)) }
+{
+    match inventory {
+        Inventory::Cluster => {
+            let rows = cluster_rows(alloc, records.config(), actor)?;
+            Ok(ReportRows::Cluster(rows))
+        }
+        Inventory::Variants => {
+            let rows = records.variants(alloc)?;
+            Ok(ReportRows::Variants(Rows::from(rows)))
+        }
+        Inventory::Nodes => {
+            let rows = node_rows(alloc, records, actor)?;
+            Ok(ReportRows::Nodes(rows))
+        }
+    }
+}
+
+// The rows of the variant's report, as the actor sees them.
+fn of_variant<R: Lender>(
+    alloc: Global,
+    records: &mut R,
+    actor: &Actor,
+    variant: Name,
+    report: &Report<Name>,
+) -> Result<ReportRows, Refusal>
+    ensures reads { Reads R.clean R.params R.leaves records.old records.new }
+    ensures replies { R.clean records.new → Replies (R.stands records.old) (R.stands records.new) result (λ c b. found c.params b actor.now (OfVariant variant report.now)) }
+{
+    match actor {
+        Actor::Supplier(supplier) => of_supplier(alloc, records, *supplier, variant, report),
+        Actor::Integrator => of_all(alloc, records, variant, report),
+    }
+}
+
+// The rows of the variant's report, as the integrator sees them.
+fn of_all<R: Lender>(
+    alloc: Global,
+    records: &mut R,
+    variant: Name,
+    report: &Report<Name>,
+) -> Result<ReportRows, Refusal>
+    ensures reads { Reads R.clean R.params R.leaves records.old records.new }
+    ensures replies { R.clean records.new → Replies (R.stands records.old) (R.stands records.new) result (λ c b. found c.params b Integrator (OfVariant variant report.now)) }
+{
+    if records.has_variant(variant)? {
+        show_all(alloc, records, variant, report)
+    } else {
+        Err(Refusal::NoVariant)
+    }
+}
+
+// What the report shows the integrator of the variant, which is there.
+fn show_all<R: Lender>(
+    alloc: Global,
+    records: &mut R,
+    variant: Name,
+    report: &Report<Name>,
+) -> Result<ReportRows, Refusal>
+    ensures reads { Reads R.clean R.params R.leaves records.old records.new }
+    ensures shows { R.clean records.new → ShowsAll (R.stands records.old) (R.stands records.new) variant report.now result }
+{
+    let params = records.config().params();
+    let suppliers = supplier_names(alloc, records.config())?;
+    match report {
+        Report::Grants => {
+            let rows = gather_grants(alloc, records, &suppliers, variant)?;
+            Ok(ReportRows::Grants(rows))
+        }
+        Report::Frames => {
+            let rows = gather_frames(alloc, records, &suppliers, variant)?;
+            Ok(ReportRows::Frames(rows))
+        }
+        Report::Schedule => {
+            let rows = gather_schedule(alloc, records, &params, &suppliers, variant)?;
+            Ok(ReportRows::Schedule(rows))
+        }
+        Report::Gaps => {
+            let rows = gather_gaps(alloc, records, &suppliers, variant)?;
+            Ok(ReportRows::Gaps(rows))
+        }
+        Report::Layout { frame } => {
+            match gather_signals(alloc, records, &suppliers, variant, *frame)? {
+                Some(rows) => Ok(ReportRows::Layout(rows)),
+                None => Err(Refusal::NoFrame),
+            }
+        }
+    }
+}
+
+// The rows of the variant's report, as the supplier sees them.
+fn of_supplier<R: Lender>(
+    alloc: Global,
+    records: &mut R,
+    supplier: Name,
+    variant: Name,
+    report: &Report<Name>,
+) -> Result<ReportRows, Refusal>
+    ensures reads { Reads R.clean R.params R.leaves records.old records.new }
+    ensures replies { R.clean records.new → Replies (R.stands records.old) (R.stands records.new) result (λ c b. found c.params b (Supplier supplier) (OfVariant variant report.now)) }
+{
+    find_page(alloc, records, supplier, variant)?;
+    show(alloc, records.lent(), report)
+}
+
+/// Lends the supplier's page of the variant; `NoVariant` where it is not there.
+pub(crate) fn find_page<R: Lender>(
+    alloc: Global,
+    records: &mut R,
+    supplier: Name,
+    variant: Name,
+) -> Result<(), Refusal>
+    ensures reads { Reads R.clean R.params R.leaves records.old records.new }
+    ensures lent { OnOk result (IsSome (R.lent records.new)) }
+    ensures page { R.clean records.new → FindsPage (R.stands records.old) (R.stands records.new) (R.lent records.new) result supplier variant }
+{
+    if records.lend(alloc, supplier, variant)? {
+        Ok(())
+    } else {
+        Err(Refusal::NoVariant)
+    }
+}
+
+// What the report shows the page's supplier.
+fn show(alloc: Global, page: &Page, report: &Report<Name>) -> Result<ReportRows, Refusal>
+    ensures { ShowsOwn page.now report.now result }
+{
+    match report {
+        Report::Grants => Ok(ReportRows::Grants(page_grants(alloc, page)?)),
+        Report::Frames => {
+            let mut rows = Rows::new(alloc);
+            push_frames(alloc, page, &mut rows)?;
+            Ok(ReportRows::Frames(rows))
+        }
+        Report::Schedule => Ok(ReportRows::Schedule(page_schedule(alloc, page)?)),
+        Report::Gaps => {
+            let mut rows = Rows::new(alloc);
+            push_gaps(page, &mut rows)?;
+            Ok(ReportRows::Gaps(rows))
+        }
+        Report::Layout { frame } => {
+            let mut rows = Rows::new(alloc);
+            if !push_signals(page, *frame, &mut rows)? {
+                return Err(Refusal::NoFrame);
+            }
+            Ok(ReportRows::Layout(rows))
+        }
+    }
+}

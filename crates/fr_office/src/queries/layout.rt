@@ -1,0 +1,57 @@
+//! The signals that a query of a frame's layout shows.
+#![tactic(auto, using(fr_world::proofs::ReadLaws::reads_none, fr_world::proofs::ReadLaws::reads_then))]
+
+ghost use Rattle.std.specs.Prelude.{◌≡◌, ◌==◌, ◌++◌, not, IfOk, OnOk};
+ghost use Rattle.fr_base.specs.Queries.{named, signals_of};
+ghost use Rattle.fr_base.specs.Tables.{len};
+ghost use Rattle.fr_office.specs.Shown.{AreSignals, Gathers};
+ghost use Rattle.fr_world.specs.Pages.{own_rows_of};
+ghost use Rattle.fr_world.specs.Held.{Reads};
+
+use crate::lender::Lender;
+use crate::queries::find_page;
+use fr_base::{Name, NoMemory, Refusal, Rows, SignalRow};
+use fr_world::{Page, push_signal_rows};
+use std::alloc::Global;
+
+/// Appends the signals of the page's frame of this name, by start, and says whether there is such a
+/// frame. Where memory is refused, some of them may have been appended.
+pub(crate) fn push_signals(
+    page: &Page,
+    name: Name,
+    rows: &mut Rows<SignalRow>,
+) -> Result<bool, NoMemory>
+    ensures rows { OnOk result (rows.new ≡ rows.old ++ signals_of (named name (own_rows_of page.now).frames)) }
+    ensures found { IfOk result (λ found. not found ≡ (len (named name (own_rows_of page.now).frames) == 0)) }
+{
+    match page.frames().get(&name) {
+        Some(frame) => {
+            push_signal_rows(page.supplier(), frame, rows)?;
+            Ok(true)
+        }
+        None => Ok(false),
+    }
+}
+
+/// The signals of these suppliers' frames of this name in the variant, one supplier's after another's;
+/// `None` where none of them has such a frame.
+pub(crate) fn gather_signals<R: Lender>(
+    alloc: Global,
+    records: &mut R,
+    suppliers: &[Name],
+    variant: Name,
+    name: Name,
+) -> Result<Option<Rows<SignalRow>>, Refusal>
+    ensures reads { Reads R.clean R.params R.leaves records.old records.new }
+    ensures gathers { R.clean records.new → Gathers (R.stands records.old) (R.stands records.new) result variant (λ p x found. AreSignals name suppliers.now x found) }
+{
+    let mut rows = Rows::new(alloc);
+    let mut found = false;
+    for supplier in suppliers {
+        find_page(alloc, records, *supplier, variant)?;
+        if push_signals(records.lent(), name, &mut rows)? {
+            found = true;
+        }
+    }
+    Ok(if found { Some(rows) } else { None })
+}

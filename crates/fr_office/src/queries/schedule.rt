@@ -1,0 +1,60 @@
+//! The schedule that a query shows.
+#![tactic(auto, using(fr_world::proofs::ReadLaws::reads_none, fr_world::proofs::ReadLaws::reads_then))]
+
+ghost use Rattle.std.specs.Prelude.{◌≡◌, IfOk};
+ghost use Rattle.fr_base.specs.Cells.{cluster_cells};
+ghost use Rattle.fr_office.specs.Shared.{placements_among};
+ghost use Rattle.fr_office.specs.Shown.{Gathers};
+ghost use Rattle.fr_base.specs.Queries.{sendings_of};
+ghost use Rattle.fr_world.specs.Pages.{own_rows_of};
+ghost use Rattle.fr_world.specs.Sendings.{sent_in};
+ghost use Rattle.fr_world.specs.Held.{Reads};
+
+use crate::lender::Lender;
+use crate::queries::find_page;
+use fr_base::{Name, NoMemory, Params, Refusal, Rows, Sending};
+use fr_world::{Page, Triggerings};
+use std::alloc::Global;
+
+/// Which of the page's frames is sent in which cycle, slot and channel: by cycle, slot and channel.
+pub(crate) fn page_schedule(alloc: Global, page: &Page) -> Result<Rows<Sending>, NoMemory>
+    ensures { IfOk result (λ rows. rows ≡ sendings_of page.now.params (own_rows_of page.now).frames) }
+{
+    let mut triggerings = Triggerings::new(alloc);
+    triggerings.push_page(page)?;
+    triggerings.schedule(alloc, &page.params())
+}
+
+/// Which of these suppliers' frames is sent in which cycle, slot and channel of the cluster in the
+/// variant: by cycle, slot and channel. Where several have a cell, the first one is sent.
+pub(crate) fn gather_schedule<R: Lender>(
+    alloc: Global,
+    records: &mut R,
+    params: &Params,
+    suppliers: &[Name],
+    variant: Name,
+) -> Result<Rows<Sending>, Refusal>
+    ensures reads { Reads R.clean R.params R.leaves records.old records.new }
+    ensures gathers { R.clean records.new → Gathers (R.stands records.old) (R.stands records.new) result variant (λ p x rows. rows ≡ sent_in (placements_among suppliers.now x) (cluster_cells params.now)) }
+{
+    let triggerings = gather_triggerings(alloc, records, suppliers, variant)?;
+    Ok(triggerings.schedule(alloc, params)?)
+}
+
+// The placements of these suppliers' frames, one supplier's after another's.
+fn gather_triggerings<R: Lender>(
+    alloc: Global,
+    records: &mut R,
+    suppliers: &[Name],
+    variant: Name,
+) -> Result<Triggerings, Refusal>
+    ensures reads { Reads R.clean R.params R.leaves records.old records.new }
+    ensures gathers { R.clean records.new → Gathers (R.stands records.old) (R.stands records.new) result variant (λ p x triggerings. triggerings ≡ placements_among suppliers.now x) }
+{
+    let mut triggerings = Triggerings::new(alloc);
+    for supplier in suppliers {
+        find_page(alloc, records, *supplier, variant)?;
+        triggerings.push_page(records.lent())?;
+    }
+    Ok(triggerings)
+}
