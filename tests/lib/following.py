@@ -14,7 +14,7 @@ from pathlib import Path
 from typing import NamedTuple
 
 from .program import TOP, program
-from .server import free_port
+from .server import TRIES, free_port
 
 PORT = "8080"
 SECONDS = 30
@@ -82,8 +82,17 @@ def blocks_left_out(page):
 
 
 def follow(page, there=()):
-    """Follows the page, in a folder where this is there. Gives it with what was printed, and its steps."""
-    port, steps = str(free_port()), []
+    """Follows the page, in a folder where this is there, and anew where a server's port was somebody else's. Gives it with what was printed, and its steps."""
+    for _ in range(TRIES):
+        text, steps = follow_on(str(free_port()), page, there)
+        if not any("CannotListen" in step.printed and "CannotListen" not in step.wanted for step in steps):
+            break
+    return text, steps
+
+
+def follow_on(port, page, there):
+    """Follows the page once, with this port in place of its own."""
+    steps = []
     with tempfile.TemporaryDirectory(prefix="slotplan-page-") as at:
         folder = Path(at) / "plan"
         folder.mkdir()
