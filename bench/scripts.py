@@ -2,12 +2,13 @@
 """Prints a script of many requests, the same one for the same arguments: scripts.py MIX [--lines N] [--suppliers S] [--seed X] [--cycles C]
 
 MIX is one of
-  plan      each command but add_supplier, as integrator and suppliers plan; few are refused
+  plan      each command but add_supplier and set_key, as integrator and suppliers plan; few are refused
   refused   requests that are refused, for nearly each reason that there is, over a small plan
-  queries   each query, on a small plan, of the integrator and of the suppliers
+  queries   each report, on a small plan, of the integrator and of the suppliers
   place     each request is a placement, on a variant that fills up
   imports   files of up to 20 rows, of placements or signals; some come again, some have a row that is refused
   joining   plan, refused and queries, while suppliers join until no more may
+  revising  exports, loads, rooms, replacements and changed keys, between steps of the plan
   all       plan, refused, queries and imports, mixed line by line
 """
 import argparse
@@ -24,6 +25,7 @@ DEPTH = 16
 PAYLOAD_BITS = 16 * 16
 HELD = ("cluster", "variants", "nodes")
 QUERIES = ("grants", "frames", "schedule", "gaps", "layout")
+EXPORTS = ("export_frames", "export_placements", "export_signals")
 
 
 def cluster_file(suppliers, cycles=None):
@@ -54,6 +56,7 @@ class Plan:
 
     def __init__(self, suppliers, seed, cycles):
         self.suppliers = suppliers
+        self.keys = {}  # of a supplier, its key, where it was changed
         self.cycles = cycles
         # A placement is in a quarter of all cycles at most, one that a row asks for in two or one.
         self.repetitions = [it for it in range(1, cycles + 1) if cycles % it == 0 and 4 * it >= cycles]
@@ -71,7 +74,7 @@ class Plan:
         self.nodes = []  # the lines by which a supplier that joined is given its nodes
 
     def line(self, actor, do, **fields):
-        key = "integrator1" if actor is None else key_of(actor)
+        key = "integrator1" if actor is None else self.keys.get(actor) or key_of(actor)
         return f"{key} {json.dumps({'do': do, **fields}, separators=(',', ':'))}"
 
     def opening(self, variants, frames):
@@ -165,6 +168,54 @@ class Plan:
         fields = dict(variant=variant, label=f"label{len(before)}", body="".join(f"{line}\n" for line in [header, *rows]))
         before.append(fields)
         return self.line(supplier, "import", **fields)
+
+    def a_replacement(self, variant, supplier):
+        """A file of some frames, each with some rows; now and then with a row at its end that is none, or is another supplier's."""
+        placements = "frame,node,slot,channels,base,repetition", self.revised_placement
+        header, row = self.dice.choice((("frame,node", self.frame_row), placements, placements, ("frame,signal,start,length,order", self.revised_signal)))
+        frames = self.dice.sample(self.frames[variant, supplier], min(len(self.frames[variant, supplier]), self.dice.choice((0, 1, 1, 2, 3))))
+        rows = [row(variant, supplier, *frame) if row != self.frame_row else row(variant, supplier) for frame in frames for _ in range(self.dice.choice((1, 1, 2, 3)))]
+        rows += self.dice.choice(([], [], [], [], ["frame0"], ["nothing,nothing"], [f"{'nothing,' * header.count(',')}0"]))
+        return self.line(supplier, "replace", variant=variant, body="".join(f"{line}\n" for line in [header, *rows]))
+
+    def revised_placement(self, variant, supplier, frame, node):
+        """In a slot of the frame's node, or now and then of another one."""
+        node = node if self.dice.random() < 0.97 else self.dice.randrange(NODES)
+        slot, channel = self.dice.choice(self.held[variant, supplier, node])
+        repetition = self.dice.choice((*self.repetitions, self.cycles, self.cycles))
+        return f"{frame},node{node},{slot},{channel},{self.dice.randrange(repetition)},{repetition}"
+
+    def revised_signal(self, variant, supplier, frame, _):
+        return f"{frame},signal{self.dice.randrange(1000)},{self.dice.randrange(PAYLOAD_BITS - 8)},{self.dice.randint(1, 8)},{self.dice.choice(('little', 'big'))}"
+
+    def changed_key(self):
+        """A key that nobody has, or one that is refused."""
+        supplier, number = self.dice.choice(self.suppliers), self.dice.randrange(1_000_000)
+        if self.dice.random() < 0.5:
+            self.keys[supplier] = f"newkey{number:06}of{supplier}"
+            return self.line(None, "set_key", supplier=supplier, key=self.keys[supplier])
+        there = self.dice.choice(self.suppliers)
+        changes = ({"key": self.keys.get(there) or key_of(there)}, {"key": "integrator1"}, {"key": "short"}, {"supplier": "1s"}, {"supplier": "nobody"})
+        return self.line(None, "set_key", **{"supplier": supplier, "key": f"newkey{number:06}", **self.dice.choice(changes)})
+
+    def revising(self):
+        """An export, a load, a room, a replacement or another key; else a step of the plan, or a report."""
+        kind, variant, supplier = self.dice.random(), self.dice.choice(self.variants), self.dice.choice(self.suppliers)
+        actor = self.dice.choice((None, supplier, supplier))
+        if kind < 0.2:
+            return self.line(actor, self.dice.choice(EXPORTS), variant=self.dice.choice((variant, *self.released[-1:])), part=self.dice.choice((0, 0, 0, 0, 1, 7)))
+        if kind < 0.22:
+            return self.line(actor, "load", variant=variant)
+        if kind < 0.25:
+            return self.changed_key()
+        frames = self.frames.get((variant, supplier))
+        if kind < 0.35 and frames:
+            frame, _ = self.dice.choice((*frames, ("nothing", 0)))
+            repetition = self.dice.choice((*self.repetitions, 1, 2, 3, self.cycles))
+            return self.line(supplier if self.dice.random() < 0.95 else None, "room", variant=variant, frame=frame, repetition=repetition)
+        if kind < 0.65 and frames and all(self.held.get((variant, supplier, node)) for node in range(NODES)):
+            return self.a_replacement(variant, supplier)
+        return self.query() if kind < 0.7 else self.plan()
 
     def taken(self, rows, key):
         """One of these rows, which then is among them no more; None where there is none."""
@@ -283,7 +334,7 @@ class Plan:
 def script(mix, lines, suppliers, seed, cycles=None):
     names = [f"s{n}" for n in range(suppliers)]
     plan = Plan(list(names), seed, cycles or 64)
-    variants, frames = {"plan": (4, 4), "place": (1, 60), "joining": (4, 4), "all": (4, 4)}.get(mix, (1, 4))
+    variants, frames = {"plan": (4, 4), "place": (1, 60), "joining": (4, 4), "revising": (3, 4), "all": (4, 4)}.get(mix, (1, 4))
     opening = list(plan.opening(variants, frames))
     if mix == "queries":
         opening += [asked("v0", name) for name in names for asked in (plan.place, plan.add_signal)]
@@ -294,6 +345,7 @@ def script(mix, lines, suppliers, seed, cycles=None):
         "place": [lambda: plan.place("v0", plan.dice.choice(names))],
         "imports": [lambda: plan.an_import("v0", plan.dice.choice(names))],
         "joining": [plan.joining, plan.joining, plan.plan, plan.refused, plan.query],
+        "revising": [plan.revising],
         "all": [plan.plan, plan.plan, plan.plan, plan.refused, plan.query, plan.some_import],
     }[mix]
     more = (plan.dice.choice(kinds)() for _ in range(max(0, lines - len(opening))))
@@ -302,7 +354,7 @@ def script(mix, lines, suppliers, seed, cycles=None):
 
 def main():
     words = argparse.ArgumentParser(description=__doc__, formatter_class=argparse.RawDescriptionHelpFormatter)
-    words.add_argument("mix", choices=("plan", "refused", "queries", "place", "imports", "joining", "all"))
+    words.add_argument("mix", choices=("plan", "refused", "queries", "place", "imports", "joining", "revising", "all"))
     words.add_argument("--lines", type=int, default=10_000)
     words.add_argument("--suppliers", type=int, default=8, choices=range(1, 65), metavar="1..64")
     words.add_argument("--seed", type=int, default=1)

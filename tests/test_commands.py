@@ -40,6 +40,7 @@ def over(db):
     yield from (["layout", db, "v1", "f1"], ["schedule", db, "v1", "--supplier", "s1"], ["ask", db])
     yield from ([report, db, *more] for report in ("cluster", "variants", "nodes") for more in ([], ["--supplier", "s1"]))
     yield from (["picture", db, "v1"], ["picture", db, "v1", "--supplier", "s1"])
+    yield from (["export", db, "v1", "frames"], ["load", db, "v1"], ["room", db, "v1", "f1", "4", "--supplier", "s1"])
 
 
 def of_supplier(supplier):
@@ -84,7 +85,7 @@ class Opening(RegisterCase):
     """Each command that opens a file says which fault it has, and makes none where none is."""
 
     def is_refused(self, db, word):
-        for words in *over(db), ["serve", db, "1024"], ["import", db, "supplier01", "v1", "a", "cluster.toml"]:
+        for words in *over(db), ["serve", db, "1024"], ["import", db, "supplier01", "v1", "a", "cluster.toml"], ["replace", db, "supplier01", "v1", "cluster.toml"]:
             self.fault(words, word)
 
     def test_no_file(self):

@@ -12,7 +12,7 @@ from tests.lib.starts import Start, StartCase, answered, faulty
 
 COUNTS = range(8, 65, 2)
 PAIRED = (12, 48, 60, 64)
-MIXES = {"all": 700, "place": 700, "imports": 400}
+MIXES = {"all": 700, "place": 700, "imports": 400, "revising": 400}
 SLOTS = 16
 OPENED = [('integrator1 {"do":"open_variant","variant":"v1"}', DONE)]
 KEY, IN_V1 = "supplier01", dict(variant="v1")
@@ -75,6 +75,15 @@ TEN = [
     (place("g", 2, 9, 10), DONE),
     told("schedule", "09 0002 A g n1"),
     told("gaps", "GAP   never f", "GAP    1000 g"),
+    told("load", *(f"{slot:04} {channel} {'01' if (slot, channel) == (2, 'A') else '00'} 10 n1" for slot in range(1, 5) for channel in "AB")),
+    (
+        request(KEY, "room", **IN_V1, frame="f", repetition=5),
+        '{"lines":["0001 A 05 00 01 02 03 04","0001 AB 05 00 01 02 03 04","0001 B 05 00 01 02 03 04","0002 A 05 00 01 02 03","0002 AB 05 00 01 02 03",'
+        '"0002 B 05 00 01 02 03 04","0003 A 05 00 01 02 03 04","0003 AB 05 00 01 02 03 04","0003 B 05 00 01 02 03 04","0004 A 05 00 01 02 03 04",'
+        '"0004 AB 05 00 01 02 03 04","0004 B 05 00 01 02 03 04"],"ok":"room"}',
+    ),
+    (request(KEY, "room", **IN_V1, frame="f", repetition=4), BAD_CYCLES),
+    (request(KEY, "room", **IN_V1, frame="f", repetition=64), BAD_CYCLES),
 ]
 FORTY_EIGHT = [
     (place("f", 1, 47, 48), DONE),
@@ -153,18 +162,26 @@ def planned(count):
         body = f"frame,node,slot,channels,base,repetition\n{row}" + (f"{frame},n1,1,A,0,{count - 1}\n" if at % 4 == 3 else "")
         yield request(KEY, "import", **IN_V1, label=f"l{at}", body=body)
     yield from queries("v1")
+    yield from rooms("v1", count)
     yield request("integrator1", "release", **IN_V1)
     yield request("integrator1", "open_variant", variant="v2", **{"from": "v1"})
     for frame, fields in drawn[:10]:
         yield request(KEY, "unplace", variant="v2", frame=frame, **fields)
         yield request(KEY, "place", variant="v2", frame="g", **fields)
     yield from queries("v2")
+    yield from rooms("v2", count)
 
 
 def queries(variant):
     for who in KEY, "supplier02", "integrator1":
-        for query in "grants", "frames", "schedule", "gaps":
+        for query in "grants", "frames", "schedule", "gaps", "load":
             yield request(who, query, variant=variant)
+        yield request(who, "export_placements", variant=variant, part=0)
+
+
+def rooms(variant, count):
+    for repetition in range(count + 2):
+        yield request(KEY, "room", variant=variant, frame=f"f{repetition % 30}", repetition=repetition)
 
 
 class Repetitions(StartCase):

@@ -94,8 +94,8 @@ class OpenApi(Case):
         self.paths, self.schemas = api(self)["paths"], api(self)["components"]["schemas"]
 
     def test_routes(self):
-        told = set(re.findall(r"`(GET|POST) (/v1/\S+)`", HTTP))
-        found = {(method.upper(), path) for path, route in self.paths.items() for method in route if method in ("get", "post")}
+        told = set(re.findall(r"`(GET|POST|PUT) (/v1/\S+)`", HTTP))
+        found = {(method.upper(), path) for path, route in self.paths.items() for method in methods(route)}
         self.see("routes", told, found)
 
     def test_requests(self):
@@ -128,10 +128,10 @@ class OpenApi(Case):
         status = {schema["properties"]["no"]["const"]: schema["x-status"] for schema in self.schemas.values() if "x-status" in schema}
         every = set(status.values())
         for path, route in self.paths.items():
-            post = "post" in route
-            told = {int(it) for it in route["post" if post else "get"]["responses"]}
-            meets = every if path == "/v1/commands" else {status[n] for n in [2, 28, *(route["post" if post else "get"]["x-refusals"])]}
-            self.see(f"{path}: statuses", meets | {200, 400, 405, 431, 501} | ({411, 413} if post else set()), told)
+            for method in methods(route):
+                told = {int(it) for it in route[method]["responses"]}
+                meets = every if path == "/v1/commands" else {status[n] for n in [2, 28, *(route[method]["x-refusals"])]}
+                self.see(f"{method} {path}: statuses", meets | {200, 400, 405, 431, 501} | (set() if method == "get" else {411, 413}), told)
 
     def test_valid(self):
         """It is valid OpenAPI 3.1."""
@@ -143,21 +143,26 @@ class OpenApi(Case):
 # ---- the file against a server
 
 
+def methods(route):
+    """The methods of a path; each but `get` has a body."""
+    return [method for method in route if method in ("get", "post", "put")]
+
+
 def examples(paths):
     """Each example: its name, method, path, key and body, and the status and bytes that answer it."""
     for path, route in paths.items():
-        for method in route.keys() & {"get", "post"}:
+        for method in methods(route):
             answers = {}
             for status, response in route[method]["responses"].items():
                 for content in response.get("content", {}).values():
                     for name, example in content.get("examples", {}).items():
                         answers[name] = int(status), example
             asked = answers
-            if method == "post":
+            if method != "get":
                 [content] = route[method]["requestBody"]["content"].values()
                 asked = {name: (0, example) for name, example in content["examples"].items()}
             for name, (_, example) in asked.items():
-                body = example["value"] if method == "post" else None
+                body = None if method == "get" else example["value"]
                 status, answer = answers[name][0], answers[name][1]["value"]
                 yield name, method.upper(), example.get("x-path", path), example["x-key"], body, status, answer
 

@@ -14,7 +14,7 @@ from typing import NamedTuple
 
 from tests.lib import messages, naive, schema1
 from tests.lib.case import Case, for_each
-from tests.lib.messages import DONE, FIGURE_LINES, UNKNOWN, command, engine, head, post, refused, text
+from tests.lib.messages import DONE, FIGURE_LINES, UNKNOWN, command, csv, engine, head, post, put, refused, text
 from tests.lib.picture import compare
 from tests.lib.preload import Refuser, calls_from
 from tests.lib.program import SECONDS, TOP, ran
@@ -97,6 +97,10 @@ class Script:
     ("import_comes_again", "tests/rows/import_comes_again"),
     ("import_files", "tests/rows/import_files"),
     ("release_and_open", "tests/rows/release_and_open"),
+    ("rows_as_files", "tests/rows/rows_as_files"),
+    ("a_revised_file", "tests/rows/a_revised_file"),
+    ("room_and_load", "tests/rows/room_and_load"),
+    ("keys_changed", "tests/rows/keys_changed"),
 ])
 class Scripts(RefusedCase):
     """A script's run that is refused memory answers one request Unavailable, none that is refused by its text, or ends with a word behind right lines.
@@ -170,13 +174,17 @@ class FileCase(RefusedCase, RegisterCase):
 
 FRAMES = head("GET", "/v1/variants/v1/frames", "integrator1")
 UNAVAILABLE_REPLY = messages.json(UNAVAILABLE, "503 Service Unavailable")
-DONE_REPLY, IMPORTED_REPLY = (messages.json(answer) for answer in (DONE, b'{"ok":"imported","rows":2}'))
+IMPORTED, REPLACED = b'{"ok":"imported","rows":2}', b'{"ok":"replaced","rows":2}'
+CHANGES = DONE_REPLY, IMPORTED_REPLY, REPLACED_REPLY = [messages.json(answer) for answer in (DONE, IMPORTED, REPLACED)]
+PLACED, SIGNALS = b"frame,node,slot,channels,base,repetition\nf1,n1,1,A,0,64\n", b"frame,signal,start,length,order,supplier\nf1,speed,0,8,little,s1\n"
+LOAD, ROOM = b"0001 A 01 64 n1\n0002 A 00 64 n1\n", b"0001 A 02 01\n0002 A 02 00 01\n"
 
 OF_INTEGRATOR = {
     "open_variant": b'{"do":"open_variant","variant":"v2"}',
     "open_variant_from": b'{"do":"open_variant","variant":"v2","from":"v0"}',
     "release": b'{"do":"release","variant":"v1"}',
     "add_supplier": b'{"do":"add_supplier","supplier":"s3","key":"supplier03"}',
+    "set_key": b'{"do":"set_key","supplier":"s2","key":"supplier09"}',
     "add_node": b'{"do":"add_node","supplier":"s2","node":"n2"}',
     "grant": b'{"do":"grant","variant":"v1","slot":3,"channel":"B","supplier":"s1","node":"n1"}',
     "revoke": b'{"do":"revoke","variant":"v1","slot":2,"channel":"A","supplier":"s1"}',
@@ -197,6 +205,7 @@ def asked():
         for name, line in lines.items():
             yield name, command(key, line), DONE_REPLY
     yield "import", post("/v1/variants/v1/imports/week1", "supplier01", ROWS), IMPORTED_REPLY
+    yield "replace", put("/v1/variants/v1/rows", "supplier01", ROWS), REPLACED_REPLY
     yield "cluster", head("GET", "/v1/cluster", "supplier01"), text(FIGURE_LINES + b"supplier s1\n")
     yield "variants", head("GET", "/v1/variants", "supplier01"), text(b"v0 - 1 released\nv1 - 1 open\n")
     yield "nodes", head("GET", "/v1/nodes", "supplier01"), text(b"n1\n")
@@ -208,6 +217,10 @@ def asked():
     yield "schedule_of_all", head("GET", f"{variant}/schedule", "integrator1"), text(b"00 0001 A f1 n1 s1\n")
     yield "gaps", head("GET", f"{variant}/gaps", "supplier01"), text(b"GAP    6400 f1\n")
     yield "layout", head("GET", f"{variant}/frames/f1/layout", "supplier01"), text(b"0000 08 little speed\n")
+    yield "load", head("GET", f"{variant}/load", "supplier01"), text(LOAD)
+    yield "room", head("GET", f"{variant}/frames/f1/room/2", "supplier01"), text(ROOM)
+    yield "export", head("GET", f"{variant}/exports/placements/0", "supplier01"), csv(PLACED)
+    yield "export_of_all", head("GET", f"{variant}/exports/signals/0", "integrator1"), csv(SIGNALS)
     yield "query_in_JSON", command("supplier01", b'{"do":"schedule","variant":"v1"}'), messages.json(b'{"lines":["00 0001 A f1 n1"],"ok":"schedule"}')
     yield "refused_one", command("supplier01", BASE[6][1]), messages.json(refused(19, "Exists"), "409 Conflict")
     yield "of_nobody", head("GET", f"{variant}/frames", "nobody123"), UNKNOWN
@@ -232,7 +245,7 @@ class Requests(FileCase):
         before = rows_in(self.car), shown
         reply, ended, after = self.serve(data)
         self.see("it", (right, (0, b""), True), (reply, ended, after[0][0]))
-        self.see("whether it changes the rows", right in (DONE_REPLY, IMPORTED_REPLY), after[0] != before[0])
+        self.see("whether it changes the rows", right in CHANGES, after[0] != before[0])
         states = {right: [after], UNAVAILABLE_REPLY: [before], b"": [before, after]}
         for what, (reply, ended, found) in self.each_refused(lambda more: self.serve(data, more), (right, (0, b""), after), behind=True):
             said = b"" if reply else NO_MEMORY
@@ -257,7 +270,7 @@ class CommandCase(FileCase):
         before = rows_in(self.car)
         ended, after = self.perform(words)
         self.see("it", ((0, right, b""), True), (ended, after[0]))
-        self.see("whether it changes the rows", words[0] == "import", after != before)
+        self.see("whether it changes the rows", words[0] in ("import", "replace"), after != before)
         lacks, fails, is_refused = (1, b"", NO_MEMORY), (1, b"", NOT_MADE), (1, b"", UNAVAILABLE + b"\n")
         wanted = {(0, right, b""): [after], lacks: [before, after], fails: [before], is_refused: [before]}
         for what, (ended, rows) in self.each_refused(lambda more: self.perform(words, more), ((0, right, b""), after)):
@@ -285,7 +298,11 @@ PLAN = {
     ("cluster", ["cluster", "car.db"], FIGURE_LINES + b"supplier s1\nsupplier s2\n"),
     ("variants", ["variants", "car.db"], b"v0 - 1 released\nv1 - 1 open\n"),
     ("nodes", ["nodes", "car.db"], b"n1 s1\n"),
-    ("import", ["import", "car.db", "supplier01", "v1", "week1", "rows.csv"], b'{"ok":"imported","rows":2}\n'),
+    ("load", ["load", "car.db", "v1", "--supplier", "s1"], LOAD),
+    ("room", ["room", "car.db", "v1", "f1", "2", "--supplier", "s1"], ROOM),
+    ("export", ["export", "car.db", "v1", "signals"], SIGNALS),
+    ("import", ["import", "car.db", "supplier01", "v1", "week1", "rows.csv"], IMPORTED + b"\n"),
+    ("replace", ["replace", "car.db", "supplier01", "v1", "rows.csv"], REPLACED + b"\n"),
 ])
 class Commands(CommandCase):
     """A command that is refused memory prints the right text, or ends with a word or the refusal Unavailable and leaves the rows as before or after it."""
@@ -355,6 +372,8 @@ def asked_states(before):
         states[0, b"".join(answers), b""] = [rows_behind(before, LINES[:at] + LINES[at + 1 :])]
         written = b"".join(other.answer for other in LINES[:at])
         states[1, written, NO_MEMORY] = [rows_behind(before, LINES[:at]), rows_behind(before, LINES[: at + 1])]
+        if at:
+            states[1, written, NOT_MADE] = states[1, written, NO_MEMORY]
     return states
 
 

@@ -8,8 +8,8 @@ from tests.lib.program import ran
 from tests.lib.registers import RegisterCase
 
 REQUESTS = (
-    "open_variant, release, add_supplier, add_node, grant, revoke, add_frame, drop_frame, place, unplace, add_signal, drop_signal, import, cluster, "
-    "variants, nodes, grants, frames, schedule, gaps, layout"
+    "open_variant, release, add_supplier, set_key, add_node, grant, revoke, add_frame, drop_frame, place, unplace, add_signal, drop_signal, import, replace, "
+    "cluster, variants, nodes, grants, frames, schedule, gaps, load, layout, room, export_frames, export_placements, export_signals"
 )
 NAME = "a name is 1 to 32 ASCII letters, digits and underscores, a letter first"
 NUMBER = "it may be a whole number from 0 to 4294967295, without quotes"
@@ -55,7 +55,17 @@ LINES = [
         'supplier01 {"do":"place","variant":"v1","frame":"f1","slot":1.0,"channels":"A","base":-1,"repetition":4294967296}',
         [f'field "slot" is 1.0, {NUMBER}', f'field "base" is -1, {NUMBER}', f'field "repetition" is 4294967296, {NUMBER}'],
     ),
+    ('supplier01 {"do":"export_frames","variant":"v1","part":"0"}', [f'field "part" is the text "0", {NUMBER}']),
+    ('supplier01 {"do":"load","variant":"v1","part":0}', ['field "part" is none of load: variant']),
+    ('supplier01 {"do":"room","variant":"v1","frame":"f 1"}', ['field "repetition" of room is missing']),
+    ('supplier01 {"do":"room","variant":"v1","frame":"f 1","repetition":4}', [f'field "frame" is "f 1", {NAME}']),
+    ('supplier01 {"do":"replace","variant":"v1","label":"a","body":""}', ['field "label" is none of replace: variant, body']),
+    ('supplier01 {"do":"replace","variant":"1v","body":""}', [f'field "variant" is "1v", {NAME}']),
+    ('integrator1 {"do":"set_key","supplier":"s1","key":"short"}', ['field "key" is no key, which is 8 to 64 ASCII letters and digits']),
     # These have their form, though the register refuses them.
+    ('supplier01 {"do":"replace","variant":"v1","body":"f1"}', []),
+    ('supplier01 {"do":"room","variant":"v9","frame":"f9","repetition":3}', []),
+    ('integrator1 {"do":"set_key","supplier":"s9","key":"supplier01"}', []),
     ('supplier01 {"do":"place","variant":"v1","frame":"f1","slot":9,"channels":"C","base":9,"repetition":3}', []),
     ('supplier01 {"do":"drop_frame","variant":"v9","frame":"f9"}', []),
 ]

@@ -160,15 +160,43 @@ def gaps():
         yield f"GAP {max(after - moment for moment, after in zip(moments, nexts)):7} {name}"
 
 
+def load():
+    """The first half of the slots is full."""
+    return [f"{slot:04} {channel} {CYCLES if slot <= SLOTS // 2 + 1 else 0:02} {CYCLES} {node}" for slot, channel, node in GRANT]
+
+
+def room(frame):
+    """Where a frame can be sent once in all cycles that lacks the last of its placements: in that slot, and in its node's in the other half."""
+    last = slots_of(frame)[-1]
+    for slot in range(last, SLOTS + 1, NODES):
+        bases = range(base_of(frame), CYCLES, 4) if slot == last else range(CYCLES)
+        yield from (" ".join([f"{slot:04} {channels} {CYCLES}", *(f"{base:02}" for base in bases)]) for channels in ("A", "AB", "B"))
+
+
+def placement_rows():
+    for frame in range(FRAMES):
+        yield from (f"{FRAME[frame]},{node_of(frame)},{slot},AB,{base_of(frame)},4" for slot in slots_of(frame))
+
+
+def exported(key, variant, behind):
+    """Each part of the placements has as many as may be, of 64 frames; and the one behind them."""
+    end = behind.replace(" ", ",")
+    rows = [f"{row}{end}" for row in placement_rows()]
+    for part in range(len(rows) // IMPORT_ROWS + 1):
+        header = PLACEMENTS_FILE.strip() + (",supplier" if end else "")
+        yield told(key, "export_placements", [header, *rows[IMPORT_ROWS * part :][:IMPORT_ROWS]], variant=variant, part=part)
+
+
 def queries(key, variant, behind):
     """Each query of a variant in which s1 is at the limits; `behind` follows each line but those of placements."""
     grants = (f"{slot:04} {channel} {node}" for slot, channel, node in GRANT)
-    reports = [("grants", {}, grants), ("frames", {}, frames()), ("schedule", {}, schedule()), ("gaps", {}, gaps())]
+    reports = [("grants", {}, grants), ("frames", {}, frames()), ("schedule", {}, schedule()), ("gaps", {}, gaps()), ("load", {}, load())]
     for frame, order, signals in SIGNAL:
         rows = [f"{start:04} {length:02} {order} {signal}" for signal, start, length in signals]
         reports.append(("layout", dict(frame=frame), rows))
     for name, fields, rows in reports:
         yield told(key, name, [row if row.startswith("AT") else row + behind for row in rows], variant=variant, **fields)
+    yield from exported(key, variant, behind)
 
 
 def at_the_limits():
@@ -197,6 +225,7 @@ def at_the_limits():
     ninth = dict(**in_v1, frame=FRAME[0], channels="A", base=0, repetition=64)
     yield limit(key, "place", **ninth, slot=NODES * (PLACEMENTS + 1))
     yield request(key, "place", **ninth, slot=1), refused(21, "NotGranted")
+    yield limit(key, "room", **in_v1, frame=FRAME[0], repetition=CYCLES)
 
     for frame, order, signals in SIGNAL:
         for signal, start, length in signals:
@@ -217,7 +246,12 @@ def at_the_limits():
     yield from queries(key, deepest, "")
     again = dict(variant=deepest, **placements_of(FRAMES - 1)[-1])
     yield done(key, "unplace", **again)
+    yield told(key, "room", list(room(FRAMES - 1)), variant=deepest, frame=FRAME[-1], repetition=CYCLES)
     yield done(key, "place", **again)
+    for part in range(FRAMES * PLACEMENTS // IMPORT_ROWS):
+        body = PLACEMENTS_FILE + "".join(f"{row}\n" for row in list(placement_rows())[IMPORT_ROWS * part :][:IMPORT_ROWS])
+        yield request(key, "replace", variant=deepest, body=body), f'{{"ok":"replaced","rows":{IMPORT_ROWS}}}'
+    yield from exported(key, deepest, "")
     yield done(integrator, "release", variant=deepest)
     yield request(integrator, "open_variant", variant="more", **{"from": deepest}), refused(13, "TooDeep")
     for n in range(DEPTH + 1, VARIANTS + 1):
@@ -259,6 +293,12 @@ def suppliers_that_join():
     yield request(integrator, "add_supplier", **{**more, "supplier": "s7"}), refused(19, "Exists")
     yield request(integrator, "add_supplier", **{**more, "key": "short"}), refused(30, "BadKey")
     yield request("suppliermore", "frames", **in_v1), refused(2, "UnknownKey")
+    yield done(integrator, "set_key", supplier="s7", key="suppliermore")
+    yield request("supplier07", "frames", **in_v1), refused(2, "UnknownKey")
+    yield told("suppliermore", "frames", [], **in_v1)
+    yield request(integrator, "set_key", supplier="s7", key="supplier64"), refused(31, "KeyTaken")
+    yield request(integrator, "set_key", supplier="more", key="supplier07"), refused(14, "NoSupplier")
+    yield done(integrator, "set_key", supplier="s7", key="supplier07")
     there = sorted(f"supplier s{n}" for n in range(1, SUPPLIERS + 1))
     yield told(integrator, "cluster", [*figures(CLUSTER), *there])
     yield told("supplier64", "cluster", [*figures(CLUSTER), "supplier s64"])

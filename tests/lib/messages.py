@@ -34,6 +34,10 @@ def post(path, key, body, *fields):
     return head("POST", path, key, f"Content-Length: {len(body)}", *fields) + body
 
 
+def put(path, key, body, *fields):
+    return head("PUT", path, key, f"Content-Length: {len(body)}", *fields) + body
+
+
 def command(key, text, *fields):
     return post("/v1/commands", key, text, *fields)
 
@@ -49,6 +53,10 @@ def json(body, status="200 OK", *fields):
 
 def text(body):
     return reply("200 OK", "text/plain; charset=us-ascii", body)
+
+
+def csv(body):
+    return reply("200 OK", "text/csv; charset=utf-8", body)
 
 
 def html(body):

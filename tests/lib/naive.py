@@ -11,24 +11,29 @@ import sqlite3
 import sys
 import tomllib
 from bisect import insort
+from collections import Counter
 
 CYCLES = 64  # where the cluster file says nothing else
 NAME = re.compile(r"[A-Za-z][A-Za-z0-9_]{0,31}", re.ASCII)
 KEY = re.compile(r"[A-Za-z0-9]{8,64}", re.ASCII)
 WHOLE = re.compile(rb"[0-9]{1,10}")
-NUMBERS = {"slot", "base", "repetition", "start", "length"}
+NUMBERS = {"slot", "base", "repetition", "start", "length", "part"}
 PLACE = ("variant", "frame", "slot", "channels", "base", "repetition")
 FIELDS = {
-    "open_variant": ("variant", "from"), "release": ("variant",), "add_supplier": ("supplier", "key"), "add_node": ("supplier", "node"),
+    "open_variant": ("variant", "from"), "release": ("variant",), "add_supplier": ("supplier", "key"),
+    "set_key": ("supplier", "key"), "add_node": ("supplier", "node"),
     "grant": ("variant", "slot", "channel", "supplier", "node"), "revoke": ("variant", "slot", "channel", "supplier"),
     "add_frame": ("variant", "frame", "node"), "drop_frame": ("variant", "frame"), "place": PLACE, "unplace": PLACE,
     "add_signal": ("variant", "frame", "signal", "start", "length", "order"), "drop_signal": ("variant", "frame", "signal"),
-    "import": ("variant", "label", "body"), "cluster": (), "variants": (), "nodes": (), "grants": ("variant",), "frames": ("variant",),
-    "schedule": ("variant",), "gaps": ("variant",), "layout": ("variant", "frame"),
+    "import": ("variant", "label", "body"), "replace": ("variant", "body"), "cluster": (), "variants": (), "nodes": (), "grants": ("variant",),
+    "frames": ("variant",), "schedule": ("variant",), "gaps": ("variant",), "layout": ("variant", "frame"), "load": ("variant",),
+    "export_frames": ("variant", "part"), "export_placements": ("variant", "part"), "export_signals": ("variant", "part"),
+    "room": ("variant", "frame", "repetition"),
 }
 HELD = {"cluster", "variants", "nodes"}
-QUERIES = HELD | {"grants", "frames", "schedule", "gaps", "layout"}
-INTEGRATORS = {"open_variant", "release", "add_supplier", "add_node", "grant", "revoke"}
+BOTH = HELD | {"grants", "frames", "schedule", "gaps", "layout", "load", "export_frames", "export_placements", "export_signals"}
+QUERIES = BOTH | {"room"}
+INTEGRATORS = {"open_variant", "release", "add_supplier", "set_key", "add_node", "grant", "revoke"}
 NUMBER_OF = {
     "BadText": 1, "UnknownKey": 2, "NotYours": 3, "BadName": 4, "BadCycles": 5, "BadSlot": 6, "BadChannel": 7, "BadSignal": 8,
     "LabelUsed": 9, "NoVariant": 10, "Released": 11, "NotReleased": 12, "TooDeep": 13, "NoSupplier": 14, "NoNode": 15,
@@ -36,6 +41,8 @@ NUMBER_OF = {
     "Limit": 23, "Taken": 24, "CellTaken": 25, "OutOfPayload": 26, "BitTaken": 27, "BadRow": 29, "BadKey": 30, "KeyTaken": 31,
 }
 LENGTHS = ("slot_macroticks", "dynamic_macroticks", "symbol_macroticks", "idle_macroticks", "macroticks_per_cycle")
+# So many rows a file has at most, and so many records a part of an export.
+ROWS = 512
 COUNTS = {"static_slots", "payload_words", *LENGTHS}
 FIGURES = ("channels", "static_slots", *LENGTHS, "payload_words", "cycles")
 KEYS = COUNTS | {"channels", "integrator", "suppliers"}
@@ -157,7 +164,7 @@ class Register:
     # ---- what the request itself refuses
 
     def check(self, actor, do, asked):
-        if do not in QUERIES:
+        if do not in BOTH:
             see((actor is None) == (do in INTEGRATORS), "NotYours")
         texts = ("variant", "from", "supplier", "node", "frame", "signal", "label")
         see(all(NAME.fullmatch(asked[field]) for field in texts if asked.get(field) is not None), "BadName")
@@ -167,8 +174,8 @@ class Register:
             see(1 <= asked["length"] <= 64 and asked["order"] in ("little", "big"), "BadSignal")
 
     def check_place(self, asked):
-        if "base" in asked:
-            see(0 < asked["repetition"] and self.cycles % asked["repetition"] == 0 and asked["base"] < asked["repetition"], "BadCycles")
+        if "repetition" in asked:
+            see(0 < asked["repetition"] and self.cycles % asked["repetition"] == 0 and asked.get("base", 0) < asked["repetition"], "BadCycles")
         if "slot" in asked:
             see(1 <= asked["slot"] <= self.cluster["static_slots"], "BadSlot")
             channels = asked.get("channels", asked.get("channel"))
@@ -211,10 +218,19 @@ class Register:
     def add_supplier(self, _, asked):
         supplier, key = asked["supplier"], asked["key"]
         see(supplier not in self.suppliers, "Exists")
-        see(key != self.cluster["integrator"] and key not in self.keys, "KeyTaken")
+        self.see_new_key(key)
         see(len(self.suppliers) < 64, "Limit")
         insort(self.suppliers, supplier)
         self.keys[key] = supplier
+
+    def see_new_key(self, key):
+        see(key != self.cluster["integrator"] and key not in self.keys, "KeyTaken")
+
+    def set_key(self, _, asked):
+        supplier, key = asked["supplier"], asked["key"]
+        see(supplier in self.suppliers, "NoSupplier")
+        self.see_new_key(key)
+        self.keys = {**{old: of for old, of in self.keys.items() if of != supplier}, key: supplier}
 
     def see_node(self, supplier, node):
         see(self.one("SELECT 1 FROM nodes WHERE supplier = ? AND name = ?", supplier, node), "NoNode")
@@ -328,7 +344,7 @@ class Register:
         )
         see(gone.rowcount == 1, "NoSignal")
 
-    # ---- imports
+    # ---- imports and replacements
 
     def import_rows(self, supplier, asked):
         variant, label, body = asked["variant"], asked["label"], asked["body"].encode()
@@ -339,28 +355,61 @@ class Register:
         self.open_row(variant)
         see(len(body) <= 65_536 and self.count("imports", "supplier = ?", supplier) < 1000, "Limit")
         self.db.execute("BEGIN")
+        rows, wrong = self.read_rows(body)
+        refused = self.refused_row(rows, wrong, lambda row: self.act_row(supplier, variant, *row))
+        if refused:
+            return refused
+        self.rows("INSERT INTO imports VALUES (?, ?, ?, ?, ?)", supplier, label, variant, body, len(rows))
+        self.db.execute("COMMIT")
+        return {"ok": "imported", "rows": len(rows)}
+
+    def replace(self, supplier, asked):
+        variant, body = asked["variant"], asked["body"].encode()
+        self.open_row(variant)
+        see(len(body) <= 65_536, "Limit")
+        self.db.execute("BEGIN")
+        rows, wrong = self.read_rows(body)
+        for kind, frame in {(kind, row["frame"]) for _, (kind, row) in rows if kind != "frames"}:
+            self.rows(f"DELETE FROM {kind} WHERE variant = ? AND supplier = ? AND frame = ?", variant, supplier, frame)
+        refused = self.refused_row(rows, wrong, lambda row: self.put_row(supplier, variant, *row))
+        if refused:
+            return refused
+        self.db.execute("COMMIT")
+        return {"ok": "replaced", "rows": len(rows)}
+
+    def refused_row(self, rows, wrong, act):
+        """Acts on each row, and tells the first that is refused, by what it acts on or, behind all, by its own text. Then nothing is changed."""
         line = 1
         try:
-            for line, row in self.read_rows(body):
-                self.act_row(supplier, variant, *row)
+            for line, row in rows:
+                act(row)
+            if wrong:
+                line, refused = wrong
+                raise refused
         except Refused as refused:
             self.db.execute("ROLLBACK")
-            return {"line": self.line, "no": 29, "refused": "BadRow", "row": refused.answer}
-        self.rows("INSERT INTO imports VALUES (?, ?, ?, ?, ?)", supplier, label, variant, body, line - 1)
-        self.db.execute("COMMIT")
-        return {"ok": "imported", "rows": line - 1}
+            return {"line": line, "no": 29, "refused": "BadRow", "row": refused.answer}
 
     def read_rows(self, body):
-        """The rows of a file, each with its line; `line` is that of the row that is read."""
-        self.line = 1
+        """The rows of a file, each with its line, up to the first that its own text refuses, and the line and the refusal of that one."""
+        rows, self.line = [], 1
+        try:
+            for row in self.each_row(body):
+                rows.append((self.line, row))
+        except Refused as refused:
+            return rows, (self.line, refused)
+        return rows, None
+
+    def each_row(self, body):
+        """The rows of a file; `line` is that of the row that is read."""
         text = body.removeprefix(b"\xef\xbb\xbf").decode("latin-1")
         records = (record for record in csv.reader(io.StringIO(text, newline="")) if record)
         header = next(records, None)
         shapes = {tuple(FIELDS_OF_ROW[kind]): kind for kind in FIELDS_OF_ROW}
         see(header is not None and tuple(header) in shapes, "BadText")
         for self.line, record in enumerate(records, 2):
-            see(self.line < 514, "Limit")
-            yield self.line, (shapes[tuple(header)], self.read_row(header, record))
+            see(self.line < ROWS + 2, "Limit")
+            yield shapes[tuple(header)], self.read_row(header, record)
 
     def read_row(self, header, record):
         see(len(record) == len(header), "BadText")
@@ -386,13 +435,24 @@ class Register:
         if kind == "frames":
             self.add_frame(supplier, asked)
             return
-        frame, node = asked["frame"], asked["node"]
+        self.put_frame(supplier, asked)
+        self.put_placement(supplier, asked, asked["node"])
+
+    def put_frame(self, supplier, asked):
+        """A frame that is there has to be of this node; else it is added."""
+        variant, frame, node = asked["variant"], asked["frame"], asked["node"]
         self.see_node(supplier, node)
         there = self.node_of(variant, supplier, frame)
         see(there is None or there == node, "NodeDiffers")
         if there is None:
             self.new_frame(variant, supplier, frame, node)
-        self.put_placement(supplier, asked, node)
+
+    def put_row(self, supplier, variant, kind, asked):
+        """A row of a replacement, behind which nothing is left of what it takes the place of."""
+        if kind == "frames":
+            self.put_frame(supplier, {**asked, "variant": variant})
+        else:
+            self.act_row(supplier, variant, kind, asked)
 
     # ---- queries
 
@@ -422,11 +482,13 @@ class Register:
         for supplier, end in self.of(actor):
             for frame, node in self.rows("SELECT name, node FROM frames WHERE variant = ? AND supplier = ? ORDER BY name", variant, supplier):
                 yield f"FRAME {frame} {node}{end}"
-                for slot, channels, base, repetition in sorted(self.placements(variant, supplier, frame), key=lambda p: (p[0], ("A", "AB", "B").index(p[1]), *p[2:])):
+                for slot, channels, base, repetition in self.placements(variant, supplier, frame):
                     yield f"AT {slot:04} {channels} {base:02} {repetition:02}"
 
     def placements(self, variant, supplier, frame):
-        return self.rows("SELECT slot, channels, base, repetition FROM placements WHERE variant = ? AND supplier = ? AND frame = ?", variant, supplier, frame)
+        """Those of a frame by slot, channels (A, AB, B), base and repetition."""
+        of = "SELECT slot, channels, base, repetition FROM placements WHERE variant = ? AND supplier = ? AND frame = ?"
+        return sorted(self.rows(of, variant, supplier, frame), key=lambda it: (it[0], ("A", "AB", "B").index(it[1]), *it[2:]))
 
     def schedule(self, actor, variant):
         lines = []
@@ -450,15 +512,88 @@ class Register:
                 gap = max((after - moment for moment, after in zip(moments, moments[1:] + [moments[0] + ring])), default="never") if moments else "never"
                 yield f"GAP {gap:>7} {frame}{end}"
 
+    def signals(self, variant, supplier, frame):
+        """Those of a frame by start."""
+        of = "SELECT start, length, big, name FROM signals WHERE variant = ? AND supplier = ? AND frame = ? ORDER BY start"
+        return [(start, length, ("little", "big")[big], name) for start, length, big, name in self.rows(of, variant, supplier, frame)]
+
     def layout(self, actor, variant, frame):
         found, lines = False, []
         for supplier, end in self.of(actor):
             if self.node_of(variant, supplier, frame) is not None:
                 found = True
-                signals = self.rows("SELECT start, length, big, name FROM signals WHERE variant = ? AND supplier = ? AND frame = ? ORDER BY start", variant, supplier, frame)
-                lines += [f"{start:04} {length:02} {'big' if big else 'little'} {name}{end}" for start, length, big, name in signals]
+                lines += [f"{start:04} {length:02} {order} {name}{end}" for start, length, order, name in self.signals(variant, supplier, frame)]
         see(found, "NoFrame")
         return lines
+
+    def load(self, actor, variant):
+        """For each lane how many cycles of it are used; for a supplier for each lane that it holds."""
+        used = Counter()
+        for supplier, _ in self.of(actor):
+            placed = self.rows("SELECT slot, channels, base, repetition FROM placements WHERE variant = ? AND supplier = ?", variant, supplier)
+            for slot, channels, base, repetition in placed:
+                used.update({(slot, channel): len(range(base, self.cycles, repetition)) for channel in channels})
+        grants = self.rows("SELECT slot, channel, supplier, node FROM grants WHERE variant = ?", variant)
+        held = {(slot, channel): holder for slot, channel, *holder in grants}
+        for slot in range(1, self.cluster["static_slots"] + 1):
+            for channel in self.cluster["channels"]:
+                supplier, node = held.get((slot, channel), ("-", "-"))
+                line = f"{slot:04} {channel} {used[slot, channel]:02} {self.cycles:02} {node}"
+                if actor is None:
+                    yield f"{line} {supplier}"
+                elif actor == supplier:
+                    yield line
+
+    def room(self, supplier, variant, frame, repetition):
+        """Where the frame can still be placed: each base of which no cell is filled, in the lanes of its node."""
+        node = self.see_frame(supplier, {"variant": variant, "frame": frame})
+        see(len(self.placements(variant, supplier, frame)) < 8, "Limit")
+        free = {
+            (slot, channel): set(range(self.cycles))
+            for slot, channel in self.rows("SELECT slot, channel FROM grants WHERE variant = ? AND supplier = ? AND node = ?", variant, supplier, node)
+        }
+        placed = self.rows("SELECT slot, channels, base, repetition FROM placements WHERE variant = ? AND supplier = ?", variant, supplier)
+        for slot, channels, base, every in placed:
+            for channel in channels:
+                free.get((slot, channel), set()).difference_update(range(base, self.cycles, every))
+        for slot in sorted({slot for slot, _ in free}):
+            for channels in "A", "AB", "B":
+                cycles = set.intersection(*(free.get((slot, channel), set()) for channel in channels))
+                bases = [base for base in range(repetition) if cycles.issuperset(range(base, self.cycles, repetition))]
+                if bases:
+                    yield " ".join([f"{slot:04} {channels} {repetition:02}", *(f"{base:02}" for base in bases)])
+
+    # ---- exports
+
+    def records(self, kind, variant, supplier):
+        """For each frame of the supplier its records of this kind."""
+        for frame, node in self.rows("SELECT name, node FROM frames WHERE variant = ? AND supplier = ? ORDER BY name", variant, supplier):
+            if kind == "frames":
+                yield [(frame, node)]
+            elif kind == "placements":
+                yield [(frame, node, *placement) for placement in self.placements(variant, supplier, frame)]
+            else:
+                yield [(frame, name, start, length, order) for start, length, order, name in self.signals(variant, supplier, frame)]
+
+    def export(self, kind, actor, variant, part):
+        """The header, and the records of this part: it takes whole frames, as many as give at most so many records."""
+        parts = [[]]
+        for supplier, _ in self.of(actor):
+            for records in self.records(kind, variant, supplier):
+                if len(parts[-1]) + len(records) > ROWS:
+                    parts.append([])
+                parts[-1] += [(*record, supplier) for record in records]
+        fields = [(*FIELDS_OF_ROW[kind], "supplier"), *(parts[part] if part < len(parts) else [])]
+        return [",".join(map(str, record if actor is None else record[:-1])) for record in fields]
+
+    def export_frames(self, actor, variant, part):
+        return self.export("frames", actor, variant, part)
+
+    def export_placements(self, actor, variant, part):
+        return self.export("placements", actor, variant, part)
+
+    def export_signals(self, actor, variant, part):
+        return self.export("signals", actor, variant, part)
 
     # ---- one line
 
@@ -475,8 +610,8 @@ class Register:
         if do in QUERIES:
             see(self.one("SELECT 1 FROM variants WHERE name = ?", asked["variant"]), "NoVariant")
             return {"lines": list(getattr(self, do)(actor, **asked)), "ok": do}
-        if do == "import":
-            return self.import_rows(actor, asked)
+        if do in ("import", "replace"):
+            return (self.import_rows if do == "import" else self.replace)(actor, asked)
         getattr(self, do)(actor, asked)
         return {"ok": "done"}
 

@@ -119,7 +119,7 @@ def filled(path, rows, cluster=CLUSTER, pragmas=(), more=()):
             conn.execute(statement)
         conn.execute("INSERT INTO register (schema) VALUES (1)")
         conn.execute(f"INSERT INTO cluster VALUES ({','.join('?' * 10)})", cluster_row(cluster))
-        conn.executemany("INSERT INTO suppliers VALUES (?, ?)", suppliers_of(cluster))
+        conn.executemany("INSERT INTO suppliers VALUES (?, ?)", rows.get("suppliers", suppliers_of(cluster)))
         for table in OF_THE_BOOK:
             if rows.get(table):
                 of_table = list(rows[table])

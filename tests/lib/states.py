@@ -1,4 +1,4 @@
-"""A register that gets nine requests, one after another: what is replied to each, which rows are in the file after so many, and folders with the files of
+"""A register that gets eleven requests, one after another: what is replied to each, which rows are in the file after so many, and folders with the files of
 registers after none, five or all of them. What becomes of a register in a file is told by after how many it stands."""
 import shutil
 import socket
@@ -11,7 +11,7 @@ from typing import NamedTuple
 from . import schema1
 from .case import Case, folder_in_memory
 from .made import CLUSTER as KEYS
-from .messages import CLUSTER, DONE, command, json, post, refused
+from .messages import CLUSTER, DONE, command, json, post, put, refused
 from .program import ran
 from .server import HERE, listens_on, started
 
@@ -50,7 +50,9 @@ def lined(request):
 EXISTS = json(refused(19, "Exists"), "409 Conflict")
 RELEASED = json(refused(11, "Released"), "409 Conflict")
 NO_FRAME = json(refused(16, "NoFrame"), "404 Not Found")
-IMPORTED = json(b'{"ok":"imported","rows":1}')
+KEY_TAKEN = json(refused(31, "KeyTaken"), "409 Conflict")
+IMPORTED, REPLACED = (json(b'{"ok":"%s","rows":1}' % word) for word in (b"imported", b"replaced"))
+REVISION = b"frame,signal,start,length,order\nf1,y,15,8,big\n"
 
 REQUESTS = [
     order("integrator1", b'{"do":"open_variant","variant":"v1"}', EXISTS, ("variants", ("v1", None, 1, 0, 0))),
@@ -69,6 +71,21 @@ REQUESTS = [
         IMPORTED,
         [("signals", ("v1", "s1", "f1", "x", 0, 8, 0)), ("imports", ("s1", "a", "v1", BODY, 1))],
         line=rb'supplier01 {"do":"import","variant":"v1","label":"a","body":"\ufeffframe,signal,start,length,order\r\n\"f1\",\"x\",0,8,little\r\n"}' + b"\n",
+    ),
+    Request(
+        put("/v1/variants/v1/rows", "supplier01", REVISION),
+        REPLACED,
+        REPLACED,
+        [("signals", ("v1", "s1", "f1", "y", 15, 8, 1))],
+        takes=[("signals", ("v1", "s1", "f1", "x", 0, 8, 0))],
+        line=rb'supplier01 {"do":"replace","variant":"v1","body":"frame,signal,start,length,order\nf1,y,15,8,big\n"}' + b"\n",
+    ),
+    order(
+        "integrator1",
+        b'{"do":"set_key","supplier":"s2","key":"supplier09"}',
+        KEY_TAKEN,
+        ("suppliers", ("s2", "supplier09")),
+        takes=[("suppliers", ("s2", "supplier02"))],
     ),
     order(
         "integrator1", b'{"do":"release","variant":"v1"}', RELEASED, ("variants", ("v1", None, 1, 1, 0)), takes=[("variants", ("v1", None, 1, 0, 0))]

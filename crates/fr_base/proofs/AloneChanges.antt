@@ -34,7 +34,7 @@ use Rattle.fr_base.proofs.AloneRows.{rows_of-variant, rows_of-supplier, own_rows
 -- ---- what refuses a change of a frame, where all suppliers' rows are shared and where the supplier's own are
 
 -- what is granted by the supplier's own grants is granted
-own-granted : (grants : Table channel_slots Holder) (t s n : Name) (q : Placement) → IsTrue (granted (own_grants t grants) s n q) → IsTrue (granted grants s n q)
+pub own-granted : (grants : Table channel_slots Holder) (t s n : Name) (q : Placement) → IsTrue (granted (own_grants t grants) s n q) → IsTrue (granted grants s n q)
 unfolding granted
 own-granted grants t s n q =
     all_more _ _ (channels_in q.channels) (λ c h.
@@ -42,7 +42,7 @@ own-granted grants t s n q =
     let found = holder-is s n (get (own_grants t grants) key) h in
     ap (held_by_node s n) (only-stood channel_slots (λ _ h. held_by t (Some h)) grants key _ found ∙ sym found) ∙ h)
 
-both_or : {A B E : Type 0} (o : Option A) (e : E) (f g : A → Result B E) → ((x : A) → f x ≡ g x) → ((o or e) >>= f) ≡ ((o or e) >>= g)
+pub both_or : {A B E : Type 0} (o : Option A) (e : E) (f g : A → Result B E) → ((x : A) → f x ≡ g x) → ((o or e) >>= f) ≡ ((o or e) >>= g)
 unfolding ◌or◌ ◌>>=◌
 both_or None e f g k = refl
 both_or (Some x) e f g k = k x

@@ -25,8 +25,9 @@ use Rattle.fr_base.specs.declared.request.Change.TheVariants as change
 use Rattle.fr_base.specs.declared.request.FrameChange.{FrameChange}
 use Rattle.fr_base.specs.declared.request.Checked.{Checked}
 use Rattle.fr_base.specs.declared.request.Checked.TheVariants as checked
-use Rattle.fr_base.proofs.SoundRefusing.{gives_or, gives_bind, gives_each, gives_unless}
+use Rattle.fr_base.proofs.SoundRefusing.{gives_or, gives_bind, gives_each, gives_when, gives_unless}
 use Rattle.fr_base.proofs.AloneJoining.{others_refuse}
+use Rattle.fr_base.proofs.AloneKeys.{another_refuses}
 use Rattle.fr_base.proofs.AloneCommands.{names, of_frame, holder_in, against}
 
 -- whether a request is the supplier's: its own, or the integrator's that is common or names it
@@ -39,6 +40,7 @@ abbrev pub refused_beside : Name → Book → Actor → Request → Result ⊤ R
 refused_beside s b (Supplier t) request = Ok tt
 refused_beside s b Integrator (request.Grant v number text t n) = refuse Taken when is_another s (holder_at b v number text)
 refused_beside s b Integrator (request.AddSupplier t key) = others_refuse s b key
+refused_beside s b Integrator (request.SetKey t key) = another_refuses s b key
 refused_beside s b Integrator request = Ok tt
 
 -- a checked command says of suppliers what the request says, and changes a frame only where a supplier asks
@@ -47,10 +49,11 @@ pub record SaysAlike (actor : Actor) (request : Request) (command : Command) : T
   pub against : (s : Name) (b : Book) → against s b command ≡ refused_beside s b actor request
   pub frames : of_frame command ≡ true → is_integrator actor ≡ false
 
--- an import is of the supplier that asks; and no query of the integrator's concerns a supplier
+-- an import or a replacement is of the supplier that asks; and no query of the integrator's concerns a supplier
 abbrev pub Says : Actor → Request → Checked → Type 0
 Says actor request (checked.Command command) = SaysAlike actor request command
 Says actor request (checked.Import i) = actor ≡ Supplier i.supplier
+Says actor request (checked.Replace r) = actor ≡ Supplier r.supplier
 Says actor request (checked.Query query) = is_integrator actor ≡ true → (s : Name) → concerns s request ≡ false
 
 by_integrator : (actor : Actor) (request : Request) (command : Command) → is_integrator actor ≡ true →
@@ -67,11 +70,11 @@ unfolding asking
 asking-is Integrator = tt
 asking-is (Supplier t) = refl
 
-name-is : (text : List ℕ) → IfOk (name text) (λ v. v ≡ text)
+pub name-is : (text : List ℕ) → IfOk (name text) (λ v. v ≡ text)
 unfolding name
 name-is text = elim (cases_Bool (is_name text)) [ inl h ↦ rw h refl | inr h ↦ rw h tt ]
 
-key-is : (text : List ℕ) → IfOk (key text) (λ k. k ≡ text)
+pub key-is : (text : List ℕ) → IfOk (key text) (λ k. k ≡ text)
 unfolding key
 key-is text = elim (cases_Bool (is_key text)) [ inl h ↦ rw h refl | inr h ↦ rw h tt ]
 
@@ -104,6 +107,11 @@ check-says p actor (request.AddSupplier supplier text) =
     gives_bind _ _ (name supplier) _ (name-is supplier) (λ t t_is.
     gives_bind _ _ (key text) _ (key-is text) (λ k k_is.
     by_integrator actor _ _ is (λ s. ap (λ x. same_text x s) t_is) (λ s b. ap (others_refuse s b) k_is) refl)))
+check-says p actor (request.SetKey supplier text) =
+    gives_unless _ _ (is_integrator actor) _ (λ is.
+    gives_bind _ _ (name supplier) _ (name-is supplier) (λ t t_is.
+    gives_bind _ _ (key text) _ (key-is text) (λ k k_is.
+    by_integrator actor _ _ is (λ s. ap (λ x. same_text x s) t_is) (λ s b. ap (another_refuses s b) k_is) refl)))
 check-says p actor (request.AddNode supplier node) =
     gives_unless _ _ (is_integrator actor) _ (λ is.
     gives_bind _ _ (name supplier) _ (name-is supplier) (λ t t_is.
@@ -158,5 +166,10 @@ check-says p actor (request.Import variant label body) =
     gives_bind _ _ (asking actor) _ (asking-is actor) (λ t is.
     gives_each _ (name variant) _ (λ v _.
     gives_each _ (name label) _ (λ l _. is)))
+check-says p actor (request.Replace variant body) =
+    gives_bind _ _ (asking actor) _ (asking-is actor) (λ t is.
+    gives_each _ (name variant) _ (λ v _. is))
 check-says p actor (request.Query asked) =
-    gives_each _ (query asked) _ (λ q _ is s. refl)
+    gives_when _ _ _ _ (λ _.
+    gives_each _ (query asked) _ (λ q _.
+    gives_when _ _ _ _ (λ _ is s. refl)))

@@ -9,7 +9,7 @@ use Rattle.fr_base.specs.Keys.{owned, channel_slots}
 use Rattle.fr_base.specs.Names.{same_text}
 use Rattle.fr_base.specs.Cluster.{Cluster}
 use Rattle.fr_base.specs.Book.{Holder, Variant, Book, empty_variant, held_by, is_of, own, own_grants}
-use Rattle.fr_base.specs.Step.{own_rows, shared_by, admits, begun, common, add_supplier, add_node, change_rows, done, perform}
+use Rattle.fr_base.specs.Step.{own_rows, shared_by, admits, begun, common, add_supplier, set_key, add_node, change_rows, done, perform}
 use Rattle.fr_base.specs.Sound.{IsSound}
 use Rattle.fr_base.specs.Alone.{own_variant, rows_of, is_another}
 use Rattle.fr_base.specs.declared.channel.Channel.{Channel}
@@ -17,7 +17,7 @@ use Rattle.fr_base.specs.declared.name.Name.{Name}
 use Rattle.fr_base.specs.declared.refusal.Refusal.{Refusal}
 use Rattle.fr_base.specs.declared.refusal.Refusal.TheVariants.{NoVariant, Released, NotReleased, TooDeep, NoSupplier, Exists, Limit, Taken}
 use Rattle.fr_base.specs.declared.request.Command.{Command}
-use Rattle.fr_base.specs.declared.request.Command.TheVariants.{Common, AddSupplier, AddNode, Rows}
+use Rattle.fr_base.specs.declared.request.Command.TheVariants.{Common, AddSupplier, SetKey, AddNode, Rows}
 use Rattle.fr_base.specs.declared.request.CommonCommand.{CommonCommand}
 use Rattle.fr_base.specs.declared.request.CommonCommand.TheVariants.{OpenVariant, Release}
 use Rattle.fr_base.specs.declared.request.Change.{Change}
@@ -30,6 +30,7 @@ use Rattle.fr_base.proofs.AloneRefusing.{map_ok, alike_or, alike_when, alike_map
 use Rattle.fr_base.proofs.AloneRows.{rows_of-variant, rows_of-has, rows_of-count, rows_of-supplier, rows_of-node, rows_of-nodes, rows_of-with, rows_of-more_nodes, rows_of-more_nodes_other}
 use Rattle.fr_base.proofs.AloneChanges.{unless, unless_none, admits-own, grant-last, change_rows-own, change_rows-other}
 use Rattle.fr_base.proofs.AloneJoining.{others_refuse, add_supplier-own, add_supplier-other}
+use Rattle.fr_base.proofs.AloneKeys.{another_refuses, set_key-own, set_key-other}
 use Rattle.fr_base.proofs.AloneOutcomes.{seen, done-own}
 
 -- ---- commands that change no rows of a variant
@@ -86,6 +87,7 @@ module _ (s : Name) (b : Book) where
 abbrev pub names : Name → Command → Bool
 names s (Common command) = true
 names s (AddSupplier t key) = same_text t s
+names s (SetKey t key) = same_text t s
 names s (AddNode t n) = same_text t s
 names s (Rows t v what) = same_text t s
 
@@ -102,6 +104,7 @@ holder_in b v at = option_and_then (λ (variant : Variant). get variant.grants a
 abbrev pub against : Name → Book → Command → Result ⊤ Refusal
 against s b (Rows t v (change.Grant slot channel node)) = refuse Taken when is_another s (holder_in b v (slot, channel))
 against s b (AddSupplier t key) = others_refuse s b key
+against s b (SetKey t key) = another_refuses s b key
 against s b _ = Ok tt
 
 -- where the supplier does not hold slot and channel, they are held where another does
@@ -134,6 +137,9 @@ module _ (c : Cluster) (b : Book) (s : Name) where
   perform-own (AddSupplier t key) sound h =
       subst (λ u. map_ok (seen s) (done (add_supplier c b u key)) ≡ (done (add_supplier c (rows_of s b) u key) >>= unless (others_refuse s b key))) (sym (same_text-is t s h))
       (done-own s (others_refuse s b key) (add_supplier c b s key) _ (add_supplier-own c b s key))
+  perform-own (SetKey t key) sound h =
+      subst (λ u. map_ok (seen s) (done (set_key c b u key)) ≡ (done (set_key c (rows_of s b) u key) >>= unless (another_refuses s b key))) (sym (same_text-is t s h))
+      (done-own s (another_refuses s b key) (set_key c b s key) _ (set_key-own c b s key))
   perform-own (AddNode t n) sound h =
       subst (λ u. map_ok (seen s) (done (add_node b u n)) ≡ (done (add_node (rows_of s b) u n) >>= unless (Ok tt))) (sym (same_text-is t s h))
       (done-own s (Ok tt) (add_node b s n) _ (add_node-own s b n ∙ sym (unless_none _)))
@@ -147,5 +153,6 @@ module _ (c : Cluster) (b : Book) (s : Name) where
   unfolding perform done
   perform-other (Common command) h = cc
   perform-other (AddSupplier t key) h = gives_bind _ _ (add_supplier c b t key) _ (add_supplier-other c b s t key h) (λ after still. still)
+  perform-other (SetKey t key) h = gives_bind _ _ (set_key c b t key) _ (set_key-other c b s t key h) (λ after still. still)
   perform-other (AddNode t n) h = gives_bind _ _ (add_node b t n) _ (add_node-other s b t n h) (λ after still. still)
   perform-other (Rows t v what) h = gives_bind _ _ (change_rows c.params b t v what) _ (change_rows-other c.params b v what s t h) (λ after still. still)

@@ -1,5 +1,5 @@
 -- A request that is one supplier's, over all rows and over its own: the one dependence between suppliers.
-use Rattle.std.proofs.Common.{◌≡◌, Bool, true, false, cond, not, Result, Ok, Err, IfOk, refl, sym, ap, subst, ◌∙◌}
+use Rattle.std.proofs.Common.{◌≡◌, ℕ, Bool, true, false, cond, not, Result, Ok, Err, IfOk, refl, sym, ap, subst, ◌∙◌}
 use Rattle.std.specs.Prelude.{⊤}
 use Rattle.fr_base.specs.Refusing.{◌>>=◌, ◌>>◌, refuse◌when◌}
 use Rattle.fr_base.specs.Checks.{is_integrator, check}
@@ -7,7 +7,7 @@ use Rattle.fr_base.specs.Tables.{get}
 use Rattle.fr_base.specs.Cluster.{Cluster}
 use Rattle.fr_base.specs.Book.{Book}
 use Rattle.fr_base.specs.Queries.{reply}
-use Rattle.fr_base.specs.Step.{Outcome, knows, common, add_supplier, add_node, change_rows, done, perform, import, act, outcome, step}
+use Rattle.fr_base.specs.Step.{Outcome, knows, common, add_supplier, set_key, add_node, change_rows, done, perform, import, replace, act, outcome, step}
 use Rattle.fr_base.specs.Sound.{IsSound}
 use Rattle.fr_base.specs.Alone.{rows_of, concerns, is_another, holder_at, another_has, is_full, beside}
 use Rattle.fr_base.specs.declared.name.Name.{Name}
@@ -21,8 +21,9 @@ use Rattle.fr_base.specs.declared.request.Request.{Request}
 use Rattle.fr_base.specs.declared.request.Request.TheVariants as request
 use Rattle.fr_base.specs.declared.query.Query.{Query}
 use Rattle.fr_base.specs.declared.request.Command.{Command}
-use Rattle.fr_base.specs.declared.request.Command.TheVariants.{Common, AddSupplier, AddNode, Rows}
+use Rattle.fr_base.specs.declared.request.Command.TheVariants.{Common, AddSupplier, SetKey, AddNode, Rows}
 use Rattle.fr_base.specs.declared.request.Import.{Import}
+use Rattle.fr_base.specs.declared.request.Replacement.{Replacement}
 use Rattle.fr_base.specs.declared.request.Checked.{Checked}
 use Rattle.fr_base.specs.declared.request.Checked.TheVariants as checked
 use Rattle.fr_base.proofs.SoundRows.{same_text-is}
@@ -30,8 +31,10 @@ use Rattle.fr_base.proofs.SoundRefusing.{gives_each, gives_unless}
 use Rattle.fr_base.proofs.AloneRefusing.{map_ok, alike_when, alike_bind}
 use Rattle.fr_base.proofs.AloneRows.{rows_of-supplier, rows_of-import}
 use Rattle.fr_base.proofs.AloneImports.{import-own}
+use Rattle.fr_base.proofs.AloneReplacements.{replace-own}
 use Rattle.fr_base.proofs.AloneChanges.{unless, unless_none}
 use Rattle.fr_base.proofs.AloneJoining.{others_refuse}
+use Rattle.fr_base.proofs.AloneKeys.{another_refuses}
 use Rattle.fr_base.proofs.AloneCommands.{perform-own}
 use Rattle.fr_base.proofs.AloneChecks.{asked_of, refused_beside, Says, check-says}
 use Rattle.fr_base.proofs.AloneOutcomes.{seen, answer-seen}
@@ -58,7 +61,7 @@ module _ (c : Cluster) (b : Book) (s : Name) where
   shown-own (Ok rows) = refl
   shown-own (Err e) = refl
 
-  query-own : (query : Query Name) → Beside (Ok tt) (act c b (Supplier s) (checked.Query query)) (act c (rows_of s b) (Supplier s) (checked.Query query))
+  query-own : (query : Query Name ℕ) → Beside (Ok tt) (act c b (Supplier s) (checked.Query query)) (act c (rows_of s b) (Supplier s) (checked.Query query))
   unfolding act
   query-own query =
       shown-own (reply c.params b (Supplier s) query)
@@ -71,6 +74,10 @@ module _ (c : Cluster) (b : Book) (s : Name) where
       ∙ ap (import c.params (rows_of i.supplier b) i) (sym (rows_of-import i.supplier b i.label))
       ∙ sym (unless_none _))
 
+  replace-alone : (r : Replacement) → s ≡ r.supplier → IsSound c b → Beside (Ok tt) (replace c.params b r) (replace c.params (rows_of s b) r)
+  replace-alone r is sound =
+      subst (λ u. map_ok (seen u) (replace c.params b r) ≡ (replace c.params (rows_of u b) r >>= unless (Ok tt))) (sym is) (replace-own r c b sound ∙ sym (unless_none _))
+
   act-own : (actor : Actor) (request : Request) → (is_integrator actor ≡ false → IsSound c b) → asked_of s actor request ≡ true → (what : Checked) → Says actor request what →
       Beside (refused_beside s b actor request) (act c b actor what) (act c (rows_of s b) actor what)
   unfolding act
@@ -80,6 +87,8 @@ module _ (c : Cluster) (b : Book) (s : Name) where
   act-own Integrator request sound asked (checked.Import i) says = cc
   act-own (Supplier t) request sound asked (checked.Import i) says =
       import-alone i (sym (same_text-is t s asked) ∙ supplier-is says) (sound refl)
+  act-own Integrator request sound asked (checked.Replace r) says = cc
+  act-own (Supplier t) request sound asked (checked.Replace r) says = replace-alone r (sym (same_text-is t s asked) ∙ supplier-is says) (sound refl)
   act-own Integrator request sound asked (checked.Query query) says = let none = says refl s in cc
   act-own (Supplier t) request sound asked (checked.Query query) says =
       subst (λ u. Beside (Ok tt) (act c b (Supplier u) (checked.Query query)) (act c (rows_of s b) (Supplier u) (checked.Query query))) (sym (same_text-is t s asked)) (query-own query)
@@ -105,6 +114,7 @@ module _ (c : Cluster) (b : Book) (s : Name) where
   unfolding perform done
   perform-done k d (Common command) = gives_each _ (common d command) _ (λ after _. refl)
   perform-done k d (AddSupplier t key) = gives_each _ (add_supplier k d t key) _ (λ after _. refl)
+  perform-done k d (SetKey t key) = gives_each _ (set_key k d t key) _ (λ after _. refl)
   perform-done k d (AddNode t n) = gives_each _ (add_node d t n) _ (λ after _. refl)
   perform-done k d (Rows t v what) = gives_each _ (change_rows k.params d t v what) _ (λ after _. refl)
 
@@ -112,6 +122,7 @@ module _ (c : Cluster) (b : Book) (s : Name) where
   unfolding act
   act-answer request asked d (checked.Command command) says = perform-done c d command
   act-answer request asked d (checked.Import i) says = cc
+  act-answer request asked d (checked.Replace r) says = cc
   act-answer request asked d (checked.Query query) says = let none = says refl s in cc
 
   lines-answer : (request : Request) → concerns s request ≡ true → (d : Book) → IfOk (lines c d Integrator request) (λ o. o.answer ≡ answer.Done)
@@ -122,10 +133,11 @@ module _ (c : Cluster) (b : Book) (s : Name) where
   refused-beside : (request : Request) (e : Refusal) → answer.Refused e ≡ beside s b request (answer.Refused e)
   refused-beside (request.Grant v number text t n) e = refl
   refused-beside (request.AddSupplier t key) e = refl
+  refused-beside (request.SetKey t key) e = refl
   refused-beside request e = refl
 
   done-beside : (d : Book) (request : Request) (o : Outcome) → o.answer ≡ answer.Done → (outcome d (unless (refused_beside s b Integrator request) o)).answer ≡ beside s b request answer.Done
-  unfolding outcome unless others_refuse ◌>>◌ refuse◌when◌
+  unfolding outcome unless others_refuse another_refuses ◌>>◌ refuse◌when◌
   done-beside d (request.Grant v number text t n) o is = grant (is_another s (holder_at b v number text))
     where
       grant : (another : Bool) → (outcome d ((refuse Taken when another) >> Ok o)).answer ≡ cond another (answer.Refused Taken) answer.Done
@@ -137,6 +149,11 @@ module _ (c : Cluster) (b : Book) (s : Name) where
       joined true full = refl
       joined false true = refl
       joined false false = is
+  done-beside d (request.SetKey t key) o is = keyed (another_has s b key)
+    where
+      keyed : (another : Bool) → (outcome d ((refuse KeyTaken when another) >> Ok o)).answer ≡ cond another (answer.Refused KeyTaken) answer.Done
+      keyed true = refl
+      keyed false = is
   done-beside d request o is = is
 
   answer-beside : (d : Book) (request : Request) (u : Result Outcome Refusal) → IfOk u (λ o. o.answer ≡ answer.Done) → (outcome d (u >>= unless (refused_beside s b Integrator request))).answer ≡ beside s b request (outcome d u).answer

@@ -34,25 +34,25 @@ use Rattle.fr_base.proofs.AloneCommands.{admits-beside}
 use Rattle.fr_base.proofs.AloneOutcomes.{seen}
 
 -- what a result is, where each value has it
-of_ok : {A E : Type 0} (P : A → Type 0) (r : Result A E) (x : A) → r ≡ Ok x → IfOk r P → P x
+pub of_ok : {A E : Type 0} (P : A → Type 0) (r : Result A E) (x : A) → r ≡ Ok x → IfOk r P → P x
 of_ok P r x e h = subst (λ z. IfOk z P) e h
 
 -- ---- the supplier's own rows
 
 module _ (c : Cluster) (s v : Name) where
-  abbrev Like : {E : Type 0} → Result Book E → Result Book E → Type 0
+  abbrev pub Like : {E : Type 0} → Result Book E → Result Book E → Type 0
   Like r u = map_ok (rows_of s) r ≡ u
 
   frame_change-own : (b : Book) → IsSound c b → (f : Name) (what : FrameChange) → Like (change_rows c.params b s v (change.Frame f what)) (change_rows c.params (rows_of s b) s v (change.Frame f what))
   frame_change-own b sound f what =
       change_rows-own c.params b v (change.Frame f what) s (Ok tt) (admits-beside c b s v (change.Frame f what) (λ _. sound)) ∙ unless_none _
 
-  framed-own : (b : Book) → IsSound c b → (f n : Name) (there : Option Frame) → Like (with_frame c.params b s v f n there) (with_frame c.params (rows_of s b) s v f n there)
+  pub framed-own : (b : Book) → IsSound c b → (f n : Name) (there : Option Frame) → Like (with_frame c.params b s v f n there) (with_frame c.params (rows_of s b) s v f n there)
   unfolding with_frame
   framed-own b sound f n None = frame_change-own b sound f (Add n)
   framed-own b sound f n (Some frame) = alike_when Like (λ e. refl) NodeDiffers (not (same_text frame.node n)) _ refl _ _ (λ _. refl)
 
-  row-own : (b : Book) → IsSound c b → (r : Row) → IsFormedRow c.params r → Like (act_row c.params b s v r) (act_row c.params (rows_of s b) s v r)
+  pub row-own : (b : Book) → IsSound c b → (r : Row) → IsFormedRow c.params r → Like (act_row c.params b s v r) (act_row c.params (rows_of s b) s v r)
   unfolding act_row
   row-own b sound (row.AddFrame f n) form = frame_change-own b sound f (Add n)
   row-own b sound (row.Place f n q) form =
@@ -62,7 +62,7 @@ module _ (c : Cluster) (s v : Name) where
       frame_change-own d (of_ok _ _ d found (framed-sound c s v b sound f n form.0 (frame_at b s v f))) f (Place q)))
   row-own b sound (row.AddSignal f signal) form = frame_change-own b sound f (AddSignal signal)
 
-  line-own : (line : ℕ) (r : Result Book Refusal) → Like (at_line line r) (at_line line (map_ok (rows_of s) r))
+  pub line-own : (line : ℕ) (r : Result Book Refusal) → Like (at_line line r) (at_line line (map_ok (rows_of s) r))
   unfolding at_line
   line-own line (Ok d) = refl
   line-own line (Err e) = refl
@@ -110,12 +110,12 @@ module _ (p : Params) (s t v : Name) (other : same_text t s ≡ false) where
   abbrev Leaves : Book → Book → Type 0
   Leaves b d = rows_of s d ≡ rows_of s b
 
-  framed-other : (b : Book) (f n : Name) (there : Option Frame) → IfOk (with_frame p b t v f n there) (Leaves b)
+  pub framed-other : (b : Book) (f n : Name) (there : Option Frame) → IfOk (with_frame p b t v f n there) (Leaves b)
   unfolding with_frame
   framed-other b f n None = change_rows-other p b v (change.Frame f (Add n)) s t other
   framed-other b f n (Some frame) = gives_unless _ _ (same_text frame.node n) _ (λ _. refl)
 
-  row-other : (b : Book) (r : Row) → IfOk (act_row p b t v r) (Leaves b)
+  pub row-other : (b : Book) (r : Row) → IfOk (act_row p b t v r) (Leaves b)
   unfolding act_row
   row-other b (row.AddFrame f n) = change_rows-other p b v (change.Frame f (Add n)) s t other
   row-other b (row.Place f n q) =

@@ -1,5 +1,5 @@
 -- A query shows a supplier of its own rows what it shows it of all.
-use Rattle.std.proofs.Common.{◌≡◌, false, List, [], ◌∷◌, map, Some, Result, Ok, refl, sym, ap}
+use Rattle.std.proofs.Common.{◌≡◌, ◌∙◌, ℕ, false, List, [], ◌∷◌, map, Some, Result, Ok, refl, sym, ap}
 use Rattle.std.specs.Prelude.{◌==◌}
 use Rattle.fr_base.specs.Refusing.{◌>>=◌, ◌>>◌, refuse◌when◌}
 use Rattle.fr_base.specs.Tables.{get, len, each}
@@ -7,6 +7,8 @@ use Rattle.fr_base.specs.Keys.{names, owned, channel_slots}
 use Rattle.fr_base.specs.Names.{same_text}
 use Rattle.fr_base.specs.Book.{Variant, Book, held_by, is_of, own, own_grants}
 use Rattle.fr_base.specs.Queries.{grants_of, frames_of, sendings_of, gaps_of, named, signals_of, cluster_of, variant_row, variants_of, nodes_of, held, shown, found, reply}
+use Rattle.fr_base.specs.Exports.{exported}
+use Rattle.fr_base.specs.Room.{own_room}
 use Rattle.fr_base.specs.Alone.{own_variant, rows_of}
 use Rattle.fr_base.specs.declared.name.Name.{Name}
 use Rattle.fr_base.specs.declared.params.Params.{Params}
@@ -14,17 +16,18 @@ use Rattle.fr_base.specs.declared.answer.ReportRows.{ReportRows}
 use Rattle.fr_base.specs.declared.answer.ReportRows.TheVariants as rows
 use Rattle.fr_base.specs.declared.answer.Answer.TheVariants as answer
 use Rattle.fr_base.specs.declared.refusal.Refusal.{Refusal}
-use Rattle.fr_base.specs.declared.refusal.Refusal.TheVariants.{NoVariant, NoFrame}
+use Rattle.fr_base.specs.declared.refusal.Refusal.TheVariants.{NoVariant, Released, NoFrame}
 use Rattle.fr_base.specs.declared.actor.Actor.TheVariants.{Supplier}
 use Rattle.fr_base.specs.declared.query.Query.{Query}
 use Rattle.fr_base.specs.declared.query.Query.TheVariants.{Register as OfRegister, Variant as OfVariant}
 use Rattle.fr_base.specs.declared.query.Inventory.{Inventory}
 use Rattle.fr_base.specs.declared.query.Inventory.TheVariants.{Cluster, Variants, Nodes}
 use Rattle.fr_base.specs.declared.report.Report.{Report}
-use Rattle.fr_base.specs.declared.report.Report.TheVariants.{Grants, Frames, Schedule, Gaps, Layout}
+use Rattle.fr_base.specs.declared.report.Report.TheVariants.{Grants, Frames, Schedule, Gaps, Layout, Load, Room, Export}
 use Rattle.fr_base.proofs.AloneTables.{only-only}
 use Rattle.fr_base.proofs.AloneRefusing.{alike_or}
 use Rattle.fr_base.proofs.AloneRows.{rows_of-variant}
+use Rattle.fr_base.proofs.LoadLaws.{load-own}
 
 module _ (p : Params) (s : Name) where
   own_grants-own : (x : Variant) → own_grants s (own_grants s x.grants) ≡ own_grants s x.grants
@@ -33,12 +36,17 @@ module _ (p : Params) (s : Name) where
   own_frames-own : (x : Variant) → own s (own s x.frames) ≡ own s x.frames
   own_frames-own x = only-only owned (λ k _. is_of s k) x.frames
 
-  shown-own : (x : Variant) (report : Report Name) → shown p (Supplier s) (own_variant s x) report ≡ shown p (Supplier s) x report
+  shown-own : (x : Variant) (report : Report Name ℕ) → shown p (Supplier s) (own_variant s x) report ≡ shown p (Supplier s) x report
   unfolding shown own_variant
   shown-own x Grants = ap (λ t. Ok (rows.Grants (grants_of t))) (own_grants-own x)
   shown-own x Frames = ap (λ t. Ok (rows.Frames (frames_of t))) (own_frames-own x)
   shown-own x Schedule = ap (λ t. Ok (rows.Schedule (sendings_of p t))) (own_frames-own x)
   shown-own x Gaps = ap (λ t. Ok (rows.Gaps (gaps_of p t))) (own_frames-own x)
+  shown-own x Load = ap (λ t. Ok (rows.Load t)) (load-own p s x)
+  shown-own x (Room f repetition) =
+      ap (λ t. (refuse Released when x.released) >> (own_room p t (own s (own s x.frames)) s f repetition >>= (λ places. Ok (rows.Room places)))) (own_grants-own x)
+      ∙ ap (λ t. (refuse Released when x.released) >> (own_room p (own_grants s x.grants) t s f repetition >>= (λ places. Ok (rows.Room places)))) (own_frames-own x)
+  shown-own x (Export header part) = ap (λ t. Ok (exported header part t.rows)) (own_frames-own x)
   shown-own x (Layout f) = ap (λ t. (refuse NoFrame when len (named f t) == 0) >> Ok (rows.Layout (signals_of (named f t)))) (own_frames-own x)
 
   -- a variant is told alike whosever rows are in it
@@ -57,12 +65,12 @@ module _ (p : Params) (s : Name) where
   abbrev Same : Result ReportRows Refusal → Result ReportRows Refusal → Type 0
   Same r u = r ≡ u
 
-  found-own : (b : Book) (query : Query Name) → found p b (Supplier s) query ≡ found p (rows_of s b) (Supplier s) query
+  found-own : (b : Book) (query : Query Name ℕ) → found p b (Supplier s) query ≡ found p (rows_of s b) (Supplier s) query
   unfolding found
   found-own b (OfRegister inventory) = ap Ok (held-own b inventory)
   found-own b (OfVariant v report) = alike_or Same (λ e. refl) (own_variant s) (get b.variants v) _ (rows_of-variant s b v) NoVariant _ _ (λ x _. sym (shown-own x report))
 
   -- a query shows the supplier of its own rows what it shows it of all
-  pub reply-own : (b : Book) (query : Query Name) → reply p b (Supplier s) query ≡ reply p (rows_of s b) (Supplier s) query
+  pub reply-own : (b : Book) (query : Query Name ℕ) → reply p b (Supplier s) query ≡ reply p (rows_of s b) (Supplier s) query
   unfolding reply
   reply-own b query = ap (λ r. r >>= (λ rows. Ok (answer.Report false rows))) (found-own b query)

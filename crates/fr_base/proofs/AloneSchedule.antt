@@ -20,7 +20,7 @@ use Rattle.fr_base.proofs.AloneCells.{entries_of, Lacks, later, further, found_f
 
 module _ (s : Name) (c : Cell) where
   -- no frame of the supplier has the cell
-  own_lack : (rows : List ((Name × Name) × Frame)) → T (is_sorted owned.compare rows) → ((k : Name × Name) (f : Frame) → find owned.compare k rows ≡ Some f → is_of s k ≡ true → Lacks c f) →
+  pub own_lack : (rows : List ((Name × Name) × Frame)) → T (is_sorted owned.compare rows) → ((k : Name × Name) (f : Frame) → find owned.compare k rows ≡ Some f → is_of s k ≡ true → Lacks c f) →
       fill (flat_map entries_of (filter (λ e. is_of s e.0) rows)) c ≡ None
   unfolding fill get
   own_lack [] sorted lacks = refl

@@ -8,7 +8,7 @@ use Rattle.fr_base.specs.Checks.{check}
 use Rattle.fr_base.specs.Cluster.{Cluster}
 use Rattle.fr_base.specs.Book.{Kept, Book}
 use Rattle.fr_base.specs.Queries.{reply}
-use Rattle.fr_base.specs.Step.{Outcome, knows, common, add_supplier, add_node, change_rows, done, perform, RefusedAt, imported, import, act, outcome, step}
+use Rattle.fr_base.specs.Step.{Outcome, knows, common, add_supplier, set_key, add_node, change_rows, done, perform, RefusedAt, imported, import, replaced, replace, act, outcome, step}
 use Rattle.fr_base.specs.Sound.{IsSound}
 use Rattle.fr_base.specs.Alone.{rows_of, is_done, is_unavailable, is_mine}
 use Rattle.fr_base.specs.declared.name.Name.{Name}
@@ -20,8 +20,9 @@ use Rattle.fr_base.specs.declared.refusal.Refusal.TheVariants.{NoVariant}
 use Rattle.fr_base.specs.declared.actor.Actor.{Actor}
 use Rattle.fr_base.specs.declared.actor.Actor.TheVariants.{Integrator, Supplier}
 use Rattle.fr_base.specs.declared.request.Request.{Request}
-use Rattle.fr_base.specs.declared.request.Command.TheVariants.{Common, AddSupplier, AddNode, Rows}
+use Rattle.fr_base.specs.declared.request.Command.TheVariants.{Common, AddSupplier, SetKey, AddNode, Rows}
 use Rattle.fr_base.specs.declared.request.Import.{Import}
+use Rattle.fr_base.specs.declared.request.Replacement.{Replacement}
 use Rattle.fr_base.specs.declared.request.Checked.{Checked}
 use Rattle.fr_base.specs.declared.request.Checked.TheVariants as checked
 use Rattle.fr_base.proofs.SoundRefusing.{gives_bind, gives_bind_last, gives_each, gives_when, gives_unless}
@@ -31,6 +32,7 @@ use Rattle.fr_base.proofs.AloneCommands.{perform-other}
 use Rattle.fr_base.proofs.AloneChecks.{asked_of, refused_beside, Says, check-says}
 use Rattle.fr_base.proofs.AloneOutcomes.{seen, outcome-own, outcome-still}
 use Rattle.fr_base.proofs.AloneImports.{import-other}
+use Rattle.fr_base.proofs.AloneReplacements.{replace-other}
 use Rattle.fr_base.proofs.AloneDependence.{supplier-is, lines, lines-own}
 
 -- ---- a request that was not done
@@ -64,15 +66,31 @@ module _ (p : Params) (b : Book) (i : Import) where
       gives_when _ _ _ _ (λ _. imported-carried _ _))))
   import-carried (Some one) = gives_unless _ _ _ _ (λ _. refl)
 
+replaced-carried : (b : Book) (count : ℕ) (r : Result Book RefusedAt) → is_unavailable (replaced b count r).answer ≡ false
+unfolding replaced
+replaced-carried b count (Ok d) = refl
+replaced-carried b count (Err fault) = refl
+
+replace-carried : (p : Params) (b : Book) (r : Replacement) → IfOk (replace p b r) (λ o. is_unavailable o.answer ≡ false)
+unfolding replace
+replace-carried p b r =
+    gives_each _ (get b.variants r.variant or NoVariant) _ (λ x _.
+    gives_when _ _ _ _ (λ _.
+    gives_when _ _ _ _ (λ _. replaced-carried b _ _)))
+
 act-undone : (c : Cluster) (b : Book) (actor : Actor) (request : Request) (what : Checked) → Says actor request what → IfOk (act c b actor what) (λ o. carried actor o.answer ≡ false → o.book ≡ b)
 unfolding act perform done
 act-undone c b actor request (checked.Command (Common command)) says = gives_each _ (common b command) _ (λ after _ undone. absurd (true≢false (sym (done-carried actor) ∙ undone)))
 act-undone c b actor request (checked.Command (AddSupplier s key)) says = gives_each _ (add_supplier c b s key) _ (λ after _ undone. absurd (true≢false (sym (done-carried actor) ∙ undone)))
+act-undone c b actor request (checked.Command (SetKey s key)) says = gives_each _ (set_key c b s key) _ (λ after _ undone. absurd (true≢false (sym (done-carried actor) ∙ undone)))
 act-undone c b actor request (checked.Command (AddNode s n)) says = gives_each _ (add_node b s n) _ (λ after _ undone. absurd (true≢false (sym (done-carried actor) ∙ undone)))
 act-undone c b actor request (checked.Command (Rows s v what)) says = gives_each _ (change_rows c.params b s v what) _ (λ after _ undone. absurd (true≢false (sym (done-carried actor) ∙ undone)))
 act-undone c b Integrator request (checked.Import i) says = cc
 act-undone c b (Supplier s) request (checked.Import i) says =
     gives_bind_last (λ (o : Outcome). not (is_unavailable o.answer) ≡ false → o.book ≡ b) (λ (o : Outcome). is_unavailable o.answer ≡ false) _ (import-carried c.params b i (get b.imports (i.supplier, i.label))) (λ o available undone. absurd (true≢false (sym (ap not available) ∙ undone)))
+act-undone c b Integrator request (checked.Replace r) says = cc
+act-undone c b (Supplier s) request (checked.Replace r) says =
+    gives_bind_last (λ (o : Outcome). not (is_unavailable o.answer) ≡ false → o.book ≡ b) (λ (o : Outcome). is_unavailable o.answer ≡ false) _ (replace-carried c.params b r) (λ o available undone. absurd (true≢false (sym (ap not available) ∙ undone)))
 act-undone c b actor request (checked.Query query) says = gives_each _ (reply c.params b actor query) _ (λ rows _ undone. refl)
 
 -- what was not carried out has changed nothing
@@ -115,6 +133,8 @@ module _ (c : Cluster) (b : Book) (s : Name) where
   act-other actor request other (checked.Command command) says = perform-other c b s command (says.names s ∙ other)
   act-other Integrator request other (checked.Import i) says = cc
   act-other (Supplier t) request other (checked.Import i) says = import-other c.params b s i (ap (λ u. same_text u s) (sym (supplier-is says)) ∙ other) (get b.imports (i.supplier, i.label))
+  act-other Integrator request other (checked.Replace r) says = cc
+  act-other (Supplier t) request other (checked.Replace r) says = replace-other c.params b s r (ap (λ u. same_text u s) (sym (supplier-is says)) ∙ other)
   act-other actor request other (checked.Query query) says = gives_each _ (reply c.params b actor query) _ (λ rows _. refl)
 
   step-other : (actor : Actor) (request : Request) → asked_of s actor request ≡ false → rows_of s (step c b actor request).book ≡ rows_of s b

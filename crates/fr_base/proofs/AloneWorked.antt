@@ -10,7 +10,7 @@ use Rattle.fr_base.specs.declared.answer.Answer.TheVariants.{Done, Refused}
 use Rattle.fr_base.specs.declared.channel.Channel.TheVariants as ch
 use Rattle.fr_base.specs.declared.refusal.Refusal.TheVariants.{UnknownKey, Limit, Taken, KeyTaken}
 use Rattle.fr_base.specs.declared.request.Ask.{Ask}
-use Rattle.fr_base.specs.declared.request.Request.TheVariants.{OpenVariant, AddSupplier, AddNode, Grant, AddFrame, Place, Query}
+use Rattle.fr_base.specs.declared.request.Request.TheVariants.{OpenVariant, AddSupplier, SetKey, AddNode, Grant, AddFrame, Place, Query}
 use Rattle.fr_base.specs.declared.query.Query.TheVariants.{Variant as OfVariant}
 use Rattle.fr_base.specs.declared.report.Report.TheVariants.{Schedule}
 use Rattle.fr_base.proofs.WorkedRows.{file, full_file, answers, a_small_register, integrator, s1, s2, s3, Sent}
@@ -117,6 +117,13 @@ pub refused_beside :
     × (answers_to file.cluster (opening (alone (codes "s99") full_file)) (integrator (AddSupplier (codes "s99") (codes "supplier99")) ∷ []) ≡ Done ∷ [])
 unfolding a_register_alone full_file
 refused_beside = (refl, refl, refl, refl)
+
+-- another supplier's key refuses a supplier that is to have it, and alone it does not; its own refuses it alone too
+pub keyed_beside :
+    (answers (integrator (SetKey (codes "s1") (codes "supplier02")) ∷ integrator (SetKey (codes "s1") (codes "supplier01")) ∷ []) ≡ Refused KeyTaken ∷ Refused KeyTaken ∷ [])
+    × (answers_alone (codes "s1") (integrator (SetKey (codes "s1") (codes "supplier01")) ∷ integrator (SetKey (codes "s1") (codes "supplier02")) ∷ []) ≡ Refused KeyTaken ∷ Done ∷ [])
+unfolding a_register_alone
+keyed_beside = (refl, refl)
 
 -- `s3` joins, is granted a slot, and has a frame sent there
 unfoldable pub joins_and_sends : List Ask

@@ -1,5 +1,5 @@
 -- What a proof about the check of a request opens. A query whose names are read as texts are is the checked query.
-use Rattle.std.proofs.Common.{◌≡◌, ◌∙◌, List, ℕ, Result, Ok, Err, refl, ap}
+use Rattle.std.proofs.Common.{◌≡◌, ◌∙◌, List, ℕ, Result, Ok, Err, refl, sym, ap}
 use Rattle.std.specs.Prelude.{⊤}
 use Rattle.fr_base.specs.Refusing.{◌>>=◌, ◌>>◌, ◌or◌, refuse◌when◌}
 use Rattle.fr_base.specs.Checks.{asking, key, name, cycles, slot, channel, channels, placement, signal, parent_name, report, query, check}
@@ -9,7 +9,7 @@ use Rattle.fr_base.specs.declared.query.Query.{Query}
 use Rattle.fr_base.specs.declared.query.Query.TheVariants.{Register, Variant}
 use Rattle.fr_base.specs.declared.refusal.Refusal.{Refusal}
 use Rattle.fr_base.specs.declared.report.Report.{Report}
-use Rattle.fr_base.specs.declared.report.Report.TheVariants.{Grants, Frames, Schedule, Gaps, Layout}
+use Rattle.fr_base.specs.declared.report.Report.TheVariants.{Grants, Frames, Schedule, Gaps, Layout, Load, Room, Export}
 
 unfoldable pub checks_open : ⊤
 unfolding ◌>>=◌ ◌>>◌ ◌or◌ refuse◌when◌ asking key name cycles slot channel channels placement signal parent_name report check
@@ -24,15 +24,23 @@ frames_open = tt
 abbrev AsName : List ℕ → Result Name Refusal → Type 0
 AsName text result = result ≡ name text
 
-report_read : (asked : Report (List ℕ)) (result : Result (Report Name) Refusal) → IsReportRead AsName asked result → result ≡ report asked
-unfolding IsReportRead report
+-- a number is read as it is
+abbrev AsNumber : ℕ → Result ℕ Refusal → Type 0
+AsNumber number result = result ≡ Ok number
+
+report_read : (asked : Report (List ℕ) ℕ) (result : Result (Report Name ℕ) Refusal) → IsReportRead AsName AsNumber asked result → result ≡ report asked
+unfolding IsReportRead report ◌>>=◌
 report_read Grants result is = is
 report_read Frames result is = is
 report_read Schedule result is = is
 report_read Gaps result is = is
 report_read (Layout frame) result (read, is_name, is) = rw is (rw is_name refl)
+report_read Load result is = is
+report_read (Room frame repetition) result (Ok f, is_name, (number, is_number, is)) = rw is (rw is_number (rw (sym is_name) refl))
+report_read (Room frame repetition) result (Err e, is_name, is) = rw is (rw (sym is_name) refl)
+report_read (Export header part) result (number, is_number, is) = rw is (rw is_number refl)
 
-pub query_read : (asked : Query (List ℕ)) (result : Result (Query Name) Refusal) → IsQueryRead AsName asked result → result ≡ query asked
+pub query_read : (asked : Query (List ℕ) ℕ) (result : Result (Query Name ℕ) Refusal) → IsQueryRead AsName AsNumber asked result → result ≡ query asked
 unfolding IsQueryRead query ◌>>=◌
 query_read (Register inventory) result is = is
 query_read (Variant variant asked) result (Ok v, is_name, (r, read, is)) =

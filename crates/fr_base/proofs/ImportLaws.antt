@@ -11,7 +11,7 @@ use Rattle.fr_base.specs.Cluster.{Cluster}
 use Rattle.fr_base.specs.Book.{Kept, Book}
 use Rattle.fr_base.specs.ImportRows.{rows_of_body}
 use Rattle.fr_base.specs.Queries.{reply}
-use Rattle.fr_base.specs.Step.{Outcome, RefusedAt, knows, begun, common, add_supplier, add_node, change_rows, done, perform, imported, import, act, outcome, step}
+use Rattle.fr_base.specs.Step.{Outcome, RefusedAt, knows, begun, common, add_supplier, set_key, add_node, change_rows, done, perform, imported, import, act, outcome, step}
 use Rattle.fr_base.specs.Run.{IsRun}
 use Rattle.fr_base.specs.Laws.{WasImported}
 use Rattle.fr_base.specs.declared.key.Key.{Key}
@@ -27,7 +27,7 @@ use Rattle.fr_base.specs.declared.request.Ask.{Ask}
 use Rattle.fr_base.specs.declared.request.Request.{Request}
 use Rattle.fr_base.specs.declared.request.Request.TheVariants as request
 use Rattle.fr_base.specs.declared.request.Command.{Command}
-use Rattle.fr_base.specs.declared.request.Command.TheVariants.{Common, AddSupplier, AddNode, Rows}
+use Rattle.fr_base.specs.declared.request.Command.TheVariants.{Common, AddSupplier, SetKey, AddNode, Rows}
 use Rattle.fr_base.specs.declared.request.CommonCommand.{CommonCommand}
 use Rattle.fr_base.specs.declared.request.CommonCommand.TheVariants.{OpenVariant, Release}
 use Rattle.fr_base.specs.declared.request.Import.{Import}
@@ -37,9 +37,10 @@ use Rattle.fr_base.proofs.TableLaws.{equal, get-insert}
 use Rattle.fr_base.proofs.SoundTables.{same_key}
 use Rattle.fr_base.proofs.SoundRows.{same_text-is}
 use Rattle.fr_base.proofs.AloneCells.{same_text-itself}
-use Rattle.fr_base.proofs.SoundRefusing.{gives_or, gives_bind, gives_each, gives_when, gives_unless}
+use Rattle.fr_base.proofs.SoundRefusing.{gives_or, gives_bind, gives_bind_last, gives_each, gives_when, gives_unless}
 use Rattle.fr_base.proofs.KnownSteps.{step-knows, run-knows_supplier}
 use Rattle.fr_base.proofs.SoundImports.{Keeps, change_rows-keeps, rows-keep}
+use Rattle.fr_base.proofs.SoundReplacements.{replace-keeps}
 
 rows-are : {m n : ℕ} → answer.Imported m ≡ answer.Imported n → m ≡ n
 rows-are e = cc
@@ -67,6 +68,12 @@ module _ (b : Book) (k : Name × Name) (one : Kept) (there : get b.imports k ≡
       gives_when _ _ _ _ (λ _.
       gives_when _ _ _ _ (λ _. there)))
 
+  set_key-has : (c : Cluster) (s : Name) (key : Key) → IfOk (set_key c b s key) Has
+  unfolding set_key
+  set_key-has c s key =
+      gives_unless _ _ _ _ (λ _.
+      gives_when _ _ _ _ (λ _. there))
+
   add_node-has : (s n : Name) → IfOk (add_node b s n) Has
   unfolding add_node
   add_node-has s n =
@@ -81,6 +88,7 @@ module _ (b : Book) (k : Name × Name) (one : Kept) (there : get b.imports k ≡
   unfolding perform done
   perform-has c (Common command) = gives_bind _ _ (common b command) _ (common-has command) (λ after h. h)
   perform-has c (AddSupplier s key) = gives_bind _ _ (add_supplier c b s key) _ (add_supplier-has c s key) (λ after h. h)
+  perform-has c (SetKey s key) = gives_bind _ _ (set_key c b s key) _ (set_key-has c s key) (λ after h. h)
   perform-has c (AddNode s n) = gives_bind _ _ (add_node b s n) _ (add_node-has s n) (λ after h. h)
   perform-has c (Rows s v what) = gives_bind _ _ (change_rows c.params b s v what) _ (change_rows-keeps c.params b s v what) (λ after keeps. keeps-has after keeps)
 
@@ -107,6 +115,7 @@ module _ (b : Book) (k : Name × Name) (one : Kept) (there : get b.imports k ≡
   unfolding act
   act-has c actor (checked.Command command) = perform-has c command
   act-has c actor (checked.Import i) = import-has c.params i (get b.imports (i.supplier, i.label)) refl
+  act-has c actor (checked.Replace r) = gives_bind_last _ (λ (o : Outcome). Keeps b o.book) _ (replace-keeps c.params b r) (λ o keeps. keeps-has o.book keeps)
   act-has c actor (checked.Query query) = gives_each _ (reply c.params b actor query) _ (λ rows _. there)
 
   outcome-has : (r : Result Outcome Refusal) → IfOk r (λ o. Has o.book) → Has (outcome b r).book

@@ -1,4 +1,4 @@
--- A supplier that joins a list of suppliers.
+-- A supplier that joins a list of suppliers, or has another key there.
 use Rattle.std.proofs.Common.{◌≡◌, ◌∙◌, ◌+◌, ◌≤◌, ◌||◌, ℕ, suc, Bool, true, false, cond, not, List, [], ◌∷◌, map, length, Option, Some, None, arith, position, insert, unwrap_or, ltb, refl, ap}
 use Rattle.std.specs.Prelude.{⊤}
 use Rattle.std.specs.List.{list_any, position_or_len}
@@ -6,13 +6,14 @@ use Rattle.std.proofs.lemmas.Bool.Decides.{nat_tests}
 use Rattle.std.proofs.lemmas.List.Sums.{prefix_len-le-length}
 use Rattle.fr_base.specs.Refusing.{◌>>◌, refuse◌when◌}
 use Rattle.fr_base.specs.Joining.{admits_supplier, is_earlier, with_supplier}
+use Rattle.fr_base.specs.KeyChanges.{admits_key}
 use Rattle.fr_base.specs.Names.{same_text}
 use Rattle.fr_base.specs.declared.config.Supplier.{Supplier}
 use Rattle.fr_base.specs.declared.key.Key.{Key}
 
--- what the proof about a supplier that joins opens
+-- what the proofs about a supplier that joins, and about one that has another key, open
 unfoldable pub joining_open : ⊤
-unfolding admits_supplier ◌>>◌ refuse◌when◌
+unfolding admits_supplier admits_key ◌>>◌ refuse◌when◌
 joining_open = tt
 
 -- a key among the suppliers' keys is a supplier's

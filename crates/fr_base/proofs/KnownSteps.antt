@@ -6,7 +6,7 @@ use Rattle.fr_base.specs.Cluster.{Cluster}
 use Rattle.fr_base.specs.Book.{Kept, Book}
 use Rattle.fr_base.specs.ImportRows.{rows_of_body}
 use Rattle.fr_base.specs.Queries.{reply}
-use Rattle.fr_base.specs.Step.{Outcome, RefusedAt, knows, begun, common, add_supplier, add_node, change_rows, done, perform, imported, import, act, outcome, step}
+use Rattle.fr_base.specs.Step.{Outcome, RefusedAt, knows, begun, common, add_supplier, set_key, add_node, change_rows, done, perform, imported, import, act, outcome, step}
 use Rattle.fr_base.specs.Run.{IsRun}
 use Rattle.fr_base.specs.declared.key.Key.{Key}
 use Rattle.fr_base.specs.declared.name.Name.{Name}
@@ -18,15 +18,16 @@ use Rattle.fr_base.specs.declared.actor.Actor.TheVariants.{Integrator, Supplier}
 use Rattle.fr_base.specs.declared.request.Ask.{Ask}
 use Rattle.fr_base.specs.declared.request.Request.{Request}
 use Rattle.fr_base.specs.declared.request.Command.{Command}
-use Rattle.fr_base.specs.declared.request.Command.TheVariants.{Common, AddSupplier, AddNode, Rows}
+use Rattle.fr_base.specs.declared.request.Command.TheVariants.{Common, AddSupplier, SetKey, AddNode, Rows}
 use Rattle.fr_base.specs.declared.request.CommonCommand.{CommonCommand}
 use Rattle.fr_base.specs.declared.request.CommonCommand.TheVariants.{OpenVariant, Release}
 use Rattle.fr_base.specs.declared.request.Import.{Import}
 use Rattle.fr_base.specs.declared.request.Checked.{Checked}
 use Rattle.fr_base.specs.declared.request.Checked.TheVariants as checked
 use Rattle.fr_base.proofs.SoundTables.{contains-more}
-use Rattle.fr_base.proofs.SoundRefusing.{gives_or, gives_bind, gives_each, gives_when, gives_unless}
+use Rattle.fr_base.proofs.SoundRefusing.{gives_or, gives_bind, gives_bind_last, gives_each, gives_when, gives_unless}
 use Rattle.fr_base.proofs.SoundImports.{Keeps, change_rows-keeps, rows-keep}
+use Rattle.fr_base.proofs.SoundReplacements.{replace-keeps}
 
 module _ (b : Book) (s : Name) (there : IsTrue (contains b.suppliers s)) where
   abbrev Knows : Book → Type 0
@@ -49,6 +50,12 @@ module _ (b : Book) (s : Name) (there : IsTrue (contains b.suppliers s)) where
       gives_when _ _ _ _ (λ _.
       gives_when _ _ _ _ (λ _. contains-more b.suppliers t k s there)))
 
+  set_key-knows : (c : Cluster) (t : Name) (k : Key) → IfOk (set_key c b t k) Knows
+  unfolding set_key
+  set_key-knows c t k =
+      gives_unless _ _ _ _ (λ _.
+      gives_when _ _ _ _ (λ _. contains-more b.suppliers t k s there))
+
   add_node-knows : (t n : Name) → IfOk (add_node b t n) Knows
   unfolding add_node
   add_node-knows t n =
@@ -63,6 +70,7 @@ module _ (b : Book) (s : Name) (there : IsTrue (contains b.suppliers s)) where
   unfolding perform done
   perform-knows c (Common command) = gives_bind _ _ (common b command) _ (common-knows command) (λ after h. h)
   perform-knows c (AddSupplier t k) = gives_bind _ _ (add_supplier c b t k) _ (add_supplier-knows c t k) (λ after h. h)
+  perform-knows c (SetKey t k) = gives_bind _ _ (set_key c b t k) _ (set_key-knows c t k) (λ after h. h)
   perform-knows c (AddNode t n) = gives_bind _ _ (add_node b t n) _ (add_node-knows t n) (λ after h. h)
   perform-knows c (Rows t v what) = gives_bind _ _ (change_rows c.params b t v what) _ (change_rows-keeps c.params b t v what) (λ after keeps. keeps-knows after keeps)
 
@@ -85,6 +93,7 @@ module _ (b : Book) (s : Name) (there : IsTrue (contains b.suppliers s)) where
   unfolding act
   act-knows c actor (checked.Command command) = perform-knows c command
   act-knows c actor (checked.Import i) = import-knows c.params i (get b.imports (i.supplier, i.label))
+  act-knows c actor (checked.Replace r) = gives_bind_last _ (λ (o : Outcome). Keeps b o.book) _ (replace-keeps c.params b r) (λ o keeps. keeps-knows o.book keeps)
   act-knows c actor (checked.Query query) = gives_each _ (reply c.params b actor query) _ (λ rows _. there)
 
   outcome-knows : (r : Result Outcome Refusal) → IfOk r (λ o. Knows o.book) → Knows (outcome b r).book

@@ -1,46 +1,67 @@
 -- What a proof about the names of a query opens, and what comes of a query whose names are read.
-use Rattle.std.proofs.Common.{◌≡◌, ◌∙◌, Result, Ok, Err, IfOk, refl, ap}
-use Rattle.std.specs.Prelude.{⊤}
+use Rattle.std.proofs.Common.{◌≡◌, ◌∙◌, ◌⊎◌, inl, inr, ℕ, Option, Some, None, Result, Ok, Err, IfOk, refl, ap}
+use Rattle.std.specs.Prelude.{⊤, MatchResult, option_map}
 use Rattle.fr_base.specs.Refusing.{◌>>=◌}
-use Rattle.fr_base.specs.QueryNames.{IsReportRead, IsQueryRead, report_with, query_with}
+use Rattle.fr_base.specs.QueryNames.{IsReportRead, IsQueryRead, report_by, report_with, query_by, query_with}
 use Rattle.fr_base.specs.declared.query.Query.{Query}
 use Rattle.fr_base.specs.declared.query.Query.TheVariants.{Register, Variant}
+use Rattle.fr_base.specs.declared.import.Header.{Header}
 use Rattle.fr_base.specs.declared.report.Report.{Report}
-use Rattle.fr_base.specs.declared.report.Report.TheVariants.{Grants, Frames, Schedule, Gaps, Layout}
+use Rattle.fr_base.specs.declared.report.Report.TheVariants.{Grants, Frames, Schedule, Gaps, Layout, Load, Room, Export}
 
 unfoldable pub names_open : ⊤
 unfolding ◌>>=◌ IsReportRead IsQueryRead
 names_open = tt
 
-module _ {N M E : Type 0} (reads : N → Result M E → Type 0) where
-  pub layout_read : (frame : N) (f : M) → reads frame (Ok f) → IsReportRead reads (Layout frame) (Ok (Layout f))
+module _ {N M A E : Type 0} (reads : N → Result A E → Type 0) (counts : M → Result ℕ E → Type 0) where
+  pub layout_read : (frame : N) (f : A) → reads frame (Ok f) → IsReportRead reads counts (Layout frame) (Ok (Layout f))
   unfolding names_open
   layout_read frame f read = (Ok f, read, refl)
 
-  pub layout_unread : (frame : N) (e : E) → reads frame (Err e) → IsReportRead {M = M} reads (Layout frame) (Err e)
+  pub layout_unread : (frame : N) (e : E) → reads frame (Err e) → IsReportRead {A = A} reads counts (Layout frame) (Err e)
   unfolding names_open
   layout_unread frame e unread = (Err e, unread, refl)
 
-  pub query_read : (variant : N) (v : M) (report : Report N) (r : Report M) → reads variant (Ok v) → IsReportRead reads report (Ok r) →
-      IsQueryRead reads (Variant variant report) (Ok (Variant v r))
+  pub room_read : (frame : N) (f : A) (repetition : M) (r : ℕ) → reads frame (Ok f) → counts repetition (Ok r) → IsReportRead reads counts (Room frame repetition) (Ok (Room f r))
+  unfolding names_open
+  room_read frame f repetition r read counted = (Ok f, read, (Ok r, counted, refl))
+
+  pub room_unread : (frame : N) (repetition : M) (e : E) → reads frame (Err e) → IsReportRead {A = A} reads counts (Room frame repetition) (Err e)
+  unfolding names_open
+  room_unread frame repetition e unread = (Err e, unread, refl)
+
+  pub room_uncounted : (frame : N) (f : A) (repetition : M) (e : E) → reads frame (Ok f) → counts repetition (Err e) → IsReportRead {A = A} reads counts (Room frame repetition) (Err e)
+  unfolding names_open
+  room_uncounted frame f repetition e read uncounted = (Ok f, read, (Err e, uncounted, refl))
+
+  pub export_read : (header : Header) (part : M) (k : ℕ) → counts part (Ok k) → IsReportRead {A = A} reads counts (Export header part) (Ok (Export header k))
+  unfolding names_open
+  export_read header part k counted = (Ok k, counted, refl)
+
+  pub export_unread : (header : Header) (part : M) (e : E) → counts part (Err e) → IsReportRead {A = A} reads counts (Export header part) (Err e)
+  unfolding names_open
+  export_unread header part e uncounted = (Err e, uncounted, refl)
+
+  pub query_read : (variant : N) (v : A) (report : Report N M) (r : Report A ℕ) → reads variant (Ok v) → IsReportRead reads counts report (Ok r) →
+      IsQueryRead reads counts (Variant variant report) (Ok (Variant v r))
   unfolding names_open
   query_read variant v report r read asked = (Ok v, read, (Ok r, asked, refl))
 
-  pub variant_unread : (variant : N) (report : Report N) (e : E) → reads variant (Err e) → IsQueryRead {M = M} reads (Variant variant report) (Err e)
+  pub variant_unread : (variant : N) (report : Report N M) (e : E) → reads variant (Err e) → IsQueryRead {A = A} reads counts (Variant variant report) (Err e)
   unfolding names_open
   variant_unread variant report e unread = (Err e, unread, refl)
 
-  pub report_unread : (variant : N) (v : M) (report : Report N) (e : E) → reads variant (Ok v) → IsReportRead {M = M} reads report (Err e) →
-      IsQueryRead {M = M} reads (Variant variant report) (Err e)
+  pub report_unread : (variant : N) (v : A) (report : Report N M) (e : E) → reads variant (Ok v) → IsReportRead {A = A} reads counts report (Err e) →
+      IsQueryRead {A = A} reads counts (Variant variant report) (Err e)
   unfolding names_open
   report_unread variant v report e read unread = (Ok v, read, (Err e, unread, refl))
 
--- where a reader makes this of each name that it reads, that is what the names of the query become
-module _ {N M E : Type 0} (f : N → M) where
-  abbrev Makes : N → Result M E → Type 0
-  Makes name result = IfOk result (λ made. made ≡ f name)
+-- where a reader makes this of each name that it reads, and that of each number, so do the names and numbers of the query become
+module _ {N M A E : Type 0} (f : N → A) (g : M → ℕ) where
+  abbrev Makes : {X Y : Type 0} → (X → Y) → X → Result Y E → Type 0
+  Makes h word result = IfOk result (λ made. made ≡ h word)
 
-  report_made : (report : Report N) (result : Result (Report M) E) → IsReportRead Makes report result → IfOk result (λ made. made ≡ report_with f report)
+  report_made : (report : Report N M) (result : Result (Report A ℕ) E) → IsReportRead (Makes f) (Makes g) report result → IfOk result (λ made. made ≡ report_with f g report)
   unfolding names_open
   report_made Grants result is = rw is refl
   report_made Frames result is = rw is refl
@@ -48,10 +69,57 @@ module _ {N M E : Type 0} (f : N → M) where
   report_made Gaps result is = rw is refl
   report_made (Layout frame) result (Ok name, made, is) = rw is (ap Layout made)
   report_made (Layout frame) result (Err e, made, is) = rw is tt
+  report_made Load result is = rw is refl
+  report_made (Room frame repetition) result (Ok name, made, (Ok number, counted, is)) = rw is (ap (λ n. Room n number) made ∙ ap (Room (f frame)) counted)
+  report_made (Room frame repetition) result (Ok name, made, (Err e, counted, is)) = rw is tt
+  report_made (Room frame repetition) result (Err e, made, is) = rw is tt
+  report_made (Export header part) result (Ok number, counted, is) = rw is (ap (Export header) counted)
+  report_made (Export header part) result (Err e, counted, is) = rw is tt
 
-  pub query_made : (query : Query N) (result : Result (Query M) E) → IsQueryRead Makes query result → IfOk result (λ made. made ≡ query_with f query)
+  pub query_made : (query : Query N M) (result : Result (Query A ℕ) E) → IsQueryRead (Makes f) (Makes g) query result → IfOk result (λ made. made ≡ query_with f g query)
   unfolding names_open
   query_made (Register inventory) result is = rw is refl
   query_made (Variant variant report) result (Ok v, made, (Ok r, read, is)) = rw is (ap (λ n. Variant n r) made ∙ ap (Variant (f variant)) (report_made report (Ok r) read))
   query_made (Variant variant report) result (Ok v, made, (Err e, read, is)) = rw is tt
   query_made (Variant variant report) result (Err e, made, is) = rw is tt
+
+-- Where names are read alike and each number is read, or found to be none, so is the query. `Lacks` says why a name is not read, `Refuses` why a
+-- number is not.
+module _ {N M A E : Type 0} (f : N → A) (g : M → Option ℕ) (Lacks Refuses : E → Type 0) where
+  -- The name is read alike; or for such a cause it is not.
+  abbrev pub IsNamed : N → Result A E → Type 0
+  IsNamed word result = MatchResult result (λ made. made ≡ f word) Lacks
+
+  -- The number is read; or there is none, and for such a cause it is refused.
+  abbrev pub IsCounted : M → Result ℕ E → Type 0
+  IsCounted word result = MatchResult result (λ number. g word ≡ Some number) (λ e. Refuses e × (g word ≡ None))
+
+  -- What was to be read is this; or for such a cause it is not.
+  abbrev IsTaken : {X : Type 0} → Option X → Result X E → Type 0
+  IsTaken said result = MatchResult result (λ made. said ≡ Some made) (λ e. Lacks e ⊎ (Refuses e × (said ≡ None)))
+
+  report_taken : (report : Report N M) (result : Result (Report A ℕ) E) → IsReportRead IsNamed IsCounted report result → IsTaken (report_by f g report) result
+  unfolding names_open
+  report_taken Grants result is = rw is refl
+  report_taken Frames result is = rw is refl
+  report_taken Schedule result is = rw is refl
+  report_taken Gaps result is = rw is refl
+  report_taken (Layout frame) result (Ok name, made, is) = rw (is, made) refl
+  report_taken (Layout frame) result (Err e, lacks, is) = rw is (inl lacks)
+  report_taken Load result is = rw is refl
+  report_taken (Room frame repetition) result (Ok name, made, (Ok number, counted, is)) = rw (is, made, counted) refl
+  report_taken (Room frame repetition) result (Ok name, made, (Err e, (refuses, none), is)) = rw is (inr (refuses, ap (option_map (Room (f frame))) none))
+  report_taken (Room frame repetition) result (Err e, lacks, is) = rw is (inl lacks)
+  report_taken (Export header part) result (Ok number, counted, is) = rw (is, counted) refl
+  report_taken (Export header part) result (Err e, (refuses, none), is) = rw is (inr (refuses, ap (option_map (Export header)) none))
+
+  more_taken : {X Y : Type 0} (h : X → Y) (said : Option X) (e : E) → Lacks e ⊎ (Refuses e × (said ≡ None)) → Lacks e ⊎ (Refuses e × (option_map h said ≡ None))
+  more_taken h said e (inl lacks) = inl lacks
+  more_taken h said e (inr (refuses, none)) = inr (refuses, ap (option_map h) none)
+
+  pub query_taken : (query : Query N M) (result : Result (Query A ℕ) E) → IsQueryRead IsNamed IsCounted query result → IsTaken (query_by f g query) result
+  unfolding names_open
+  query_taken (Register inventory) result is = rw is refl
+  query_taken (Variant variant report) result (Ok v, made, (Ok r, read, is)) = rw (is, made) (ap (option_map (Variant (f variant))) (report_taken report (Ok r) read))
+  query_taken (Variant variant report) result (Ok v, made, (Err e, read, is)) = rw is (more_taken (Variant (f variant)) (report_by f g report) e (report_taken report (Err e) read))
+  query_taken (Variant variant report) result (Err e, lacks, is) = rw is (inl lacks)

@@ -5,15 +5,16 @@ use Rattle.fr_base.specs.Checks.{check}
 use Rattle.fr_base.specs.Cluster.{Cluster}
 use Rattle.fr_base.specs.Book.{Kept, Book}
 use Rattle.fr_base.specs.Queries.{reply}
-use Rattle.fr_base.specs.Step.{Outcome, RefusedAt, knows, common, add_supplier, add_node, change_rows, done, perform, imported, import, act, outcome, step}
+use Rattle.fr_base.specs.Step.{Outcome, RefusedAt, knows, common, add_supplier, set_key, add_node, change_rows, done, perform, imported, import, replaced, replace, act, outcome, step}
 use Rattle.fr_base.specs.Alone.{is_refused}
 use Rattle.fr_base.specs.declared.params.Params.{Params}
 use Rattle.fr_base.specs.declared.refusal.Refusal.{Refusal}
 use Rattle.fr_base.specs.declared.actor.Actor.{Actor}
 use Rattle.fr_base.specs.declared.request.Request.{Request}
 use Rattle.fr_base.specs.declared.request.Command.{Command}
-use Rattle.fr_base.specs.declared.request.Command.TheVariants.{Common, AddSupplier, AddNode, Rows}
+use Rattle.fr_base.specs.declared.request.Command.TheVariants.{Common, AddSupplier, SetKey, AddNode, Rows}
 use Rattle.fr_base.specs.declared.request.Import.{Import}
+use Rattle.fr_base.specs.declared.request.Replacement.{Replacement}
 use Rattle.fr_base.specs.declared.request.Checked.{Checked}
 use Rattle.fr_base.specs.declared.request.Checked.TheVariants as checked
 use Rattle.fr_base.proofs.SoundRefusing.{gives_or, gives_each, gives_when, gives_unless}
@@ -27,6 +28,7 @@ module _ (b : Book) where
   unfolding perform done
   perform-unchanged c (Common command) = gives_each _ (common b command) _ (λ after _ refused. cc)
   perform-unchanged c (AddSupplier s key) = gives_each _ (add_supplier c b s key) _ (λ after _ refused. cc)
+  perform-unchanged c (SetKey s key) = gives_each _ (set_key c b s key) _ (λ after _ refused. cc)
   perform-unchanged c (AddNode s n) = gives_each _ (add_node b s n) _ (λ after _ refused. cc)
   perform-unchanged c (Rows s v what) = gives_each _ (change_rows c.params b s v what) _ (λ after _ refused. cc)
 
@@ -44,10 +46,23 @@ module _ (b : Book) where
       gives_when _ _ _ _ (λ _. imported-unchanged i _ _))))
   import-unchanged p i (Some one) = gives_unless _ _ _ _ (λ _ refused. refl)
 
+  replaced-unchanged : (count : ℕ) (r : Result Book RefusedAt) → Unchanged (replaced b count r)
+  unfolding replaced
+  replaced-unchanged count (Ok d) refused = cc
+  replaced-unchanged count (Err fault) refused = refl
+
+  replace-unchanged : (p : Params) (r : Replacement) → IfOk (replace p b r) Unchanged
+  unfolding replace
+  replace-unchanged p r =
+      gives_or _ (get b.variants r.variant) _ _ (λ x _.
+      gives_when _ _ _ _ (λ _.
+      gives_when _ _ _ _ (λ _. replaced-unchanged _ _)))
+
   act-unchanged : (c : Cluster) (actor : Actor) (what : Checked) → IfOk (act c b actor what) Unchanged
   unfolding act
   act-unchanged c actor (checked.Command command) = perform-unchanged c command
   act-unchanged c actor (checked.Import i) = import-unchanged c.params i (get b.imports (i.supplier, i.label))
+  act-unchanged c actor (checked.Replace r) = replace-unchanged c.params r
   act-unchanged c actor (checked.Query query) = gives_each _ (reply c.params b actor query) _ (λ rows _ refused. refl)
 
   outcome-unchanged : (r : Result Outcome Refusal) → IfOk r Unchanged → Unchanged (outcome b r)

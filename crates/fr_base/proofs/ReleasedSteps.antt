@@ -11,7 +11,7 @@ use Rattle.fr_base.specs.Names.{same_text}
 use Rattle.fr_base.specs.Book.{Frame, Variant, Kept, Book}
 use Rattle.fr_base.specs.ImportRows.{rows_of_body}
 use Rattle.fr_base.specs.Queries.{shown, found, reply}
-use Rattle.fr_base.specs.Step.{Outcome, knows, with_variant, begun, common, add_supplier, add_node, own_rows, shared_by, admits, change_rows, done, perform, RefusedAt, frame_at, with_frame, act_row, act_rows, imported, import, act, outcome, step}
+use Rattle.fr_base.specs.Step.{Outcome, knows, with_variant, begun, common, add_supplier, set_key, add_node, own_rows, shared_by, admits, change_rows, done, perform, RefusedAt, frame_at, with_frame, act_row, act_rows, imported, import, replace_row, replace_rows, replace, act, outcome, step}
 use Rattle.fr_base.specs.Run.{IsRun}
 use Rattle.fr_base.specs.declared.key.Key.{Key}
 use Rattle.fr_base.specs.declared.name.Name.{Name}
@@ -27,13 +27,14 @@ use Rattle.fr_base.specs.declared.query.Query.{Query}
 use Rattle.fr_base.specs.declared.query.Query.TheVariants.{Variant as OfVariant}
 use Rattle.fr_base.specs.declared.report.Report.{Report}
 use Rattle.fr_base.specs.declared.request.Command.{Command}
-use Rattle.fr_base.specs.declared.request.Command.TheVariants.{Common, AddSupplier, AddNode, Rows}
+use Rattle.fr_base.specs.declared.request.Command.TheVariants.{Common, AddSupplier, SetKey, AddNode, Rows}
 use Rattle.fr_base.specs.declared.request.CommonCommand.{CommonCommand}
 use Rattle.fr_base.specs.declared.request.CommonCommand.TheVariants.{OpenVariant, Release}
 use Rattle.fr_base.specs.declared.request.Change.{Change}
 use Rattle.fr_base.specs.declared.request.Change.TheVariants as change
 use Rattle.fr_base.specs.declared.request.FrameChange.TheVariants.{Add, Place, AddSignal}
 use Rattle.fr_base.specs.declared.request.Import.{Import}
+use Rattle.fr_base.specs.declared.request.Replacement.{Replacement}
 use Rattle.fr_base.specs.declared.import.Row.{Row}
 use Rattle.fr_base.specs.declared.import.Row.TheVariants as row
 use Rattle.fr_base.specs.declared.import.RowRead.{RowRead}
@@ -43,6 +44,7 @@ use Rattle.fr_base.proofs.TableLaws.{equal, get-insert}
 use Rattle.fr_base.proofs.SoundTables.{same_some}
 use Rattle.fr_base.proofs.SoundRefusing.{gives_or, gives_each, gives_then, gives_bind, gives_when, gives_unless}
 use Rattle.fr_base.proofs.SoundImports.{at_line-gives}
+use Rattle.fr_base.proofs.SoundReplacements.{replaced-gives}
 use Rattle.fr_base.proofs.KnownSteps.{run-knows}
 
 -- the variant stands
@@ -81,6 +83,12 @@ module _ (b : Book) (v : Name) (x : Variant) (there : get b.variants v ≡ Some 
       gives_when _ _ _ _ (λ _.
       gives_when _ _ _ _ (λ _. there)))
 
+  set_key-stays : (c : Cluster) (s : Name) (k : Key) → IfOk (set_key c b s k) (Stays v x)
+  unfolding set_key
+  set_key-stays c s k =
+      gives_unless _ _ _ _ (λ _.
+      gives_when _ _ _ _ (λ _. there))
+
   add_node-stays : (s n : Name) → IfOk (add_node b s n) (Stays v x)
   unfolding add_node
   add_node-stays s n =
@@ -102,6 +110,7 @@ module _ (b : Book) (v : Name) (x : Variant) (there : get b.variants v ≡ Some 
   unfolding perform done
   perform-stays c (Common command) = gives_bind _ _ (common b command) _ (common-stays command) (λ after h. h)
   perform-stays c (AddSupplier s k) = gives_bind _ _ (add_supplier c b s k) _ (add_supplier-stays c s k) (λ after h. h)
+  perform-stays c (SetKey s k) = gives_bind _ _ (set_key c b s k) _ (set_key-stays c s k) (λ after h. h)
   perform-stays c (AddNode s n) = gives_bind _ _ (add_node b s n) _ (add_node-stays s n) (λ after h. h)
   perform-stays c (Rows s w what) = gives_bind _ _ (change_rows c.params b s w what) _ (change_rows-stays c.params s w what) (λ after h. h)
 
@@ -145,6 +154,32 @@ module _ (b : Book) (v : Name) (x : Variant) (there : get b.variants v ≡ Some 
       imported-stays v x b there i _ _ (rows-stay v x frozen p i.supplier i.variant (rows_of_body p i.body) b there)))))
   import-stays p i (Some one) = gives_unless _ _ _ _ (λ _. there)
 
+-- ---- a replacement
+
+module _ (v : Name) (x : Variant) (frozen : x.released ≡ true) (p : Params) (s w : Name) where
+  replace_row-stays : (b : Book) → get b.variants v ≡ Some x → (r : Row) → IfOk (replace_row p b s w r) (Stays v x)
+  unfolding replace_row
+  replace_row-stays b there (row.AddFrame f n) = gives_unless _ _ _ _ (λ _. framed-stays v x frozen p s w b there f n (frame_at b s w f))
+  replace_row-stays b there (row.Place f n q) = row-stays v x frozen p s w b there (row.Place f n q)
+  replace_row-stays b there (row.AddSignal f signal) = row-stays v x frozen p s w b there (row.AddSignal f signal)
+
+  replace_rows-stay : (reads : List RowRead) (b : Book) → get b.variants v ≡ Some x → IfOk (replace_rows p b s w reads) (Stays v x)
+  unfolding replace_rows
+  replace_rows-stay [] b there = there
+  replace_rows-stay (read ∷ rest) b there =
+      gives_bind _ (Stays v x) _ _ (at_line-gives _ read.line _ (gives_each _ read.row _ (λ r _. replace_row-stays b there r))) (λ d mid.
+      replace_rows-stay rest d mid)
+
+module _ (b : Book) (v : Name) (x : Variant) (there : get b.variants v ≡ Some x) (frozen : x.released ≡ true) where
+  replace-stays : (p : Params) (r : Replacement) → IfOk (replace p b r) (λ o. Stays v x o.book)
+  unfolding replace
+  replace-stays p r =
+      gives_or _ (get b.variants r.variant) _ _ (λ y found.
+      gives_when _ _ y.released _ (λ open_yet.
+      gives_when _ _ _ _ (λ _.
+      let mid = stays-with b v x there frozen r.variant _ (open-other b v x there frozen r.variant y found open_yet) in
+      replaced-gives (Stays v x) b there _ _ (replace_rows-stay v x frozen p r.supplier r.variant (rows_of_body p r.body) _ mid))))
+
 -- ---- a step
 
 module _ (b : Book) (v : Name) (x : Variant) (there : get b.variants v ≡ Some x) (frozen : x.released ≡ true) where
@@ -157,6 +192,7 @@ module _ (b : Book) (v : Name) (x : Variant) (there : get b.variants v ≡ Some 
   unfolding act
   act-stays c actor (checked.Command command) = perform-stays b v x there frozen c command
   act-stays c actor (checked.Import i) = import-stays b v x there frozen c.params i (get b.imports (i.supplier, i.label))
+  act-stays c actor (checked.Replace r) = replace-stays b v x there frozen c.params r
   act-stays c actor (checked.Query query) = gives_each _ (reply c.params b actor query) _ (λ rows _. there)
 
   pub step-stays : (c : Cluster) (actor : Actor) (request : Request) → Stays v x (step c b actor request).book
@@ -181,7 +217,7 @@ run-keeps_released c b last asks answers v x there frozen run = run-stays c b la
 -- ---- queries
 
 -- where the variant is the same, the reply to a query of it is
-reply-alike : (p : Params) (b d : Book) (actor : Actor) (v : Name) (report : Report Name) → get d.variants v ≡ get b.variants v →
+reply-alike : (p : Params) (b d : Book) (actor : Actor) (v : Name) (report : Report Name ℕ) → get d.variants v ≡ get b.variants v →
     reply p d actor (OfVariant v report) ≡ reply p b actor (OfVariant v report)
 unfolding reply found
 reply-alike p b d actor v report same =
@@ -193,14 +229,14 @@ answer-of b d (Ok rows) = refl
 answer-of b d (Err e) = refl
 
 -- a request that is a query is answered alike where its sender is known and the reply is the same
-query-alike : (c : Cluster) (b d : Book) (actor : Actor) (request : Request) (query : Query Name) → check c.params actor request ≡ Ok (checked.Query query) → IsTrue (knows b actor) → IsTrue (knows d actor) →
+query-alike : (c : Cluster) (b d : Book) (actor : Actor) (request : Request) (query : Query Name ℕ) → check c.params actor request ≡ Ok (checked.Query query) → IsTrue (knows b actor) → IsTrue (knows d actor) →
     reply c.params d actor query ≡ reply c.params b actor query → (step c d actor request).answer ≡ (step c b actor request).answer
 unfolding step act outcome ◌>>=◌ ◌>>◌ refuse◌when◌
 query-alike c b d actor request query passed was is same =
     rw (was, is, passed) (ap (λ r. (outcome d (r >>= (λ rows. Ok (record { book = d; answer = rows })))).answer) same ∙ answer-of b d (reply c.params b actor query))
 
 pub run-keeps_answers : (c : Cluster) (b last : Book) (asks : List Ask) (answers : List Answer) (v : Name) (x : Variant) → get b.variants v ≡ Some x → IsTrue x.released → IsRun c b asks answers last →
-    (actor : Actor) (request : Request) (report : Report Name) → IsTrue (knows b actor) → check c.params actor request ≡ Ok (checked.Query (OfVariant v report)) →
+    (actor : Actor) (request : Request) (report : Report Name ℕ) → IsTrue (knows b actor) → check c.params actor request ≡ Ok (checked.Query (OfVariant v report)) →
     (step c last actor request).answer ≡ (step c b actor request).answer
 run-keeps_answers c b last asks answers v x there frozen run actor request report known passed =
     query-alike c b last actor request (OfVariant v report) passed known (run-knows c b last asks answers actor known run)

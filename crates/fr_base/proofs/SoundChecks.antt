@@ -7,7 +7,7 @@ use Rattle.fr_base.specs.Names.{is_name, is_key}
 use Rattle.fr_base.specs.Cycles.{Cycles, are_cycles}
 use Rattle.fr_base.specs.Signals.{is_signal_length, order_of_text}
 use Rattle.fr_base.specs.Channels.{channels_in, has_channel, channel_of_text, channels_of_text}
-use Rattle.fr_base.specs.Checks.{asking, key, name, cycles, slot, channel, channels, placement, signal, parent_name, query, check}
+use Rattle.fr_base.specs.Checks.{asking, key, name, cycles, slot, channel, channels, placement, signal, parent_name, query, has_repetition, check}
 use Rattle.fr_base.specs.Sound.{HasChannelSlot, FitsCluster}
 use Rattle.fr_base.specs.declared.name.Name.{Name}
 use Rattle.fr_base.specs.declared.params.Params.{Params}
@@ -16,7 +16,7 @@ use Rattle.fr_base.specs.declared.actor.Actor.TheVariants.{Integrator, Supplier}
 use Rattle.fr_base.specs.declared.request.Request.{Request}
 use Rattle.fr_base.specs.declared.request.Request.TheVariants as request
 use Rattle.fr_base.specs.declared.request.Command.{Command}
-use Rattle.fr_base.specs.declared.request.Command.TheVariants.{Common, AddSupplier, AddNode, Rows}
+use Rattle.fr_base.specs.declared.request.Command.TheVariants.{Common, AddSupplier, SetKey, AddNode, Rows}
 use Rattle.fr_base.specs.declared.request.CommonCommand.TheVariants.{OpenVariant, Release}
 use Rattle.fr_base.specs.declared.request.Change.{Change}
 use Rattle.fr_base.specs.declared.request.Change.TheVariants.{Grant, Revoke, Frame}
@@ -47,6 +47,7 @@ abbrev pub HasForm : Params → Command → Type 0
 HasForm p (Common (OpenVariant v parent)) = IsTrue (is_name v)
 HasForm p (Common (Release v)) = ⊤
 HasForm p (AddSupplier s k) = IsTrue (is_name s) × IsTrue (is_key k)
+HasForm p (SetKey s k) = IsTrue (is_key k)
 HasForm p (AddNode s n) = IsTrue (is_name n)
 HasForm p (Rows s v what) = IsFormedChange p what
 
@@ -59,7 +60,8 @@ pub record IsFormedImport (actor : Actor) (i : Import) : Type 0 where
 abbrev pub IsFormed : Params → Actor → Checked → Type 0
 IsFormed p actor (checked.Command command) = HasForm p command
 IsFormed p actor (checked.Import i) = IsFormedImport actor i
-IsFormed p actor (checked.Query query) = ⊤
+IsFormed p actor (checked.Replace r) = actor ≡ Supplier r.supplier
+IsFormed p actor (checked.Query query) = IsTrue (has_repetition p query)
 
 asking-form : (actor : Actor) → IfOk (asking actor) (λ s. actor ≡ Supplier s)
 unfolding asking
@@ -121,6 +123,10 @@ check-form p actor (request.AddSupplier supplier text) =
     gives_when _ _ _ _ (λ _.
     gives_bind _ _ (name supplier) _ (name-form supplier) (λ s named.
     gives_bind _ _ (key text) _ (key-form text) (λ k h. (named, h))))
+check-form p actor (request.SetKey supplier text) =
+    gives_when _ _ _ _ (λ _.
+    gives_each _ (name supplier) _ (λ s _.
+    gives_bind _ _ (key text) _ (key-form text) (λ k h. h)))
 check-form p actor (request.AddNode supplier node) =
     gives_when _ _ _ _ (λ _.
     gives_each _ (name supplier) _ (λ s _.
@@ -174,5 +180,10 @@ check-form p actor (request.Import variant label body) =
     gives_bind _ _ (name variant) _ (name-form variant) (λ v named.
     gives_bind _ _ (name label) _ (name-form label) (λ l labelled.
     record { asks = asks; variant = named; label = labelled })))
+check-form p actor (request.Replace variant body) =
+    gives_bind _ _ (asking actor) _ (asking-form actor) (λ s asks.
+    gives_each _ (name variant) _ (λ v _. asks))
 check-form p actor (request.Query asked) =
-    gives_each _ (query asked) _ (λ q _. tt)
+    gives_when _ _ _ _ (λ _.
+    gives_each _ (query asked) _ (λ q _.
+    gives_unless _ _ (has_repetition p q) _ (λ h. h)))

@@ -11,14 +11,14 @@ use Rattle.fr_base.specs.Names.{is_name, is_key, same_text}
 use Rattle.fr_base.specs.Book.{Holder, Frame, Variant, Book, Sender, empty_variant, held_by_node, is_of, own, own_grants, granted}
 use Rattle.fr_base.specs.Signals.{SignalData}
 use Rattle.fr_base.specs.Layouts.{admits_signal, with_signal, without_signal}
-use Rattle.fr_base.specs.Step.{own_rows, shared_by, cell_taken, layout_of, begun, common, add_supplier, add_node, admits_frame, admits, grants_after, frame_after, frames_after, changed, change_rows, done, perform, with_variant}
+use Rattle.fr_base.specs.Step.{own_rows, shared_by, cell_taken, layout_of, begun, common, add_supplier, set_key, add_node, admits_frame, admits, grants_after, frame_after, frames_after, changed, change_rows, done, perform, with_variant}
 use Rattle.fr_base.specs.Sound.{IsSoundVariant, IsOpenedFrom, IsSound}
 use Rattle.fr_base.specs.declared.key.Key.{Key}
 use Rattle.fr_base.specs.declared.name.Name.{Name}
 use Rattle.fr_base.specs.declared.placement.Placement.{Placement}
 use Rattle.fr_base.specs.declared.channel.Channel.{Channel}
 use Rattle.fr_base.specs.declared.request.Command.{Command}
-use Rattle.fr_base.specs.declared.request.Command.TheVariants.{Common, AddSupplier, AddNode, Rows}
+use Rattle.fr_base.specs.declared.request.Command.TheVariants.{Common, AddSupplier, SetKey, AddNode, Rows}
 use Rattle.fr_base.specs.declared.request.CommonCommand.{CommonCommand}
 use Rattle.fr_base.specs.declared.request.CommonCommand.TheVariants.{OpenVariant, Release}
 use Rattle.fr_base.specs.declared.request.Change.{Change}
@@ -29,7 +29,7 @@ use Rattle.fr_base.proofs.LayoutLaws.{IsLayoutOf, admits_signal-layout, without_
 use Rattle.fr_base.proofs.ParametersLaws.{few_words}
 use Rattle.fr_base.proofs.SoundTables.{only-stood, get-passing}
 use Rattle.fr_base.proofs.SoundRows.{holder-is, all_more, more_grants-sound, empty_variant-sound, marked-sound, revoked-sound, dropped-sound, with_variant-sound, changed-sound, more_nodes-sound}
-use Rattle.fr_base.proofs.SoundSuppliers.{joined-sound}
+use Rattle.fr_base.proofs.SoundSuppliers.{joined-sound, rekeyed-sound}
 use Rattle.fr_base.proofs.SoundFrames.{added_variant-sound, placed_variant-sound, unplaced_variant-sound, signals_variant-sound}
 use Rattle.fr_base.proofs.SoundRefusing.{gives_or, gives_bind, gives_next, gives_last, gives_bind_last, gives_when, gives_when_last, gives_unless, gives_unless_last}
 use Rattle.fr_base.proofs.SoundChecks.{HasForm, IsFormedChange, IsFormedFrame}
@@ -161,6 +161,13 @@ module _ (c : Cluster) (b : Book) (sound : IsSound c b) where
       gives_when _ _ _ _ (λ room.
       joined-sound c b sound s k named formed free new (leb-false _ _ room))))
 
+  pub set_key-sound : (s : Name) (k : Key) → IsTrue (is_key k) → IfOk (set_key c b s k) (IsSound c)
+  unfolding set_key
+  set_key-sound s k formed =
+      gives_unless _ _ _ _ (λ there.
+      gives_when _ _ _ _ (λ new.
+      rekeyed-sound c b sound s k formed there new))
+
   pub add_node-sound : (s n : Name) → IsTrue (is_name n) → IfOk (add_node b s n) (IsSound c)
   unfolding add_node
   add_node-sound s n named =
@@ -187,5 +194,6 @@ module _ (c : Cluster) (b : Book) (sound : IsSound c b) where
   unfolding perform done
   perform-sound (Common command) h = gives_bind _ _ (common b command) _ (common-sound command h) (λ after fine. fine)
   perform-sound (AddSupplier s k) h = gives_bind _ _ (add_supplier c b s k) _ (add_supplier-sound s k h.0 h.1) (λ after fine. fine)
+  perform-sound (SetKey s k) h = gives_bind _ _ (set_key c b s k) _ (set_key-sound s k h) (λ after fine. fine)
   perform-sound (AddNode s n) h = gives_bind _ _ (add_node b s n) _ (add_node-sound s n h) (λ after fine. fine)
   perform-sound (Rows s v what) h = gives_bind _ _ (change_rows c.params b s v what) _ (change_rows-sound s v what h) (λ after fine. fine)

@@ -65,7 +65,7 @@ module _ (p : Params) (nodes : Table owned ⊤) (v : Variant) (sound : IsSoundVa
   unfolding placed
   placed_variant-sound fits holds few free = more_frames-sound p nodes v sound k placed (placed-sound fits holds few) (placed-apart v.frames (variant-apart p nodes v sound) k f found q free) (inl (some_there _ f found))
 
--- ---- a placement of a frame is taken back, or its signals are others
+-- ---- placements of a frame are taken back, or its signals are others
 
 module _ (p : Params) (nodes : Table owned ⊤) (v : Variant) (sound : IsSoundVariant p nodes v) (k : Name × Name) (f : Frame) (found : get v.frames k ≡ Some f) where
   pub unplaced_variant-sound : (q : Placement) → IsSoundVariant p nodes (record v { frames = insert v.frames k (record f { placements = remove f.placements q }) })
@@ -82,6 +82,21 @@ module _ (p : Params) (nodes : Table owned ⊤) (v : Variant) (sound : IsSoundVa
         signal_names = old.signal_names;
       })
 
+  -- all of its placements are taken back
+  pub bared_variant-sound : IsSoundVariant p nodes (record v { frames = insert v.frames k (record f { placements = empty }) })
+  unfolding empty get len
+  bared_variant-sound =
+      let old = sound.frames k f found in
+      lesser_frame-sound p nodes v sound k f (record f { placements = empty }) found (λ q h. cc) (record {
+        name = old.name;
+        node = old.node;
+        fits = λ q h. cc;
+        in_grants = λ q h. cc;
+        limit = omega arith;
+        layout = old.layout;
+        signal_names = old.signal_names;
+      })
+
   pub signals_variant-sound : (signals : List SignalData) → IsLayout (record { words = p.payload_words; signals = signals }) → All (λ s. IsTrue (is_name s.name)) signals → IsSoundVariant p nodes (record v { frames = insert v.frames k (record f { signals = signals }) })
   signals_variant-sound signals fine named =
       let old = sound.frames k f found in
@@ -94,3 +109,7 @@ module _ (p : Params) (nodes : Table owned ⊤) (v : Variant) (sound : IsSoundVa
         layout = fine;
         signal_names = named;
       })
+
+  -- all of its signals are dropped
+  pub unsignalled_variant-sound : p.payload_words ≤ 127 → IsSoundVariant p nodes (record v { frames = insert v.frames k (record f { signals = [] }) })
+  unsignalled_variant-sound few = signals_variant-sound [] (empty-layout p.payload_words few) (λ i d h. absurd (omega arith))

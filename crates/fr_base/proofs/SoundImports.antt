@@ -69,7 +69,7 @@ at_line-gives P line (Ok x) h = h
 at_line-gives P line (Err e) h = tt
 
 module _ (p : Params) (s v : Name) where
-  framed-keeps : (b : Book) (f n : Name) (there : Option Frame) → IfOk (with_frame p b s v f n there) (Keeps b)
+  pub framed-keeps : (b : Book) (f n : Name) (there : Option Frame) → IfOk (with_frame p b s v f n there) (Keeps b)
   unfolding with_frame
   framed-keeps b f n None = change_rows-keeps p b s v (change.Frame f (Add n))
   framed-keeps b f n (Some frame) = gives_unless _ _ (same_text frame.node n) _ (λ _. keeps_all b)

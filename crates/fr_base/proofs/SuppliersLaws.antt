@@ -37,11 +37,11 @@ pub parts : (a b : Bool) → IsTrue (a && b) → IsTrue a × IsTrue b
 parts true b h = (refl, h)
 parts false b h = cc
 
-together : (a b : Bool) → IsTrue a → IsTrue b → IsTrue (a && b)
+pub together : (a b : Bool) → IsTrue a → IsTrue b → IsTrue (a && b)
 together true b h k = k
 together false b h k = cc
 
-is_less : (r : Ordering) → IsTrue (is_lt r) → r ≡ Less
+pub is_less : (r : Ordering) → IsTrue (is_lt r) → r ≡ Less
 is_less Less h = refl
 is_less Equal h = cc
 is_less Greater h = cc
@@ -62,7 +62,7 @@ less_holds Greater h = absurd h
 -- ---- the file's list and the book's rows
 
 -- what is before a name is before all that the name is before
-further : (n m : Name) → slice_cmp nat_cmp n m ≡ Less → (es : List Row) → T (below_all (slice_cmp nat_cmp) m es) → T (below_all (slice_cmp nat_cmp) n es)
+pub further : (n m : Name) → slice_cmp nat_cmp n m ≡ Less → (es : List Row) → T (below_all (slice_cmp nat_cmp) m es) → T (below_all (slice_cmp nat_cmp) n es)
 further n m less [] above = tt
 further n m less (e ∷ es) above =
     let step : slice_cmp nat_cmp n e.0 ≡ Less = nat_list_cmp_total.trans n m e.0 less (less_holds _ (first _ _ above)) in
@@ -82,7 +82,7 @@ sorted (s ∷ ss) rise =
     both _ _ (before_all s.name ss later.0 later.1) (sorted ss later.1)
 
 -- rows in order have names that rise
-rises : (es : List Row) → T (is_sorted (slice_cmp nat_cmp) es) → IsTrue (names_rise (map listed es))
+pub rises : (es : List Row) → T (is_sorted (slice_cmp nat_cmp) es) → IsTrue (names_rise (map listed es))
 rises [] h = refl
 rises (e ∷ []) h = refl
 rises (e ∷ d ∷ es) h = together _ _ (held _ (first _ _ (first _ _ h))) (rises (d ∷ es) (second _ _ h))
@@ -103,14 +103,14 @@ file_of-opening f h = ap (λ ss. record f { suppliers = ss }) (ap (map listed) (
 
 -- ---- one more joined
 
-abbrev R : Name → Name → Ordering
+abbrev pub R : Name → Name → Ordering
 R = slice_cmp nat_cmp
 
 -- the keys of some rows
-abbrev keys : List Row → List Key
+abbrev pub keys : List Row → List Key
 keys es = map (λ s. s.key) (map listed es)
 
-other_way : (a b : List ℕ) → same_text a b ≡ false → same_text b a ≡ false
+pub other_way : (a b : List ℕ) → same_text a b ≡ false → same_text b a ≡ false
 other_way a b h = elim (cases_Bool (same_text b a)) [
   | inl same ↦ absurd (true≢false (sym ((bytes_eq-Decides a b).1 (sym (same_text-is b a same))) ∙ h))
   | inr other ↦ other

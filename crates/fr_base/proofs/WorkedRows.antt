@@ -1,5 +1,5 @@
 -- The definitions computed on small registers.
-use Rattle.std.proofs.Common.{◌≡◌, ℕ, List, [], ◌∷◌, ◌++◌, false, true, Some, None, map, filter, refl, codes}
+use Rattle.std.proofs.Common.{◌≡◌, ℕ, List, [], ◌∷◌, ◌++◌, false, true, Option, Some, None, map, filter, refl, codes}
 use Rattle.std.specs.Prelude.{Bool, ⊤, ◌+◌, ◌/◌, ◌%◌}
 use Rattle.std.specs.List.{range_with_len}
 use Rattle.fr_base.specs.Refusing.{◌>>=◌, ◌>>◌, ◌or◌, refuse◌when◌}
@@ -14,7 +14,7 @@ use Rattle.fr_base.specs.Cluster.{ClusterFile}
 use Rattle.fr_base.specs.Actors.{actor_of}
 use Rattle.fr_base.specs.Alone.{answers_to, book_after}
 use Rattle.fr_base.specs.Book.{empty_variant, suppliers_of, opening, granted, placements_of, schedule_of}
-use Rattle.fr_base.specs.Step.{begun, common, has_key, add_supplier, add_node, own_rows, shared_by, in_use, cell_taken, admits_frame, admits, grants_after, frame_after, frames_after, changed, change_rows, done, perform, act, outcome, step}
+use Rattle.fr_base.specs.Step.{begun, common, has_key, add_supplier, set_key, add_node, own_rows, shared_by, in_use, cell_taken, admits_frame, admits, grants_after, frame_after, frames_after, changed, change_rows, done, perform, act, outcome, step}
 use Rattle.fr_base.specs.Queries.{grants_of, frames_of, sendings_of, gaps_of, named, signals_of, cluster_of, variants_of, nodes_of, held, shown, found, reply}
 use Rattle.fr_base.specs.Moments.{ring, moment, moments, gaps, greatest_gap}
 use Rattle.fr_base.specs.Bits.{bits_of}
@@ -35,9 +35,10 @@ use Rattle.fr_base.specs.declared.channel.Channel.TheVariants as ch
 use Rattle.fr_base.specs.declared.channel.Channels.TheVariants as chs
 use Rattle.fr_base.specs.declared.refusal.Refusal.TheVariants.{UnknownKey, NotYours, BadName, BadCycles, BadSlot, BadChannel, BadSignal, NoVariant, Released, NotReleased, TooDeep, NoSupplier, NoNode, NoFrame, NoSignal, NoPlacement, NotGranted, InUse, Exists, NodeDiffers, Limit, Taken, CellTaken, OutOfPayload, BitTaken, BadKey, KeyTaken}
 use Rattle.fr_base.specs.declared.actor.Actor.TheVariants.{Integrator, Supplier}
+use Rattle.fr_base.specs.declared.actor.Actor.{Actor}
 use Rattle.fr_base.specs.declared.request.Ask.{Ask}
 use Rattle.fr_base.specs.declared.request.Request.{Request}
-use Rattle.fr_base.specs.declared.request.Request.TheVariants.{OpenVariant, Release, AddNode, Grant, Revoke, AddFrame, DropFrame, Place, Unplace, AddSignal, DropSignal, AddSupplier, Query}
+use Rattle.fr_base.specs.declared.request.Request.TheVariants.{OpenVariant, Release, AddNode, Grant, Revoke, AddFrame, DropFrame, Place, Unplace, AddSignal, DropSignal, AddSupplier, SetKey, Query}
 use Rattle.fr_base.specs.declared.query.Query.TheVariants.{Register as OfRegister, Variant as OfVariant}
 use Rattle.fr_base.specs.declared.query.Inventory.TheVariants as listed
 use Rattle.fr_base.specs.declared.report.Report.TheVariants.{Grants, Frames, Schedule, Gaps, Layout}
@@ -108,7 +109,7 @@ answers asks = answers_to file.cluster (opening file) asks
 
 -- what the rows below unfold
 unfoldable pub a_small_register : ⊤
-unfolding file answers ◌>>=◌ ◌>>◌ ◌or◌ refuse◌when◌ empty get len insert only remove from_rows settle numbers names channel_order channels_order owned channel_slots placement_order is_name is_key all_cycles cycles_of asking key name cycles slot channel channels placement signal parent_name report query check cells_of has_cell cluster_cells fill first_taken entries empty_variant suppliers_of opening granted placements_of schedule_of begun common has_key add_supplier add_node own_rows shared_by in_use cell_taken admits_frame admits grants_after frame_after frames_after changed change_rows done perform grants_of frames_of sendings_of gaps_of named signals_of cluster_of variants_of nodes_of held shown found reply ring moment moments gaps greatest_gap bits_of layouts.first_taken_bit layouts.admits_signal act outcome step
+unfolding file answers ◌>>=◌ ◌>>◌ ◌or◌ refuse◌when◌ empty get len insert only remove from_rows settle numbers names channel_order channels_order owned channel_slots placement_order is_name is_key all_cycles cycles_of asking key name cycles slot channel channels placement signal parent_name report query check cells_of has_cell cluster_cells fill first_taken entries empty_variant suppliers_of opening granted placements_of schedule_of begun common has_key add_supplier set_key add_node own_rows shared_by in_use cell_taken admits_frame admits grants_after frame_after frames_after changed change_rows done perform grants_of frames_of sendings_of gaps_of named signals_of cluster_of variants_of nodes_of held shown found reply ring moment moments gaps greatest_gap bits_of layouts.first_taken_bit layouts.admits_signal act outcome step
 a_small_register = tt
 
 -- a report's answer, by whether the integrator asked
@@ -717,6 +718,53 @@ pub a_key_before_and_after :
     × (actor_of file.cluster (book_after file.cluster (opening file) joining) (codes "integrator1") ≡ Some Integrator)
 unfolding a_small_register joining actor_of
 a_key_before_and_after = (refl, refl, refl)
+
+-- ---- keys that change
+
+-- The supplier's plan, and then another key for it. A key that is somebody's is taken, the supplier's own too.
+unfoldable pub keying : List Ask
+keying =
+    integrator (OpenVariant (codes "v1") None)
+    ∷ integrator (AddNode (codes "s1") (codes "n1"))
+    ∷ integrator (Grant (codes "v1") 1 (codes "A") (codes "s1") (codes "n1"))
+    ∷ s1 (AddFrame (codes "v1") (codes "f1") (codes "n1"))
+    ∷ s1 (Place (codes "v1") (codes "f1") 1 (codes "A") 0 64)
+    ∷ integrator (SetKey (codes "s1") (codes "supplier09"))
+    ∷ s1 (Query (OfVariant (codes "v1") Schedule))
+    ∷ integrator (SetKey (codes "s1") (codes "supplier09"))
+    ∷ integrator (SetKey (codes "s1") (codes "supplier02"))
+    ∷ integrator (SetKey (codes "s1") (codes "integrator1"))
+    ∷ integrator (SetKey (codes "s1") (codes "short"))
+    ∷ integrator (SetKey (codes "s3") (codes "short"))
+    ∷ integrator (SetKey (codes "3s") (codes "short"))
+    ∷ integrator (SetKey (codes "s3") (codes "supplier03"))
+    ∷ integrator (SetKey (codes "s3") (codes "supplier02"))
+    ∷ s1 (SetKey (codes "s1") (codes "supplier03"))
+    ∷ []
+
+pub a_key_changes :
+    answers keying
+    ≡ Done ∷ Done ∷ Done ∷ Done ∷ Done ∷ Done
+    ∷ Sent false (record { cycle = 0; slot = 1; channel = ch.A; frame = codes "f1"; node = codes "n1"; supplier = codes "s1" } ∷ [])
+    ∷ Refused KeyTaken ∷ Refused KeyTaken ∷ Refused KeyTaken
+    ∷ Refused BadKey ∷ Refused BadKey ∷ Refused BadName ∷ Refused NoSupplier ∷ Refused NoSupplier ∷ Refused NotYours ∷ []
+unfolding a_small_register keying
+a_key_changes = refl
+
+-- whose a key is before these and after them
+abbrev whose : List ℕ → Option Actor × Option Actor
+whose key = (actor_of file.cluster (opening file) key, actor_of file.cluster (book_after file.cluster (opening file) keying) key)
+
+-- The old key is nobody's, the new one the supplier's, and the others are whose they were.
+pub whose_the_keys_are :
+    map whose (codes "supplier01" ∷ codes "supplier09" ∷ codes "supplier02" ∷ codes "integrator1" ∷ [])
+    ≡ (Some (Supplier (codes "s1")), None)
+    ∷ (None, Some (Supplier (codes "s1")))
+    ∷ (Some (Supplier (codes "s2")), Some (Supplier (codes "s2")))
+    ∷ (Some Integrator, Some Integrator)
+    ∷ []
+unfolding a_small_register keying actor_of
+whose_the_keys_are = refl
 
 -- `s10`, `s11`, .., whose keys are `supplier10`, `supplier11`, ..
 abbrev pub two_digits : ℕ → List ℕ

@@ -21,7 +21,7 @@ use Rattle.fr_base.specs.declared.actor.Actor.{Actor}
 use Rattle.fr_base.specs.declared.actor.Actor.TheVariants.{Integrator, Supplier}
 use Rattle.fr_base.specs.declared.request.Ask.{Ask}
 use Rattle.fr_base.specs.declared.request.Request.{Request}
-use Rattle.fr_base.specs.declared.request.Request.TheVariants.{OpenVariant, Release, AddSupplier, AddNode, Grant, Revoke}
+use Rattle.fr_base.specs.declared.request.Request.TheVariants.{OpenVariant, Release, AddSupplier, SetKey, AddNode, Grant, Revoke}
 
 -- ---- rows
 
@@ -50,6 +50,7 @@ abbrev pub concerns : Name → Request → Bool
 concerns s (OpenVariant v parent) = true
 concerns s (Release v) = true
 concerns s (AddSupplier t key) = same_text t s
+concerns s (SetKey t key) = same_text t s
 concerns s (AddNode t n) = same_text t s
 concerns s (Grant v k c t n) = same_text t s
 concerns s (Revoke v k c t) = same_text t s
@@ -131,8 +132,10 @@ is_full b = nat_le MAX_SUPPLIERS (len b.suppliers)
 
 -- The answer beside other suppliers, from the answer in the register of the supplier alone: a Grant that is done there is
 -- Taken where another supplier holds slot and channel; an AddSupplier that is done there is KeyTaken where another supplier has the
--- key, else Limit where no more may join; all else is answered alike.
+-- key, else Limit where no more may join; a SetKey that is done there is KeyTaken where another supplier has the key; all
+-- else is answered alike.
 abbrev pub beside : Name → Book → Request → Answer → Answer
 beside s b (Grant v slot channel t n) Done = if is_another s (holder_at b v slot channel) then Refused Taken else Done
 beside s b (AddSupplier t key) Done = if another_has s b key then Refused KeyTaken else if is_full b then Refused Limit else Done
+beside s b (SetKey t key) Done = if another_has s b key then Refused KeyTaken else Done
 beside s b request answer = answer

@@ -4,7 +4,7 @@ use Rattle.std.specs.Prelude.{ℕ, Bool, true, false, not, ◌&&◌, List, nat_l
 use Rattle.std.specs.List.{list_all}
 use Rattle.fr_base.specs.Refusing.{◌>>=◌, ◌>>◌, ◌or◌, refuse◌when◌}
 use Rattle.fr_base.specs.Names.{is_name, is_key}
-use Rattle.fr_base.specs.Cycles.{Cycles, are_cycles}
+use Rattle.fr_base.specs.Cycles.{Cycles, are_cycles, is_repetition}
 use Rattle.fr_base.specs.Signals.{SignalData, is_signal_length, order_of_text}
 use Rattle.fr_base.specs.Channels.{channels_in, has_channel, channel_of_text, channels_of_text}
 use Rattle.fr_base.specs.declared.channel.Channel.{Channel}
@@ -19,14 +19,14 @@ use Rattle.fr_base.specs.declared.actor.Actor.{Actor}
 use Rattle.fr_base.specs.declared.actor.Actor.TheVariants.{Integrator, Supplier}
 use Rattle.fr_base.specs.declared.request.Request.{Request}
 use Rattle.fr_base.specs.declared.request.Request.TheVariants as request
-use Rattle.fr_base.specs.declared.request.Command.TheVariants.{Common, AddSupplier, AddNode, Rows}
+use Rattle.fr_base.specs.declared.request.Command.TheVariants.{Common, AddSupplier, SetKey, AddNode, Rows}
 use Rattle.fr_base.specs.declared.request.CommonCommand.TheVariants.{OpenVariant, Release}
 use Rattle.fr_base.specs.declared.request.Change.TheVariants.{Grant, Revoke, Frame}
 use Rattle.fr_base.specs.declared.request.FrameChange.TheVariants.{Add, Drop, Place, Unplace, AddSignal, DropSignal}
 use Rattle.fr_base.specs.declared.query.Query.{Query}
 use Rattle.fr_base.specs.declared.query.Query.TheVariants.{Register, Variant}
 use Rattle.fr_base.specs.declared.report.Report.{Report}
-use Rattle.fr_base.specs.declared.report.Report.TheVariants.{Grants, Frames, Schedule, Gaps, Layout}
+use Rattle.fr_base.specs.declared.report.Report.TheVariants.{Grants, Frames, Schedule, Gaps, Layout, Load, Room, Export}
 use Rattle.fr_base.specs.declared.request.Checked.{Checked}
 use Rattle.fr_base.specs.declared.request.Checked.TheVariants as checked
 
@@ -94,7 +94,7 @@ parent_name (Some text) = do
   Ok (Some parent)
 
 -- a report, with the name of its frame, if it is of one
-unfoldable pub report : Report (List ℕ) → Result (Report Name) Refusal
+unfoldable pub report : Report (List ℕ) ℕ → Result (Report Name ℕ) Refusal
 report Grants = Ok Grants
 report Frames = Ok Frames
 report Schedule = Ok Schedule
@@ -102,14 +102,34 @@ report Gaps = Ok Gaps
 report (Layout frame) = do
   f ← name frame
   Ok (Layout f)
+report Load = Ok Load
+report (Room frame repetition) = do
+  f ← name frame
+  Ok (Room f repetition)
+report (Export header part) = Ok (Export header part)
 
 -- a query, with its names
-unfoldable pub query : Query (List ℕ) → Result (Query Name) Refusal
+unfoldable pub query : Query (List ℕ) ℕ → Result (Query Name ℕ) Refusal
 query (Register inventory) = Ok (Register inventory)
 query (Variant variant asked) = do
   v ← name variant
   r ← report asked
   Ok (Variant v r)
+
+-- whether a query is of the room for a frame, which a supplier alone may ask
+abbrev pub is_of_room : {N M : Type 0} → Query N M → Bool
+is_of_room (Variant variant (Room frame repetition)) = true
+is_of_room _ = false
+
+-- whether the repetition of a report, where it has one, divides the count of cycles
+abbrev pub divides : {F : Type 0} → Params → Report F ℕ → Bool
+divides p (Room frame repetition) = is_repetition p.cycles repetition
+divides p _ = true
+
+-- and that of a query
+abbrev pub has_repetition : {N : Type 0} → Params → Query N ℕ → Bool
+has_repetition p (Variant variant asked) = divides p asked
+has_repetition p _ = true
 
 -- the request with checked values
 unfoldable pub check : Params → Actor → Request → Result Checked Refusal
@@ -127,6 +147,11 @@ check p actor (request.AddSupplier supplier text) = do
   s ← name supplier
   k ← key text
   Ok (checked.Command (AddSupplier s k))
+check p actor (request.SetKey supplier text) = do
+  refuse NotYours when not (is_integrator actor)
+  s ← name supplier
+  k ← key text
+  Ok (checked.Command (SetKey s k))
 check p actor (request.AddNode supplier node) = do
   refuse NotYours when not (is_integrator actor)
   s ← name supplier
@@ -188,6 +213,12 @@ check p actor (request.Import variant label body) = do
   v ← name variant
   l ← name label
   Ok (checked.Import (record { supplier = s; variant = v; label = l; body = body }))
+check p actor (request.Replace variant body) = do
+  s ← asking actor
+  v ← name variant
+  Ok (checked.Replace (record { supplier = s; variant = v; body = body }))
 check p actor (request.Query asked) = do
+  refuse NotYours when is_integrator actor && is_of_room asked
   q ← query asked
+  refuse BadCycles when not (has_repetition p q)
   Ok (checked.Query q)

@@ -1,35 +1,46 @@
 -- Laws: a new register is sound. Each request, done or refused, leaves a sound book sound, and so does each run. In a
 -- sound book at most one frame is sent in a cell of a variant, by one placement alone, and its supplier and node hold
--- the grant of the cell's slot and channel. Who is known stays known. A released variant stays, and so do the answers
--- to queries of it. A refusal changes nothing. An import that was carried out has the same answer ever after and
+-- the grant of the cell's slot and channel. Who is known stays known; a key that was changed is nobody's. A released
+-- variant stays, and so do the answers to queries of it. A refusal changes nothing. An import that was carried out has the same answer ever after and
 -- changes nothing again; its label stays used. What is a supplier's is answered as in a register of its own, and does
 -- the same to its rows. Two sound registers under one cluster that are alike for a supplier stay alike for it.
--- Suppliers depend on each other alone by a Grant that another's grant makes `Taken`, and by a supplier that is to join
--- with another's key or beside 64. Each law says of which books it is: any, or sound ones.
-use Rattle.std.specs.Prelude.{◌≡◌, ℕ, ◌&&◌, List, take, drop, Some, Ok, IsTrue, IsFalse}
+-- Suppliers depend on each other alone by a Grant that another's grant makes `Taken`, and by a supplier that is to have
+-- another's key, or is to join beside 64. Each law says of which books it is: any, or sound ones.
+use Rattle.std.specs.Prelude.{◌≡◌, ◌⊎◌, ℕ, ◌&&◌, List, length, take, drop, Some, None, Ok, Err, IsTrue, IsFalse}
 use Rattle.fr_base.specs.Tables.{get}
 use Rattle.fr_base.specs.Cells.{Cell, cells_of}
 use Rattle.fr_base.specs.Schedule.{first_taken}
+use Rattle.fr_base.specs.Cycles.{is_repetition}
 use Rattle.fr_base.specs.Checks.{check}
 use Rattle.fr_base.specs.Cluster.{Cluster, ClusterFile, IsWellFormed}
 use Rattle.fr_base.specs.Names.{is_name, same_text}
 use Rattle.fr_base.specs.Book.{Frame, Variant, Book, opening, granted, schedule_of}
+use Rattle.fr_base.specs.Actors.{actor_of}
 use Rattle.fr_base.specs.Step.{knows, step}
+use Rattle.fr_base.specs.Room.{room_in, has_place}
+use Rattle.fr_base.specs.Queries.{sendings_of}
+use Rattle.fr_base.specs.Seen.{seen_grants, seen_frames}
+use Rattle.fr_base.specs.Load.{load_of, all_used}
 use Rattle.fr_base.specs.Run.{IsRun}
-use Rattle.fr_base.specs.Sound.{IsSent, IsSound}
-use Rattle.fr_base.specs.Alone.{own_variant, rows_of, own_sender, concerns, is_refused, is_mine, asks_of, answers_of, alone, answers_to, book_after, beside}
+use Rattle.fr_base.specs.Sound.{FitsCluster, IsSent, IsSound}
+use Rattle.fr_base.specs.Alone.{own_variant, rows_of, own_sender, concerns, is_done, is_refused, is_mine, asks_of, answers_of, alone, answers_to, book_after, beside}
 use Rattle.fr_base.specs.declared.answer.Answer.{Answer}
-use Rattle.fr_base.specs.declared.answer.Answer.TheVariants.{Imported, Refused}
-use Rattle.fr_base.specs.declared.refusal.Refusal.TheVariants.{BadName, LabelUsed}
+use Rattle.fr_base.specs.declared.answer.Answer.TheVariants.{Done, Imported, Refused}
+use Rattle.fr_base.specs.declared.refusal.Refusal.{Refusal}
+use Rattle.fr_base.specs.declared.refusal.Refusal.TheVariants.{BadName, LabelUsed, Limit}
 use Rattle.fr_base.specs.declared.name.Name.{Name}
+use Rattle.fr_base.specs.declared.key.Key.{Key}
 use Rattle.fr_base.specs.declared.placement.Placement.{Placement}
 use Rattle.fr_base.specs.declared.actor.Actor.{Actor}
 use Rattle.fr_base.specs.declared.actor.Actor.TheVariants.{Integrator, Supplier}
 use Rattle.fr_base.specs.declared.request.Ask.{Ask}
 use Rattle.fr_base.specs.declared.request.Request.{Request}
-use Rattle.fr_base.specs.declared.request.Request.TheVariants.{Import}
+use Rattle.fr_base.specs.declared.request.Request.TheVariants.{SetKey, Import}
 use Rattle.fr_base.specs.declared.query.Query.TheVariants.{Variant as OfVariant}
 use Rattle.fr_base.specs.declared.report.Report.{Report}
+use Rattle.fr_base.specs.declared.request.Command.TheVariants.{Rows}
+use Rattle.fr_base.specs.declared.request.Change.TheVariants as change
+use Rattle.fr_base.specs.declared.request.FrameChange.TheVariants.{Place}
 use Rattle.fr_base.specs.declared.request.Checked.TheVariants as checked
 
 -- A new register is sound.
@@ -67,6 +78,16 @@ abbrev pub KnownStaysKnown : Type 0
 KnownStaysKnown = (c : Cluster) (b last : Book) (asks : List Ask) (answers : List Answer) (actor : Actor) →
     IsTrue (knows b actor) → IsRun c b asks answers last → IsTrue (knows last actor)
 
+-- ---- whose a key is
+
+-- In a sound book, once a SetKey was done, the new key is the supplier's, the old one is nobody's, and any other is whose it was.
+abbrev pub KeyIsChanged : Type 0
+KeyIsChanged = (c : Cluster) (b : Book) (actor : Actor) (s : Name) (old new : Key) → IsSound c b → get b.suppliers s ≡ Some old →
+    (step c b actor (SetKey s new)).answer ≡ Done →
+    (actor_of c (step c b actor (SetKey s new)).book new ≡ Some (Supplier s))
+    × (actor_of c (step c b actor (SetKey s new)).book old ≡ None)
+    × ((key : List ℕ) → IsFalse (same_text new key) → IsFalse (same_text old key) → actor_of c (step c b actor (SetKey s new)).book key ≡ actor_of c b key)
+
 -- ---- a release freezes
 
 -- Once a variant is released, its grants, frames, placements and signals stay, whatever is asked.
@@ -79,7 +100,7 @@ ReleaseFreezes = (c : Cluster) (b last : Book) (asks : List Ask) (answers : List
 abbrev pub ReleasedAnswersStay : Type 0
 ReleasedAnswersStay = (c : Cluster) (b last : Book) (asks : List Ask) (answers : List Answer) (v : Name) (variant : Variant) →
     get b.variants v ≡ Some variant → IsTrue variant.released → IsRun c b asks answers last →
-    (actor : Actor) (request : Request) (report : Report Name) → IsTrue (knows b actor) →
+    (actor : Actor) (request : Request) (report : Report Name ℕ) → IsTrue (knows b actor) →
     check c.params actor request ≡ Ok (checked.Query (OfVariant v report)) →
     (step c last actor request).answer ≡ (step c b actor request).answer
 
@@ -182,9 +203,41 @@ EqualViews = (c : Cluster) (b d last end : Book) (asks others : List Ask) (answe
     (answers_of s asks answers ≡ answers_of s others replies) × (rows_of s last ≡ rows_of s end)
 
 -- How suppliers depend on each other. An integrator's command that is common or names the supplier, where it is not answered
--- Unavailable, is answered as by the register that holds the supplier alone, with the supplier's rows of the book. There are two
+-- Unavailable, is answered as by the register that holds the supplier alone, with the supplier's rows of the book. There are three
 -- exceptions. A Grant which that register accepts is Taken exactly where another supplier holds slot and channel in the variant. An
--- AddSupplier which it accepts is KeyTaken exactly where another supplier has the key, else Limit exactly where 64 suppliers are there.
+-- AddSupplier which it accepts is KeyTaken exactly where another supplier has the key, else Limit exactly where 64 suppliers are there. A
+-- SetKey which it accepts is KeyTaken exactly where another supplier has the key.
 abbrev pub OneDependence : Type 0
 OneDependence = (c : Cluster) (b : Book) (s : Name) (request : Request) → IsTrue (concerns s request) →
     (step c b Integrator request).answer ≡ beside s b request (step c (rows_of s b) Integrator request).answer
+
+-- ---- where a frame may be placed
+
+-- In a sound book the room for a supplier's frame is that of the register that holds the supplier alone.
+abbrev pub RoomIsAlone : Type 0
+RoomIsAlone = (c : Cluster) (b : Book) (s v f : Name) (repetition : ℕ) → IsSound c b →
+    room_in c.params (rows_of s b) s v f repetition ≡ room_in c.params b s v f repetition
+
+-- In any book a Place by a supplier that is known, if it is one by itself, is answered Done exactly where there is room for the placement.
+abbrev pub RoomIsPlace : Type 0
+RoomIsPlace = (c : Cluster) (b : Book) (s v f : Name) (q : Placement) (request : Request) → IsTrue (knows b (Supplier s)) →
+    check c.params (Supplier s) request ≡ Ok (checked.Command (Rows s v (change.Frame f (Place q)))) →
+    is_done (step c b (Supplier s) request).answer ≡ has_place q (room_in c.params b s v f q.cycles.repetition)
+
+-- Where the room for the frame is refused, but by Limit, such a Place is refused so too.
+abbrev pub RoomIsRefused : Type 0
+RoomIsRefused = (c : Cluster) (b : Book) (s v f : Name) (q : Placement) (request : Request) (refusal : Refusal) → IsTrue (knows b (Supplier s)) →
+    check c.params (Supplier s) request ≡ Ok (checked.Command (Rows s v (change.Frame f (Place q)))) →
+    room_in c.params b s v f q.cycles.repetition ≡ Err refusal → (refusal ≡ Limit) ⊎ ((step c b (Supplier s) request).answer ≡ Refused refusal)
+
+-- In a sound book what there is room for, where the repetition divides the count of cycles, is a placement of the cluster with it.
+abbrev pub RoomFits : Type 0
+RoomFits = (c : Cluster) (b : Book) (s v f : Name) (repetition : ℕ) (q : Placement) → IsSound c b → IsTrue (is_repetition c.params.cycles repetition) →
+    IsTrue (has_place q (room_in c.params b s v f repetition)) → FitsCluster c.params q × (q.cycles.repetition ≡ repetition)
+
+-- ---- how full lanes are
+
+-- In a sound book the used cycles of a variant's load add up to the rows of the schedule that the same actor sees.
+abbrev pub LoadAddsUp : Type 0
+LoadAddsUp = (c : Cluster) (b : Book) (v : Name) (variant : Variant) (actor : Actor) → IsSound c b → get b.variants v ≡ Some variant →
+    all_used (load_of c.params actor (seen_grants actor variant.grants) (seen_frames actor variant.frames)) ≡ length (sendings_of c.params (seen_frames actor variant.frames))

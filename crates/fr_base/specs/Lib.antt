@@ -12,6 +12,7 @@ pub mod Parameters
 pub mod Cluster
 pub mod Refusals
 pub mod Joining
+pub mod KeyChanges
 pub mod Signals
 pub mod Bits
 pub mod Layouts
@@ -21,6 +22,10 @@ pub mod Cells
 pub mod Schedule
 pub mod Moments
 pub mod Book
+pub mod Seen
+pub mod Exports
+pub mod Load
+pub mod Room
 pub mod Queries
 pub mod QueryNames
 pub mod Step
@@ -29,3 +34,4 @@ pub mod Run
 pub mod Sound
 pub mod Alone
 pub mod Laws
+pub mod ReplacingLaws

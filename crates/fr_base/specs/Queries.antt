@@ -1,6 +1,6 @@
 -- Query: an actor sees its own rows, and the integrator those of all suppliers. Of the register these are the cluster's
--- figures with the suppliers, the variants, and the nodes; of a variant grants, frames, schedule, gaps and layouts, each
--- in its order.
+-- figures with the suppliers, the variants, and the nodes; of a variant grants, frames, schedule, gaps, layouts, the load,
+-- the room for a frame, and records for a file, each in its order.
 use Rattle.std.specs.Prelude.{ℕ, ◌==◌, List, [], ◌∷◌, ◌++◌, map, codes, Result, Ok, Err, ⊤}
 use Rattle.std.specs.List.{flat_map}
 use Rattle.fr_base.specs.Refusing.{◌>>=◌, ◌>>◌, ◌or◌, refuse◌when◌}
@@ -9,6 +9,10 @@ use Rattle.fr_base.specs.Keys.{names, owned, channel_slots}
 use Rattle.fr_base.specs.Cells.{Cell, cluster_cells}
 use Rattle.fr_base.specs.Schedule.{entries}
 use Rattle.fr_base.specs.Moments.{greatest_gap}
+use Rattle.fr_base.specs.Seen.{seen_suppliers, seen_nodes, seen_grants, seen_frames}
+use Rattle.fr_base.specs.Exports.{exported}
+use Rattle.fr_base.specs.Load.{load_of}
+use Rattle.fr_base.specs.Room.{own_room}
 use Rattle.fr_base.specs.Checks.{is_integrator}
 use Rattle.fr_base.specs.Names.{same_text}
 use Rattle.fr_base.specs.Book.{Holder, Frame, Variant, Book, Sender, own, own_grants, schedule_of}
@@ -32,7 +36,8 @@ use Rattle.fr_base.specs.declared.answer.Sending.{Sending}
 use Rattle.fr_base.specs.declared.answer.GapRow.{GapRow}
 use Rattle.fr_base.specs.declared.answer.SignalRow.{SignalRow}
 use Rattle.fr_base.specs.declared.refusal.Refusal.{Refusal}
-use Rattle.fr_base.specs.declared.refusal.Refusal.TheVariants.{NoVariant, NoFrame, Unavailable}
+use Rattle.fr_base.specs.declared.refusal.Refusal.TheVariants.{NotYours, NoVariant, Released, NoFrame, Unavailable}
+use Rattle.fr_base.specs.declared.import.Header.TheVariants as header
 use Rattle.fr_base.specs.declared.actor.Actor.{Actor}
 use Rattle.fr_base.specs.declared.actor.Actor.TheVariants.{Integrator, Supplier}
 use Rattle.fr_base.specs.declared.key.Key.{Key}
@@ -41,15 +46,20 @@ use Rattle.fr_base.specs.declared.query.Query.TheVariants.{Register as OfRegiste
 use Rattle.fr_base.specs.declared.query.Inventory.{Inventory}
 use Rattle.fr_base.specs.declared.query.Inventory.TheVariants.{Cluster as TheCluster, Variants, Nodes}
 use Rattle.fr_base.specs.declared.report.Report.{Report}
-use Rattle.fr_base.specs.declared.report.Report.TheVariants.{Grants, Frames, Schedule, Gaps, Layout}
+use Rattle.fr_base.specs.declared.report.Report.TheVariants.{Grants, Frames, Schedule, Gaps, Layout, Load, Room, Export}
 
 -- the word by which a report is asked for
-abbrev pub word_of : {F : Type 0} → Report F → List ℕ
+abbrev pub word_of : {F M : Type 0} → Report F M → List ℕ
 word_of Grants = codes "grants"
 word_of Frames = codes "frames"
 word_of Schedule = codes "schedule"
 word_of Gaps = codes "gaps"
 word_of (Layout frame) = codes "layout"
+word_of Load = codes "load"
+word_of (Room frame repetition) = codes "room"
+word_of (Export header.Frames part) = codes "export_frames"
+word_of (Export header.Placements part) = codes "export_placements"
+word_of (Export header.Signals part) = codes "export_signals"
 
 -- the word by which it is asked what the register holds
 abbrev pub word_of_inventory : Inventory → List ℕ
@@ -58,7 +68,7 @@ word_of_inventory Variants = codes "variants"
 word_of_inventory Nodes = codes "nodes"
 
 -- the word by which a query asks
-abbrev pub word_of_query : {N : Type 0} → Query N → List ℕ
+abbrev pub word_of_query : {N M : Type 0} → Query N M → List ℕ
 word_of_query (OfRegister inventory) = word_of_inventory inventory
 word_of_query (OfVariant variant report) = word_of report
 
@@ -72,26 +82,11 @@ name_of_rows (rows.Frames _) = codes "frames"
 name_of_rows (rows.Schedule _) = codes "schedule"
 name_of_rows (rows.Gaps _) = codes "gaps"
 name_of_rows (rows.Layout _) = codes "layout"
-
--- the suppliers that the actor sees: a supplier itself, the integrator all
-abbrev pub seen_suppliers : Actor → Table names Key → Table names Key
-seen_suppliers Integrator suppliers = suppliers
-seen_suppliers (Supplier s) suppliers = only (λ t _. same_text t s) suppliers
-
--- the nodes that the actor sees
-abbrev pub seen_nodes : Actor → Table owned ⊤ → Table owned ⊤
-seen_nodes Integrator nodes = nodes
-seen_nodes (Supplier s) nodes = own s nodes
-
--- the grants that the actor sees: a supplier its own, the integrator those of all
-abbrev pub seen_grants : Actor → Table channel_slots Holder → Table channel_slots Holder
-seen_grants Integrator grants = grants
-seen_grants (Supplier s) grants = own_grants s grants
-
--- the frames that the actor sees
-abbrev pub seen_frames : Actor → Table owned Frame → Table owned Frame
-seen_frames Integrator frames = frames
-seen_frames (Supplier s) frames = own s frames
+name_of_rows (rows.Load _) = codes "load"
+name_of_rows (rows.Room _) = codes "room"
+name_of_rows (rows.FrameRecords _) = codes "export_frames"
+name_of_rows (rows.PlacementRecords _) = codes "export_placements"
+name_of_rows (rows.SignalRecords _) = codes "export_signals"
 
 -- a frame's placements, in order
 abbrev pub placements_in : Frame → List Placement
@@ -191,7 +186,7 @@ held p b actor Variants = rows.Variants (variants_of b.variants)
 held p b actor Nodes = rows.Nodes (nodes_of (seen_nodes actor b.nodes))
 
 -- what a report shows the actor of the variant
-unfoldable pub shown : Params → Actor → Variant → Report Name → Result ReportRows Refusal
+unfoldable pub shown : Params → Actor → Variant → Report Name ℕ → Result ReportRows Refusal
 shown p actor variant Grants = Ok (rows.Grants (grants_of (seen_grants actor variant.grants)))
 shown p actor variant Frames = Ok (rows.Frames (frames_of (seen_frames actor variant.frames)))
 shown p actor variant Schedule = Ok (rows.Schedule (sendings_of p (seen_frames actor variant.frames)))
@@ -199,16 +194,23 @@ shown p actor variant Gaps = Ok (rows.Gaps (gaps_of p (seen_frames actor variant
 shown p actor variant (Layout f) = do
   refuse NoFrame when len (named f (seen_frames actor variant.frames)) == 0
   Ok (rows.Layout (signals_of (named f (seen_frames actor variant.frames))))
+shown p actor variant Load = Ok (rows.Load (load_of p actor (seen_grants actor variant.grants) (seen_frames actor variant.frames)))
+shown p Integrator variant (Room f repetition) = Err NotYours
+shown p (Supplier s) variant (Room f repetition) = do
+  refuse Released when variant.released
+  places ← own_room p (own_grants s variant.grants) (own s variant.frames) s f repetition
+  Ok (rows.Room places)
+shown p actor variant (Export header part) = Ok (exported header part (seen_frames actor variant.frames).rows)
 
 -- the rows of a query's answer
-unfoldable pub found : Params → Book → Actor → Query Name → Result ReportRows Refusal
+unfoldable pub found : Params → Book → Actor → Query Name ℕ → Result ReportRows Refusal
 found p b actor (OfRegister inventory) = Ok (held p b actor inventory)
 found p b actor (OfVariant v report) = do
   variant ← get b.variants v or NoVariant
   shown p actor variant report
 
 -- the answer to a query
-unfoldable pub reply : Params → Book → Actor → Query Name → Result Answer Refusal
+unfoldable pub reply : Params → Book → Actor → Query Name ℕ → Result Answer Refusal
 reply p b actor query = do
   rows ← found p b actor query
   Ok (answer.Report (is_integrator actor) rows)

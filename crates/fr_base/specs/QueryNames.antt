@@ -1,38 +1,64 @@
--- Query's names: a query whose names are read, one after another. Where one gives nothing, that is what comes of the
--- query.
-use Rattle.std.specs.Prelude.{◌≡◌, Result, Ok, Err, MatchResult}
+-- Query's names: a query whose names and numbers are read, one after another. Where one gives nothing, that is what
+-- comes of the query.
+use Rattle.std.specs.Prelude.{ℕ, ◌≡◌, Option, Some, option_map, Result, Ok, Err, MatchResult}
 use Rattle.fr_base.specs.Refusing.{◌>>=◌}
 use Rattle.fr_base.specs.declared.query.Query.{Query}
 use Rattle.fr_base.specs.declared.query.Query.TheVariants.{Register, Variant}
 use Rattle.fr_base.specs.declared.report.Report.{Report}
-use Rattle.fr_base.specs.declared.report.Report.TheVariants.{Grants, Frames, Schedule, Gaps, Layout}
+use Rattle.fr_base.specs.declared.report.Report.TheVariants.{Grants, Frames, Schedule, Gaps, Layout, Load, Room, Export}
 
--- what comes of a report, where its names may be read so
-unfoldable pub IsReportRead : {N M E : Type 0} → (N → Result M E → Type 0) → Report N → Result (Report M) E → Type 0
-IsReportRead reads Grants result = result ≡ Ok Grants
-IsReportRead reads Frames result = result ≡ Ok Frames
-IsReportRead reads Schedule result = result ≡ Ok Schedule
-IsReportRead reads Gaps result = result ≡ Ok Gaps
-IsReportRead {N} {M} {E} reads (Layout frame) result =
-    (name : Result M E) × reads frame name × (result ≡ (name >>= (λ f. Ok (Layout f))))
+-- what comes of a report, where its names may be read so, and its numbers
+unfoldable pub IsReportRead : {N M A E : Type 0} → (N → Result A E → Type 0) → (M → Result ℕ E → Type 0) → Report N M → Result (Report A ℕ) E → Type 0
+IsReportRead reads counts Grants result = result ≡ Ok Grants
+IsReportRead reads counts Frames result = result ≡ Ok Frames
+IsReportRead reads counts Schedule result = result ≡ Ok Schedule
+IsReportRead reads counts Gaps result = result ≡ Ok Gaps
+IsReportRead {N} {M} {A} {E} reads counts (Layout frame) result =
+    (name : Result A E) × reads frame name × (result ≡ (name >>= (λ f. Ok (Layout f))))
+IsReportRead reads counts Load result = result ≡ Ok Load
+IsReportRead {N} {M} {A} {E} reads counts (Room frame repetition) result =
+    (name : Result A E) × reads frame name × MatchResult name
+    (λ f. (number : Result ℕ E) × counts repetition number × (result ≡ (number >>= (λ r. Ok (Room f r)))))
+    (λ e. result ≡ Err e)
+IsReportRead {N} {M} {A} {E} reads counts (Export header part) result =
+    (number : Result ℕ E) × counts part number × (result ≡ (number >>= (λ k. Ok (Export header k))))
 
--- what comes of a query, where its names may be read so
-unfoldable pub IsQueryRead : {N M E : Type 0} → (N → Result M E → Type 0) → Query N → Result (Query M) E → Type 0
-IsQueryRead reads (Register inventory) result = result ≡ Ok (Register inventory)
-IsQueryRead {N} {M} {E} reads (Variant variant report) result =
-    (name : Result M E) × reads variant name × MatchResult name
-    (λ v. (asked : Result (Report M) E) × IsReportRead reads report asked × (result ≡ (asked >>= (λ r. Ok (Variant v r)))))
+-- what comes of a query, where its names may be read so, and its numbers
+unfoldable pub IsQueryRead : {N M A E : Type 0} → (N → Result A E → Type 0) → (M → Result ℕ E → Type 0) → Query N M → Result (Query A ℕ) E → Type 0
+IsQueryRead reads counts (Register inventory) result = result ≡ Ok (Register inventory)
+IsQueryRead {N} {M} {A} {E} reads counts (Variant variant report) result =
+    (name : Result A E) × reads variant name × MatchResult name
+    (λ v. (asked : Result (Report A ℕ) E) × IsReportRead reads counts report asked × (result ≡ (asked >>= (λ r. Ok (Variant v r)))))
     (λ e. result ≡ Err e)
 
--- a report with each name changed alike
-abbrev pub report_with : {N M : Type 0} → (N → M) → Report N → Report M
-report_with f Grants = Grants
-report_with f Frames = Frames
-report_with f Schedule = Schedule
-report_with f Gaps = Gaps
-report_with f (Layout frame) = Layout (f frame)
+-- a report with each name changed alike, and each number
+abbrev pub report_with : {N M A : Type 0} → (N → A) → (M → ℕ) → Report N M → Report A ℕ
+report_with f g Grants = Grants
+report_with f g Frames = Frames
+report_with f g Schedule = Schedule
+report_with f g Gaps = Gaps
+report_with f g (Layout frame) = Layout (f frame)
+report_with f g Load = Load
+report_with f g (Room frame repetition) = Room (f frame) (g repetition)
+report_with f g (Export header part) = Export header (g part)
 
--- a query with each name changed alike
-abbrev pub query_with : {N M : Type 0} → (N → M) → Query N → Query M
-query_with f (Register inventory) = Register inventory
-query_with f (Variant variant report) = Variant (f variant) (report_with f report)
+-- a query with each name changed alike, and each number
+abbrev pub query_with : {N M A : Type 0} → (N → A) → (M → ℕ) → Query N M → Query A ℕ
+query_with f g (Register inventory) = Register inventory
+query_with f g (Variant variant report) = Variant (f variant) (report_with f g report)
+
+-- a report with each name changed alike, and each number read; there is none where a number is none
+abbrev pub report_by : {N M A : Type 0} → (N → A) → (M → Option ℕ) → Report N M → Option (Report A ℕ)
+report_by f g Grants = Some Grants
+report_by f g Frames = Some Frames
+report_by f g Schedule = Some Schedule
+report_by f g Gaps = Some Gaps
+report_by f g (Layout frame) = Some (Layout (f frame))
+report_by f g Load = Some Load
+report_by f g (Room frame repetition) = option_map (Room (f frame)) (g repetition)
+report_by f g (Export header part) = option_map (Export header) (g part)
+
+-- a query with each name changed alike, and each number read; there is none where a number is none
+abbrev pub query_by : {N M A : Type 0} → (N → A) → (M → Option ℕ) → Query N M → Option (Query A ℕ)
+query_by f g (Register inventory) = Some (Register inventory)
+query_by f g (Variant variant report) = option_map (Variant (f variant)) (report_by f g report)

@@ -4,7 +4,8 @@
 -- rows and for the supplier's own. An import's rows are such changes in turn: a row of frames adds the frame; a row of
 -- placements is its frame, added where it is not there, and then its placement; a row of signals adds the signal. All are carried out and the import
 -- is kept, or the first refused row is told and nothing is changed. An import whose label is kept has its answer again,
--- or is `LabelUsed`. A refusal leaves the book as it was.
+-- or is `LabelUsed`. A replacement's rows act so where the frames that they name have lost what the file brings anew. A
+-- refusal leaves the book as it was.
 use Rattle.std.specs.Prelude.{ℕ, suc, ◌==◌, Bool, true, false, not, ◌&&◌, List, [], ◌∷◌, length, nat_le, nat_lt, Option, Some, None, is_some, Result, Ok, Err, ⊤}
 use Rattle.std.specs.List.{list_any}
 use Rattle.std.specs.Option.{option_and_then}
@@ -38,7 +39,7 @@ use Rattle.fr_base.specs.declared.actor.Actor.{Actor}
 use Rattle.fr_base.specs.declared.actor.Actor.TheVariants.{Integrator, Supplier}
 use Rattle.fr_base.specs.declared.request.Request.{Request}
 use Rattle.fr_base.specs.declared.request.Command.{Command}
-use Rattle.fr_base.specs.declared.request.Command.TheVariants.{Common, AddSupplier, AddNode, Rows}
+use Rattle.fr_base.specs.declared.request.Command.TheVariants.{Common, AddSupplier, SetKey, AddNode, Rows}
 use Rattle.fr_base.specs.declared.request.CommonCommand.{CommonCommand}
 use Rattle.fr_base.specs.declared.request.CommonCommand.TheVariants.{OpenVariant, Release}
 use Rattle.fr_base.specs.declared.request.Change.{Change}
@@ -46,6 +47,7 @@ use Rattle.fr_base.specs.declared.request.Change.TheVariants.{Grant, Revoke, Fra
 use Rattle.fr_base.specs.declared.request.FrameChange.{FrameChange}
 use Rattle.fr_base.specs.declared.request.FrameChange.TheVariants.{Add, Drop, Place, Unplace, AddSignal, DropSignal}
 use Rattle.fr_base.specs.declared.request.Import.{Import}
+use Rattle.fr_base.specs.declared.request.Replacement.{Replacement}
 use Rattle.fr_base.specs.declared.request.Checked.{Checked}
 use Rattle.fr_base.specs.declared.request.Checked.TheVariants as checked
 
@@ -88,6 +90,13 @@ add_supplier c b s key = do
   refuse Exists when contains b.suppliers s
   refuse KeyTaken when has_key c b key
   refuse Limit when nat_le MAX_SUPPLIERS (len b.suppliers)
+  Ok (record b { suppliers = insert b.suppliers s key })
+
+-- SetKey: the supplier has this key, and its old one is nobody's
+unfoldable pub set_key : Cluster → Book → Name → Key → Result Book Refusal
+set_key c b s key = do
+  refuse NoSupplier when not (contains b.suppliers s)
+  refuse KeyTaken when has_key c b key
   Ok (record b { suppliers = insert b.suppliers s key })
 
 -- AddNode: the supplier has the node, in all variants
@@ -285,6 +294,67 @@ import p b i (Some kept) = do
   refuse LabelUsed when not (same_text kept.variant i.variant && same_text kept.body i.body)
   Ok (record { book = b; answer = answer.Imported kept.rows })
 
+-- ---- a replacement
+
+-- What becomes of what stands at a row's frame, before the rows act: a frame that is there loses its placements where the
+-- rows are placements, and its signals where they are signals.
+unfoldable pub freed : Row → Option Frame → Fate Frame
+freed (row.AddFrame f n) (Some frame) = Becomes frame
+freed (row.Place f n q) (Some frame) = Becomes (record frame { placements = empty })
+freed (row.AddSignal f signal) (Some frame) = Becomes (record frame { signals = [] })
+freed row None = Gone
+
+-- the frame that a row names
+abbrev pub frame_of_row : Row → Name
+frame_of_row (row.AddFrame f n) = f
+frame_of_row (row.Place f n q) = f
+frame_of_row (row.AddSignal f signal) = f
+
+-- the frames after the frame of a row was freed; a refused row names none
+unfoldable pub free_row : Name → Result Row Refusal → Table owned Frame → Table owned Frame
+free_row s (Ok row) frames = settle frames (s, frame_of_row row) (freed row (get frames (s, frame_of_row row)))
+free_row s (Err refusal) frames = frames
+
+-- and after those of all rows were
+unfoldable pub free_rows : Name → List RowRead → Table owned Frame → Table owned Frame
+free_rows s [] frames = frames
+free_rows s (read ∷ rest) frames = free_rows s rest (free_row s read.row frames)
+
+-- the book where each frame of the variant that a row names was freed
+abbrev pub with_freed : Book → Name → Name → Variant → List RowRead → Book
+with_freed b s v variant reads = with_variant b v (record variant { frames = free_rows s reads variant.frames })
+
+-- What a row of a replacement does: a row of frames leaves a frame that is there with this node, and else adds it; the others do what
+-- those of an import do.
+unfoldable pub replace_row : Params → Book → Name → Name → Row → Result Book Refusal
+replace_row p b s v (row.AddFrame f n) = do
+  refuse NoNode when not (contains b.nodes (s, n))
+  with_frame p b s v f n (frame_at b s v f)
+replace_row p b s v (row.Place f n q) = act_row p b s v (row.Place f n q)
+replace_row p b s v (row.AddSignal f signal) = act_row p b s v (row.AddSignal f signal)
+
+-- the rows in turn, each on the rows that those before it left, up to the first that is refused by its own text or as it acts
+unfoldable pub replace_rows : Params → Book → Name → Name → List RowRead → Result Book RefusedAt
+replace_rows p b s v [] = Ok b
+replace_rows p b s v (read ∷ rest) = do
+  after ← at_line read.line (read.row >>= replace_row p b s v)
+  replace_rows p after s v rest
+
+-- all rows were carried out, so many; or one was refused, and the book is the old one
+unfoldable pub replaced : Book → ℕ → Result Book RefusedAt → Outcome
+replaced b count (Ok after) = record { book = after; answer = answer.Replaced count }
+replaced b count (Err fault) = record { book = b; answer = answer.RefusedRow fault.line fault.refusal }
+
+-- A replacement: its variant is there and open, and its bytes are within the limit. First each frame that a row names is freed, and then
+-- the rows act.
+unfoldable pub replace : Params → Book → Replacement → Result Outcome Refusal
+replace p b r = do
+  variant ← get b.variants r.variant or NoVariant
+  refuse Released when variant.released
+  refuse Limit when nat_lt MAX_IMPORT_BYTES (length r.body)
+  Ok (replaced b (length (rows_of_body p r.body))
+      (replace_rows p (with_freed b r.supplier r.variant variant (rows_of_body p r.body)) r.supplier r.variant (rows_of_body p r.body)))
+
 -- ---- the step
 
 -- what was done, unless it was refused
@@ -297,6 +367,7 @@ done result = do
 unfoldable pub perform : Cluster → Book → Command → Result Outcome Refusal
 perform c b (Common command) = done (common b command)
 perform c b (AddSupplier s key) = done (add_supplier c b s key)
+perform c b (SetKey s key) = done (set_key c b s key)
 perform c b (AddNode s n) = done (add_node b s n)
 perform c b (Rows s v change) = done (change_rows c.params b s v change)
 
@@ -304,6 +375,7 @@ perform c b (Rows s v change) = done (change_rows c.params b s v change)
 unfoldable pub act : Cluster → Book → Actor → Checked → Result Outcome Refusal
 act c b actor (checked.Command command) = perform c b command
 act c b actor (checked.Import i) = import c.params b i (get b.imports (i.supplier, i.label))
+act c b actor (checked.Replace r) = replace c.params b r
 act c b actor (checked.Query query) = do
   shown ← reply c.params b actor query
   Ok (record { book = b; answer = shown })

@@ -16,6 +16,8 @@ pub enum Answer {
     Done,
     /// All rows of the import's file were carried out, so many, and the import is kept.
     Imported { rows: u32 },
+    /// All rows of a replacement's file were carried out, so many, in place of what the frames that it names had.
+    Replaced { rows: u32 },
     /// What a query asked for. `all` is true where the integrator asked, who sees the rows of all suppliers.
     Report { all: bool, rows: ReportRows },
     /// Nothing was changed.
@@ -44,6 +46,16 @@ pub enum ReportRows {
     Gaps(Rows<GapRow>),
     /// A frame's signals, by supplier and start.
     Layout(Rows<SignalRow>),
+    /// How full each slot and channel is, by slot and channel.
+    Load(Rows<LoadRow>),
+    /// Where a frame may still be placed, by slot, channels and base.
+    Room(Rows<Placement>),
+    /// A part of the frames as records of a file, by supplier and frame.
+    FrameRecords(Rows<FrameRecord>),
+    /// A part of their placements, by supplier, frame and placement.
+    PlacementRecords(Rows<PlacementRecord>),
+    /// A part of their signals, by supplier, frame and start.
+    SignalRecords(Rows<SignalRecord>),
 }
 
 // It is written out, so that a caller does not prove again how each kind of answer is dropped.
@@ -52,6 +64,7 @@ impl Drop for Answer {
         match self {
             Answer::Done => {}
             Answer::Imported { rows: _ } => {}
+            Answer::Replaced { rows: _ } => {}
             Answer::Report { all: _, rows: _ } => {}
             Answer::Refused(_) => {}
             Answer::RefusedRow {
@@ -70,7 +83,9 @@ impl Answer {
         match self {
             Answer::Report { all: _, rows } => Ok(rows),
             Answer::Refused(refusal) => Err(refusal),
-            Answer::Done | Answer::Imported { rows: _ } => Err(Refusal::Unavailable),
+            Answer::Done | Answer::Imported { rows: _ } | Answer::Replaced { rows: _ } => {
+                Err(Refusal::Unavailable)
+            }
             Answer::RefusedRow {
                 line: _,
                 refusal: _,
@@ -93,6 +108,11 @@ impl ReportRows {
             ReportRows::Schedule(_) => "schedule",
             ReportRows::Gaps(_) => "gaps",
             ReportRows::Layout(_) => "layout",
+            ReportRows::Load(_) => "load",
+            ReportRows::Room(_) => "room",
+            ReportRows::FrameRecords(_) => "export_frames",
+            ReportRows::PlacementRecords(_) => "export_placements",
+            ReportRows::SignalRecords(_) => "export_signals",
         }
     }
 }
@@ -176,6 +196,26 @@ pub struct GrantRow {
     pub supplier: Name,
 }
 
+/// How full a lane is: a slot on a channel.
+#[derive(Clone, Copy, PartialEq, Eq)]
+pub struct LoadRow {
+    pub slot: Slot,
+    pub channel: Channel,
+    /// In how many cycles a frame is sent there, 0 to 64.
+    pub used: u32,
+    /// How many cycles there are, 8 to 64.
+    pub cycles: u32,
+    /// Who holds the lane; none where it is not granted.
+    pub holder: Option<LaneHolder>,
+}
+
+/// Who holds a slot on a channel: a node of a supplier.
+#[derive(Clone, Copy, PartialEq, Eq)]
+pub struct LaneHolder {
+    pub node: Name,
+    pub supplier: Name,
+}
+
 /// A frame, the node that sends it, and its placements by slot, channels, base and repetition.
 #[derive(Drop)]
 pub struct FrameRow {
@@ -212,4 +252,31 @@ pub struct GapRow {
 pub struct SignalRow {
     pub supplier: Name,
     pub signal: Signal,
+}
+
+/// A frame as a record of a file.
+#[derive(Clone, Copy, PartialEq, Eq)]
+pub struct FrameRecord {
+    pub frame: Name,
+    /// The node that sends it.
+    pub node: Name,
+    pub supplier: Name,
+}
+
+/// A placement as a record of a file.
+#[derive(Clone, Copy, PartialEq, Eq)]
+pub struct PlacementRecord {
+    pub frame: Name,
+    /// The node that sends the frame.
+    pub node: Name,
+    pub placement: Placement,
+    pub supplier: Name,
+}
+
+/// A signal as a record of a file.
+#[derive(Clone, Copy, PartialEq, Eq)]
+pub struct SignalRecord {
+    pub frame: Name,
+    pub signal: Signal,
+    pub supplier: Name,
 }

@@ -1,10 +1,11 @@
 //! A request checked by itself, before any register is asked: checked values, or the first refusal.
-ghost use Rattle.std.specs.Prelude.{◌≡◌, ℕ, List, not};
+ghost use Rattle.std.specs.Prelude.{◌≡◌, ◌&&◌, ℕ, List, not};
 ghost use Rattle.std.specs.List.{list_all};
 ghost use Rattle.fr_base.specs.Channels.{channels_in, has_channel};
 ghost use Rattle.fr_base.specs.Refusing.{refuse◌when◌};
 ghost use Rattle.fr_base.specs.declared.request.Request.TheVariants as request;
-ghost use Rattle.fr_base.specs.Checks.{asking, is_integrator, check, key, name, cycles, slot, channel, channels, placement, signal, parent_name};
+ghost use Rattle.fr_base.specs.Cycles.{is_repetition};
+ghost use Rattle.fr_base.specs.Checks.{asking, has_repetition, is_integrator, is_of_room, check, key, name, cycles, slot, channel, channels, placement, signal, parent_name};
 
 use crate::actor::Actor;
 use crate::body::{Body, BodyRef};
@@ -14,9 +15,12 @@ use crate::key::Key;
 use crate::name::Name;
 use crate::params::Params;
 use crate::placement::Placement;
-use crate::query::{NameReader, Query};
+use crate::query::{Query, QueryReader};
 use crate::refusal::Refusal;
-use crate::request::{Change, Checked, Command, CommonCommand, FrameChange, Import, Request};
+use crate::report::Report;
+use crate::request::{
+    Change, Checked, Command, CommonCommand, FrameChange, Import, Replacement, Request,
+};
 use crate::signal::{Order, Signal};
 use crate::slot::Slot;
 use crate::text::Text;
@@ -34,6 +38,7 @@ pub fn check<'a>(
         Request::OpenVariant { variant, parent } => open_variant(actor, variant, parent),
         Request::Release { variant } => release(actor, variant),
         Request::AddSupplier { supplier, key } => add_supplier(actor, supplier, key),
+        Request::SetKey { supplier, key } => set_key(actor, supplier, key),
         Request::AddNode { supplier, node } => add_node(actor, supplier, node),
         Request::Grant {
             variant,
@@ -96,7 +101,8 @@ pub fn check<'a>(
             label,
             body,
         } => import(actor, variant, label, body),
-        Request::Query(asked) => query(asked),
+        Request::Replace { variant, body } => replace(actor, variant, body),
+        Request::Query(asked) => query(params, actor, asked),
     }
 }
 
@@ -129,6 +135,15 @@ fn add_supplier(actor: &Actor, supplier: &Text, text: &Text) -> Result<Checked<'
     integrator(actor)?;
     let (supplier, key) = (name(supplier)?, key(text)?);
     Ok(Checked::Command(Command::AddSupplier { supplier, key }))
+}
+
+#[tactic(auto, unfolding(crate::proofs::ChecksLemmas::checks_open))]
+fn set_key(actor: &Actor, supplier: &Text, text: &Text) -> Result<Checked<'static>, Refusal>
+    ensures { (p : Params) → result ≡ check p actor.now (request.SetKey supplier.now text.now) }
+{
+    integrator(actor)?;
+    let (supplier, key) = (name(supplier)?, key(text)?);
+    Ok(Checked::Command(Command::SetKey { supplier, key }))
 }
 
 #[tactic(auto, unfolding(crate::proofs::ChecksLemmas::checks_open))]
@@ -282,25 +297,93 @@ fn import<'a>(
     }))
 }
 
-fn query(asked: &Query<Text>) -> Result<Checked<'static>, Refusal>
-    ensures { (p : Params) (actor : Actor) → result ≡ check p actor (request.Query asked.now) }
+#[tactic(auto, unfolding(crate::proofs::ChecksLemmas::checks_open))]
+fn replace<'a>(actor: &Actor, variant: &Text, body: &'a Body) -> Result<Checked<'a>, Refusal>
+    ensures { (p : Params) → result ≡ check p actor.now (request.Replace variant.now body.now) }
 {
+    let (supplier, variant) = (asking(actor)?, name(variant)?);
+    let body = BodyRef::of(body);
+    Ok(Checked::Replace(Replacement {
+        supplier,
+        variant,
+        body,
+    }))
+}
+
+fn query(params: &Params, actor: &Actor, asked: &Query<Text>) -> Result<Checked<'static>, Refusal>
+    ensures { result ≡ check params.now actor.now (request.Query asked.now) }
+{
+    may_ask(actor, asked)?;
     let query = asked.read(&Checking)?;
+    repeats(params, &query)?;
     Ok(Checked::Query(query))
 }
 
-// Reads a text as a name.
+// A supplier alone may ask for the room of a frame.
+#[tactic(auto, unfolding(crate::proofs::ChecksLemmas::checks_open))]
+fn may_ask(actor: &Actor, asked: &Query<Text>) -> Result<(), Refusal>
+    ensures { result ≡ (refuse Refusal.NotYours when is_integrator actor.now && is_of_room asked.now) }
+{
+    match (actor, asked) {
+        (
+            Actor::Integrator,
+            Query::Variant {
+                variant: _,
+                report: Report::Room { .. },
+            },
+        ) => Err(Refusal::NotYours),
+        _ => Ok(()),
+    }
+}
+
+// The repetition of a query, where it has one, divides the count of cycles.
+#[tactic(auto, unfolding(crate::proofs::ChecksLemmas::checks_open))]
+fn repeats(params: &Params, query: &Query<Name>) -> Result<(), Refusal>
+    ensures { result ≡ (refuse Refusal.BadCycles when not (has_repetition params.now query.now)) }
+{
+    match query {
+        Query::Variant {
+            variant: _,
+            report: Report::Room {
+                frame: _,
+                repetition,
+            },
+        } => {
+            if is_repetition(params.cycles(), *repetition) {
+                Ok(())
+            } else {
+                Err(Refusal::BadCycles)
+            }
+        }
+        _ => Ok(()),
+    }
+}
+
+// Whether the repetition divides the count of cycles.
+fn is_repetition(count: u32, repetition: u32) -> bool
+    ensures { result ≡ is_repetition count repetition }
+{
+    repetition >= 1 && count % repetition == 0
+}
+
+// Reads a text as a name, and a number as it is.
 #[derive(Clone, Copy)]
 struct Checking;
 
-impl NameReader<Text, Name, Refusal> for Checking {
-    ghost use Rattle.std.specs.Prelude.{◌≡◌};
+impl QueryReader<Text, u32, Name, Refusal> for Checking {
+    ghost use Rattle.std.specs.Prelude.{◌≡◌, Ok};
     ghost use Rattle.fr_base.specs.Checks.{name};
 
     ghost reads = { λ _ text result. result ≡ name text };
 
+    ghost counts = { λ _ number result. result ≡ Ok number };
+
     fn read_name(&self, text: &Text) -> Result<Name, Refusal> {
         name(text)
+    }
+
+    fn read_number(&self, number: &u32) -> Result<u32, Refusal> {
+        Ok(*number)
     }
 }
 

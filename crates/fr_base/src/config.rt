@@ -1,9 +1,10 @@
-//! What a cluster file says, and the same with one supplier more.
+//! What a cluster file says, and the same with one supplier more or with another key of a supplier.
 ghost use Rattle.std.specs.Prelude.{◌≡◌, ◌==◌, [], ◌∷◌, ◌++◌, length, OnOk, OnErr};
-ghost use Rattle.std.specs.Prelude.{◌⊎◌, Ok, Err, IfOk, IfErr, position, IsTrue};
+ghost use Rattle.std.specs.Prelude.{◌⊎◌, Ok, Err, IfOk, IfErr, map, position, IsTrue};
 ghost use Rattle.std.specs.List.{list_any};
 ghost use Rattle.fr_base.specs.Cluster.{IsWellFormed, keys_of};
 ghost use Rattle.fr_base.specs.Joining.{admits_supplier, is_earlier, joined, with_supplier};
+ghost use Rattle.fr_base.specs.KeyChanges.{admits_key, keyed, with_key};
 ghost use Rattle.fr_base.specs.Names.{same_text};
 ghost use Rattle.fr_base.specs.declared.refusal.Refusal.TheVariants.{Unavailable};
 
@@ -189,6 +190,56 @@ impl Config {
         // The contracts of these readers say that they are a name and a key, which `Config::new` asks.
         let (_name, _key) = (supplier.name.as_str(), supplier.key.as_str());
         Ok(Config::new(self.params(), self.integrator(), suppliers))
+    }
+
+    /// Whether the supplier may have this key. If not: `NoSupplier` where none has the name, `KeyTaken` where
+    /// the integrator or a supplier has the key, the supplier itself too; the first of these that applies.
+    #[tactic(auto, unfolding(crate::proofs::JoiningLemmas::joining_open))]
+    pub fn admits_key(&self, supplier: Name, key: Key) -> Result<(), Refusal>
+        ensures { result ≡ admits_key self.now supplier key }
+    {
+        if !has_name(self.suppliers(), supplier) {
+            return Err(Refusal::NoSupplier);
+        }
+        if self.has_key(key) {
+            return Err(Refusal::KeyTaken);
+        }
+        Ok(())
+    }
+
+    /// This with another key of the supplier. It is refused as [`Config::admits_key`] says, or is `Unavailable`
+    /// where memory is refused.
+    pub fn with_key(&self, alloc: Global, supplier: Name, key: Key) -> Result<Config, Refusal>
+        ensures ok { IfOk result (λ new. (admits_key self.now supplier key ≡ Ok tt) × (new ≡ with_key self.now supplier key)) }
+        ensures err { IfErr result (λ e. ((admits_key self.now supplier key ≡ Ok tt) × (e ≡ Unavailable)) ⊎ (admits_key self.now supplier key ≡ Err e)) }
+    {
+        self.admits_key(supplier, key)?;
+        let suppliers = rekeyed(alloc, self.suppliers(), supplier, key)?;
+        // The contract of this reader says that it is a key, which `Config::new` asks.
+        let _key = key.as_str();
+        Ok(Config::new(self.params(), self.integrator(), suppliers))
+    }
+}
+
+// A copy of the list, in which this key is that of the supplier of this name.
+fn rekeyed(alloc: Global, list: &[Supplier], name: Name, key: Key) -> Result<Suppliers, NoMemory>
+    ensures { IfOk result (λ copy. copy ≡ map (keyed name key) list.now) }
+{
+    let mut suppliers = Suppliers::new(alloc);
+    for supplier in list {
+        suppliers.push(keyed(*supplier, name, key))?;
+    }
+    Ok(suppliers)
+}
+
+// The supplier, with this key where this is its name.
+fn keyed(supplier: Supplier, name: Name, key: Key) -> Supplier
+    ensures { result ≡ keyed name key supplier }
+{
+    if name == supplier.name {
+        Supplier { name, key }
+    } else {
+        supplier
     }
 }
 

@@ -12,7 +12,7 @@ use crate::refusal::Refusal;
 use crate::signal::Signal;
 
 /// What the rows of an import's file are, as its first record says.
-#[derive(Clone, Copy, PartialEq, Eq)]
+#[derive(Clone, Copy, Debug, Drop, PartialEq, Eq)]
 pub enum Header {
     /// Frames, which need not be sent anywhere: `frame,node`.
     Frames,

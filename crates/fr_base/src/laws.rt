@@ -1,7 +1,8 @@
 //! Laws of the register: functions with nothing to do, whose contracts say what holds of any register. A new register
 //! is sound and stays so, one frame is sent in a cell, a release freezes, an import acts once, and each supplier is
 //! answered as if alone.
-ghost use Rattle.fr_base.specs.Laws.{BadVariantIsBadName, EqualViews, FirstTakenIsOwn, HolderSends, ImportActsOnce, ImportIsKept, KnownStaysKnown, LabelStaysUsed, OneDependence, OneFrameInACell, OpeningIsAlone, OpeningIsSound, OtherStepLeavesRows, OwnStepIsAlone, RefusedChangesNothing, ReleaseFreezes, ReleasedAnswersStay, RunIsAlone, RunIsSoundThroughout, RunKeepsSound, ScheduleIsOwn, StepKeepsSound, StepsAreARun};
+ghost use Rattle.fr_base.specs.Laws.{BadVariantIsBadName, EqualViews, FirstTakenIsOwn, HolderSends, ImportActsOnce, ImportIsKept, KeyIsChanged, KnownStaysKnown, LabelStaysUsed, LoadAddsUp, OneDependence, OneFrameInACell, OpeningIsAlone, OpeningIsSound, OtherStepLeavesRows, OwnStepIsAlone, RefusedChangesNothing, ReleaseFreezes, ReleasedAnswersStay, RoomFits, RoomIsAlone, RoomIsPlace, RoomIsRefused, RunIsAlone, RunIsSoundThroughout, RunKeepsSound, ScheduleIsOwn, StepKeepsSound, StepsAreARun};
+ghost use Rattle.fr_base.specs.ReplacingLaws.{ReplacedLeavesTheRest};
 
 /// The book of a new register is sound.
 pub fn opening_is_sound()
@@ -38,6 +39,11 @@ pub fn known_stays_known()
     ensures { KnownStaysKnown }
 {}
 
+/// Once a supplier has another key, that is the supplier's, the old one is nobody's, and all others stay whose they were.
+pub fn key_is_changed()
+    ensures { KeyIsChanged }
+{}
+
 /// A released variant stays as it is, whatever is asked.
 pub fn release_freezes()
     ensures { ReleaseFreezes }
@@ -67,6 +73,11 @@ pub fn label_stays_used()
 /// And with what is no variant's name it is `BadName`.
 pub fn bad_variant_is_bad_name()
     ensures { BadVariantIsBadName }
+{}
+
+/// A replacement that was carried out changes the frames that its file names, and all else is as before.
+pub fn replaced_leaves_the_rest()
+    ensures { ReplacedLeavesTheRest }
 {}
 
 /// A refusal changes nothing, that of an import's row too.
@@ -118,10 +129,37 @@ pub fn equal_views()
     ensures { EqualViews }
 {}
 
-/// An integrator's command that is common or names a supplier is answered as alone, with two exceptions. A
+/// An integrator's command that is common or names a supplier is answered as alone, with three exceptions. A
 /// Grant which is done alone is `Taken` exactly where another supplier holds slot and channel. An
 /// AddSupplier which is done alone is `KeyTaken` exactly where another supplier has the key, else `Limit`
-/// exactly where 64 suppliers are there.
+/// exactly where 64 suppliers are there. A SetKey which is done alone is `KeyTaken` exactly where another
+/// supplier has the key.
 pub fn one_dependence()
     ensures { OneDependence }
+{}
+
+/// In a sound book the room for a supplier's frame is that of the register that holds this supplier
+/// alone.
+pub fn room_is_alone()
+    ensures { RoomIsAlone }
+{}
+
+/// A supplier's Place is answered Done exactly where there is room for the placement.
+pub fn room_is_place()
+    ensures { RoomIsPlace }
+{}
+
+/// Where the room for a frame is refused, but by `Limit`, so is each Place of the frame.
+pub fn room_is_refused()
+    ensures { RoomIsRefused }
+{}
+
+/// What there is room for is a placement of the cluster with the repetition.
+pub fn room_fits()
+    ensures { RoomFits }
+{}
+
+/// In a sound book the used cycles of a load add up to the rows of the schedule that the same actor sees.
+pub fn load_adds_up()
+    ensures { LoadAddsUp }
 {}

@@ -30,8 +30,8 @@ mod text;
 
 pub use actor::Actor;
 pub use answer::{
-    Answer, ClusterRow, Figure, FrameRow, GapRow, GrantRow, NodeRow, ReportRows, Sending,
-    SignalRow, VariantRow,
+    Answer, ClusterRow, Figure, FrameRecord, FrameRow, GapRow, GrantRow, LaneHolder, LoadRow,
+    NodeRow, PlacementRecord, ReportRows, Sending, SignalRecord, SignalRow, VariantRow,
 };
 pub use body::{Body, BodyRef};
 pub use channel::{Channel, Channels};
@@ -43,10 +43,12 @@ pub use import::{Header, Row, RowRead};
 pub use key::Key;
 pub use laws::{
     bad_variant_is_bad_name, equal_views, first_taken_is_own, holder_sends, import_acts_once,
-    import_is_kept, known_stays_known, label_stays_used, one_dependence, one_frame_in_a_cell,
-    opening_is_alone, opening_is_sound, other_step_leaves_rows, own_step_is_alone,
-    refused_changes_nothing, release_freezes, released_answers_stay, run_is_alone,
-    run_is_sound_throughout, run_keeps_sound, schedule_is_own, step_keeps_sound, steps_are_a_run,
+    import_is_kept, key_is_changed, known_stays_known, label_stays_used, load_adds_up,
+    one_dependence, one_frame_in_a_cell, opening_is_alone, opening_is_sound,
+    other_step_leaves_rows, own_step_is_alone, refused_changes_nothing, release_freezes,
+    released_answers_stay, replaced_leaves_the_rest, room_fits, room_is_alone, room_is_place,
+    room_is_refused, run_is_alone, run_is_sound_throughout, run_keeps_sound, schedule_is_own,
+    step_keeps_sound, steps_are_a_run,
 };
 pub use limits::{
     MAX_DEPTH, MAX_FRAMES, MAX_IMPORT_BYTES, MAX_IMPORTS, MAX_NODES, MAX_PAYLOAD_WORDS,
@@ -55,10 +57,12 @@ pub use limits::{
 pub use name::Name;
 pub use params::{ParamFault, Params, RawParams};
 pub use placement::Placement;
-pub use query::{Inventory, NameReader, Query};
+pub use query::{Inventory, Query, QueryReader};
 pub use refusal::Refusal;
 pub use report::Report;
-pub use request::{Ask, Change, Checked, Command, CommonCommand, FrameChange, Import, Request};
+pub use request::{
+    Ask, Change, Checked, Command, CommonCommand, FrameChange, Import, Replacement, Request,
+};
 pub use rows::Rows;
 pub use signal::{BadSignal, Order, Signal};
 pub use slot::Slot;

@@ -1,15 +1,15 @@
-//! What a query asks, and how the names in it are read.
+//! What a query asks, and how the names and numbers in it are read.
 ghost use Rattle.fr_base.specs.QueryNames.{IsQueryRead, IsReportRead};
 
 use crate::report::Report;
 
-/// What a query asks, where a name is an `N`.
+/// What a query asks, where a name is an `N` and a number an `M`.
 #[derive(Clone, Copy, Debug, Drop, PartialEq, Eq)]
-pub enum Query<N> {
+pub enum Query<N, M = u32> {
     /// What the register holds beside the rows of its variants.
     Register(Inventory),
     /// A report of a variant.
-    Variant { variant: N, report: Report<N> },
+    Variant { variant: N, report: Report<N, M> },
 }
 
 /// What a register holds beside the rows of its variants.
@@ -23,23 +23,33 @@ pub enum Inventory {
     Nodes,
 }
 
-/// A reader of names, which makes an `M` of each `N`, or says why it makes none.
-pub trait NameReader<N, M, E> {
-    ghost use Rattle.std.specs.Prelude.{Result};
+/// A reader of a query's words, which makes an `A` of each name and a number of each `M`, or says why it makes none.
+pub trait QueryReader<N, M, A, E> {
+    ghost use Rattle.std.specs.Prelude.{ℕ, Result};
 
     /// What may come of a name.
-    ghost reads: { Self → N → Result M E → Type 0 };
+    ghost reads: { Self → N → Result A E → Type 0 };
+
+    /// What may come of a number.
+    ghost counts: { Self → M → Result ℕ E → Type 0 };
 
     /// Reads a name.
-    fn read_name(&self, name: &N) -> Result<M, E>
+    fn read_name(&self, name: &N) -> Result<A, E>
         ensures { reads self.now name.now result };
+
+    /// Reads a number.
+    fn read_number(&self, number: &M) -> Result<u32, E>
+        ensures { counts self.now number.now result };
 }
 
-impl<N> Query<N> {
-    /// The same query, with its names as the reader makes them: the variant's first, and then the report's.
+impl<N, M> Query<N, M> {
+    /// The same query, with its names and numbers as the reader makes them: the variant's first, and then the report's.
     #[tactic(auto, unfolding(crate::specs::QueryNames::IsQueryRead))]
-    pub fn read<M: Drop, E: Drop, R: NameReader<N, M, E>>(&self, reader: &R) -> Result<Query<M>, E>
-        ensures { IsQueryRead (R.reads reader.now) self.now result }
+    pub fn read<A: Drop, E: Drop, R: QueryReader<N, M, A, E>>(
+        &self,
+        reader: &R,
+    ) -> Result<Query<A>, E>
+        ensures { IsQueryRead (R.reads reader.now) (R.counts reader.now) self.now result }
     {
         match self {
             Query::Register(inventory) => Ok(Query::Register(*inventory)),
@@ -52,11 +62,11 @@ impl<N> Query<N> {
     }
 }
 
-impl<N> Report<N> {
-    // The same report, with its names as the reader makes them.
+impl<N, M> Report<N, M> {
+    // The same report, with its names and numbers as the reader makes them.
     #[tactic(auto, unfolding(crate::specs::QueryNames::IsReportRead))]
-    fn read<M: Drop, E: Drop, R: NameReader<N, M, E>>(&self, reader: &R) -> Result<Report<M>, E>
-        ensures { IsReportRead (R.reads reader.now) self.now result }
+    fn read<A: Drop, E: Drop, R: QueryReader<N, M, A, E>>(&self, reader: &R) -> Result<Report<A>, E>
+        ensures { IsReportRead (R.reads reader.now) (R.counts reader.now) self.now result }
     {
         match self {
             Report::Grants => Ok(Report::Grants),
@@ -66,6 +76,19 @@ impl<N> Report<N> {
             Report::Layout { frame } => {
                 let frame = reader.read_name(frame)?;
                 Ok(Report::Layout { frame })
+            }
+            Report::Load => Ok(Report::Load),
+            Report::Room { frame, repetition } => {
+                let frame = reader.read_name(frame)?;
+                let repetition = reader.read_number(repetition)?;
+                Ok(Report::Room { frame, repetition })
+            }
+            Report::Export { header, part } => {
+                let part = reader.read_number(part)?;
+                Ok(Report::Export {
+                    header: *header,
+                    part,
+                })
             }
         }
     }

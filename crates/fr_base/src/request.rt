@@ -26,6 +26,11 @@ pub enum Request {
         supplier: Text,
         key: Text,
     },
+    /// The integrator gives a supplier another key.
+    SetKey {
+        supplier: Text,
+        key: Text,
+    },
     /// The integrator gives a supplier a node, in all variants.
     AddNode {
         supplier: Text,
@@ -98,6 +103,11 @@ pub enum Request {
         label: Text,
         body: Body,
     },
+    /// A supplier sends the rows of a file in place of what the frames that it names have: all of them, or none.
+    Replace {
+        variant: Text,
+        body: Body,
+    },
     /// The integrator or a supplier asks what the register holds, and nothing is changed.
     Query(Query<Text>),
 }
@@ -112,6 +122,10 @@ impl Drop for Request {
             } => {}
             Request::Release { variant: _ } => {}
             Request::AddSupplier {
+                supplier: _,
+                key: _,
+            } => {}
+            Request::SetKey {
                 supplier: _,
                 key: _,
             } => {}
@@ -175,6 +189,10 @@ impl Drop for Request {
                 label: _,
                 body: _,
             } => {}
+            Request::Replace {
+                variant: _,
+                body: _,
+            } => {}
             Request::Query(_) => {}
         }
     }
@@ -195,6 +213,11 @@ pub enum Command {
     Common(CommonCommand),
     /// The integrator adds a supplier, with the key by which it is known.
     AddSupplier {
+        supplier: Name,
+        key: Key,
+    },
+    /// The integrator gives a supplier another key, by which it is known from then on.
+    SetKey {
         supplier: Name,
         key: Key,
     },
@@ -267,10 +290,19 @@ pub struct Import<'a> {
     pub body: BodyRef<'a>,
 }
 
+/// A supplier's replacement, with checked names; what its file says is not yet read.
+#[derive(Drop)]
+pub struct Replacement<'a> {
+    pub supplier: Name,
+    pub variant: Name,
+    pub body: BodyRef<'a>,
+}
+
 /// A request whose own texts and numbers are in order.
 #[derive(Drop)]
 pub enum Checked<'a> {
     Command(Command),
     Import(Import<'a>),
+    Replace(Replacement<'a>),
     Query(Query<Name>),
 }

@@ -1,7 +1,6 @@
 -- What is printed of an answer that refuses what was asked.
 use Rattle.std.proofs.Common.{◌≡◌, ◌⊎◌, ◌∙◌, List, None, ℕ, Ok, Err, OnOk, Option, Some, Result, inl, inr, refl, true, subst, sym}
 use Rattle.std.specs.Prelude.{⊤}
-use Rattle.std.specs.Borrow.{Bor}
 use Rattle.fr_base.specs.Book.{Book}
 use Rattle.fr_base.specs.Cluster.{Cluster, ClusterFile}
 use Rattle.fr_base.specs.declared.actor.Actor.{Actor}
@@ -21,16 +20,15 @@ use Rattle.sqlite.specs.declared.file.Leftover.{Leftover}
 use Rattle.sqlite_disk.specs.declared.Disk.{Ghosts}
 use Rattle.sqlite_wal.specs.Recovery.{Image}
 use Rattle.fr_cli.specs.Asked.{asked_by}
-use Rattle.fr_cli.specs.Asking.{IsAnswer, IsForReader, IsRefusedBy, Leads, Prints, import_of, is_refusal, line_of, query_of}
-use Rattle.fr_cli.specs.Faults.{IsNotImported, IsNotReported}
+use Rattle.fr_cli.specs.Asking.{IsAnswer, IsForReader, IsRefusedBy, Leads, Prints, asked_with, is_refusal, line_of, query_of}
+use Rattle.fr_cli.specs.Faults.{IsNotDelivered, IsNotReported}
 use Rattle.fr_cli.specs.Keys.{IsKeyGiven}
 use Rattle.fr_cli.specs.Performing.{Says}
 use Rattle.fr_cli.specs.Queries.{reader_of}
 use Rattle.fr_cli.specs.Reading.{Stays}
 use Rattle.fr_cli.specs.ScriptRun.{Replied}
-use Rattle.fr_cli.specs.declared.asking.ImportWords.{ImportWords}
 use Rattle.fr_cli.specs.declared.query.Inquiry.{Inquiry}
-use Rattle.fr_cli.specs.RegisterFiles.{IsAnswerOfFile, IsImportOfFile, IsLeftNew, IsMade}
+use Rattle.fr_cli.specs.RegisterFiles.{IsAnswerOfFile, IsAnswerToGiven, IsLeftNew, IsMade}
 use Rattle.fr_cli.specs.declared.fault.Fault.{Fault}
 use Rattle.fr_cli.specs.declared.fault.Fault.TheVariants.{CannotOpen, NoMemory}
 use Rattle.std.specs.Global.{Vec}
@@ -80,25 +78,25 @@ module _ {D : Type 0} {g : Ghosts D} where
       prints_says May (IsForReader (IsAnswerOfFile held (Some left) asks)) (IsForReader (IsAnswer clean old new asks)) print done
       (λ answer is. (is.0, asks_file held left clean before old new asks is.0 closes falls finds leaves is.1, is.2)) may p
 
-  -- what is said of an import's answer is said of the import by the key that is given
-  pub import_says : (held : Image) (rest : Option (Leftover D g)) (key variant label : Bor (List ℕ)) (input left : Option (List ℕ)) (body : List ℕ) (words : ImportWords)
-      (done : Result (Vec ℕ) Failure) → IsKeyGiven key.now input left words.key.now → words.variant ≡ variant → words.label ≡ label
-      → Says (IsNotReported held rest) (IsAnswerOfFile held rest (import_of words body)) line_of done
-      → Says (IsNotImported held rest key.now) (IsImportOfFile held rest key variant label input left body) line_of done
-  import_says held rest key variant label input left body words (Ok text) given v l (answer, is, kind, said) = (answer, (words, (given, v, l), is), kind, said)
-  import_says held rest key variant label input left body words (Err (failure.Refused line)) given v l (answer, is, kind, said) = (answer, (words, (given, v, l), is), kind, said)
-  import_says held rest key variant label input left body words (Err (failure.Fault fault)) given v l may = inl may
+  -- what is said of the answer to who has the key is said of the key that is given
+  pub given_says : (held : Image) (rest : Option (Leftover D g)) (word : List ℕ) (input left : Option (List ℕ)) (key : List ℕ) (request : Request)
+      (done : Result (Vec ℕ) Failure) → IsKeyGiven word input left key
+      → Says (IsNotReported held rest) (IsAnswerOfFile held rest (asked_with key request)) line_of done
+      → Says (IsNotDelivered held rest word) (IsAnswerToGiven held rest word request input left) line_of done
+  given_says held rest word input left key request (Ok text) given (answer, is, kind, said) = (answer, (key, given, is), kind, said)
+  given_says held rest word input left key request (Err (failure.Refused line)) given (answer, is, kind, said) = (answer, (key, given, is), kind, said)
+  given_says held rest word input left key request (Err (failure.Fault fault)) given may = inl may
 
   -- a register that was made of a cluster file that was read
   pub is_made : (held : Image) (rest : Option (Leftover D g)) (done : Result ⊤ Fault) (text : List ℕ) (f : ClusterFile) → config_of text ≡ Ok f → OnOk done (IsLeftNew held rest f) → IsMade held rest done
   is_made held rest (Ok x) text f is made = (text, f, is, made)
   is_made held rest (Err e) text f is made = tt
 
--- a file that cannot be read is no import
-pub not_imported : (Refused Unread Closed : Type 0) (fault : Fault) → Closed → (fault ≡ CannotOpen) ⊎ (fault ≡ NoMemory)
+-- a file that cannot be read is not delivered
+pub not_delivered : (Refused Unread Closed : Type 0) (fault : Fault) → Closed → (fault ≡ CannotOpen) ⊎ (fault ≡ NoMemory)
     → (Refused ⊎ (fault ≡ NoMemory)) ⊎ (((fault ≡ CannotOpen) ⊎ Unread) × Closed)
-not_imported Refused Unread Closed fault closed (inl is) = inr (inl is, closed)
-not_imported Refused Unread Closed fault closed (inr is) = inl (inr is)
+not_delivered Refused Unread Closed fault closed (inl is) = inr (inl is, closed)
+not_delivered Refused Unread Closed fault closed (inr is) = inl (inr is)
 
 -- the same was asked by the same
 pub asks_same : (clean : Type 0) (old new : Standing) (by who : Option Actor) (request asks : Request) (answer : Answer) → by ≡ who → request ≡ asks
@@ -108,7 +106,7 @@ asks_same clean old new by who request asks answer e f is =
 
 -- ---- the book after what was asked
 
-replied_stays : (c : Cluster) (b : Book) (who : Option Actor) (query : Query (List ℕ)) (answer : Answer) (last : Book)
+replied_stays : (c : Cluster) (b : Book) (who : Option Actor) (query : Query (List ℕ) ℕ) (answer : Answer) (last : Book)
     → Replied c b (asked_by who (request.Query query)) answer last → last ≡ b
 replied_stays c b None query answer last refused = refused.1
 replied_stays c b (Some actor) query answer last (inl lacked) = lacked.2
@@ -118,7 +116,7 @@ replied_stays c b (Some actor) query answer last (inr did) = did.1 ∙ query_lea
 pub query_stays : (clean : Type 0) (old new : Standing) (query : Inquiry) (answer : Answer) → IsAnswer clean old new (query_of query) answer → Stays clean old new
 query_stays clean old new query answer asked = λ is c b stands sound.
     let (last, replied, after) = asked is c b stands sound in
-    subst (λ (d : Book). new c d) (replied_stays c b (reader_of query) (query_with (λ name. name.now) query.query) answer last replied) after
+    subst (λ (d : Book). new c d) (replied_stays c b (reader_of query) (query_with (λ name. name.now) (λ number. number) query.query) answer last replied) after
 
 -- what was asked leads to the book after it
 pub leads_on : (clean : Type 0) (old new : Standing) (asks : Cluster → Book → Result Ask Refusal) (answer : Answer) → IsAnswer clean old new asks answer → Leads clean old new asks

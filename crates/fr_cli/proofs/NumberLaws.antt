@@ -8,15 +8,16 @@ use Rattle.clap.proofs.WalkLemmas.{one_text-rows}
 use Rattle.clap.specs.Matches.{ReadsOne, one_text}
 use Rattle.clap.specs.Walk.{Row, Text, one_of, rows_of}
 use Rattle.clap.specs.declared.parser.matches.Found.{Found}
-use Rattle.fr_base.specs.Queries.{word_of, word_of_query}
 use Rattle.fr_base.specs.declared.report.Report.{Report}
 use Rattle.fr_base.specs.declared.query.Inventory.TheVariants.{Cluster, Variants, Nodes}
 use Rattle.fr_base.specs.declared.query.Query.{Query}
 use Rattle.fr_base.specs.declared.query.Query.TheVariants.{Register as OfRegister, Variant as OfVariant}
-use Rattle.fr_base.specs.declared.report.Report.TheVariants.{Grants, Frames, Schedule, Gaps, Layout}
-use Rattle.fr_cli.specs.Words.{HasNumber, IsJobIn, IsJobOf, IsNumberIn}
+use Rattle.fr_base.specs.declared.report.Report.TheVariants.{Grants, Frames, Schedule, Gaps, Layout, Load, Room, Export}
+use Rattle.fr_cli.specs.Words.{HasNames, HasNumber, HasReport, IsJobIn, IsJobOf, IsNumberIn, max_number, word_of_delivery, word_of_job, word_of_report}
+use Rattle.fr_cli.specs.declared.delivery.DeliveryKind.{DeliveryKind}
+use Rattle.fr_cli.specs.declared.delivery.DeliveryKind.TheVariants.{Import as ByLabel, Replacement}
 use Rattle.fr_cli.specs.declared.words.Job.{Job}
-use Rattle.fr_cli.specs.declared.words.Job.TheVariants.{Run, Create, Migrate, Serve, Ask, Report as ReportOn, Picture, Import, Check, Explain}
+use Rattle.fr_cli.specs.declared.words.Job.TheVariants.{Run, Create, Migrate, Serve, Ask, Report as ReportOn, Picture, Deliver, Check, Explain}
 
 -- the number of a text in decimal digits, if it fits into 32 bits
 abbrev pub IsReadOf : Option ℕ → Option Text → Type 0
@@ -43,18 +44,18 @@ one_read {E} G parses found name read none value = go _ _ (λ is. none (same ∙
         let got = value text is in parses text (Err got.0) got.1 (numeral, small)
 
 -- a number at a place is the one that is read there, if it is not too great
-pub number_is : (name : Text) (most : ℕ) (rows : List Row) (read : Option ℕ) → most < 2 ^ 32 → IsReadOf read (one_of name rows) → (number : ℕ)
-    → HasNumber name most rows number → read ≡ Some number
-number_is name most rows (Some n) fits is number has =
+pub number_is : (name : Text) (least most : ℕ) (rows : List Row) (read : Option ℕ) → most < 2 ^ 32 → IsReadOf read (one_of name rows) → (number : ℕ)
+    → HasNumber name least most rows number → read ≡ Some number
+number_is name least most rows (Some n) fits is number has =
     let same : is.0 ≡ has.0 = ap (λ (o : Option Text). unwrap_or o is.0) (sym is.1 ∙ has.1) in
     ap (λ (k : ℕ). Some k) (is.3 ∙ (ap (λ (t : Text). digits_value 10 (without_leading_plus t)) same ∙ sym has.3))
-number_is name most rows None fits is number has = absurd (is has.0 has.1 has.2 (omega (arith, has.3, has.4, has.5)))
+number_is name least most rows None fits is number has = absurd (is has.0 has.1 has.2 (omega (arith, has.3, has.5)))
 
 -- none is given, and none stands there
-pub no_number : (name : Text) (most : ℕ) (rows : List Row) (number : Option ℕ) → number ≡ None → ((k : ℕ) → HasNumber name most rows k → ⊥)
-    → IsNumberIn number name most rows
-no_number name most rows (Some k) none lacks = cc
-no_number name most rows None none lacks = lacks
+pub no_number : (name : Text) (least most : ℕ) (rows : List Row) (number : Option ℕ) → number ≡ None → ((k : ℕ) → HasNumber name least most rows k → ⊥)
+    → IsNumberIn number name least most rows
+no_number name least most rows (Some k) none lacks = cc
+no_number name least most rows None none lacks = lacks
 
 -- two texts that differ are not one
 apart : {X : Type 0} (a b : Text) → bytes_eq a b ≡ false → a ≡ b → X
@@ -62,8 +63,8 @@ apart a b differ same = let no : true ≡ false = sym ((bytes_eq-Decides a b).1 
 
 -- a server's words have three numbers
 pub numbers_of : (rows : List Row) (job : Job) → IsJobOf job (codes "serve") rows
-    → ((port : ℕ) × HasNumber (codes "PORT") 65535 rows port) × ((count : ℕ) × HasNumber (codes "count") 1000000 rows count)
-    × ((seconds : ℕ) × HasNumber (codes "seconds") 3600 rows seconds)
+    → ((port : ℕ) × HasNumber (codes "PORT") 1 65535 rows port) × ((count : ℕ) × HasNumber (codes "count") 1 1000000 rows count)
+    × ((seconds : ℕ) × HasNumber (codes "seconds") 1 3600 rows seconds)
 numbers_of rows (Serve db port count seconds) is = ((port, is.2), (count, is.3), (seconds, is.4))
 numbers_of rows Run is = apart _ _ refl is
 numbers_of rows (Create db config) is = apart _ _ refl is.0
@@ -71,29 +72,110 @@ numbers_of rows (Migrate db) is = apart _ _ refl is.0
 numbers_of rows (Ask db) is = apart _ _ refl is.0
 numbers_of rows (ReportOn db query) is = asked query.query is.0
   where
-    report : {X : Type 0} (report : Report (Bor Text)) → codes "serve" ≡ word_of report → X
+    report : {X : Type 0} (report : Report (Bor Text) ℕ) → codes "serve" ≡ word_of_report report → X
     report Grants same = apart _ _ refl same
     report Frames same = apart _ _ refl same
     report Schedule same = apart _ _ refl same
     report Gaps same = apart _ _ refl same
     report (Layout frame) same = apart _ _ refl same
+    report Load same = apart _ _ refl same
+    report (Room frame repetition) same = apart _ _ refl same
+    report (Export header part) same = apart _ _ refl same
 
-    asked : {X : Type 0} (query : Query (Bor Text)) → codes "serve" ≡ word_of_query query → X
+    asked : {X : Type 0} (query : Query (Bor Text) ℕ) → codes "serve" ≡ word_of_job query → X
     asked (OfRegister Cluster) same = apart _ _ refl same
     asked (OfRegister Variants) same = apart _ _ refl same
     asked (OfRegister Nodes) same = apart _ _ refl same
     asked (OfVariant variant of) same = report of same
 numbers_of rows (Picture db variant supplier) is = apart _ _ refl is.0
-numbers_of rows (Import db key variant label file) is = apart _ _ refl is.0
+numbers_of rows (Deliver db delivery) is = delivered delivery.kind is.0
+  where
+    delivered : {X : Type 0} (kind : DeliveryKind) → codes "serve" ≡ word_of_delivery kind → X
+    delivered (ByLabel label) same = apart _ _ refl same
+    delivered Replacement same = apart _ _ refl same
 numbers_of rows (Check file) is = apart _ _ refl is.0
 numbers_of rows (Explain word) is = apart _ _ refl is.0
 
 -- without one of them no server is asked for
 pub no_server : (rows : List Row) (job : Option Job) → job ≡ None
-    → ((number : ℕ) → HasNumber (codes "PORT") 65535 rows number → ⊥) ⊎ (((number : ℕ) → HasNumber (codes "count") 1000000 rows number → ⊥)
-    ⊎ ((number : ℕ) → HasNumber (codes "seconds") 3600 rows number → ⊥))
+    → ((number : ℕ) → HasNumber (codes "PORT") 1 65535 rows number → ⊥) ⊎ (((number : ℕ) → HasNumber (codes "count") 1 1000000 rows number → ⊥)
+    ⊎ ((number : ℕ) → HasNumber (codes "seconds") 1 3600 rows number → ⊥))
     → IsJobIn job (codes "serve") rows
 no_server rows (Some job) none lacks = cc
 no_server rows None none (inl lacks) = λ job is. let has = (numbers_of rows job is).0 in lacks has.0 has.1
 no_server rows None none (inr (inl lacks)) = λ job is. let has = (numbers_of rows job is).1 in lacks has.0 has.1
 no_server rows None none (inr (inr lacks)) = λ job is. let has = (numbers_of rows job is).2 in lacks has.0 has.1
+
+-- the words for a room have a repetition; without it none is asked for
+pub repetition_of : (rows : List Row) (job : Job) → IsJobOf job (codes "room") rows → (number : ℕ) × HasNumber (codes "REPETITION") 0 max_number rows number
+repetition_of rows (ReportOn db query) is = asked query.query is.0 is.2.0
+  where
+    report : (report : Report (Bor Text) ℕ) → codes "room" ≡ word_of_report report → HasReport report rows → (number : ℕ) × HasNumber (codes "REPETITION") 0 max_number rows number
+    report Grants same has = apart _ _ refl same
+    report Frames same has = apart _ _ refl same
+    report Schedule same has = apart _ _ refl same
+    report Gaps same has = apart _ _ refl same
+    report (Layout frame) same has = apart _ _ refl same
+    report Load same has = apart _ _ refl same
+    report (Room frame repetition) same has = (repetition, has.1)
+    report (Export header part) same has = apart _ _ refl same
+
+    asked : (query : Query (Bor Text) ℕ) → codes "room" ≡ word_of_job query → HasNames query rows → (number : ℕ) × HasNumber (codes "REPETITION") 0 max_number rows number
+    asked (OfRegister Cluster) same has = apart _ _ refl same
+    asked (OfRegister Variants) same has = apart _ _ refl same
+    asked (OfRegister Nodes) same has = apart _ _ refl same
+    asked (OfVariant variant of) same has = report of same has.1
+repetition_of rows Run is = apart _ _ refl is
+repetition_of rows (Create db config) is = apart _ _ refl is.0
+repetition_of rows (Migrate db) is = apart _ _ refl is.0
+repetition_of rows (Serve db port count seconds) is = apart _ _ refl is.0
+repetition_of rows (Ask db) is = apart _ _ refl is.0
+repetition_of rows (Picture db variant supplier) is = apart _ _ refl is.0
+repetition_of rows (Check file) is = apart _ _ refl is.0
+repetition_of rows (Explain word) is = apart _ _ refl is.0
+repetition_of rows (Deliver db delivery) is = delivered delivery.kind is.0
+  where
+    delivered : {X : Type 0} (kind : DeliveryKind) → codes "room" ≡ word_of_delivery kind → X
+    delivered (ByLabel label) same = apart _ _ refl same
+    delivered Replacement same = apart _ _ refl same
+
+pub no_room : (rows : List Row) (job : Option Job) → job ≡ None → ((number : ℕ) → HasNumber (codes "REPETITION") 0 max_number rows number → ⊥) → IsJobIn job (codes "room") rows
+no_room rows (Some job) none lacks = cc
+no_room rows None none lacks = λ job is. let has = repetition_of rows job is in lacks has.0 has.1
+
+-- the words for records have a part; without it none are asked for
+pub part_of : (rows : List Row) (job : Job) → IsJobOf job (codes "export") rows → (number : ℕ) × HasNumber (codes "part") 0 max_number rows number
+part_of rows (ReportOn db query) is = asked query.query is.0 is.2.0
+  where
+    report : (report : Report (Bor Text) ℕ) → codes "export" ≡ word_of_report report → HasReport report rows → (number : ℕ) × HasNumber (codes "part") 0 max_number rows number
+    report Grants same has = apart _ _ refl same
+    report Frames same has = apart _ _ refl same
+    report Schedule same has = apart _ _ refl same
+    report Gaps same has = apart _ _ refl same
+    report (Layout frame) same has = apart _ _ refl same
+    report Load same has = apart _ _ refl same
+    report (Room frame repetition) same has = apart _ _ refl same
+    report (Export header part) same has = (part, has.1)
+
+    asked : (query : Query (Bor Text) ℕ) → codes "export" ≡ word_of_job query → HasNames query rows → (number : ℕ) × HasNumber (codes "part") 0 max_number rows number
+    asked (OfRegister Cluster) same has = apart _ _ refl same
+    asked (OfRegister Variants) same has = apart _ _ refl same
+    asked (OfRegister Nodes) same has = apart _ _ refl same
+    asked (OfVariant variant of) same has = report of same has.1
+part_of rows Run is = apart _ _ refl is
+part_of rows (Create db config) is = apart _ _ refl is.0
+part_of rows (Migrate db) is = apart _ _ refl is.0
+part_of rows (Serve db port count seconds) is = apart _ _ refl is.0
+part_of rows (Ask db) is = apart _ _ refl is.0
+part_of rows (Picture db variant supplier) is = apart _ _ refl is.0
+part_of rows (Check file) is = apart _ _ refl is.0
+part_of rows (Explain word) is = apart _ _ refl is.0
+part_of rows (Deliver db delivery) is = delivered delivery.kind is.0
+  where
+    delivered : {X : Type 0} (kind : DeliveryKind) → codes "export" ≡ word_of_delivery kind → X
+    delivered (ByLabel label) same = apart _ _ refl same
+    delivered Replacement same = apart _ _ refl same
+
+pub no_export : (rows : List Row) (job : Option Job) → job ≡ None → ((number : ℕ) → HasNumber (codes "part") 0 max_number rows number → ⊥) → IsJobIn job (codes "export") rows
+no_export rows (Some job) none lacks = cc
+no_export rows None none lacks = λ job is. let has = part_of rows job is in lacks has.0 has.1

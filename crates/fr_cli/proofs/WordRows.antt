@@ -38,6 +38,29 @@ no_port : fault_of slotplan (codes "serve" ∷ codes "car.db" ∷ codes "0" ∷ 
 unfolding clap_on_literals
 no_port = refl
 
+room_is_taken : fault_of slotplan (codes "room" ∷ codes "car.db" ∷ codes "v1" ∷ codes "f1" ∷ codes "4294967295" ∷ codes "--supplier" ∷ codes "s1" ∷ []) ≡ []
+unfolding clap_on_literals
+room_is_taken = refl
+
+room_lacks_a_supplier : fault_of slotplan (codes "room" ∷ codes "car.db" ∷ codes "v1" ∷ codes "f1" ∷ codes "4" ∷ []) ≡ kinds.MissingRequiredArgument ∷ []
+unfolding clap_on_literals
+room_lacks_a_supplier = refl
+
+repetition_too_great : fault_of slotplan (codes "room" ∷ codes "car.db" ∷ codes "v1" ∷ codes "f1" ∷ codes "4294967296" ∷ codes "--supplier" ∷ codes "s1" ∷ [])
+    ≡ kinds.ValueValidation ∷ []
+unfolding clap_on_literals
+repetition_too_great = refl
+
+part_is_the_first : option_map (λ found. one_of (codes "part") found.1)
+    (subcommand_of slotplan (codes "export" ∷ codes "car.db" ∷ codes "v1" ∷ codes "frames" ∷ [])) ≡ Some (Some (codes "0"))
+unfolding clap_on_literals
+part_is_the_first = refl
+
+-- which rows are wanted is no matter of `clap`
+other_rows_are_taken : fault_of slotplan (codes "export" ∷ codes "car.db" ∷ codes "v1" ∷ codes "nodes" ∷ []) ≡ []
+unfolding clap_on_literals
+other_rows_are_taken = refl
+
 wants_help : fault_of slotplan (codes "--help" ∷ []) ≡ kinds.DisplayHelp ∷ []
 unfolding clap_on_literals
 wants_help = refl

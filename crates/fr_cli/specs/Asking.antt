@@ -1,4 +1,4 @@
--- Report, import: what a command asks of a register, and what it prints of the answer. That is the report, the answer's
+-- Report, change: what a command asks of a register, and what it prints of the answer. That is the report, the answer's
 -- line, or the line of one that refuses.
 use Rattle.std.specs.Prelude.{◌≡◌, ◌⊎◌, ◌++◌, ℕ, List, Bool, true, false, Result, Ok, Err, codes}
 use Rattle.std.specs.Global.{Vec}
@@ -11,14 +11,12 @@ use Rattle.fr_base.specs.declared.refusal.Refusal.{Refusal}
 use Rattle.fr_base.specs.declared.refusal.Refusal.TheVariants.{NoSupplier, UnknownKey}
 use Rattle.fr_base.specs.declared.request.Ask.{Ask}
 use Rattle.fr_base.specs.declared.request.Request.{Request}
-use Rattle.fr_base.specs.declared.request.Request.TheVariants as request
 use Rattle.fr_text.specs.AnswerText.{text_of}
 use Rattle.fr_http.specs.Asking.{Standing}
 use Rattle.fr_http.specs.Connection.{InSound}
 use Rattle.fr_cli.specs.Asked.{asked_by}
 use Rattle.fr_cli.specs.Queries.{reader_of, request_for}
 use Rattle.fr_cli.specs.ScriptRun.{Replied}
-use Rattle.fr_cli.specs.declared.asking.ImportWords.{ImportWords}
 use Rattle.fr_cli.specs.declared.query.Inquiry.{Inquiry}
 use Rattle.fr_cli.specs.declared.failure.Failure.{Failure}
 use Rattle.fr_cli.specs.declared.failure.Failure.TheVariants as failure
@@ -28,13 +26,9 @@ use Rattle.fr_cli.specs.declared.fault.Fault.TheVariants.{NoMemory}
 abbrev pub query_of : Inquiry → Cluster → Book → Result Ask Refusal
 query_of query c b = asked_by (reader_of query) (request_for query)
 
--- the request for the import of a file
-abbrev pub import_request : ImportWords → List ℕ → Request
-import_request words body = request.Import words.variant.now words.label.now body
-
--- whoever has the key asks for it
-abbrev pub import_of : ImportWords → List ℕ → Cluster → Book → Result Ask Refusal
-import_of words body c b = asked_by (actor_of c b words.key.now) (import_request words body)
+-- whoever has the key asks for this
+abbrev pub asked_with : List ℕ → Request → Cluster → Book → Result Ask Refusal
+asked_with key request c b = asked_by (actor_of c b key) request
 
 -- whether the answer refuses what was asked
 abbrev pub is_refusal : Answer → Bool

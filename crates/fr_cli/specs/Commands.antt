@@ -62,12 +62,42 @@ supplier = record (new_rule (codes "supplier")) { long = Some (codes "supplier")
 abbrev pub inventory : Text → App
 inventory name = with_rule (with_rule (new_app name) (word (codes "DB"))) supplier
 
--- `grants`, `frames`, `schedule`, `gaps` and `picture`
+-- `grants`, `frames`, `schedule`, `gaps`, `load` and `picture`
 abbrev pub report : Text → App
 report name = with_rule (with_rule (with_rule (new_app name) (word (codes "DB"))) (word (codes "VARIANT"))) supplier
 
 abbrev pub layout : App
 layout = with_rule (report (codes "layout")) (word (codes "FRAME"))
+
+-- a cycle repetition
+abbrev pub repetition : Rule
+repetition = record (word (codes "REPETITION")) { parser = Some (Signed (pos 0) (pos 4294967295)) }
+
+-- which part of the records is printed
+abbrev pub part : Rule
+part = record (new_rule (codes "part")) {
+  long = Some (codes "part");
+  action = Some Set;
+  value_names = 1;
+  defaults = codes "0" ∷ [];
+  parser = Some (Signed (pos 0) (pos 4294967295));
+}
+
+-- the supplier whose frame it is
+abbrev pub owner : Rule
+owner = record supplier { required = true }
+
+abbrev pub room : App
+room = with_rule (with_rule (with_rule (with_rule (with_rule (new_app (codes "room")) (word (codes "DB"))) (word (codes "VARIANT")))
+    (word (codes "FRAME"))) repetition) owner
+
+abbrev pub export : App
+export = with_rule (with_rule (with_rule (with_rule (with_rule (new_app (codes "export")) (word (codes "DB"))) (word (codes "VARIANT")))
+    (word (codes "ROWS"))) part) supplier
+
+abbrev pub replace_words : App
+replace_words = with_rule (with_rule (with_rule (with_rule (new_app (codes "replace")) (word (codes "DB"))) (word (codes "KEY")))
+    (word (codes "VARIANT"))) (word (codes "FILE"))
 
 abbrev pub import_words : App
 import_words = with_rule (with_rule (with_rule (with_rule (with_rule (new_app (codes "import")) (word (codes "DB"))) (word (codes "KEY")))
@@ -93,10 +123,11 @@ unasked name = record {
 -- the program, with one subcommand for each job
 abbrev pub slotplan : App
 slotplan = with_subcommand (with_subcommand (with_subcommand (with_subcommand (with_subcommand (with_subcommand (with_subcommand (with_subcommand (with_subcommand
-    (with_subcommand (with_subcommand (with_subcommand (with_subcommand (with_subcommand (with_subcommand (with_subcommand (with_subcommand
-    (unasked (codes "slotplan")) run.top) create.top) migrate.top) serve.top) ask.top) (inventory (codes "cluster")).top) (inventory (codes "variants")).top)
-    (inventory (codes "nodes")).top) (report (codes "grants")).top) (report (codes "frames")).top) (report (codes "schedule")).top)
-    (report (codes "gaps")).top) layout.top) (report (codes "picture")).top) import_words.top) check.top) explain.top
+    (with_subcommand (with_subcommand (with_subcommand (with_subcommand (with_subcommand (with_subcommand (with_subcommand (with_subcommand (with_subcommand
+    (with_subcommand (with_subcommand (with_subcommand (unasked (codes "slotplan"))
+    run.top) create.top) migrate.top) serve.top) ask.top) (inventory (codes "cluster")).top) (inventory (codes "variants")).top) (inventory (codes "nodes")).top)
+    (report (codes "grants")).top) (report (codes "frames")).top) (report (codes "schedule")).top) (report (codes "gaps")).top) (report (codes "load")).top)
+    layout.top) room.top) export.top) (report (codes "picture")).top) import_words.top) replace_words.top) check.top) explain.top
 
 -- The command is read so, and has no argument that its subcommands have too.
 abbrev pub IsReadAs : App → Command → Type 0

@@ -90,7 +90,7 @@ module _ {D : Type 0} {g : Ghosts D} (held : Image) (rest : Option (Leftover D g
   abbrev pub IsNotReported : Fault → Type 0
   IsNotReported fault = IsNotOpened fault ⊎ (fault ≡ NoMemory)
 
-  -- For this an import is not carried out: no report would be given; or its file cannot be read, or the key that stands on standard input, and
+  -- For this a file of rows is not delivered: no report would be given; or the file cannot be read, or the key that stands on standard input, and
   -- then the register's is not opened.
-  abbrev pub IsNotImported : List ℕ → Fault → Type 0
-  IsNotImported key fault = IsNotReported fault ⊎ (((fault ≡ CannotOpen) ⊎ ((key ≡ codes "-") × ((of : InputFault) × (fault ≡ Script (script_fault_of of))))) × (rest ≡ None))
+  abbrev pub IsNotDelivered : List ℕ → Fault → Type 0
+  IsNotDelivered key fault = IsNotReported fault ⊎ (((fault ≡ CannotOpen) ⊎ ((key ≡ codes "-") × ((of : InputFault) × (fault ≡ Script (script_fault_of of))))) × (rest ≡ None))

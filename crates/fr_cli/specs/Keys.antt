@@ -1,11 +1,9 @@
--- Key of an import: the word of the command line, or where that is `-` the first line of standard input, so that nobody who
+-- Key of a delivery: the word of the command line, or where that is `-` the first line of standard input, so that nobody who
 -- lists processes sees it.
 use Rattle.std.specs.Prelude.{◌≡◌, ◌≢◌, ◌⊎◌, ℕ, List, [], ◌∷◌, Option, codes}
-use Rattle.std.specs.Borrow.{Bor}
 use Rattle.std.specs.Io.KnownBytes.{Consumes, IsAtEnd, Keeps}
 use Rattle.std.specs.Str.Lines.{lines}
 use Rattle.fr_cli.specs.Script.{HasNo}
-use Rattle.fr_cli.specs.declared.asking.ImportWords.{ImportWords}
 
 -- the first of lines, or none
 abbrev pub first_of : List (List ℕ) → List ℕ
@@ -20,7 +18,3 @@ TakesLine input left front = Consumes input left front × (HasNo 10 front → Is
 abbrev pub IsKeyGiven : List ℕ → Option (List ℕ) → Option (List ℕ) → List ℕ → Type 0
 IsKeyGiven word input left key = ((word ≢ codes "-") × (key ≡ word) × Keeps input left)
     ⊎ ((word ≡ codes "-") × ((front : List ℕ) × TakesLine input left front × (key ≡ first_of (lines front))))
-
--- The import has these words of the command line, and the key that is given.
-abbrev pub AreGiven : Bor (List ℕ) → Bor (List ℕ) → Bor (List ℕ) → Option (List ℕ) → Option (List ℕ) → ImportWords → Type 0
-AreGiven key variant label input left words = IsKeyGiven key.now input left words.key.now × (words.variant ≡ variant) × (words.label ≡ label)

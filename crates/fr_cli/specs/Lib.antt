@@ -9,6 +9,7 @@ pub mod Commands
 pub mod Words
 pub mod Faults
 pub mod Queries
+pub mod Deliveries
 pub mod Asking
 pub mod Keys
 pub mod Reading

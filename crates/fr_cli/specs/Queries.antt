@@ -19,4 +19,4 @@ reader_of inquiry = named inquiry.supplier
 
 -- what is asked
 abbrev pub request_for : Inquiry → Request
-request_for inquiry = request.Query (query_with (λ name. name.now) inquiry.query)
+request_for inquiry = request.Query (query_with (λ name. name.now) (λ number. number) inquiry.query)

@@ -2,7 +2,6 @@
 -- is left holds the book after it; what is read of it is that book's. Or what is left holds the book of a new register,
 -- or the book that the file held in schema 1.
 use Rattle.std.specs.Prelude.{◌≡◌, ℕ, List, Option, Some, Result, Ok, OnOk, ⊤}
-use Rattle.std.specs.Borrow.{Bor}
 use Rattle.sqlite.specs.Files.{IsCleanLeft}
 use Rattle.sqlite.specs.declared.file.Leftover.{Leftover}
 use Rattle.sqlite.specs.declared.file.Leftover.TheVariants as left
@@ -14,15 +13,17 @@ use Rattle.fr_base.specs.Cluster.{Cluster, ClusterFile}
 use Rattle.fr_base.specs.declared.answer.Answer.{Answer}
 use Rattle.fr_base.specs.declared.refusal.Refusal.{Refusal}
 use Rattle.fr_base.specs.declared.request.Ask.{Ask}
+use Rattle.fr_base.specs.declared.request.Request.{Request}
 use Rattle.fr_desks.specs.FileDesk.{Held, IsLeftWith, LeavesBook}
 use Rattle.fr_store.specs.Before.{HoldsBookBefore}
 use Rattle.fr_store.specs.Opening.{AllowsCreation, AllowsMigration}
 use Rattle.fr_store.specs.StoreFiles.{HoldsBook, image_left}
 use Rattle.fr_text.specs.ClusterFile.{config_of}
-use Rattle.fr_cli.specs.Asking.{IsAnswer, import_of}
-use Rattle.fr_cli.specs.Keys.{AreGiven}
+use Rattle.fr_cli.specs.Asking.{IsAnswer, asked_with}
+use Rattle.fr_cli.specs.Deliveries.{request_with}
+use Rattle.fr_cli.specs.Keys.{IsKeyGiven}
 use Rattle.fr_cli.specs.Reading.{IsRead, Reading}
-use Rattle.fr_cli.specs.declared.asking.ImportWords.{ImportWords}
+use Rattle.fr_cli.specs.declared.delivery.Delivery.{Delivery}
 use Rattle.fr_cli.specs.declared.fault.Fault.{Fault}
 
 module _ {D : Type 0} {g : Ghosts D} where
@@ -32,10 +33,14 @@ module _ {D : Type 0} {g : Ghosts D} where
   IsAnswerOfFile held rest asks answer =
       (last : Leftover D g) × (rest ≡ Some last) × IsAnswer (IsCleanLeft last) (Held held) (IsLeftWith last) asks answer
 
-  -- So it is with the import of a file with these bytes, by whom the key that is given belongs to.
-  abbrev pub IsImportOfFile : Image → Option (Leftover D g) → Bor (List ℕ) → Bor (List ℕ) → Bor (List ℕ) → Option (List ℕ) → Option (List ℕ) → List ℕ → Answer → Type 0
-  IsImportOfFile held rest key variant label input left body answer =
-      (words : ImportWords) × AreGiven key variant label input left words × IsAnswerOfFile held rest (import_of words body) answer
+  -- So it is with what whoever has the key asks that is given.
+  abbrev pub IsAnswerToGiven : Image → Option (Leftover D g) → List ℕ → Request → Option (List ℕ) → Option (List ℕ) → Answer → Type 0
+  IsAnswerToGiven held rest word request input left answer =
+      (key : List ℕ) × IsKeyGiven word input left key × IsAnswerOfFile held rest (asked_with key request) answer
+
+  -- So it is with a file of rows with these bytes that is delivered.
+  abbrev pub IsDeliveryToFile : Image → Option (Leftover D g) → Delivery → Option (List ℕ) → Option (List ℕ) → List ℕ → Answer → Type 0
+  IsDeliveryToFile held rest delivery input left body answer = IsAnswerToGiven held rest delivery.key.now (request_with delivery body) input left answer
 
   -- So it is with what is read of the book; and what is left holds the same book.
   abbrev pub IsReadOfFile : {X : Type 0} → Image → Option (Leftover D g) → Reading X → Result X Refusal → Type 0

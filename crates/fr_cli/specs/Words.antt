@@ -7,16 +7,21 @@ use Rattle.clap.specs.Walk.{Row, Text, first_of, one_of}
 use Rattle.clap.specs.Words.{IsAmong, fault_of, subcommand_of}
 use Rattle.clap.specs.declared.error.kind.ErrorKind.{ErrorKind}
 use Rattle.clap.specs.declared.error.kind.ErrorKind.TheVariants.{DisplayHelp, DisplayVersion, OutOfMemory, ValueValidation}
-use Rattle.fr_base.specs.Queries.{word_of_query}
+use Rattle.fr_base.specs.Queries.{word_of, word_of_inventory}
+use Rattle.fr_base.specs.declared.import.Header.{Header}
+use Rattle.fr_base.specs.declared.import.Header.TheVariants.{Frames, Placements, Signals}
 use Rattle.fr_base.specs.declared.query.Query.{Query}
 use Rattle.fr_base.specs.declared.query.Query.TheVariants.{Register as OfRegister, Variant as OfVariant}
 use Rattle.fr_base.specs.declared.report.Report.{Report}
-use Rattle.fr_base.specs.declared.report.Report.TheVariants.{Layout}
+use Rattle.fr_base.specs.declared.report.Report.TheVariants.{Layout, Room, Export}
 use Rattle.fr_cli.specs.Commands.{slotplan}
 use Rattle.fr_cli.specs.declared.words.Job.{Job}
-use Rattle.fr_cli.specs.declared.words.Job.TheVariants.{Run, Create, Migrate, Serve, Ask, Report as ReportOn, Picture, Import, Check, Explain}
+use Rattle.fr_cli.specs.declared.words.Job.TheVariants.{Run, Create, Migrate, Serve, Ask, Report as ReportOn, Picture, Deliver, Check, Explain}
 use Rattle.fr_cli.specs.declared.words.WordFault.{WordFault}
 use Rattle.fr_cli.specs.declared.words.WordFault.TheVariants.{Help, Usage, NoMemory}
+use Rattle.fr_cli.specs.declared.delivery.Delivery.{Delivery}
+use Rattle.fr_cli.specs.declared.delivery.DeliveryKind.{DeliveryKind}
+use Rattle.fr_cli.specs.declared.delivery.DeliveryKind.TheVariants.{Import as ByLabel, Replacement}
 use Rattle.fr_cli.specs.declared.query.Inquiry.{Inquiry}
 use Rattle.fr_cli.specs.declared.text_file.TextFile.{TextFile}
 use Rattle.fr_cli.specs.declared.text_file.TextFile.TheVariants as of
@@ -25,30 +30,57 @@ use Rattle.fr_cli.specs.declared.text_file.TextFile.TheVariants as of
 abbrev pub Has : Text → List Row → Text → Type 0
 Has name rows text = first_of name rows ≡ Some text
 
--- The word at this place is this number, 1 to `most`, in decimal digits. A plus before them is passed over. So is a minus, but `clap`
+-- The word at this place is this number, `least` to `most`, in decimal digits. A plus before them is passed over. So is a minus, but `clap`
 -- refuses such a word.
-abbrev pub HasNumber : Text → ℕ → List Row → ℕ → Type 0
-HasNumber name most rows number = (text : Text) × (one_of name rows ≡ Some text) × IsNumeral 10 (without_leading_plus text)
-    × (number ≡ digits_value 10 (without_leading_plus text)) × (1 ≤ number) × (number ≤ most)
+abbrev pub HasNumber : Text → ℕ → ℕ → List Row → ℕ → Type 0
+HasNumber name least most rows number = (text : Text) × (one_of name rows ≡ Some text) × IsNumeral 10 (without_leading_plus text)
+    × (number ≡ digits_value 10 (without_leading_plus text)) × (least ≤ number) × (number ≤ most)
 
--- The number is the one at this place. Where none is given, none from 1 to `most` stands there.
-abbrev pub IsNumberIn : Option ℕ → Text → ℕ → List Row → Type 0
-IsNumberIn (Some number) name most rows = HasNumber name most rows number
-IsNumberIn None name most rows = (number : ℕ) → HasNumber name most rows number → ⊥
+-- The number is the one at this place. Where none is given, none from `least` to `most` stands there.
+abbrev pub IsNumberIn : Option ℕ → Text → ℕ → ℕ → List Row → Type 0
+IsNumberIn (Some number) name least most rows = HasNumber name least most rows number
+IsNumberIn None name least most rows = (number : ℕ) → HasNumber name least most rows number → ⊥
 
--- The frame of a layout is the word at its place.
-abbrev pub HasFrame : Report (Bor (List ℕ)) → List Row → Type 0
-HasFrame (Layout frame) rows = Has (codes "FRAME") rows frame.now
-HasFrame _ rows = ⊤
+-- the greatest number that a word may be where no other bound is named
+abbrev pub max_number : ℕ
+max_number = 4294967295
+
+-- the word by which records are asked for
+abbrev pub word_of_header : Header → Text
+word_of_header Frames = codes "frames"
+word_of_header Placements = codes "placements"
+word_of_header Signals = codes "signals"
+
+-- The header is the one that the word names. Where none is given, it names none.
+abbrev pub IsHeaderIn : Option Header → List Row → Type 0
+IsHeaderIn (Some header) rows = Has (codes "ROWS") rows (word_of_header header)
+IsHeaderIn None rows = (header : Header) → Has (codes "ROWS") rows (word_of_header header) → ⊥
+
+-- the subcommand that prints a report
+abbrev pub word_of_report : Report (Bor (List ℕ)) ℕ → Text
+word_of_report (Export header part) = codes "export"
+word_of_report report = word_of report
+
+-- the subcommand that prints what is asked
+abbrev pub word_of_job : Query (Bor (List ℕ)) ℕ → Text
+word_of_job (OfRegister inventory) = word_of_inventory inventory
+word_of_job (OfVariant variant report) = word_of_report report
+
+-- The names and numbers of a report are the words at their places.
+abbrev pub HasReport : Report (Bor (List ℕ)) ℕ → List Row → Type 0
+HasReport (Layout frame) rows = Has (codes "FRAME") rows frame.now
+HasReport (Room frame repetition) rows = Has (codes "FRAME") rows frame.now × HasNumber (codes "REPETITION") 0 max_number rows repetition
+HasReport (Export header part) rows = Has (codes "ROWS") rows (word_of_header header) × HasNumber (codes "part") 0 max_number rows part
+HasReport _ rows = ⊤
 
 -- The supplier is the one that the words name, if they name one.
 abbrev pub IsOfSupplier : Option (Bor (List ℕ)) → List Row → Type 0
 IsOfSupplier supplier rows = option_map (λ name. name.now) supplier ≡ first_of (codes "supplier") rows
 
--- The names in the query are the words at their places.
-abbrev pub HasNames : Query (Bor (List ℕ)) → List Row → Type 0
+-- The names and numbers in the query are the words at their places.
+abbrev pub HasNames : Query (Bor (List ℕ)) ℕ → List Row → Type 0
 HasNames (OfRegister inventory) rows = ⊤
-HasNames (OfVariant variant report) rows = Has (codes "VARIANT") rows variant.now × HasFrame report rows
+HasNames (OfVariant variant report) rows = Has (codes "VARIANT") rows variant.now × HasReport report rows
 
 -- The query is of these words, and the supplier's that is named, if one is.
 abbrev pub IsQueryIn : List Row → Inquiry → Type 0
@@ -69,20 +101,34 @@ abbrev pub IsFileIn : Option TextFile → List Row → Type 0
 IsFileIn (Some file) rows = IsFileOf file rows
 IsFileIn None rows = (file : TextFile) → IsFileOf file rows → ⊥
 
+-- the subcommand that delivers a file of rows
+abbrev pub word_of_delivery : DeliveryKind → Text
+word_of_delivery (ByLabel label) = codes "import"
+word_of_delivery Replacement = codes "replace"
+
+-- The label of an import is the word at its place.
+abbrev pub HasKind : DeliveryKind → List Row → Type 0
+HasKind (ByLabel label) rows = Has (codes "LABEL") rows label.now
+HasKind Replacement rows = ⊤
+
+-- The delivery is of these words.
+abbrev pub IsDeliveryIn : List Row → Delivery → Type 0
+IsDeliveryIn rows delivery = Has (codes "KEY") rows delivery.key.now × Has (codes "VARIANT") rows delivery.variant.now
+    × HasKind delivery.kind rows × Has (codes "FILE") rows delivery.file.now
+
 -- The job is the subcommand's of this name, with the words that stand at its places.
 abbrev pub IsJobOf : Job → Text → List Row → Type 0
 IsJobOf Run name rows = name ≡ codes "run"
 IsJobOf (Create db config) name rows = (name ≡ codes "create") × Has (codes "DB") rows db.now × Has (codes "CONFIG") rows config.now
 IsJobOf (Migrate db) name rows = (name ≡ codes "migrate") × Has (codes "DB") rows db.now
 IsJobOf (Serve db port count seconds) name rows = (name ≡ codes "serve") × Has (codes "DB") rows db.now
-    × HasNumber (codes "PORT") 65535 rows port × HasNumber (codes "count") 1000000 rows count
-    × HasNumber (codes "seconds") 3600 rows seconds
+    × HasNumber (codes "PORT") 1 65535 rows port × HasNumber (codes "count") 1 1000000 rows count
+    × HasNumber (codes "seconds") 1 3600 rows seconds
 IsJobOf (Ask db) name rows = (name ≡ codes "ask") × Has (codes "DB") rows db.now
-IsJobOf (ReportOn db query) name rows = (name ≡ word_of_query query.query) × Has (codes "DB") rows db.now × IsQueryIn rows query
+IsJobOf (ReportOn db query) name rows = (name ≡ word_of_job query.query) × Has (codes "DB") rows db.now × IsQueryIn rows query
 IsJobOf (Picture db variant supplier) name rows = (name ≡ codes "picture") × Has (codes "DB") rows db.now × Has (codes "VARIANT") rows variant.now
     × IsOfSupplier supplier rows
-IsJobOf (Import db key variant label file) name rows = (name ≡ codes "import") × Has (codes "DB") rows db.now × Has (codes "KEY") rows key.now
-    × Has (codes "VARIANT") rows variant.now × Has (codes "LABEL") rows label.now × Has (codes "FILE") rows file.now
+IsJobOf (Deliver db delivery) name rows = (name ≡ word_of_delivery delivery.kind) × Has (codes "DB") rows db.now × IsDeliveryIn rows delivery
 IsJobOf (Check file) name rows = (name ≡ codes "check") × IsFileOf file rows
 IsJobOf (Explain word) name rows = (name ≡ codes "explain") × (option_map (λ w. w.now) word ≡ first_of (codes "WORD") rows)
 

@@ -1,17 +1,16 @@
-//! Asks a register for a report or an import, and gives the text of its answer.
-ghost use Rattle.std.specs.Prelude.{◌≡◌, IfOk};
-ghost use Rattle.fr_base.specs.Actors.{actor_of};
+//! Asks a register for a report or a change, and gives the text of its answer.
+ghost use Rattle.std.specs.Prelude.{◌≡◌};
 ghost use Rattle.fr_text.specs.AnswerText.{report_of};
 ghost use Rattle.fr_cli.specs.Asked.{asked_by};
 ghost use Rattle.fr_cli.specs.Reading.{Stays};
-ghost use Rattle.fr_cli.specs.Asking.{IsAnswer, IsForReader, IsRefusedBy, Leads, Prints, for_reader, import_of, import_request, is_refusal, line_of, query_of};
+ghost use Rattle.fr_cli.specs.Asking.{IsAnswer, IsForReader, IsRefusedBy, Leads, Prints, asked_with, for_reader, is_refusal, line_of, query_of};
 
 use crate::answering::actor_of;
 use crate::failure::Failure;
 use crate::fault::Fault;
 use crate::lines_out::line_of;
 use crate::query::Inquiry;
-use fr_base::{Actor, Answer, Ask, Body, Desk, NoMemory, Refusal, Request, Text};
+use fr_base::{Actor, Answer, Ask, Desk, NoMemory, Refusal, Request};
 use fr_text::write_lines;
 use std::alloc::Global;
 
@@ -34,43 +33,18 @@ pub fn report_on<D: Desk>(
     Ok(write_lines(alloc, &answer)?)
 }
 
-/// What the command line says of an import.
-#[derive(Clone, Copy)]
-pub struct ImportWords<'a> {
-    /// The key of who asks.
-    pub key: &'a [u8],
-    /// The variant into which the file's rows go.
-    pub variant: &'a str,
-    /// The label under which the import is kept.
-    pub label: &'a str,
-}
-
-impl ImportWords<'_> {
-    // The request for the import of a file.
-    fn request(self, alloc: Global, body: &[u8]) -> Result<Request, NoMemory>
-        ensures { IfOk result (λ request. request ≡ import_request self.entry body.now) }
-    {
-        Ok(Request::Import {
-            variant: Text::copy(alloc, self.variant)?,
-            label: Text::copy(alloc, self.label)?,
-            body: Body::copy(alloc, body)?,
-        })
-    }
-}
-
-/// Carries out the import of a file, and gives the line of the answer.
-pub fn import<D: Desk>(
+/// Asks for a change as who has the key, and gives the line of the answer.
+pub fn change<D: Desk>(
     alloc: Global,
     desk: &mut D,
-    words: ImportWords<'_>,
-    body: &[u8],
+    key: &[u8],
+    request: Request,
 ) -> Result<Vec<u8>, Failure>
     ensures falls { D.clean desk.new → D.clean desk.old }
-    ensures prints { Prints (IsAnswer (D.clean desk.new) (D.stands desk.old) (D.stands desk.new) (import_of words.entry body.now)) line_of result }
-    ensures leads { Leads (D.clean desk.new) (D.stands desk.old) (D.stands desk.new) (import_of words.entry body.now) }
+    ensures prints { Prints (IsAnswer (D.clean desk.new) (D.stands desk.old) (D.stands desk.new) (asked_with key.now request)) line_of result }
+    ensures leads { Leads (D.clean desk.new) (D.stands desk.old) (D.stands desk.new) (asked_with key.now request) }
 {
-    let request = words.request(alloc, body)?;
-    let answer = ask_by(alloc, desk, words.key, request);
+    let answer = ask_by(alloc, desk, key, request);
     if is_refusal(&answer) {
         return Err(refused(alloc, &answer));
     }
@@ -80,7 +54,7 @@ pub fn import<D: Desk>(
 // Asks as who has the key.
 fn ask_by<D: Desk>(alloc: Global, desk: &mut D, key: &[u8], request: Request) -> Answer
     ensures falls { D.clean desk.new → D.clean desk.old }
-    ensures answers { IsAnswer (D.clean desk.new) (D.stands desk.old) (D.stands desk.new) (λ c b. asked_by (actor_of c b key.now) request) result }
+    ensures answers { IsAnswer (D.clean desk.new) (D.stands desk.old) (D.stands desk.new) (asked_with key.now request) result }
 {
     let actor = actor_of(desk, key);
     ask_as(alloc, desk, actor, request)

@@ -5,10 +5,10 @@ ghost use Rattle.fr_cli.specs.Checking.{AreChecked, AreToldOfRequests, IsChecked
 ghost use Rattle.fr_cli.specs.Endings.{word_line};
 
 use crate::creating::CONFIG_BYTES;
+use crate::delivered_file::FILE_BYTES;
 use crate::failure::Failure;
 use crate::fault::Fault;
 use crate::files::{read_file, read_front};
-use crate::imported_file::IMPORT_BYTES;
 use crate::input::SCRIPT_BYTES;
 use crate::lines::RequestLines;
 use crate::request_file::request_faults;
@@ -33,7 +33,7 @@ fn read(rt: &HostRuntime, file: TextFile<'_>) -> Result<Vec<u8>, Fault>
     match file {
         TextFile::Config { path } => read_file(rt, path, CONFIG_BYTES),
         TextFile::Requests { path } => read_file(rt, path, SCRIPT_BYTES),
-        TextFile::Rows { path } => read_front(rt, path, IMPORT_BYTES),
+        TextFile::Rows { path } => read_front(rt, path, FILE_BYTES),
     }
 }
 

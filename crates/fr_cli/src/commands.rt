@@ -33,9 +33,13 @@ pub fn program<'a>(alloc: Global) -> Result<Command<'a>, AllocError>
         .subcommand(report(alloc, "frames", FRAMES_ABOUT, FRAMES_HELP)?)?
         .subcommand(report(alloc, "schedule", SCHEDULE_ABOUT, SCHEDULE_HELP)?)?
         .subcommand(report(alloc, "gaps", GAPS_ABOUT, GAPS_HELP)?)?
+        .subcommand(report(alloc, "load", LOAD_ABOUT, LOAD_HELP)?)?
         .subcommand(layout(alloc)?)?
+        .subcommand(room(alloc)?)?
+        .subcommand(export(alloc)?)?
         .subcommand(report(alloc, "picture", PICTURE_ABOUT, PICTURE_HELP)?)?
         .subcommand(import(alloc)?)?
+        .subcommand(replace(alloc)?)?
         .subcommand(check(alloc)?)?
         .subcommand(explain(alloc)?)?;
     Ok(program)
@@ -180,11 +184,37 @@ fn report<'a>(
 fn layout<'a>(alloc: Global) -> Result<Command<'a>, AllocError>
     ensures { IfOk result (IsReadAs app.layout) }
 {
-    let command = report(alloc, "layout", LAYOUT_ABOUT, LAYOUT_HELP)?.arg(word(
-        alloc,
-        "FRAME",
-        "The frame's name",
-    ))?;
+    let command = report(alloc, "layout", LAYOUT_ABOUT, LAYOUT_HELP)?.arg(frame(alloc))?;
+    Ok(command)
+}
+
+// The room for a frame, as the supplier sees it whose frame it is.
+fn room<'a>(alloc: Global) -> Result<Command<'a>, AllocError>
+    ensures { IfOk result (IsReadAs app.room) }
+{
+    let command = Command::new(alloc, "room")
+        .about("Prints where a supplier's frame can still be placed, in every so many cycles")
+        .after_help(ROOM_HELP)
+        .arg(db(alloc))?
+        .arg(variant(alloc))?
+        .arg(frame(alloc))?
+        .arg(repetition(alloc))?
+        .arg(owner(alloc))?;
+    Ok(command)
+}
+
+// The records of a variant, as a file.
+fn export<'a>(alloc: Global) -> Result<Command<'a>, AllocError>
+    ensures { IfOk result (IsReadAs app.export) }
+{
+    let command = Command::new(alloc, "export")
+        .about("Prints a variant's frames, placements or signals as a CSV file, which imports read")
+        .after_help(EXPORT_HELP)
+        .arg(db(alloc))?
+        .arg(variant(alloc))?
+        .arg(word(alloc, "ROWS", "Which rows: frames, placements or signals"))?
+        .arg(part(alloc))?
+        .arg(supplier(alloc))?;
     Ok(command)
 }
 
@@ -193,22 +223,31 @@ fn import<'a>(alloc: Global) -> Result<Command<'a>, AllocError>
 {
     let command = Command::new(alloc, "import")
         .about(
-            "Carries out a supplier's import: a CSV file of placements or signals, all rows or none",
+            "Carries out a supplier's import: a CSV file of frames, placements or signals, all rows or none",
         )
         .after_help(IMPORT_HELP)
         .arg(db(alloc))?
-        .arg(word(
-            alloc,
-            "KEY",
-            "The supplier's key; - takes it from standard input's first line",
-        ))?
+        .arg(key(alloc))?
         .arg(variant(alloc))?
         .arg(word(
             alloc,
             "LABEL",
             "The import's label: sent again, it has the same answer",
         ))?
-        .arg(word(alloc, "FILE", "The file (CSV), at most 65,536 bytes"))?;
+        .arg(rows(alloc))?;
+    Ok(command)
+}
+
+fn replace<'a>(alloc: Global) -> Result<Command<'a>, AllocError>
+    ensures { IfOk result (IsReadAs app.replace_words) }
+{
+    let command = Command::new(alloc, "replace")
+        .about("Puts a supplier's CSV file in the place of the rows of the frames that it names")
+        .after_help(REPLACE_HELP)
+        .arg(db(alloc))?
+        .arg(key(alloc))?
+        .arg(variant(alloc))?
+        .arg(rows(alloc))?;
     Ok(command)
 }
 
@@ -258,6 +297,63 @@ fn variant<'a>(alloc: Global) -> Arg<'a>
     ensures { (rule_of result ≡ app.word (codes "VARIANT")) × (result.global ≡ false) }
 {
     word(alloc, "VARIANT", "The variant's name")
+}
+
+// The frame.
+fn frame<'a>(alloc: Global) -> Arg<'a>
+    ensures { (rule_of result ≡ app.word (codes "FRAME")) × (result.global ≡ false) }
+{
+    word(alloc, "FRAME", "The frame's name")
+}
+
+// The key of a supplier.
+fn key<'a>(alloc: Global) -> Arg<'a>
+    ensures { (rule_of result ≡ app.word (codes "KEY")) × (result.global ≡ false) }
+{
+    word(
+        alloc,
+        "KEY",
+        "The supplier's key; - takes it from standard input's first line",
+    )
+}
+
+// A file of rows.
+fn rows<'a>(alloc: Global) -> Arg<'a>
+    ensures { (rule_of result ≡ app.word (codes "FILE")) × (result.global ≡ false) }
+{
+    word(alloc, "FILE", "The file (CSV), at most 65,536 bytes")
+}
+
+// The cycle repetition for which room is wanted, any number.
+fn repetition<'a>(alloc: Global) -> Arg<'a>
+    ensures { (rule_of result ≡ app.repetition) × (result.global ≡ false) }
+{
+    word(alloc, "REPETITION", "The cycle repetition").value_parser(value_parser!(u32))
+}
+
+// Which part of the records is printed, any number.
+fn part<'a>(alloc: Global) -> Arg<'a>
+    ensures { (rule_of result ≡ app.part) × (result.global ≡ false) }
+{
+    Arg::new(alloc, "part")
+        .long("part")
+        .value_name("N")
+        .help("Which part of the rows, of at most 512 each")
+        .action(ArgAction::Set)
+        .default_value("0")
+        .value_parser(value_parser!(u32))
+}
+
+// The supplier whose frame it is.
+fn owner<'a>(alloc: Global) -> Arg<'a>
+    ensures { (rule_of result ≡ app.owner) × (result.global ≡ false) }
+{
+    Arg::new(alloc, "supplier")
+        .long("supplier")
+        .value_name("NAME")
+        .help("Whose frame it is")
+        .required(true)
+        .action(ArgAction::Set)
 }
 
 // The supplier as which a report is read.
@@ -324,6 +420,8 @@ const GAPS_ABOUT: &str =
     "Prints the greatest gap between two sendings of each frame of a variant, in macroticks";
 
 const LAYOUT_ABOUT: &str = "Prints a frame's layout: the signals in its payload";
+
+const LOAD_ABOUT: &str = "Prints how full each slot and channel of a variant is";
 
 const PICTURE_ABOUT: &str = "Draws a variant's plan as a page of HTML, for a browser or a printer";
 
@@ -430,6 +528,30 @@ Example:
   slotplan layout car.db v1 f1
   slotplan layout car.db v1 f1 --supplier s1";
 
+const LOAD_HELP: &str = "\
+A line for each slot on each channel: slot, channel, used cycles, all cycles, node,
+supplier. Where it is not granted - stands for node and supplier. With --supplier the
+last is left out, and so are the slots and channels that are not this supplier's.
+
+Example:
+  slotplan load car.db v1
+  slotplan load car.db v1 --supplier s1";
+
+const ROOM_HELP: &str = "\
+Each line: slot, channels, repetition, and the base cycles with which the frame can be
+placed there.
+
+Example:
+  slotplan room car.db v1 f1 8 --supplier s1";
+
+const EXPORT_HELP: &str = "\
+A header, and a line for each row. Behind the last part there is the header alone. For
+the integrator each line has one field more, the supplier.
+
+Example:
+  slotplan export car.db v1 placements --supplier s1 > placements.csv
+  slotplan export car.db v1 signals --part 1 --supplier s1";
+
 const PICTURE_HELP: &str = "\
 The page shows the static segment: cycles down, slots across, each grant and each
 frame that is sent; how full each supplier's grants are; and the frames with their
@@ -445,6 +567,17 @@ it is read from standard input, whose first line it is.
 
 Example:
   slotplan import car.db - v1 week47 placements.csv < key.txt";
+
+const REPLACE_HELP: &str = "\
+The frames that the file names lose their placements, or their signals, and get those of
+the file; all others stay. All rows are carried out, or none. A file of frames adds those
+that are not there.
+
+Other users of the machine may see a key that stands on the command line. With - for KEY
+it is read from standard input, whose first line it is.
+
+Example:
+  slotplan replace car.db - v1 placements.csv < key.txt";
 
 const CHECK_HELP: &str = "\
 Of a cluster file the first fault is told, of requests and rows each fault with its line.

@@ -9,16 +9,17 @@ ghost use Rattle.fr_cli.specs.Asking.{IsForReader, line_of, query_of};
 ghost use Rattle.fr_cli.specs.Checking.{IsCheckedFile};
 ghost use Rattle.fr_cli.specs.Endings.{AppendsFront, IsPrinted, IsTold, Tells, status_of};
 ghost use Rattle.fr_cli.specs.Explaining.{IsExplained};
-ghost use Rattle.fr_cli.specs.Faults.{IsNotImported, IsNotMade, IsNotMigrated, IsNotReported};
+ghost use Rattle.fr_cli.specs.Faults.{IsNotDelivered, IsNotMade, IsNotMigrated, IsNotReported};
 ghost use Rattle.fr_cli.specs.Incoming.{IsAsked};
 ghost use Rattle.fr_cli.specs.Performing.{Says, of_script};
 ghost use Rattle.fr_cli.specs.Picturing.{plans_for};
 ghost use Rattle.fr_picture.specs.Pages.{IsPage};
 ghost use Rattle.fr_cli.specs.Queries.{named};
 ghost use Rattle.fr_cli.specs.Reading.{PrintsRead};
-ghost use Rattle.fr_cli.specs.RegisterFiles.{IsAnswerOfFile, IsImportOfFile, IsMade, IsMoved, IsReadOfFile};
+ghost use Rattle.fr_cli.specs.RegisterFiles.{IsAnswerOfFile, IsDeliveryToFile, IsMade, IsMoved, IsReadOfFile};
 ghost use Rattle.fr_cli.specs.Runs.{IsRunOf};
 ghost use Rattle.fr_cli.specs.Serving.{IsAnnounced, IsServed};
+ghost use Rattle.fr_cli.specs.declared.delivery.Delivery.{Delivery};
 ghost use Rattle.fr_cli.specs.declared.failure.Failure.{Failure as Ended};
 ghost use Rattle.fr_cli.specs.declared.fault.Fault.{Fault as Word};
 ghost use Rattle.fr_cli.specs.declared.query.Inquiry.{Inquiry};
@@ -29,10 +30,10 @@ use crate::asked_file::ask_file;
 use crate::asking::report_on;
 use crate::checking::check;
 use crate::creating::create;
+use crate::delivered_file::deliver_file;
 use crate::explaining::explain_word;
 use crate::failure::Failure;
 use crate::fault::{Fault, of_script};
-use crate::imported_file::{GivenWords, import_file};
 use crate::picturing::picture;
 use crate::printing::{end, print, print_all, tell};
 use crate::query::Inquiry;
@@ -72,9 +73,9 @@ pub fn perform<S: Start, R: Read, O: Write, E: Write>(
         × IsTold done (O.contents out.old) (O.contents out.new) (E.contents err.old) (E.contents err.new) result.0 }
     ensures picture { (db variant : Bor (List ℕ)) (supplier : Option (Bor (List ℕ))) → job.now ≡ Job.Picture db variant supplier → (done : Result (Vec ℕ) Ended) × PrintsRead (IsNotReported (image_at S.Start) result.1) (IsReadOfFile (image_at S.Start) result.1 (plans_for (named supplier) variant.now)) IsPage done
         × IsTold done (O.contents out.old) (O.contents out.new) (E.contents err.old) (E.contents err.new) result.0 }
-    ensures import { (db key variant label file : Bor (List ℕ)) → job.now ≡ Job.Import db key variant label file → (body : List ℕ) × (done : Result (Vec ℕ) Ended)
-        × Says (IsNotImported (image_at S.Start) result.1 key.now)
-        (IsImportOfFile (image_at S.Start) result.1 key variant label (R.remaining input.old) (R.remaining input.new) body) line_of done
+    ensures deliver { (db : Bor (List ℕ)) (delivery : Delivery) → job.now ≡ Job.Deliver db delivery → (body : List ℕ) × (done : Result (Vec ℕ) Ended)
+        × Says (IsNotDelivered (image_at S.Start) result.1 delivery.key.now)
+        (IsDeliveryToFile (image_at S.Start) result.1 delivery (R.remaining input.old) (R.remaining input.new) body) line_of done
         × IsTold done (O.contents out.old) (O.contents out.new) (E.contents err.old) (E.contents err.new) result.0 }
     ensures check { (file : TextFile) → job.now ≡ Job.Check file → (done : Result (Vec ℕ) Ended) × IsCheckedFile file done
         × IsTold done (O.contents out.old) (O.contents out.new) (E.contents err.old) (E.contents err.new) result.0 }
@@ -126,19 +127,8 @@ pub fn perform<S: Start, R: Read, O: Write, E: Write>(
             let (done, left) = picture_file(rt, db, start, variant, supplier);
             (tell(done, out, &mut err), left)
         }
-        Job::Import {
-            db,
-            key,
-            variant,
-            label,
-            file,
-        } => {
-            let words = GivenWords {
-                key,
-                variant,
-                label,
-            };
-            let (done, left) = import_file(rt, db, start, words, file, input);
+        Job::Deliver { db, delivery } => {
+            let (done, left) = deliver_file(rt, db, start, delivery, input);
             (tell(done, out, &mut err), left)
         }
         Job::Check { file } => (tell(check(rt, file), out, &mut err), None),

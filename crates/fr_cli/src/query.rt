@@ -2,7 +2,7 @@
 ghost use Rattle.std.specs.Prelude.{◌≡◌, IfOk};
 ghost use Rattle.fr_cli.specs.Queries.{named, reader_of, request_for};
 
-use fr_base::{Actor, Name, NameReader, NoMemory, Query, Request, Text};
+use fr_base::{Actor, Name, NoMemory, Query, QueryReader, Request, Text};
 use std::alloc::Global;
 
 /// A query of a register, as the integrator asks it, or the supplier of this name.
@@ -31,19 +31,27 @@ impl Inquiry<'_> {
     }
 }
 
-// Copies of the names in a query.
+// Copies of the names in a query, and its numbers as they are.
 #[derive(Drop)]
 struct Copies {
     alloc: Global,
 }
 
-impl<'a> NameReader<&'a str, Text, NoMemory> for Copies {
+impl<'a> QueryReader<&'a str, u32, Text, NoMemory> for Copies {
     ghost use Rattle.std.specs.Prelude.{◌≡◌, IfOk};
 
     ghost reads = { λ _ name result. IfOk result (λ copy. copy ≡ name.now) };
 
+    ghost counts = { λ _ number result. IfOk result (λ same. same ≡ number) };
+
     fn read_name(&self, name: &&'a str) -> Result<Text, NoMemory> {
         Text::copy(self.alloc, name)
+    }
+
+    fn read_number(&self, number: &u32) -> Result<u32, NoMemory>
+        ensures { IfOk result (λ same. same ≡ number.now) }
+    {
+        Ok(*number)
     }
 }
 

@@ -2,19 +2,23 @@
 ghost use Rattle.std.specs.Prelude.{◌≡◌, codes, map, option_map, string_bytes, IfErr, IfOk, OnOk};
 ghost use Rattle.clap.specs.Walk.{first_of, rows_of};
 ghost use Rattle.clap.specs.Words.{found_of, kind_of, subcommand_rows_of};
-ghost use Rattle.fr_base.specs.Queries.{word_of, word_of_inventory};
-ghost use Rattle.fr_cli.specs.Words.{AreTaken, AskFor, HasFrame, IsFaultOf, IsFileIn, IsJobFound, IsJobIn, IsJobOf, IsNumberIn, IsOfKind, MayRefuse};
+ghost use Rattle.fr_base.specs.Queries.{word_of_inventory};
+ghost use Rattle.fr_cli.specs.Words.{AreTaken, AskFor, HasKind, HasReport, IsFaultOf, IsFileIn, IsHeaderIn, IsJobFound, IsJobIn, IsJobOf, IsNumberIn, IsOfKind, MayRefuse, word_of_delivery, word_of_report};
 
 use crate::commands::{MAX_CONNECTIONS, MAX_PORT, MAX_SECONDS, program};
+use crate::delivery::{Delivery, DeliveryKind};
 use crate::query::Inquiry;
 use crate::text_file::TextFile;
 use clap::error::ErrorKind;
 use clap::{ArgMatches, Error};
-use fr_base::{Inventory, Query, Report};
+use fr_base::{Header, Inventory, Query, Report};
 use std::alloc::Global;
 
-/// What is said of words that `clap` takes, and that name no job: `check` alone has such.
-const NO_JOB: &str = "check takes one file: CONFIG, or --requests FILE, or --rows FILE";
+/// What is said of words of `check` that name no job, though `clap` takes them.
+const NO_FILE: &str = "check takes one file: CONFIG, or --requests FILE, or --rows FILE";
+
+/// What is said of words of `export` that name no job, though `clap` takes them.
+const NO_ROWS: &str = "export takes ROWS that are frames, placements or signals";
 
 /// What the program is to do.
 #[derive(Clone, Copy, PartialEq, Eq)]
@@ -53,13 +57,10 @@ pub enum Job<'a> {
         variant: &'a str,
         supplier: Option<&'a str>,
     },
-    /// Carry out the import of a file by who has the key.
-    Import {
+    /// Deliver a file of rows to a register.
+    Deliver {
         db: &'a str,
-        key: &'a str,
-        variant: &'a str,
-        label: &'a str,
-        file: &'a str,
+        delivery: Delivery<'a>,
     },
     /// Say what is wrong with the text of a file, and where; or that nothing is.
     Check {
@@ -104,7 +105,15 @@ fn read<'a>(alloc: Global, words: &'a [String]) -> Result<Job<'a>, Error>
     let matches = program.try_get_matches_from_mut(words)?;
     match job_of(&matches) {
         Some(job) => Ok(job),
-        None => Err(program.error(ErrorKind::ValueValidation, NO_JOB)?),
+        None => Err(program.error(ErrorKind::ValueValidation, wanted(&matches))?),
+    }
+}
+
+// What the subcommand wants that was found, where it has no job with its words: `check` and `export` alone have none.
+fn wanted(matches: &ArgMatches<'_>) -> &'static str {
+    match matches.subcommand() {
+        Some(("export", _)) => NO_ROWS,
+        _ => NO_FILE,
     }
 }
 
@@ -134,8 +143,12 @@ fn named_job<'a>(name: &str, found: &ArgMatches<'a>) -> Option<Job<'a>>
         "schedule" => report_job(found, Report::Schedule),
         "gaps" => report_job(found, Report::Gaps),
         "layout" => layout_job(found),
+        "load" => report_job(found, Report::Load),
+        "room" => room_job(found),
+        "export" => export_job(found),
         "picture" => picture_job(found),
         "import" => import_job(found),
+        "replace" => deliver_job(found, DeliveryKind::Replacement),
         "check" => check_job(found),
         "explain" => Some(explain_job(found)),
         _ => None,
@@ -164,9 +177,9 @@ fn serve_job<'a>(found: &ArgMatches<'a>) -> Option<Job<'a>>
 {
     Some(Job::Serve {
         db: word(found, "DB")?,
-        port: u16::try_from(number(found, "PORT", MAX_PORT)?).ok()?,
-        count: number(found, "count", MAX_CONNECTIONS)?,
-        seconds: number(found, "seconds", MAX_SECONDS)?,
+        port: u16::try_from(number(found, "PORT", 1, MAX_PORT)?).ok()?,
+        count: number(found, "count", 1, MAX_CONNECTIONS)?,
+        seconds: number(found, "seconds", 1, MAX_SECONDS)?,
     })
 }
 
@@ -190,7 +203,7 @@ fn inventory_job<'a>(found: &ArgMatches<'a>, inventory: Inventory) -> Option<Job
 }
 
 fn report_job<'a>(found: &ArgMatches<'a>, report: Report<&'a str>) -> Option<Job<'a>>
-    ensures { HasFrame report.entry (rows_of (found_of found.now)) → IsJobIn result (word_of report.entry) (rows_of (found_of found.now)) }
+    ensures { HasReport report.entry (rows_of (found_of found.now)) → IsJobIn result (word_of_report report.entry) (rows_of (found_of found.now)) }
 {
     let db = word(found, "DB")?;
     let variant = word(found, "VARIANT")?;
@@ -208,6 +221,34 @@ fn layout_job<'a>(found: &ArgMatches<'a>) -> Option<Job<'a>>
     report_job(found, Report::Layout { frame })
 }
 
+fn room_job<'a>(found: &ArgMatches<'a>) -> Option<Job<'a>>
+    ensures { IsJobIn result (codes "room") (rows_of (found_of found.now)) }
+{
+    let frame = word(found, "FRAME")?;
+    let repetition = number(found, "REPETITION", 0, u32::MAX)?;
+    report_job(found, Report::Room { frame, repetition })
+}
+
+fn export_job<'a>(found: &ArgMatches<'a>) -> Option<Job<'a>>
+    ensures { IsJobIn result (codes "export") (rows_of (found_of found.now)) }
+{
+    let header = header(found)?;
+    let part = number(found, "part", 0, u32::MAX)?;
+    report_job(found, Report::Export { header, part })
+}
+
+// The header of the records that are wanted.
+fn header(found: &ArgMatches<'_>) -> Option<Header>
+    ensures { IsHeaderIn result (rows_of (found_of found.now)) }
+{
+    match word(found, "ROWS")? {
+        "frames" => Some(Header::Frames),
+        "placements" => Some(Header::Placements),
+        "signals" => Some(Header::Signals),
+        _ => None,
+    }
+}
+
 fn picture_job<'a>(found: &ArgMatches<'a>) -> Option<Job<'a>>
     ensures { IsJobIn result (codes "picture") (rows_of (found_of found.now)) }
 {
@@ -221,13 +262,21 @@ fn picture_job<'a>(found: &ArgMatches<'a>) -> Option<Job<'a>>
 fn import_job<'a>(found: &ArgMatches<'a>) -> Option<Job<'a>>
     ensures { IsJobIn result (codes "import") (rows_of (found_of found.now)) }
 {
-    Some(Job::Import {
-        db: word(found, "DB")?,
+    let label = word(found, "LABEL")?;
+    deliver_job(found, DeliveryKind::Import { label })
+}
+
+fn deliver_job<'a>(found: &ArgMatches<'a>, kind: DeliveryKind<'a>) -> Option<Job<'a>>
+    ensures { HasKind kind.entry (rows_of (found_of found.now)) → IsJobIn result (word_of_delivery kind.entry) (rows_of (found_of found.now)) }
+{
+    let db = word(found, "DB")?;
+    let delivery = Delivery {
         key: word(found, "KEY")?,
         variant: word(found, "VARIANT")?,
-        label: word(found, "LABEL")?,
+        kind,
         file: word(found, "FILE")?,
-    })
+    };
+    Some(Job::Deliver { db, delivery })
 }
 
 fn check_job<'a>(found: &ArgMatches<'a>) -> Option<Job<'a>>
@@ -268,12 +317,12 @@ fn word<'a>(found: &ArgMatches<'a>, name: &str) -> Option<&'a str>
     found.get_str(name)
 }
 
-// The number at this place, if it is 1 to `most`.
-fn number(found: &ArgMatches<'_>, name: &str, most: u32) -> Option<u32>
-    ensures { IsNumberIn result name.now most (rows_of (found_of found.now)) }
+// The number at this place, if it is `least` to `most`.
+fn number(found: &ArgMatches<'_>, name: &str, least: u32, most: u32) -> Option<u32>
+    ensures { IsNumberIn result name.now least most (rows_of (found_of found.now)) }
 {
     let read = found.get_one::<u32>(name)?;
-    if (1..=most).contains(&read) {
+    if (least..=most).contains(&read) {
         Some(read)
     } else {
         None

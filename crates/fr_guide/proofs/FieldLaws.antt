@@ -11,7 +11,7 @@ use Rattle.serde_json.specs.Find.{as_null, as_number, as_object, as_str, as_u64,
 use Rattle.serde_json.specs.Read.{read}
 use Rattle.fr_base.specs.declared.request.Request.{Request}
 use Rattle.fr_text.specs.Fields.{◌>>=◌, ◌>>◌, is_among, provided, text, text_or_null, value_of, whole}
-use Rattle.fr_text.specs.RequestText.{request_of, request_in, readers, open_variant, release, add_supplier, add_node, grant, revoke, add_frame, drop_frame, place, unplace, add_signal, drop_signal, import, inventory, report, layout}
+use Rattle.fr_text.specs.RequestText.{request_of, request_in, readers, open_variant, release, add_supplier, set_key, add_node, grant, revoke, add_frame, drop_frame, place, unplace, add_signal, drop_signal, import, replace, inventory, report, layout, room, export}
 use Rattle.fr_guide.specs.Faults.{are_none}
 use Rattle.fr_guide.specs.RequestFields.{are_of_request, is_request, has_fields, has_fields_of, has_just, has_kind, is_whole, kind_of, numbers, requests}
 use Rattle.fr_guide.specs.declared.requests.forms.Kind.TheVariants as kind
@@ -119,10 +119,11 @@ unfolding Parallel
 none = tt
 
 each : Parallel readers requests
-unfolding readers requests open_variant release add_supplier add_node grant revoke add_frame drop_frame place unplace add_signal drop_signal import inventory report layout kind_of numbers is_among
+unfolding readers requests open_variant release add_supplier set_key add_node grant revoke add_frame drop_frame place unplace add_signal drop_signal import replace inventory report layout room export kind_of numbers is_among
 each =
     more _ _ _ _ _ (λ fields. first _ _ _ (texted _ fields _ _ (λ v. nulled _ fields _ true (λ p. refl))))
     (more _ _ _ _ _ (λ fields. first _ _ _ (texted _ fields _ true (λ v. refl)))
+    (more _ _ _ _ _ (λ fields. first _ _ _ (texted _ fields _ _ (λ s. texted _ fields _ true (λ k. refl))))
     (more _ _ _ _ _ (λ fields. first _ _ _ (texted _ fields _ _ (λ s. texted _ fields _ true (λ k. refl))))
     (more _ _ _ _ _ (λ fields. first _ _ _ (texted _ fields _ _ (λ s. texted _ fields _ true (λ n. refl))))
     (more _ _ _ _ _ (λ fields. first _ _ _ (texted _ fields _ _ (λ v. numbered _ fields _ _ (λ k. texted _ fields _ _ (λ c. texted _ fields _ _ (λ s. texted _ fields _ true (λ n. refl)))))))
@@ -134,6 +135,7 @@ each =
     (more _ _ _ _ _ (λ fields. first _ _ _ (texted _ fields _ _ (λ v. texted _ fields _ _ (λ f. texted _ fields _ _ (λ s. numbered _ fields _ _ (λ b. numbered _ fields _ _ (λ l. texted _ fields _ true (λ o. refl))))))))
     (more _ _ _ _ _ (λ fields. first _ _ _ (texted _ fields _ _ (λ v. texted _ fields _ _ (λ f. texted _ fields _ true (λ s. refl)))))
     (more _ _ _ _ _ (λ fields. first _ _ _ (texted _ fields _ _ (λ v. texted _ fields _ _ (λ l. texted _ fields _ true (λ b. refl)))))
+    (more _ _ _ _ _ (λ fields. first _ _ _ (texted _ fields _ _ (λ v. texted _ fields _ true (λ b. refl))))
     (more _ _ _ _ _ (λ fields. first _ _ true refl)
     (more _ _ _ _ _ (λ fields. first _ _ true refl)
     (more _ _ _ _ _ (λ fields. first _ _ true refl)
@@ -142,7 +144,12 @@ each =
     (more _ _ _ _ _ (λ fields. first _ _ _ (texted _ fields _ true (λ v. refl)))
     (more _ _ _ _ _ (λ fields. first _ _ _ (texted _ fields _ true (λ v. refl)))
     (more _ _ _ _ _ (λ fields. first _ _ _ (texted _ fields _ _ (λ v. texted _ fields _ true (λ f. refl))))
-    none))))))))))))))))))))
+    (more _ _ _ _ _ (λ fields. first _ _ _ (texted _ fields _ true (λ v. refl)))
+    (more _ _ _ _ _ (λ fields. first _ _ _ (texted _ fields _ _ (λ v. texted _ fields _ _ (λ f. numbered _ fields _ true (λ r. refl)))))
+    (more _ _ _ _ _ (λ fields. first _ _ _ (texted _ fields _ _ (λ v. numbered _ fields _ true (λ k. refl))))
+    (more _ _ _ _ _ (λ fields. first _ _ _ (texted _ fields _ _ (λ v. numbered _ fields _ true (λ k. refl))))
+    (more _ _ _ _ _ (λ fields. first _ _ _ (texted _ fields _ _ (λ v. numbered _ fields _ true (λ k. refl))))
+    none)))))))))))))))))))))))))))
 
 -- ---- the request
 

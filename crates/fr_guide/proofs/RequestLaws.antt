@@ -4,7 +4,7 @@ use Rattle.std.specs.Prelude.{not, ◌&&◌, nat_le}
 use Rattle.std.specs.List.{list_all}
 use Rattle.fr_base.specs.Channels.{channel_of_text, channels_in, channels_of_text, has_channel}
 use Rattle.fr_base.specs.Checks.{asking, channel, channels, check, cycles, key, name, parent_name, placement, query, report, signal, slot}
-use Rattle.fr_base.specs.Cycles.{Cycles, are_cycles}
+use Rattle.fr_base.specs.Cycles.{Cycles, are_cycles, is_repetition}
 use Rattle.fr_base.specs.Names.{is_key, is_name}
 use Rattle.fr_base.specs.Refusing.{◌>>=◌, ◌>>◌, ◌or◌, refuse◌when◌}
 use Rattle.fr_base.specs.Signals.{SignalData, is_signal_length, order_of_text}
@@ -14,7 +14,7 @@ use Rattle.fr_base.specs.declared.params.Params.{Params}
 use Rattle.fr_base.specs.declared.refusal.Refusal.{Refusal}
 use Rattle.fr_base.specs.declared.refusal.Refusal.TheVariants.{BadChannel, BadCycles, BadKey, BadName, BadSignal, BadSlot}
 use Rattle.fr_base.specs.declared.query.Query.TheVariants.{Register as OfRegister, Variant as OfVariant}
-use Rattle.fr_base.specs.declared.report.Report.TheVariants.{Grants, Frames, Schedule, Gaps, Layout}
+use Rattle.fr_base.specs.declared.report.Report.TheVariants.{Grants, Frames, Schedule, Gaps, Layout, Load, Room, Export}
 use Rattle.fr_base.specs.declared.request.Request.TheVariants as request
 use Rattle.fr_base.specs.declared.signal.Order.{Order}
 use Rattle.fr_guide.specs.Laws.{MisformedRequestsAreRefused, is_misformed}
@@ -73,6 +73,11 @@ unfolding ◌>>◌ refuse◌when◌
 refused-formed true x = refl
 refused-formed false x = refl
 
+repeats-formed : {A : Type 0} (test : Bool) (x : A) → is_formed ((refuse BadCycles when test) >> (Ok x)) ≡ true
+unfolding ◌>>◌ refuse◌when◌
+repeats-formed true x = refl
+repeats-formed false x = refl
+
 pub channel-formed : (p : Params) (text : List ℕ) → is_formed (channel p text) ≡ true
 unfolding channel
 channel-formed p text = found-formed (channel_of_text text) _ (λ c. refused-formed (not (has_channel p.channels c)) c)
@@ -122,6 +127,7 @@ misformed_requests p s (request.OpenVariant v None) = sym (named v _ true refl)
 misformed_requests p s (request.OpenVariant v (Some parent)) = sym (named v _ (is_name parent && true) (named_within parent _ _ refl))
 misformed_requests p s (request.Release v) = sym (named v _ true refl)
 misformed_requests p s (request.AddSupplier supplier k) = sym (named supplier _ (is_key k && true) (keyed k _ true refl))
+misformed_requests p s (request.SetKey supplier k) = sym (named supplier _ (is_key k && true) (keyed k _ true refl))
 misformed_requests p s (request.AddNode supplier node) = sym (named supplier _ (is_name node && true) (named node _ true refl))
 misformed_requests p s (request.Grant v n text supplier node) =
     sym (named v _ _ (named supplier _ _ (named node _ true
@@ -139,6 +145,7 @@ misformed_requests p s (request.AddSignal v frame x start length text) =
     sym (named v _ _ (named frame _ _ (named x _ true (formed_behind (signal x start length text) _ (signal-formed x start length text) (λ y. refl)))))
 misformed_requests p s (request.DropSignal v frame x) = sym (named v _ _ (named frame _ _ (named x _ true refl)))
 misformed_requests p s (request.Import v label body) = sym (named v _ _ (named label _ true refl))
+misformed_requests p s (request.Replace v body) = sym (named v _ true refl)
 misformed_requests p s (request.Query (OfRegister inventory)) = refl
 misformed_requests p s (request.Query (OfVariant v Grants)) = sym (named_within v _ _ refl)
 misformed_requests p s (request.Query (OfVariant v Frames)) = sym (named_within v _ _ refl)
@@ -146,3 +153,8 @@ misformed_requests p s (request.Query (OfVariant v Schedule)) = sym (named_withi
 misformed_requests p s (request.Query (OfVariant v Gaps)) = sym (named_within v _ _ refl)
 misformed_requests p s (request.Query (OfVariant v (Layout frame))) =
     sym (ap is_formed (in_turn (name v) _ _) ∙ named v _ (is_name frame && true) (ap is_formed (in_turn (name frame >>= (λ f. Ok (Layout f))) _ _) ∙ named_within frame _ _ refl))
+misformed_requests p s (request.Query (OfVariant v Load)) = sym (named_within v _ _ refl)
+misformed_requests p s (request.Query (OfVariant v (Room frame repetition))) =
+    sym (ap is_formed (in_turn (name v) _ _) ∙ named v _ (is_name frame && true)
+    (ap is_formed (in_turn (name frame >>= (λ f. Ok (Room f repetition))) _ _) ∙ named_within frame _ _ (repeats-formed (not (is_repetition p.cycles repetition)) _)))
+misformed_requests p s (request.Query (OfVariant v (Export header part))) = sym (named_within v _ _ refl)

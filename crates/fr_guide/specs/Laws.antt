@@ -44,6 +44,7 @@ abbrev pub asked_by : Name → Request → Actor
 asked_by s (request.OpenVariant variant parent) = Integrator
 asked_by s (request.Release variant) = Integrator
 asked_by s (request.AddSupplier supplier key) = Integrator
+asked_by s (request.SetKey supplier key) = Integrator
 asked_by s (request.AddNode supplier node) = Integrator
 asked_by s (request.Grant variant slot channel supplier node) = Integrator
 asked_by s (request.Revoke variant slot channel supplier) = Integrator

@@ -15,6 +15,7 @@ requests =
     (codes "open_variant", codes "variant" ∷ codes "from" ∷ [])
     ∷ (codes "release", codes "variant" ∷ [])
     ∷ (codes "add_supplier", codes "supplier" ∷ codes "key" ∷ [])
+    ∷ (codes "set_key", codes "supplier" ∷ codes "key" ∷ [])
     ∷ (codes "add_node", codes "supplier" ∷ codes "node" ∷ [])
     ∷ (codes "grant", codes "variant" ∷ codes "slot" ∷ codes "channel" ∷ codes "supplier" ∷ codes "node" ∷ [])
     ∷ (codes "revoke", codes "variant" ∷ codes "slot" ∷ codes "channel" ∷ codes "supplier" ∷ [])
@@ -25,6 +26,7 @@ requests =
     ∷ (codes "add_signal", codes "variant" ∷ codes "frame" ∷ codes "signal" ∷ codes "start" ∷ codes "length" ∷ codes "order" ∷ [])
     ∷ (codes "drop_signal", codes "variant" ∷ codes "frame" ∷ codes "signal" ∷ [])
     ∷ (codes "import", codes "variant" ∷ codes "label" ∷ codes "body" ∷ [])
+    ∷ (codes "replace", codes "variant" ∷ codes "body" ∷ [])
     ∷ (codes "cluster", [])
     ∷ (codes "variants", [])
     ∷ (codes "nodes", [])
@@ -33,6 +35,11 @@ requests =
     ∷ (codes "schedule", codes "variant" ∷ [])
     ∷ (codes "gaps", codes "variant" ∷ [])
     ∷ (codes "layout", codes "variant" ∷ codes "frame" ∷ [])
+    ∷ (codes "load", codes "variant" ∷ [])
+    ∷ (codes "room", codes "variant" ∷ codes "frame" ∷ codes "repetition" ∷ [])
+    ∷ (codes "export_frames", codes "variant" ∷ codes "part" ∷ [])
+    ∷ (codes "export_placements", codes "variant" ∷ codes "part" ∷ [])
+    ∷ (codes "export_signals", codes "variant" ∷ codes "part" ∷ [])
     ∷ []
 
 -- the fields of the request of this name, if there is one
@@ -41,7 +48,7 @@ fields_of request = lookup (bytes_eq request) requests
 
 -- the fields that are numbers
 unfoldable pub numbers : List (List ℕ)
-numbers = codes "slot" ∷ codes "base" ∷ codes "repetition" ∷ codes "start" ∷ codes "length" ∷ []
+numbers = codes "slot" ∷ codes "base" ∷ codes "repetition" ∷ codes "start" ∷ codes "length" ∷ codes "part" ∷ []
 
 -- what the field of this name has to be
 unfoldable pub kind_of : List ℕ → Kind

@@ -5,7 +5,7 @@ use Rattle.fr_base.specs.Names.{is_key, is_name}
 use Rattle.fr_base.specs.declared.query.Query.{Query}
 use Rattle.fr_base.specs.declared.query.Query.TheVariants.{Register as OfRegister, Variant as OfVariant}
 use Rattle.fr_base.specs.declared.report.Report.{Report}
-use Rattle.fr_base.specs.declared.report.Report.TheVariants.{Grants, Frames, Schedule, Gaps, Layout}
+use Rattle.fr_base.specs.declared.report.Report.TheVariants.{Grants, Frames, Schedule, Gaps, Layout, Load, Room, Export}
 use Rattle.fr_base.specs.declared.request.Request.{Request}
 use Rattle.fr_base.specs.declared.request.Request.TheVariants as request
 use Rattle.fr_text.specs.RequestText.{request_of}
@@ -27,15 +27,18 @@ parent_in None = []
 parent_in (Some parent) = name parent ∷ []
 
 -- the name of a report's frame, if it is of one
-abbrev pub frame_in : Report (List ℕ) → List (Form × List ℕ)
+abbrev pub frame_in : Report (List ℕ) ℕ → List (Form × List ℕ)
 frame_in Grants = []
 frame_in Frames = []
 frame_in Schedule = []
 frame_in Gaps = []
 frame_in (Layout frame) = name frame ∷ []
+frame_in Load = []
+frame_in (Room frame repetition) = name frame ∷ []
+frame_in (Export header part) = []
 
 -- the names in a query
-abbrev pub names_in : Query (List ℕ) → List (Form × List ℕ)
+abbrev pub names_in : Query (List ℕ) ℕ → List (Form × List ℕ)
 names_in (OfRegister inventory) = []
 names_in (OfVariant variant report) = name variant ∷ frame_in report
 
@@ -44,6 +47,7 @@ unfoldable pub formed_in : Request → List (Form × List ℕ)
 formed_in (request.OpenVariant variant parent) = name variant ∷ parent_in parent
 formed_in (request.Release variant) = name variant ∷ []
 formed_in (request.AddSupplier supplier key) = name supplier ∷ (form.Key, key) ∷ []
+formed_in (request.SetKey supplier key) = name supplier ∷ (form.Key, key) ∷ []
 formed_in (request.AddNode supplier node) = name supplier ∷ name node ∷ []
 formed_in (request.Grant variant slot channel supplier node) = name variant ∷ name supplier ∷ name node ∷ []
 formed_in (request.Revoke variant slot channel supplier) = name variant ∷ name supplier ∷ []
@@ -54,6 +58,7 @@ formed_in (request.Unplace variant frame slot channels base repetition) = name v
 formed_in (request.AddSignal variant frame signal start length order) = name variant ∷ name frame ∷ name signal ∷ []
 formed_in (request.DropSignal variant frame signal) = name variant ∷ name frame ∷ name signal ∷ []
 formed_in (request.Import variant label body) = name variant ∷ name label ∷ []
+formed_in (request.Replace variant body) = name variant ∷ []
 formed_in (request.Query query) = names_in query
 
 -- whether each of these texts has its form

@@ -4,7 +4,7 @@ use Rattle.std.specs.Prelude.{not, ⊤, IfOk, if◌then◌else◌}
 use Rattle.std.proofs.lemmas.Bool.{cases_Bool}
 use Rattle.fr_base.specs.Alone.{is_mine, is_unavailable, lacked, rows_of}
 use Rattle.fr_base.specs.Book.{Book, Frame, Variant, is_of}
-use Rattle.fr_base.specs.Checks.{check, name, query, report}
+use Rattle.fr_base.specs.Checks.{check, has_repetition, name, query, report}
 use Rattle.fr_base.specs.Cluster.{Cluster}
 use Rattle.fr_base.specs.Names.{is_name, same_text}
 use Rattle.fr_base.specs.Queries.{found, frame_row, frames_of, reply, shown}
@@ -22,7 +22,7 @@ use Rattle.fr_base.specs.declared.answer.ReportRows.TheVariants as rows
 use Rattle.fr_base.specs.declared.name.Name.{Name}
 use Rattle.fr_base.specs.declared.query.Query.TheVariants.{Variant as OfVariant}
 use Rattle.fr_base.specs.declared.refusal.Refusal.{Refusal}
-use Rattle.fr_base.specs.declared.refusal.Refusal.TheVariants.{BadName, NoVariant, UnknownKey}
+use Rattle.fr_base.specs.declared.refusal.Refusal.TheVariants.{BadCycles, BadName, NotYours, NoVariant, UnknownKey}
 use Rattle.fr_base.specs.declared.report.Report.TheVariants.{Frames}
 use Rattle.fr_base.specs.declared.request.Checked.TheVariants as checked
 use Rattle.fr_base.specs.declared.request.Request.{Request}
@@ -74,7 +74,8 @@ module _ (c : Cluster) (b : Book) (s : Name) where
 
   -- the lines of the step, by whether the supplier is known and the variant's name is one
   its_lines : (known named : Bool) (variant : List ℕ) → HasIts (outcome b ((refuse UnknownKey when not known)
-      >> ((((if named then Ok variant else Err BadName) >>= λ v. report Frames >>= λ r. Ok (OfVariant v r)) >>= λ q. Ok (checked.Query q)) >>= λ valid. act c b (Supplier s) valid))).answer
+      >> (((refuse NotYours when false) >> (((if named then Ok variant else Err BadName) >>= λ v. report Frames >>= λ r. Ok (OfVariant v r))
+      >>= λ q. (refuse BadCycles when not (has_repetition c.params q)) >> Ok (checked.Query q))) >>= λ valid. act c b (Supplier s) valid))).answer
   unfolding report act reply found outcome ◌>>=◌ ◌>>◌ refuse◌when◌
   its_lines false named variant = tt
   its_lines true false variant = tt

@@ -3,6 +3,7 @@ use Rattle.std.specs.Fmt.{digits}
 use Rattle.std.specs.Prelude.{⊤, ℕ, ◌≡◌, false, true, List, [], ◌∷◌, ◌++◌, codes, map, if◌then◌else◌, Option, Some, None, Ok, Err, refl}
 use Rattle.matchit.specs.Route.{scan}
 use Rattle.matchit.specs.Seek.{seek, param_step}
+use Rattle.fr_base.specs.ImportRows.{number}
 use Rattle.fr_base.specs.Names.{same_text}
 use Rattle.fr_base.specs.Refusing.{◌>>=◌, ◌>>◌, ◌or◌, refuse◌when◌}
 use Rattle.fr_base.specs.declared.actor.Actor.{Actor}
@@ -13,11 +14,11 @@ use Rattle.fr_base.specs.declared.channel.Channel.TheVariants as channel
 use Rattle.fr_base.specs.declared.refusal.Refusal.TheVariants as refusal
 use Rattle.fr_base.specs.declared.request.Request.TheVariants as request
 use Rattle.fr_text.specs.AnswerText.{report_of, text_of, text_of_refusal}
-use Rattle.fr_text.specs.Report.{lines_of, lines_of_rows, node_line, schedule_line}
+use Rattle.fr_text.specs.Report.{frame_record, header_line, lines_of, lines_of_rows, node_line, schedule_line}
 use Rattle.fr_text.specs.Styles.{plain_lines, json_lines}
 use Rattle.fr_text.specs.Words.{right_in}
 use Rattle.fr_http.specs.Head.{HeadData, values}
-use Rattle.fr_http.specs.Routes.{matter_by, of_variant, part, route_of, router, table, with_route}
+use Rattle.fr_http.specs.Routes.{export, matter_by, of_variant, part, route_of, router, table, with_route}
 use Rattle.fr_http.specs.Outcome.{due, interim, length_in, outcome_of, plan_of}
 use Rattle.fr_http.specs.Reply.{answer_reply, body_of, engine_reply, page_reply, print, status_line}
 use Rattle.fr_http.specs.declared.asked.Asked.TheVariants as asked
@@ -25,15 +26,16 @@ use Rattle.fr_http.specs.declared.asked.Matter.TheVariants as matter
 use Rattle.fr_http.specs.declared.fault.Rejection.TheVariants.{BadRequest, NotFound, MethodNotAllowed, LengthRequired, PayloadTooLarge, HeadTooLarge, NotImplemented}
 use Rattle.fr_http.specs.declared.fault.Unasked.TheVariants.{Refused, Fault}
 use Rattle.fr_http.specs.declared.fault.LinkFault.TheVariants.{Truncated}
-use Rattle.fr_http.specs.declared.method.Method.TheVariants.{Get, Post}
+use Rattle.fr_http.specs.declared.method.Method.TheVariants.{Get, Post, Put}
+use Rattle.fr_base.specs.declared.import.Header.TheVariants as header
 use Rattle.fr_base.specs.declared.query.Inventory.TheVariants.{Cluster, Variants, Nodes}
 use Rattle.fr_base.specs.declared.query.Query.TheVariants.{Register as OfRegister, Variant as OfVariant}
-use Rattle.fr_base.specs.declared.report.Report.TheVariants.{Grants, Frames, Schedule, Gaps, Layout}
-use Rattle.fr_http.specs.declared.routes.Route.TheVariants.{Commands, Import, Query, Picture}
+use Rattle.fr_base.specs.declared.report.Report.TheVariants.{Grants, Frames, Schedule, Gaps, Layout, Load, Room, Export}
+use Rattle.fr_http.specs.declared.routes.Route.TheVariants.{Commands, Import, Replace, Query, Picture}
 
 -- what an answer unfolds to compute these definitions
 unfoldable rows : ⊤
-unfolding seek param_step scan values part matter_by route_of router table with_route interim due length_in outcome_of plan_of answer_reply engine_reply page_reply body_of print ◌>>=◌ ◌>>◌ ◌or◌ refuse◌when◌ report_of text_of text_of_refusal lines_of lines_of_rows node_line schedule_line plain_lines json_lines right_in digits
+unfolding seek param_step scan values part matter_by route_of router table with_route interim due length_in outcome_of plan_of answer_reply engine_reply page_reply body_of print ◌>>=◌ ◌>>◌ ◌or◌ refuse◌when◌ report_of text_of text_of_refusal lines_of lines_of_rows frame_record header_line node_line schedule_line number plain_lines json_lines right_in digits
 rows = tt
 
 -- ---- routes
@@ -56,6 +58,14 @@ pub routes_of_the_register :
 unfolding rows
 routes_of_the_register = refl
 
+pub routes_of_rows : map route_of (codes "/v1/variants/v1/load" ∷ codes "/v1/variants/v1/rows" ∷ []) ≡ Some (of_variant Load) ∷ Some Replace ∷ []
+unfolding rows
+routes_of_rows = refl
+
+pub route_of_room : route_of (codes "/v1/variants/v/frames/f/room/4") ≡ Some (of_variant (Room 5 7))
+unfolding rows
+route_of_room = refl
+
 pub no_routes :
     map route_of (
     codes "/v1/nothing" ∷ codes "/v1/commands/" ∷ codes "/V1/commands" ∷ codes "/v1/variants//gaps" ∷ codes "/v1/variants/v1" ∷ (codes "/v1/variants/" ++ 195 ∷ 164 ∷ codes "/gaps") ∷ codes "*" ∷ []
@@ -74,6 +84,26 @@ pub matters :
     ∷ Some (matter.Request (request.Query (OfVariant (codes "v1") (Layout (codes "f1"))))) ∷ Some (matter.Picture (codes "v1")) ∷ []
 unfolding rows
 matters = refl
+
+pub matters_of_rows :
+    matter_by Replace (codes "/v1/variants/v1/rows") (codes "x")
+    ∷ matter_by (of_variant (Room 5 7)) (codes "/v1/variants/v1/frames/f1/room/0000000004") []
+    ∷ matter_by (export header.Signals) (codes "/v1/variants/v1/exports/signals/4294967295") []
+    ∷ []
+    ≡ Some (matter.Request (request.Replace (codes "v1") (codes "x")))
+    ∷ Some (matter.Request (request.Query (OfVariant (codes "v1") (Room (codes "f1") 4))))
+    ∷ Some (matter.Request (request.Query (OfVariant (codes "v1") (Export header.Signals 4294967295))))
+    ∷ []
+unfolding rows
+matters_of_rows = refl
+
+-- where a number is none, nothing is asked for
+pub no_numbers :
+    map (λ text. matter_by (export header.Frames) (codes "/v1/variants/v1/exports/frames/" ++ text) [])
+    (codes "x" ∷ codes "-1" ∷ codes "+1" ∷ codes "1.0" ∷ codes "4294967296" ∷ codes "00000000000" ∷ [])
+    ≡ None ∷ None ∷ None ∷ None ∷ None ∷ None ∷ []
+unfolding rows
+no_numbers = refl
 
 -- ---- heads
 
@@ -110,6 +140,16 @@ pub plans :
     ≡ Ok (record { route = Commands; length = 65536 }) ∷ Ok (record { route = Commands; length = 7 }) ∷ Ok (record { route = of_variant Gaps; length = 0 }) ∷ []
 unfolding rows
 plans = refl
+
+pub puts :
+    map plan_of (
+    head (codes "PUT") (codes "/v1/variants/v1/rows") (length_field (codes "7") ∷ []) ∷ head (codes "PUT") (codes "/v1/variants/v1/rows") []
+    ∷ head (codes "PUT") (codes "/v1/variants/v1/rows") (length_field (codes "65537") ∷ []) ∷ head (codes "POST") (codes "/v1/variants/v1/rows") []
+    ∷ head (codes "PUT") (codes "/v1/variants/v1/load") [] ∷ []
+    )
+    ≡ Ok (record { route = Replace; length = 7 }) ∷ Err LengthRequired ∷ Err PayloadTooLarge ∷ Err (MethodNotAllowed Put) ∷ Err (MethodNotAllowed Get) ∷ []
+unfolding rows
+puts = refl
 
 -- `100 Continue` is due for a body that is to come by HTTP/1.1, and else not
 pub continues :
@@ -173,6 +213,25 @@ pub nodes_reply :
     ≡ codes "HTTP/1.1 200 OK\r\ncontent-type: text/plain; charset=us-ascii\r\ncontent-length: 6\r\nconnection: close\r\n\r\nn1 s1\n"
 unfolding rows
 nodes_reply = refl
+
+pub export_reply :
+    print (answer_reply Get (answer.Report false (rows_of.FrameRecords (record { frame = codes "f1"; node = codes "n1"; supplier = codes "s1" } ∷ []))))
+    ≡ codes "HTTP/1.1 200 OK\r\ncontent-type: text/csv; charset=utf-8\r\ncontent-length: 17\r\nconnection: close\r\n\r\nframe,node\nf1,n1\n"
+unfolding rows
+export_reply = refl
+
+-- by a request whose body asks so the same is JSON
+pub export_in_json :
+    print (answer_reply Post (answer.Report true (rows_of.SignalRecords [])))
+    ≡ codes "HTTP/1.1 200 OK\r\ncontent-type: application/json\r\ncontent-length: 76\r\nconnection: close\r\n\r\n{\"lines\":[\"frame,signal,start,length,order,supplier\"],\"ok\":\"export_signals\"}"
+unfolding rows
+export_in_json = refl
+
+pub replaced_reply :
+    print (answer_reply Put (answer.Replaced 2))
+    ≡ codes "HTTP/1.1 200 OK\r\ncontent-type: application/json\r\ncontent-length: 26\r\nconnection: close\r\n\r\n{\"ok\":\"replaced\",\"rows\":2}"
+unfolding rows
+replaced_reply = refl
 
 pub empty_reply :
     print (answer_reply Get (answer.Report true (rows_of.Gaps [])))

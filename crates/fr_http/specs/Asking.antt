@@ -1,5 +1,5 @@
 -- What is known of a request and of who asks it, on the way to an outcome.
-use Rattle.std.specs.Prelude.{ℕ, ◌≡◌, ◌⊎◌, false, List, Option, None, Some, Result, Ok, Err}
+use Rattle.std.specs.Prelude.{ℕ, ◌≡◌, ◌⊎◌, false, List, Option, None, Some, Result, Ok, Err, MatchResult}
 use Rattle.fr_base.specs.Actors.{actor_of}
 use Rattle.fr_base.specs.Book.{Book}
 use Rattle.fr_base.specs.Cluster.{Cluster}
@@ -11,7 +11,7 @@ use Rattle.fr_base.specs.declared.request.Request.{Request}
 use Rattle.fr_text.specs.RequestText.{request_of}
 use Rattle.fr_http.specs.Head.{HeadData, key_of}
 use Rattle.fr_http.specs.Outcome.{holder}
-use Rattle.fr_http.specs.Routes.{matter_by}
+use Rattle.fr_http.specs.Routes.{matter_by, number_in, part}
 use Rattle.fr_http.specs.declared.asked.Matter.{Matter}
 use Rattle.fr_http.specs.declared.fault.LinkFault.TheVariants.{NoMemory}
 use Rattle.fr_http.specs.declared.fault.Unasked.{Unasked}
@@ -27,7 +27,17 @@ abbrev pub MakesCommand : List ℕ → Result Request Unasked → Type 0
 MakesCommand body (Ok request) = request_of body ≡ Some request
 MakesCommand body (Err unasked) = (unasked ≡ Fault (NoMemory false)) ⊎ ((unasked ≡ Refused BadText) × (request_of body ≡ None))
 
--- The matter is the route's; or a request's text is none; or memory was wanting.
+-- The name is what stands after so many slashes of the path; or memory was wanting.
+abbrev pub NamesPart : List ℕ → ℕ → Result (List ℕ) Unasked → Type 0
+NamesPart path slashes result = MatchResult result (λ name. name ≡ part slashes path) (λ unasked. unasked ≡ Fault (NoMemory false))
+
+-- The number is what stands there; or that is no number.
+abbrev pub CountsPart : List ℕ → ℕ → Result ℕ Unasked → Type 0
+CountsPart path slashes result = MatchResult result
+    (λ number. number_in slashes path ≡ Some number)
+    (λ unasked. (unasked ≡ Refused BadText) × (number_in slashes path ≡ None))
+
+-- The matter is the route's; or a request's text is none, or a number's; or memory was wanting.
 abbrev pub MakesMatter : Route → List ℕ → List ℕ → Result Matter Unasked → Type 0
 MakesMatter route path body (Ok matter) = matter_by route path body ≡ Some matter
 MakesMatter route path body (Err unasked) =

@@ -23,7 +23,7 @@ use Rattle.fr_http.specs.declared.fault.Rejection.TheVariants.{BadRequest, NotFo
 use Rattle.fr_http.specs.declared.fault.Unasked.{Unasked}
 use Rattle.fr_http.specs.declared.fault.Unasked.TheVariants.{Engine, Refused, Fault}
 use Rattle.fr_http.specs.declared.method.Method.{Method}
-use Rattle.fr_http.specs.declared.method.Method.TheVariants.{Get, Post}
+use Rattle.fr_http.specs.declared.method.Method.TheVariants.{Get, Post, Put}
 use Rattle.fr_http.specs.declared.routes.Route.{Route}
 
 -- how many bytes a body has at most
@@ -47,6 +47,7 @@ length_in (_ ∷ _ ∷ _) = Err BadRequest
 abbrev pub body_length : Method → HeadData → Result ℕ Rejection
 body_length Get head = Ok 0
 body_length Post head = length_in (values (codes "content-length") head.fields)
+body_length Put head = length_in (values (codes "content-length") head.fields)
 
 -- what a head asks for: the route of its path, and how long its body is
 pub record Wanted : Type 0 where

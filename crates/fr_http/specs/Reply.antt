@@ -3,13 +3,14 @@ use Rattle.std.specs.Prelude.{ℕ, Bool, true, false, ◌==◌, List, [], ◌++�
 use Rattle.http.specs.StatusCode.{reason_phrase}
 use Rattle.fr_base.specs.Refusals.{status_of}
 use Rattle.fr_base.specs.declared.answer.Answer.{Answer}
-use Rattle.fr_base.specs.declared.answer.Answer.TheVariants.{Refused, RefusedRow}
+use Rattle.fr_base.specs.declared.answer.Answer.TheVariants.{Refused, RefusedRow, Report}
+use Rattle.fr_base.specs.declared.answer.ReportRows.TheVariants.{FrameRecords, PlacementRecords, SignalRecords}
 use Rattle.fr_text.specs.AnswerText.{report_of, text_of}
 use Rattle.fr_http.specs.Routes.{text_of_method}
 use Rattle.fr_http.specs.declared.fault.Rejection.{Rejection}
 use Rattle.fr_http.specs.declared.fault.Rejection.TheVariants.{BadRequest, NotFound, MethodNotAllowed, LengthRequired, PayloadTooLarge, HeadTooLarge, NotImplemented}
 use Rattle.fr_http.specs.declared.method.Method.{Method}
-use Rattle.fr_http.specs.declared.method.Method.TheVariants.{Get, Post}
+use Rattle.fr_http.specs.declared.method.Method.TheVariants.{Get, Post, Put}
 
 -- a reply: its status, the lines of its own fields, and its body
 pub record Reply : Type 0 where
@@ -76,10 +77,19 @@ is_report Get (Refused _) = false
 is_report Get (RefusedRow _ _) = false
 is_report Get _ = true
 is_report Post _ = false
+is_report Put _ = false
 
-abbrev pub type_of : Bool → List ℕ
-type_of true = codes "text/plain; charset=us-ascii"
-type_of false = codes "application/json"
+-- whether the answer's lines are records of a file
+abbrev pub is_file : Answer → Bool
+is_file (Report all (FrameRecords _)) = true
+is_file (Report all (PlacementRecords _)) = true
+is_file (Report all (SignalRecords _)) = true
+is_file _ = false
+
+-- the type of a report's lines, or of an answer's text
+abbrev pub type_of : Bool → Answer → List ℕ
+type_of true answer = if is_file answer then codes "text/csv; charset=utf-8" else codes "text/plain; charset=us-ascii"
+type_of false answer = codes "application/json"
 
 -- how a client that has no known key shows who it is
 abbrev pub authenticate : ℕ → List ℕ
@@ -104,4 +114,4 @@ page_reply page = reply_with 200 (codes "text/html; charset=utf-8") page
 
 -- the reply to a request by this method
 unfoldable pub answer_reply : Method → Answer → Reply
-answer_reply method answer = reply_with (status_of_answer answer) (type_of (is_report method answer)) (body_of (is_report method answer) answer)
+answer_reply method answer = reply_with (status_of_answer answer) (type_of (is_report method answer) answer) (body_of (is_report method answer) answer)

@@ -1,7 +1,8 @@
--- Route: what a path asks for, by `matchit`, and its names.
+-- Route: what a path asks for, by `matchit`, and its names and numbers.
 use Rattle.std.specs.Prelude.{ℕ, ◌==◌, List, [], ◌∷◌, codes, Option, Some, None, Result, Ok, Err, if◌then◌else◌, unwrap_or}
 use Rattle.std.specs.List.{before_first, fold, list_all, slice_get, slice_split}
 use Rattle.std.specs.Option.{option_map}
+use Rattle.std.specs.Result.{result_ok}
 use Rattle.std.specs.Char.{is_ascii}
 use Rattle.matchit.specs.Order.{placed}
 use Rattle.matchit.specs.Route.{Scan, parse_route}
@@ -9,30 +10,35 @@ use Rattle.matchit.specs.Router.{RouteOf, route_from}
 use Rattle.matchit.specs.Rows.{RowsOf}
 use Rattle.matchit.specs.Seek.{first}
 use Rattle.matchit.specs.declared.error.InsertError.{InsertError}
-use Rattle.fr_base.specs.QueryNames.{query_with}
+use Rattle.fr_base.specs.ImportRows.{number}
+use Rattle.fr_base.specs.QueryNames.{query_by}
+use Rattle.fr_base.specs.declared.import.Header.{Header}
+use Rattle.fr_base.specs.declared.import.Header.TheVariants as header
 use Rattle.fr_base.specs.declared.query.Inventory.{Inventory}
 use Rattle.fr_base.specs.declared.query.Inventory.TheVariants.{Cluster, Variants, Nodes}
 use Rattle.fr_base.specs.declared.query.Query.TheVariants.{Register as OfRegister, Variant as OfVariant}
 use Rattle.fr_base.specs.declared.report.Report.{Report}
-use Rattle.fr_base.specs.declared.report.Report.TheVariants.{Grants, Frames, Schedule, Gaps, Layout}
+use Rattle.fr_base.specs.declared.report.Report.TheVariants.{Grants, Frames, Schedule, Gaps, Layout, Load, Room, Export}
 use Rattle.fr_base.specs.declared.request.Request.TheVariants as request
 use Rattle.fr_text.specs.RequestText.{request_of}
 use Rattle.fr_http.specs.declared.asked.Matter.{Matter}
 use Rattle.fr_http.specs.declared.asked.Matter.TheVariants as matter
 use Rattle.fr_http.specs.declared.method.Method.{Method}
-use Rattle.fr_http.specs.declared.method.Method.TheVariants.{Get, Post}
+use Rattle.fr_http.specs.declared.method.Method.TheVariants.{Get, Post, Put}
 use Rattle.fr_http.specs.declared.routes.Route.{Route}
-use Rattle.fr_http.specs.declared.routes.Route.TheVariants.{Commands, Import, Query, Picture}
+use Rattle.fr_http.specs.declared.routes.Route.TheVariants.{Commands, Import, Replace, Query, Picture}
 
 -- a method as a request spells it
 abbrev pub text_of_method : Method → List ℕ
 text_of_method Get = codes "GET"
 text_of_method Post = codes "POST"
+text_of_method Put = codes "PUT"
 
 -- the method of a route
 abbrev pub method_of : Route → Method
 method_of Commands = Post
 method_of Import = Post
+method_of Replace = Put
 method_of (Query asked) = Get
 method_of Picture = Get
 
@@ -41,10 +47,14 @@ abbrev pub of_register : Inventory → Route
 of_register inventory = Query (OfRegister inventory)
 
 -- a report of a variant, whose name is the part of the path after three slashes
-abbrev pub of_variant : Report ℕ → Route
+abbrev pub of_variant : Report ℕ ℕ → Route
 of_variant report = Query (OfVariant 3 report)
 
--- the routes; a frame's name is the part of the path after five slashes
+-- the records below a header; the number of their part is the part of the path after six slashes
+abbrev pub export : Header → Route
+export header = of_variant (Export header 6)
+
+-- the routes; a frame's name is the part of the path after five slashes, and a cycle repetition that after seven
 unfoldable pub table : List (List ℕ × Route)
 table =
     (codes "/v1/commands", Commands)
@@ -57,6 +67,12 @@ table =
     ∷ (codes "/v1/variants/{variant}/schedule", of_variant Schedule)
     ∷ (codes "/v1/variants/{variant}/gaps", of_variant Gaps)
     ∷ (codes "/v1/variants/{variant}/frames/{frame}/layout", of_variant (Layout 5))
+    ∷ (codes "/v1/variants/{variant}/load", of_variant Load)
+    ∷ (codes "/v1/variants/{variant}/frames/{frame}/room/{repetition}", of_variant (Room 5 7))
+    ∷ (codes "/v1/variants/{variant}/exports/frames/{part}", export header.Frames)
+    ∷ (codes "/v1/variants/{variant}/exports/placements/{part}", export header.Placements)
+    ∷ (codes "/v1/variants/{variant}/exports/signals/{part}", export header.Signals)
+    ∷ (codes "/v1/variants/{variant}/rows", Replace)
     ∷ (codes "/v1/variants/{variant}/picture", Picture)
     ∷ []
 
@@ -88,9 +104,16 @@ route_of path = if list_all is_ascii path then matched path else None
 unfoldable pub part : ℕ → List ℕ → List ℕ
 part n path = unwrap_or (slice_get (slice_split (λ b. b == 47) path) n) []
 
--- what a route asks for: its names are parts of the path, and a command's text or an import's file is the body
+-- the number that stands after so many slashes of the path, as a field of an import's file is one, if it is one
+abbrev pub number_in : ℕ → List ℕ → Option ℕ
+number_in n path = result_ok (number (part n path))
+
+-- What a route asks for: its names and numbers are parts of the path, and a command's text or a file is the body. Where a number is none, there
+-- is nothing that it asks for.
 unfoldable pub matter_by : Route → List ℕ → List ℕ → Option Matter
 matter_by Commands path body = option_map matter.Request (request_of body)
 matter_by Import path body = Some (matter.Request (request.Import (part 3 path) (part 5 path) body))
-matter_by (Query asked) path body = Some (matter.Request (request.Query (query_with (λ slashes. part slashes path) asked)))
+matter_by Replace path body = Some (matter.Request (request.Replace (part 3 path) body))
+matter_by (Query asked) path body =
+    option_map (λ query. matter.Request (request.Query query)) (query_by (λ slashes. part slashes path) (λ slashes. number_in slashes path) asked)
 matter_by Picture path body = Some (matter.Picture (part 3 path))

@@ -8,8 +8,8 @@ use crate::fault::{LinkFault, Unasked};
 use crate::head::Received;
 use crate::plan::Plan;
 use crate::routes::{Route, part};
-use fr_base::{Actor, Body, Desk, NameReader, NoMemory, Refusal, Request, Text};
-use fr_text::read_command;
+use fr_base::{Actor, Body, Desk, NoMemory, QueryReader, Refusal, Request, Text};
+use fr_text::{read_command, read_number};
 use std::alloc::Global;
 use std::str;
 
@@ -25,12 +25,16 @@ pub(crate) fn matter(alloc: Global, plan: &Plan<'_>, body: &[u8]) -> Result<Matt
             label: name(alloc, plan.path, 5)?,
             body: Body::copy(alloc, body)?,
         })),
+        Route::Replace => Ok(Matter::Request(Request::Replace {
+            variant: name(alloc, plan.path, 3)?,
+            body: Body::copy(alloc, body)?,
+        })),
         Route::Query(asked) => {
-            let names = PathNames {
+            let words = PathWords {
                 alloc,
                 path: plan.path,
             };
-            Ok(Matter::Request(Request::Query(asked.read(&names)?)))
+            Ok(Matter::Request(Request::Query(asked.read(&words)?)))
         }
         Route::Picture => Ok(Matter::Picture {
             variant: name(alloc, plan.path, 3)?,
@@ -48,22 +52,28 @@ fn command(alloc: Global, body: &[u8]) -> Result<Request, Unasked>
     }
 }
 
-// The names in a path.
+// The names and numbers in a path.
 #[derive(Drop)]
-struct PathNames<'a> {
+struct PathWords<'a> {
     alloc: Global,
     path: &'a str,
 }
 
-// A name is told by how many slashes of the path stand before it.
-impl NameReader<usize, Text, NoMemory> for PathNames<'_> {
-    ghost use Rattle.std.specs.Prelude.{◌≡◌, IfOk};
-    ghost use Rattle.fr_http.specs.Routes.{part};
+// A name or a number is told by how many slashes of the path stand before it.
+impl QueryReader<usize, usize, Text, Unasked> for PathWords<'_> {
+    ghost use Rattle.fr_http.specs.Asking.{CountsPart, NamesPart};
 
-    ghost reads = { λ names slashes result. IfOk result (λ text. text ≡ part slashes names.path.now) };
+    ghost reads = { λ words slashes result. NamesPart words.path.now slashes result };
 
-    fn read_name(&self, slashes: &usize) -> Result<Text, NoMemory> {
-        name(self.alloc, self.path, *slashes)
+    ghost counts = { λ words slashes result. CountsPart words.path.now slashes result };
+
+    fn read_name(&self, slashes: &usize) -> Result<Text, Unasked> {
+        Ok(name(self.alloc, self.path, *slashes)?)
+    }
+
+    fn read_number(&self, slashes: &usize) -> Result<u32, Unasked> {
+        let digits = part(self.path, *slashes).as_bytes();
+        read_number(digits).ok_or(Unasked::Refused(Refusal::BadText))
     }
 }
 

@@ -9,6 +9,8 @@ pub enum Method {
     Get,
     /// The request has a body.
     Post,
+    /// The request has a body, which is put in the place of what was there.
+    Put,
 }
 
 impl Method {
@@ -19,6 +21,7 @@ impl Method {
         match self {
             Method::Get => "GET",
             Method::Post => "POST",
+            Method::Put => "PUT",
         }
     }
 }

@@ -63,7 +63,7 @@ fn body_length(received: &Received, method: Method) -> Result<usize, Rejection>
 {
     match method {
         Method::Get => Ok(0),
-        Method::Post => length_in(received.values("content-length")),
+        Method::Post | Method::Put => length_in(received.values("content-length")),
     }
 }
 

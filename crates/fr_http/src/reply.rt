@@ -1,12 +1,12 @@
 //! Writes the bytes of a reply.
 ghost use Rattle.std.specs.Prelude.{◌≡◌, ◌++◌, IfOk, OnOk};
 ghost use Rattle.fr_base.specs.Refusals.{status_of};
-ghost use Rattle.fr_http.specs.Reply.{allow, answer_reply, authenticate, body_of, closing, engine_reply, field_line, is_report, page_reply, phrase_of, reply_with, status_line, status_of_answer, status_of_rejection, type_of};
+ghost use Rattle.fr_http.specs.Reply.{allow, answer_reply, authenticate, body_of, closing, engine_reply, field_line, is_file, is_report, page_reply, phrase_of, reply_with, status_line, status_of_answer, status_of_rejection, type_of};
 ghost use Rattle.fr_http.specs.Replying.{IsReply, head_with};
 
 use crate::fault::Rejection;
 use crate::method::Method;
-use fr_base::{Answer, NoMemory, Refusal};
+use fr_base::{Answer, NoMemory, Refusal, ReportRows};
 use fr_text::{write_answer, write_lines};
 use http::StatusCode;
 use itoa::Buffer;
@@ -84,7 +84,7 @@ pub(crate) fn answer_reply(
 {
     let report = is_report(method, answer);
     let body = write_body(alloc, report, answer)?;
-    reply_with(status_of_answer(answer), type_of(report), body)
+    reply_with(status_of_answer(answer), type_of(report, answer), body)
 }
 
 // The reply that has this body. Its head is written behind the body, and then turned to the front, so that no more memory is
@@ -120,7 +120,8 @@ fn status_of_answer(answer: &Answer) -> StatusCode
     match answer {
         Answer::Refused(refusal) => status_of_refusal(refusal),
         Answer::RefusedRow { .. } => StatusCode::UNPROCESSABLE_ENTITY,
-        Answer::Done | Answer::Imported { .. } | Answer::Report { .. } => StatusCode::OK,
+        Answer::Done | Answer::Imported { .. } | Answer::Replaced { .. } | Answer::Report { .. } =>
+            StatusCode::OK,
     }
 }
 
@@ -139,15 +140,32 @@ fn is_report(method: Method, answer: &Answer) -> bool
     method == Method::Get && !matches!(answer, Answer::Refused(_) | Answer::RefusedRow { .. })
 }
 
-// The type of a reply's body.
-fn type_of(report: bool) -> &'static str
-    ensures { result.now ≡ type_of report }
+// The type of a reply's body: a report's lines, or the answer's text.
+fn type_of(report: bool, answer: &Answer) -> &'static str
+    ensures { result.now ≡ type_of report answer.now }
 {
-    if report {
-        "text/plain; charset=us-ascii"
-    } else {
+    if !report {
         "application/json"
+    } else if is_file(answer) {
+        "text/csv; charset=utf-8"
+    } else {
+        "text/plain; charset=us-ascii"
     }
+}
+
+// Whether the answer's lines are records of a file.
+fn is_file(answer: &Answer) -> bool
+    ensures { result ≡ is_file answer.now }
+{
+    matches!(
+        answer,
+        Answer::Report {
+            all: _,
+            rows: ReportRows::FrameRecords(_)
+                | ReportRows::PlacementRecords(_)
+                | ReportRows::SignalRecords(_),
+        }
+    )
 }
 
 // Appends the head of a reply with a body of so many bytes.

@@ -3,10 +3,10 @@ ghost use Rattle.std.specs.Prelude.{◌≡◌, ◌==◌, if◌then◌else◌, ma
 ghost use Rattle.std.specs.Char.{is_ascii};
 ghost use Rattle.std.specs.List.{list_all, position};
 ghost use Rattle.std.specs.Option.{option_map};
-ghost use Rattle.fr_http.specs.Routes.{matched, method_of, of_register, of_variant, part, path_of, router, table, with_route};
+ghost use Rattle.fr_http.specs.Routes.{export, matched, method_of, of_register, of_variant, part, path_of, router, table, with_route};
 
 use crate::method::Method;
-use fr_base::{Inventory, NoMemory, Query, Report};
+use fr_base::{Header, Inventory, NoMemory, Query, Report};
 use matchit::Router;
 use std::alloc::{AllocError, Global};
 use std::str;
@@ -18,8 +18,10 @@ pub enum Route {
     Commands,
     /// The body is an import's file.
     Import,
-    /// A query. Each name in it is said by how many slashes of the path stand before it.
-    Query(Query<usize>),
+    /// The body is a file that is put in the place of earlier rows.
+    Replace,
+    /// A query. Each name and each number in it is said by how many slashes of the path stand before it.
+    Query(Query<usize, usize>),
     /// The page of a variant's plan.
     Picture,
 }
@@ -31,6 +33,7 @@ impl Route {
     {
         match self {
             Route::Commands | Route::Import => Method::Post,
+            Route::Replace => Method::Put,
             Route::Query(_) | Route::Picture => Method::Get,
         }
     }
@@ -90,15 +93,22 @@ fn of_register(inventory: Inventory) -> Route
 }
 
 // A report of a variant, whose name stands behind three slashes of the path.
-fn of_variant(report: Report<usize>) -> Route
+fn of_variant(report: Report<usize, usize>) -> Route
     ensures { result ≡ of_variant report }
 {
     Route::Query(Query::Variant { variant: 3, report })
 }
 
+// The records of a variant below this header. The number of their part stands behind six slashes of the path.
+fn export(header: Header) -> Route
+    ensures { result ≡ export header }
+{
+    of_variant(Report::Export { header, part: 6 })
+}
+
 // The routes, each behind the text of the paths that match it.
 #[tactic(auto, unfolding(crate::specs::Routes::table))]
-fn routes() -> [(&'static str, Route); 11]
+fn routes() -> [(&'static str, Route); 17]
     ensures { map (λ entry. (entry.0.now, entry.1)) result ≡ table }
 {
     [
@@ -118,6 +128,27 @@ fn routes() -> [(&'static str, Route); 11]
             "/v1/variants/{variant}/frames/{frame}/layout",
             of_variant(Report::Layout { frame: 5 }),
         ),
+        ("/v1/variants/{variant}/load", of_variant(Report::Load)),
+        (
+            "/v1/variants/{variant}/frames/{frame}/room/{repetition}",
+            of_variant(Report::Room {
+                frame: 5,
+                repetition: 7,
+            }),
+        ),
+        (
+            "/v1/variants/{variant}/exports/frames/{part}",
+            export(Header::Frames),
+        ),
+        (
+            "/v1/variants/{variant}/exports/placements/{part}",
+            export(Header::Placements),
+        ),
+        (
+            "/v1/variants/{variant}/exports/signals/{part}",
+            export(Header::Signals),
+        ),
+        ("/v1/variants/{variant}/rows", Route::Replace),
         ("/v1/variants/{variant}/picture", Route::Picture),
     ]
 }

@@ -1,10 +1,11 @@
 -- What is gathered from all suppliers' pages is what the register shows the integrator.
-use Rattle.std.proofs.Common.{◌≡◌, ◌==◌, ◌<◌, arith, Bool, true, false, cond, Option, Some, None, is_some, Result, Ok, Err, List, [], ◌∷◌, length, map, filter, refl, sym, ap, subst, ◌∙◌, inl, inr}
+use Rattle.std.proofs.Common.{◌≡◌, ℕ, ◌==◌, ◌<◌, arith, Bool, true, false, cond, Option, Some, None, is_some, Result, Ok, Err, List, [], ◌∷◌, length, map, filter, refl, sym, ap, subst, ◌∙◌, inl, inr}
 use Rattle.std.specs.List.{flat_map}
 use Rattle.std.proofs.lemmas.Bool.{ne_eqb}
 use Rattle.fr_base.specs.Book.{Book, Frame, Variant, own, is_of, placements_of}
 use Rattle.fr_base.specs.Cells.{cluster_cells}
 use Rattle.fr_base.specs.Cluster.{Cluster}
+use Rattle.fr_base.specs.Exports.{exported}
 use Rattle.fr_base.specs.Names.{same_text}
 use Rattle.fr_base.specs.Refusing.{◌>>◌, refuse◌when◌}
 use Rattle.fr_base.specs.Queries.{frame_row, frames_of, gap_row, gaps_of, grants_of, named, found as rows_found, shown, signal_rows, signals_of}
@@ -18,24 +19,29 @@ use Rattle.fr_base.specs.declared.answer.FrameRow.{FrameRow}
 use Rattle.fr_base.specs.declared.answer.Sending.{Sending}
 use Rattle.fr_base.specs.declared.answer.GapRow.{GapRow}
 use Rattle.fr_base.specs.declared.answer.SignalRow.{SignalRow}
+use Rattle.fr_base.specs.declared.answer.LoadRow.{LoadRow}
+use Rattle.fr_base.specs.declared.import.Header.{Header}
 use Rattle.fr_base.specs.declared.name.Name.{Name}
 use Rattle.fr_base.specs.declared.params.Params.{Params}
 use Rattle.fr_base.specs.declared.refusal.Refusal.{Refusal}
-use Rattle.fr_base.specs.declared.refusal.Refusal.TheVariants.{NoFrame, NoVariant}
+use Rattle.fr_base.specs.declared.refusal.Refusal.TheVariants.{NoFrame, NotYours, NoVariant}
 use Rattle.fr_base.specs.declared.query.Query.TheVariants.{Variant as OfVariant}
 use Rattle.fr_base.specs.declared.report.Report.{Report}
-use Rattle.fr_base.specs.declared.report.Report.TheVariants.{Grants, Frames, Schedule, Gaps, Layout}
+use Rattle.fr_base.specs.declared.report.Report.TheVariants.{Grants, Frames, Schedule, Gaps, Layout, Load, Room, Export}
 use Rattle.fr_base.proofs.SoundTables.{value_of}
 use Rattle.fr_office.specs.Carried.{Replies}
 use Rattle.fr_world.specs.Held.{Standing}
 use Rattle.fr_office.specs.Shared.{grants_among, placements_among}
 use Rattle.fr_office.specs.Shown.{AreSignals, Gathers, ShowsAll, frames_named}
+use Rattle.fr_office.proofs.ExportLaws.{frames_among}
 use Rattle.fr_office.proofs.GrantLaws.{grants-all}
 use Rattle.fr_office.proofs.OwnReplies.{Said, reply-none, reply-there}
 use Rattle.fr_office.proofs.PageRows.{sendings-sent}
 use Rattle.fr_office.proofs.SplitLaws.{frames-split, flat-flat_map, map-flat_map, supplier_names}
+use Rattle.fr_world.specs.Loads.{filled_load}
 use Rattle.fr_world.specs.Sendings.{filled_by, sent_in}
 use Rattle.fr_world.proofs.AmongLaws.{In}
+use Rattle.fr_world.proofs.LoadLaws.{load-all}
 
 -- ---- frames of one name
 
@@ -141,6 +147,36 @@ module _ (old new : Standing) (v : Name) (suppliers : List Name) (known : (c : C
             ∙ sendings-sent c.params x.frames (placements_among suppliers x) (ap (λ ss. placements_among ss x) (known c b stood) ∙ placements-all c b v x sound there))),
       )
 
+  pub all-load : (p : Params) (rows : List LoadRow) → ((c : Cluster) (b : Book) → old c b → p ≡ c.params) →
+      Gathers old new (Ok rows) v (λ _ x rows. rows ≡ filled_load p (grants_among suppliers x.grants) (placements_among suppliers x)) → ShowsAll old new v Load (Ok (shows.Load rows))
+  unfolding shown
+  all-load p rows of_p gathers c b stood sound =
+      let told = gathers c b stood in (
+        told.0,
+        λ x there.
+            let grants = ap (λ ss. grants_among ss x.grants) (known c b stood) ∙ grants-all c b v x sound there in
+            let placed = ap (λ ss. placements_among ss x) (known c b stood) ∙ placements-all c b v x sound there in
+            ap (λ rs. Ok (shows.Load rs)) (sym (told.1 x there ∙ (λ i. filled_load (of_p c b stood i) (grants i) (placed i)) ∙ load-all c.params x.grants x.frames)),
+      )
+
+  pub all-export : (header : Header) (number : ℕ) (r : Result ReportRows Refusal) →
+      Gathers old new r v (λ p x rows. rows ≡ exported header number (frames_among suppliers x)) → ShowsAll old new v (Export header number) r
+  unfolding shown
+  all-export header number (Ok rows) gathers c b stood sound =
+      let told = gathers c b stood in (
+        told.0,
+        λ x there. ap Ok
+            (sym (told.1 x there ∙ ap (λ ss. exported header number (frames_among ss x)) (known c b stood) ∙ ap (exported header number) (frames-split c b v x sound there x.frames (λ e i. i)))),
+      )
+  all-export header number (Err e) gathers c b stood sound =
+      let told = gathers c b stood in (
+        told.0,
+        λ x there. elim told.1 [
+          | inl lacks ↦ inl lacks
+          | inr none ↦ let no : Some x ≡ None = sym there ∙ none.1 in cc
+        ],
+      )
+
   named-known : (f : Name) (c : Cluster) (b : Book) (x : Variant) → old c b → IsSound c b → get b.variants v ≡ Some x → frames_named f suppliers x ≡ (named f x.frames).rows
   named-known f c b x stood sound there = ap (λ ss. frames_named f ss x) (known c b stood) ∙ named-all c b v x sound there f
 
@@ -168,9 +204,14 @@ module _ (old new : Standing) (v : Name) (suppliers : List Name) (known : (c : C
             inr (ap (λ t. (refuse NoFrame when t) >> Ok (shows.Layout (signals_of (named f x.frames)))) (ap (λ (rs : List ((Name × Name) × Frame)). length rs == 0) none)),
       )
 
+-- the integrator has no frames of which the room could be asked
+pub all-no_room : (old : Standing) (v f : Name) (repetition : ℕ) → ShowsAll old old v (Room f repetition) (Err NotYours)
+unfolding shown
+all-no_room old v f repetition c b stood sound = (stood, λ x there. inr refl)
+
 -- ---- the answer to the integrator
 
-module _ (old mid : Standing) (v : Name) (report : Report Name) (has : Bool)
+module _ (old mid : Standing) (v : Name) (report : Report Name ℕ) (has : Bool)
     (told : (c : Cluster) (b : Book) → old c b → mid c b × (has ≡ contains b.variants v)) where
   pub all-replied : (new : Standing) (r : Result ReportRows Refusal) → has ≡ true → ShowsAll mid new v report r → Replies old new r (λ c b. rows_found c.params b Integrator (OfVariant v report))
   all-replied new r is shows c b stood sound =

@@ -15,7 +15,7 @@ use Rattle.fr_base.specs.declared.request.Request.TheVariants as request
 use Rattle.fr_base.specs.declared.request.Checked.{Checked}
 use Rattle.fr_base.specs.declared.request.Checked.TheVariants as checked
 use Rattle.fr_base.specs.declared.request.Command.{Command}
-use Rattle.fr_base.specs.declared.request.Command.TheVariants.{Common, AddSupplier, AddNode, Rows}
+use Rattle.fr_base.specs.declared.request.Command.TheVariants.{Common, AddSupplier, SetKey, AddNode, Rows}
 use Rattle.fr_base.specs.declared.request.Change.{Change}
 use Rattle.fr_base.specs.declared.request.Change.TheVariants.{Grant, Revoke, Frame}
 use Rattle.fr_base.specs.declared.request.FrameChange.{FrameChange}
@@ -43,6 +43,7 @@ change-checked p (Frame f change) form = frame-checked p f change form
 form-checked : (p : Params) (command : Command) → HasForm p command → IsCheckedCommand p command
 form-checked p (Common command) form = tt
 form-checked p (AddSupplier s key) form = tt
+form-checked p (SetKey s key) form = tt
 form-checked p (AddNode s n) form = tt
 form-checked p (Rows s v change) form = change-checked p change form
 
@@ -55,6 +56,7 @@ command-checked p actor request command said = form-checked p command (subst (λ
 abbrev IsOwn : Actor → Checked → Type 0
 IsOwn actor (checked.Command command) = IsOwnCommand actor command
 IsOwn actor (checked.Import i) = ⊤
+IsOwn actor (checked.Replace r) = ⊤
 IsOwn actor (checked.Query query) = ⊤
 
 asking-own : (actor : Actor) → IfOk (asking actor) (λ s. actor ≡ Supplier s)
@@ -68,6 +70,8 @@ check-own p actor (request.OpenVariant variant parent) =
     gives_when _ _ _ _ (λ _. gives_each _ (name variant) _ (λ v _. gives_each _ (parent_name parent) _ (λ from _. tt)))
 check-own p actor (request.Release variant) = gives_when _ _ _ _ (λ _. gives_each _ (name variant) _ (λ v _. tt))
 check-own p actor (request.AddSupplier supplier text) =
+    gives_when _ _ _ _ (λ _. gives_each _ (name supplier) _ (λ s _. gives_each _ (key text) _ (λ k _. tt)))
+check-own p actor (request.SetKey supplier text) =
     gives_when _ _ _ _ (λ _. gives_each _ (name supplier) _ (λ s _. gives_each _ (key text) _ (λ k _. tt)))
 check-own p actor (request.AddNode supplier node) =
     gives_when _ _ _ _ (λ _. gives_each _ (name supplier) _ (λ s _. gives_each _ (name node) _ (λ n _. tt)))
@@ -118,7 +122,10 @@ check-own p actor (request.Import variant label body) =
     gives_each _ (asking actor) _ (λ s _.
     gives_each _ (name variant) _ (λ v _.
     gives_each _ (name label) _ (λ l _. tt)))
-check-own p actor (request.Query asked) = gives_each _ (query asked) _ (λ q _. tt)
+check-own p actor (request.Replace variant body) =
+    gives_each _ (asking actor) _ (λ s _.
+    gives_each _ (name variant) _ (λ v _. tt))
+check-own p actor (request.Query asked) = gives_when _ _ _ _ (λ _. gives_each _ (query asked) _ (λ q _. gives_when _ _ _ _ (λ _. tt)))
 
 pub command-own : (p : Params) (actor : Actor) (request : Request) (command : Command) → check p actor request ≡ Ok (checked.Command command) → IsOwnCommand actor command
 command-own p actor request command said = subst (λ r. IfOk r (IsOwn actor)) said (check-own p actor request)
@@ -132,5 +139,6 @@ of-known b actor s (Frame f change) own known = subst (λ a. IsTrue (knows b a))
 pub from-known : (stands : Standing) (actor : Actor) (command : Command) → IsOwnCommand actor command → ((c : Cluster) (b : Book) → stands c b → IsTrue (knows b actor)) → FromKnown stands command
 from-known stands actor (Common command) own known = tt
 from-known stands actor (AddSupplier s key) own known = tt
+from-known stands actor (SetKey s key) own known = tt
 from-known stands actor (AddNode s n) own known = tt
 from-known stands actor (Rows s v change) own known = λ c b stood. of-known b actor s change own (known c b stood)

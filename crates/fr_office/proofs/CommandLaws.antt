@@ -7,7 +7,7 @@ use Rattle.fr_base.specs.Book.{Book, file_of}
 use Rattle.fr_base.specs.Cluster.{Cluster, ClusterFile}
 use Rattle.fr_base.specs.Names.{same_text}
 use Rattle.fr_base.specs.Sound.{IsSound}
-use Rattle.fr_base.specs.Step.{add_node, add_supplier, common, done}
+use Rattle.fr_base.specs.Step.{add_node, add_supplier, set_key, common, done}
 use Rattle.fr_base.specs.Tables.{contains}
 use Rattle.fr_base.specs.declared.answer.Answer.TheVariants.{Done}
 use Rattle.fr_base.specs.declared.key.Key.{Key}
@@ -21,12 +21,12 @@ use Rattle.fr_world.specs.Common.{common_edit}
 use Rattle.fr_world.specs.Fits.{AllFit, Fits}
 use Rattle.fr_world.specs.Nodes.{new_node}
 use Rattle.fr_world.specs.Pages.{nodes_in}
-use Rattle.fr_world.specs.Suppliers.{new_supplier}
+use Rattle.fr_world.specs.Suppliers.{new_key, new_supplier}
 use Rattle.fr_world.specs.declared.edit.Edit.{Edit}
 use Rattle.fr_base.specs.declared.answer.VariantRow.{VariantRow}
 use Rattle.fr_world.proofs.BookFits.{common-fits, node-fits}
 use Rattle.fr_world.proofs.IntegratorLaws.{common-decides, node-decides}
-use Rattle.fr_world.proofs.JoiningLaws.{joining-decides, joining-fits}
+use Rattle.fr_world.proofs.JoiningLaws.{joining-decides, joining-fits, key-decides, key-fits}
 use Rattle.fr_office.specs.Carried.{Does, Performs}
 use Rattle.fr_world.specs.Held.{Standing, Applies}
 
@@ -98,6 +98,19 @@ module _ (old new : Standing) (file : ClusterFile) (same : (c : Cluster) (b : Bo
 
   pub joining_carried : (edit : Edit) (r : Result ⊤ Refusal) → new_supplier file s key ≡ Ok edit → Applies old new r (edit ∷ []) → Does old new r (λ c b. add_supplier c b s key)
   joining_carried edit r allowed = edit_carried old old new (λ c b. add_supplier c b s key) (new_supplier file s key) joining_told edit r allowed (joining_fits edit allowed)
+
+  key_told : Known old old (λ c b. set_key c b s key ≡ (new_key file s key >>= λ edit. Ok (applied b edit)))
+  key_told c b stood sound =
+      (stood, key-decides c b s key ∙ ap (λ f. new_key f s key >>= λ edit. Ok (applied b edit)) (sym (same c b stood)))
+
+  key_fits : (edit : Edit) → new_key file s key ≡ Ok edit → Known old old (λ c b. Fits c.params b edit)
+  key_fits edit allowed c b stood sound = (stood, key-fits c b s key edit (ap (λ f. new_key f s key) (sym (same c b stood)) ∙ allowed))
+
+  pub key_refused : (r : Result ⊤ Refusal) (e : Refusal) → r ≡ Err e → new_key file s key ≡ Err e → Does old old r (λ c b. set_key c b s key)
+  key_refused = edit_refused old old new (λ c b. set_key c b s key) (new_key file s key) key_told
+
+  pub key_carried : (edit : Edit) (r : Result ⊤ Refusal) → new_key file s key ≡ Ok edit → Applies old new r (edit ∷ []) → Does old new r (λ c b. set_key c b s key)
+  key_carried edit r allowed = edit_carried old old new (λ c b. set_key c b s key) (new_key file s key) key_told edit r allowed (key_fits edit allowed)
 
 -- ---- a node, by the supplier's nodes
 

@@ -16,7 +16,7 @@ use Rattle.fr_base.proofs.SoundTables.{get-passing, only-insert, only-insert_oth
 use Rattle.fr_world.specs.BookEdits.{applied, changed_at}
 use Rattle.fr_world.specs.Fits.{Fits}
 use Rattle.fr_world.specs.declared.edit.Edit.{Edit}
-use Rattle.fr_world.specs.declared.edit.Edit.TheVariants.{NewVariant, SetReleased, NewSupplier, NewNode, Rows, KeepImport}
+use Rattle.fr_world.specs.declared.edit.Edit.TheVariants.{NewVariant, SetReleased, NewSupplier, SetKey, NewNode, Rows, KeepImport}
 use Rattle.fr_office.specs.ImportCounts.{AreCounted, IsCounted, count_of, counts_without, is_count_of}
 use Rattle.fr_office.specs.declared.import_counts.ImportCount.{ImportCount}
 
@@ -69,6 +69,7 @@ unfolding applied
 others_counted b (NewVariant v parent depth) counts other counted = still_counted b (applied b (NewVariant v parent depth)) counts refl counted
 others_counted b (SetReleased v) counts other counted = still_counted b (applied b (SetReleased v)) counts (changed-imports b v _ (get b.variants v)) counted
 others_counted b (NewSupplier s key) counts other counted = still_counted b (applied b (NewSupplier s key)) counts refl counted
+others_counted b (SetKey s key) counts other counted = still_counted b (applied b (SetKey s key)) counts refl counted
 others_counted b (NewNode s n) counts other counted = still_counted b (applied b (NewNode s n)) counts refl counted
 others_counted b (Rows s v what) counts other counted = still_counted b (applied b (Rows s v what)) counts (changed-imports b v _ (get b.variants v)) counted
 others_counted b (KeepImport s label v body rows) counts other counted = absurd (other s label v body rows refl)

@@ -11,9 +11,11 @@ use Rattle.fr_base.specs.declared.refusal.Refusal.{Refusal}
 use Rattle.fr_base.specs.declared.request.Command.{Command}
 use Rattle.fr_base.specs.declared.request.Checked.TheVariants as checked
 use Rattle.fr_base.specs.declared.request.Import.{Import}
+use Rattle.fr_base.specs.declared.request.Replacement.{Replacement}
 use Rattle.fr_office.specs.Answering.{LeavesAct}
 use Rattle.fr_office.specs.Carried.{Does, LeavesDone, MayLeave}
 use Rattle.fr_office.specs.Imports.{LeavesImport}
+use Rattle.fr_office.specs.Replacements.{LeavesReplacement}
 use Rattle.fr_world.specs.Held.{Leaving, LeavesEdited, LeavesNoMore, Standing}
 use Rattle.fr_world.specs.BookEdits.{all_applied}
 use Rattle.fr_world.specs.declared.edit.Edit.{Edit}
@@ -58,3 +60,7 @@ module _ (stands : Standing) (old new : Leaving) (actor : Actor) where
   pub act_import : (i : Import) → actor ≡ Supplier i.supplier → LeavesImport stands old new i → LeavesAct stands old new actor (checked.Import i)
   unfolding act
   act_import i asks may c b books stood sound known left = may c b books stood sound (subst (λ a. IsTrue (knows b a)) asks known) left
+
+  pub act_replace : (r : Replacement) → actor ≡ Supplier r.supplier → LeavesReplacement stands old new r → LeavesAct stands old new actor (checked.Replace r)
+  unfolding act
+  act_replace r asks may c b books stood sound known left = may c b books stood sound (subst (λ a. IsTrue (knows b a)) asks known) left

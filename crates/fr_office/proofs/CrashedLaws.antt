@@ -7,7 +7,7 @@ use Rattle.fr_base.specs.Sound.{IsSound}
 use Rattle.fr_base.specs.Step.{step}
 use Rattle.fr_base.specs.declared.actor.Actor.{Actor}
 use Rattle.fr_base.specs.declared.answer.Answer.{Answer}
-use Rattle.fr_base.specs.declared.answer.Answer.TheVariants.{Done, Imported, Report, Refused, RefusedRow}
+use Rattle.fr_base.specs.declared.answer.Answer.TheVariants.{Done, Imported, Replaced, Report, Refused, RefusedRow}
 use Rattle.fr_base.specs.declared.refusal.Refusal.TheVariants.{Unavailable}
 use Rattle.fr_base.specs.declared.request.Ask.{Ask}
 use Rattle.fr_base.specs.declared.request.Request.{Request}
@@ -23,6 +23,7 @@ use Rattle.fr_world.specs.Held.{Leaving, Standing}
 where_so : (before after : Book) (answer : Answer) (P Q : Type 0) → (P → Q) → WhereChanged before after answer P → WhereChanged before after answer Q
 where_so before after Done P Q follows h = follows h
 where_so before after (Imported n) P Q follows h = elim h [ inl same ↦ inl same | inr p ↦ inr (follows p) ]
+where_so before after (Replaced n) P Q follows h = follows h
 where_so before after (Report all rows) P Q follows h = tt
 where_so before after (Refused e) P Q follows h = tt
 where_so before after (RefusedRow line e) P Q follows h = tt
@@ -42,6 +43,7 @@ led : (c : Cluster) (b : Book) (actor : Actor) (request : Request) (answer : Ans
     → P ⊎ ((answer ≢ Done) × ((step c b actor request).book ≡ b))
 led c b actor request Done P is kept = inl kept
 led c b actor request (Imported n) P is kept = elim kept [ inl same ↦ inr (λ done. absurd cc, same) | inr p ↦ inl p ]
+led c b actor request (Replaced n) P is kept = inl kept
 led c b actor request (Report all rows) P is kept = inr (λ done. absurd cc, step-quiet c b actor request (ap changes (sym is)))
 led c b actor request (Refused e) P is kept = inr (λ done. absurd cc, step-quiet c b actor request (ap changes (sym is)))
 led c b actor request (RefusedRow line e) P is kept = inr (λ done. absurd cc, step-quiet c b actor request (ap changes (sym is)))

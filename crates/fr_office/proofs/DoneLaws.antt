@@ -1,53 +1,81 @@
--- What is answered Done is a command; and what changes a register is that, or an import that is new.
+-- What is answered Done is a command; and what changes a register is that, an import that is new, or a replacement.
 use Rattle.std.proofs.Common.{◌≡◌, ◌⊎◌, inl, inr, ℕ, Bool, true, false, true≢false, Option, Some, None, Result, Ok, Err, IfOk, refl, subst}
 use Rattle.fr_base.specs.Alone.{is_done}
-use Rattle.fr_base.specs.Book.{Book, Kept, Variant}
+use Rattle.fr_base.specs.Book.{Book, Kept}
 use Rattle.fr_base.specs.Cluster.{Cluster}
 use Rattle.fr_base.specs.Checks.{check}
 use Rattle.fr_base.specs.Queries.{found, reply}
 use Rattle.fr_base.specs.Refusing.{◌or◌}
 use Rattle.fr_base.specs.Sound.{IsSound}
-use Rattle.fr_base.specs.Step.{Outcome, RefusedAt, act, add_node, add_supplier, change_rows, common, done, import, imported, knows, outcome, perform, step}
+use Rattle.fr_base.specs.Step.{Outcome, RefusedAt, act, add_node, add_supplier, set_key, change_rows, common, done, import, imported, knows, outcome, perform, replace, replaced, step}
 use Rattle.fr_base.specs.Tables.{get}
 use Rattle.fr_base.specs.declared.actor.Actor.{Actor}
 use Rattle.fr_base.specs.declared.answer.Answer.{Answer}
-use Rattle.fr_base.specs.declared.answer.Answer.TheVariants.{Done, Imported, Report as Told, Refused, RefusedRow}
+use Rattle.fr_base.specs.declared.answer.Answer.TheVariants.{Done, Imported, Replaced, Report as Told, Refused, RefusedRow}
 use Rattle.fr_base.specs.declared.name.Name.{Name}
 use Rattle.fr_base.specs.declared.params.Params.{Params}
 use Rattle.fr_base.specs.declared.refusal.Refusal.{Refusal}
 use Rattle.fr_base.specs.declared.refusal.Refusal.TheVariants.{NoVariant}
 use Rattle.fr_base.specs.declared.request.Command.{Command}
-use Rattle.fr_base.specs.declared.request.Command.TheVariants.{Common, AddSupplier, AddNode, Rows}
+use Rattle.fr_base.specs.declared.request.Command.TheVariants.{Common, AddSupplier, SetKey, AddNode, Rows}
 use Rattle.fr_base.specs.declared.request.Request.{Request}
 use Rattle.fr_base.specs.declared.request.Checked.{Checked}
 use Rattle.fr_base.specs.declared.request.Checked.TheVariants as checked
 use Rattle.fr_base.specs.declared.request.Import.{Import}
+use Rattle.fr_base.specs.declared.request.Replacement.{Replacement}
 use Rattle.fr_base.specs.declared.query.Query.{Query}
-use Rattle.fr_base.specs.declared.report.Report.{Report}
-use Rattle.fr_base.specs.declared.report.Report.TheVariants.{Grants, Frames, Schedule, Gaps, Layout}
 use Rattle.fr_base.proofs.SoundRefusing.{gives_bind, gives_each, gives_unless, gives_when}
 use Rattle.fr_office.specs.Answering.{AfterAct, WhereChanged}
 use Rattle.fr_world.specs.Held.{Standing}
 
-module _ (p : Params) (b : Book) (i : Import) where
-  imported-told : (count : ℕ) (r : Result Book RefusedAt) → is_done (imported b i count r).answer ≡ false
-  unfolding imported
-  imported-told count (Ok d) = refl
-  imported-told count (Err fault) = refl
+-- whether the answer is that of an import, or of a replacement, that was carried out
+abbrev is_imported : Answer → Bool
+is_imported (Imported rows) = true
+is_imported _ = false
 
-  import-told : (kept : Option Kept) → IfOk (import p b i kept) (λ o. is_done o.answer ≡ false)
+abbrev is_replaced : Answer → Bool
+is_replaced (Replaced rows) = true
+is_replaced _ = false
+
+-- the answer is neither that of a command nor of a replacement, or of an import
+abbrev IsNoChange : Answer → Type 0
+IsNoChange answer = (is_done answer ≡ false) × (is_replaced answer ≡ false)
+
+abbrev IsNoImport : Answer → Type 0
+IsNoImport answer = (is_done answer ≡ false) × (is_imported answer ≡ false)
+
+module _ (p : Params) (b : Book) (i : Import) where
+  imported-told : (count : ℕ) (r : Result Book RefusedAt) → IsNoChange (imported b i count r).answer
+  unfolding imported
+  imported-told count (Ok d) = (refl, refl)
+  imported-told count (Err fault) = (refl, refl)
+
+  import-told : (kept : Option Kept) → IfOk (import p b i kept) (λ o. IsNoChange o.answer)
   unfolding import
   import-told None =
       gives_each _ (get b.variants i.variant or NoVariant) _ (λ x _.
       gives_when _ _ _ _ (λ _.
       gives_when _ _ _ _ (λ _.
       gives_when _ _ _ _ (λ _. imported-told _ _))))
-  import-told (Some one) = gives_unless _ _ _ _ (λ _. refl)
+  import-told (Some one) = gives_unless _ _ _ _ (λ _. (refl, refl))
+
+module _ (p : Params) (b : Book) (r : Replacement) where
+  replaced-told : (count : ℕ) (made : Result Book RefusedAt) → IsNoImport (replaced b count made).answer
+  unfolding replaced
+  replaced-told count (Ok d) = (refl, refl)
+  replaced-told count (Err fault) = (refl, refl)
+
+  replace-told : IfOk (replace p b r) (λ o. IsNoImport o.answer)
+  unfolding replace
+  replace-told =
+      gives_each _ (get b.variants r.variant or NoVariant) _ (λ x _.
+      gives_when _ _ _ _ (λ _.
+      gives_when _ _ _ _ (λ _. replaced-told _ _)))
 
 module _ (p : Params) (actor : Actor) where
-  reply-told : (b : Book) (query : Query Name) → IfOk (reply p b actor query) (λ a. is_done a ≡ false)
+  reply-told : (b : Book) (query : Query Name ℕ) → IfOk (reply p b actor query) IsNoChange
   unfolding reply
-  reply-told b query = gives_each _ (found p b actor query) _ (λ rows _. refl)
+  reply-told b query = gives_each _ (found p b actor query) _ (λ rows _. (refl, refl))
 
 -- ---- what changes a register
 
@@ -55,6 +83,7 @@ module _ (p : Params) (actor : Actor) where
 abbrev pub changes : Answer → Bool
 changes Done = true
 changes (Imported rows) = true
+changes (Replaced rows) = true
 changes _ = false
 
 module _ (b : Book) where
@@ -66,6 +95,7 @@ module _ (b : Book) where
   unfolding perform done
   perform-quiet c (Common command) = gives_each _ (common b command) _ (λ after _ quiet. cc)
   perform-quiet c (AddSupplier s key) = gives_each _ (add_supplier c b s key) _ (λ after _ quiet. cc)
+  perform-quiet c (SetKey s key) = gives_each _ (set_key c b s key) _ (λ after _ quiet. cc)
   perform-quiet c (AddNode s n) = gives_each _ (add_node b s n) _ (λ after _ quiet. cc)
   perform-quiet c (Rows s v what) = gives_each _ (change_rows c.params b s v what) _ (λ after _ quiet. cc)
 
@@ -83,10 +113,23 @@ module _ (b : Book) where
       gives_when _ _ _ _ (λ _. imported-quiet i _ _))))
   import-quiet p i (Some one) = gives_unless _ _ _ _ (λ _ quiet. refl)
 
+  replaced-quiet : (count : ℕ) (r : Result Book RefusedAt) → Quiet (replaced b count r)
+  unfolding replaced
+  replaced-quiet count (Ok d) quiet = cc
+  replaced-quiet count (Err fault) quiet = refl
+
+  replace-quiet : (p : Params) (r : Replacement) → IfOk (replace p b r) Quiet
+  unfolding replace
+  replace-quiet p r =
+      gives_each _ (get b.variants r.variant or NoVariant) _ (λ x _.
+      gives_when _ _ _ _ (λ _.
+      gives_when _ _ _ _ (λ _. replaced-quiet _ _)))
+
   act-quiet : (c : Cluster) (actor : Actor) (what : Checked) → IfOk (act c b actor what) Quiet
   unfolding act
   act-quiet c actor (checked.Command command) = perform-quiet c command
   act-quiet c actor (checked.Import i) = import-quiet c.params i (get b.imports (i.supplier, i.label))
+  act-quiet c actor (checked.Replace r) = replace-quiet c.params r
   act-quiet c actor (checked.Query query) = gives_each _ (reply c.params b actor query) _ (λ rows _ quiet. refl)
 
   outcome-quiet : (r : Result Outcome Refusal) → IfOk r Quiet → Quiet (outcome b r)
@@ -106,13 +149,20 @@ unfolding import
 again-same p b i one = gives_unless _ _ _ _ (λ _. refl)
 
 module _ (c : Cluster) (b : Book) (actor : Actor) where
+  query-told : (query : Query Name ℕ) (after : Book) (answer : Answer) → act c b actor (checked.Query query) ≡ Ok (record { book = after; answer = answer }) → IsNoChange answer
+  unfolding act
+  query-told query after answer made =
+      subst (λ r. IfOk r (λ (o : Outcome). IsNoChange o.answer)) made (gives_bind _ IsNoChange (reply c.params b actor query) _ (reply-told c.params actor b query) (λ a none. none))
+
   done_so : (stands : Standing) (valid : Checked) (P : Type 0) (after : Book) → act c b actor valid ≡ Ok (record { book = after; answer = Done }) → AfterAct stands valid (Ok Done) P → P
   unfolding act
   done_so stands (checked.Command command) P after made h = h
   done_so stands (checked.Import i) P after made h =
-      absurd (true≢false (subst (λ r. IfOk r (λ (o : Outcome). is_done o.answer ≡ false)) made (import-told c.params b i (get b.imports (i.supplier, i.label)))))
+      absurd (true≢false (subst (λ r. IfOk r (λ (o : Outcome). IsNoChange o.answer)) made (import-told c.params b i (get b.imports (i.supplier, i.label)))).0)
+  done_so stands (checked.Replace r) P after made h =
+      absurd (true≢false (subst (λ r. IfOk r (λ (o : Outcome). IsNoImport o.answer)) made (replace-told c.params b r)).0)
   done_so stands (checked.Query query) P after made h =
-      absurd (true≢false (subst (λ r. IfOk r (λ (o : Outcome). is_done o.answer ≡ false)) made (gives_bind _ (λ (a : Answer). is_done a ≡ false) (reply c.params b actor query) _ (reply-told c.params actor b query) (λ a not_done. not_done))))
+      absurd (true≢false (query-told query after Done made).0)
 
   imported_so : (stands : Standing) (valid : Checked) (P : Type 0) (after : Book) (rows : ℕ) → stands c b → IsSound c b → act c b actor valid ≡ Ok (record { book = after; answer = Imported rows })
       → AfterAct stands valid (Ok (Imported rows)) P → (after ≡ b) ⊎ P
@@ -125,12 +175,23 @@ module _ (c : Cluster) (b : Book) (actor : Actor) where
         | None ↦ λ free made. inr (h c b stood sound free)
         | Some one ↦ λ kept made. inl (subst (λ r. IfOk r (λ (o : Outcome). o.book ≡ b)) made (again-same c.params b i one))
       ] refl made
+  imported_so stands (checked.Replace r) P after rows stood sound made h =
+      absurd (true≢false (subst (λ r. IfOk r (λ (o : Outcome). IsNoImport o.answer)) made (replace-told c.params b r)).1)
 
-  -- what holds after a command or a new import holds after what tells of a change
+  replaced_so : (stands : Standing) (valid : Checked) (P : Type 0) (after : Book) (rows : ℕ) → act c b actor valid ≡ Ok (record { book = after; answer = Replaced rows }) → AfterAct stands valid (Ok (Replaced rows)) P → P
+  unfolding act
+  replaced_so stands (checked.Command command) P after rows made h = h
+  replaced_so stands (checked.Import i) P after rows made h =
+      absurd (true≢false (subst (λ r. IfOk r (λ (o : Outcome). IsNoChange o.answer)) made (import-told c.params b i (get b.imports (i.supplier, i.label)))).1)
+  replaced_so stands (checked.Replace r) P after rows made h = h
+  replaced_so stands (checked.Query query) P after rows made h = absurd (true≢false (query-told query after (Replaced rows) made).1)
+
+  -- what holds after a command, a new import or a replacement holds after what tells of a change
   pub changed_so : (stands : Standing) (valid : Checked) (answer : Answer) (P : Type 0) (after : Book) → stands c b → IsSound c b → act c b actor valid ≡ Ok (record { book = after; answer = answer })
       → AfterAct stands valid (Ok answer) P → WhereChanged b after answer P
   changed_so stands valid Done P after stood sound made h = done_so stands valid P after made h
   changed_so stands valid (Imported rows) P after stood sound made h = imported_so stands valid P after rows stood sound made h
+  changed_so stands valid (Replaced rows) P after stood sound made h = replaced_so stands valid P after rows made h
   changed_so stands valid (Told all rows) P after stood sound made h = tt
   changed_so stands valid (Refused e) P after stood sound made h = tt
   changed_so stands valid (RefusedRow line e) P after stood sound made h = tt

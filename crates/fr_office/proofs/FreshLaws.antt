@@ -26,7 +26,7 @@ use Rattle.fr_world.specs.Edits.{IsOf, Leads, Takes, all_edited, edited, release
 use Rattle.fr_world.specs.Fits.{Fits, FitsVariant}
 use Rattle.fr_world.specs.Pages.{IsKept, PageData, nodes_in, own_rows_of, page_in}
 use Rattle.fr_world.specs.declared.edit.Edit.{Edit}
-use Rattle.fr_world.specs.declared.edit.Edit.TheVariants.{NewVariant, SetReleased, NewSupplier, NewNode, Rows, KeepImport}
+use Rattle.fr_world.specs.declared.edit.Edit.TheVariants.{NewVariant, SetReleased, NewSupplier, SetKey, NewNode, Rows, KeepImport}
 use Rattle.fr_world.proofs.AgreeLaws.{edits-agree, others-stay}
 use Rattle.fr_world.proofs.PageLaws.{rows-registers}
 use Rattle.fr_office.specs.KeptPages.{Spares, touches}
@@ -40,6 +40,7 @@ unfolding edited
 edited_params rows (NewVariant v parent depth) = refl
 edited_params rows (SetReleased v) = refl
 edited_params rows (NewSupplier s key) = refl
+edited_params rows (SetKey s key) = refl
 edited_params rows (NewNode s n) = refl
 edited_params rows (Rows s v what) = refl
 edited_params rows (KeepImport s label v body rows-kept) = refl
@@ -105,6 +106,7 @@ module _ (c : Cluster) (b : Book) (page : PageData) (fresh : IsFresh c.params b 
   untouched-fresh (NewVariant v parent depth) other spares = still _ (other_variant b v page.variant _ other) refl
   untouched-fresh (SetReleased v) other spares = other_changed v _ other (get b.variants v)
   untouched-fresh (NewSupplier s key) other spares = still _ refl refl
+  untouched-fresh (SetKey s key) other spares = still _ refl refl
   untouched-fresh (NewNode s n) other spares = node_fresh s n other
   untouched-fresh (Rows s v what) other spares = elim (cases_Bool (same_text page.variant v)) [
     | inl e ↦
@@ -153,6 +155,7 @@ module _ (c : Cluster) (s v : Name) where
   one-agrees b x (NewVariant w parent depth) there may = absurd may.own
   one-agrees b x (SetReleased w) there may = edits-agree c b s v x (SetReleased w) there may.own
   one-agrees b x (NewSupplier t key) there may = absurd may.own
+  one-agrees b x (SetKey t key) there may = absurd may.own
   one-agrees b x (NewNode t n) there may = edits-agree c b s v x (NewNode t n) there may.own
   one-agrees b x (Rows t w what) there may = edits-agree c b s v x (Rows t w what) there may.own
 
@@ -206,6 +209,7 @@ pub fit_spares : (p : Params) (b : Book) (edit : Edit) → Fits p b edit → Spa
 fit_spares p b (NewVariant v parent depth) fits = tt
 fit_spares p b (SetReleased v) fits = tt
 fit_spares p b (NewSupplier s key) fits = tt
+fit_spares p b (SetKey s key) fits = tt
 fit_spares p b (NewNode s n) fits = tt
 fit_spares p b (Rows s v what) fits = λ x there.
     change_spares b s v x what (subst (λ y. FitsVariant b.nodes s y what) (same_some fits.0 x (sym fits.1.there ∙ there)) fits.2)
@@ -223,6 +227,7 @@ may_take : (v : Name) (rows : OwnRows) (edit : Edit) → Takes v rows edit → M
 may_take v rows (NewVariant w parent depth) takes = takes
 may_take v rows (SetReleased w) takes = takes
 may_take v rows (NewSupplier s key) takes = takes
+may_take v rows (SetKey s key) takes = takes
 may_take v rows (NewNode s n) takes = takes
 may_take v rows (Rows s w what) takes = takes
 may_take v rows (KeepImport s label w body count) takes = tt

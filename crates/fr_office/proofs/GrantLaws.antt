@@ -21,19 +21,20 @@ use Rattle.fr_base.specs.Step.{own_rows}
 use Rattle.fr_base.specs.TableRows.{first, second}
 use Rattle.fr_base.specs.Tables.{Order, Table, from_rows, get, insert}
 use Rattle.fr_base.specs.declared.answer.GrantRow.{GrantRow}
+use Rattle.fr_base.specs.declared.answer.LaneHolder.{LaneHolder}
 use Rattle.fr_base.specs.declared.channel.Channel.{Channel}
 use Rattle.fr_base.specs.declared.name.Name.{Name}
 use Rattle.fr_base.specs.declared.params.Params.{Params}
 use Rattle.fr_base.proofs.AloneCells.{same_text-itself}
 use Rattle.fr_base.proofs.TableLaws.{equal, get-empty, get-insert, get-only, kept, none_above, same_table}
 use Rattle.fr_world.specs.Held.{Standing}
-use Rattle.fr_office.specs.Shared.{grants_among, grants_held, holder_of, with_rows}
+use Rattle.fr_office.specs.Shared.{grants_among, with_rows}
 use Rattle.fr_office.specs.Shown.{FindsPage, Gathers}
-use Rattle.fr_office.specs.declared.queries.grants.Holder.{Holder}
 use Rattle.fr_office.proofs.GatherLaws.{IsSoFar, page-rows}
 use Rattle.fr_office.proofs.PageRows.{grant_entry}
 use Rattle.fr_office.proofs.ShownLaws.{flat-map}
 use Rattle.fr_office.proofs.SplitLaws.{among_names, supplier_names}
+use Rattle.fr_world.specs.Loads.{grants_in_lanes, holder_in}
 use Rattle.fr_world.specs.Maps.{table_of}
 use Rattle.fr_world.specs.Pages.{PageData, own_rows_of}
 use Rattle.fr_world.specs.declared.page.ChannelSlot.{ChannelSlot}
@@ -43,18 +44,18 @@ use Rattle.fr_world.proofs.MapLaws.{rows-table_of, table_of-insert_entry}
 
 -- ---- the rows of a map
 
-abbrev pub held_entry : ChannelSlot × Holder → (ℕ × Channel) × book.Holder
-held_entry e = ((e.0.slot, e.0.channel), holder_of e.1)
+abbrev pub held_entry : ChannelSlot × LaneHolder → (ℕ × Channel) × book.Holder
+held_entry e = ((e.0.slot, e.0.channel), holder_in e.1)
 
-abbrev pub held_shown : List (ChannelSlot × Holder) → List GrantRow
+abbrev pub held_shown : List (ChannelSlot × LaneHolder) → List GrantRow
 held_shown es = flat_map (λ e. grant_row (held_entry e) ∷ []) es
 
-pub held-rows : (es : List (ChannelSlot × Holder)) → IsStrictlySortedBy slot_cmp (keys_of es) → held_shown es ≡ grants_of (grants_held es)
+pub held-rows : (es : List (ChannelSlot × LaneHolder)) → IsStrictlySortedBy slot_cmp (keys_of es) → held_shown es ≡ grants_of (grants_in_lanes es)
 unfolding grants_of
 held-rows es h =
     sym (flat-map (λ e. grant_row e ∷ []) held_entry es)
     ∙ (flat_map_single grant_row (map held_entry es))
-    ∙ ap (map grant_row) (sym (rows-table_of slot_cmp channel_slots (λ k. (k.slot, k.channel)) holder_of slots_alike es h))
+    ∙ ap (map grant_row) (sym (rows-table_of slot_cmp channel_slots (λ k. (k.slot, k.channel)) holder_in slots_alike es h))
 
 -- ---- a page's grants are added
 
@@ -66,13 +67,13 @@ page_grants-rows page es e h =
     sym (rows-table_of slot_cmp channel_slots (λ k. (k.slot, k.channel)) (λ n. record { supplier = page.supplier; node = n }) slots_alike es h)
     ∙ ap (λ gs. (own_rows_of (record page { grants = gs })).grants.rows) e
 
-pub added : (s : Name) (old new : List (ChannelSlot × Holder)) (at : ChannelSlot) (n : Name) (rest left : List (ChannelSlot × Name)) (all : Table channel_slots book.Holder) →
+pub added : (s : Name) (old new : List (ChannelSlot × LaneHolder)) (at : ChannelSlot) (n : Name) (rest left : List (ChannelSlot × Name)) (all : Table channel_slots book.Holder) →
     IsStrictlySortedBy slot_cmp (keys_of old) → new ≡ insert_entry slot_cmp old at (record { supplier = s; node = n }) → rest ≡ (at, n) ∷ left →
-    with_rows (grants_held old) (page_entries s rest) ≡ all → with_rows (grants_held new) (page_entries s left) ≡ all
+    with_rows (grants_in_lanes old) (page_entries s rest) ≡ all → with_rows (grants_in_lanes new) (page_entries s left) ≡ all
 added s old new at n rest left all h e is so =
     ap (λ t. with_rows t (page_entries s left))
-    (ap grants_held e ∙ table_of-insert_entry slot_cmp channel_slots (λ k. (k.slot, k.channel)) holder_of slots_alike old at (record { supplier = s; node = n }) h)
-    ∙ ap (λ es. with_rows (grants_held old) (page_entries s es)) (sym is)
+    (ap grants_in_lanes e ∙ table_of-insert_entry slot_cmp channel_slots (λ k. (k.slot, k.channel)) holder_in slots_alike old at (record { supplier = s; node = n }) h)
+    ∙ ap (λ es. with_rows (grants_in_lanes old) (page_entries s es)) (sym is)
     ∙ so
 
 -- ---- what stands in a table with more rows
@@ -136,30 +137,30 @@ none-among k None = refl
 none-among k (Some h) = refl
 
 -- what is held so far
-abbrev pub HoldsSoFar : Standing → Standing → Name → List Name → List (ChannelSlot × Holder) → Type 0
-HoldsSoFar old new v ss es = IsSoFar old new v (λ p x. grants_held es ≡ grants_among ss x.grants)
+abbrev pub HoldsSoFar : Standing → Standing → Name → List Name → List (ChannelSlot × LaneHolder) → Type 0
+HoldsSoFar old new v ss es = IsSoFar old new v (λ p x. grants_in_lanes es ≡ grants_among ss x.grants)
 
 module _ (old : Standing) (v : Name) where
-  pub held-none : (es : List (ChannelSlot × Holder)) → es ≡ [] → HoldsSoFar old old v [] es
+  pub held-none : (es : List (ChannelSlot × LaneHolder)) → es ≡ [] → HoldsSoFar old old v [] es
   unfolding table_of from_rows
   held-none es e c b stood = (
     stood,
     λ x there.
-        ap grants_held e ∙ same_table _ _ (λ k. get-empty channel_slots k ∙ none-among k (get x.grants k) ∙ sym (get-only channel_slots (λ _ h. list_any (same_text h.supplier) []) x.grants k)),
+        ap grants_in_lanes e ∙ same_table _ _ (λ k. get-empty channel_slots k ∙ none-among k (get x.grants k) ∙ sym (get-only channel_slots (λ _ h. list_any (same_text h.supplier) []) x.grants k)),
   )
 
-  pub held-more : (mid new : Standing) (s : Name) (before after : List Name) (page : PageData) (es fs : List (ChannelSlot × Holder)) →
+  pub held-more : (mid new : Standing) (s : Name) (before after : List Name) (page : PageData) (es fs : List (ChannelSlot × LaneHolder)) →
       HoldsSoFar old mid v before es → FindsPage mid new (Some page) (Ok tt) s v →
-      grants_held fs ≡ with_rows (grants_held es) (own_rows_of page).grants.rows → after ≡ before ++ s ∷ [] → HoldsSoFar old new v after fs
+      grants_in_lanes fs ≡ with_rows (grants_in_lanes es) (own_rows_of page).grants.rows → after ≡ before ++ s ∷ [] → HoldsSoFar old new v after fs
   unfolding own_rows
   held-more mid new s before after page es fs so finds e more =
-      page-rows old mid new s v page (λ p x. grants_held es ≡ grants_among before x.grants) (λ p x. grants_held fs ≡ grants_among after x.grants) so finds next
+      page-rows old mid new s v page (λ p x. grants_in_lanes es ≡ grants_among before x.grants) (λ p x. grants_in_lanes fs ≡ grants_among after x.grants) so finds next
     where
-      next : (p : Params) (b : Book) (x : Variant) → grants_held es ≡ grants_among before x.grants → page.params ≡ p → own_rows_of page ≡ own_rows p b s x → grants_held fs ≡ grants_among after x.grants
+      next : (p : Params) (b : Book) (x : Variant) → grants_in_lanes es ≡ grants_among before x.grants → page.params ≡ p → own_rows_of page ≡ own_rows p b s x → grants_in_lanes fs ≡ grants_among after x.grants
       next p b x is of_p same =
           e ∙ (λ i. with_rows (is i) (same i).grants.rows) ∙ grants-more s before x.grants ∙ ap (λ ss. grants_among ss x.grants) (sym more)
 
-  pub held-all : (new : Standing) (i : ℕ) (ss : List Name) (es : List (ChannelSlot × Holder)) → length ss ≤ i → HoldsSoFar old new v (take i ss) es → HoldsSoFar old new v ss es
+  pub held-all : (new : Standing) (i : ℕ) (ss : List Name) (es : List (ChannelSlot × LaneHolder)) → length ss ≤ i → HoldsSoFar old new v (take i ss) es → HoldsSoFar old new v ss es
   held-all new i ss es last so = subst (λ ts. HoldsSoFar old new v ts es) (take_all i ss last) so
 
 -- ---- all of them
@@ -185,8 +186,8 @@ grants-all c b v x sound there = same_table _ _ (λ k. get-only channel_slots (�
         ap (λ t. cond t (Some h) None) (In-any h.supplier (supplier_names b) among)
 
 -- the rows of what is held
-pub held-shown : (old new : Standing) (v : Name) (ss : List Name) (es : List (ChannelSlot × Holder)) (rows : List GrantRow) →
-    rows ≡ grants_of (grants_held es) → HoldsSoFar old new v ss es →
+pub held-shown : (old new : Standing) (v : Name) (ss : List Name) (es : List (ChannelSlot × LaneHolder)) (rows : List GrantRow) →
+    rows ≡ grants_of (grants_in_lanes es) → HoldsSoFar old new v ss es →
     Gathers old new (Ok rows) v (λ p x rows. rows ≡ grants_of (grants_among ss x.grants))
 held-shown old new v ss es rows e so c b stood =
     let told = so c b stood in

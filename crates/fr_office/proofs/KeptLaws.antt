@@ -15,7 +15,7 @@ use Rattle.fr_world.specs.Edits.{IsOf, edited}
 use Rattle.fr_world.specs.Fits.{Fits}
 use Rattle.fr_world.specs.Pages.{PageData, own_rows_of}
 use Rattle.fr_world.specs.declared.edit.Edit.{Edit}
-use Rattle.fr_world.specs.declared.edit.Edit.TheVariants.{NewVariant, SetReleased, NewSupplier, NewNode, Rows, KeepImport}
+use Rattle.fr_world.specs.declared.edit.Edit.TheVariants.{NewVariant, SetReleased, NewSupplier, SetKey, NewNode, Rows, KeepImport}
 use Rattle.fr_world.specs.Held.{IsFresh}
 use Rattle.fr_office.specs.Decided.{MayTake, TakesAll, TakesEach}
 use Rattle.fr_office.specs.KeptPages.{Amends, AreFollowed, AreFresh, AreOf, KeptData, kept_where, kept_without, lent_where, none_lent, touches}
@@ -64,6 +64,7 @@ pub own-touched : (page : PageData) (edit : Edit) → IsOf page.supplier page.va
 own-touched page (NewVariant v parent depth) own = absurd own
 own-touched page (SetReleased v) own = ap (same_text page.variant) own ∙ same_text-itself page.variant
 own-touched page (NewSupplier s key) own = absurd own
+own-touched page (SetKey s key) own = absurd own
 own-touched page (NewNode s n) own = ap (same_text page.supplier) own ∙ same_text-itself page.supplier
 own-touched page (Rows s v what) own =
     (λ i. same_text page.supplier (own.0 i) && same_text page.variant (own.1 i)) ∙ (λ i. same_text-itself page.supplier i && same_text-itself page.variant i)
@@ -85,6 +86,7 @@ unfolding edited
 untouched-rows page (NewVariant v parent depth) other takes = refl
 untouched-rows page (SetReleased v) other takes = refl
 untouched-rows page (NewSupplier s key) other takes = refl
+untouched-rows page (SetKey s key) other takes = refl
 untouched-rows page (NewNode s n) other takes = absurd (named-itself s page.supplier takes.own other)
 untouched-rows page (Rows s v what) other takes =
     absurd (true≢false (sym (own-touched page (Rows s v what) takes.own) ∙ other))

@@ -2,6 +2,7 @@ pub mod CommandLaws
 pub mod RowsLaws
 pub mod CheckedLaws
 pub mod ImportLaws
+pub mod ReplacementLaws
 pub mod RunLaws
 pub mod PageBack
 pub mod FreshLaws
@@ -17,6 +18,7 @@ pub mod SplitLaws
 pub mod StepLaws
 pub mod GatherLaws
 pub mod GrantLaws
+pub mod ExportLaws
 pub mod AllReplies
 pub mod RegisterReplies
 pub mod CrashLaws

@@ -6,14 +6,15 @@ use Rattle.std.proofs.lemmas.List.{take_all}
 use Rattle.std.specs.Prelude.{⊤, Vec}
 use Rattle.std.specs.declared.alloc.Global.{Global}
 use Rattle.fr_base.specs.Book.{Book, is_of, listed, file_of, own}
-use Rattle.fr_base.specs.Cluster.{Cluster, ClusterFile}
-use Rattle.fr_base.specs.Keys.{names, owned}
+use Rattle.fr_base.specs.Cluster.{Cluster}
+use Rattle.fr_base.specs.Keys.{owned}
 use Rattle.fr_base.specs.Names.{same_text}
-use Rattle.fr_base.specs.Queries.{cluster_of, figures, found, held, node_row, nodes_of, reply, seen_nodes, seen_suppliers, variants_of}
+use Rattle.fr_base.specs.Queries.{cluster_of, figures, found, held, node_row, nodes_of, reply, variants_of}
+use Rattle.fr_base.specs.Seen.{seen_nodes, seen_suppliers}
 use Rattle.fr_base.specs.Checks.{is_integrator}
 use Rattle.fr_base.specs.Refusing.{◌>>=◌}
 use Rattle.fr_base.specs.Sound.{IsSound}
-use Rattle.fr_base.specs.Tables.{Table, get, only}
+use Rattle.fr_base.specs.Tables.{get, only}
 use Rattle.fr_base.specs.declared.actor.Actor.{Actor}
 use Rattle.fr_base.specs.declared.actor.Actor.TheVariants.{Integrator, Supplier}
 use Rattle.fr_base.specs.declared.answer.Answer.{Answer}
@@ -31,7 +32,6 @@ use Rattle.fr_base.specs.declared.query.Inventory.TheVariants as asked
 use Rattle.fr_base.specs.declared.query.Query.{Query}
 use Rattle.fr_base.specs.declared.query.Query.TheVariants.{Register as OfRegister}
 use Rattle.fr_base.specs.declared.refusal.Refusal.{Refusal}
-use Rattle.fr_base.specs.declared.refusal.Refusal.TheVariants.{Unavailable}
 use Rattle.fr_base.proofs.SoundRows.{same_text-is}
 use Rattle.fr_world.specs.Held.{Standing, Tells}
 use Rattle.fr_world.specs.BookEdits.{variants_in}
@@ -184,14 +184,14 @@ module _ (old new : Standing) (actor : Actor) where
   unfolding found
   found-held inventory r replies = replies
 
-  pub reply-found : (query : Query Name) (rows : ReportRows) → Replies old new (Ok rows) (λ c b. found c.params b actor query)
+  pub reply-found : (query : Query Name ℕ) (rows : ReportRows) → Replies old new (Ok rows) (λ c b. found c.params b actor query)
       → Replies old new (Ok (answer.Report (is_integrator actor) rows)) (λ c b. reply c.params b actor query)
   unfolding reply ◌>>=◌
   reply-found query rows replies c b stood sound =
       let told = replies c b stood sound in
       (told.0, ap (λ r. r >>= (λ rows. Ok (answer.Report (is_integrator actor) rows))) told.1)
 
-  pub reply-refused : (query : Query Name) (e : Refusal) (r : Result Answer Refusal) → r ≡ Err e → Replies {A = ReportRows} old new (Err e) (λ c b. found c.params b actor query)
+  pub reply-refused : (query : Query Name ℕ) (e : Refusal) (r : Result Answer Refusal) → r ≡ Err e → Replies {A = ReportRows} old new (Err e) (λ c b. found c.params b actor query)
       → Replies old new r (λ c b. reply c.params b actor query)
   unfolding reply ◌>>=◌
   reply-refused query e r is replies = subst (λ r. Replies old new r (λ c b. reply c.params b actor query)) (sym is) (λ c b stood sound.

@@ -1,5 +1,5 @@
 -- What a request comes to: who asks, its check, and what is made of it.
-use Rattle.std.proofs.Common.{◌≡◌, Bool, true, false, [], ◌∷◌, Result, Ok, Err, IfOk, refl, sym, ap, subst, ◌∙◌, inl, inr}
+use Rattle.std.proofs.Common.{◌≡◌, ℕ, Bool, true, false, [], ◌∷◌, Result, Ok, Err, IfOk, refl, sym, ap, subst, ◌∙◌, inl, inr}
 use Rattle.std.specs.Prelude.{IsTrue, is_ok, ⊤}
 use Rattle.fr_base.specs.Refusing.{◌>>=◌, ◌>>◌, refuse◌when◌}
 use Rattle.fr_base.specs.Checks.{check}
@@ -18,6 +18,7 @@ use Rattle.fr_base.specs.declared.refusal.Refusal.TheVariants.{UnknownKey}
 use Rattle.fr_base.specs.declared.request.Ask.{Ask}
 use Rattle.fr_base.specs.declared.request.Command.{Command}
 use Rattle.fr_base.specs.declared.request.Import.{Import}
+use Rattle.fr_base.specs.declared.request.Replacement.{Replacement}
 use Rattle.fr_base.specs.declared.name.Name.{Name}
 use Rattle.fr_base.specs.declared.query.Query.{Query}
 use Rattle.fr_base.specs.declared.request.Request.{Request}
@@ -29,6 +30,7 @@ use Rattle.fr_office.specs.Answering.{Acts, Answers, HasPassed, answer_of, is_kn
 use Rattle.fr_office.specs.Carried.{IsRefused, Performs, Replies}
 use Rattle.fr_world.specs.Held.{Standing}
 use Rattle.fr_office.specs.Imports.{GivesImport}
+use Rattle.fr_office.specs.Replacements.{GivesReplacement}
 use Rattle.fr_office.proofs.CheckedLaws.{command-checked, command-own}
 
 -- who is in the book is in what a cluster file says of it
@@ -40,7 +42,8 @@ known-so c b (Supplier s) = sym (contains-listed b s)
 pub passed : (p : Params) (actor : Actor) (request : Request) (valid : Checked) → check p actor request ≡ Ok valid → HasPassed p actor valid
 passed p actor request (checked.Command command) said = (command-checked p actor request command said, command-own p actor request command said)
 passed p actor request (checked.Import i) said = (subst (λ r. IfOk r (IsFormed p actor)) said (check-form p actor request)).asks
-passed p actor request (checked.Query query) said = tt
+passed p actor request (checked.Replace r) said = subst (λ r. IfOk r (IsFormed p actor)) said (check-form p actor request)
+passed p actor request (checked.Query query) said = subst (λ r. IfOk r (IsFormed p actor)) said (check-form p actor request)
 
 module _ (c : Cluster) (b : Book) (ask : Ask) where
   -- one step
@@ -122,8 +125,13 @@ module _ (old new : Standing) (actor : Actor) where
   unfolding act
   import_acts i r asks gives c b stood sound known = gives c b stood sound (subst (λ a. IsTrue (knows b a)) asks known)
 
+  -- a replacement
+  pub replacement_acts : (replacement : Replacement) (r : Result Answer Refusal) → actor ≡ Supplier replacement.supplier → GivesReplacement old new r replacement → Acts old new r actor (checked.Replace replacement)
+  unfolding act
+  replacement_acts replacement r asks gives c b stood sound known = gives c b stood sound (subst (λ a. IsTrue (knows b a)) asks known)
+
   -- a query
-  pub query_acts : (query : Query Name) (r : Result Answer Refusal) → Replies old new r (λ c b. reply c.params b actor query) → Acts old new r actor (checked.Query query)
+  pub query_acts : (query : Query Name ℕ) (r : Result Answer Refusal) → Replies old new r (λ c b. reply c.params b actor query) → Acts old new r actor (checked.Query query)
   unfolding act ◌>>=◌
   query_acts query (Ok answer) replies c b stood sound known =
       let t = replies c b stood sound in

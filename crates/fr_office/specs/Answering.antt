@@ -4,6 +4,7 @@
 use Rattle.std.specs.Prelude.{◌≡◌, ◌⊎◌, Bool, true, List, [], ◌∷◌, Result, Ok, Err, IsTrue, MatchResult, OnOk, ⊤}
 use Rattle.std.specs.List.{list_any}
 use Rattle.fr_base.specs.Book.{Book}
+use Rattle.fr_base.specs.Checks.{has_repetition}
 use Rattle.fr_base.specs.Cluster.{Cluster, ClusterFile}
 use Rattle.fr_base.specs.Names.{same_text}
 use Rattle.fr_base.specs.Run.{IsRun}
@@ -12,7 +13,7 @@ use Rattle.fr_base.specs.Step.{Outcome, act, knows, step}
 use Rattle.fr_base.specs.declared.actor.Actor.{Actor}
 use Rattle.fr_base.specs.declared.actor.Actor.TheVariants.{Integrator, Supplier}
 use Rattle.fr_base.specs.declared.answer.Answer.{Answer}
-use Rattle.fr_base.specs.declared.answer.Answer.TheVariants.{Done, Imported, Refused}
+use Rattle.fr_base.specs.declared.answer.Answer.TheVariants.{Done, Imported, Replaced, Refused}
 use Rattle.fr_base.specs.declared.params.Params.{Params}
 use Rattle.fr_base.specs.declared.refusal.Refusal.{Refusal}
 use Rattle.fr_base.specs.declared.request.Ask.{Ask}
@@ -21,6 +22,7 @@ use Rattle.fr_base.specs.declared.request.Checked.TheVariants as checked
 use Rattle.fr_office.specs.Carried.{IsRefused}
 use Rattle.fr_office.specs.Decided.{IsCheckedCommand, IsOwnCommand}
 use Rattle.fr_office.specs.Imports.{AfterNew}
+use Rattle.fr_office.specs.Replacements.{OnReplaced}
 use Rattle.fr_world.specs.Held.{Leaving, Standing}
 
 -- whether who asks is in what a cluster file says
@@ -28,12 +30,13 @@ abbrev pub is_known : ClusterFile → Actor → Bool
 is_known f Integrator = true
 is_known f (Supplier s) = list_any (λ t. same_text s t.name) f.suppliers
 
--- So much of what the check of a request leaves is needed: a command's values fit the cluster, and a change of a frame and an import are
--- of who asks.
+-- So much of what the check of a request leaves is needed: a command's values fit the cluster, a change of a frame, an import and
+-- a replacement are of who asks, and the repetition of a query, where it has one, divides the count of cycles.
 abbrev pub HasPassed : Params → Actor → Checked → Type 0
 HasPassed p actor (checked.Command command) = IsCheckedCommand p command × IsOwnCommand actor command
 HasPassed p actor (checked.Import i) = actor ≡ Supplier i.supplier
-HasPassed p actor (checked.Query query) = ⊤
+HasPassed p actor (checked.Replace r) = actor ≡ Supplier r.supplier
+HasPassed p actor (checked.Query query) = IsTrue (has_repetition p query)
 
 -- In a sound book that knows who asks, a request with checked values was carried out as the definition has it, and the records stand
 -- for the book after it; or nothing was done.
@@ -51,10 +54,11 @@ answer_of (Err refusal) = Refused refusal
 abbrev pub Answers : Standing → Standing → Ask → Answer → Type 0
 Answers old new ask answer = (c : Cluster) (b : Book) → old c b → IsSound c b → (last : Book) × new c last × IsRun c b (ask ∷ []) (answer ∷ []) last
 
--- This holds after a command or a new import with checked values that was carried out.
+-- This holds after a command, a new import or a replacement with checked values that was carried out.
 abbrev pub AfterAct : Standing → Checked → Result Answer Refusal → Type 0 → Type 0
 AfterAct stands (checked.Command command) r P = OnOk r P
 AfterAct stands (checked.Import i) r P = AfterNew stands i r P
+AfterAct stands (checked.Replace replacement) r P = OnReplaced r P
 AfterAct stands (checked.Query query) r P = ⊤
 
 -- This holds after a step that leads from one book to another, where its answer tells of a change. An import that was there already has
@@ -62,6 +66,7 @@ AfterAct stands (checked.Query query) r P = ⊤
 abbrev pub WhereChanged : Book → Book → Answer → Type 0 → Type 0
 WhereChanged before after Done P = P
 WhereChanged before after (Imported rows) P = (after ≡ before) ⊎ P
+WhereChanged before after (Replaced rows) P = P
 WhereChanged before after _ P = ⊤
 
 -- So after a request to records of a sound book.

@@ -18,7 +18,7 @@ use Rattle.fr_office.specs.ImportCounts.{AreCounted}
 use Rattle.fr_office.specs.declared.import_counts.ImportCount.{ImportCount}
 use Rattle.fr_office.specs.declared.shelf.TheConstants.{FRAME_BYTES, GRANT_BYTES, MAX_BYTES, MOST_FRAMES, MOST_GRANTS, PAGE_BYTES}
 use Rattle.fr_world.specs.declared.edit.Edit.{Edit}
-use Rattle.fr_world.specs.declared.edit.Edit.TheVariants.{NewVariant, SetReleased, NewSupplier, NewNode, Rows, KeepImport}
+use Rattle.fr_world.specs.declared.edit.Edit.TheVariants.{NewVariant, SetReleased, NewSupplier, SetKey, NewNode, Rows, KeepImport}
 
 -- the page that is lent, which was used last; those that were used last before it, and those that were used last before them
 pub record KeptData : Type 0 where
@@ -134,6 +134,7 @@ abbrev pub touches : Edit → PageData → Bool
 touches (NewVariant v parent depth) page = same_text page.variant v
 touches (SetReleased v) page = same_text page.variant v
 touches (NewSupplier s key) page = false
+touches (SetKey s key) page = false
 touches (NewNode s n) page = same_text page.supplier s
 touches (Rows s v what) page = is_page_of s v page
 touches (KeepImport s label v body rows) page = false

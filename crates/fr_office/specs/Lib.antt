@@ -3,6 +3,7 @@ pub mod Carried
 pub mod Decided
 pub mod Headline
 pub mod Imports
+pub mod Replacements
 pub mod ImportCounts
 pub mod KeptPages
 pub mod Shared

@@ -8,9 +8,6 @@ use Rattle.fr_base.specs.Names.{same_text}
 use Rattle.fr_base.specs.Tables.{Order, Table, insert, only}
 use Rattle.fr_base.specs.declared.name.Name.{Name}
 use Rattle.fr_base.specs.declared.placement.Placement.{Placement}
-use Rattle.fr_office.specs.declared.queries.grants.Holder.{Holder}
-use Rattle.fr_world.specs.Maps.{table_of}
-use Rattle.fr_world.specs.declared.page.ChannelSlot.{ChannelSlot}
 
 -- the grants that these suppliers hold
 abbrev pub grants_among : List Name → Table channel_slots book.Holder → Table channel_slots book.Holder
@@ -19,13 +16,6 @@ grants_among ss grants = only (λ _ h. list_any (same_text h.supplier) ss) grant
 -- the placements of these suppliers' frames in the variant, each with its sender, one supplier's after another's
 abbrev pub placements_among : List Name → Variant → List (Sender × Placement)
 placements_among ss x = flat_map (λ s. placements_of (own s x.frames)) ss
-
-abbrev pub holder_of : Holder → book.Holder
-holder_of h = record { supplier = h.supplier; node = h.node }
-
--- what the grants in a map stand for
-abbrev pub grants_held : List (ChannelSlot × Holder) → Table channel_slots book.Holder
-grants_held es = table_of channel_slots (λ k. (k.slot, k.channel)) holder_of es
 
 -- the table with these rows too, each in place of what stood at its key
 abbrev pub with_rows : {K V : Type 0} {o : Order K} → Table o V → List (K × V) → Table o V

@@ -1,7 +1,7 @@
 -- Shown: what is read to answer a query, of one supplier's page or of all, and that the report shows what the
 -- definition has.
 use Rattle.std.specs.List.{flat_map}
-use Rattle.std.specs.Prelude.{◌≡◌, ◌<◌, ◌⊎◌, Bool, true, List, [], ◌∷◌, ◌++◌, if◌then◌else◌, length, Option, Some, None, Result, Ok, Err, MatchResult, ⊤}
+use Rattle.std.specs.Prelude.{◌≡◌, ℕ, ◌<◌, ◌⊎◌, Bool, true, List, [], ◌∷◌, ◌++◌, if◌then◌else◌, length, Option, Some, None, Result, Ok, Err, MatchResult, ⊤}
 use Rattle.fr_base.specs.Book.{Book, Frame, Variant, own}
 use Rattle.fr_base.specs.Cluster.{Cluster, ClusterFile}
 use Rattle.fr_base.specs.Queries.{figures, named, shown, signal_rows}
@@ -53,9 +53,10 @@ FindsPage old new lent r s v = (c : Cluster) (b : Book) → old c b → new c b 
     (λ _. (x : Variant) × (get b.variants v ≡ Some x) × (lent ≡ Some (page_in c.params b s v x)))
     (λ e. (e ≡ Unavailable) ⊎ ((e ≡ NoVariant) × (get b.variants v ≡ None)))
 
--- The report shows the page's supplier what it shows it of any variant of which the page is its rows; or the answer is Unavailable.
-abbrev pub ShowsOwn : PageData → Report Name → Result ReportRows Refusal → Type 0
-ShowsOwn page report r = (b : Book) (x : Variant) → own_rows_of page ≡ own_rows page.params b page.supplier x → MatchResult r
+-- The report shows the page's supplier what it shows it of any variant of which the page is its rows, released as it is or open; or the
+-- answer is Unavailable.
+abbrev pub ShowsOwn : PageData → Report Name ℕ → Result ReportRows Refusal → Type 0
+ShowsOwn page report r = (b : Book) (x : Variant) → own_rows_of page ≡ own_rows page.params b page.supplier x → page.released ≡ x.released → MatchResult r
     (λ answer. shown page.params (Supplier page.supplier) x report ≡ Ok answer)
     (λ e. (e ≡ Unavailable) ⊎ (shown page.params (Supplier page.supplier) x report ≡ Err e))
 
@@ -68,7 +69,7 @@ Gathers old new r v says = (c : Cluster) (b : Book) → old c b → new c b × M
 
 -- The report shows the integrator, of the variant if it is there, what the definition has; or the answer is Unavailable. The records
 -- stand for the same book as before.
-abbrev pub ShowsAll : Standing → Standing → Name → Report Name → Result ReportRows Refusal → Type 0
+abbrev pub ShowsAll : Standing → Standing → Name → Report Name ℕ → Result ReportRows Refusal → Type 0
 ShowsAll old new v report r = (c : Cluster) (b : Book) → old c b → IsSound c b → new c b × ((x : Variant) → get b.variants v ≡ Some x → MatchResult r
     (λ answer. shown c.params Integrator x report ≡ Ok answer)
     (λ e. (e ≡ Unavailable) ⊎ (shown c.params Integrator x report ≡ Err e)))

@@ -9,6 +9,7 @@ use crate::commands::carry_out;
 use crate::imports::import;
 use crate::lender::Lender;
 use crate::queries::reply;
+use crate::replacing::replace;
 use fr_base::{Actor, Answer, Ask, Checked, Config, Name, Refusal, Supplier, check};
 use fr_world::Records;
 use std::alloc::Global;
@@ -95,6 +96,7 @@ fn act<R: Lender>(
             Ok(Answer::Done)
         }
         Checked::Import(new) => import(alloc, records, new),
+        Checked::Replace(new) => replace(alloc, records, new),
         Checked::Query(query) => reply(alloc, records, actor, query),
     }
 }

@@ -12,7 +12,7 @@ mod suppliers;
 use crate::commands::common::change_common;
 use crate::commands::nodes::add_node;
 use crate::commands::rows::change_rows;
-use crate::commands::suppliers::add_supplier;
+use crate::commands::suppliers::{add_supplier, set_key};
 use crate::lender::Lender;
 use fr_base::{Command, Refusal};
 use std::alloc::Global;
@@ -34,6 +34,7 @@ pub(crate) fn carry_out<R: Lender>(
     match command {
         Command::Common(command) => change_common(alloc, records, command),
         Command::AddSupplier { supplier, key } => add_supplier(alloc, records, *supplier, *key),
+        Command::SetKey { supplier, key } => set_key(alloc, records, *supplier, *key),
         Command::AddNode { supplier, node } => add_node(alloc, records, *supplier, *node),
         Command::Rows {
             supplier,

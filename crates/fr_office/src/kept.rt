@@ -75,6 +75,7 @@ impl Kept {
             Edit::NewVariant { variant, .. } => self.pages.let_go_of_variant(*variant),
             Edit::SetReleased { variant } => self.pages.let_go_of_variant(*variant),
             Edit::NewSupplier { .. } => {}
+            Edit::SetKey { .. } => {}
             Edit::NewNode { supplier, .. } => self.pages.let_go_of_supplier(*supplier),
             Edit::Rows {
                 supplier,

@@ -13,6 +13,7 @@ mod listing;
 mod office;
 mod pages;
 mod queries;
+mod replacing;
 mod running;
 mod shelf;
 mod warm;

@@ -1,8 +1,8 @@
 //! Answers queries: by what the register holds, from one supplier's page, or gathered from all.
 #![tactic(auto, using(fr_world::proofs::ReadLaws::reads_none, fr_world::proofs::ReadLaws::reads_then))]
 
-ghost use Rattle.std.specs.Prelude.{◌≡◌, IsSome, Ok, OnOk};
-ghost use Rattle.fr_base.specs.Checks.{is_integrator};
+ghost use Rattle.std.specs.Prelude.{◌≡◌, IfSome, IsSome, IsTrue, Ok, OnOk};
+ghost use Rattle.fr_base.specs.Checks.{divides, has_repetition, is_integrator};
 ghost use Rattle.fr_base.specs.Queries.{found, held, reply};
 ghost use Rattle.fr_base.specs.declared.actor.Actor.TheVariants.{Integrator, Supplier};
 ghost use Rattle.fr_base.specs.declared.query.Query.TheVariants.{Variant as OfVariant};
@@ -11,25 +11,29 @@ ghost use Rattle.fr_office.specs.Shown.{FindsPage, ShowsAll, ShowsOwn};
 ghost use Rattle.fr_world.specs.Held.{Reads};
 
 mod cluster;
+mod exports;
 mod frames;
 mod gaps;
 mod grants;
 mod layout;
+mod load;
 mod nodes;
 mod schedule;
 mod suppliers;
 
 use crate::lender::Lender;
 use crate::queries::cluster::cluster_rows;
+use crate::queries::exports::{gather_export, page_export};
 use crate::queries::frames::{gather_frames, push_frames};
 use crate::queries::gaps::{gather_gaps, push_gaps};
 use crate::queries::grants::{gather_grants, page_grants};
 use crate::queries::layout::{gather_signals, push_signals};
+use crate::queries::load::gather_load;
 use crate::queries::nodes::node_rows;
 use crate::queries::schedule::{gather_schedule, page_schedule};
 use crate::queries::suppliers::supplier_names;
 use fr_base::{Actor, Answer, Inventory, Name, Query, Refusal, Report, ReportRows, Rows};
-use fr_world::Page;
+use fr_world::{Page, page_load, room};
 use std::alloc::Global;
 
 /// The answer to a query with checked values: to a supplier of its own rows, to the integrator of those
@@ -41,6 +45,7 @@ pub(crate) fn reply<R: Lender>(
     actor: &Actor,
     query: &Query<Name>,
 ) -> Result<Answer, Refusal>
+    requires { IsTrue (has_repetition (R.params records.old) query.now) }
     ensures reads { Reads R.clean R.params R.leaves records.old records.new }
     ensures replies { R.clean records.new → Replies (R.stands records.old) (R.stands records.new) result (λ c b. reply c.params b actor.now query.now) }
 {
@@ -63,6 +68,7 @@ fn find_rows<R: Lender>(
     actor: &Actor,
     query: &Query<Name>,
 ) -> Result<ReportRows, Refusal>
+    requires { IsTrue (has_repetition (R.params records.old) query.now) }
     ensures reads { Reads R.clean R.params R.leaves records.old records.new }
     ensures replies { R.clean records.new → Replies (R.stands records.old) (R.stands records.new) result (λ c b. found c.params b actor.now query.now) }
 {
@@ -106,6 +112,7 @@ fn of_variant<R: Lender>(
     variant: Name,
     report: &Report<Name>,
 ) -> Result<ReportRows, Refusal>
+    requires { IsTrue (divides (R.params records.old) report.now) }
     ensures reads { Reads R.clean R.params R.leaves records.old records.new }
     ensures replies { R.clean records.new → Replies (R.stands records.old) (R.stands records.new) result (λ c b. found c.params b actor.now (OfVariant variant report.now)) }
 {
@@ -167,6 +174,14 @@ fn show_all<R: Lender>(
                 None => Err(Refusal::NoFrame),
             }
         }
+        Report::Load => {
+            let rows = gather_load(alloc, records, &params, &suppliers, variant)?;
+            Ok(ReportRows::Load(rows))
+        }
+        Report::Room { .. } => Err(Refusal::NotYours),
+        Report::Export { header, part } => {
+            gather_export(alloc, records, &suppliers, variant, *header, *part)
+        }
     }
 }
 
@@ -178,6 +193,7 @@ fn of_supplier<R: Lender>(
     variant: Name,
     report: &Report<Name>,
 ) -> Result<ReportRows, Refusal>
+    requires { IsTrue (divides (R.params records.old) report.now) }
     ensures reads { Reads R.clean R.params R.leaves records.old records.new }
     ensures replies { R.clean records.new → Replies (R.stands records.old) (R.stands records.new) result (λ c b. found c.params b (Supplier supplier) (OfVariant variant report.now)) }
 {
@@ -194,6 +210,7 @@ pub(crate) fn find_page<R: Lender>(
 ) -> Result<(), Refusal>
     ensures reads { Reads R.clean R.params R.leaves records.old records.new }
     ensures lent { OnOk result (IsSome (R.lent records.new)) }
+    ensures params { IfSome (R.lent records.new) (λ page. page.params ≡ R.params records.old) }
     ensures page { R.clean records.new → FindsPage (R.stands records.old) (R.stands records.new) (R.lent records.new) result supplier variant }
 {
     if records.lend(alloc, supplier, variant)? {
@@ -205,6 +222,7 @@ pub(crate) fn find_page<R: Lender>(
 
 // What the report shows the page's supplier.
 fn show(alloc: Global, page: &Page, report: &Report<Name>) -> Result<ReportRows, Refusal>
+    requires { IsTrue (divides page.now.params report.now) }
     ensures { ShowsOwn page.now report.now result }
 {
     match report {
@@ -227,5 +245,11 @@ fn show(alloc: Global, page: &Page, report: &Report<Name>) -> Result<ReportRows,
             }
             Ok(ReportRows::Layout(rows))
         }
+        Report::Load => Ok(ReportRows::Load(page_load(alloc, page)?)),
+        Report::Room { frame, repetition } => {
+            let rows = room(alloc, page, *frame, *repetition)?;
+            Ok(ReportRows::Room(rows))
+        }
+        Report::Export { header, part } => Ok(page_export(alloc, page, *header, *part)?),
     }
 }

@@ -9,7 +9,7 @@ use Rattle.fr_base.specs.Sound.{IsSound}
 use Rattle.fr_base.specs.Step.{Outcome, act, knows, outcome, step}
 use Rattle.fr_base.specs.declared.actor.Actor.{Actor}
 use Rattle.fr_base.specs.declared.answer.Answer.{Answer}
-use Rattle.fr_base.specs.declared.answer.Answer.TheVariants.{Done, Imported, Report as Told, Refused, RefusedRow}
+use Rattle.fr_base.specs.declared.answer.Answer.TheVariants.{Done, Imported, Replaced, Report as Told, Refused, RefusedRow}
 use Rattle.fr_base.specs.declared.answer.ReportRows.{ReportRows}
 use Rattle.fr_base.specs.declared.params.Params.{Params}
 use Rattle.fr_base.specs.declared.refusal.Refusal.{Refusal}
@@ -20,7 +20,7 @@ use Rattle.fr_base.specs.declared.request.Request.{Request}
 use Rattle.fr_base.specs.declared.query.Query.{Query}
 use Rattle.fr_base.specs.declared.report.Report.{Report}
 use Rattle.fr_base.specs.declared.request.Request.TheVariants as request
-use Rattle.fr_base.proofs.SoundRefusing.{gives_each, gives_unless}
+use Rattle.fr_base.proofs.SoundRefusing.{gives_each, gives_unless, gives_when}
 use Rattle.fr_picture.specs.Reports.{Answered, MayRefuse, Reports, Standing, answer_to, asks}
 
 -- ---- the book stays
@@ -28,6 +28,7 @@ use Rattle.fr_picture.specs.Reports.{Answered, MayRefuse, Reports, Standing, ans
 abbrev IsQuery : Checked → Type 0
 IsQuery (checked.Command command) = ⊥
 IsQuery (checked.Import i) = ⊥
+IsQuery (checked.Replace r) = ⊥
 IsQuery (checked.Query query) = ⊤
 
 abbrev Same : Book → Outcome → Type 0
@@ -37,6 +38,7 @@ act_same : (c : Cluster) (b : Book) (actor : Actor) (what : Checked) → IsQuery
 unfolding act
 act_same c b actor (checked.Command command) is = absurd is
 act_same c b actor (checked.Import i) is = absurd is
+act_same c b actor (checked.Replace r) is = absurd is
 act_same c b actor (checked.Query query) is = gives_each _ (reply c.params b actor query) _ (λ rows _. refl)
 
 outcome_same : (b : Book) (r : Result Outcome Refusal) → IfOk r (Same b) → Same b (outcome b r)
@@ -53,9 +55,9 @@ stays asked queries c b actor = outcome_same b _ (
     gives_unless _ _ (knows b actor) _ (λ _.
     gives_each _ (check c.params actor asked) _ (λ what is. act_same c b actor what (subst (λ r. IfOk r IsQuery) is (queries c.params actor)))))
 
-pub query_stays : (asked : Query (List ℕ)) (c : Cluster) (b : Book) (actor : Actor) → (step c b actor (request.Query asked)).book ≡ b
+pub query_stays : (asked : Query (List ℕ) ℕ) (c : Cluster) (b : Book) (actor : Actor) → (step c b actor (request.Query asked)).book ≡ b
 unfolding check
-query_stays asked = stays (request.Query asked) (λ p actor. gives_each _ (query asked) _ (λ _ _. tt))
+query_stays asked = stays (request.Query asked) (λ p actor. gives_when _ _ _ _ (λ _. gives_each _ (query asked) _ (λ q _. gives_when _ _ _ _ (λ _. tt))))
 
 -- ---- what its answer tells
 
@@ -98,20 +100,21 @@ module _ {X : Type 0} (old new : Standing) (actor : Actor) (asked : Request) (ki
 -- ---- the rows of a report
 
 -- what was made of its answer
-module _ (old new : Standing) (actor : Actor) (asked : Query (List ℕ)) where
+module _ (old new : Standing) (actor : Actor) (asked : Query (List ℕ) ℕ) where
   of_answer : (answer : Answer) → Answered old new actor (request.Query asked) answer → Reports old new actor (request.Query asked) Told (rows_in answer)
   of_answer (Told all rows) answered =
       reported old new actor (request.Query asked) Told (Told all rows) (query_stays asked) answered (λ all rows e. cc) all rows rows refl refl
   of_answer (Refused e) answered = refused old new actor (request.Query asked) Told (Refused e) (query_stays asked) answered e (inr refl)
   of_answer Done answered = refused old new actor (request.Query asked) Told Done (query_stays asked) answered Unavailable (inl refl)
   of_answer (Imported n) answered = refused old new actor (request.Query asked) Told (Imported n) (query_stays asked) answered Unavailable (inl refl)
+  of_answer (Replaced n) answered = refused old new actor (request.Query asked) Told (Replaced n) (query_stays asked) answered Unavailable (inl refl)
   of_answer (RefusedRow n e) answered = refused old new actor (request.Query asked) Told (RefusedRow n e) (query_stays asked) answered Unavailable (inl refl)
 
   pub rows_reported : (answer : Answer) (r : Result ReportRows Refusal) → Answered old new actor (request.Query asked) answer → r ≡ rows_in answer → Reports old new actor (request.Query asked) Told r
   rows_reported answer r answered is = subst (Reports old new actor (request.Query asked) Told) (sym is) (of_answer answer answered)
 
 -- what is told of a variant's name is told of another that is the same
-pub report_same : (old new : Standing) (actor : Actor) (v w : List ℕ) (asked : Report (List ℕ)) (r : Result ReportRows Refusal) → w ≡ v → Reports old new actor (asks w asked) Told r → Reports old new actor (asks v asked) Told r
+pub report_same : (old new : Standing) (actor : Actor) (v w : List ℕ) (asked : Report (List ℕ) ℕ) (r : Result ReportRows Refusal) → w ≡ v → Reports old new actor (asks w asked) Told r → Reports old new actor (asks v asked) Told r
 report_same old new actor v w asked r alike reports = subst (λ name. Reports old new actor (asks name asked) Told r) alike reports
 
 module _ {X : Type 0} (old new : Standing) (actor : Actor) (asked : Request) (into : X → ReportRows) where

@@ -34,7 +34,7 @@ abbrev pub answer_to : Cluster → Book → Actor → Request → Answer
 answer_to c b actor request = (step c b actor request).answer
 
 -- the request for a report of a variant
-abbrev pub asks : List ℕ → Report (List ℕ) → Request
+abbrev pub asks : List ℕ → Report (List ℕ) ℕ → Request
 asks variant report = Query (Variant variant report)
 
 -- the request for the variants

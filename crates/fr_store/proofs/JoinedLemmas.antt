@@ -10,8 +10,8 @@ use Rattle.fr_base.specs.declared.name.Name.{Name}
 use Rattle.fr_world.specs.BookEdits.{applied, all_applied, changed_at}
 use Rattle.fr_world.specs.Fits.{Fits, AllFit}
 use Rattle.fr_world.specs.declared.edit.Edit.{Edit}
-use Rattle.fr_world.specs.declared.edit.Edit.TheVariants.{NewVariant, SetReleased, NewSupplier, NewNode, Rows, KeepImport}
-use Rattle.fr_world.proofs.JoiningLaws.{joining-is_listed}
+use Rattle.fr_world.specs.declared.edit.Edit.TheVariants.{NewVariant, SetReleased, NewSupplier, SetKey, NewNode, Rows, KeepImport}
+use Rattle.fr_world.proofs.JoiningLaws.{joining-is_listed, key-is_listed}
 use Rattle.fr_store.specs.Joined.{after_edit, after_edits}
 
 changed-file : (c : Cluster) (b : Book) (v : Name) (change : Variant → Variant) (o : Option Variant) → file_of c (changed_at b v change o) ≡ file_of c b
@@ -23,6 +23,7 @@ unfolding applied
 follows-one c b (NewVariant v parent depth) fits = refl
 follows-one c b (SetReleased v) fits = changed-file c b v _ (get b.variants v)
 follows-one c b (NewSupplier s key) fits = joining-is_listed c b s key fits
+follows-one c b (SetKey s key) fits = key-is_listed c b s key fits
 follows-one c b (NewNode s n) fits = refl
 follows-one c b (Rows s v what) fits = changed-file c b v _ (get b.variants v)
 follows-one c b (KeepImport s label v body rows) fits = refl
@@ -36,6 +37,7 @@ cluster_after-one : (f : ClusterFile) (edit : Edit) → (after_edit f edit).clus
 cluster_after-one f (NewVariant v parent depth) = refl
 cluster_after-one f (SetReleased v) = refl
 cluster_after-one f (NewSupplier s key) = refl
+cluster_after-one f (SetKey s key) = refl
 cluster_after-one f (NewNode s n) = refl
 cluster_after-one f (Rows s v what) = refl
 cluster_after-one f (KeepImport s label v body rows) = refl
@@ -54,14 +56,10 @@ after_next f edits at edit low is =
     let next : at + 1 ≡ suc at = omega arith in
     ap (λ n. after_edits f (take n edits)) next ∙ ap (after_edits f) (take-suc edits at edit low ∙ ap (λ x. take at edits ++ x ∷ []) is) ∙ after_more f (take at edits) edit
 
--- an edit by which no supplier joins
-pub after_other : (f : ClusterFile) (edit : Edit) → ((s : Name) (key : Key) → edit ≡ NewSupplier s key → ⊥) → f ≡ after_edit f edit
-after_other f (NewSupplier s key) other = absurd (other s key refl)
-after_other f (NewVariant v parent depth) other = refl
-after_other f (SetReleased v) other = refl
-after_other f (NewNode s n) other = refl
-after_other f (Rows s v what) other = refl
-after_other f (KeepImport s label v body rows) other = refl
+-- where there is no other file, the file stays
+pub no_other : (o : Option ClusterFile) (f : ClusterFile) → ((g : ClusterFile) → o ≡ Some g → ⊥) → unwrap_or o f ≡ f
+no_other None f none = refl
+no_other (Some g) f none = absurd (none g refl)
 
 -- what is lent of the one file, if it is there, or else the other
 pub lent_now : (lent : Option (Bor ClusterFile)) (other : Bor ClusterFile) (o : Option ClusterFile) → option_copied lent ≡ o → (unwrap_or lent other).now ≡ unwrap_or o other.now

@@ -92,6 +92,16 @@ without_cluster t = record t { cluster = [] }
 abbrev pub with_supplier : SupplierRow → Tables → Tables
 with_supplier s t = record t { suppliers = t.suppliers ++ s ∷ [] }
 
+abbrev pub is_supplier : List ℕ → SupplierRow → Bool
+is_supplier name s = bytes_eq s.name name
+
+abbrev pub keyed_row : List ℕ → SupplierRow → SupplierRow
+keyed_row key s = record s { key = key }
+
+-- the supplier has this key
+abbrev pub with_key : List ℕ → List ℕ → Tables → Tables
+with_key name key t = record t { suppliers = map (λ s. if is_supplier name s then keyed_row key s else s) t.suppliers }
+
 abbrev pub shows_supplier : SupplierRow → Row
 shows_supplier s = Text s.name ∷ Text s.key ∷ []
 

@@ -218,7 +218,7 @@ const HEAD_TOO_LARGE: &str =
     "HTTP/1.1 431 Request Header Fields Too Large\r\ncontent-length: 0\r\nconnection: close\r\n\r\n";
 
 /// What is sent, and the whole reply.
-const REPLIES: [(&str, &str); 22] = [
+const REPLIES: [(&str, &str); 24] = [
     (SCHEDULE, SCHEDULED),
     (
         "GET /v1/variants/v1/schedule?x=1 HTTP/1.0\r\nx-office-key:\t supplier01 \t\r\n\r\n",
@@ -227,6 +227,14 @@ const REPLIES: [(&str, &str); 22] = [
     (
         "POST /v1/commands HTTP/1.0\r\nx-office-key: supplier01\r\nexpect: 100-continue\r\ncontent-length: 34\r\n\r\n{\"do\":\"grants\",\"variant\":\"v1\"}    what follows the body",
         DONE,
+    ),
+    (
+        "PUT /v1/variants/v1/rows HTTP/1.1\r\nx-office-key: supplier01\r\ncontent-length: 11\r\n\r\nframe,node\n",
+        DONE,
+    ),
+    (
+        "GET /v1/variants/v1/exports/frames/x HTTP/1.1\r\nx-office-key: nobody123\r\n\r\n",
+        BAD_TEXT,
     ),
     ("GET /v1/variants/v1/frames HTTP/1.1\r\n\r\n", UNKNOWN_KEY),
     (
@@ -304,7 +312,7 @@ fn each_request_has_its_reply(rt: HostRuntime) -> Result<(), Fail> {
         assert!(rt; done.is_ok(), "{input}");
         assert_eq!(rt; written.as_slice(), reply.as_bytes(), "{input}");
     }
-    assert_eq!(rt; desk.asked, 3);
+    assert_eq!(rt; desk.asked, 4);
     Ok(())
 }
 

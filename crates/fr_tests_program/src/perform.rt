@@ -3,7 +3,7 @@
 use crate::fixture::{CLUSTER, PLAN, carried_out};
 use fr_base::{Query, Report};
 use fr_cli::perform::perform;
-use fr_cli::{Inquiry, Job};
+use fr_cli::{Delivery, DeliveryKind, Inquiry, Job};
 use fr_desks::file_desk;
 use sqlite::Unknown;
 use std::fs;
@@ -46,6 +46,17 @@ fn report_of<'a>(db: &'a str, report: Report<&'a str>) -> Job<'a> {
     Job::Report { db, query }
 }
 
+// The job that delivers a file of rows of `v1` to the register file.
+fn delivery_of<'a>(db: &'a str, kind: DeliveryKind<'a>, file: &'a str) -> Job<'a> {
+    let delivery = Delivery {
+        key: "supplier01",
+        variant: "v1",
+        kind,
+        file,
+    };
+    Job::Deliver { db, delivery }
+}
+
 // Opens a variant in the register file, adds a node and grants it a slot.
 fn granted(rt: &HostRuntime, db: &str) -> Result<(), Fail> {
     let mut desk = file_desk::open(rt, db, Unknown).map_err(|(fault, _)| fault)?;
@@ -58,7 +69,6 @@ fn granted(rt: &HostRuntime, db: &str) -> Result<(), Fail> {
 #[test]
 fn each_command_finds_what_the_others_did(rt: HostRuntime) -> Result<(), Fail> {
     let (db, config, file) = ("performed.db", "performed.toml", "performed.csv");
-    let variant = "v1";
     fs::write(&rt, config, CLUSTER)?;
     fs::write(&rt, file, PLACEMENTS)?;
     let create = Job::Create { db, config };
@@ -67,14 +77,10 @@ fn each_command_finds_what_the_others_did(rt: HostRuntime) -> Result<(), Fail> {
     let gaps = report_of(db, Report::Gaps);
     assert!(rt; fails(&rt, &gaps, "{\"no\":10,\"refused\":\"NoVariant\"}\n"));
     granted(&rt, db)?;
-    let import = Job::Import {
-        db,
-        key: "supplier01",
-        variant,
-        label: "l1",
-        file,
-    };
+    let import = delivery_of(db, DeliveryKind::Import { label: "l1" }, file);
     assert!(rt; prints(&rt, &import, "{\"ok\":\"imported\",\"rows\":1}\n"));
+    let replacement = delivery_of(db, DeliveryKind::Replacement, file);
+    assert!(rt; prints(&rt, &replacement, "{\"ok\":\"replaced\",\"rows\":1}\n"));
     assert!(rt;
         prints(
             &rt,

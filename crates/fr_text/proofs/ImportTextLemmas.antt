@@ -63,7 +63,7 @@ unfolding row_at refuse◌when◌ ◌>>◌
 row-within p h line fields within = rw (le-ltb 513 line within) refl
 
 -- the rows from a record on: its own, and unless that is refused those after it
-rows-next : (p : Params) (h : Header) (line : ℕ) (fields : List (List ℕ)) (rest : Records) → line ≤ 513
+pub rows-next : (p : Params) (h : Header) (line : ℕ) (fields : List (List ℕ)) (rest : Records) → line ≤ 513
     → up_to_refused (rows_from p h line (fields ∷ rest))
     ≡ record { line = line; row = row_of p h fields } ∷ (if is_err (row_of p h fields) then [] else up_to_refused (rows_from p h (line + 1) rest))
 unfolding up_to_refused rows_from
@@ -132,7 +132,7 @@ goes-on cfg s fields field (c ∷ rest) =
     by false more h = h
 
 -- no text has no records
-at-end : (cfg : Config) (m : ℕ) → records_from cfg m st.StartRecord [] ≡ []
+pub at-end : (cfg : Config) (m : ℕ) → records_from cfg m st.StartRecord [] ≡ []
 unfolding records_from next_record
 at-end cfg zero = refl
 at-end cfg (suc m) = refl

@@ -5,5 +5,10 @@ pub mod FieldsLemmas
 pub mod ImportTextLemmas
 pub mod WordsLemmas
 pub mod ReportLemmas
+pub mod RoomLemmas
 pub mod AnswerTextLemmas
 pub mod ReadBackLaws
+pub mod FileLemmas
+pub mod RecordLemmas
+pub mod ExportLemmas
+pub mod ExportLaws

@@ -108,6 +108,16 @@ set_rows style first others all (r ∷ rows) row old one two three new some read
     whole ∙ ap (λ text. old ++ text) (set_in-rows style first others all row rows)
     ∙ ap (λ r. old ++ set_in style (lines_in first others all (r ∷ rows))) read
 
+-- a first line and those of rows behind it are set by the marks of a style
+pub set_below : (style : Style) (l : List ℕ) (ls : List (List ℕ)) (old one two three new : List ℕ)
+    → one ≡ old ++ before_mark style → two ≡ one ++ l → three ≡ two ++ marked (between_mark style) ls → new ≡ three ++ after_mark style
+    → new ≡ old ++ set_in style (l ∷ ls)
+set_below style l ls old one two three new e1 e2 e3 e4 =
+    let mark = between_mark style in
+    adds old _ one _ new e1 (adds one _ two _ new e2 (adds two _ three _ new e3 e4))
+    ∙ ap (λ text. old ++ (before_mark style ++ text)) (sym (append_assoc l (marked mark ls) (after_mark style)))
+    ∙ ap (λ text. old ++ text) (framed style l ls)
+
 -- and no rows make no lines
 pub set_in-none : {R : Type 0} (style : Style) (first : Bool → R → List ℕ) (others : Bool → R → List (List ℕ)) (all : Bool) (rows : List R) (old : List ℕ)
     → length rows < 1 → old ≡ old ++ set_in style (lines_in first others all rows)

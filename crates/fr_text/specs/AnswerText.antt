@@ -5,7 +5,7 @@ use Rattle.fr_base.specs.Channels.{text_of_channel}
 use Rattle.fr_base.specs.Queries.{name_of_rows}
 use Rattle.fr_base.specs.Refusals.{number_of, name_of}
 use Rattle.fr_base.specs.declared.answer.Answer.{Answer}
-use Rattle.fr_base.specs.declared.answer.Answer.TheVariants.{Done, Imported, Report, Refused, RefusedRow}
+use Rattle.fr_base.specs.declared.answer.Answer.TheVariants.{Done, Imported, Replaced, Report, Refused, RefusedRow}
 use Rattle.fr_base.specs.declared.refusal.Refusal.{Refusal}
 use Rattle.fr_base.specs.declared.refusal.Refusal.TheVariants.{CellTaken, BitTaken}
 use Rattle.fr_text.specs.Report.{lines_of, lines_of_rows}
@@ -32,7 +32,11 @@ text_of_report lines query = codes "{\"lines\":[" ++ json_lines lines ++ codes "
 abbrev pub text_of_imported : ℕ → List ℕ
 text_of_imported rows = codes "{\"ok\":\"imported\",\"rows\":" ++ decimal rows ++ codes "}"
 
--- an import's refused row: its line, and the text of its own refusal
+-- a replacement that was carried out, of so many rows
+abbrev pub text_of_replaced : ℕ → List ℕ
+text_of_replaced rows = codes "{\"ok\":\"replaced\",\"rows\":" ++ decimal rows ++ codes "}"
+
+-- a file's refused row: its line, and the text of its own refusal
 abbrev pub text_of_row : ℕ → Refusal → List ℕ
 text_of_row line refusal = codes "{\"line\":" ++ decimal line ++ codes ",\"no\":29,\"refused\":\"BadRow\",\"row\":" ++ text_of_refusal refusal ++ codes "}"
 
@@ -40,6 +44,7 @@ text_of_row line refusal = codes "{\"line\":" ++ decimal line ++ codes ",\"no\":
 unfoldable pub text_of : Answer → List ℕ
 text_of Done = codes "{\"ok\":\"done\"}"
 text_of (Imported rows) = text_of_imported rows
+text_of (Replaced rows) = text_of_replaced rows
 text_of (Report all rows) = text_of_report (lines_of_rows all rows) (name_of_rows rows)
 text_of (Refused refusal) = text_of_refusal refusal
 text_of (RefusedRow line refusal) = text_of_row line refusal

@@ -6,11 +6,11 @@ use Rattle.serde_json.specs.Data.{Data, Members, no_members, string, number, uns
 use Rattle.serde_json.specs.Read.{read}
 use Rattle.fr_base.specs.Queries.{word_of_query}
 use Rattle.fr_base.specs.declared.request.Request.{Request}
-use Rattle.fr_base.specs.declared.request.Request.TheVariants.{OpenVariant, Release, AddSupplier, AddNode, Grant, Revoke, AddFrame, DropFrame, Place, Unplace, AddSignal, DropSignal, Import, Query}
+use Rattle.fr_base.specs.declared.request.Request.TheVariants.{OpenVariant, Release, AddSupplier, SetKey, AddNode, Grant, Revoke, AddFrame, DropFrame, Place, Unplace, AddSignal, DropSignal, Import, Replace, Query}
 use Rattle.fr_base.specs.declared.query.Query as asked
 use Rattle.fr_base.specs.declared.query.Query.TheVariants.{Register as OfRegister, Variant as OfVariant}
 use Rattle.fr_base.specs.declared.report.Report.{Report}
-use Rattle.fr_base.specs.declared.report.Report.TheVariants.{Layout}
+use Rattle.fr_base.specs.declared.report.Report.TheVariants.{Layout, Room, Export}
 use Rattle.fr_text.specs.RequestText.{request_of}
 
 -- an object's fields, each a name and its value
@@ -27,21 +27,24 @@ abbrev pub text_or_null : Option (List ℕ) → Data
 text_or_null None = null
 text_or_null (Some text) = string text
 
--- the name of the frame, where the report is of one
-abbrev pub frame_in : Report (List ℕ) → List (List ℕ × Data)
-frame_in (Layout f) = (codes "frame", string f) ∷ []
-frame_in _ = []
+-- the fields of a report's own: the name of a frame, and a number
+abbrev pub report_fields : Report (List ℕ) ℕ → List (List ℕ × Data)
+report_fields (Layout f) = (codes "frame", string f) ∷ []
+report_fields (Room f r) = (codes "frame", string f) ∷ (codes "repetition", count r) ∷ []
+report_fields (Export header k) = (codes "part", count k) ∷ []
+report_fields _ = []
 
--- the names in a query
-abbrev pub names_in : asked.Query (List ℕ) → List (List ℕ × Data)
-names_in (OfRegister held) = []
-names_in (OfVariant v report) = (codes "variant", string v) ∷ frame_in report
+-- the fields of a query
+abbrev pub query_fields : asked.Query (List ℕ) ℕ → List (List ℕ × Data)
+query_fields (OfRegister held) = []
+query_fields (OfVariant v report) = (codes "variant", string v) ∷ report_fields report
 
 -- the fields that a request is written with
 unfoldable pub fields_of : Request → Members
 fields_of (OpenVariant v parent) = fields ((codes "do", string (codes "open_variant")) ∷ (codes "variant", string v) ∷ (codes "from", text_or_null parent) ∷ [])
 fields_of (Release v) = fields ((codes "do", string (codes "release")) ∷ (codes "variant", string v) ∷ [])
 fields_of (AddSupplier s key) = fields ((codes "do", string (codes "add_supplier")) ∷ (codes "supplier", string s) ∷ (codes "key", string key) ∷ [])
+fields_of (SetKey s key) = fields ((codes "do", string (codes "set_key")) ∷ (codes "supplier", string s) ∷ (codes "key", string key) ∷ [])
 fields_of (AddNode s n) = fields ((codes "do", string (codes "add_node")) ∷ (codes "supplier", string s) ∷ (codes "node", string n) ∷ [])
 fields_of (Grant v k c s n) = fields ((codes "do", string (codes "grant")) ∷ (codes "variant", string v) ∷ (codes "slot", count k) ∷ (codes "channel", string c) ∷ (codes "supplier", string s) ∷ (codes "node", string n) ∷ [])
 fields_of (Revoke v k c s) = fields ((codes "do", string (codes "revoke")) ∷ (codes "variant", string v) ∷ (codes "slot", count k) ∷ (codes "channel", string c) ∷ (codes "supplier", string s) ∷ [])
@@ -52,7 +55,14 @@ fields_of (Unplace v f k c b r) = fields ((codes "do", string (codes "unplace"))
 fields_of (AddSignal v f x start length order) = fields ((codes "do", string (codes "add_signal")) ∷ (codes "variant", string v) ∷ (codes "frame", string f) ∷ (codes "signal", string x) ∷ (codes "start", count start) ∷ (codes "length", count length) ∷ (codes "order", string order) ∷ [])
 fields_of (DropSignal v f x) = fields ((codes "do", string (codes "drop_signal")) ∷ (codes "variant", string v) ∷ (codes "frame", string f) ∷ (codes "signal", string x) ∷ [])
 fields_of (Import v label body) = fields ((codes "do", string (codes "import")) ∷ (codes "variant", string v) ∷ (codes "label", string label) ∷ (codes "body", string body) ∷ [])
-fields_of (Query query) = fields ((codes "do", string (word_of_query query)) ∷ names_in query)
+fields_of (Replace v body) = fields ((codes "do", string (codes "replace")) ∷ (codes "variant", string v) ∷ (codes "body", string body) ∷ [])
+fields_of (Query query) = fields ((codes "do", string (word_of_query query)) ∷ query_fields query)
+
+-- a query's numbers
+abbrev pub query_numbers : asked.Query (List ℕ) ℕ → List ℕ
+query_numbers (OfVariant v (Room f r)) = r ∷ []
+query_numbers (OfVariant v (Export header k)) = k ∷ []
+query_numbers _ = []
 
 -- a request's numbers
 abbrev pub numbers_of : Request → List ℕ
@@ -61,6 +71,7 @@ numbers_of (Revoke v k c s) = k ∷ []
 numbers_of (Place v f k c b r) = k ∷ b ∷ r ∷ []
 numbers_of (Unplace v f k c b r) = k ∷ b ∷ r ∷ []
 numbers_of (AddSignal v f x start length order) = start ∷ length ∷ []
+numbers_of (Query query) = query_numbers query
 numbers_of _ = []
 
 -- A text that says in JSON what is written for a request, whose numbers are below 2 ^ 32, is that request.

@@ -4,7 +4,9 @@ pub mod Fields
 pub mod RequestText
 pub mod ImportText
 pub mod Words
+pub mod RoomLines
 pub mod Report
 pub mod Styles
 pub mod AnswerText
 pub mod Laws
+pub mod ExportLaws

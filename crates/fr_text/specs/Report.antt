@@ -1,10 +1,11 @@
 -- Report: the lines of each report, with a gap right in seven places. The supplier's name stands at the end of each but
--- `AT` lines and those of the cluster and of variants, for the integrator alone.
-use Rattle.std.specs.Prelude.{ℕ, Bool, List, [], ◌∷◌, map, codes, decimal, Option, Some, None, if◌then◌else◌}
+-- `AT` lines, those of the cluster and of variants, and those of a room, for the integrator alone.
+use Rattle.std.specs.Prelude.{ℕ, Bool, List, [], ◌∷◌, ◌++◌, map, codes, decimal, Option, Some, None, if◌then◌else◌}
 use Rattle.std.specs.List.{flat_map}
 use Rattle.fr_base.specs.Channels.{text_of_channel, text_of_channels}
+use Rattle.fr_base.specs.ImportRows.{spelled}
 use Rattle.fr_base.specs.Queries.{key_of_figure}
-use Rattle.fr_base.specs.Signals.{text_of_order}
+use Rattle.fr_base.specs.Signals.{SignalData, text_of_order}
 use Rattle.fr_base.specs.declared.answer.Answer.{Answer}
 use Rattle.fr_base.specs.declared.answer.Answer.TheVariants.{Report}
 use Rattle.fr_base.specs.declared.answer.ReportRows.{ReportRows}
@@ -18,9 +19,17 @@ use Rattle.fr_base.specs.declared.answer.FrameRow.{FrameRow}
 use Rattle.fr_base.specs.declared.answer.Sending.{Sending}
 use Rattle.fr_base.specs.declared.answer.GapRow.{GapRow}
 use Rattle.fr_base.specs.declared.answer.SignalRow.{SignalRow}
+use Rattle.fr_base.specs.declared.answer.LoadRow.{LoadRow}
+use Rattle.fr_base.specs.declared.answer.LaneHolder.{LaneHolder}
+use Rattle.fr_base.specs.declared.answer.FrameRecord.{FrameRecord}
+use Rattle.fr_base.specs.declared.answer.PlacementRecord.{PlacementRecord}
+use Rattle.fr_base.specs.declared.answer.SignalRecord.{SignalRecord}
+use Rattle.fr_base.specs.declared.import.Header.{Header}
+use Rattle.fr_base.specs.declared.import.Header.TheVariants as header
 use Rattle.fr_base.specs.declared.name.Name.{Name}
 use Rattle.fr_base.specs.declared.placement.Placement.{Placement}
-use Rattle.fr_text.specs.Words.{two_digits, four_digits, right_in, gap_word, line, shown_to}
+use Rattle.fr_text.specs.RoomLines.{room_lines}
+use Rattle.fr_text.specs.Words.{two_digits, four_digits, right_in, gap_word, line, comma_line, shown_to}
 
 -- slot, channel and node
 unfoldable pub grant_line : Bool → GrantRow → List ℕ
@@ -73,6 +82,37 @@ variant_line v = line (v.variant ∷ parent_word v.parent ∷ decimal v.depth �
 unfoldable pub node_line : Bool → NodeRow → List ℕ
 node_line all n = line (n.node ∷ shown_to all n.supplier)
 
+-- the node that holds a lane, or a hyphen; for the integrator then the supplier, or a hyphen
+abbrev pub holder_words : Bool → Option LaneHolder → List (List ℕ)
+holder_words all None = codes "-" ∷ shown_to all (codes "-")
+holder_words all (Some h) = h.node ∷ shown_to all h.supplier
+
+-- slot, channel, used cycles, count of cycles, and who holds the lane
+unfoldable pub load_line : Bool → LoadRow → List ℕ
+load_line all r = line (four_digits r.slot ∷ text_of_channel r.channel ∷ two_digits r.used ∷ two_digits r.cycles ∷ holder_words all r.holder)
+
+-- the names of a file's fields
+unfoldable pub header_line : Bool → Header → List ℕ
+header_line all header = comma_line (spelled header ++ shown_to all (codes "supplier"))
+
+-- slot, channels, base and repetition
+abbrev pub placement_fields : Placement → List (List ℕ)
+placement_fields q = decimal q.slot ∷ text_of_channels q.channels ∷ decimal q.cycles.base ∷ decimal q.cycles.repetition ∷ []
+
+-- name, start, length and order
+abbrev pub signal_fields : SignalData → List (List ℕ)
+signal_fields s = s.name ∷ decimal s.start ∷ decimal s.length ∷ text_of_order s.order ∷ []
+
+-- a frame as a record of a file, and so each of its placements, and of its signals
+unfoldable pub frame_record : Bool → FrameRecord → List ℕ
+frame_record all r = comma_line (r.frame ∷ r.node ∷ shown_to all r.supplier)
+
+unfoldable pub placement_record : Bool → PlacementRecord → List ℕ
+placement_record all r = comma_line (r.frame ∷ r.node ∷ placement_fields r.placement ++ shown_to all r.supplier)
+
+unfoldable pub signal_record : Bool → SignalRecord → List ℕ
+signal_record all r = comma_line (r.frame ∷ signal_fields r.signal ++ shown_to all r.supplier)
+
 -- the lines of a report's rows
 unfoldable pub lines_of_rows : Bool → ReportRows → List (List ℕ)
 lines_of_rows all (rows.Cluster cluster) = map cluster_line cluster
@@ -83,6 +123,11 @@ lines_of_rows all (rows.Frames frames) = flat_map (frame_lines all) frames
 lines_of_rows all (rows.Schedule sendings) = map (schedule_line all) sendings
 lines_of_rows all (rows.Gaps gaps) = map (gap_line all) gaps
 lines_of_rows all (rows.Layout signals) = map (signal_line all) signals
+lines_of_rows all (rows.Load lanes) = map (load_line all) lanes
+lines_of_rows all (rows.Room places) = room_lines places
+lines_of_rows all (rows.FrameRecords records) = header_line all header.Frames ∷ map (frame_record all) records
+lines_of_rows all (rows.PlacementRecords records) = header_line all header.Placements ∷ map (placement_record all) records
+lines_of_rows all (rows.SignalRecords records) = header_line all header.Signals ∷ map (signal_record all) records
 
 -- the lines of an answer; one that answers no query has none
 unfoldable pub lines_of : Answer → List (List ℕ)

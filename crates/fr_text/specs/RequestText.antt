@@ -6,12 +6,14 @@ use Rattle.std.specs.Str.{bytes_eq}
 use Rattle.serde_json.specs.Data.{Members}
 use Rattle.serde_json.specs.Find.{as_object}
 use Rattle.fr_base.specs.declared.request.Request.{Request}
-use Rattle.fr_base.specs.declared.request.Request.TheVariants.{OpenVariant, Release, AddSupplier, AddNode, Grant, Revoke, AddFrame, DropFrame, Place, Unplace, AddSignal, DropSignal, Import, Query}
+use Rattle.fr_base.specs.declared.request.Request.TheVariants.{OpenVariant, Release, AddSupplier, SetKey, AddNode, Grant, Revoke, AddFrame, DropFrame, Place, Unplace, AddSignal, DropSignal, Import, Replace, Query}
 use Rattle.fr_base.specs.declared.query.Inventory.{Inventory}
 use Rattle.fr_base.specs.declared.query.Inventory.TheVariants.{Cluster, Variants, Nodes}
 use Rattle.fr_base.specs.declared.query.Query.TheVariants.{Register as OfRegister, Variant as OfVariant}
 use Rattle.fr_base.specs.declared.report.Report.{Report}
-use Rattle.fr_base.specs.declared.report.Report.TheVariants.{Grants, Frames, Schedule, Gaps, Layout}
+use Rattle.fr_base.specs.declared.report.Report.TheVariants.{Grants, Frames, Schedule, Gaps, Layout, Load, Room, Export}
+use Rattle.fr_base.specs.declared.import.Header.{Header}
+use Rattle.fr_base.specs.declared.import.Header.TheVariants as header
 use Rattle.fr_text.specs.Fields.{◌>>=◌, ◌>>◌, provided, value_of, only, text, text_or_null, whole}
 
 -- ---- the integrator's
@@ -35,6 +37,13 @@ add_supplier fields = do
   supplier ← text (codes "supplier") fields
   key ← text (codes "key") fields
   Some (AddSupplier supplier key)
+
+unfoldable pub set_key : Members → Option Request
+set_key fields = do
+  provided (only (codes "do" ∷ codes "supplier" ∷ codes "key" ∷ []) fields)
+  supplier ← text (codes "supplier") fields
+  key ← text (codes "key") fields
+  Some (SetKey supplier key)
 
 unfoldable pub add_node : Members → Option Request
 add_node fields = do
@@ -128,6 +137,13 @@ import fields = do
   body ← text (codes "body") fields
   Some (Import variant label body)
 
+unfoldable pub replace : Members → Option Request
+replace fields = do
+  provided (only (codes "do" ∷ codes "variant" ∷ codes "body" ∷ []) fields)
+  variant ← text (codes "variant") fields
+  body ← text (codes "body") fields
+  Some (Replace variant body)
+
 -- ---- queries
 
 -- what the register holds
@@ -136,8 +152,8 @@ inventory asked fields = do
   provided (only (codes "do" ∷ []) fields)
   Some (Query (OfRegister asked))
 
--- a report of a variant that names no frame
-unfoldable pub report : Report (List ℕ) → Members → Option Request
+-- a report of a variant that has no fields of its own
+unfoldable pub report : Report (List ℕ) ℕ → Members → Option Request
 report asked fields = do
   provided (only (codes "do" ∷ codes "variant" ∷ []) fields)
   variant ← text (codes "variant") fields
@@ -151,6 +167,23 @@ layout fields = do
   frame ← text (codes "frame") fields
   Some (Query (OfVariant variant (Layout frame)))
 
+-- the room for a frame
+unfoldable pub room : Members → Option Request
+room fields = do
+  provided (only (codes "do" ∷ codes "variant" ∷ codes "frame" ∷ codes "repetition" ∷ []) fields)
+  variant ← text (codes "variant") fields
+  frame ← text (codes "frame") fields
+  repetition ← whole (codes "repetition") fields
+  Some (Query (OfVariant variant (Room frame repetition)))
+
+-- a part of the records below a header
+unfoldable pub export : Header → Members → Option Request
+export header fields = do
+  provided (only (codes "do" ∷ codes "variant" ∷ codes "part" ∷ []) fields)
+  variant ← text (codes "variant") fields
+  part ← whole (codes "part") fields
+  Some (Query (OfVariant variant (Export header part)))
+
 -- ---- the request
 
 -- what each name of a request reads
@@ -159,6 +192,7 @@ readers =
     (codes "open_variant", open_variant)
     ∷ (codes "release", release)
     ∷ (codes "add_supplier", add_supplier)
+    ∷ (codes "set_key", set_key)
     ∷ (codes "add_node", add_node)
     ∷ (codes "grant", grant)
     ∷ (codes "revoke", revoke)
@@ -169,6 +203,7 @@ readers =
     ∷ (codes "add_signal", add_signal)
     ∷ (codes "drop_signal", drop_signal)
     ∷ (codes "import", import)
+    ∷ (codes "replace", replace)
     ∷ (codes "cluster", inventory Cluster)
     ∷ (codes "variants", inventory Variants)
     ∷ (codes "nodes", inventory Nodes)
@@ -177,6 +212,11 @@ readers =
     ∷ (codes "schedule", report Schedule)
     ∷ (codes "gaps", report Gaps)
     ∷ (codes "layout", layout)
+    ∷ (codes "load", report Load)
+    ∷ (codes "room", room)
+    ∷ (codes "export_frames", export header.Frames)
+    ∷ (codes "export_placements", export header.Placements)
+    ∷ (codes "export_signals", export header.Signals)
     ∷ []
 
 -- the request that the fields are

@@ -1,5 +1,6 @@
--- Words of a line: they stand with one space between. A number has its digits with leading zeros. A text stands right
--- in so many places. A gap is its number, or `never`. The supplier's name is for the integrator alone.
+-- Words of a line: they stand with one space between; the fields of a record have commas between. A number has its
+-- digits with leading zeros. A text stands right in so many places. A gap is its number, or `never`. The supplier's
+-- name is for the integrator alone.
 use Rattle.std.specs.Prelude.{◌≡◌, ℕ, ◌+◌, ◌-◌, ◌/◌, ◌%◌, Bool, List, [], ◌∷◌, ◌++◌, codes, decimal, length, replicate, if◌then◌else◌, Option, Some, None}
 use Rattle.std.specs.List.{join_by, flat_map}
 
@@ -31,6 +32,14 @@ line words = join_by (λ word. word) (codes " ") words
 -- words behind others, a space before each
 abbrev pub behind : List (List ℕ) → List ℕ
 behind words = flat_map (λ word. codes " " ++ word) words
+
+-- a record has its fields with one comma between
+abbrev pub comma_line : List (List ℕ) → List ℕ
+comma_line fields = join_by (λ field. field) (codes ",") fields
+
+-- fields behind others, a comma before each
+abbrev pub comma_behind : List (List ℕ) → List ℕ
+comma_behind fields = flat_map (λ field. codes "," ++ field) fields
 
 -- the supplier's name, for the integrator, who sees the rows of all
 abbrev pub shown_to : Bool → List ℕ → List (List ℕ)

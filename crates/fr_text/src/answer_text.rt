@@ -1,6 +1,6 @@
 //! Writes answers as compact JSON.
 ghost use Rattle.std.specs.Prelude.{◌≡◌, ◌++◌, codes, IfOk, OnOk, OnErr};
-ghost use Rattle.fr_text.specs.AnswerText.{text_of, text_of_report, text_of_imported, text_of_plain, text_of_refusal, text_of_row};
+ghost use Rattle.fr_text.specs.AnswerText.{text_of, text_of_report, text_of_imported, text_of_plain, text_of_refusal, text_of_replaced, text_of_row};
 ghost use Rattle.fr_base.specs.declared.refusal.Refusal.TheVariants as refused;
 ghost use Rattle.fr_base.specs.Queries.{name_of_rows};
 ghost use Rattle.fr_text.specs.Report.{lines_of_rows};
@@ -30,6 +30,7 @@ fn push_answer(answer: &Answer, out: &mut Vec<u8>) -> Result<(), NoMemory>
     match answer {
         Answer::Done => push("{\"ok\":\"done\"}", out),
         Answer::Imported { rows } => push_imported(*rows, out),
+        Answer::Replaced { rows } => push_replaced(*rows, out),
         Answer::Report { all, rows } => push_report(rows, *all, out),
         Answer::Refused(refusal) => push_refusal(refusal, out),
         Answer::RefusedRow { line, refusal } => push_refused_row(*line, refusal, out),
@@ -60,7 +61,18 @@ fn push_imported(rows: u32, out: &mut Vec<u8>) -> Result<(), NoMemory>
     push("}", out)
 }
 
-// Appends the answer to an import with a refused row: its line, and its own refusal.
+// Appends the answer to a replacement of so many rows.
+#[tactic(auto, using(crate::proofs::WordsLemmas::extending))]
+fn push_replaced(rows: u32, out: &mut Vec<u8>) -> Result<(), NoMemory>
+    ensures ok { OnOk result (out.new.items ≡ out.old.items ++ text_of_replaced rows) }
+    ensures err { OnErr result (Extends out.old.items out.new.items) }
+{
+    push("{\"ok\":\"replaced\",\"rows\":", out)?;
+    push_decimal(rows, out)?;
+    push("}", out)
+}
+
+// Appends the answer to a file with a refused row: its line, and its own refusal.
 #[tactic(auto, using(crate::proofs::WordsLemmas::extending))]
 fn push_refused_row(line: u32, refusal: &Refusal, out: &mut Vec<u8>) -> Result<(), NoMemory>
     ensures ok { OnOk result (out.new.items ≡ out.old.items ++ text_of_row line refusal.now) }

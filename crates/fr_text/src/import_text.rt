@@ -211,10 +211,10 @@ fn plain_placement(params: &Params, fields: &ByteRecord) -> Option<Row>
     }
     let frame = Name::from_bytes(fields.get(0)?)?;
     let node = Name::from_bytes(fields.get(1)?)?;
-    let slot = number(fields.get(2)?)?;
+    let slot = read_number(fields.get(2)?)?;
     let channels = fields.get(3)?;
-    let base = number(fields.get(4)?)?;
-    let repetition = number(fields.get(5)?)?;
+    let base = read_number(fields.get(4)?)?;
+    let repetition = read_number(fields.get(5)?)?;
     Row::place(params, frame, node, slot, channels, base, repetition)
 }
 
@@ -228,8 +228,8 @@ fn plain_signal(fields: &ByteRecord) -> Option<Row>
     }
     let frame = Name::from_bytes(fields.get(0)?)?;
     let signal = Name::from_bytes(fields.get(1)?)?;
-    let start = number(fields.get(2)?)?;
-    let length = number(fields.get(3)?)?;
+    let start = read_number(fields.get(2)?)?;
+    let length = read_number(fields.get(3)?)?;
     let order = fields.get(4)?;
     Row::add_signal(frame, signal, start, length, order)
 }
@@ -314,12 +314,12 @@ pub fn number_at(fields: &ByteRecord, place: usize) -> Result<u32, Refusal>
         (λ value. number_at (fields_of fields.now) place ≡ Ok value)
         (λ refusal. (refusal ≡ Refusal.BadText) × (number_at (fields_of fields.now) place ≡ Err Refusal.BadText)) }
 {
-    number(field_at(fields, place)?).ok_or(Refusal::BadText)
+    read_number(field_at(fields, place)?).ok_or(Refusal::BadText)
 }
 
 /// The number that the bytes are: 1 to 10 digits.
 #[inline(always)]
-fn number(digits: &[u8]) -> Option<u32>
+pub fn read_number(digits: &[u8]) -> Option<u32>
     ensures { MatchOption result (number digits.now ≡ Err Refusal.BadText) (λ value. number digits.now ≡ Ok value) }
 {
     if !(1..=10).contains(&digits.len()) {

@@ -10,13 +10,18 @@ mod frames;
 mod gaps;
 mod grants;
 mod layout;
+mod load;
 mod nodes;
+mod records;
+mod room;
 mod schedule;
 mod variants;
 
+use crate::report::records::push_records;
+use crate::report::room::push_room;
 use crate::style::Style;
 use crate::words::push;
-use fr_base::{Answer, NoMemory, ReportRows};
+use fr_base::{Answer, Header, NoMemory, ReportRows};
 use std::alloc::Global;
 
 /// A row of a report, which makes a line, or more.
@@ -53,7 +58,7 @@ pub(crate) fn push_rows<R: Row>(
     push(style.after(), out)
 }
 
-// Appends the lines of the rows, with the mark before each line.
+// Appends the lines of the rows, with the mark before each line. An error leaves the old bytes in front.
 #[tactic(auto, using(crate::proofs::WordsLemmas::extending), unfolding(crate::specs::Styles::marked))]
 fn push_behind<R: Row>(rows: &[R], all: bool, mark: &str, out: &mut Vec<u8>) -> Result<(), NoMemory>
     ensures ok { OnOk result (out.new.items ≡ out.old.items ++ marked mark.now (lines_in R.first R.others all rows.now)) }
@@ -86,6 +91,17 @@ pub(crate) fn push_lines(
         ReportRows::Schedule(rows) => push_rows(rows.as_slice(), all, style, out),
         ReportRows::Gaps(rows) => push_rows(rows.as_slice(), all, style, out),
         ReportRows::Layout(rows) => push_rows(rows.as_slice(), all, style, out),
+        ReportRows::Load(rows) => push_rows(rows.as_slice(), all, style, out),
+        ReportRows::Room(places) => push_room(places.as_slice(), style, out),
+        ReportRows::FrameRecords(records) => {
+            push_records(Header::Frames, records.as_slice(), all, style, out)
+        }
+        ReportRows::PlacementRecords(records) => {
+            push_records(Header::Placements, records.as_slice(), all, style, out)
+        }
+        ReportRows::SignalRecords(records) => {
+            push_records(Header::Signals, records.as_slice(), all, style, out)
+        }
     }
 }
 
@@ -97,8 +113,11 @@ pub fn write_lines(alloc: Global, answer: &Answer) -> Result<Vec<u8>, NoMemory>
     let mut out = Vec::new(alloc);
     match answer {
         Answer::Report { all, rows } => push_lines(rows, *all, Style::Plain, &mut out)?,
-        Answer::Done | Answer::Imported { .. } | Answer::Refused(_) | Answer::RefusedRow { .. } =>
-            {}
+        Answer::Done
+        | Answer::Imported { .. }
+        | Answer::Replaced { .. }
+        | Answer::Refused(_)
+        | Answer::RefusedRow { .. } => {}
     }
     Ok(out)
 }

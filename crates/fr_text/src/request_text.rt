@@ -8,7 +8,7 @@ mod queries;
 mod supplier;
 
 use crate::fields::{Fields, read_json, text_in};
-use fr_base::{Inventory, Refusal, Report, Request};
+use fr_base::{Header, Inventory, Refusal, Report, Request};
 use std::alloc::Global;
 
 /// Reads a request. What is no request is `BadText`; want of memory is `Unavailable`.
@@ -32,6 +32,7 @@ fn request_in(alloc: Global, fields: &Fields) -> Result<Request, Refusal>
         "open_variant" => integrator::open_variant(alloc, fields),
         "release" => integrator::release(alloc, fields),
         "add_supplier" => integrator::add_supplier(alloc, fields),
+        "set_key" => integrator::set_key(alloc, fields),
         "add_node" => integrator::add_node(alloc, fields),
         "grant" => integrator::grant(alloc, fields),
         "revoke" => integrator::revoke(alloc, fields),
@@ -42,6 +43,7 @@ fn request_in(alloc: Global, fields: &Fields) -> Result<Request, Refusal>
         "add_signal" => supplier::add_signal(alloc, fields),
         "drop_signal" => supplier::drop_signal(alloc, fields),
         "import" => supplier::import(alloc, fields),
+        "replace" => supplier::replace(alloc, fields),
         "cluster" => queries::inventory(fields, Inventory::Cluster),
         "variants" => queries::inventory(fields, Inventory::Variants),
         "nodes" => queries::inventory(fields, Inventory::Nodes),
@@ -50,6 +52,11 @@ fn request_in(alloc: Global, fields: &Fields) -> Result<Request, Refusal>
         "schedule" => queries::report(alloc, fields, Report::Schedule),
         "gaps" => queries::report(alloc, fields, Report::Gaps),
         "layout" => queries::layout(alloc, fields),
+        "load" => queries::report(alloc, fields, Report::Load),
+        "room" => queries::room(alloc, fields),
+        "export_frames" => queries::export(alloc, fields, Header::Frames),
+        "export_placements" => queries::export(alloc, fields, Header::Placements),
+        "export_signals" => queries::export(alloc, fields, Header::Signals),
         _ => Err(Refusal::BadText),
     }
 }

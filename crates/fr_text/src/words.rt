@@ -1,6 +1,6 @@
 //! Writes the words of a line, and the numbers in them.
 ghost use Rattle.std.specs.Prelude.{◌≡◌, ◌++◌, ◌<◌, codes, decimal, replicate, OnOk, OnErr};
-ghost use Rattle.fr_text.specs.Words.{digit_at, two_digits, four_digits, right_in, behind, shown_to, Extends};
+ghost use Rattle.fr_text.specs.Words.{digit_at, two_digits, four_digits, right_in, behind, comma_behind, shown_to, Extends};
 
 use fr_base::{Name, NoMemory};
 
@@ -31,6 +31,39 @@ pub(crate) fn push_supplier(all: bool, supplier: &Name, out: &mut Vec<u8>) -> Re
 {
     if all {
         push_word(supplier.as_str().as_bytes(), out)
+    } else {
+        Ok(())
+    }
+}
+
+/// Appends a comma and the field. An error leaves the old bytes in front.
+#[tactic(auto, using(crate::proofs::WordsLemmas::extending))]
+pub(crate) fn push_field(field: &[u8], out: &mut Vec<u8>) -> Result<(), NoMemory>
+    ensures ok { OnOk result (out.new.items ≡ out.old.items ++ (codes "," ++ field.now)) }
+    ensures err { OnErr result (Extends out.old.items out.new.items) }
+{
+    out.push(b',')?;
+    out.extend_from_slice(field)
+}
+
+/// Appends a comma and the number in decimal digits. An error leaves the old bytes in front.
+#[tactic(auto, using(crate::proofs::WordsLemmas::extending))]
+pub(crate) fn push_number(number: u32, out: &mut Vec<u8>) -> Result<(), NoMemory>
+    ensures ok { OnOk result (out.new.items ≡ out.old.items ++ (codes "," ++ decimal number)) }
+    ensures err { OnErr result (Extends out.old.items out.new.items) }
+{
+    out.push(b',')?;
+    push_decimal(number, out)
+}
+
+/// Appends a comma and the supplier's name, where all is shown. An error leaves the old bytes in front.
+#[tactic(auto, using(crate::proofs::WordsLemmas::extending))]
+pub(crate) fn push_owner(all: bool, supplier: &[u8], out: &mut Vec<u8>) -> Result<(), NoMemory>
+    ensures ok { OnOk result (out.new.items ≡ out.old.items ++ comma_behind (shown_to all supplier.now)) }
+    ensures err { OnErr result (Extends out.old.items out.new.items) }
+{
+    if all {
+        push_field(supplier, out)
     } else {
         Ok(())
     }

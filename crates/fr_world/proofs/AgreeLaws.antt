@@ -23,7 +23,7 @@ use Rattle.fr_base.proofs.AloneChanges.{grants_after-own, frames_after-own, fram
 use Rattle.fr_world.specs.BookEdits.{SparesOthers, applied, changed_at}
 use Rattle.fr_world.specs.Edits.{IsOf, edited, releases}
 use Rattle.fr_world.specs.declared.edit.Edit.{Edit}
-use Rattle.fr_world.specs.declared.edit.Edit.TheVariants.{NewVariant, SetReleased, NewSupplier, NewNode, Rows, KeepImport}
+use Rattle.fr_world.specs.declared.edit.Edit.TheVariants.{NewVariant, SetReleased, NewSupplier, SetKey, NewNode, Rows, KeepImport}
 
 module _ (b : Book) (v : Name) (x : Variant) (there : get b.variants v ≡ Some x) where
   -- an edit of the variant, which is there
@@ -72,6 +72,7 @@ module _ (c : Cluster) (b : Book) (s v : Name) (x : Variant) (there : get b.vari
   edit-agrees (Rows t w what) is = subst (λ (u : Name × Name). Agrees c b s v x (Rows u.0 u.1 what)) (λ i. (sym is.0 i, sym is.1 i)) (rows-agree what)
   edit-agrees (NewVariant w parent depth) is = absurd is
   edit-agrees (NewSupplier t key) is = absurd is
+  edit-agrees (SetKey t key) is = absurd is
   edit-agrees (KeepImport t label w body rows) is = absurd is
 
 pub edits-agree : (c : Cluster) (b : Book) (s v : Name) (x : Variant) (edit : Edit) → get b.variants v ≡ Some x → IsOf s v edit →
@@ -145,6 +146,7 @@ module _ (c : Cluster) (b : Book) (s v : Name) (x : Variant) (there : get b.vari
       subst (λ (k : Name × Name). Stays c b t w y (Rows k.0 k.1 what)) (sym same) (rows-stay what (subst (λ (k : Name × Name). SparesOthers s x (Rows k.0 k.1 what)) same spares))
   edit-stays (NewVariant u parent depth) is spares = absurd is
   edit-stays (NewSupplier r key) is spares = absurd is
+  edit-stays (SetKey r key) is spares = absurd is
   edit-stays (KeepImport r label u body rows) is spares = absurd is
 
 pub others-stay : (c : Cluster) (b : Book) (s t v w : Name) (x y : Variant) (edit : Edit) → get b.variants v ≡ Some x → IsOf s v edit →

@@ -35,14 +35,16 @@ use Rattle.fr_world.specs.Edits.{FitsFrame, FitsPage, FitsRows, IsOf, Leads, edi
 use Rattle.fr_world.specs.Fits.{AllFit, Fits, FitsVariant, IsUnheld}
 use Rattle.fr_world.specs.Nodes.{new_node}
 use Rattle.fr_world.specs.Pages.{own_rows_of, nodes_in, page_in}
+use Rattle.fr_world.specs.ReplacementDecisions.{replacement_decision}
 use Rattle.fr_world.specs.RowDecisions.{AreChecked, rows_decision}
 use Rattle.fr_world.specs.declared.edit.Edit.{Edit}
-use Rattle.fr_world.specs.declared.edit.Edit.TheVariants.{NewVariant, SetReleased, NewSupplier, NewNode, Rows, KeepImport}
+use Rattle.fr_world.specs.declared.edit.Edit.TheVariants.{NewVariant, SetReleased, NewSupplier, SetKey, NewNode, Rows, KeepImport}
 use Rattle.fr_world.proofs.AgreeLaws.{edits-agree}
 use Rattle.fr_world.proofs.FitsLaws.{none_there}
 use Rattle.fr_world.proofs.IntegratorLaws.{node-listed, row, row-of, row-there}
 use Rattle.fr_world.proofs.LeadsLaws.{rows-leave}
 use Rattle.fr_world.proofs.PageLaws.{rows-kept, rows-registers}
+use Rattle.fr_world.proofs.ReplacementsLead.{replacement-leads}
 use Rattle.fr_world.proofs.RowsLead.{IsOfFrame, frames-lead, is_counted}
 
 -- ---- what fits a supplier's own rows fits those of all
@@ -108,6 +110,7 @@ module _ (c : Cluster) (s v : Name) where
   one-fits b x there unreleased (SetReleased w) of own fits = absurd of
   one-fits b x there unreleased (NewNode t n) of own fits = absurd of
   one-fits b x there unreleased (NewSupplier t key) of own fits = absurd of
+  one-fits b x there unreleased (SetKey t key) of own fits = absurd of
   one-fits b x there unreleased (KeepImport t label w body rows) of own fits = absurd of
 
   -- and leaves the variant open
@@ -117,6 +120,7 @@ module _ (c : Cluster) (s v : Name) where
   still_open (SetReleased w) of = absurd of
   still_open (NewNode t n) of = absurd of
   still_open (NewSupplier t key) of = absurd of
+  still_open (SetKey t key) of = absurd of
   still_open (KeepImport t label w body rows) of = absurd of
 
   changed-keeps : (b : Book) (w : Name) (change : Variant → Variant) (o : Option Variant) → Keeps b (changed_at b w change o)
@@ -131,6 +135,7 @@ module _ (c : Cluster) (s v : Name) where
   one-keeps b (SetReleased w) of = absurd of
   one-keeps b (NewNode t n) of = absurd of
   one-keeps b (NewSupplier t key) of = absurd of
+  one-keeps b (SetKey t key) of = absurd of
   one-keeps b (KeepImport t label w body rows) of = absurd of
 
   -- the edits fit, and then more that fit a book in which these stay
@@ -166,6 +171,14 @@ pub import-fits : (c : Cluster) (b : Book) (s v label : Name) (x : Variant) (bod
 import-fits c b s v label x body reads edits count sound there unreleased known free checked e =
     rows-more c b s v x reads edits sound there unreleased checked e (KeepImport s label v body count ∷ []) (λ d keeps.
     ((ap (λ t. contains t s) keeps.suppliers ∙ known, keeps.variants v (some_there (get b.variants v) x there), ap (λ t. get t (s, label)) keeps.imports ∙ free), tt))
+
+-- ---- what a replacement is decided to
+
+pub replacement-fits : (c : Cluster) (b : Book) (s v : Name) (x : Variant) (reads : List RowRead) (edits : List Edit) → IsSound c b → get b.variants v ≡ Some x → IsFalse x.released → AreChecked c.params reads →
+    replacement_decision (page_in c.params b s v x) reads ≡ Ok edits → AllFit c.params b edits
+replacement-fits c b s v x reads edits sound there unreleased checked decided =
+    let led = replacement-leads (page_in c.params b s v x) sound.cluster.params (rows-kept c b s v x sound there) reads checked edits decided in
+    subst (AllFit c.params b) (append-nil edits) (all-fit c s v edits [] b x _ _ there unreleased (rows-registers c b s v x) led.1 led.0 (λ d keeps. tt))
 
 -- ---- what is decided of a node, and of all variants
 

@@ -90,7 +90,7 @@ free-apart xs f q ys apart = ap is_none (none_taken (fill xs) (cells_of q) (λ c
 abbrev pub filled_in : List (Name × PageFrame) → List (Name × Placement)
 filled_in es = flat_map (λ e. filled_by e.0 (frame_of (frame_data e.1))) es
 
-abbrev named : Sender × Placement → Name × Placement
+abbrev pub named : Sender × Placement → Name × Placement
 named e = (e.0.frame, e.1)
 
 abbrev entries_of : (Name × Name) × book.Frame → List (Sender × Placement)
@@ -116,7 +116,7 @@ page-apart rows es e h kept = subst Apart (named-page rows es e h) (pairs-map (�
 
 -- ---- the first taken cell, with its frame
 
-fill-named : (xs : List (Sender × Placement)) (c : Cell) → fill (map named xs) c ≡ option_map (λ o. o.frame) (fill xs c)
+pub fill-named : (xs : List (Sender × Placement)) (c : Cell) → fill (map named xs) c ≡ option_map (λ o. o.frame) (fill xs c)
 unfolding fill
 fill-named [] c = refl
 fill-named (x ∷ xs) c = elim (has_cell x.1 c) as (λ b. cond b (Some x.0.frame) (fill (map named xs) c) ≡ option_map (λ o. o.frame) (cond b (Some x.0) (fill xs c))) [
@@ -129,7 +129,7 @@ option_is None = inr refl
 option_is (Some x) = inl (x, refl)
 
 -- cells that have the same frames have the same first taken cell
-taken-like : (filled : Cell → Option Name) (owners : Cell → Option Sender) → ((c : Cell) → filled c ≡ option_map (λ o. o.frame) (owners c)) → (ds : List Cell) → option_map taken_cell (first_taken filled ds) ≡ option_map taken_by (first_taken owners ds)
+pub taken-like : (filled : Cell → Option Name) (owners : Cell → Option Sender) → ((c : Cell) → filled c ≡ option_map (λ o. o.frame) (owners c)) → (ds : List Cell) → option_map taken_cell (first_taken filled ds) ≡ option_map taken_by (first_taken owners ds)
 unfolding first_taken
 taken-like filled owners same [] = refl
 taken-like filled owners same (d ∷ ds) = elim (option_is (owners d)) [

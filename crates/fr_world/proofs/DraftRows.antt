@@ -69,7 +69,7 @@ module _ (d : DraftData) (f n : Name) where
 
 -- ---- the parameters stay
 
-abbrev Keeps : DraftData → DraftData → Type 0
+abbrev pub Keeps : DraftData → DraftData → Type 0
 Keeps d e = e.page.params ≡ d.page.params
 
 make-keeps : (d : DraftData) (what : Change) → IfOk (make d what) (Keeps d)
@@ -81,11 +81,11 @@ unfolding with_frame
 with-keeps d f n None = make-keeps d (change.Frame f (Add n))
 with-keeps d f n (Some frame) = gives_unless _ _ (same_text frame.node n) _ (λ _. refl)
 
-frame-keeps : (d : DraftData) (f n : Name) → IfOk (make_frame d f n) (Keeps d)
+pub frame-keeps : (d : DraftData) (f n : Name) → IfOk (make_frame d f n) (Keeps d)
 unfolding make_frame
 frame-keeps d f n = gives_unless _ _ _ _ (λ _. with-keeps d f n (get d.page.frames (d.page.supplier, f)))
 
-row-keeps : (d : DraftData) (r : Row) → IfOk (make_row d r) (Keeps d)
+pub row-keeps : (d : DraftData) (r : Row) → IfOk (make_row d r) (Keeps d)
 unfolding make_row
 row-keeps d (row.AddFrame f n) = make-keeps d (change.Frame f (Add n))
 row-keeps d (row.Place f n q) =

@@ -44,3 +44,11 @@ pub mod UsedLaws
 pub mod ClaimLaws
 pub mod PlaceLaws
 pub mod ReadLaws
+pub mod FreeingLaws
+pub mod ReplacementRows
+pub mod ReplacementsLead
+pub mod ReplacementsDecide
+pub mod RoomLaws
+pub mod RecordLaws
+pub mod PartLaws
+pub mod LoadLaws

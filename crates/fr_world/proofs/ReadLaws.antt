@@ -1,5 +1,5 @@
 -- Records that were only read, by one call after another.
-use Rattle.std.proofs.Common.{◌≡◌, ◌∙◌, refl}
+use Rattle.std.proofs.Common.{◌∙◌, refl}
 use Rattle.fr_base.specs.declared.params.Params.{Params}
 use Rattle.fr_world.specs.Held.{Leaving, Reads}
 

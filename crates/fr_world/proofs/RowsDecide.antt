@@ -45,36 +45,36 @@ pub applied-more : (b : Book) (edits : List Edit) (edit : Edit) → all_applied 
 applied-more b [] edit = refl
 applied-more b (e ∷ edits) edit = applied-more (applied b e) edits edit
 
-of_ok : {A E : Type 0} (P : A → Type 0) (r : Result A E) (x : A) → r ≡ Ok x → IfOk r P → P x
+pub of_ok : {A E : Type 0} (P : A → Type 0) (r : Result A E) (x : A) → r ≡ Ok x → IfOk r P → P x
 of_ok P r x e h = subst (λ z. IfOk z P) e h
 
 module _ (c : Cluster) (start : Book) (s v : Name) where
   -- the draft is the supplier's page of a book, to which its edits led
-  record Draws (b : Book) (d : DraftData) : Type 0 where
-    x : Variant
-    there : get b.variants v ≡ Some x
-    unreleased : x.released ≡ false
-    known : IsTrue (contains b.suppliers s)
-    sound : IsSound c b
-    variant : d.variant ≡ v
-    page : d.page ≡ own_rows c.params b s x
-    edits : b ≡ all_applied start d.edits
+  pub record Draws (b : Book) (d : DraftData) : Type 0 where
+    pub x : Variant
+    pub there : get b.variants v ≡ Some x
+    pub unreleased : x.released ≡ false
+    pub known : IsTrue (contains b.suppliers s)
+    pub sound : IsSound c b
+    pub variant : d.variant ≡ v
+    pub page : d.page ≡ own_rows c.params b s x
+    pub edits : b ≡ all_applied start d.edits
 
   -- a book and its draft, or one refusal
-  abbrev Like : {E : Type 0} → Result Book E → Result DraftData E → Type 0
+  abbrev pub Like : {E : Type 0} → Result Book E → Result DraftData E → Type 0
   Like (Ok b) (Ok d) = Draws b d
   Like (Ok b) (Err e) = ⊥
   Like (Err e) (Ok d) = ⊥
   Like (Err e) (Err f) = e ≡ f
 
-  like_bind : {E : Type 0} (r : Result Book E) (u : Result DraftData E) (f : Book → Result Book E) (g : DraftData → Result DraftData E) → Like r u → ((b : Book) (d : DraftData) → Draws b d → Like (f b) (g d)) → Like (r >>= f) (u >>= g)
+  pub like_bind : {E : Type 0} (r : Result Book E) (u : Result DraftData E) (f : Book → Result Book E) (g : DraftData → Result DraftData E) → Like r u → ((b : Book) (d : DraftData) → Draws b d → Like (f b) (g d)) → Like (r >>= f) (u >>= g)
   unfolding ◌>>=◌
   like_bind (Ok b) (Ok d) f g h k = k b d h
   like_bind (Ok b) (Err e) f g h k = absurd h
   like_bind (Err e) (Ok d) f g h k = absurd h
   like_bind (Err e) (Err f) g h k l = k
 
-  like_when : {E : Type 0} (e : E) (t u : Bool) (r : Result Book E) (w : Result DraftData E) → t ≡ u → Like r w → Like ((refuse e when t) >> r) ((refuse e when u) >> w)
+  pub like_when : {E : Type 0} (e : E) (t u : Bool) (r : Result Book E) (w : Result DraftData E) → t ≡ u → Like r w → Like ((refuse e when t) >> r) ((refuse e when u) >> w)
   unfolding refuse◌when◌ ◌>>◌
   like_when e true true r w same h = refl
   like_when e true false r w same h = cc
@@ -112,7 +112,7 @@ module _ (c : Cluster) (start : Book) (s v : Name) where
         by_answer (Ok t) = refl
         by_answer (Err e) = refl
 
-    drawn : (frozen : Bool) (edits : List Edit) → b ≡ all_applied start edits → IsFormedFrame c.params f what → (t : ⊤) → admits_alone page (change.Frame f what) ≡ Ok t →
+    pub drawn : (frozen : Bool) (edits : List Edit) → b ≡ all_applied start edits → IsFormedFrame c.params f what → (t : ⊤) → admits_alone page (change.Frame f what) ≡ Ok t →
         Draws (applied b edit) (record { variant = v; released = frozen; page = rows_after (change.Frame f what) page; edits = edits ++ Rows page.supplier v (change.Frame f what) ∷ [] })
     unfolding ◌>>◌ edited own_rows
     drawn frozen edits led form t admitted =
@@ -146,24 +146,24 @@ module _ (c : Cluster) (start : Book) (s v : Name) where
 
   -- ---- a row
 
-  frame-like : (b : Book) (d : DraftData) → Draws b d → (f n : Name) → IsTrue (is_name f) → (there : Option Frame) → Like (book_frame c.params b s v f n there) (with_frame d f n there)
+  pub frame-like : (b : Book) (d : DraftData) → Draws b d → (f n : Name) → IsTrue (is_name f) → (there : Option Frame) → Like (book_frame c.params b s v f n there) (with_frame d f n there)
   unfolding book_frame with_frame
   frame-like b d draws f n named None = make-like b d draws f (Add n) named
   frame-like b d draws f n named (Some frame) = like_when NodeDiffers _ _ _ _ refl draws
 
   -- what the page has of the supplier is what the book has
-  node-shown : (b : Book) (d : DraftData) → Draws b d → (n : Name) → contains b.nodes (s, n) ≡ contains d.page.nodes (d.page.supplier, n)
+  pub node-shown : (b : Book) (d : DraftData) → Draws b d → (n : Name) → contains b.nodes (s, n) ≡ contains d.page.nodes (d.page.supplier, n)
   unfolding own_rows
   node-shown b d draws n =
       sym (ap is_some (get-passing owned (is_of s) b.nodes (s, n) (same_text-itself s))) ∙ ap (λ (p : OwnRows). contains p.nodes (p.supplier, n)) (sym draws.page)
 
-  frame-shown : (b : Book) (d : DraftData) → Draws b d → (f : Name) → frame_at b s v f ≡ get d.page.frames (d.page.supplier, f)
+  pub frame-shown : (b : Book) (d : DraftData) → Draws b d → (f : Name) → frame_at b s v f ≡ get d.page.frames (d.page.supplier, f)
   unfolding own_rows
   frame-shown b d draws f =
       ap (option_and_then (λ variant. get variant.frames (s, f))) draws.there
       ∙ sym (get-passing owned (is_of s) draws.x.frames (s, f) (same_text-itself s)) ∙ ap (λ (p : OwnRows). get p.frames (p.supplier, f)) (sym draws.page)
 
-  row-like : (b : Book) (d : DraftData) → Draws b d → (r : Row) → IsFormedRow c.params r → Like (act_row c.params b s v r) (make_row d r)
+  pub row-like : (b : Book) (d : DraftData) → Draws b d → (r : Row) → IsFormedRow c.params r → Like (act_row c.params b s v r) (make_row d r)
   unfolding act_row make_row make_frame
   row-like b d draws (row.AddFrame f n) form = make-like b d draws f (Add n) form
   row-like b d draws (row.Place f n q) form =
@@ -175,7 +175,7 @@ module _ (c : Cluster) (start : Book) (s v : Name) where
 
   -- ---- rows as they were read
 
-  line-like : (line : ℕ) (r : Result Book Refusal) (u : Result DraftData Refusal) → Like r u → Like (at_line line r) (at_line line u)
+  pub line-like : (line : ℕ) (r : Result Book Refusal) (u : Result DraftData Refusal) → Like r u → Like (at_line line r) (at_line line u)
   unfolding at_line
   line-like line (Ok b) (Ok d) h = h
   line-like line (Ok b) (Err e) h = absurd h
@@ -194,7 +194,7 @@ module _ (c : Cluster) (start : Book) (s v : Name) where
       like_bind _ _ _ _ (line-like read.line _ _ (read-like b d draws read.row forms.0)) (λ e g next. rows-like rest e g next forms.1)
 
   -- books and drafts that are alike have the same refusal, or the book is what the edits make of the first
-  like-is : {E : Type 0} (r : Result Book E) (u : Result DraftData E) → Like r u → r ≡ ((u >>= λ d. Ok d.edits) >>= λ edits. Ok (all_applied start edits))
+  pub like-is : {E : Type 0} (r : Result Book E) (u : Result DraftData E) → Like r u → r ≡ ((u >>= λ d. Ok d.edits) >>= λ edits. Ok (all_applied start edits))
   unfolding ◌>>=◌
   like-is (Ok b) (Ok d) h = ap Ok h.edits
   like-is (Ok b) (Err e) h = absurd h

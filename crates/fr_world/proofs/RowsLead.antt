@@ -25,7 +25,7 @@ use Rattle.fr_world.specs.Fits.{IsCounted}
 use Rattle.fr_world.specs.Pages.{IsKept, IsPage, PageData, own_rows_of}
 use Rattle.fr_world.specs.RowDecisions.{AreChecked, DraftData, IsCheckedRow, draft_of, make, make_frame, make_read, make_row, make_rows, rows_decision, with_frame}
 use Rattle.fr_world.specs.declared.edit.Edit.{Edit}
-use Rattle.fr_world.specs.declared.edit.Edit.TheVariants.{NewVariant, SetReleased, NewSupplier, NewNode, Rows, KeepImport}
+use Rattle.fr_world.specs.declared.edit.Edit.TheVariants.{NewVariant, SetReleased, NewSupplier, SetKey, NewNode, Rows, KeepImport}
 use Rattle.fr_world.proofs.LeadsLaws.{rows-leave}
 
 module _ (v : Name) where
@@ -65,6 +65,7 @@ none-releases p (Rows s v (change.Revoke slot channel) ∷ edits) all = absurd a
 none-releases p (NewVariant v parent depth ∷ edits) all = absurd all.0
 none-releases p (SetReleased v ∷ edits) all = absurd all.0
 none-releases p (NewSupplier s key ∷ edits) all = absurd all.0
+none-releases p (SetKey s key ∷ edits) all = absurd all.0
 none-releases p (NewNode s n ∷ edits) all = absurd all.0
 none-releases p (KeepImport s label v body rows ∷ edits) all = absurd all.0
 
@@ -78,12 +79,12 @@ module _ (v : Name) (frozen : Bool) (start : OwnRows) (words : start.params.payl
     pub variant : d.variant ≡ v
     pub released : d.released ≡ frozen
     pub supplier : d.page.supplier ≡ start.supplier
-    params : d.page.params ≡ start.params
+    pub params : d.page.params ≡ start.params
     pub leads : Leads v start d.edits d.page
-    page : IsPage d.page
+    pub page : IsPage d.page
     pub frames : AllByRecursion (IsOfFrame start.params) d.edits
 
-  make-led : (d : DraftData) → IsLed d → (f : Name) (part : FrameChange) → IsChecked start.params (change.Frame f part) → IfOk (make d (change.Frame f part)) IsLed
+  pub make-led : (d : DraftData) → IsLed d → (f : Name) (part : FrameChange) → IsChecked start.params (change.Frame f part) → IfOk (make d (change.Frame f part)) IsLed
   unfolding make edited
   make-led d led f part checked =
       let what : Change = change.Frame f part in
@@ -99,12 +100,12 @@ module _ (v : Name) (frozen : Bool) (start : OwnRows) (words : start.params.payl
         frames = frames-more start.params d.edits _ led.frames (is_counted start.params what checked);
       })
 
-  frame-led : (d : DraftData) → IsLed d → (f n : Name) (there : Option Frame) → IfOk (with_frame d f n there) IsLed
+  pub frame-led : (d : DraftData) → IsLed d → (f n : Name) (there : Option Frame) → IfOk (with_frame d f n there) IsLed
   unfolding with_frame
   frame-led d led f n None = make-led d led f (Add n) tt
   frame-led d led f n (Some frame) = gives_unless _ _ (same_text frame.node n) _ (λ _. led)
 
-  row-led : (d : DraftData) → IsLed d → (r : Row) → IsCheckedRow start.params r → IfOk (make_row d r) IsLed
+  pub row-led : (d : DraftData) → IsLed d → (r : Row) → IsCheckedRow start.params r → IfOk (make_row d r) IsLed
   unfolding make_row make_frame
   row-led d led (row.AddFrame f n) checked = make-led d led f (Add n) tt
   row-led d led (row.Place f n q) checked =

@@ -58,7 +58,7 @@ sent-more fs old mid new xs ys m n =
     ∙ append_assoc old (sent_in fs xs) (sent_in fs ys)
     ∙ ap (λ rows. old ++ rows) (sym (sent-append fs xs ys))
 
-range-more : (a n : ℕ) → range_with_len a (suc n) ≡ range_with_len a n ++ (a + n) ∷ []
+pub range-more : (a n : ℕ) → range_with_len a (suc n) ≡ range_with_len a n ++ (a + n) ∷ []
 range-more a zero = ap (λ x. x ∷ []) (sym (add-zero a))
 range-more a (suc n) =
     let e : a + 1 + n ≡ a + suc n = omega arith in

@@ -8,7 +8,7 @@ use Rattle.fr_base.specs.Step.{with_variant, changed}
 use Rattle.fr_base.specs.declared.name.Name.{Name}
 use Rattle.fr_base.specs.declared.request.Change.TheVariants.{Grant, Revoke}
 use Rattle.fr_world.specs.declared.edit.Edit.{Edit}
-use Rattle.fr_world.specs.declared.edit.Edit.TheVariants.{NewVariant, SetReleased, NewSupplier, NewNode, Rows, KeepImport}
+use Rattle.fr_world.specs.declared.edit.Edit.TheVariants.{NewVariant, SetReleased, NewSupplier, SetKey, NewNode, Rows, KeepImport}
 use Rattle.fr_base.specs.declared.answer.VariantRow.{VariantRow}
 
 -- the variant, if it is there; else an empty one
@@ -34,6 +34,7 @@ unfoldable pub applied : Book → Edit → Book
 applied b (NewVariant v parent depth) = with_variant b v (record (copied b parent) { parent = parent; depth = depth; released = false })
 applied b (SetReleased v) = change_variant b v (λ x. record x { released = true })
 applied b (NewSupplier s key) = record b { suppliers = insert b.suppliers s key }
+applied b (SetKey s key) = record b { suppliers = insert b.suppliers s key }
 applied b (NewNode s n) = record b { nodes = insert b.nodes (s, n) tt }
 applied b (Rows s v what) = change_variant b v (changed s what)
 applied b (KeepImport s label v body rows) =

@@ -15,7 +15,7 @@ use Rattle.fr_base.specs.declared.request.FrameChange.TheVariants.{Place}
 use Rattle.fr_world.specs.BookEdits.{applied}
 use Rattle.fr_world.specs.Edits.{FitsFrame}
 use Rattle.fr_world.specs.declared.edit.Edit.{Edit}
-use Rattle.fr_world.specs.declared.edit.Edit.TheVariants.{NewVariant, SetReleased, NewSupplier, NewNode, Rows, KeepImport}
+use Rattle.fr_world.specs.declared.edit.Edit.TheVariants.{NewVariant, SetReleased, NewSupplier, SetKey, NewNode, Rows, KeepImport}
 
 -- The variant is there, and open.
 pub record IsOpen (b : Book) (v : Name) (x : Variant) : Type 0 where
@@ -45,6 +45,7 @@ abbrev pub Fits : Params → Book → Edit → Type 0
 Fits p b (NewVariant v parent depth) = (get b.variants v ≡ None) × IsOpenedFrom b.variants parent depth × (depth ≤ MAX_DEPTH)
 Fits p b (SetReleased v) = (x : Variant) × IsOpen b v x
 Fits p b (NewSupplier s key) = get b.suppliers s ≡ None
+Fits p b (SetKey s key) = IsTrue (contains b.suppliers s)
 Fits p b (NewNode s n) = IsTrue (contains b.suppliers s) × (get b.nodes (s, n) ≡ None)
 Fits p b (Rows s v what) = (x : Variant) × IsOpen b v x × FitsVariant b.nodes s x what × IsCounted p what
 Fits p b (KeepImport s label v body rows) = IsTrue (contains b.suppliers s) × IsTrue (contains b.variants v) × (get b.imports (s, label) ≡ None)

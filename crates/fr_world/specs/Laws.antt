@@ -6,12 +6,14 @@ use Rattle.fr_base.specs.Refusing.{◌>>=◌, ◌>>◌, refuse◌when◌}
 use Rattle.fr_base.specs.Tables.{get, contains}
 use Rattle.fr_base.specs.Cluster.{Cluster}
 use Rattle.fr_base.specs.Joining.{joined}
+use Rattle.fr_base.specs.KeyChanges.{with_key}
 use Rattle.fr_base.specs.Names.{same_text}
 use Rattle.fr_base.specs.Parameters.{check_params}
 use Rattle.fr_base.specs.Book.{Variant, Kept, Book, file_of}
 use Rattle.fr_base.specs.Sound.{IsSound}
 use Rattle.fr_base.specs.ImportRows.{rows_of_body}
-use Rattle.fr_base.specs.Step.{add_supplier, add_node, common, change_rows, own_rows, act_rows, import}
+use Rattle.fr_base.specs.Step.{add_supplier, set_key, add_node, common, change_rows, own_rows, act_rows, import, with_freed, replace_rows}
+use Rattle.fr_base.specs.Room.{room_in}
 use Rattle.fr_base.specs.declared.channel.Channel.{Channel}
 use Rattle.fr_base.specs.declared.import.RowRead.{RowRead}
 use Rattle.fr_base.specs.declared.key.Key.{Key}
@@ -30,11 +32,13 @@ use Rattle.fr_world.specs.Edits.{IsOf, Leads, all_edited, edited, releases, rows
 use Rattle.fr_world.specs.Fits.{AllFit, Fits, IsUnheld}
 use Rattle.fr_world.specs.ImportLabels.{after_label, label_decision}
 use Rattle.fr_world.specs.ImportLimits.{new_import}
+use Rattle.fr_world.specs.ReplacementDecisions.{replacement_decision}
 use Rattle.fr_world.specs.RowDecisions.{AreChecked, rows_decision}
 use Rattle.fr_world.specs.declared.edit.Edit.{Edit}
-use Rattle.fr_world.specs.declared.edit.Edit.TheVariants.{NewSupplier, KeepImport}
+use Rattle.fr_world.specs.declared.edit.Edit.TheVariants.{NewSupplier, SetKey, KeepImport}
 use Rattle.fr_world.specs.Nodes.{new_node}
-use Rattle.fr_world.specs.Suppliers.{new_supplier}
+use Rattle.fr_world.specs.Suppliers.{new_key, new_supplier}
+use Rattle.fr_world.specs.Rooms.{page_room}
 use Rattle.fr_world.specs.Pages.{PageData, IsKept, nodes_in, own_rows_of, page_in}
 
 -- A supplier's rows of a sound book are a page's.
@@ -68,6 +72,13 @@ RowsDecide = (c : Cluster) (b : Book) (s v : Name) (x : Variant) (body : List �
     act_rows c.params b s v (rows_of_body c.params body)
     ≡ (rows_decision (page_in c.params b s v x) (rows_of_body c.params body) >>= λ edits. Ok (all_applied b edits))
 
+-- So with a replacement: the rows act where the frames that they name were freed.
+abbrev pub ReplacementDecides : Type 0
+ReplacementDecides = (c : Cluster) (b : Book) (s v : Name) (x : Variant) (body : List ℕ) →
+    IsSound c b → get b.variants v ≡ Some x → IsFalse x.released → IsTrue (contains b.suppliers s) →
+    replace_rows c.params (with_freed b s v x (rows_of_body c.params body)) s v (rows_of_body c.params body)
+    ≡ (replacement_decision (page_in c.params b s v x) (rows_of_body c.params body) >>= λ edits. Ok (all_applied b edits))
+
 -- The rows of a file are checked under the parameters that they are read by.
 abbrev pub RowsAreChecked : Type 0
 RowsAreChecked = (p : Params) (body : List ℕ) → AreChecked p (rows_of_body p body)
@@ -77,6 +88,11 @@ abbrev pub RowsLead : Type 0
 RowsLead = (rows : PageData) (reads : List RowRead) (edits : List Edit) → check_params rows.params ≡ Ok rows.params →
     IsKept rows → AreChecked rows.params reads → rows_decision rows reads ≡ Ok edits →
     Leads rows.variant (own_rows_of rows) edits (all_edited (own_rows_of rows) edits)
+
+-- In a sound book the room for a supplier's frame, in a variant that is there, is that on the supplier's page.
+abbrev pub RoomDecides : Type 0
+RoomDecides = (c : Cluster) (b : Book) (s v : Name) (x : Variant) (f : Name) (repetition : ℕ) → IsSound c b → get b.variants v ≡ Some x →
+    room_in c.params b s v f repetition ≡ page_room (page_in c.params b s v x) f repetition
 
 -- In any book a grant to a supplier that is there is refused as on the supplier's page; what the page accepts is Taken where slot
 -- and channel are held, by another supplier then, or makes of the book what its edits make of it.
@@ -105,6 +121,18 @@ JoiningFits = (c : Cluster) (b : Book) (s : Name) (key : Key) (edit : Edit) → 
 -- And a supplier of a new name joins the book as it joins the list.
 abbrev pub JoiningIsListed : Type 0
 JoiningIsListed = (c : Cluster) (b : Book) (s : Name) (key : Key) → Fits c.params b (NewSupplier s key) → file_of c (applied b (NewSupplier s key)) ≡ joined (file_of c b) s key
+
+-- In any book another key of a supplier is decided by the list of those that are there.
+abbrev pub KeyDecides : Type 0
+KeyDecides = (c : Cluster) (b : Book) (s : Name) (key : Key) → set_key c b s key ≡ (new_key (file_of c b) s key >>= λ edit. Ok (applied b edit))
+
+-- What is decided so fits.
+abbrev pub KeyFits : Type 0
+KeyFits = (c : Cluster) (b : Book) (s : Name) (key : Key) (edit : Edit) → new_key (file_of c b) s key ≡ Ok edit → Fits c.params b edit
+
+-- And a supplier that is there has another key in the book as it has in the list.
+abbrev pub KeyIsListed : Type 0
+KeyIsListed = (c : Cluster) (b : Book) (s : Name) (key : Key) → Fits c.params b (SetKey s key) → file_of c (applied b (SetKey s key)) ≡ with_key (file_of c b) s key
 
 -- In any book a new node for a supplier that is there is decided by the supplier's nodes.
 abbrev pub NodeDecides : Type 0
@@ -157,6 +185,12 @@ abbrev pub ImportFits : Type 0
 ImportFits = (c : Cluster) (b : Book) (s v label : Name) (x : Variant) (body : List ℕ) (reads : List RowRead) (edits : List Edit) (count : ℕ) →
     IsSound c b → get b.variants v ≡ Some x → IsFalse x.released → IsTrue (contains b.suppliers s) → get b.imports (s, label) ≡ None →
     AreChecked c.params reads → rows_decision (page_in c.params b s v x) reads ≡ Ok edits → AllFit c.params b (edits ++ KeepImport s label v body count ∷ [])
+
+-- The edits of a replacement in a variant that is open fit the book too.
+abbrev pub ReplacementFits : Type 0
+ReplacementFits = (c : Cluster) (b : Book) (s v : Name) (x : Variant) (reads : List RowRead) (edits : List Edit) →
+    IsSound c b → get b.variants v ≡ Some x → IsFalse x.released → AreChecked c.params reads →
+    replacement_decision (page_in c.params b s v x) reads ≡ Ok edits → AllFit c.params b edits
 
 -- In any book a new node that is decided by the nodes of a supplier that is there fits,
 abbrev pub NodeFits : Type 0

@@ -2,9 +2,12 @@ pub mod Maps
 pub mod Masks
 pub mod PageCells
 pub mod Pages
+pub mod Parts
 pub mod Decisions
+pub mod Rooms
 pub mod Edits
 pub mod RowDecisions
+pub mod ReplacementDecisions
 pub mod Drafts
 pub mod RowFaults
 pub mod BookEdits
@@ -19,6 +22,7 @@ pub mod Common
 pub mod Nodes
 pub mod Suppliers
 pub mod Sendings
+pub mod Loads
 pub mod Amends
 pub mod Building
 pub mod Held

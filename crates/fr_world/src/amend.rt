@@ -70,7 +70,10 @@ impl Page {
                     change_frame(frames, cells, alloc, words, *frame, change)
                 }
             },
-            Edit::NewVariant { .. } | Edit::NewSupplier { .. } | Edit::KeepImport { .. } => Ok(()),
+            Edit::NewVariant { .. }
+            | Edit::NewSupplier { .. }
+            | Edit::SetKey { .. }
+            | Edit::KeepImport { .. } => Ok(()),
         }
     }
 }

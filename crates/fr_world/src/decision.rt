@@ -7,10 +7,12 @@ ghost use Rattle.fr_world.specs.Pages.{own_rows_of};
 
 mod draft;
 mod frames;
+mod freeing;
 mod grants;
 mod import_rows;
 mod placements;
-mod rows;
+mod replacement;
+pub(crate) mod rows;
 mod signals;
 
 use crate::edit::Edit;
@@ -18,6 +20,7 @@ use crate::page::Page;
 pub use draft::Draft;
 use fr_base::{Change, FrameChange, Name, Refusal};
 pub use import_rows::{RowFault, decide_rows};
+pub use replacement::decide_replacement;
 use std::alloc::Global;
 
 /// The edits that a change of the page's rows makes, or the first refusal that applies. `Released` comes

@@ -20,6 +20,11 @@ pub enum Edit {
         supplier: Name,
         key: Key,
     },
+    /// Another key of the supplier, by which it is known from then on.
+    SetKey {
+        supplier: Name,
+        key: Key,
+    },
     /// A node of the supplier.
     NewNode {
         supplier: Name,

@@ -1,12 +1,14 @@
 //! Which of a supplier's nodes holds which slot and channel.
 ghost use Rattle.std.specs.Prelude.{◌≡◌};
 ghost use Rattle.fr_base.specs.Book.{granted, held_by_node};
+ghost use Rattle.fr_base.specs.Channels.{channels_in};
 ghost use Rattle.fr_base.specs.Tables.{get};
+ghost use Rattle.std.specs.List.{list_all};
 ghost use Rattle.fr_base.specs.declared.name.Name.{Name as NameText};
 ghost use Rattle.fr_world.specs.Amends.{grants_of};
 
 use crate::page::ChannelSlot;
-use fr_base::{Channel, Name, Placement, Slot};
+use fr_base::{Channel, Channels, Name, Placement, Slot};
 use std::collections::BTreeMap;
 
 /// Whether the node holds the placement's slot on each of its channels.
@@ -18,10 +20,22 @@ pub(crate) fn is_granted(
 ) -> bool
     ensures { (s : NameText) → result ≡ granted (grants_of s grants.now.entries) s node placement.now }
 {
-    placement.channels.as_slice().iter().all(
+    holds_on(grants, node, placement.slot, placement.channels)
+}
+
+/// Whether the node holds the slot on each of the channels.
+pub(crate) fn holds_on(
+    grants: &BTreeMap<ChannelSlot, Name>,
+    node: Name,
+    slot: Slot,
+    channels: Channels,
+) -> bool
+    ensures { (s : NameText) → result ≡ list_all (λ c. held_by_node s node (get (grants_of s grants.now.entries) (slot, c))) (channels_in channels) }
+{
+    channels.as_slice().iter().all(
         |channel|
-            ensures { (s : NameText) → result ≡ held_by_node s node (get (grants_of s grants.entry.now.entries) (placement.entry.now.slot, channel.now)) }
-        { holds(grants, node, placement.slot, *channel) },
+            ensures { (s : NameText) → result ≡ held_by_node s node (get (grants_of s grants.entry.now.entries) (slot, channel.now)) }
+        { holds(grants, node, slot, *channel) },
     )
 }
 

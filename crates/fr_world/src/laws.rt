@@ -1,5 +1,5 @@
-//! Laws of pages: what is decided on one, of a change or of an import's rows, is the register's step.
-ghost use Rattle.fr_world.specs.Laws.{CommonDecides, CommonFits, DecisionFits, DecisionLeads, EditsAgree, GrantDecides, ImportFits, JoiningDecides, JoiningFits, JoiningIsListed, LabelDecides, NewImportDecides, NodeDecides, NodeFits, OthersStay, RevokeDecides, RowsAreChecked, RowsAreTheRegisters, RowsDecide, RowsFit, RowsLead, SoundRowsAreAPage, SupplierDecides};
+//! Laws of pages: what is decided on one, of a change or of a file's rows, is the register's step.
+ghost use Rattle.fr_world.specs.Laws.{CommonDecides, CommonFits, DecisionFits, DecisionLeads, EditsAgree, GrantDecides, ImportFits, JoiningDecides, JoiningFits, JoiningIsListed, KeyDecides, KeyFits, KeyIsListed, LabelDecides, NewImportDecides, NodeDecides, NodeFits, OthersStay, ReplacementDecides, ReplacementFits, RevokeDecides, RoomDecides, RowsAreChecked, RowsAreTheRegisters, RowsDecide, RowsFit, RowsLead, SoundRowsAreAPage, SupplierDecides};
 
 /// In a sound book a supplier's rows of a variant are a page's.
 pub fn sound_rows_are_a_page()
@@ -28,6 +28,16 @@ pub fn supplier_decides()
 /// the same row for the same reason, or make of the book what the page's edits make of it.
 pub fn rows_decide()
     ensures { RowsDecide }
+{}
+
+/// So are the rows of a supplier's replacement, which act where the frames that they name were freed.
+pub fn replacement_decides()
+    ensures { ReplacementDecides }
+{}
+
+/// In a sound book the room for a supplier's frame is that on the supplier's page of the variant.
+pub fn room_decides()
+    ensures { RoomDecides }
 {}
 
 /// The rows of an import's file are checked under the parameters that they are read by.
@@ -66,6 +76,21 @@ pub fn joining_fits()
 /// And a supplier of a new name joins the register as it joins the list.
 pub fn joining_is_listed()
     ensures { JoiningIsListed }
+{}
+
+/// Another key of a supplier is decided by the list of those that are there.
+pub fn key_decides()
+    ensures { KeyDecides }
+{}
+
+/// What is decided so fits the register's rows.
+pub fn key_fits()
+    ensures { KeyFits }
+{}
+
+/// And a supplier that is there has another key in the register as it has in the list.
+pub fn key_is_listed()
+    ensures { KeyIsListed }
 {}
 
 /// A node for a supplier is decided by the supplier's nodes.
@@ -115,6 +140,11 @@ pub fn rows_fit()
 /// And then the edit that keeps the import fits, where nothing is kept under the label.
 pub fn import_fits()
     ensures { ImportFits }
+{}
+
+/// The edits that are decided for a supplier's replacement fit the register's rows, one after the other.
+pub fn replacement_fits()
+    ensures { ReplacementFits }
 {}
 
 /// A node that is decided by its supplier's nodes fits the register's rows.

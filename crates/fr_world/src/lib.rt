@@ -7,6 +7,7 @@ mod build;
 mod cycle_channel;
 mod decision;
 mod edit;
+mod file_records;
 mod filled_cycles;
 mod frame_rows;
 mod gap;
@@ -14,14 +15,18 @@ mod grants;
 mod import_label;
 mod import_room;
 mod kept_import;
+mod lanes;
 mod laws;
+mod loads;
 mod mask_occupancy;
 mod masks;
 mod nodes;
 mod occupancy;
 mod page;
 mod page_sendings;
+mod part;
 mod records;
+mod rooms;
 mod row_occupancy;
 mod sendings;
 mod slot_table;
@@ -29,8 +34,9 @@ mod suppliers;
 mod triggerings;
 mod variants;
 
-pub use decision::{Draft, RowFault, decide, decide_rows};
+pub use decision::{Draft, RowFault, decide, decide_replacement, decide_rows};
 pub use edit::Edit;
+pub use file_records::FileRecord;
 pub use frame_rows::{frame_row, gap_row, push_signal_rows};
 pub use gap::greatest_gap;
 pub use import_label::decide_label;
@@ -39,17 +45,20 @@ pub use kept_import::KeptImport;
 pub use laws::{
     common_decides, common_fits, decision_fits, decision_leads, edits_agree, grant_decides,
     import_fits, joining_decides, joining_fits, joining_is_listed, label_decides,
-    new_import_decides, node_decides, node_fits, others_stay, revoke_decides, rows_are_checked,
-    rows_are_the_registers, rows_decide, rows_fit, rows_lead, sound_rows_are_a_page,
-    supplier_decides,
+    new_import_decides, node_decides, node_fits, others_stay, replacement_decides,
+    replacement_fits, revoke_decides, room_decides, rows_are_checked, rows_are_the_registers,
+    rows_decide, rows_fit, rows_lead, sound_rows_are_a_page, supplier_decides,
 };
+pub use loads::page_load;
 pub use mask_occupancy::MaskOccupancy;
 pub use nodes::decide_node;
 pub use occupancy::{Occupancy, TakenCell};
 pub use page::{ChannelSlot, Page, PageFrame, PageRows};
 pub use page_sendings::sent;
+pub use part::Part;
 pub use records::Records;
+pub use rooms::room;
 pub use row_occupancy::RowOccupancy;
-pub use suppliers::decide_supplier;
+pub use suppliers::{decide_key, decide_supplier};
 pub use triggerings::Triggerings;
 pub use variants::decide_common;

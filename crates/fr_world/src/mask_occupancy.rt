@@ -1,17 +1,20 @@
 //! Filled cells, kept as words of filled cycles, beside the list of placements that names the frames.
-ghost use Rattle.std.specs.Prelude.{◌≡◌, ◌++◌, ◌∷◌, [], OnOk, OnErr, option_map};
-ghost use Rattle.std.specs.List.{find};
+ghost use Rattle.std.specs.Prelude.{◌≡◌, ◌≤◌, ◌++◌, ◌∷◌, [], OnOk, OnErr, option_map};
+ghost use Rattle.std.specs.List.{count_by, find};
 ghost use Rattle.fr_base.specs.Cells.{cells_in};
-ghost use Rattle.fr_base.specs.Cycles.{cycles_of, is_bit_set};
+ghost use Rattle.fr_base.specs.Cycles.{all_cycles, cycles_of, is_bit_set};
+ghost use Rattle.fr_base.specs.Load.{used_cycles};
 ghost use Rattle.fr_base.specs.Schedule.{fill, first_taken};
 ghost use Rattle.fr_world.specs.CycleChannels.{taken_of};
+ghost use Rattle.fr_world.specs.Loads.{lane_of};
 ghost use Rattle.fr_world.specs.Masks.{first_cycle, is_free_on};
 
 use crate::cycle_channel::CycleChannel;
 use crate::masks::Masks;
 use crate::occupancy::{Occupancy, TakenCell};
+use crate::page::ChannelSlot;
 use crate::row_occupancy::{RowOccupancy, Taken, first_of};
-use fr_base::{Channel, Channels, CycleSet, Name, NoMemory, Placement, Refusal};
+use fr_base::{Channel, Channels, CycleSet, Name, NoMemory, Params, Placement, Refusal};
 use std::alloc::Global;
 use std::marker::Model;
 
@@ -71,6 +74,14 @@ impl MaskOccupancy {
         filled.mark(placement);
         self.masks.put(placement.slot, filled);
         Ok(())
+    }
+
+    /// In how many of the cluster's cycles the lane is filled.
+    pub(crate) fn used(&self, params: &Params, lane: ChannelSlot) -> u32
+        ensures { result ≡ used_cycles params.now (fill self.now) (lane_of lane) }
+    {
+        let word = self.masks.of(lane.slot).on(lane.channel);
+        marked_cycles(word, params.cycles())
     }
 
     // The first of the placement's cycles in which its slot is filled on the channel.
@@ -140,6 +151,14 @@ impl Occupancy for MaskOccupancy {
         let filled = self.rows.filled_in(placement.slot);
         self.masks.put(placement.slot, filled);
     }
+}
+
+// How many of so many cycles have their bit set in the word.
+fn marked_cycles(word: u64, cycles: u32) -> u32
+    requires { (1 ≤ cycles) × (cycles ≤ 64) }
+    ensures { result ≡ count_by (is_bit_set word) (all_cycles cycles) }
+{
+    (word & (u64::MAX >> (64 - cycles))).count_ones()
 }
 
 // The first of the cycles whose bit is set in the word.

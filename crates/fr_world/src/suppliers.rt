@@ -1,6 +1,6 @@
-//! What the integrator's command by which a supplier joins decides, by the config.
+//! What the integrator's commands by which a supplier joins, or has another key, decide, by the config.
 ghost use Rattle.std.specs.Prelude.{◌≡◌};
-ghost use Rattle.fr_world.specs.Suppliers.{new_supplier};
+ghost use Rattle.fr_world.specs.Suppliers.{new_key, new_supplier};
 
 use crate::edit::Edit;
 use fr_base::{Config, Key, Name, Refusal};
@@ -13,4 +13,14 @@ pub fn decide_supplier(config: &Config, supplier: Name, key: Key) -> Result<Edit
 {
     config.admits(supplier, key)?;
     Ok(Edit::NewSupplier { supplier, key })
+}
+
+/// The edit by which the supplier has another key, or the first refusal: `NoSupplier`, `KeyTaken`. It takes no
+/// memory.
+#[tactic(auto, unfolding(crate::proofs::CommonLaws::common_open))]
+pub fn decide_key(config: &Config, supplier: Name, key: Key) -> Result<Edit, Refusal>
+    ensures { result ≡ new_key config.now supplier key }
+{
+    config.admits_key(supplier, key)?;
+    Ok(Edit::SetKey { supplier, key })
 }

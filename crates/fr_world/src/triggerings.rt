@@ -5,12 +5,16 @@ ghost use Rattle.fr_base.specs.Book.{placements_of};
 ghost use Rattle.fr_base.specs.Cells.{cluster_cells};
 ghost use Rattle.fr_base.specs.Queries.{placements_in};
 ghost use Rattle.fr_world.specs.Pages.{frame_data, frame_of, own_rows_of};
-ghost use Rattle.fr_world.specs.Sendings.{Extends, cycle_cells, filled_by, sent_by, sent_in};
+ghost use Rattle.fr_world.specs.Loads.{filled_load, grants_in_lanes};
+ghost use Rattle.fr_world.specs.Sendings.{Extends, HaveSenders, cycle_cells, filled, filled_by, sent_by, sent_in};
 
-use crate::page::{Page, PageFrame};
+use crate::loads::filled_load;
+use crate::mask_occupancy::MaskOccupancy;
+use crate::page::{ChannelSlot, Page, PageFrame};
 use crate::sendings::{push_sendings, schedule};
-use fr_base::{Name, NoMemory, Params, Placement, Rows, Sending};
+use fr_base::{LaneHolder, LoadRow, Name, NoMemory, Params, Placement, Rows, Sending};
 use std::alloc::Global;
+use std::collections::BTreeMap;
 use std::marker::Model;
 
 /// A frame, and who sends it.
@@ -102,6 +106,20 @@ impl Triggerings {
         schedule(alloc, params, &self.senders, &self.triggerings)
     }
 
+    /// How full each lane of the cluster is by these placements, where these hold lanes: by slot, then
+    /// channel.
+    pub fn load(
+        &self,
+        alloc: Global,
+        params: &Params,
+        holders: &BTreeMap<ChannelSlot, LaneHolder>,
+    ) -> Result<Rows<LoadRow>, NoMemory>
+        ensures { IfOk result (λ rows. rows ≡ filled_load params.now (grants_in_lanes holders.now.entries) self.now) }
+    {
+        let cells = filled_cells(alloc, &self.senders, &self.triggerings)?;
+        filled_load(alloc, params, holders, &cells)
+    }
+
     /// Appends what is sent in the cycle, 0 to 63, of these placements: by slot and channel. Where several
     /// have a cell, the first one is sent. Where memory is refused, some of it may have been appended.
     pub(crate) fn push_sendings(
@@ -128,4 +146,20 @@ fn push_placements(frame: &PageFrame, sender: usize, triggerings: &mut Vec<Frame
             sender,
         });
     }
+}
+
+// The cells of the placements, with the names of the frames that are sent there.
+fn filled_cells(
+    alloc: Global,
+    senders: &[FrameSender],
+    triggerings: &[FrameTriggering],
+) -> Result<MaskOccupancy, NoMemory>
+    requires { HaveSenders senders.now triggerings.now }
+    ensures { IfOk result (λ cells. cells ≡ map (λ e. (e.0.frame, e.1)) (filled senders.now triggerings.now)) }
+{
+    let mut cells = MaskOccupancy::new(alloc);
+    for one in triggerings {
+        cells.add(senders[one.sender].frame, &one.placement)?;
+    }
+    Ok(cells)
 }

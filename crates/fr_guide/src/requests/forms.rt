@@ -1,6 +1,7 @@
 //! The requests, and the fields of each.
 ghost use Rattle.std.specs.Prelude.{◌≡◌, map, option_map};
-ghost use Rattle.fr_guide.specs.RequestFields.{fields_of, kind_of};
+ghost use Rattle.fr_text.specs.Fields.{is_among};
+ghost use Rattle.fr_guide.specs.RequestFields.{fields_of, kind_of, numbers};
 
 /// What a field of a request has to be.
 #[derive(Clone, Copy, PartialEq, Eq)]
@@ -14,7 +15,7 @@ pub enum Kind {
 
 /// The names of the requests, as a line lists them.
 pub const REQUESTS: &str =
-    "open_variant, release, add_supplier, add_node, grant, revoke, add_frame, drop_frame, place, unplace, add_signal, drop_signal, import, cluster, variants, nodes, grants, frames, schedule, gaps, layout";
+    "open_variant, release, add_supplier, set_key, add_node, grant, revoke, add_frame, drop_frame, place, unplace, add_signal, drop_signal, import, replace, cluster, variants, nodes, grants, frames, schedule, gaps, load, layout, room, export_frames, export_placements, export_signals";
 
 /// The fields of the request of this name, besides `do`.
 #[tactic(auto, unfolding(crate::specs::RequestFields::requests))]
@@ -24,8 +25,8 @@ pub fn fields_of(request: &str) -> Option<&'static [&'static str]>
     match request {
         "cluster" | "variants" | "nodes" => Some(&[]),
         "open_variant" => Some(&["variant", "from"]),
-        "release" | "grants" | "frames" | "schedule" | "gaps" => Some(&["variant"]),
-        "add_supplier" => Some(&["supplier", "key"]),
+        "release" | "grants" | "frames" | "schedule" | "gaps" | "load" => Some(&["variant"]),
+        "add_supplier" | "set_key" => Some(&["supplier", "key"]),
         "add_node" => Some(&["supplier", "node"]),
         "grant" => Some(&["variant", "slot", "channel", "supplier", "node"]),
         "revoke" => Some(&["variant", "slot", "channel", "supplier"]),
@@ -42,18 +43,34 @@ pub fn fields_of(request: &str) -> Option<&'static [&'static str]>
         "add_signal" => Some(&["variant", "frame", "signal", "start", "length", "order"]),
         "drop_signal" => Some(&["variant", "frame", "signal"]),
         "import" => Some(&["variant", "label", "body"]),
+        "replace" => Some(&["variant", "body"]),
+        "room" => Some(&["variant", "frame", "repetition"]),
+        "export_frames" | "export_placements" | "export_signals" => Some(&["variant", "part"]),
         _ => None,
     }
 }
 
 /// What the field of this name has to be.
-#[tactic(auto, unfolding(crate::specs::RequestFields::kind_of, crate::specs::RequestFields::numbers, fr_text::specs::Fields::is_among))]
+#[tactic(auto, unfolding(crate::specs::RequestFields::kind_of))]
 pub fn kind_of(field: &str) -> Kind
     ensures { result ≡ kind_of field.now }
 {
-    match field {
-        "slot" | "base" | "repetition" | "start" | "length" => Kind::Number,
-        "from" => Kind::TextOrNull,
-        _ => Kind::Text,
+    if is_number(field) {
+        Kind::Number
+    } else if field == "from" {
+        Kind::TextOrNull
+    } else {
+        Kind::Text
     }
+}
+
+// Whether the field of this name is a number.
+#[tactic(auto, unfolding(crate::specs::RequestFields::numbers, fr_text::specs::Fields::is_among))]
+fn is_number(field: &str) -> bool
+    ensures { result ≡ is_among numbers field.now }
+{
+    matches!(
+        field,
+        "slot" | "base" | "repetition" | "start" | "length" | "part"
+    )
 }

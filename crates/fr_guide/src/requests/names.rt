@@ -30,7 +30,7 @@ pub fn name_faults(alloc: Global, request: &Request) -> Result<Vec<String>, NoMe
             }
         }
         Request::Release { variant } => faults(alloc, &[name("variant", variant)]),
-        Request::AddSupplier { supplier, key } => {
+        Request::AddSupplier { supplier, key } | Request::SetKey { supplier, key } => {
             faults(alloc, &[name("supplier", supplier), key_in("key", key)])
         }
         Request::AddNode { supplier, node } => {
@@ -122,6 +122,7 @@ pub fn name_faults(alloc: Global, request: &Request) -> Result<Vec<String>, NoMe
             label,
             body: _,
         } => faults(alloc, &[name("variant", variant), name("label", label)]),
+        Request::Replace { variant, body: _ } => faults(alloc, &[name("variant", variant)]),
         Request::Query(query) => query_faults(alloc, query),
     }
 }
@@ -135,7 +136,11 @@ fn query_faults(alloc: Global, query: &Query<Text>) -> Result<Vec<String>, NoMem
         Query::Variant { variant, report } => {
             let variant = name("variant", variant);
             match report {
-                Report::Layout { frame } => faults(alloc, &[variant, name("frame", frame)]),
+                Report::Layout { frame }
+                | Report::Room {
+                    frame,
+                    repetition: _,
+                } => faults(alloc, &[variant, name("frame", frame)]),
                 _ => faults(alloc, &[variant]),
             }
         }

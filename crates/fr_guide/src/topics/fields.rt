@@ -19,7 +19,7 @@ A repetition divides the cluster's `cycles`: in a cluster of 64 it is 1, 2, 4, 8
 A base is 0 or more, and less than its repetition.
 They select the cycles whose remainder by the repetition is the base.
 Of 64 cycles base 1 and repetition 4 select 1, 5, 9, and so on, up to 61.
-It comes for `place`, for `unplace`, and for a row of an import. Choose another base or repetition.
+It comes for `place`, for `unplace`, for a row of a file, and for `room`. Choose another base or repetition.
 ",
 };
 

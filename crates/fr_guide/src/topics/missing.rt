@@ -35,7 +35,7 @@ const NO_FRAME: Topic = Topic {
     word: "NoFrame",
     about: "refusal 16. There is no such frame in the variant.",
     help: "\
-It comes for `drop_frame`, `place`, `unplace`, `add_signal`, `drop_signal` and `layout`,
+It comes for `drop_frame`, `place`, `unplace`, `add_signal`, `drop_signal`, `layout` and `room`,
 and for a row of signals in an import.
 A supplier reaches its own frames only. For the integrator's `layout` no supplier has such a frame.
 The report `frames` shows which frames there are; `add_frame` adds one.

@@ -30,6 +30,7 @@ const UNKNOWN_KEY: Topic = Topic {
 Neither the integrator nor a supplier has the key when the request's turn comes.
 Over HTTP it also comes where the field X-Office-Key is missing or stands more than once.
 Use a key of the cluster file, or let the integrator add the supplier by `add_supplier`.
+Of a supplier whose key was changed by `set_key` the new one is known alone.
 ",
 };
 
@@ -39,7 +40,7 @@ const NOT_YOURS: Topic = Topic {
     help: "\
 A supplier gave a command of the integrator, or the integrator gave one of a supplier.
 The integrator plans variants, suppliers, nodes and grants.
-A supplier plans its frames, placements and signals, and imports them. Both ask for reports.
+A supplier plans its frames, placements and signals, and imports them. Both ask for reports; a supplier for `room`.
 Send the request with the key of the one who may ask it.
 ",
 };

@@ -3,24 +3,18 @@
 
 ghost use Rattle.std.specs.Prelude.{◌≡◌, IfOk, OnOk};
 ghost use Rattle.fr_base.specs.Queries.{grants_of};
-ghost use Rattle.fr_office.specs.Shared.{grants_among, grants_held, with_rows};
+ghost use Rattle.fr_office.specs.Shared.{grants_among, with_rows};
 ghost use Rattle.fr_office.specs.Shown.{Gathers};
 ghost use Rattle.fr_world.specs.Pages.{own_rows_of};
 ghost use Rattle.fr_world.specs.Held.{Reads};
+ghost use Rattle.fr_world.specs.Loads.{grants_in_lanes};
 
 use crate::lender::Lender;
 use crate::queries::find_page;
-use fr_base::{GrantRow, Name, NoMemory, Refusal, Rows};
+use fr_base::{GrantRow, LaneHolder, Name, NoMemory, Refusal, Rows};
 use fr_world::{ChannelSlot, Page};
 use std::alloc::Global;
 use std::collections::BTreeMap;
-
-/// A supplier's node that holds a slot on a channel.
-#[derive(Clone, Copy, PartialEq, Eq)]
-pub(crate) struct Holder {
-    supplier: Name,
-    node: Name,
-}
 
 /// Which of the supplier's nodes holds which slot and channel, by slot and channel.
 pub(crate) fn page_grants(alloc: Global, page: &Page) -> Result<Rows<GrantRow>, NoMemory>
@@ -53,15 +47,15 @@ pub(crate) fn gather_grants<R: Lender>(
     Ok(grant_rows(alloc, &held)?)
 }
 
-// The holders among these suppliers, by slot and channel.
-fn gather_holders<R: Lender>(
+/// The holders among these suppliers, by slot and channel.
+pub(crate) fn gather_holders<R: Lender>(
     alloc: Global,
     records: &mut R,
     suppliers: &[Name],
     variant: Name,
-) -> Result<BTreeMap<ChannelSlot, Holder>, Refusal>
+) -> Result<BTreeMap<ChannelSlot, LaneHolder>, Refusal>
     ensures reads { Reads R.clean R.params R.leaves records.old records.new }
-    ensures gathers { R.clean records.new → Gathers (R.stands records.old) (R.stands records.new) result variant (λ p x held. grants_held held.entries ≡ grants_among suppliers.now x.grants) }
+    ensures gathers { R.clean records.new → Gathers (R.stands records.old) (R.stands records.new) result variant (λ p x held. grants_in_lanes held.entries ≡ grants_among suppliers.now x.grants) }
 {
     let mut held = BTreeMap::new(alloc);
     for supplier in suppliers {
@@ -74,9 +68,9 @@ fn gather_holders<R: Lender>(
 // The rows of these grants, by slot and channel.
 fn grant_rows(
     alloc: Global,
-    held: &BTreeMap<ChannelSlot, Holder>,
+    held: &BTreeMap<ChannelSlot, LaneHolder>,
 ) -> Result<Rows<GrantRow>, NoMemory>
-    ensures { IfOk result (λ rows. rows ≡ grants_of (grants_held held.now.entries)) }
+    ensures { IfOk result (λ rows. rows ≡ grants_of (grants_in_lanes held.now.entries)) }
 {
     let mut rows = Rows::new(alloc);
     for (at, holder) in held.iter() {
@@ -91,13 +85,13 @@ fn grant_rows(
 }
 
 // Adds the page's grants. Where memory is refused, some of them may have been added.
-fn add_grants(page: &Page, held: &mut BTreeMap<ChannelSlot, Holder>) -> Result<(), NoMemory>
-    ensures { OnOk result (grants_held held.new.entries ≡ with_rows (grants_held held.old.entries) (own_rows_of page.now).grants.rows) }
+fn add_grants(page: &Page, held: &mut BTreeMap<ChannelSlot, LaneHolder>) -> Result<(), NoMemory>
+    ensures { OnOk result (grants_in_lanes held.new.entries ≡ with_rows (grants_in_lanes held.old.entries) (own_rows_of page.now).grants.rows) }
 {
     let supplier = page.supplier();
     for (at, node) in page.grants().iter() {
         let node = *node;
-        held.insert(*at, Holder { supplier, node })?;
+        held.insert(*at, LaneHolder { supplier, node })?;
     }
     Ok(())
 }

@@ -4,7 +4,8 @@
 ghost use Rattle.std.specs.Prelude.{◌≡◌, ◌++◌, map, OnOk};
 ghost use Rattle.std.specs.List.{flat_map};
 ghost use Rattle.fr_base.specs.Book.{own};
-ghost use Rattle.fr_base.specs.Queries.{nodes_of, seen_nodes};
+ghost use Rattle.fr_base.specs.Queries.{nodes_of};
+ghost use Rattle.fr_base.specs.Seen.{seen_nodes};
 ghost use Rattle.fr_office.specs.Shown.{node_of, Sees};
 ghost use Rattle.fr_world.specs.Held.{Reads, Tells};
 

@@ -41,8 +41,8 @@ pub(crate) fn gather_schedule<R: Lender>(
     Ok(triggerings.schedule(alloc, params)?)
 }
 
-// The placements of these suppliers' frames, one supplier's after another's.
-fn gather_triggerings<R: Lender>(
+/// The placements of these suppliers' frames, one supplier's after another's.
+pub(crate) fn gather_triggerings<R: Lender>(
     alloc: Global,
     records: &mut R,
     suppliers: &[Name],

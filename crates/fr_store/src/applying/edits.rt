@@ -36,6 +36,10 @@ pub fn carry_out<S: Alter>(tx: &mut Transaction<'_, S>, edit: &Edit) -> Result<(
             suppliers::insert(tx, supplier, key)?;
             Ok(())
         }
+        Edit::SetKey { supplier, key } => {
+            suppliers::set_key(tx, supplier, key)?;
+            Ok(())
+        }
         Edit::NewNode { supplier, node } => {
             nodes::insert(tx, supplier, node)?;
             Ok(())

@@ -1,8 +1,9 @@
-//! The config after edits by which suppliers join.
+//! The config after edits by which suppliers join or have other keys.
 
 ghost use Rattle.std.specs.Prelude.{◌≡◌, IfErr, IfOk, unwrap_or};
 ghost use Rattle.fr_base.specs.Joining.{joined};
-ghost use Rattle.fr_store.specs.Joined.{after_edits};
+ghost use Rattle.fr_base.specs.KeyChanges.{with_key};
+ghost use Rattle.fr_store.specs.Joined.{after_edit, after_edits};
 ghost use Rattle.fr_store.specs.declared.fault.StoreFault.TheVariants.{Unavailable};
 
 use crate::fault::StoreFault;
@@ -10,8 +11,8 @@ use fr_base::{Config, Key, Name, Supplier};
 use fr_world::Edit;
 use std::alloc::Global;
 
-/// The config with the suppliers that join by the edits; none where none joins. `Unavailable` where one may
-/// not join, or memory is refused.
+/// The config with the suppliers that join by the edits, and the keys that they give; none where no supplier joins
+/// or has another key. `Unavailable` where one may not, or memory is refused.
 pub fn config_after(
     alloc: Global,
     config: &Config,
@@ -22,12 +23,30 @@ pub fn config_after(
 {
     let mut after: Option<Config> = None;
     for edit in edits {
-        if let Edit::NewSupplier { supplier, key } = edit {
-            let before = after.as_ref().unwrap_or(config);
-            after = Some(with_one(alloc, before, *supplier, *key)?);
+        let before = after.as_ref().unwrap_or(config);
+        if let Some(next) = after_one(alloc, before, edit)? {
+            after = Some(next);
         }
     }
     Ok(after)
+}
+
+// The config after the edit; none where it stays as it was.
+fn after_one(alloc: Global, config: &Config, edit: &Edit) -> Result<Option<Config>, StoreFault>
+    ensures after { IfOk result (λ after. unwrap_or after config.now ≡ after_edit config.now edit.now) }
+    ensures refused { IfErr result (λ fault. fault ≡ Unavailable) }
+{
+    match edit {
+        Edit::NewSupplier { supplier, key } => {
+            let after = with_one(alloc, config, *supplier, *key)?;
+            Ok(Some(after))
+        }
+        Edit::SetKey { supplier, key } => {
+            let after = with_other_key(alloc, config, *supplier, *key)?;
+            Ok(Some(after))
+        }
+        _ => Ok(None),
+    }
 }
 
 // The config with one supplier more.
@@ -38,5 +57,20 @@ fn with_one(alloc: Global, config: &Config, name: Name, key: Key) -> Result<Conf
     let supplier = Supplier { name, key };
     config
         .joined(alloc, supplier)
+        .map_err(|_| StoreFault::Unavailable)
+}
+
+// The config with this key of the supplier.
+fn with_other_key(
+    alloc: Global,
+    config: &Config,
+    supplier: Name,
+    key: Key,
+) -> Result<Config, StoreFault>
+    ensures with { IfOk result (λ new. new ≡ with_key config.now supplier key) }
+    ensures refused { IfErr result (λ fault. fault ≡ Unavailable) }
+{
+    config
+        .with_key(alloc, supplier, key)
         .map_err(|_| StoreFault::Unavailable)
 }

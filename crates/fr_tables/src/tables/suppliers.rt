@@ -4,7 +4,7 @@ ghost use Rattle.std.specs.Prelude.{◌≡◌};
 ghost use Rattle.sqlite.specs.State.{Survives};
 ghost use Rattle.sqlite.specs.Held.{state};
 ghost use Rattle.fr_tables.specs.Changes.{Makes, Finds, Spares};
-ghost use Rattle.fr_tables.specs.Statements.{with_supplier, shows_supplier, suppliers_cmp, every};
+ghost use Rattle.fr_tables.specs.Statements.{with_supplier, with_key, shows_supplier, suppliers_cmp, every};
 
 use fr_base::{Key, Name};
 use sqlite::{Alter, Connection, Error, Row, Transaction, params};
@@ -17,6 +17,22 @@ pub fn insert<S: Alter>(tx: &mut Transaction<'_, S>, name: &Name, key: &Key) -> 
 {
     tx.execute(
         "INSERT INTO suppliers (name, key) VALUES (?1, ?2)",
+        params![name.as_str(), key.as_str()],
+    )
+}
+
+/// Gives the supplier another key.
+pub fn set_key<S: Alter>(
+    tx: &mut Transaction<'_, S>,
+    name: &Name,
+    key: &Key,
+) -> Result<usize, Error>
+    ensures same_reference { tx.new.conn.ghost_name ≡ tx.old.conn.ghost_name }
+    ensures keyed { Makes (with_key name.now key.now) (state S.Store tx.old.conn.now) (state S.Store tx.new.conn.now) result }
+    ensures survives { Survives (state S.Store tx.old.conn.now) (state S.Store tx.new.conn.now) (λ _. ⊥) }
+{
+    tx.execute(
+        "UPDATE suppliers SET key = ?2 WHERE name = ?1",
         params![name.as_str(), key.as_str()],
     )
 }

@@ -1,6 +1,6 @@
 //! Reads the requests that the integrator alone gives.
 ghost use Rattle.fr_text.specs.Fields.{fields_in, Reads};
-ghost use Rattle.fr_text.specs.RequestText.{open_variant, release, add_supplier, add_node, grant, revoke};
+ghost use Rattle.fr_text.specs.RequestText.{open_variant, release, add_supplier, set_key, add_node, grant, revoke};
 
 use crate::fields::{Fields, allow_only, copy_text, copy_text_or_null, number_in};
 use fr_base::{Refusal, Request};
@@ -33,6 +33,17 @@ pub(super) fn add_supplier(alloc: Global, fields: &Fields) -> Result<Request, Re
 {
     allow_only(fields, &["do", "supplier", "key"])?;
     Ok(Request::AddSupplier {
+        supplier: copy_text(alloc, fields, "supplier")?,
+        key: copy_text(alloc, fields, "key")?,
+    })
+}
+
+#[tactic(auto, unfolding(crate::specs::RequestText::set_key))]
+pub(super) fn set_key(alloc: Global, fields: &Fields) -> Result<Request, Refusal>
+    ensures { Reads (λ request. request) (set_key (fields_in fields.now)) result }
+{
+    allow_only(fields, &["do", "supplier", "key"])?;
+    Ok(Request::SetKey {
         supplier: copy_text(alloc, fields, "supplier")?,
         key: copy_text(alloc, fields, "key")?,
     })

@@ -1,6 +1,6 @@
 //! Reads the requests that a supplier gives.
 ghost use Rattle.fr_text.specs.Fields.{fields_in, Reads};
-ghost use Rattle.fr_text.specs.RequestText.{add_frame, drop_frame, place, unplace, add_signal, drop_signal, import};
+ghost use Rattle.fr_text.specs.RequestText.{add_frame, drop_frame, place, unplace, add_signal, drop_signal, import, replace};
 
 use crate::fields::{Fields, allow_only, copy_text, number_in, text_in};
 use fr_base::{Body, Refusal, Request};
@@ -121,6 +121,17 @@ pub(super) fn import(alloc: Global, fields: &Fields) -> Result<Request, Refusal>
     Ok(Request::Import {
         variant: copy_text(alloc, fields, "variant")?,
         label: copy_text(alloc, fields, "label")?,
+        body: Body::copy(alloc, text_in(fields, "body")?.as_bytes())?,
+    })
+}
+
+#[tactic(auto, unfolding(crate::specs::RequestText::replace))]
+pub(super) fn replace(alloc: Global, fields: &Fields) -> Result<Request, Refusal>
+    ensures { Reads (λ request. request) (replace (fields_in fields.now)) result }
+{
+    allow_only(fields, &["do", "variant", "body"])?;
+    Ok(Request::Replace {
+        variant: copy_text(alloc, fields, "variant")?,
         body: Body::copy(alloc, text_in(fields, "body")?.as_bytes())?,
     })
 }

@@ -1,10 +1,11 @@
-//! A page that the rows of an import change, one after the other.
+//! A page that the rows of a file change, one after the other.
 ghost use Rattle.std.specs.Prelude.{◌≡◌, ◌⊎◌, Ok, Err, IfOk, IfErr, IsTrue, OnOk};
 ghost use Rattle.fr_base.specs.Signals.{is_signal_length};
 ghost use Rattle.fr_base.specs.Sound.{FitsCluster};
 ghost use Rattle.fr_base.specs.declared.refusal.Refusal.TheVariants.{Unavailable};
 ghost use Rattle.fr_world.specs.Decisions.{IsChecked, admits_alone};
 ghost use Rattle.fr_world.specs.Drafts.{draft_data};
+ghost use Rattle.fr_world.specs.ReplacementDecisions.{AreAdmitted, replace_row, with_changes};
 ghost use Rattle.fr_world.specs.RowDecisions.{IsCheckedRow, draft_of, make, make_frame, make_row, with_change};
 ghost use Rattle.fr_world.specs.Pages.{own_rows_of};
 
@@ -54,6 +55,35 @@ impl Draft {
             }
             Row::AddSignal { frame, signal } => self.add_signal(alloc, *frame, *signal),
         }
+    }
+
+    /// What the row of a replacement does, or its first refusal, so.
+    pub(super) fn replace_row(&mut self, alloc: Global, row: &Row) -> Result<(), Refusal>
+        requires checked { IsCheckedRow self.old.page.params row.now }
+        ensures ok { OnOk result (replace_row (draft_data self.old) row.now ≡ Ok (draft_data self.new)) }
+        ensures err { IfErr result (λ e. (e ≡ Unavailable) ⊎ (replace_row (draft_data self.old) row.now ≡ Err e)) }
+    {
+        match row {
+            Row::AddFrame { frame, node } => self.make_frame(alloc, *frame, *node),
+            Row::Place { .. } | Row::AddSignal { .. } => self.make_row(alloc, row),
+        }
+    }
+
+    /// Makes changes of the frame, each of which the page admits after those before it.
+    pub(super) fn make_all(
+        &mut self,
+        alloc: Global,
+        frame: Name,
+        changes: &[FrameChange],
+    ) -> Result<(), Refusal>
+        requires admitted { AreAdmitted (own_rows_of self.old.page) frame changes.now }
+        ensures ok { OnOk result (draft_data self.new ≡ with_changes (draft_data self.old) frame changes.now) }
+        ensures err { IfErr result (λ e. e ≡ Unavailable) }
+    {
+        for change in changes {
+            self.make(alloc, frame, *change)?;
+        }
+        Ok(())
     }
 
     // The frame is there, with the node: it is added where it is not there yet.

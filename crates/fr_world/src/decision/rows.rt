@@ -14,14 +14,14 @@ pub(super) fn has_node(page: &Page, node: Name) -> bool
 }
 
 /// Which of the supplier's nodes holds the slot on the channel.
-pub(super) fn holder(page: &Page, slot: Slot, channel: Channel) -> Option<Name>
+pub(crate) fn holder(page: &Page, slot: Slot, channel: Channel) -> Option<Name>
     ensures { option_map (holder_of page.now.supplier) result ≡ get (own_rows_of page.now).grants (slot, channel) }
 {
     page.grants().get(&ChannelSlot { slot, channel }).copied()
 }
 
 /// The supplier's frame of this name.
-pub(super) fn frame_named(page: &Page, frame: Name) -> Option<&PageFrame>
+pub(crate) fn frame_named(page: &Page, frame: Name) -> Option<&PageFrame>
     ensures value { option_map (λ f. frame_of (frame_data f.now)) result ≡ get (own_rows_of page.now).frames (page.now.supplier, frame) }
     ensures words { IfSome result (λ f. f.now.layout.words ≡ page.now.params.payload_words) }
 {

@@ -11,4 +11,4 @@ returns c =
     (with_arg _ _ _ _ _ c.in_ok-arg-4.ensures
     (with_arg _ _ _ _ _ c.in_ok-arg-3.ensures
     (with_arg _ _ _ _ _ c.in_ok-arg-2.ensures
-    (with_arg _ _ _ _ _ c.in_ok-arg.ensures new c.db.ensures) c.word.ensures) c.variant.ensures) c.word-2.ensures) c.word-3.ensures
+    (with_arg _ _ _ _ _ c.in_ok-arg.ensures new c.db.ensures) c.key.ensures) c.variant.ensures) c.word.ensures) c.rows.ensures

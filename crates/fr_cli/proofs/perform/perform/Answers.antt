@@ -4,15 +4,15 @@ use Rattle.sqlite_wal.specs.Files.{image_at}
 use Rattle.fr_text.specs.AnswerText.{report_of}
 use Rattle.fr_cli.specs.Checking.{IsCheckedFile}
 use Rattle.fr_cli.specs.Asking.{IsForReader, line_of, query_of}
-use Rattle.fr_cli.specs.Faults.{IsNotImported, IsNotReported}
+use Rattle.fr_cli.specs.Faults.{IsNotDelivered, IsNotReported}
 use Rattle.fr_cli.specs.Performing.{Says}
 use Rattle.fr_cli.specs.Picturing.{plans_for}
 use Rattle.fr_picture.specs.Pages.{IsPage}
 use Rattle.fr_cli.specs.Queries.{named}
 use Rattle.fr_cli.specs.Reading.{PrintsRead}
-use Rattle.fr_cli.specs.RegisterFiles.{IsAnswerOfFile, IsImportOfFile, IsReadOfFile}
+use Rattle.fr_cli.specs.RegisterFiles.{IsAnswerOfFile, IsDeliveryToFile, IsReadOfFile}
 use Rattle.fr_cli.specs.Serving.{IsAnnounced, IsServed}
-use Rattle.fr_cli.specs.declared.imported_file.GivenWords.{GivenWords}
+use Rattle.fr_cli.specs.declared.delivery.Delivery.{Delivery}
 use Rattle.fr_cli.specs.declared.query.Inquiry.{Inquiry}
 use Rattle.fr_cli.specs.declared.text_file.TextFile.{TextFile}
 use Rattle.fr_cli.specs.declared.words.Job.{Job}
@@ -30,19 +30,19 @@ returns-in-Report-clause-report g c db query is =
     (ap (query_in query) (sym c.in-Report.is ∙ is)) c.report_file-done.ensures in
     (c.report_file-done.result.0, says, search rules)
 
--- the words of an import's job
-abbrev words_in : GivenWords → Job → GivenWords
-words_in words (job.Import db key variant label file) = record { key = key; variant = variant; label = label }
-words_in words _ = words
+-- what a job delivers
+abbrev delivery_in : Delivery → Job → Delivery
+delivery_in delivery (job.Deliver db given) = given
+delivery_in delivery _ = delivery
 
-pub returns-in-Import-clause-import : goal.returns-in-Import-clause-import
-returns-in-Import-clause-import g c db key variant label file is =
-    let said = c.import_file-done.ensures in
-    let says = subst (λ (words : GivenWords). Says (IsNotImported (image_at g.S.Start) c.import_file-done.result.1 words.key.now)
-    (IsImportOfFile (image_at g.S.Start) c.import_file-done.result.1 words.key words.variant words.label (g.R.Read.remaining c.args.input.now) (g.R.Read.remaining c.import_file-done.new.input) said.0)
-    line_of c.import_file-done.result.0)
-    (ap (words_in (record { key = key; variant = variant; label = label })) (sym c.in-Import.is ∙ is)) said.1 in
-    (said.0, c.import_file-done.result.0, says, search rules)
+pub returns-in-Deliver-clause-deliver : goal.returns-in-Deliver-clause-deliver
+returns-in-Deliver-clause-deliver g c db delivery is =
+    let said = c.deliver_file-done.ensures in
+    let says = subst (λ (d : Delivery). Says (IsNotDelivered (image_at g.S.Start) c.deliver_file-done.result.1 d.key.now)
+    (IsDeliveryToFile (image_at g.S.Start) c.deliver_file-done.result.1 d (g.R.Read.remaining c.args.input.now) (g.R.Read.remaining c.deliver_file-done.new.input) said.0)
+    line_of c.deliver_file-done.result.0)
+    (ap (delivery_in delivery) (sym c.in-Deliver.is ∙ is)) said.1 in
+    (said.0, c.deliver_file-done.result.0, says, search rules)
 
 -- the variant that a job draws, and the supplier for whom
 abbrev view_in : Bor (List ℕ) × Option (Bor (List ℕ)) → Job → Bor (List ℕ) × Option (Bor (List ℕ))

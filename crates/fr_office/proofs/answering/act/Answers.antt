@@ -3,9 +3,9 @@ use Rattle.fr_base.specs.declared.actor.Actor.TheVariants.{Supplier}
 use Rattle.fr_base.specs.declared.answer.Answer.TheVariants.{Done}
 use Rattle.fr_base.specs.declared.request.Checked.{Checked}
 use Rattle.fr_office.specs.Answering.{Acts, HasPassed, LeavesAct}
-use Rattle.fr_office.proofs.StepLaws.{command_done, command_refused, import_acts, query_acts}
+use Rattle.fr_office.proofs.StepLaws.{command_done, command_refused, import_acts, query_acts, replacement_acts}
 use Rattle.fr_office.proofs.CheckedLaws.{from-known}
-use Rattle.fr_office.proofs.CrashLaws.{act_command, act_import}
+use Rattle.fr_office.proofs.CrashLaws.{act_command, act_import, act_replace}
 use Rattle.fr_office.proofs.answering.act.Goals as goal
 
 pub carry_out-requires : goal.carry_out-requires
@@ -13,6 +13,9 @@ carry_out-requires g c =
     let stands = g.R.Records.stands c.args.records.now in
     let fits = subst (λ (valid : Checked). HasPassed (g.R.Records.params c.args.records.now) c.args.actor.now valid) c.in-Command.is c.requires.passed in
     record { checked = fits.0; known = from-known stands c.args.actor.now c.in-Command.command fits.1 c.requires.known }
+
+pub reply-requires : goal.reply-requires
+reply-requires g c = subst (λ (valid : Checked). HasPassed (g.R.Records.params c.args.records.now) c.args.actor.now valid) c.in-Query.is c.requires.passed
 
 pub returns-in_err-carry_out-in-Command-clause-acts : goal.returns-in_err-carry_out-in-Command-clause-acts
 returns-in_err-carry_out-in-Command-clause-acts g c = λ clean.
@@ -35,6 +38,14 @@ returns-in-Import-clause-acts g c = λ clean.
     let asks : c.args.actor.now ≡ Supplier c.in-Import.new.supplier = subst (λ (valid : Checked). HasPassed (g.R.Records.params c.args.records.now) c.args.actor.now valid) c.in-Import.is c.requires.passed in
     subst (λ (valid : Checked). Acts old new c.import.result c.args.actor.now valid) (sym c.in-Import.is)
     (import_acts old new c.args.actor.now c.in-Import.new c.import.result asks (c.import.ensures.gives clean))
+
+pub returns-in-Replace-clause-acts : goal.returns-in-Replace-clause-acts
+returns-in-Replace-clause-acts g c = λ clean.
+    let old = g.R.Records.stands c.args.records.now in
+    let new = g.R.Records.stands c.replace.new.records in
+    let asks : c.args.actor.now ≡ Supplier c.in-Replace.new.supplier = subst (λ (valid : Checked). HasPassed (g.R.Records.params c.args.records.now) c.args.actor.now valid) c.in-Replace.is c.requires.passed in
+    subst (λ (valid : Checked). Acts old new c.replace.result c.args.actor.now valid) (sym c.in-Replace.is)
+    (replacement_acts old new c.args.actor.now c.in-Replace.new c.replace.result asks (c.replace.ensures.gives clean))
 
 pub returns-in-Query-clause-acts : goal.returns-in-Query-clause-acts
 returns-in-Query-clause-acts g c = λ clean.
@@ -67,6 +78,15 @@ returns-in-Import-clause-leaves g c = λ clean.
     let new = records.leaves c.import.new.records in
     let asks : c.args.actor.now ≡ Supplier c.in-Import.new.supplier = subst (λ (valid : Checked). HasPassed (records.params c.args.records.now) c.args.actor.now valid) c.in-Import.is c.requires.passed in
     subst (λ (valid : Checked). LeavesAct stands old new c.args.actor.now valid) (sym c.in-Import.is) (act_import stands old new c.args.actor.now c.in-Import.new asks (c.import.ensures.leaves clean))
+
+pub returns-in-Replace-clause-leaves : goal.returns-in-Replace-clause-leaves
+returns-in-Replace-clause-leaves g c = λ clean.
+    let records = g.R.Records in
+    let stands = records.stands c.args.records.now in
+    let old = records.leaves c.args.records.now in
+    let new = records.leaves c.replace.new.records in
+    let asks : c.args.actor.now ≡ Supplier c.in-Replace.new.supplier = subst (λ (valid : Checked). HasPassed (records.params c.args.records.now) c.args.actor.now valid) c.in-Replace.is c.requires.passed in
+    subst (λ (valid : Checked). LeavesAct stands old new c.args.actor.now valid) (sym c.in-Replace.is) (act_replace stands old new c.args.actor.now c.in-Replace.new asks (c.replace.ensures.leaves clean))
 
 pub returns-in-Query-clause-leaves : goal.returns-in-Query-clause-leaves
 returns-in-Query-clause-leaves g c = λ clean cl b books stood sound known left. inl (c.reply.ensures.reads.leaves clean cl books left)

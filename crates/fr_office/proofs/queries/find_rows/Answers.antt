@@ -1,4 +1,4 @@
-use Rattle.std.proofs.Common.{subst, sym}
+use Rattle.std.proofs.Common.{ℕ, subst, sym}
 use Rattle.fr_base.specs.Queries.{found}
 use Rattle.fr_base.specs.declared.name.Name.{Name}
 use Rattle.fr_base.specs.declared.query.Query.{Query}
@@ -10,5 +10,5 @@ pub returns-in-Register-clause-replies : goal.returns-in-Register-clause-replies
 returns-in-Register-clause-replies g c = λ now.
     let old = g.R.Records.stands c.args.records.now in
     let new = g.R.Records.stands c.held.new.records in
-    subst (λ (q : Query Name). Replies old new c.held.result (λ k b. found k.params b c.args.actor.now q)) (sym c.in-Register.is)
+    subst (λ (q : Query Name ℕ). Replies old new c.held.result (λ k b. found k.params b c.args.actor.now q)) (sym c.in-Register.is)
     (found-held old new c.args.actor.now c.in-Register.inventory c.held.result (c.held.ensures.holds now))

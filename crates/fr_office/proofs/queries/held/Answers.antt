@@ -1,5 +1,4 @@
-use Rattle.std.proofs.Common.{◌≡◌, ◌∙◌, Ok, ap, subst, sym}
-use Rattle.fr_base.specs.Book.{file_of}
+use Rattle.std.proofs.Common.{◌∙◌, Ok, ap, subst, sym}
 use Rattle.fr_base.specs.Cluster.{ClusterFile}
 use Rattle.fr_base.specs.Queries.{held}
 use Rattle.fr_base.specs.declared.answer.ReportRows.TheVariants as shows

@@ -1,10 +1,10 @@
-use Rattle.std.proofs.Common.{◌∙◌, ◌++◌, not, false, Ok, Err, sym, ap, subst}
+use Rattle.std.proofs.Common.{◌∙◌, ◌++◌, not, Ok, Err, sym, ap, subst, rules}
 use Rattle.fr_base.specs.Queries.{frames_of, gaps_of, named, signals_of}
 use Rattle.fr_base.specs.declared.answer.ReportRows.TheVariants as shows
 use Rattle.fr_base.specs.declared.refusal.Refusal.TheVariants.{NoFrame}
 use Rattle.fr_world.specs.Pages.{own_rows_of}
 use Rattle.fr_office.specs.Shown.{ShowsOwn}
-use Rattle.fr_office.proofs.OwnReplies.{shows-grants, shows-frames, shows-schedule, shows-gaps, shows-layout, shows-no_frame}
+use Rattle.fr_office.proofs.OwnReplies.{shows-grants, shows-frames, shows-schedule, shows-gaps, shows-layout, shows-no_frame, shows-load, shows-room, shows-no_room, shows-export}
 use Rattle.fr_office.proofs.queries.show.Goals as goal
 
 pub returns-in_ok-page_grants-in-Grants : goal.returns-in_ok-page_grants-in-Grants
@@ -44,3 +44,27 @@ returns-else-not-branch c =
     (shows-layout c.args.page.now name rows
     (c.in_ok-push_signals-in-Layout.ensures.rows ∙ ap (λ rs. rs ++ signals_of (named name (own_rows_of c.args.page.now).frames)) c.new-rows-in-Layout.ensures)
     (sym c.in_ok-push_signals-in-Layout.ensures.found ∙ ap not c.if-not-branch.false))
+
+pub returns-in_ok-page_load-in-Load : goal.returns-in_ok-page_load-in-Load
+returns-in_ok-page_load-in-Load c =
+    let rows = c.in_ok-page_load-in-Load.field-0 in
+    subst (λ q. ShowsOwn c.args.page.now q (Ok (shows.Load rows))) (sym c.in-Load.is)
+    (shows-load c.args.page.now rows c.in_ok-page_load-in-Load.ensures)
+
+pub returns-in_err-rows-in-Room : goal.returns-in_err-rows-in-Room
+returns-in_err-rows-in-Room c =
+    subst (λ q. ShowsOwn c.args.page.now q c.from_residual-in_err-rows-in-Room.result) (sym c.in-Room.is)
+    (shows-no_room c.args.page.now c.in-Room.frame c.in-Room.repetition c.from_residual-in_err-rows-in-Room.result c.in_err-rows-in-Room.field-0.0 (search rules)
+    c.in_err-rows-in-Room.ensures.refusal)
+
+pub returns-in_ok-rows-in-Room : goal.returns-in_ok-rows-in-Room
+returns-in_ok-rows-in-Room c =
+    let places = c.in_ok-rows-in-Room.rows in
+    subst (λ q. ShowsOwn c.args.page.now q (Ok (shows.Room places))) (sym c.in-Room.is)
+    (shows-room c.args.page.now c.in-Room.frame c.in-Room.repetition places c.in_ok-rows-in-Room.ensures.places)
+
+pub returns-in_ok-page_export-in-Export : goal.returns-in_ok-page_export-in-Export
+returns-in_ok-page_export-in-Export c =
+    let rows = c.in_ok-page_export-in-Export.field-0 in
+    subst (λ q. ShowsOwn c.args.page.now q (Ok rows)) (sym c.in-Export.is)
+    (shows-export c.args.page.now c.in-Export.header c.in-Export.part rows c.in_ok-page_export-in-Export.ensures)

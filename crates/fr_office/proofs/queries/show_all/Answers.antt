@@ -1,11 +1,11 @@
-use Rattle.std.proofs.Common.{◌≡◌, ◌∙◌, true, List, map, Option, Ok, Err, sym, ap, subst}
+use Rattle.std.proofs.Common.{◌≡◌, ◌∙◌, List, map, Option, Ok, Err, sym, ap, subst}
 use Rattle.fr_base.specs.Book.{Book}
 use Rattle.fr_base.specs.Cluster.{Cluster, ClusterFile}
 use Rattle.fr_base.specs.declared.answer.ReportRows.TheVariants as shows
 use Rattle.fr_base.specs.declared.answer.SignalRow.{SignalRow}
-use Rattle.fr_base.specs.declared.refusal.Refusal.TheVariants.{NoFrame}
+use Rattle.fr_base.specs.declared.refusal.Refusal.TheVariants.{NoFrame, NotYours}
 use Rattle.fr_office.specs.Shown.{AreSignals, Gathers, ShowsAll}
-use Rattle.fr_office.proofs.AllReplies.{all-grants, all-frames, all-schedule, all-gaps, all-layout, all-no_frame}
+use Rattle.fr_office.proofs.AllReplies.{all-grants, all-frames, all-schedule, all-gaps, all-layout, all-no_frame, all-load, all-no_room, all-export}
 use Rattle.fr_office.proofs.SplitLaws.{names-listed, supplier_names}
 use Rattle.fr_office.proofs.queries.show_all.Goals as goal
 
@@ -65,8 +65,8 @@ returns-in-Some-clause-shows g c = λ now.
     (all-layout old new v c.deref-in-Layout.result.now known f c.in-Some.rows
     (subst (λ found. Gathers old new (Ok found) v (λ p x found. AreSignals f c.deref-in-Layout.result.now x found)) c.in-Some.is gathers))
 
-pub returns-clause-shows : goal.returns-clause-shows
-returns-clause-shows g c = λ now.
+pub returns-in-Layout-clause-shows : goal.returns-in-Layout-clause-shows
+returns-in-Layout-clause-shows g c = λ now.
     let records = g.R.Records in
     let old = records.stands c.args.records.now in
     let new = records.stands c.gather_signals.new.records in
@@ -78,3 +78,32 @@ returns-clause-shows g c = λ now.
     subst (λ q. ShowsAll old new v q (Err NoFrame)) (sym c.in-Layout.is)
     (all-no_frame old new v c.deref-in-Layout.result.now known f
     (subst (λ (found : Option (List SignalRow)). Gathers old new (Ok found) v (λ p x found. AreSignals f c.deref-in-Layout.result.now x found)) c.in-None.is gathers))
+
+pub returns-in-Load-clause-shows : goal.returns-in-Load-clause-shows
+returns-in-Load-clause-shows g c = λ now.
+    let records = g.R.Records in
+    let old = records.stands c.args.records.now in
+    let v = c.args.variant in
+    let known : (k : Cluster) (b : Book) → old k b → c.deref-in-Load.result.now ≡ supplier_names b =
+    λ k b stood. c.deref-in-Load.ensures.value ∙ c.in_ok-suppliers.ensures ∙ ap (λ (f : ClusterFile). map (λ s. s.name) f.suppliers) (c.config-2.ensures.config k b stood) ∙ names-listed b in
+    subst (λ q. ShowsAll old (records.stands c.gather_load.new.records) v q (Ok (shows.Load c.in_ok-rows-in-Load.rows))) (sym c.in-Load.is)
+    (all-load old (records.stands c.gather_load.new.records) v c.deref-in-Load.result.now known c.params-params.result c.in_ok-rows-in-Load.rows
+    (λ k b stood. c.params-params.ensures.value ∙ ap (λ (f : ClusterFile). f.cluster.params) (c.config.ensures.config k b stood))
+    (c.in_ok-rows-in-Load.ensures.gathers now))
+
+pub returns-in-Room-clause-shows : goal.returns-in-Room-clause-shows
+returns-in-Room-clause-shows g c = λ now.
+    let old = g.R.Records.stands c.args.records.now in
+    subst (λ q. ShowsAll old old c.args.variant q (Err NotYours)) (sym c.in-Room.is)
+    (all-no_room old c.args.variant _ _)
+
+pub returns-clause-shows : goal.returns-clause-shows
+returns-clause-shows g c = λ now.
+    let records = g.R.Records in
+    let old = records.stands c.args.records.now in
+    let new = records.stands c.gather_export.new.records in
+    let v = c.args.variant in
+    let known : (k : Cluster) (b : Book) → old k b → c.deref-in-Export.result.now ≡ supplier_names b =
+    λ k b stood. c.deref-in-Export.ensures.value ∙ c.in_ok-suppliers.ensures ∙ ap (λ (f : ClusterFile). map (λ s. s.name) f.suppliers) (c.config-2.ensures.config k b stood) ∙ names-listed b in
+    subst (λ q. ShowsAll old new v q c.gather_export.result) (sym c.in-Export.is)
+    (all-export old new v c.deref-in-Export.result.now known c.in-Export.header c.in-Export.part c.gather_export.result (c.gather_export.ensures.gathers now))

@@ -3,10 +3,10 @@ use Rattle.fr_base.proofs.QueryLemmas.{query_read, variant_unread, report_unread
 use Rattle.fr_base.proofs.query.Query.read.Goals as goal
 
 pub returns-in_err-variant-in-Variant : goal.returns-in_err-variant-in-Variant
-returns-in_err-variant-in-Variant g c = let unread = variant_unread (g.R.NameReader.reads c.args.reader.now) in search rules
+returns-in_err-variant-in-Variant g c = let unread = variant_unread (g.R.QueryReader.reads c.args.reader.now) (g.R.QueryReader.counts c.args.reader.now) in search rules
 
 pub returns-in_err-report-in-Variant : goal.returns-in_err-report-in-Variant
-returns-in_err-report-in-Variant g c = let unread = report_unread (g.R.NameReader.reads c.args.reader.now) in search rules
+returns-in_err-report-in-Variant g c = let unread = report_unread (g.R.QueryReader.reads c.args.reader.now) (g.R.QueryReader.counts c.args.reader.now) in search rules
 
 pub returns-in_ok-report-in-Variant : goal.returns-in_ok-report-in-Variant
-returns-in_ok-report-in-Variant g c = let read = query_read (g.R.NameReader.reads c.args.reader.now) in search rules
+returns-in_ok-report-in-Variant g c = let read = query_read (g.R.QueryReader.reads c.args.reader.now) (g.R.QueryReader.counts c.args.reader.now) in search rules

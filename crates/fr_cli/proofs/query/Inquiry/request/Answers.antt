@@ -4,5 +4,5 @@ use Rattle.fr_cli.proofs.query.Inquiry.request.Goals as goal
 
 pub returns : goal.returns
 returns c =
-    let made = query_made (λ name. name.now) c.args.self.query c.read.result c.read.ensures in
+    let made = query_made (λ name. name.now) (λ number. number) c.args.self.query c.read.result c.read.ensures in
     search rules

@@ -20,6 +20,9 @@ returns-in-NewNode-clause-pages c =
 pub returns-in-NewSupplier-clause-pages : goal.returns-in-NewSupplier-clause-pages
 returns-in-NewSupplier-clause-pages c = subst (λ (e : Edit). AreFollowed e c.args.self.now.pages c.args.self.now.pages) (sym c.in-NewSupplier.is) (same-followed _ c.args.self.now.pages (λ page. refl))
 
+pub returns-in-SetKey-clause-pages : goal.returns-in-SetKey-clause-pages
+returns-in-SetKey-clause-pages c = subst (λ (e : Edit). AreFollowed e c.args.self.now.pages c.args.self.now.pages) (sym c.in-SetKey.is) (same-followed _ c.args.self.now.pages (λ page. refl))
+
 pub returns-in-KeepImport-clause-pages : goal.returns-in-KeepImport-clause-pages
 returns-in-KeepImport-clause-pages c = subst (λ (e : Edit). AreFollowed e c.args.self.now.pages c.args.self.now.pages) (sym c.in-KeepImport.is) (same-followed _ c.args.self.now.pages (λ page. refl))
 
@@ -37,6 +40,9 @@ returns-in-SetReleased-clause-counts c = λ p b fits counted. others_counted b c
 
 pub returns-in-NewSupplier-clause-counts : goal.returns-in-NewSupplier-clause-counts
 returns-in-NewSupplier-clause-counts c = λ p b fits counted. others_counted b c.args.edit.now c.args.self.now.counts (λ s label v body rows is. let no = sym c.in-NewSupplier.is ∙ is in cc) counted
+
+pub returns-in-SetKey-clause-counts : goal.returns-in-SetKey-clause-counts
+returns-in-SetKey-clause-counts c = λ p b fits counted. others_counted b c.args.edit.now c.args.self.now.counts (λ s label v body rows is. let no = sym c.in-SetKey.is ∙ is in cc) counted
 
 pub returns-in-NewNode-clause-counts : goal.returns-in-NewNode-clause-counts
 returns-in-NewNode-clause-counts c = λ p b fits counted. others_counted b c.args.edit.now c.args.self.now.counts (λ s label v body rows is. let no = sym c.in-NewNode.is ∙ is in cc) counted

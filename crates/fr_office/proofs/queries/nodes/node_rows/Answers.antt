@@ -1,7 +1,8 @@
 use Rattle.std.proofs.Common.{◌≡◌, ◌∙◌, map, ap, subst, sym}
 use Rattle.fr_base.specs.Book.{Book}
 use Rattle.fr_base.specs.Cluster.{Cluster, ClusterFile}
-use Rattle.fr_base.specs.Queries.{nodes_of, seen_nodes}
+use Rattle.fr_base.specs.Queries.{nodes_of}
+use Rattle.fr_base.specs.Seen.{seen_nodes}
 use Rattle.fr_base.specs.declared.actor.Actor.{Actor}
 use Rattle.fr_office.specs.Shown.{Sees}
 use Rattle.fr_office.proofs.RegisterReplies.{sees-all}

@@ -3,7 +3,7 @@ use Rattle.std.specs.Prelude.{⊤}
 use Rattle.sqlite.specs.Held.{state}
 use Rattle.fr_store.specs.Applying.{CarriesOut}
 use Rattle.fr_store.specs.declared.fault.StoreFault.{StoreFault}
-use Rattle.fr_store.proofs.ApplyLemmas.{node_applied, supplier_applied}
+use Rattle.fr_store.proofs.ApplyLemmas.{key_applied, node_applied, supplier_applied}
 use Rattle.fr_store.proofs.ImportEdits.{import_kept}
 use Rattle.fr_store.proofs.VariantEdits.{released}
 use Rattle.fr_store.proofs.applying.edits.carry_out.Goals as goal
@@ -29,6 +29,13 @@ returns-in_ok-insert-in-NewSupplier-clause-carried g c =
     let new = state g.S.Store c.insert.new.tx.conn.now in
     subst (λ edit. CarriesOut {X = ⊤} {E = StoreFault} edit old new (Ok tt)) (sym c.in-NewSupplier.is)
     (λ clean inside cluster b stands fits. supplier_applied c.in-NewSupplier.supplier c.in-NewSupplier.key old new (c.in_ok-insert-in-NewSupplier.ensures.added clean inside stands.has) cluster b stands fits)
+
+pub returns-in_ok-set_key-in-SetKey-clause-carried : goal.returns-in_ok-set_key-in-SetKey-clause-carried
+returns-in_ok-set_key-in-SetKey-clause-carried g c =
+    let old = state g.S.Store c.args.tx.now.conn.now in
+    let new = state g.S.Store c.set_key.new.tx.conn.now in
+    subst (λ edit. CarriesOut {X = ⊤} {E = StoreFault} edit old new (Ok tt)) (sym c.in-SetKey.is)
+    (λ clean inside cluster b stands fits. key_applied c.in-SetKey.supplier c.in-SetKey.key old new (c.in_ok-set_key-in-SetKey.ensures.keyed clean inside stands.has) cluster b stands fits)
 
 pub returns-in_ok-insert-in-NewNode-clause-carried : goal.returns-in_ok-insert-in-NewNode-clause-carried
 returns-in_ok-insert-in-NewNode-clause-carried g c =

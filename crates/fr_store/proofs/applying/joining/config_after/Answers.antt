@@ -1,11 +1,10 @@
-use Rattle.std.proofs.Common.{rules, ◌≡◌, ◌<◌, ◌∙◌, Bor, get_or, length, ap, sym, subst, unwrap_or}
+use Rattle.std.proofs.Common.{rules, ◌≡◌, ◌<◌, ◌∙◌, Bor, get_or, length, ap, sym, unwrap_or}
 use Rattle.fr_base.specs.Cluster.{ClusterFile}
-use Rattle.fr_base.specs.Joining.{joined}
 use Rattle.fr_world.specs.declared.edit.Edit.{Edit}
 use Rattle.fr_store.specs.Joined.{after_edit}
-use Rattle.fr_store.proofs.JoinedLemmas.{after_next, after_other, lent_now}
+use Rattle.fr_store.proofs.JoinedLemmas.{after_next, lent_now, no_other}
 use Rattle.fr_store.proofs.applying.joining.config_after.Goals as goal
-use Rattle.fr_store.proofs.applying.joining.config_after.Goals.{in-NewSupplier+in_ok-with_one, in_default}
+use Rattle.fr_store.proofs.applying.joining.config_after.Goals.{in-Some, in_default}
 
 pub loop-edit-preserved : goal.loop-edit-preserved
 loop-edit-preserved c =
@@ -16,12 +15,12 @@ loop-edit-preserved c =
     let is : get_or edits at edit ≡ edit = search rules in
     let file = c.args.config.now in
     let so_far = unwrap_or c.loop-edit.after file in
-    let step : unwrap_or c.match-edit.after file ≡ after_edit so_far edit =
-    elim c.match-edit.branch [
-      | in-NewSupplier+in_ok-with_one w ↦
-          let before : w.unwrap_or-before.result.now ≡ so_far = ap (λ (r : Bor ClusterFile). r.now) w.unwrap_or-before.ensures ∙ lent_now w.as_ref.result c.args.config c.loop-edit.after w.as_ref.ensures.value in
-          subst (λ e. unwrap_or c.match-edit.after file ≡ after_edit so_far e) (sym w.in-NewSupplier.is)
-          (ap (λ o. unwrap_or o file) w.after-is ∙ w.in_ok-with_one.ensures.with ∙ ap (λ f. joined f w.in-NewSupplier.supplier w.in-NewSupplier.key) before)
-      | in_default w ↦ ap (λ o. unwrap_or o file) w.after-is ∙ after_other so_far edit w.in_default.not-NewSupplier
+    let given = c.unwrap_or-before.result.now in
+    let before : given ≡ so_far = ap (λ (r : Bor ClusterFile). r.now) c.unwrap_or-before.ensures ∙ lent_now c.as_ref.result c.args.config c.loop-edit.after c.as_ref.ensures.value in
+    let next : unwrap_or c.in_ok-next.field-0 given ≡ after_edit so_far edit = c.in_ok-next.ensures.after ∙ ap (λ f. after_edit f edit) before in
+    let step : unwrap_or c.match-branch-2.after file ≡ after_edit so_far edit =
+    elim c.match-branch-2.branch [
+      | in-Some w ↦ ap (λ o. unwrap_or o file) w.after-is ∙ sym (ap (λ o. unwrap_or o given) w.in-Some.is) ∙ next
+      | in_default w ↦ ap (λ o. unwrap_or o file) w.after-is ∙ sym before ∙ sym (no_other c.in_ok-next.field-0 given w.in_default.not-Some) ∙ next
     ] in
     step ∙ ap (λ f. after_edit f edit) c.loop-edit.invariant ∙ sym (after_next file edits at edit within is)

@@ -1,0 +1,44 @@
+-- Laws of replacements: after one that was carried out, all that its file does not name is as before.
+use Rattle.std.specs.Prelude.{◌≡◌, ◌&&◌, ℕ, Bool, false, List, Some, Result, Ok, Err}
+use Rattle.std.specs.List.{list_any}
+use Rattle.fr_base.specs.Tables.{Table, get}
+use Rattle.fr_base.specs.Keys.{owned}
+use Rattle.fr_base.specs.Cluster.{Cluster}
+use Rattle.fr_base.specs.Names.{same_text}
+use Rattle.fr_base.specs.Book.{Frame, Variant, Book, is_of}
+use Rattle.fr_base.specs.ImportRows.{rows_of_body}
+use Rattle.fr_base.specs.Step.{frame_of_row, with_variant, step}
+use Rattle.fr_base.specs.declared.answer.Answer.TheVariants.{Replaced}
+use Rattle.fr_base.specs.declared.import.Row.{Row}
+use Rattle.fr_base.specs.declared.import.RowRead.{RowRead}
+use Rattle.fr_base.specs.declared.name.Name.{Name}
+use Rattle.fr_base.specs.declared.actor.Actor.TheVariants.{Supplier}
+use Rattle.fr_base.specs.declared.refusal.Refusal.{Refusal}
+use Rattle.fr_base.specs.declared.request.Request.TheVariants.{Replace}
+
+-- whether the row is of the frame
+abbrev pub names_frame : Name → Result Row Refusal → Bool
+names_frame f (Ok row) = same_text (frame_of_row row) f
+names_frame f (Err refusal) = false
+
+-- whether one of the rows is
+abbrev pub is_named : Name → List RowRead → Bool
+is_named f reads = list_any (λ read. names_frame f read.row) reads
+
+-- whether one of the rows is of the supplier's frame under this key
+abbrev pub is_freed : Name → List RowRead → Name × Name → Bool
+is_freed s reads k = is_of s k && is_named k.1 reads
+
+-- The book is as the first, but for the frames of the supplier in the variant that the rows name.
+pub record IsElsewhereAs (b : Book) (s v : Name) (reads : List RowRead) (after : Book) : Type 0 where
+  pub x : Variant
+  pub there : get b.variants v ≡ Some x
+  pub frames : Table owned Frame
+  pub is : after ≡ with_variant b v (record x { frames = frames })
+  pub others : (k : Name × Name) → is_freed s reads k ≡ false → get frames k ≡ get x.frames k
+
+-- After a replacement that was carried out, the frames that its file names are all that may have changed.
+abbrev pub ReplacedLeavesTheRest : Type 0
+ReplacedLeavesTheRest = (c : Cluster) (b : Book) (s : Name) (variant body : List ℕ) (rows : ℕ) →
+    (step c b (Supplier s) (Replace variant body)).answer ≡ Replaced rows →
+    IsElsewhereAs b s variant (rows_of_body c.params body) (step c b (Supplier s) (Replace variant body)).book

@@ -1,0 +1,123 @@
+//! The delivery of a file of rows to the register in another, as the command line gives it.
+ghost use Rattle.std.specs.Prelude.{◌≡◌, List, ℕ};
+ghost use Rattle.std.specs.Str.Lines.{lines};
+ghost use Rattle.sqlite_wal.specs.Files.{image_at};
+ghost use Rattle.fr_cli.specs.Asking.{asked_with, line_of};
+ghost use Rattle.fr_cli.specs.Faults.{IsNotDelivered, IsNotReported};
+ghost use Rattle.fr_cli.specs.Keys.{first_of};
+ghost use Rattle.fr_cli.specs.Performing.{Says};
+ghost use Rattle.fr_cli.specs.RegisterFiles.{IsAnswerOfFile, IsAnswerToGiven, IsDeliveryToFile};
+
+use crate::asking::change;
+use crate::delivery::Delivery;
+use crate::failure::Failure;
+use crate::fault::Fault;
+use crate::files::read_front;
+use crate::input::{ReadBounds, read_line};
+use crate::lines::next_line;
+use crate::script_fault::ScriptFault;
+use fr_base::{NoMemory, Request};
+use fr_desks::{Left, file_desk};
+use sqlite::Start;
+use std::io::Read;
+
+/// How much of a file of rows is read: one byte more than it may have.
+pub const FILE_BYTES: usize = 65_537;
+
+/// The word in the place of a key that says that the key stands on standard input.
+const KEY_ON_INPUT: &str = "-";
+
+/// How much of standard input is read for a key.
+const KEY_BOUNDS: ReadBounds = ReadBounds {
+    bytes: 8_192,
+    reads: 100_000,
+};
+
+/// Delivers a file of rows to the register in the file at `db`, and gives what is left of that, closed. The file of rows is
+/// read first, then the key, if it stands on standard input. `start` says what is supposed of the register's file.
+pub fn deliver_file<S: Start, R: Read>(
+    rt: &HostRuntime,
+    db: &str,
+    start: S,
+    delivery: Delivery<'_>,
+    input: &mut R,
+) -> (Result<Vec<u8>, Failure>, Left<S>)
+    ensures { (body : List ℕ) × Says (IsNotDelivered (image_at S.Start) result.1 delivery.entry.key.now)
+        (IsDeliveryToFile (image_at S.Start) result.1 delivery.entry (R.remaining input.old) (R.remaining input.new) body) line_of result.0 }
+{
+    match read_front(rt, delivery.file, FILE_BYTES) {
+        Ok(body) => deliver(rt, db, start, delivery, &body, input),
+        Err(fault) => (Err(Failure::Fault(fault)), None),
+    }
+}
+
+// Delivers a file of rows with these bytes.
+fn deliver<S: Start, R: Read>(
+    rt: &HostRuntime,
+    db: &str,
+    start: S,
+    delivery: Delivery<'_>,
+    body: &[u8],
+    input: &mut R,
+) -> (Result<Vec<u8>, Failure>, Left<S>)
+    ensures { Says (IsNotDelivered (image_at S.Start) result.1 delivery.entry.key.now)
+        (IsDeliveryToFile (image_at S.Start) result.1 delivery.entry (R.remaining input.old) (R.remaining input.new) body.now) line_of result.0 }
+{
+    match delivery.request(rt.alloc(), body) {
+        Ok(request) => change_given(rt, db, start, delivery.key, request, input),
+        Err(NoMemory) => (Err(Failure::Fault(Fault::NoMemory)), None),
+    }
+}
+
+// Asks the register in a file for a change, as who has the key that is given.
+fn change_given<S: Start, R: Read>(
+    rt: &HostRuntime,
+    db: &str,
+    start: S,
+    key: &str,
+    request: Request,
+    input: &mut R,
+) -> (Result<Vec<u8>, Failure>, Left<S>)
+    ensures { Says (IsNotDelivered (image_at S.Start) result.1 key.now)
+        (IsAnswerToGiven (image_at S.Start) result.1 key.now request (R.remaining input.old) (R.remaining input.new)) line_of result.0 }
+{
+    if key != KEY_ON_INPUT {
+        return change_file(rt, db, start, key.as_bytes(), request);
+    }
+    match read_line(rt.alloc(), input, KEY_BOUNDS) {
+        Ok(front) => change_file(rt, db, start, first_line(&front), request),
+        Err(fault) => (
+            Err(Failure::Fault(Fault::Script(ScriptFault::from(fault)))),
+            None,
+        ),
+    }
+}
+
+// The first line, without its end, of bytes that may have none.
+fn first_line(bytes: &[u8]) -> &[u8]
+    ensures { result.now ≡ first_of (lines bytes.now) }
+{
+    match next_line(bytes) {
+        Some((line, _)) => line,
+        None => &[],
+    }
+}
+
+// Asks the register in a file for a change, as who has the key.
+fn change_file<S: Start>(
+    rt: &HostRuntime,
+    db: &str,
+    start: S,
+    key: &[u8],
+    request: Request,
+) -> (Result<Vec<u8>, Failure>, Left<S>)
+    ensures { Says (IsNotReported (image_at S.Start) result.1) (IsAnswerOfFile (image_at S.Start) result.1 (asked_with key.now request)) line_of result.0 }
+{
+    match file_desk::open(rt, db, start) {
+        Ok(mut desk) => {
+            let done = change(rt.alloc(), &mut desk, key, request);
+            (done, Some(file_desk::close(desk)))
+        }
+        Err((fault, left)) => (Err(Failure::Fault(Fault::Register(fault))), left),
+    }
+}

@@ -1,0 +1,46 @@
+//! What a supplier delivers to a register: a file of rows, as an import or in place of earlier rows.
+ghost use Rattle.std.specs.Prelude.{◌≡◌, IfOk};
+ghost use Rattle.fr_cli.specs.Deliveries.{request_with};
+
+use fr_base::{Body, NoMemory, Request, Text};
+use std::alloc::Global;
+
+/// A file of rows that a supplier delivers, as the command line gives it.
+#[derive(Clone, Copy, PartialEq, Eq)]
+pub struct Delivery<'a> {
+    /// The key of who delivers it, or `-`, where it is the first line of standard input.
+    pub key: &'a str,
+    /// The variant into which the file's rows go.
+    pub variant: &'a str,
+    /// As what they go there.
+    pub kind: DeliveryKind<'a>,
+    /// The file.
+    pub file: &'a str,
+}
+
+/// As what the rows of a file go into a variant.
+#[derive(Clone, Copy, PartialEq, Eq)]
+pub enum DeliveryKind<'a> {
+    /// As an import, which is kept under this label.
+    Import { label: &'a str },
+    /// In place of what the frames that they name have.
+    Replacement,
+}
+
+impl Delivery<'_> {
+    /// The request that delivers a file with these bytes.
+    pub fn request(self, alloc: Global, body: &[u8]) -> Result<Request, NoMemory>
+        ensures { IfOk result (λ request. request ≡ request_with self.entry body.now) }
+    {
+        let variant = Text::copy(alloc, self.variant)?;
+        let body = Body::copy(alloc, body)?;
+        match self.kind {
+            DeliveryKind::Import { label } => Ok(Request::Import {
+                variant,
+                label: Text::copy(alloc, label)?,
+                body,
+            }),
+            DeliveryKind::Replacement => Ok(Request::Replace { variant, body }),
+        }
+    }
+}

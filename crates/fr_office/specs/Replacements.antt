@@ -1,0 +1,67 @@
+-- Replacement: a replacement is carried out as the definition has it, its rows as they are decided on the supplier's
+-- page; or nothing is done. What a crash leaves of it.
+use Rattle.std.specs.Prelude.{◌≡◌, ◌⊎◌, List, ◌∷◌, length, nat_lt, Result, Ok, IfOk, IsTrue, MatchResult, ⊤}
+use Rattle.fr_base.specs.Book.{Book}
+use Rattle.fr_base.specs.Cluster.{Cluster}
+use Rattle.fr_base.specs.ImportRows.{rows_of_body}
+use Rattle.fr_base.specs.Refusing.{◌>>=◌, refuse◌when◌}
+use Rattle.fr_base.specs.Sound.{IsSound}
+use Rattle.fr_base.specs.Step.{Outcome, replace, replaced}
+use Rattle.fr_base.specs.Tables.{contains}
+use Rattle.fr_base.specs.declared.answer.Answer.{Answer}
+use Rattle.fr_base.specs.declared.answer.Answer.TheVariants.{Replaced}
+use Rattle.fr_base.specs.declared.limits.TheConstants.{MAX_IMPORT_BYTES}
+use Rattle.fr_base.specs.declared.params.Params.{Params}
+use Rattle.fr_base.specs.declared.refusal.Refusal.{Refusal}
+use Rattle.fr_base.specs.declared.refusal.Refusal.TheVariants.{Limit, Unavailable}
+use Rattle.fr_base.specs.declared.request.Replacement.{Replacement}
+use Rattle.fr_world.specs.BookEdits.{all_applied}
+use Rattle.fr_world.specs.Held.{Leaving, Standing}
+use Rattle.fr_world.specs.Pages.{PageData}
+use Rattle.fr_world.specs.ReplacementDecisions.{replacement_decision}
+use Rattle.fr_office.specs.Carried.{IsRefused}
+use Rattle.fr_office.specs.Decided.{open_page}
+
+-- whether the file is within the limit
+unfoldable pub replacement_room : Replacement → Result ⊤ Refusal
+replacement_room r = refuse Limit when nat_lt MAX_IMPORT_BYTES (length r.body)
+
+-- what comes of the replacement's rows, as they are decided on this page
+abbrev pub replaced_outcome : Params → Book → Replacement → PageData → Outcome
+replaced_outcome p b r page =
+    replaced b (length (rows_of_body p r.body)) (replacement_decision page (rows_of_body p r.body) >>= λ edits. Ok (all_applied b edits))
+
+-- In a sound book the replacement of a supplier that is there is carried out as the definition has it, and the records stand for the
+-- book after it; or nothing was done.
+abbrev pub GivesReplacement : Standing → Standing → Result Answer Refusal → Replacement → Type 0
+GivesReplacement old new result r = (c : Cluster) (b : Book) → old c b → IsSound c b → IsTrue (contains b.suppliers r.supplier) → MatchResult result
+    (λ answer. (after : Book) × (replace c.params b r ≡ Ok (record { book = after; answer = answer })) × new c after)
+    (λ e. IsRefused new c b e (replace c.params b r))
+
+-- In a sound book the rows of a replacement were carried out, as they are decided on its supplier's page, or the first refused one is
+-- told; and the records stand for the book after it. Or it is Unavailable, and they stand for the same book as before.
+abbrev pub GivesReplaced : Standing → Standing → Result Answer Refusal → Replacement → PageData → Type 0
+GivesReplaced old new result r page = (c : Cluster) (b : Book) → old c b → IsSound c b → IsTrue (contains b.suppliers r.supplier) →
+    open_page c.params b r.supplier r.variant ≡ Ok page → MatchResult result
+    (λ answer. (answer ≡ (replaced_outcome c.params b r page).answer) × new c (replaced_outcome c.params b r page).book)
+    (λ e. (e ≡ Unavailable) × new c b)
+
+-- Of the replacement of a supplier that is there, a crash leaves no more than it did before, or the book after it.
+abbrev pub LeavesReplacement : Standing → Leaving → Leaving → Replacement → Type 0
+LeavesReplacement stands old new r = (c : Cluster) (b : Book) (books : List Book) → stands c b → IsSound c b → IsTrue (contains b.suppliers r.supplier) → old c books
+    → new c books ⊎ ((after : Outcome) × (replace c.params b r ≡ Ok after) × new c (after.book ∷ books))
+
+-- So with its rows.
+abbrev pub LeavesReplaced : Standing → Leaving → Leaving → Replacement → PageData → Type 0
+LeavesReplaced stands old new r page = (c : Cluster) (b : Book) (books : List Book) → stands c b → IsSound c b → IsTrue (contains b.suppliers r.supplier)
+    → open_page c.params b r.supplier r.variant ≡ Ok page → old c books
+    → new c books ⊎ new c ((replaced_outcome c.params b r page).book ∷ books)
+
+-- This holds where the answer is that of a replacement that was carried out.
+abbrev pub WhereReplaced : Answer → Type 0 → Type 0
+WhereReplaced (Replaced rows) P = P
+WhereReplaced _ P = ⊤
+
+-- This holds after a replacement that was carried out.
+abbrev pub OnReplaced : Result Answer Refusal → Type 0 → Type 0
+OnReplaced result P = IfOk result (λ answer. WhereReplaced answer P)

@@ -1,0 +1,114 @@
+//! The records of a part of an export.
+#![tactic(auto, using(fr_world::proofs::ReadLaws::reads_none, fr_world::proofs::ReadLaws::reads_then))]
+
+ghost use Rattle.std.specs.Prelude.{◌≡◌, ◌++◌, List, map, IfOk, OnOk};
+ghost use Rattle.std.specs.List.{flat_map};
+ghost use Rattle.fr_base.specs.Book.{own};
+ghost use Rattle.fr_base.specs.Exports.{exported, part_of};
+ghost use Rattle.fr_office.specs.Shown.{Gathers};
+ghost use Rattle.fr_world.specs.Pages.{own_rows_of};
+ghost use Rattle.fr_world.specs.Parts.{in_part};
+ghost use Rattle.fr_world.specs.Held.{Reads};
+
+use crate::lender::Lender;
+use crate::queries::find_page;
+use fr_base::{Header, Name, NoMemory, Refusal, ReportRows, Rows};
+use fr_world::{FileRecord, Page, Part};
+use std::alloc::Global;
+
+/// The part of this number of the page's records below the header.
+pub(crate) fn page_export(
+    alloc: Global,
+    page: &Page,
+    header: Header,
+    number: u32,
+) -> Result<ReportRows, NoMemory>
+    ensures { IfOk result (λ rows. rows ≡ exported header number (own_rows_of page.now).frames.rows) }
+{
+    match header {
+        Header::Frames => Ok(ReportRows::FrameRecords(page_part(alloc, page, number)?)),
+        Header::Placements => Ok(ReportRows::PlacementRecords(page_part(alloc, page, number)?)),
+        Header::Signals => Ok(ReportRows::SignalRecords(page_part(alloc, page, number)?)),
+    }
+}
+
+/// The part of this number of the records below the header of these suppliers' frames in the variant, one supplier's after
+/// another's.
+pub(crate) fn gather_export<R: Lender>(
+    alloc: Global,
+    records: &mut R,
+    suppliers: &[Name],
+    variant: Name,
+    header: Header,
+    number: u32,
+) -> Result<ReportRows, Refusal>
+    ensures reads { Reads R.clean R.params R.leaves records.old records.new }
+    ensures gathers { R.clean records.new → Gathers (R.stands records.old) (R.stands records.new) result variant (λ p x rows. rows ≡ exported header number (flat_map (λ s. (own s x.frames).rows) suppliers.now)) }
+{
+    match header {
+        Header::Frames => {
+            let rows = gather_part(alloc, records, suppliers, variant, number)?;
+            Ok(ReportRows::FrameRecords(rows))
+        }
+        Header::Placements => {
+            let rows = gather_part(alloc, records, suppliers, variant, number)?;
+            Ok(ReportRows::PlacementRecords(rows))
+        }
+        Header::Signals => {
+            let rows = gather_part(alloc, records, suppliers, variant, number)?;
+            Ok(ReportRows::SignalRecords(rows))
+        }
+    }
+}
+
+// The part of this number of the page's records.
+fn page_part<T: FileRecord + Drop>(
+    alloc: Global,
+    page: &Page,
+    number: u32,
+) -> Result<Rows<T>, NoMemory>
+    ensures { IfOk result (λ rows. rows ≡ part_of number (map T.records (own_rows_of page.now).frames.rows)) }
+{
+    let mut part = Part::new(number);
+    let mut rows = Rows::new(alloc);
+    push_part(page, &mut part, &mut rows)?;
+    Ok(rows)
+}
+
+// The part of this number of the records of these suppliers' frames in the variant.
+fn gather_part<T: FileRecord + Drop, R: Lender>(
+    alloc: Global,
+    records: &mut R,
+    suppliers: &[Name],
+    variant: Name,
+    number: u32,
+) -> Result<Rows<T>, Refusal>
+    ensures reads { Reads R.clean R.params R.leaves records.old records.new }
+    ensures gathers { R.clean records.new → Gathers (R.stands records.old) (R.stands records.new) result variant (λ p x rows. rows ≡ part_of number (map T.records (flat_map (λ s. (own s x.frames).rows) suppliers.now))) }
+{
+    let mut part = Part::new(number);
+    let mut rows = Rows::new(alloc);
+    for supplier in suppliers {
+        find_page(alloc, records, *supplier, variant)?;
+        push_part(records.lent(), &mut part, &mut rows)?;
+    }
+    Ok(rows)
+}
+
+// Appends the records of those of the page's frames that the part takes. Where memory is refused, some of them may have
+// been appended.
+fn push_part<T: FileRecord + Drop>(
+    page: &Page,
+    part: &mut Part,
+    rows: &mut Rows<T>,
+) -> Result<(), NoMemory>
+    ensures { OnOk result ((rest : List (List T)) → rows.new ++ in_part part.new rest ≡ rows.old ++ in_part part.old (map T.records (own_rows_of page.now).frames.rows ++ rest)) }
+{
+    let supplier = page.supplier();
+    for (name, frame) in page.frames().iter() {
+        if part.takes(T::count(frame)) {
+            T::push(supplier, *name, frame, rows)?;
+        }
+    }
+    Ok(())
+}

@@ -1,0 +1,83 @@
+//! Carries a replacement out.
+#![tactic(auto, using(fr_world::proofs::ReadLaws::reads_none, fr_world::proofs::ReadLaws::reads_then))]
+
+ghost use Rattle.std.specs.Prelude.{◌≡◌, IfSome, IsSome, OnOk, false};
+ghost use Rattle.fr_office.specs.Decided.{LeadsTo};
+ghost use Rattle.fr_office.specs.Replacements.{GivesReplaced, GivesReplacement, LeavesReplaced, LeavesReplacement, OnReplaced, replacement_room};
+ghost use Rattle.fr_world.specs.Held.{Applies, LeavesEdited};
+
+use crate::lender::{Lender, open_page};
+use fr_base::{Answer, MAX_IMPORT_BYTES, Refusal, Replacement};
+use fr_text::read_import;
+use fr_world::{Draft, Records, RowFault, decide_replacement, rows_are_checked};
+use std::alloc::Global;
+
+/// Carries out a replacement with checked names, of a supplier that is there. Its variant, its file's length and its rows
+/// are decided in turn. It is kept under no label.
+pub(crate) fn replace<R: Lender>(
+    alloc: Global,
+    records: &mut R,
+    replacement: &Replacement<'_>,
+) -> Result<Answer, Refusal>
+    ensures falls { R.clean records.new → R.clean records.old }
+    ensures open { R.clean records.new → OnReplaced result (R.serves records.new) }
+    ensures leaves { R.clean records.new → LeavesReplacement (R.stands records.old) (R.leaves records.old) (R.leaves records.new) replacement.now }
+    ensures gives { R.clean records.new → GivesReplacement (R.stands records.old) (R.stands records.new) result replacement.now }
+{
+    open_page(alloc, records, replacement.supplier, replacement.variant)?;
+    admit_file(replacement)?;
+    replace_rows(alloc, records, replacement)
+}
+
+// `Limit`, where the file has more than 65,536 bytes.
+#[tactic(auto, unfolding(crate::proofs::ReplacementLaws::room_open))]
+fn admit_file(replacement: &Replacement<'_>) -> Result<(), Refusal>
+    ensures { result ≡ replacement_room replacement.now }
+{
+    if replacement.body.as_slice().len() > MAX_IMPORT_BYTES {
+        return Err(Refusal::Limit);
+    }
+    Ok(())
+}
+
+// Carries out the rows of the replacement's file, as they are decided on a copy of the page that is lent; or tells the
+// first row that is refused. Where they were carried out, the page that they left is lent then.
+fn replace_rows<R: Lender>(
+    alloc: Global,
+    records: &mut R,
+    replacement: &Replacement<'_>,
+) -> Result<Answer, Refusal>
+    requires lent { IsSome (R.lent records.old) }
+    requires open { IfSome (R.lent records.old) (λ page. page.released ≡ false) }
+    ensures falls { R.clean records.new → R.clean records.old }
+    ensures open { R.clean records.new → OnReplaced result (R.serves records.new) }
+    ensures leaves { R.clean records.new → IfSome (R.lent records.old) (LeavesReplaced (R.stands records.old) (R.leaves records.old) (R.leaves records.new) replacement.now) }
+    ensures gives { R.clean records.new → IfSome (R.lent records.old) (GivesReplaced (R.stands records.old) (R.stands records.new) result replacement.now) }
+{
+    let page = records.lent();
+    let rows = read_import(alloc, &page.params(), replacement.body.as_slice())?;
+    rows_are_checked();
+    match decide_replacement(alloc, page.clone()?, rows.as_slice()) {
+        Ok(draft) => {
+            // A file of which no row is refused has at most 512.
+            let count = rows.len() as u32;
+            change_to_draft(alloc, records, draft)?;
+            Ok(Answer::Replaced { rows: count })
+        }
+        Err(RowFault::Row { line, refusal }) => Ok(Answer::RefusedRow { line, refusal }),
+        Err(RowFault::Unavailable) => Err(Refusal::Unavailable),
+    }
+}
+
+// Carries out the edits that led from the page that is lent to the draft's, which is lent then.
+fn change_to_draft<R: Lender>(alloc: Global, records: &mut R, draft: Draft) -> Result<(), Refusal>
+    requires lent { IsSome (R.lent records.old) }
+    requires leads { IfSome (R.lent records.old) (λ page. LeadsTo page draft.edits.items draft.page) }
+    ensures falls { R.clean records.new → R.clean records.old }
+    ensures open { R.clean records.new → OnOk result (R.serves records.new) }
+    ensures leaves { R.clean records.new → LeavesEdited (R.stands records.old) (R.leaves records.old) (R.leaves records.new) draft.edits.items }
+    ensures applies { R.clean records.new → Applies (R.stands records.old) (R.stands records.new) result draft.edits.items }
+{
+    let Draft { page, edits } = draft;
+    records.change_to(alloc, &edits, page)
+}

@@ -1,0 +1,176 @@
+-- What a supplier's replacement is decided to on the supplier's page is what it makes of the register.
+use Rattle.std.proofs.Common.{◌≡◌, ℕ, false, not, List, [], ◌∷◌, map, Option, Some, None, is_some, Result, Ok, Err, IfOk, IsTrue, refl, sym, ap, subst, ◌∙◌}
+use Rattle.std.specs.List.{AllByRecursion}
+use Rattle.fr_base.specs.Refusing.{◌>>=◌, ◌>>◌, refuse◌when◌}
+use Rattle.fr_base.specs.Tables.{Table, get, contains, settle}
+use Rattle.fr_base.specs.Keys.{names, owned}
+use Rattle.fr_base.specs.Cluster.{Cluster}
+use Rattle.fr_base.specs.Book.{Frame, Variant, Book, is_of}
+use Rattle.fr_base.specs.ImportRows.{rows_of_body}
+use Rattle.fr_base.specs.Sound.{IsSound}
+use Rattle.fr_base.specs.Step as step
+use Rattle.fr_base.specs.Step.{OwnRows, own_rows, with_variant, changed, grants_after, frames_after, frame_at, with_frame as book_frame, frame_of_row, freed, with_freed, at_line}
+use Rattle.fr_base.specs.declared.import.Row.{Row}
+use Rattle.fr_base.specs.declared.import.Row.TheVariants as row
+use Rattle.fr_base.specs.declared.import.RowRead.{RowRead}
+use Rattle.fr_base.specs.declared.name.Name.{Name}
+use Rattle.fr_base.specs.declared.params.Params.{Params}
+use Rattle.fr_base.specs.declared.placement.Placement.{Placement}
+use Rattle.fr_base.specs.declared.refusal.Refusal.{Refusal}
+use Rattle.fr_base.specs.declared.refusal.Refusal.TheVariants.{NoNode}
+use Rattle.fr_base.specs.declared.request.Change.TheVariants as change
+use Rattle.fr_base.specs.declared.request.FrameChange.{FrameChange}
+use Rattle.fr_base.specs.declared.request.FrameChange.TheVariants.{Unplace, DropSignal}
+use Rattle.fr_base.specs.Queries.{placements_in}
+use Rattle.fr_base.specs.Signals.{SignalData}
+use Rattle.fr_base.proofs.TableLaws.{insert-same}
+use Rattle.fr_base.proofs.AloneCells.{same_text-itself}
+use Rattle.fr_base.proofs.ImportForms.{IsFormedRow, IsFormedRead, body-form}
+use Rattle.fr_base.proofs.SoundChecks.{IsFormedFrame}
+use Rattle.fr_base.proofs.SoundTables.{same_some, get-passing}
+use Rattle.fr_world.specs.BookEdits.{applied, all_applied, changed_at}
+use Rattle.fr_world.specs.Decisions.{admits_alone}
+use Rattle.fr_world.specs.Edits.{rows_after}
+use Rattle.fr_world.specs.Pages.{page_in}
+use Rattle.fr_world.specs.ReplacementDecisions.{AreAdmitted, free_row, free_rows, freeing, replace_read, replace_row, replace_rows, replacement_decision, with_changes}
+use Rattle.fr_world.specs.RowDecisions.{DraftData, draft_of, make_frame, with_change, with_frame}
+use Rattle.fr_world.specs.declared.edit.Edit.{Edit}
+use Rattle.fr_world.specs.declared.edit.Edit.TheVariants.{Rows}
+use Rattle.fr_world.proofs.FreeingLaws.{IsNamed, ended, freeing-admitted, freeing-ends, get-put, insert-again}
+use Rattle.fr_world.proofs.PageLaws.{rows-registers}
+use Rattle.fr_world.proofs.RowsDecide.{Draws, Like, drawn, frame-like, frame-shown, like-is, like_bind, like_when, line-like, node-shown, row-like}
+
+-- ---- the book after changes of one frame
+
+module _ (s v f : Name) where
+  abbrev edits_of : List FrameChange → List Edit
+  edits_of whats = map (λ what. Rows s v (change.Frame f what)) whats
+
+  one-applied : (b : Book) (x : Variant) → get b.variants v ≡ Some x → (what : FrameChange) →
+      applied b (Rows s v (change.Frame f what)) ≡ with_variant b v (record x { frames = frames_after s (change.Frame f what) x.frames })
+  unfolding applied changed grants_after
+  one-applied b x there what = ap (changed_at b v (changed s (change.Frame f what))) there
+
+  changes-applied : (whats : List FrameChange) (b : Book) (x : Variant) → get b.variants v ≡ Some x →
+      all_applied b (edits_of whats) ≡ with_variant b v (record x { frames = ended s f x.frames whats })
+  changes-applied [] b x there = ap (λ t. record b { variants = t }) (sym (insert-same b.variants v x there))
+  changes-applied (what ∷ rest) b x there =
+      let next : Variant = record x { frames = frames_after s (change.Frame f what) x.frames } in
+      ap (λ d. all_applied d (edits_of rest)) (one-applied b x there what)
+      ∙ changes-applied rest (with_variant b v next) next (get-put b.variants v next)
+      ∙ ap (λ t. record b { variants = t }) (insert-again b.variants v next (record next { frames = ended s f next.frames rest }))
+
+-- ---- what frees a frame is formed
+
+module _ (p : Params) (f : Name) where
+  abbrev AreFormed : List FrameChange → Type 0
+  AreFormed whats = AllByRecursion (IsFormedFrame p f) whats
+
+  unplaces-formed : (qs : List Placement) → AreFormed (map Unplace qs)
+  unplaces-formed [] = tt
+  unplaces-formed (q ∷ qs) = (tt, unplaces-formed qs)
+
+  drops-formed : (xs : List SignalData) → AreFormed (map (λ x. DropSignal x.name) xs)
+  drops-formed [] = tt
+  drops-formed (x ∷ xs) = (tt, drops-formed xs)
+
+  freeing-formed : (r : Row) (there : Option Frame) → AreFormed (freeing r there)
+  freeing-formed (row.AddFrame g n) there = tt
+  freeing-formed (row.Place g n q) (Some frame) = unplaces-formed (placements_in frame)
+  freeing-formed (row.Place g n q) None = tt
+  freeing-formed (row.AddSignal g signal) (Some frame) = drops-formed frame.signals
+  freeing-formed (row.AddSignal g signal) None = tt
+
+module _ (c : Cluster) (start : Book) (s v : Name) where
+  abbrev Drawn : Book → DraftData → Type 0
+  Drawn = Draws c start s v
+
+  -- ---- frames that are freed
+
+  one-drawn : (b : Book) (d : DraftData) → Drawn b d → (f : Name) (what : FrameChange) → IsFormedFrame c.params f what → admits_alone d.page (change.Frame f what) ≡ Ok tt →
+      Drawn (applied b (Rows s v (change.Frame f what))) (with_change d (change.Frame f what))
+  one-drawn b d draws f what form admitted =
+      subst (λ e. admits_alone e.page (change.Frame f what) ≡ Ok tt → Drawn (applied b (Rows s v (change.Frame f what))) (with_change e (change.Frame f what)))
+      (λ i. record { variant = sym draws.variant i; released = d.released; page = sym draws.page i; edits = d.edits })
+      (drawn c start s v b draws.x draws.there draws.unreleased draws.known draws.sound f what d.released d.edits draws.edits form tt) admitted
+
+  changes-drawn : (f : Name) (whats : List FrameChange) (b : Book) (d : DraftData) → Drawn b d → AreFormed c.params f whats → AreAdmitted d.page f whats → Drawn (all_applied b (edits_of s v f whats)) (with_changes d f whats)
+  changes-drawn f [] b d draws forms admitted = draws
+  changes-drawn f (what ∷ rest) b d draws forms admitted =
+      changes-drawn f rest _ _ (one-drawn b d draws f what forms.0 admitted.0) forms.1 admitted.2
+
+  -- what the page has at a frame is what the variant has
+  shown : (b : Book) (d : DraftData) → (draws : Drawn b d) → (f : Name) → get draws.x.frames (s, f) ≡ get d.page.frames (d.page.supplier, f)
+  unfolding own_rows
+  shown b d draws f =
+      sym (get-passing owned (is_of s) draws.x.frames (s, f) (same_text-itself s)) ∙ ap (λ (p : OwnRows). get p.frames (p.supplier, f)) (sym draws.page)
+
+  -- whose signals have their own names
+  named : (b : Book) → IsSound c b → (x : Variant) → get b.variants v ≡ Some x → (k : Name × Name) (there : Option Frame) → get x.frames k ≡ there → IsNamed there
+  named b sound x found k None e = tt
+  named b sound x found k (Some frame) e = ((sound.variants v x found).1.frames k frame e).layout.names
+
+  -- the book with this variant in place of the one that is there
+  same-book : (b : Book) (d : DraftData) → (draws : Drawn b d) → with_variant b v draws.x ≡ b
+  same-book b d draws = ap (λ t. record b { variants = t }) (insert-same b.variants v draws.x draws.there)
+
+  freed-drawn : (b : Book) (d : DraftData) → (draws : Drawn b d) → (r : Result Row Refusal) → Drawn (with_variant b v (record draws.x { frames = step.free_row s r draws.x.frames })) (free_row d r)
+  unfolding step.free_row
+  freed-drawn b d draws (Ok r) =
+      let f : Name = frame_of_row r in
+      let there : Option Frame = get d.page.frames (d.page.supplier, f) in
+      let found = shown b d draws f in
+      let apart = named b draws.sound draws.x draws.there (s, f) there found in
+      let ends : ended s f draws.x.frames (freeing r there) ≡ settle draws.x.frames (s, f) (freed r (get draws.x.frames (s, f))) =
+      freeing-ends s r draws.x.frames there found apart ∙ ap (λ o. settle draws.x.frames (s, f) (freed r o)) (sym found) in
+      subst (λ e. Drawn e (free_row d (Ok r)))
+      (changes-applied s v f (freeing r there) b draws.x draws.there ∙ ap (λ frames. with_variant b v (record draws.x { frames = frames })) ends)
+      (changes-drawn f (freeing r there) b d draws (freeing-formed c.params f r there) (freeing-admitted d.page r there refl apart))
+  freed-drawn b d draws (Err e) = subst (λ e. Drawn e d) (sym (same-book b d draws)) draws
+
+  all_freed-drawn : (reads : List RowRead) (b : Book) (d : DraftData) → (draws : Drawn b d) → Drawn (with_freed b s v draws.x reads) (free_rows d reads)
+  unfolding step.free_rows
+  all_freed-drawn [] b d draws = subst (λ e. Drawn e d) (sym (same-book b d draws)) draws
+  all_freed-drawn (read ∷ rest) b d draws =
+      let next : Variant = record draws.x { frames = step.free_row s read.row draws.x.frames } in
+      let mid = freed-drawn b d draws read.row in
+      let is : mid.x ≡ next = same_some _ _ (sym mid.there ∙ get-put b.variants v next) in
+      subst (λ e. Drawn e (free_rows d (read ∷ rest)))
+      (ap (λ y. with_freed (with_variant b v next) s v y rest) is
+      ∙ ap (λ t. record b { variants = t }) (insert-again b.variants v next (record next { frames = step.free_rows s rest next.frames })))
+      (all_freed-drawn rest (with_variant b v next) (free_row d read.row) mid)
+
+  -- ---- rows
+
+  abbrev Alike : {E : Type 0} → Result Book E → Result DraftData E → Type 0
+  Alike = Like c start s v
+
+  replace_row-like : (b : Book) (d : DraftData) → Drawn b d → (r : Row) → IsFormedRow c.params r → Alike (step.replace_row c.params b s v r) (replace_row d r)
+  unfolding step.replace_row replace_row make_frame
+  replace_row-like b d draws (row.AddFrame f n) form =
+      like_when c start s v NoNode _ _ _ _ (ap not (node-shown c start s v b d draws n))
+      (subst (λ there. Alike (book_frame c.params b s v f n (frame_at b s v f)) (with_frame d f n there)) (frame-shown c start s v b d draws f) (frame-like c start s v b d draws f n form (frame_at b s v f)))
+  replace_row-like b d draws (row.Place f n q) form = row-like c start s v b d draws (row.Place f n q) form
+  replace_row-like b d draws (row.AddSignal f signal) form = row-like c start s v b d draws (row.AddSignal f signal) form
+
+  replace_read-like : (b : Book) (d : DraftData) → Drawn b d → (r : Result Row Refusal) → IfOk r (IsFormedRow c.params) → Alike (r >>= step.replace_row c.params b s v) (r >>= replace_row d)
+  unfolding ◌>>=◌
+  replace_read-like b d draws (Ok r) form = replace_row-like b d draws r form
+  replace_read-like b d draws (Err e) form = refl
+
+  replace_rows-like : (reads : List RowRead) (b : Book) (d : DraftData) → Drawn b d → AllByRecursion (IsFormedRead c.params) reads → Alike (step.replace_rows c.params b s v reads) (replace_rows d reads)
+  unfolding step.replace_rows replace_rows replace_read
+  replace_rows-like [] b d draws forms = draws
+  replace_rows-like (read ∷ rest) b d draws forms =
+      like_bind c start s v _ _ _ _ (line-like c start s v read.line _ _ (replace_read-like b d draws read.row forms.0)) (λ e g next. replace_rows-like rest e g next forms.1)
+
+pub replacement-decides : (c : Cluster) (b : Book) (s v : Name) (x : Variant) (body : List ℕ) → IsSound c b → get b.variants v ≡ Some x → x.released ≡ false → IsTrue (contains b.suppliers s) →
+    step.replace_rows c.params (with_freed b s v x (rows_of_body c.params body)) s v (rows_of_body c.params body)
+    ≡ (replacement_decision (page_in c.params b s v x) (rows_of_body c.params body) >>= λ edits. Ok (all_applied b edits))
+unfolding replacement_decision
+replacement-decides c b s v x body sound there unreleased known =
+    let reads : List RowRead = rows_of_body c.params body in
+    let draws : Draws c b s v b (draft_of (page_in c.params b s v x)) =
+    record { x = x; there = there; unreleased = unreleased; known = known; sound = sound; variant = refl; page = rows-registers c b s v x; edits = refl } in
+    like-is c b s v _ _ (replace_rows-like c b s v reads (with_freed b s v x reads) (free_rows (draft_of (page_in c.params b s v x)) reads)
+    (all_freed-drawn c b s v reads b (draft_of (page_in c.params b s v x)) draws) (body-form c.params body))

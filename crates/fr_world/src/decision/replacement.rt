@@ -1,0 +1,84 @@
+//! What the rows of a replacement are decided to, on the supplier's page.
+ghost use Rattle.std.specs.Prelude.{◌≡◌, false, Ok, IfOk, IfErr, OnOk};
+ghost use Rattle.std.specs.List.{list_any};
+ghost use Rattle.fr_world.specs.Drafts.{IsOfSame, draft_data};
+ghost use Rattle.fr_world.specs.Edits.{Leads, releases};
+ghost use Rattle.fr_world.specs.Pages.{own_rows_of};
+ghost use Rattle.fr_world.specs.ReplacementDecisions.{free_row, free_rows, replace_read, replacement_decision};
+ghost use Rattle.fr_world.specs.RowDecisions.{AreChecked, IsCheckedRow, draft_of};
+ghost use Rattle.fr_world.specs.RowFaults.{IsFault};
+ghost use Rattle.fr_base.specs.declared.refusal.Refusal.TheVariants.{Unavailable};
+
+use super::draft::Draft;
+use super::freeing::{freeing, named_frame};
+use super::import_rows::RowFault;
+use crate::page::Page;
+use fr_base::{Refusal, Row, RowRead};
+use std::alloc::Global;
+
+/// What the rows of a replacement make of the page, and the edits that led to it; or the first row that is refused.
+/// First each frame that a row names, and that is there, loses its placements where the rows are placements, and its
+/// signals where they are signals. Then each row is decided on the page that those before it left, as one of an import
+/// is; but a row of frames leaves a frame that is there, or is `NodeDiffers`.
+///
+/// The page is given up as by an import's rows. Its variant is open, and the rows were read under its parameters.
+pub fn decide_replacement(alloc: Global, page: Page, rows: &[RowRead]) -> Result<Draft, RowFault>
+    requires open { page.released ≡ false }
+    requires checked { AreChecked page.params rows.now }
+    ensures edits { IfOk result (λ draft. replacement_decision page rows.now ≡ Ok draft.edits.items) }
+    ensures leads { IfOk result (λ draft. Leads page.variant (own_rows_of page) draft.edits.items (own_rows_of draft.page)) }
+    ensures page { IfOk result (λ draft. IsOfSame page draft.page) }
+    ensures still { IfOk result (λ draft. list_any releases draft.edits.items ≡ false) }
+    ensures fault { IfErr result (IsFault (replacement_decision page rows.now)) }
+{
+    // They give the proof that the parameters make a cluster, and that the page's rows are kept.
+    let (_raw, _frames) = (page.params().raw(), page.frames());
+    let mut draft = freed(alloc, page, rows)?;
+    for read in rows {
+        replace_read(alloc, &mut draft, read)?;
+    }
+    Ok(draft)
+}
+
+// The page where the frame of each row was freed, and the edits that led to it.
+fn freed(alloc: Global, page: Page, rows: &[RowRead]) -> Result<Draft, RowFault>
+    ensures ok { IfOk result (λ draft. draft_data draft ≡ free_rows (draft_of page) rows.now) }
+    ensures err { IfErr result (λ e. e ≡ RowFault.Unavailable) }
+{
+    let mut draft = Draft::new(alloc, page);
+    for read in rows {
+        if let Ok(row) = &read.row {
+            free_row(alloc, &mut draft, row).map_err(|_refusal| RowFault::Unavailable)?;
+        }
+    }
+    Ok(draft)
+}
+
+// Frees the frame of the row.
+fn free_row(alloc: Global, draft: &mut Draft, row: &Row) -> Result<(), Refusal>
+    ensures ok { OnOk result (draft_data draft.new ≡ free_row (draft_data draft.old) (Ok row.now)) }
+    ensures err { IfErr result (λ e. e ≡ Unavailable) }
+{
+    // Gives the proof that the page's rows are kept.
+    let _frames = draft.page.frames();
+    let ends = freeing(alloc, &draft.page, row)?;
+    draft.make_all(alloc, named_frame(row), ends.as_slice())
+}
+
+// What the row does, as it was read.
+fn replace_read(alloc: Global, draft: &mut Draft, read: &RowRead) -> Result<(), RowFault>
+    requires checked { IfOk read.now.row (IsCheckedRow draft.old.page.params) }
+    ensures ok { OnOk result (replace_read (draft_data draft.old) read.now ≡ Ok (draft_data draft.new)) }
+    ensures fault { IfErr result (IsFault (replace_read (draft_data draft.old) read.now)) }
+{
+    let line = read.line;
+    let row = match read.row {
+        Ok(row) => row,
+        Err(refusal) => return Err(RowFault::Row { line, refusal }),
+    };
+    match draft.replace_row(alloc, &row) {
+        Ok(()) => Ok(()),
+        Err(refusal) if refusal == Refusal::Unavailable => Err(RowFault::Unavailable),
+        Err(refusal) => Err(RowFault::Row { line, refusal }),
+    }
+}
