@@ -26,9 +26,12 @@ pub mod Seen
 pub mod Exports
 pub mod Load
 pub mod Room
+pub mod Merging
+pub mod Differences
 pub mod Queries
 pub mod QueryNames
 pub mod Step
+pub mod Fates
 pub mod Actors
 pub mod Run
 pub mod Sound

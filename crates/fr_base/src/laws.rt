@@ -1,7 +1,7 @@
 //! Laws of the register: functions with nothing to do, whose contracts say what holds of any register. A new register
 //! is sound and stays so, one frame is sent in a cell, a release freezes, an import acts once, and each supplier is
 //! answered as if alone.
-ghost use Rattle.fr_base.specs.Laws.{BadVariantIsBadName, EqualViews, FirstTakenIsOwn, HolderSends, ImportActsOnce, ImportIsKept, KeyIsChanged, KnownStaysKnown, LabelStaysUsed, LoadAddsUp, OneDependence, OneFrameInACell, OpeningIsAlone, OpeningIsSound, OtherStepLeavesRows, OwnStepIsAlone, RefusedChangesNothing, ReleaseFreezes, ReleasedAnswersStay, RoomFits, RoomIsAlone, RoomIsPlace, RoomIsRefused, RunIsAlone, RunIsSoundThroughout, RunKeepsSound, ScheduleIsOwn, StepKeepsSound, StepsAreARun};
+ghost use Rattle.fr_base.specs.Laws.{BadVariantIsBadName, DifferencesDiffer, DifferencesTurn, EqualViews, FirstTakenIsOwn, HolderSends, ImportActsOnce, ImportIsKept, ImportIsTold, KeyIsChanged, KnownStaysKnown, LabelStaysUsed, LoadAddsUp, NothingDiffersFromItself, OneDependence, OneFrameInACell, OpenedDiffersNowhere, OpeningIsAlone, OpeningIsSound, OtherStepLeavesRows, OwnStepIsAlone, RefusedChangesNothing, ReleaseFreezes, ReleasedAnswersStay, ReleasedDifferencesStay, ReplacementIsTold, RestIsAlike, RoomFits, RoomIsAlone, RoomIsPlace, RoomIsRefused, RunIsAlone, RunIsSoundThroughout, RunKeepsSound, ScheduleIsOwn, StepKeepsSound, StepsAreARun, TrialChangesNothing};
 ghost use Rattle.fr_base.specs.ReplacingLaws.{ReplacedLeavesTheRest};
 
 /// The book of a new register is sound.
@@ -85,6 +85,22 @@ pub fn refused_changes_nothing()
     ensures { RefusedChangesNothing }
 {}
 
+/// A trial changes nothing.
+pub fn trial_changes_nothing()
+    ensures { TrialChangesNothing }
+{}
+
+/// An import under a label that is not kept, where one more may be kept, is answered as its trial tells:
+/// so many rows exactly where each is done, and else the first that is not.
+pub fn import_is_told()
+    ensures { ImportIsTold }
+{}
+
+/// A replacement is answered as its trial tells.
+pub fn replacement_is_told()
+    ensures { ReplacementIsTold }
+{}
+
 /// In a sound book, where one of a supplier's nodes holds a placement's slot on each of its channels,
 /// the first of its cells that is filled is filled by the supplier's own frame.
 pub fn first_taken_is_own()
@@ -162,4 +178,35 @@ pub fn room_fits()
 /// In a sound book the used cycles of a load add up to the rows of the schedule that the same actor sees.
 pub fn load_adds_up()
     ensures { LoadAddsUp }
+{}
+
+/// What is told to be gone is what the older variant has and the newer one has not, and what is told to be new is what
+/// the newer one has and the older one has not.
+pub fn differences_differ()
+    ensures { DifferencesDiffer }
+{}
+
+/// What else the two variants have is the same, in the same order.
+pub fn rest_is_alike()
+    ensures { RestIsAlike }
+{}
+
+/// Turned round, what was gone is new, and what was new is gone.
+pub fn differences_turn()
+    ensures { DifferencesTurn }
+{}
+
+/// A variant does not differ from itself.
+pub fn nothing_differs_from_itself()
+    ensures { NothingDiffersFromItself }
+{}
+
+/// Nor does it from the one from which it was opened a moment ago.
+pub fn opened_differs_nowhere()
+    ensures { OpenedDiffersNowhere }
+{}
+
+/// The difference of two released variants stays, from when who asks is known.
+pub fn released_differences_stay()
+    ensures { ReleasedDifferencesStay }
 {}

@@ -10,8 +10,8 @@ use Rattle.serde_json.specs.Data.{Data, Members, Num}
 use Rattle.serde_json.specs.Find.{as_null, as_number, as_object, as_str, as_u64, get_member}
 use Rattle.serde_json.specs.Read.{read}
 use Rattle.fr_base.specs.declared.request.Request.{Request}
-use Rattle.fr_text.specs.Fields.{◌>>=◌, ◌>>◌, is_among, provided, text, text_or_null, value_of, whole}
-use Rattle.fr_text.specs.RequestText.{request_of, request_in, readers, open_variant, release, add_supplier, set_key, add_node, grant, revoke, add_frame, drop_frame, place, unplace, add_signal, drop_signal, import, replace, inventory, report, layout, room, export}
+use Rattle.fr_text.specs.Fields.{◌>>=◌, ◌>>◌, is_among, provided, flag, text, text_or_null, value_of, whole}
+use Rattle.fr_text.specs.RequestText.{request_of, request_in, readers, open_variant, release, add_supplier, set_key, add_node, grant, revoke, add_frame, drop_frame, place, unplace, add_signal, drop_signal, import, replace, trial, inventory, report, layout, room, export}
 use Rattle.fr_guide.specs.Faults.{are_none}
 use Rattle.fr_guide.specs.RequestFields.{are_of_request, is_request, has_fields, has_fields_of, has_just, has_kind, is_whole, kind_of, numbers, requests}
 use Rattle.fr_guide.specs.declared.requests.forms.Kind.TheVariants as kind
@@ -69,6 +69,14 @@ text_or_null_is name fields = by (get_member name fields) refl
     by None is = rw is refl
     by (Some value) is = rw is (there (is_some (as_null value)) (is_some (as_str value)) (as_str value) refl)
 
+flag_is : (name : List ℕ) (fields : Members) → is_some (flag name fields) ≡ has_kind kind.Flag (get_member name fields)
+unfolding flag
+flag_is name fields = by (get_member name fields) refl
+  where
+    by : (o : Option Data) → get_member name fields ≡ o → is_some (flag name fields) ≡ has_kind kind.Flag o
+    by None is = rw is refl
+    by (Some value) is = rw is refl
+
 texted : {B : Type 0} (name : List ℕ) (fields : Members) (f : List ℕ → Option B) (b : Bool) → ((x : List ℕ) → is_some (f x) ≡ b)
     → is_some (text name fields >>= f) ≡ (has_kind kind.Text (get_member name fields) && b)
 texted name fields f b others = asked (text name fields) f _ b (text_is name fields) others
@@ -80,6 +88,10 @@ numbered name fields f b others = asked (whole name fields) f _ b (number_is nam
 nulled : {B : Type 0} (name : List ℕ) (fields : Members) (f : Option (List ℕ) → Option B) (b : Bool) → ((x : Option (List ℕ)) → is_some (f x) ≡ b)
     → is_some (text_or_null name fields >>= f) ≡ (has_kind kind.TextOrNull (get_member name fields) && b)
 nulled name fields f b others = asked (text_or_null name fields) f _ b (text_or_null_is name fields) others
+
+flagged : {B : Type 0} (name : List ℕ) (fields : Members) (f : Bool → Option B) (b : Bool) → ((x : Bool) → is_some (f x) ≡ b)
+    → is_some (flag name fields >>= f) ≡ (has_kind kind.Flag (get_member name fields) && b)
+flagged name fields f b others = asked (flag name fields) f _ b (flag_is name fields) others
 
 -- ---- the readers
 
@@ -119,7 +131,7 @@ unfolding Parallel
 none = tt
 
 each : Parallel readers requests
-unfolding readers requests open_variant release add_supplier set_key add_node grant revoke add_frame drop_frame place unplace add_signal drop_signal import replace inventory report layout room export kind_of numbers is_among
+unfolding readers requests open_variant release add_supplier set_key add_node grant revoke add_frame drop_frame place unplace add_signal drop_signal import replace trial inventory report layout room export kind_of numbers is_among
 each =
     more _ _ _ _ _ (λ fields. first _ _ _ (texted _ fields _ _ (λ v. nulled _ fields _ true (λ p. refl))))
     (more _ _ _ _ _ (λ fields. first _ _ _ (texted _ fields _ true (λ v. refl)))
@@ -136,6 +148,7 @@ each =
     (more _ _ _ _ _ (λ fields. first _ _ _ (texted _ fields _ _ (λ v. texted _ fields _ _ (λ f. texted _ fields _ true (λ s. refl)))))
     (more _ _ _ _ _ (λ fields. first _ _ _ (texted _ fields _ _ (λ v. texted _ fields _ _ (λ l. texted _ fields _ true (λ b. refl)))))
     (more _ _ _ _ _ (λ fields. first _ _ _ (texted _ fields _ _ (λ v. texted _ fields _ true (λ b. refl))))
+    (more _ _ _ _ _ (λ fields. first _ _ _ (texted _ fields _ _ (λ v. texted _ fields _ _ (λ b. flagged _ fields _ true (λ r. refl)))))
     (more _ _ _ _ _ (λ fields. first _ _ true refl)
     (more _ _ _ _ _ (λ fields. first _ _ true refl)
     (more _ _ _ _ _ (λ fields. first _ _ true refl)
@@ -149,7 +162,7 @@ each =
     (more _ _ _ _ _ (λ fields. first _ _ _ (texted _ fields _ _ (λ v. numbered _ fields _ true (λ k. refl))))
     (more _ _ _ _ _ (λ fields. first _ _ _ (texted _ fields _ _ (λ v. numbered _ fields _ true (λ k. refl))))
     (more _ _ _ _ _ (λ fields. first _ _ _ (texted _ fields _ _ (λ v. numbered _ fields _ true (λ k. refl))))
-    none)))))))))))))))))))))))))))
+    none))))))))))))))))))))))))))))
 
 -- ---- the request
 

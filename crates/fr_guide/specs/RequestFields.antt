@@ -4,7 +4,7 @@ use Rattle.std.specs.List.{list_all}
 use Rattle.std.specs.Map.{lookup}
 use Rattle.std.specs.Str.{bytes_eq}
 use Rattle.serde_json.specs.Data.{Data, Members}
-use Rattle.serde_json.specs.Find.{as_null, as_number, as_str, as_u64, get_member}
+use Rattle.serde_json.specs.Find.{as_bool, as_null, as_number, as_str, as_u64, get_member}
 use Rattle.fr_text.specs.Fields.{is_among, only, text}
 use Rattle.fr_guide.specs.declared.requests.forms.Kind.{Kind}
 use Rattle.fr_guide.specs.declared.requests.forms.Kind.TheVariants as kind
@@ -27,9 +27,11 @@ requests =
     ∷ (codes "drop_signal", codes "variant" ∷ codes "frame" ∷ codes "signal" ∷ [])
     ∷ (codes "import", codes "variant" ∷ codes "label" ∷ codes "body" ∷ [])
     ∷ (codes "replace", codes "variant" ∷ codes "body" ∷ [])
+    ∷ (codes "try", codes "variant" ∷ codes "body" ∷ codes "replace" ∷ [])
     ∷ (codes "cluster", [])
     ∷ (codes "variants", [])
     ∷ (codes "nodes", [])
+    ∷ (codes "diff", codes "variant" ∷ codes "from" ∷ [])
     ∷ (codes "grants", codes "variant" ∷ [])
     ∷ (codes "frames", codes "variant" ∷ [])
     ∷ (codes "schedule", codes "variant" ∷ [])
@@ -52,7 +54,11 @@ numbers = codes "slot" ∷ codes "base" ∷ codes "repetition" ∷ codes "start"
 
 -- what the field of this name has to be
 unfoldable pub kind_of : List ℕ → Kind
-kind_of name = if is_among numbers name then kind.Number else if bytes_eq name (codes "from") then kind.TextOrNull else kind.Text
+kind_of name =
+    if is_among numbers name then kind.Number
+    else if bytes_eq name (codes "from") then kind.TextOrNull
+    else if bytes_eq name (codes "replace") then kind.Flag
+    else kind.Text
 
 -- whether there is a number, of at most 4,294,967,295
 abbrev pub is_whole : Option ℕ → Bool
@@ -63,12 +69,14 @@ is_whole (Some n) = nat_lt n (2 ^ 32)
 abbrev pub is_of_kind : Kind → Data → Bool
 is_of_kind kind.Text value = is_some (as_str value)
 is_of_kind kind.TextOrNull value = is_some (as_null value) || is_some (as_str value)
+is_of_kind kind.Flag value = is_some (as_bool value)
 is_of_kind kind.Number value = is_whole (option_and_then as_u64 (as_number value))
 
 -- whether a field may have this value, or may lack one
 abbrev pub has_kind : Kind → Option Data → Bool
 has_kind kind.Text None = false
 has_kind kind.TextOrNull None = true
+has_kind kind.Flag None = true
 has_kind kind.Number None = false
 has_kind k (Some value) = is_of_kind k value
 

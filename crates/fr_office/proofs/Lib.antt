@@ -3,6 +3,7 @@ pub mod RowsLaws
 pub mod CheckedLaws
 pub mod ImportLaws
 pub mod ReplacementLaws
+pub mod TrialLaws
 pub mod RunLaws
 pub mod PageBack
 pub mod FreshLaws

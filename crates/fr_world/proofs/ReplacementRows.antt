@@ -33,7 +33,7 @@ pub all_freed-params : (reads : List RowRead) (d : DraftData) → Keeps d (free_
 all_freed-params [] d = refl
 all_freed-params (read ∷ rest) d = all_freed-params rest (free_row d read.row) ∙ freed-params d read.row
 
-replace_row-keeps : (d : DraftData) (r : Row) → IfOk (replace_row d r) (Keeps d)
+pub replace_row-keeps : (d : DraftData) (r : Row) → IfOk (replace_row d r) (Keeps d)
 unfolding replace_row
 replace_row-keeps d (row.AddFrame f n) = frame-keeps d f n
 replace_row-keeps d (row.Place f n q) = row-keeps d (row.Place f n q)

@@ -128,7 +128,7 @@ module _ (c : Cluster) (start : Book) (s v : Name) where
       (changes-drawn f (freeing r there) b d draws (freeing-formed c.params f r there) (freeing-admitted d.page r there refl apart))
   freed-drawn b d draws (Err e) = subst (λ e. Drawn e d) (sym (same-book b d draws)) draws
 
-  all_freed-drawn : (reads : List RowRead) (b : Book) (d : DraftData) → (draws : Drawn b d) → Drawn (with_freed b s v draws.x reads) (free_rows d reads)
+  pub all_freed-drawn : (reads : List RowRead) (b : Book) (d : DraftData) → (draws : Drawn b d) → Drawn (with_freed b s v draws.x reads) (free_rows d reads)
   unfolding step.free_rows
   all_freed-drawn [] b d draws = subst (λ e. Drawn e d) (sym (same-book b d draws)) draws
   all_freed-drawn (read ∷ rest) b d draws =
@@ -145,7 +145,7 @@ module _ (c : Cluster) (start : Book) (s v : Name) where
   abbrev Alike : {E : Type 0} → Result Book E → Result DraftData E → Type 0
   Alike = Like c start s v
 
-  replace_row-like : (b : Book) (d : DraftData) → Drawn b d → (r : Row) → IsFormedRow c.params r → Alike (step.replace_row c.params b s v r) (replace_row d r)
+  pub replace_row-like : (b : Book) (d : DraftData) → Drawn b d → (r : Row) → IsFormedRow c.params r → Alike (step.replace_row c.params b s v r) (replace_row d r)
   unfolding step.replace_row replace_row make_frame
   replace_row-like b d draws (row.AddFrame f n) form =
       like_when c start s v NoNode _ _ _ _ (ap not (node-shown c start s v b d draws n))

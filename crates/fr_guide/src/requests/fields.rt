@@ -139,7 +139,7 @@ fn is_there(kind: Kind, value: Option<&Value>) -> bool
 {
     match value {
         Some(value) => is_of_kind(kind, value),
-        None => kind == Kind::TextOrNull,
+        None => matches!(kind, Kind::TextOrNull | Kind::Flag),
     }
 }
 
@@ -150,6 +150,7 @@ fn is_of_kind(kind: Kind, value: &Value) -> bool
     match kind {
         Kind::Text => value.is_string(),
         Kind::TextOrNull => value.is_null() || value.is_string(),
+        Kind::Flag => value.is_boolean(),
         Kind::Number => value
             .as_u64()
             .is_some_and(|number| u32::try_from(number).is_ok()),
@@ -204,6 +205,7 @@ fn range(kind: Kind) -> &'static str {
     match kind {
         Kind::Text => "a text, in double quotes",
         Kind::TextOrNull => "a text, in double quotes, or null",
+        Kind::Flag => "true or false, without quotes",
         Kind::Number => "a whole number from 0 to 4294967295, without quotes",
     }
 }
