@@ -20,7 +20,8 @@
 # make install  proves and builds the program where that is still to be done, and puts it at $(PREFIX)/bin/slotplan. PROVED=no puts there
 #               the program that was compiled without proof; its --version says so
 # make bench    prints the program's speed and memory beside those of a register that python3's sqlite3 keeps, how
-#               a change's time grows with its supplier's rows and beside others', and the speed of texts alone; no test
+#               a change's time grows with its supplier's rows and beside others', what reports and files of rows cost beside one another,
+#               and the speed of texts alone; no test
 # make bench-all prints these figures, and those of the server, of instructions by valgrind, of a migration, of imports read, of
 #               placements decided, of registers in files and of variants that keep their differences; an hour or so
 
@@ -101,6 +102,7 @@ bench: build
 	@python3 bench/run.py
 	@python3 bench/growth.py
 	@python3 bench/turns.py
+	@python3 bench/reports.py
 	@python3 bench/texts.py
 
 bench-all: bench $(addprefix out/programs/,measure_store measure_decisions measure_imports store_pages)

@@ -12,7 +12,7 @@ import time
 from pathlib import Path
 
 HERE = Path(__file__).resolve().parent
-MIXES = ("refused", "queries", "plan", "place", "imports", "all")
+MIXES = ("refused", "queries", "plan", "place", "imports", "revising", "comparing", "all")
 NAIVE = HERE.parent / "tests/lib/naive.py"
 RUNS = 3
 
@@ -74,7 +74,7 @@ def main():
     words.add_argument("--suppliers", type=int, default=8)
     words.add_argument("--seed", type=int, default=1)
     given = words.parse_args()
-    print(f"{'mix':8} {'lines':>7} {'done':>6} {'refused':>7} {'lines/s':>9} {'MB':>6}   {'register: times':>15} {'MB':>6}   {'reader: times':>13} {'MB':>6}")
+    print(f"{'mix':9} {'lines':>7} {'done':>6} {'refused':>7} {'lines/s':>9} {'MB':>6}   {'register: times':>15} {'MB':>6}   {'reader: times':>13} {'MB':>6}")
     for mix in MIXES:
         with tempfile.TemporaryDirectory() as room:
             script, answers, expected, nothing = (Path(room) / name for name in ("script", "answers", "expected", "nothing"))
@@ -90,7 +90,7 @@ def main():
             lines, done, refused = tally(answers)
         (seconds, memory), *others = (best(of) for of in runs.values())
         beside = "   ".join(f"{other / seconds:{width}.2f} {more / 1e6:6.1f}" for (other, more), width in zip(others, (15, 13)))
-        print(f"{mix:8} {lines:7} {done:6} {refused:7} {lines / seconds:9.0f} {memory / 1e6:6.1f}   {beside}", flush=True)
+        print(f"{mix:9} {lines:7} {done:6} {refused:7} {lines / seconds:9.0f} {memory / 1e6:6.1f}   {beside}", flush=True)
 
 
 if __name__ == "__main__":

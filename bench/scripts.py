@@ -4,11 +4,12 @@
 MIX is one of
   plan      each command but add_supplier and set_key, as integrator and suppliers plan; few are refused
   refused   requests that are refused, for nearly each reason that there is, over a small plan
-  queries   each report, on a small plan, of the integrator and of the suppliers
+  queries   grants, frames, schedules, gaps, layouts and what the register holds, of a small plan, for the integrator and for suppliers
   place     each request is a placement, on a variant that fills up
   imports   files of up to 20 rows, of placements or signals; some come again, some have a row that is refused
   joining   plan, refused and queries, while suppliers join until no more may
   revising  exports, loads, rooms, replacements and changed keys, between steps of the plan
+  comparing differences of variants, and tries of files, which often come themselves next; variants are released and opened between them
   all       plan, refused, queries and imports, mixed line by line
 """
 import argparse
@@ -72,6 +73,8 @@ class Plan:
         self.signals = {}  # of a variant and a supplier, the frames and signals that were asked for
         self.imports = {}  # of a supplier, the files that were sent
         self.nodes = []  # the lines by which a supplier that joined is given its nodes
+        self.parents = {}  # of a variant that was opened from another, that one
+        self.next = []  # lines that come next
 
     def line(self, actor, do, **fields):
         key = "integrator1" if actor is None else self.keys.get(actor) or key_of(actor)
@@ -93,6 +96,8 @@ class Plan:
         """An empty variant, or one that has all that stands in its parent."""
         variant = f"v{len(self.depth)}"
         self.variants.append(variant)
+        if parent:
+            self.parents[variant] = parent
         self.depth[variant] = 1 + self.depth.get(parent, 0)
         self.granted[variant] = self.granted.get(parent, 0)
         for rows in (self.held, self.frames, self.placed, self.signals):
@@ -187,6 +192,56 @@ class Plan:
 
     def revised_signal(self, variant, supplier, frame, _):
         return f"{frame},signal{self.dice.randrange(1000)},{self.dice.randrange(PAYLOAD_BITS - 8)},{self.dice.randint(1, 8)},{self.dice.choice(('little', 'big'))}"
+
+    def own_placements(self, variant, supplier):
+        """A file that is tried as a replacement: placements that were asked for, and among them a row that is none, behind which nothing is freed."""
+        nodes, placed = dict(self.frames[variant, supplier]), self.placed[variant, supplier]
+        rows = [it for it in self.dice.sample(placed, min(len(placed), 5)) if it["frame"] in nodes]
+        lines = [f"{it['frame']},node{nodes[it['frame']]},{it['slot']},{it['channels']},{it['base']},{it['repetition']}" for it in rows]
+        lines.insert(self.dice.randrange(len(lines) + 1), "none")
+        return self.line(supplier, "try", variant=variant, replace=True, body="\n".join(["frame,node,slot,channels,base,repetition", *lines]))
+
+    def some_file(self, variant, supplier):
+        """A file that is tried as an import or as a replacement; often it comes itself next, sometimes with some lines changed."""
+        if self.placed.get((variant, supplier)) and self.dice.random() < 0.1:
+            return self.own_placements(variant, supplier)
+        replaces = self.dice.random() < 0.5
+        line = self.a_replacement(variant, supplier) if replaces else self.an_import(variant, supplier)
+        fields = json.loads(line.partition(" ")[2])
+        if fields["variant"] == variant and self.dice.random() < 0.7:
+            self.next.append(line)
+        header, *rows = fields["body"].split("\n")
+        if self.dice.random() < 0.4:
+            more = self.dice.choice(("", "frame0", "nothing,nothing", "0" * 11, header, *rows))
+            rows.insert(self.dice.randrange(len(rows)), more)
+        given = {"replace": replaces} if replaces or self.dice.random() < 0.5 else {}
+        return self.line(supplier, "try", variant=variant, **given, body="\n".join([header, *rows]))
+
+    def a_difference(self):
+        """Of two variants, of which one was often opened from the other; now and then of one that is not there."""
+        new = self.dice.choice((*self.variants, *self.depth))
+        old = self.parents.get(new) if self.dice.random() < 0.6 else None
+        both = [new, old or self.dice.choice(list(self.depth))]
+        if self.dice.random() < 0.05:
+            both[self.dice.randrange(2)] = self.dice.choice(("nowhere", "1v", ""))
+        self.dice.shuffle(both)
+        return self.line(self.dice.choice((None, *self.suppliers)), "diff", **dict(zip(("variant", "from"), both)))
+
+    def comparing(self):
+        """A difference, a try, or the file that was tried; else a variant is released and another one opened from it, or a step of the plan."""
+        if self.next:
+            return self.next.pop(0)
+        kind, variant, supplier = self.dice.random(), self.dice.choice(self.variants), self.dice.choice(self.suppliers)
+        if kind < 0.02 and len(self.depth) < VARIANTS and self.depth[variant] < DEPTH:
+            self.variants.remove(variant)
+            self.released.append(variant)
+            self.next.append(self.open_variant(variant))
+            return self.line(None, "release", variant=variant)
+        if kind < 0.22:
+            return self.a_difference()
+        if kind < 0.62 and self.frames.get((variant, supplier)) and all(self.held.get((variant, supplier, node)) for node in range(NODES)):
+            return self.some_file(variant, supplier)
+        return self.plan()
 
     def changed_key(self):
         """A key that nobody has, or one that is refused."""
@@ -334,7 +389,7 @@ class Plan:
 def script(mix, lines, suppliers, seed, cycles=None):
     names = [f"s{n}" for n in range(suppliers)]
     plan = Plan(list(names), seed, cycles or 64)
-    variants, frames = {"plan": (4, 4), "place": (1, 60), "joining": (4, 4), "revising": (3, 4), "all": (4, 4)}.get(mix, (1, 4))
+    variants, frames = {"plan": (4, 4), "place": (1, 60), "joining": (4, 4), "revising": (3, 4), "comparing": (3, 4), "all": (4, 4)}.get(mix, (1, 4))
     opening = list(plan.opening(variants, frames))
     if mix == "queries":
         opening += [asked("v0", name) for name in names for asked in (plan.place, plan.add_signal)]
@@ -346,6 +401,7 @@ def script(mix, lines, suppliers, seed, cycles=None):
         "imports": [lambda: plan.an_import("v0", plan.dice.choice(names))],
         "joining": [plan.joining, plan.joining, plan.plan, plan.refused, plan.query],
         "revising": [plan.revising],
+        "comparing": [plan.comparing],
         "all": [plan.plan, plan.plan, plan.plan, plan.refused, plan.query, plan.some_import],
     }[mix]
     more = (plan.dice.choice(kinds)() for _ in range(max(0, lines - len(opening))))
@@ -354,7 +410,7 @@ def script(mix, lines, suppliers, seed, cycles=None):
 
 def main():
     words = argparse.ArgumentParser(description=__doc__, formatter_class=argparse.RawDescriptionHelpFormatter)
-    words.add_argument("mix", choices=("plan", "refused", "queries", "place", "imports", "joining", "revising", "all"))
+    words.add_argument("mix", choices=("plan", "refused", "queries", "place", "imports", "joining", "revising", "comparing", "all"))
     words.add_argument("--lines", type=int, default=10_000)
     words.add_argument("--suppliers", type=int, default=8, choices=range(1, 65), metavar="1..64")
     words.add_argument("--seed", type=int, default=1)

@@ -41,6 +41,7 @@ def over(db):
     yield from ([report, db, *more] for report in ("cluster", "variants", "nodes") for more in ([], ["--supplier", "s1"]))
     yield from (["picture", db, "v1"], ["picture", db, "v1", "--supplier", "s1"])
     yield from (["export", db, "v1", "frames"], ["load", db, "v1"], ["room", db, "v1", "f1", "4", "--supplier", "s1"])
+    yield from (["diff", db, "v1", "v1"], ["diff", db, "v1", "v2", "--supplier", "s1"])
 
 
 def of_supplier(supplier):
@@ -85,7 +86,8 @@ class Opening(RegisterCase):
     """Each command that opens a file says which fault it has, and makes none where none is."""
 
     def is_refused(self, db, word):
-        for words in *over(db), ["serve", db, "1024"], ["import", db, "supplier01", "v1", "a", "cluster.toml"], ["replace", db, "supplier01", "v1", "cluster.toml"]:
+        filed = ["import", db, "supplier01", "v1", "a", "cluster.toml"], *([do, db, "supplier01", "v1", "cluster.toml"] for do in ("replace", "try"))
+        for words in *over(db), ["serve", db, "1024"], *filed:
             self.fault(words, word)
 
     def test_no_file(self):

@@ -12,7 +12,7 @@ from tests.lib.starts import Start, StartCase, answered, faulty
 
 COUNTS = range(8, 65, 2)
 PAIRED = (12, 48, 60, 64)
-MIXES = {"all": 700, "place": 700, "imports": 400, "revising": 400}
+MIXES = {"all": 700, "place": 700, "imports": 400, "revising": 400, "comparing": 400}
 SLOTS = 16
 OPENED = [('integrator1 {"do":"open_variant","variant":"v1"}', DONE)]
 KEY, IN_V1 = "supplier01", dict(variant="v1")
@@ -170,6 +170,12 @@ def planned(count):
         yield request(KEY, "place", variant="v2", frame="g", **fields)
     yield from queries("v2")
     yield from rooms("v2", count)
+    for who in KEY, "integrator1":
+        for new, old in ("v2", "v1"), ("v1", "v2"):
+            yield request(who, "diff", variant=new, **{"from": old})
+    for replaces in False, True:
+        rows = (f"f{at},n1,{1 + at % 3},A,{at % count},{it}" for at, it in enumerate([*divisors(count), 0, 3, count - 1, 64]))
+        yield request(KEY, "try", variant="v2", body="\n".join(["frame,node,slot,channels,base,repetition", *rows]), replace=replaces)
 
 
 def queries(variant):

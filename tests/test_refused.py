@@ -101,6 +101,9 @@ class Script:
     ("a_revised_file", "tests/rows/a_revised_file"),
     ("room_and_load", "tests/rows/room_and_load"),
     ("keys_changed", "tests/rows/keys_changed"),
+    ("differences", "tests/rows/differences_of_each_kind"),
+    ("tries", "tests/rows/tries"),
+    ("tries_of_replacements", "tests/rows/tries_of_replacements"),
 ])
 class Scripts(RefusedCase):
     """A script's run that is refused memory answers one request Unavailable, none that is refused by its text, or ends with a word behind right lines.
@@ -177,6 +180,11 @@ UNAVAILABLE_REPLY = messages.json(UNAVAILABLE, "503 Service Unavailable")
 IMPORTED, REPLACED = b'{"ok":"imported","rows":2}', b'{"ok":"replaced","rows":2}'
 CHANGES = DONE_REPLY, IMPORTED_REPLY, REPLACED_REPLY = [messages.json(answer) for answer in (DONE, IMPORTED, REPLACED)]
 PLACED, SIGNALS = b"frame,node,slot,channels,base,repetition\nf1,n1,1,A,0,64\n", b"frame,signal,start,length,order,supplier\nf1,speed,0,8,little,s1\n"
+TRIED = b"frame,node,slot,channels,base,repetition\nf1,n1,1,A,0,32\nf2,n1,1,A,0,64\nf2,n2,1,A,2,4\nf3,n1,2,A,0,1\n"
+FATES = b"0002 25 CellTaken 00 A f1\n0003 25 CellTaken 00 A f1\n0004 15 NoNode\n0005 00 done\n"
+REPLACING_FATES = FATES.replace(b"0002 25 CellTaken 00 A f1", b"0002 00 done")
+DIFFERENCE = b"+ GRANT 0001 A n1\n+ GRANT 0002 A n1\n+ FRAME f1 n1\n+ AT f1 0001 A 00 64\n+ SIGNAL f1 0000 08 little speed\n+ GAP    6400 f1\n"
+TURNED_ROUND = DIFFERENCE.replace(b"+", b"-").replace(b"\n", b" s1\n")
 LOAD, ROOM = b"0001 A 01 64 n1\n0002 A 00 64 n1\n", b"0001 A 02 01\n0002 A 02 00 01\n"
 
 OF_INTEGRATOR = {
@@ -206,6 +214,10 @@ def asked():
             yield name, command(key, line), DONE_REPLY
     yield "import", post("/v1/variants/v1/imports/week1", "supplier01", ROWS), IMPORTED_REPLY
     yield "replace", put("/v1/variants/v1/rows", "supplier01", ROWS), REPLACED_REPLY
+    yield "try", post("/v1/variants/v1/tries", "supplier01", TRIED), messages.lines("try", FATES)
+    yield "try_to_replace", put("/v1/variants/v1/tries", "supplier01", TRIED), messages.lines("try", REPLACING_FATES)
+    yield "diff", head("GET", "/v1/variants/v1/since/v0", "supplier01"), text(DIFFERENCE)
+    yield "diff_of_all", head("GET", "/v1/variants/v0/since/v1", "integrator1"), text(TURNED_ROUND)
     yield "cluster", head("GET", "/v1/cluster", "supplier01"), text(FIGURE_LINES + b"supplier s1\n")
     yield "variants", head("GET", "/v1/variants", "supplier01"), text(b"v0 - 1 released\nv1 - 1 open\n")
     yield "nodes", head("GET", "/v1/nodes", "supplier01"), text(b"n1\n")
@@ -301,6 +313,10 @@ PLAN = {
     ("load", ["load", "car.db", "v1", "--supplier", "s1"], LOAD),
     ("room", ["room", "car.db", "v1", "f1", "2", "--supplier", "s1"], ROOM),
     ("export", ["export", "car.db", "v1", "signals"], SIGNALS),
+    ("diff", ["diff", "car.db", "v0", "v1", "--supplier", "s1"], DIFFERENCE),
+    ("diff_of_all", ["diff", "car.db", "v1", "v0"], TURNED_ROUND),
+    ("try", ["try", "car.db", "supplier01", "v1", "rows.csv"], b"0002 00 done\n0003 00 done\n"),
+    ("try_to_replace", ["try", "car.db", "supplier01", "v1", "rows.csv", "--replace"], b"0002 00 done\n0003 00 done\n"),
     ("import", ["import", "car.db", "supplier01", "v1", "week1", "rows.csv"], IMPORTED + b"\n"),
     ("replace", ["replace", "car.db", "supplier01", "v1", "rows.csv"], REPLACED + b"\n"),
 ])

@@ -182,8 +182,12 @@ class Alone(StartCase):
             self.see(f"{line[:120]!r}", right, answer)
 
     @each("s0", "s1", "s2", "s3")
-    def test_supplier(self, supplier):
+    def test_revising(self, supplier):
         self.tried(supplier, mixture("revising", 1200, 4, 11))
+
+    @each("s0", "s1", "s2", "s3")
+    def test_comparing(self, supplier):
+        self.tried(supplier, mixture("comparing", 1200, 4, 12))
 
 
 # ---- over files: commands and a server

@@ -46,7 +46,7 @@ class Limits(StartCase):
 class AnotherRegister(StartCase):
     """Mixtures of 2,000 requests are answered as by another register; it is that of naive.py, over the SQLite of python3."""
 
-    @each("plan", "refused", "queries", "place", "imports", "joining", "revising", "all")
+    @each("plan", "refused", "queries", "place", "imports", "joining", "revising", "comparing", "all")
     def test_mixture(self, mix):
         for seed in 1, 2, 3:
             given = mixture(mix, 2000, seed=seed)

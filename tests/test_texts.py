@@ -8,12 +8,13 @@ from tests.lib.program import ran
 from tests.lib.registers import RegisterCase
 
 REQUESTS = (
-    "open_variant, release, add_supplier, set_key, add_node, grant, revoke, add_frame, drop_frame, place, unplace, add_signal, drop_signal, import, replace, "
-    "cluster, variants, nodes, grants, frames, schedule, gaps, load, layout, room, export_frames, export_placements, export_signals"
+    "open_variant, release, add_supplier, set_key, add_node, grant, revoke, add_frame, drop_frame, place, unplace, add_signal, drop_signal, import, replace, try, "
+    "cluster, variants, nodes, diff, grants, frames, schedule, gaps, load, layout, room, export_frames, export_placements, export_signals"
 )
 NAME = "a name is 1 to 32 ASCII letters, digits and underscores, a letter first"
 NUMBER = "it may be a whole number from 0 to 4294967295, without quotes"
 TEXT = "it may be a text, in double quotes"
+FLAG = "it may be true or false, without quotes"
 NO_KEY = "the key is none, which is 8 to 64 ASCII letters and digits"
 NO_SPACE = "there is no space: a line is a key, a space and a request"
 OPEN = 'integrator1 {"do":"open_variant","variant":"v1"}'
@@ -62,7 +63,21 @@ LINES = [
     ('supplier01 {"do":"replace","variant":"v1","label":"a","body":""}', ['field "label" is none of replace: variant, body']),
     ('supplier01 {"do":"replace","variant":"1v","body":""}', [f'field "variant" is "1v", {NAME}']),
     ('integrator1 {"do":"set_key","supplier":"s1","key":"short"}', ['field "key" is no key, which is 8 to 64 ASCII letters and digits']),
+    ('supplier01 {"do":"diff","variant":"v2","to":"v1"}', ['field "to" is none of diff: variant, from', 'field "from" of diff is missing']),
+    ('supplier01 {"do":"diff","variant":"v-2","from":""}', [f'field "variant" is "v-2", {NAME}', f'field "from" is "", {NAME}']),
+    ('supplier01 {"do":"diff","variant":"v2","from":null}', [f'field "from" is null, {TEXT}']),
+    ('supplier01 {"do":"diff","variant":"v2","from":7}', [f'field "from" is 7, {TEXT}']),
+    ('supplier01 {"do":"try","variant":"v1"}', ['field "body" of try is missing']),
+    ('supplier01 {"do":"try","variant":"1v","body":"","replace":true}', [f'field "variant" is "1v", {NAME}']),
+    ('supplier01 {"do":"try","variant":"v1","body":"","replace":"true"}', [f'field "replace" is the text "true", {FLAG}']),
+    ('supplier01 {"do":"try","variant":"v1","body":"","replace":1}', [f'field "replace" is 1, {FLAG}']),
+    ('supplier01 {"do":"try","variant":"v1","body":"","replace":null}', [f'field "replace" is null, {FLAG}']),
+    ('supplier01 {"do":"try","variant":true,"body":"","label":"a"}', ['field "label" is none of try: variant, body, replace', f'field "variant" is true or false, {TEXT}']),
+    ('supplier01 {"do":"replace","variant":"v1","body":"","replace":true}', ['field "replace" is none of replace: variant, body']),
     # These have their form, though the register refuses them.
+    ('supplier01 {"do":"try","variant":"v9","body":"f1"}', []),
+    ('supplier01 {"do":"try","variant":"v9","body":"","replace":false}', []),
+    ('supplier01 {"do":"diff","variant":"v8","from":"v9"}', []),
     ('supplier01 {"do":"replace","variant":"v1","body":"f1"}', []),
     ('supplier01 {"do":"room","variant":"v9","frame":"f9","repetition":3}', []),
     ('integrator1 {"do":"set_key","supplier":"s9","key":"supplier01"}', []),

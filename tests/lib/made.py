@@ -187,6 +187,17 @@ def exported(key, variant, behind):
         yield told(key, "export_placements", [header, *rows[IMPORT_ROWS * part :][:IMPORT_ROWS]], variant=variant, part=part)
 
 
+def differences(sign, behind):
+    """All that s1 has at the limits, as rows that one variant has and another has not."""
+    yield from (f"{sign} GRANT {slot:04} {channel} {node}{behind}" for slot, channel, node in GRANT)
+    yield from (f"{sign} FRAME {name} {node_of(frame)}{behind}" for frame, name in enumerate(FRAME))
+    for frame, name in enumerate(FRAME):
+        yield from (f"{sign} AT {name} {slot:04} AB {base_of(frame):02} 04{behind}" for slot in slots_of(frame))
+    for name, order, signals in SIGNAL:
+        yield from (f"{sign} SIGNAL {name} {start:04} {length:02} {order} {signal}{behind}" for signal, start, length in signals)
+    yield from (f"{sign} {gap}{behind}" for gap in gaps())
+
+
 def queries(key, variant, behind):
     """Each query of a variant in which s1 is at the limits; `behind` follows each line but those of placements."""
     grants = (f"{slot:04} {channel} {node}" for slot, channel, node in GRANT)
@@ -250,14 +261,21 @@ def at_the_limits():
     yield done(key, "place", **again)
     for part in range(FRAMES * PLACEMENTS // IMPORT_ROWS):
         body = PLACEMENTS_FILE + "".join(f"{row}\n" for row in list(placement_rows())[IMPORT_ROWS * part :][:IMPORT_ROWS])
+        for replaces, fate in (False, "23 Limit"), (True, "00 done"):
+            yield told(key, "try", [f"{line:04} {fate}" for line in range(2, IMPORT_ROWS + 2)], variant=deepest, body=body, replace=replaces)
         yield request(key, "replace", variant=deepest, body=body), f'{{"ok":"replaced","rows":{IMPORT_ROWS}}}'
     yield from exported(key, deepest, "")
+    for who in key, integrator:
+        yield told(who, "diff", [], variant=deepest, **{"from": "v1"})
     yield done(integrator, "release", variant=deepest)
     yield request(integrator, "open_variant", variant="more", **{"from": deepest}), refused(13, "TooDeep")
     for n in range(DEPTH + 1, VARIANTS + 1):
         yield done(integrator, "open_variant", variant=f"v{n}")
     yield limit(integrator, "open_variant", variant="more")
     yield limit(integrator, "open_variant", variant="more", **{"from": "v1"})
+    for who, behind in (key, ""), (integrator, " s1"):
+        yield told(who, "diff", list(differences("+", behind)), variant=deepest, **{"from": f"v{DEPTH + 1}"})
+        yield told(who, "diff", list(differences("-", behind)), variant=f"v{DEPTH + 1}", **{"from": deepest})
     yield told(key, "variants", sorted(map(variant_line, range(1, VARIANTS + 1))))
 
 

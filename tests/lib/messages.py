@@ -55,6 +55,12 @@ def text(body):
     return reply("200 OK", "text/plain; charset=us-ascii", body)
 
 
+def lines(do, report):
+    """The lines of a report, as they are told in JSON to who asked for them so."""
+    quoted = b",".join(b'"%s"' % line for line in report.splitlines())
+    return json(b'{"lines":[%s],"ok":"%s"}' % (quoted, do.encode()))
+
+
 def csv(body):
     return reply("200 OK", "text/csv; charset=utf-8", body)
 

@@ -25,14 +25,18 @@ FIELDS = {
     "grant": ("variant", "slot", "channel", "supplier", "node"), "revoke": ("variant", "slot", "channel", "supplier"),
     "add_frame": ("variant", "frame", "node"), "drop_frame": ("variant", "frame"), "place": PLACE, "unplace": PLACE,
     "add_signal": ("variant", "frame", "signal", "start", "length", "order"), "drop_signal": ("variant", "frame", "signal"),
-    "import": ("variant", "label", "body"), "replace": ("variant", "body"), "cluster": (), "variants": (), "nodes": (), "grants": ("variant",),
-    "frames": ("variant",), "schedule": ("variant",), "gaps": ("variant",), "layout": ("variant", "frame"), "load": ("variant",),
-    "export_frames": ("variant", "part"), "export_placements": ("variant", "part"), "export_signals": ("variant", "part"),
-    "room": ("variant", "frame", "repetition"),
+    "import": ("variant", "label", "body"), "replace": ("variant", "body"), "try": ("variant", "body", "replace"), "cluster": (), "variants": (),
+    "nodes": (), "diff": ("variant", "from"), "grants": ("variant",), "frames": ("variant",), "schedule": ("variant",), "gaps": ("variant",),
+    "layout": ("variant", "frame"), "load": ("variant",), "export_frames": ("variant", "part"), "export_placements": ("variant", "part"),
+    "export_signals": ("variant", "part"), "room": ("variant", "frame", "repetition"),
 }
+# A field that may be left out, and what it then is.
+LEFT_OUT = {"open_variant": ("from", None), "try": ("replace", False)}
 HELD = {"cluster", "variants", "nodes"}
-BOTH = HELD | {"grants", "frames", "schedule", "gaps", "layout", "load", "export_frames", "export_placements", "export_signals"}
+BOTH = HELD | {"diff", "grants", "frames", "schedule", "gaps", "layout", "load", "export_frames", "export_placements", "export_signals"}
 QUERIES = BOTH | {"room"}
+# Requests that carry a file, each with what answers it.
+FILED = {"import": "import_rows", "replace": "replace_rows", "try": "try_rows"}
 INTEGRATORS = {"open_variant", "release", "add_supplier", "set_key", "add_node", "grant", "revoke"}
 NUMBER_OF = {
     "BadText": 1, "UnknownKey": 2, "NotYours": 3, "BadName": 4, "BadCycles": 5, "BadSlot": 6, "BadChannel": 7, "BadSignal": 8,
@@ -121,14 +125,16 @@ def read_request(text):
         raise Refused("BadText")
     see(isinstance(asked, dict) and isinstance(asked.get("do"), str) and asked["do"] in FIELDS, "BadText")
     do = asked.pop("do")
-    if do == "open_variant":
-        asked.setdefault("from", None)
+    if do in LEFT_OUT:
+        asked.setdefault(*LEFT_OUT[do])
     see(set(asked) == set(FIELDS[do]), "BadText")
     for field, value in asked.items():
         if field in NUMBERS:
             see(is_number(value), "BadText")
+        elif field == "replace":
+            see(isinstance(value, bool), "BadText")
         else:
-            see(isinstance(value, str) or field == "from" and value is None, "BadText")
+            see(isinstance(value, str) or (do, field, value) == ("open_variant", "from", None), "BadText")
     return do, asked
 
 
@@ -139,6 +145,12 @@ def bits_of(start, length, big):
         last = bits[-1]
         bits.append(last + 1 if not big else last - 1 if last % 8 else last + 15)
     return bits
+
+
+def told_as_fate(no, refused, **more):
+    """A refusal's number and name, and where the filled cell or the used bit is."""
+    where = {"CellTaken": "{cycle:02} {channel} {frame}", "BitTaken": "{bit:04} {signal}"}.get(refused, "")
+    return f"{no:02} {refused} {where.format(**more)}".rstrip()
 
 
 def first_common(count, one, other):
@@ -344,7 +356,7 @@ class Register:
         )
         see(gone.rowcount == 1, "NoSignal")
 
-    # ---- imports and replacements
+    # ---- imports, replacements and tries
 
     def import_rows(self, supplier, asked):
         variant, label, body = asked["variant"], asked["label"], asked["body"].encode()
@@ -363,19 +375,48 @@ class Register:
         self.db.execute("COMMIT")
         return {"ok": "imported", "rows": len(rows)}
 
-    def replace(self, supplier, asked):
+    def replace_rows(self, supplier, asked):
         variant, body = asked["variant"], asked["body"].encode()
         self.open_row(variant)
         see(len(body) <= 65_536, "Limit")
         self.db.execute("BEGIN")
         rows, wrong = self.read_rows(body)
-        for kind, frame in {(kind, row["frame"]) for _, (kind, row) in rows if kind != "frames"}:
-            self.rows(f"DELETE FROM {kind} WHERE variant = ? AND supplier = ? AND frame = ?", variant, supplier, frame)
+        self.free(supplier, variant, rows)
         refused = self.refused_row(rows, wrong, lambda row: self.put_row(supplier, variant, *row))
         if refused:
             return refused
         self.db.execute("COMMIT")
         return {"ok": "replaced", "rows": len(rows)}
+
+    def free(self, supplier, variant, rows):
+        """The frames that these rows name lose what the rows bring anew."""
+        for kind, frame in {(kind, row["frame"]) for _, (kind, row) in rows if kind != "frames"}:
+            self.rows(f"DELETE FROM {kind} WHERE variant = ? AND supplier = ? AND frame = ?", variant, supplier, frame)
+
+    def try_rows(self, supplier, asked):
+        """What becomes of each line of a file, on what those before it left; in the end nothing is changed."""
+        variant, body, replaces = asked["variant"], asked["body"].encode(), asked["replace"]
+        self.open_row(variant)
+        see(len(body) <= 65_536, "Limit")
+        self.db.execute("BEGIN")
+        if replaces:
+            self.free(supplier, variant, self.read_rows(body)[0])
+        act = self.put_row if replaces else self.act_row
+        fates = [self.fate(line, row, lambda row: act(supplier, variant, *row)) for line, row in self.each_line(body)]
+        self.db.execute("ROLLBACK")
+        return {"lines": fates, "ok": "try"}
+
+    def fate(self, line, row, act):
+        """What becomes of a line, which is a row or refused by its own text. A refused one changes nothing."""
+        self.rows("SAVEPOINT line")
+        try:
+            if isinstance(row, Refused):
+                raise row
+            act(row)
+        except Refused as refused:
+            self.rows("ROLLBACK TO line")
+            return f"{line:04} {told_as_fate(**refused.answer)}"
+        return f"{line:04} 00 done"
 
     def refused_row(self, rows, wrong, act):
         """Acts on each row, and tells the first that is refused, by what it acts on or, behind all, by its own text. Then nothing is changed."""
@@ -392,24 +433,32 @@ class Register:
 
     def read_rows(self, body):
         """The rows of a file, each with its line, up to the first that its own text refuses, and the line and the refusal of that one."""
-        rows, self.line = [], 1
-        try:
-            for row in self.each_row(body):
-                rows.append((self.line, row))
-        except Refused as refused:
-            return rows, (self.line, refused)
+        rows = []
+        for line, row in self.each_line(body):
+            if isinstance(row, Refused):
+                return rows, (line, row)
+            rows.append((line, row))
         return rows, None
 
-    def each_row(self, body):
-        """The rows of a file; `line` is that of the row that is read."""
+    def each_line(self, body):
+        """The lines of a file: each with its row, or with the refusal by its own text. One line more than there may be is the last."""
         text = body.removeprefix(b"\xef\xbb\xbf").decode("latin-1")
         records = (record for record in csv.reader(io.StringIO(text, newline="")) if record)
-        header = next(records, None)
+        header = tuple(next(records, ()))
         shapes = {tuple(FIELDS_OF_ROW[kind]): kind for kind in FIELDS_OF_ROW}
-        see(header is not None and tuple(header) in shapes, "BadText")
-        for self.line, record in enumerate(records, 2):
-            see(self.line < ROWS + 2, "Limit")
-            yield shapes[tuple(header)], self.read_row(header, record)
+        if header not in shapes:
+            yield 1, Refused("BadText")
+            return
+        for line, record in zip(range(2, ROWS + 2), records):
+            yield line, self.row_or_refused(shapes[header], header, record)
+        if next(records, None):
+            yield ROWS + 2, Refused("Limit")
+
+    def row_or_refused(self, kind, header, record):
+        try:
+            return kind, self.read_row(header, record)
+        except Refused as refused:
+            return refused
 
     def read_row(self, header, record):
         see(len(record) == len(header), "BadText")
@@ -501,16 +550,19 @@ class Register:
         return [f"{cycle:02} {slot:04} {channel} {rest}" for cycle, slot, channel, rest in sorted(lines)]
 
     def gaps(self, actor, variant):
-        ring = self.cycles * self.cluster["macroticks_per_cycle"]
         for supplier, end in self.of(actor):
             for frame, in self.rows("SELECT name FROM frames WHERE variant = ? AND supplier = ? ORDER BY name", variant, supplier):
-                moments = sorted({
-                    cycle * self.cluster["macroticks_per_cycle"] + (slot - 1) * self.cluster["slot_macroticks"]
-                    for slot, _, base, repetition in self.placements(variant, supplier, frame)
-                    for cycle in range(base, self.cycles, repetition)
-                })
-                gap = max((after - moment for moment, after in zip(moments, moments[1:] + [moments[0] + ring])), default="never") if moments else "never"
-                yield f"GAP {gap:>7} {frame}{end}"
+                yield f"GAP {self.gap(variant, supplier, frame):>7} {frame}{end}"
+
+    def gap(self, variant, supplier, frame):
+        """The frame's greatest, or `never`."""
+        ring = self.cycles * self.cluster["macroticks_per_cycle"]
+        moments = sorted({
+            cycle * self.cluster["macroticks_per_cycle"] + (slot - 1) * self.cluster["slot_macroticks"]
+            for slot, _, base, repetition in self.placements(variant, supplier, frame)
+            for cycle in range(base, self.cycles, repetition)
+        })
+        return max(after - moment for moment, after in zip(moments, moments[1:] + [moments[0] + ring])) if moments else "never"
 
     def signals(self, variant, supplier, frame):
         """Those of a frame by start."""
@@ -563,6 +615,29 @@ class Register:
                 if bases:
                     yield " ".join([f"{slot:04} {channels} {repetition:02}", *(f"{base:02}" for base in bases)])
 
+    # ---- differences
+
+    def seen(self, actor, variant):
+        """The rows of the variant that an actor sees: of each its kind and its key, by which they are in order, and its line."""
+        grants = "SELECT slot, channel, node FROM grants WHERE variant = ? AND supplier = ?"
+        for supplier, end in self.of(actor):
+            for slot, channel, node in self.rows(grants, variant, supplier):
+                yield (0, slot, channel), f"GRANT {slot:04} {channel} {node}{end}"
+            for frame, node in self.rows("SELECT name, node FROM frames WHERE variant = ? AND supplier = ?", variant, supplier):
+                yield (1, supplier, frame), f"FRAME {frame} {node}{end}"
+                for slot, channels, base, repetition in self.placements(variant, supplier, frame):
+                    key = (2, supplier, frame, slot, ("A", "AB", "B").index(channels), base, repetition)
+                    yield key, f"AT {frame} {slot:04} {channels} {base:02} {repetition:02}{end}"
+                for start, length, order, name in self.signals(variant, supplier, frame):
+                    yield (3, supplier, frame, start), f"SIGNAL {frame} {start:04} {length:02} {order} {name}{end}"
+                yield (4, supplier, frame), f"GAP {self.gap(variant, supplier, frame):>7} {frame}{end}"
+
+    def diff(self, actor, variant, **other):
+        """What the other variant has and this one not, and what this one has and the other not."""
+        old, new = (set(self.seen(actor, name)) for name in (other["from"], variant))
+        both = [(key, 0, f"- {line}") for key, line in old - new] + [(key, 1, f"+ {line}") for key, line in new - old]
+        return [line for *_, line in sorted(both)]
+
     # ---- exports
 
     def records(self, kind, variant, supplier):
@@ -608,10 +683,11 @@ class Register:
         if do in HELD:
             return {"lines": self.held(do, actor), "ok": do}
         if do in QUERIES:
-            see(self.one("SELECT 1 FROM variants WHERE name = ?", asked["variant"]), "NoVariant")
+            for variant in (asked[field] for field in ("variant", "from") if field in asked):
+                see(self.one("SELECT 1 FROM variants WHERE name = ?", variant), "NoVariant")
             return {"lines": list(getattr(self, do)(actor, **asked)), "ok": do}
-        if do in ("import", "replace"):
-            return (self.import_rows if do == "import" else self.replace)(actor, asked)
+        if do in FILED:
+            return getattr(self, FILED[do])(actor, asked)
         getattr(self, do)(actor, asked)
         return {"ok": "done"}
 

@@ -103,7 +103,7 @@ or_later : (a b : Bool) → b ≡ true → a || b ≡ true
 or_later true b h = refl
 or_later false b h = h
 
-first_taken-alike : {O : Type 0} (f g : Cell → Option O) (ds : List Cell) → ((c : Cell) → list_any (same_cell c) ds ≡ true → f c ≡ g c) → first_taken f ds ≡ first_taken g ds
+pub first_taken-alike : {O : Type 0} (f g : Cell → Option O) (ds : List Cell) → ((c : Cell) → list_any (same_cell c) ds ≡ true → f c ≡ g c) → first_taken f ds ≡ first_taken g ds
 unfolding first_taken
 first_taken-alike f g [] alike = refl
 first_taken-alike f g (d ∷ ds) alike =
@@ -116,7 +116,7 @@ first_taken-alike f g (d ∷ ds) alike =
 
 module _ (p : Params) (nodes : Table owned ⊤) (v : Variant) (sound : IsSoundVariant p nodes v) (s n : Name) (q : Placement) (holds : IsTrue (granted v.grants s n q)) where
   -- in a cell that is granted to the supplier no frame of another is sent
-  others_lack : (c : Cell) → IsTrue (has_cell q c) → (k : Name × Name) (f : Frame) → get v.frames k ≡ Some f → is_of s k ≡ false → Lacks c f
+  pub others_lack : (c : Cell) → IsTrue (has_cell q c) → (k : Name × Name) (f : Frame) → get v.frames k ≡ Some f → is_of s k ≡ false → Lacks c f
   unfolding granted
   others_lack c has k f there other r in_f = elim (cases_Bool (has_cell r c)) [
     | inl clash ↦

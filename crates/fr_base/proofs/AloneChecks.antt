@@ -49,11 +49,12 @@ pub record SaysAlike (actor : Actor) (request : Request) (command : Command) : T
   pub against : (s : Name) (b : Book) → against s b command ≡ refused_beside s b actor request
   pub frames : of_frame command ≡ true → is_integrator actor ≡ false
 
--- an import or a replacement is of the supplier that asks; and no query of the integrator's concerns a supplier
+-- an import, a replacement or a trial is of the supplier that asks; and no query of the integrator's concerns a supplier
 abbrev pub Says : Actor → Request → Checked → Type 0
 Says actor request (checked.Command command) = SaysAlike actor request command
 Says actor request (checked.Import i) = actor ≡ Supplier i.supplier
 Says actor request (checked.Replace r) = actor ≡ Supplier r.supplier
+Says actor request (checked.Try t) = actor ≡ Supplier t.supplier
 Says actor request (checked.Query query) = is_integrator actor ≡ true → (s : Name) → concerns s request ≡ false
 
 by_integrator : (actor : Actor) (request : Request) (command : Command) → is_integrator actor ≡ true →
@@ -167,6 +168,9 @@ check-says p actor (request.Import variant label body) =
     gives_each _ (name variant) _ (λ v _.
     gives_each _ (name label) _ (λ l _. is)))
 check-says p actor (request.Replace variant body) =
+    gives_bind _ _ (asking actor) _ (asking-is actor) (λ t is.
+    gives_each _ (name variant) _ (λ v _. is))
+check-says p actor (request.Try variant replaces body) =
     gives_bind _ _ (asking actor) _ (asking-is actor) (λ t is.
     gives_each _ (name variant) _ (λ v _. is))
 check-says p actor (request.Query asked) =

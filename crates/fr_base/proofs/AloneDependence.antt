@@ -7,7 +7,7 @@ use Rattle.fr_base.specs.Tables.{get}
 use Rattle.fr_base.specs.Cluster.{Cluster}
 use Rattle.fr_base.specs.Book.{Book}
 use Rattle.fr_base.specs.Queries.{reply}
-use Rattle.fr_base.specs.Step.{Outcome, knows, common, add_supplier, set_key, add_node, change_rows, done, perform, import, replace, act, outcome, step}
+use Rattle.fr_base.specs.Step.{Outcome, knows, common, add_supplier, set_key, add_node, change_rows, done, perform, import, replace, try, act, outcome, step}
 use Rattle.fr_base.specs.Sound.{IsSound}
 use Rattle.fr_base.specs.Alone.{rows_of, concerns, is_another, holder_at, another_has, is_full, beside}
 use Rattle.fr_base.specs.declared.name.Name.{Name}
@@ -24,6 +24,7 @@ use Rattle.fr_base.specs.declared.request.Command.{Command}
 use Rattle.fr_base.specs.declared.request.Command.TheVariants.{Common, AddSupplier, SetKey, AddNode, Rows}
 use Rattle.fr_base.specs.declared.request.Import.{Import}
 use Rattle.fr_base.specs.declared.request.Replacement.{Replacement}
+use Rattle.fr_base.specs.declared.request.Trial.{Trial}
 use Rattle.fr_base.specs.declared.request.Checked.{Checked}
 use Rattle.fr_base.specs.declared.request.Checked.TheVariants as checked
 use Rattle.fr_base.proofs.SoundRows.{same_text-is}
@@ -32,6 +33,7 @@ use Rattle.fr_base.proofs.AloneRefusing.{map_ok, alike_when, alike_bind}
 use Rattle.fr_base.proofs.AloneRows.{rows_of-supplier, rows_of-import}
 use Rattle.fr_base.proofs.AloneImports.{import-own}
 use Rattle.fr_base.proofs.AloneReplacements.{replace-own}
+use Rattle.fr_base.proofs.AloneTrials.{try-own}
 use Rattle.fr_base.proofs.AloneChanges.{unless, unless_none}
 use Rattle.fr_base.proofs.AloneJoining.{others_refuse}
 use Rattle.fr_base.proofs.AloneKeys.{another_refuses}
@@ -78,6 +80,10 @@ module _ (c : Cluster) (b : Book) (s : Name) where
   replace-alone r is sound =
       subst (λ u. map_ok (seen u) (replace c.params b r) ≡ (replace c.params (rows_of u b) r >>= unless (Ok tt))) (sym is) (replace-own r c b sound ∙ sym (unless_none _))
 
+  try-alone : (t : Trial) → s ≡ t.supplier → IsSound c b → Beside (Ok tt) (try c.params b t) (try c.params (rows_of s b) t)
+  try-alone t is sound =
+      subst (λ u. map_ok (seen u) (try c.params b t) ≡ (try c.params (rows_of u b) t >>= unless (Ok tt))) (sym is) (try-own t c b sound ∙ sym (unless_none _))
+
   act-own : (actor : Actor) (request : Request) → (is_integrator actor ≡ false → IsSound c b) → asked_of s actor request ≡ true → (what : Checked) → Says actor request what →
       Beside (refused_beside s b actor request) (act c b actor what) (act c (rows_of s b) actor what)
   unfolding act
@@ -89,6 +95,8 @@ module _ (c : Cluster) (b : Book) (s : Name) where
       import-alone i (sym (same_text-is t s asked) ∙ supplier-is says) (sound refl)
   act-own Integrator request sound asked (checked.Replace r) says = cc
   act-own (Supplier t) request sound asked (checked.Replace r) says = replace-alone r (sym (same_text-is t s asked) ∙ supplier-is says) (sound refl)
+  act-own Integrator request sound asked (checked.Try t) says = cc
+  act-own (Supplier u) request sound asked (checked.Try t) says = try-alone t (sym (same_text-is u s asked) ∙ supplier-is says) (sound refl)
   act-own Integrator request sound asked (checked.Query query) says = let none = says refl s in cc
   act-own (Supplier t) request sound asked (checked.Query query) says =
       subst (λ u. Beside (Ok tt) (act c b (Supplier u) (checked.Query query)) (act c (rows_of s b) (Supplier u) (checked.Query query))) (sym (same_text-is t s asked)) (query-own query)
@@ -123,6 +131,7 @@ module _ (c : Cluster) (b : Book) (s : Name) where
   act-answer request asked d (checked.Command command) says = perform-done c d command
   act-answer request asked d (checked.Import i) says = cc
   act-answer request asked d (checked.Replace r) says = cc
+  act-answer request asked d (checked.Try t) says = cc
   act-answer request asked d (checked.Query query) says = let none = says refl s in cc
 
   lines-answer : (request : Request) → concerns s request ≡ true → (d : Book) → IfOk (lines c d Integrator request) (λ o. o.answer ≡ answer.Done)

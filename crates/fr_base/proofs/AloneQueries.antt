@@ -1,6 +1,6 @@
 -- A query shows a supplier of its own rows what it shows it of all.
 use Rattle.std.proofs.Common.{◌≡◌, ◌∙◌, ℕ, false, List, [], ◌∷◌, map, Some, Result, Ok, refl, sym, ap}
-use Rattle.std.specs.Prelude.{◌==◌}
+use Rattle.std.specs.Prelude.{◌==◌, ◌++◌}
 use Rattle.fr_base.specs.Refusing.{◌>>=◌, ◌>>◌, refuse◌when◌}
 use Rattle.fr_base.specs.Tables.{get, len, each}
 use Rattle.fr_base.specs.Keys.{names, owned, channel_slots}
@@ -8,6 +8,7 @@ use Rattle.fr_base.specs.Names.{same_text}
 use Rattle.fr_base.specs.Book.{Variant, Book, held_by, is_of, own, own_grants}
 use Rattle.fr_base.specs.Queries.{grants_of, frames_of, sendings_of, gaps_of, named, signals_of, cluster_of, variant_row, variants_of, nodes_of, held, shown, found, reply}
 use Rattle.fr_base.specs.Exports.{exported}
+use Rattle.fr_base.specs.Differences.{grants_differ, frames_differ, differences}
 use Rattle.fr_base.specs.Room.{own_room}
 use Rattle.fr_base.specs.Alone.{own_variant, rows_of}
 use Rattle.fr_base.specs.declared.name.Name.{Name}
@@ -19,7 +20,7 @@ use Rattle.fr_base.specs.declared.refusal.Refusal.{Refusal}
 use Rattle.fr_base.specs.declared.refusal.Refusal.TheVariants.{NoVariant, Released, NoFrame}
 use Rattle.fr_base.specs.declared.actor.Actor.TheVariants.{Supplier}
 use Rattle.fr_base.specs.declared.query.Query.{Query}
-use Rattle.fr_base.specs.declared.query.Query.TheVariants.{Register as OfRegister, Variant as OfVariant}
+use Rattle.fr_base.specs.declared.query.Query.TheVariants.{Register as OfRegister, Variant as OfVariant, Difference}
 use Rattle.fr_base.specs.declared.query.Inventory.{Inventory}
 use Rattle.fr_base.specs.declared.query.Inventory.TheVariants.{Cluster, Variants, Nodes}
 use Rattle.fr_base.specs.declared.report.Report.{Report}
@@ -49,6 +50,11 @@ module _ (p : Params) (s : Name) where
   shown-own x (Export header part) = ap (λ t. Ok (exported header part t.rows)) (own_frames-own x)
   shown-own x (Layout f) = ap (λ t. (refuse NoFrame when len (named f t) == 0) >> Ok (rows.Layout (signals_of (named f t)))) (own_frames-own x)
 
+  -- in what two variants differ
+  difference-own : (x y : Variant) → differences p (Supplier s) (own_variant s x) (own_variant s y) ≡ differences p (Supplier s) x y
+  unfolding differences own_variant
+  difference-own x y i = grants_differ (own_grants-own x i) (own_grants-own y i) ++ frames_differ p (own_frames-own x i) (own_frames-own y i)
+
   -- a variant is told alike whosever rows are in it
   rows-own : (es : List (Name × Variant)) → map variant_row es ≡ map variant_row (map (λ e. (e.0, own_variant s e.1)) es)
   unfolding own_variant
@@ -69,6 +75,10 @@ module _ (p : Params) (s : Name) where
   unfolding found
   found-own b (OfRegister inventory) = ap Ok (held-own b inventory)
   found-own b (OfVariant v report) = alike_or Same (λ e. refl) (own_variant s) (get b.variants v) _ (rows_of-variant s b v) NoVariant _ _ (λ x _. sym (shown-own x report))
+  found-own b (Difference v from) =
+      alike_or Same (λ e. refl) (own_variant s) (get b.variants v) _ (rows_of-variant s b v) NoVariant _ _ (λ y _.
+      alike_or Same (λ e. refl) (own_variant s) (get b.variants from) _ (rows_of-variant s b from) NoVariant _ _ (λ x _.
+      ap (λ t. Ok (rows.Difference t)) (sym (difference-own x y))))
 
   -- a query shows the supplier of its own rows what it shows it of all
   pub reply-own : (b : Book) (query : Query Name ℕ) → reply p b (Supplier s) query ≡ reply p (rows_of s b) (Supplier s) query

@@ -50,13 +50,13 @@ module _ (s : Name) where
   unfolding own_variant
   freed_variant-own reads x = λ i. record (own_variant s x) { frames = free_rows-own reads x.frames i }
 
-  with_freed-own : (b : Book) (v : Name) (x : Variant) (reads : List RowRead) → rows_of s (with_freed b s v x reads) ≡ with_freed (rows_of s b) s v (own_variant s x) reads
+  pub with_freed-own : (b : Book) (v : Name) (x : Variant) (reads : List RowRead) → rows_of s (with_freed b s v x reads) ≡ with_freed (rows_of s b) s v (own_variant s x) reads
   with_freed-own b v x reads = rows_of-with s b v _ ∙ ap (with_variant (rows_of s b) v) (freed_variant-own reads x)
 
 -- ---- the supplier's own rows
 
 module _ (c : Cluster) (s v : Name) where
-  replace_row-own : (b : Book) → IsSound c b → (r : Row) → IsFormedRow c.params r → Like c s v (replace_row c.params b s v r) (replace_row c.params (rows_of s b) s v r)
+  pub replace_row-own : (b : Book) → IsSound c b → (r : Row) → IsFormedRow c.params r → Like c s v (replace_row c.params b s v r) (replace_row c.params (rows_of s b) s v r)
   unfolding replace_row
   replace_row-own b sound (row.AddFrame f n) form =
       alike_when (Like c s v) (λ e. refl) NoNode (not (contains b.nodes (s, n))) _ (ap not (rows_of-node s b n)) _ _ (λ _.

@@ -33,6 +33,7 @@ use Rattle.fr_base.proofs.AloneChecks.{asked_of, refused_beside, Says, check-say
 use Rattle.fr_base.proofs.AloneOutcomes.{seen, outcome-own, outcome-still}
 use Rattle.fr_base.proofs.AloneImports.{import-other}
 use Rattle.fr_base.proofs.AloneReplacements.{replace-other}
+use Rattle.fr_base.proofs.SoundTrials.{trial-leaves}
 use Rattle.fr_base.proofs.AloneDependence.{supplier-is, lines, lines-own}
 
 -- ---- a request that was not done
@@ -91,6 +92,8 @@ act-undone c b (Supplier s) request (checked.Import i) says =
 act-undone c b Integrator request (checked.Replace r) says = cc
 act-undone c b (Supplier s) request (checked.Replace r) says =
     gives_bind_last (λ (o : Outcome). not (is_unavailable o.answer) ≡ false → o.book ≡ b) (λ (o : Outcome). is_unavailable o.answer ≡ false) _ (replace-carried c.params b r) (λ o available undone. absurd (true≢false (sym (ap not available) ∙ undone)))
+act-undone c b actor request (checked.Try t) says =
+    gives_bind_last (λ (o : Outcome). carried actor o.answer ≡ false → o.book ≡ b) (λ (o : Outcome). o.book ≡ b) _ (trial-leaves (λ d. d ≡ b) b refl c.params t) (λ o still undone. still)
 act-undone c b actor request (checked.Query query) says = gives_each _ (reply c.params b actor query) _ (λ rows _ undone. refl)
 
 -- what was not carried out has changed nothing
@@ -135,6 +138,7 @@ module _ (c : Cluster) (b : Book) (s : Name) where
   act-other (Supplier t) request other (checked.Import i) says = import-other c.params b s i (ap (λ u. same_text u s) (sym (supplier-is says)) ∙ other) (get b.imports (i.supplier, i.label))
   act-other Integrator request other (checked.Replace r) says = cc
   act-other (Supplier t) request other (checked.Replace r) says = replace-other c.params b s r (ap (λ u. same_text u s) (sym (supplier-is says)) ∙ other)
+  act-other actor request other (checked.Try t) says = trial-leaves (λ d. rows_of s d ≡ rows_of s b) b refl c.params t
   act-other actor request other (checked.Query query) says = gives_each _ (reply c.params b actor query) _ (λ rows _. refl)
 
   step-other : (actor : Actor) (request : Request) → asked_of s actor request ≡ false → rows_of s (step c b actor request).book ≡ rows_of s b

@@ -6,7 +6,7 @@ use Rattle.fr_base.specs.Checks.{asking, key, name, cycles, slot, channel, chann
 use Rattle.fr_base.specs.QueryNames.{IsReportRead, IsQueryRead}
 use Rattle.fr_base.specs.declared.name.Name.{Name}
 use Rattle.fr_base.specs.declared.query.Query.{Query}
-use Rattle.fr_base.specs.declared.query.Query.TheVariants.{Register, Variant}
+use Rattle.fr_base.specs.declared.query.Query.TheVariants.{Register, Variant, Difference}
 use Rattle.fr_base.specs.declared.refusal.Refusal.{Refusal}
 use Rattle.fr_base.specs.declared.report.Report.{Report}
 use Rattle.fr_base.specs.declared.report.Report.TheVariants.{Grants, Frames, Schedule, Gaps, Layout, Load, Room, Export}
@@ -47,3 +47,6 @@ query_read (Variant variant asked) result (Ok v, is_name, (r, read, is)) =
     is ∙ ap (λ u. u >>= (λ r. Ok (Variant v r))) (report_read asked r read) ∙ ap (λ n. n >>= (λ v. report asked >>= (λ r. Ok (Variant v r)))) is_name
 query_read (Variant variant asked) result (Err e, is_name, is) =
     is ∙ ap (λ n. n >>= (λ v. report asked >>= (λ r. Ok (Variant v r)))) is_name
+query_read (Difference variant from) result (Ok v, is_name, (other, is_other, is)) =
+    is ∙ ap (λ u. u >>= (λ f. Ok (Difference v f))) is_other ∙ ap (λ n. n >>= (λ v. name from >>= (λ f. Ok (Difference v f)))) is_name
+query_read (Difference variant from) result (Err e, is_name, is) = is ∙ ap (λ n. n >>= (λ v. name from >>= (λ f. Ok (Difference v f)))) is_name

@@ -1,12 +1,12 @@
 -- What the rows of an import's file have by their own texts, and how many there are.
-use Rattle.std.proofs.Common.{◌≡◌, ℕ, suc, ◌+◌, ◌≤◌, Bool, true, false, cond, List, [], ◌∷◌, length, Option, Some, None, Result, is_err, IfOk, IsTrue, refl, arith}
+use Rattle.std.proofs.Common.{◌≡◌, ℕ, zero, suc, ◌+◌, ◌≤◌, Bool, true, false, cond, List, [], ◌∷◌, length, take, Option, Some, None, Result, is_err, IfOk, IsTrue, refl, arith}
 use Rattle.std.specs.List.{AllByRecursion}
 use Rattle.std.proofs.lemmas.Bool.{ltb-false}
 use Rattle.fr_base.specs.Names.{is_name}
 use Rattle.fr_base.specs.Refusing.{◌>>◌, refuse◌when◌}
 use Rattle.fr_base.specs.Signals.{is_signal_length}
 use Rattle.fr_base.specs.Checks.{name, placement, signal}
-use Rattle.fr_base.specs.ImportRows.{text_at, number_at, frame_row, placement_row, signal_row, frame_in, placement_in, signal_in, row_of, row_at, rows_from, header_of, rows_below, rows_of_records, up_to_refused, records_of, rows_of_body}
+use Rattle.fr_base.specs.ImportRows.{text_at, number_at, frame_row, placement_row, signal_row, frame_in, placement_in, signal_in, row_of, row_at, rows_from, header_of, rows_below, rows_of_records, up_to_refused, records_of, rows_of_body, all_rows_of_body}
 use Rattle.fr_base.specs.Sound.{FitsCluster}
 use Rattle.fr_base.specs.declared.limits.TheConstants.{MAX_ROWS}
 use Rattle.fr_base.specs.declared.import.Header.{Header}
@@ -102,6 +102,16 @@ module _ (p : Params) where
   pub body-form : (body : List ℕ) → AllByRecursion (IsFormedRead p) (rows_of_body p body)
   unfolding rows_of_body
   body-form body = up_to-form (rows_of_records p (records_of body)) (records-form (records_of body))
+
+  take-form : (n : ℕ) (reads : List RowRead) → AllByRecursion (IsFormedRead p) reads → AllByRecursion (IsFormedRead p) (take n reads)
+  take-form zero reads all = tt
+  take-form (suc n) [] all = tt
+  take-form (suc n) (read ∷ rest) all = (all.0, take-form n rest all.1)
+
+  -- and so has what each row brings, up to the file's end
+  pub all_rows-form : (body : List ℕ) → AllByRecursion (IsFormedRead p) (all_rows_of_body p body)
+  unfolding all_rows_of_body
+  all_rows-form body = take-form (MAX_ROWS + 1) (rows_of_records p (records_of body)) (records-form (records_of body))
 
   -- ---- where no row is refused, there are not too many
 

@@ -41,6 +41,7 @@ use Rattle.fr_base.proofs.SoundRefusing.{gives_or, gives_bind, gives_bind_last, 
 use Rattle.fr_base.proofs.KnownSteps.{step-knows, run-knows_supplier}
 use Rattle.fr_base.proofs.SoundImports.{Keeps, change_rows-keeps, rows-keep}
 use Rattle.fr_base.proofs.SoundReplacements.{replace-keeps}
+use Rattle.fr_base.proofs.SoundTrials.{trial-leaves}
 
 rows-are : {m n : ℕ} → answer.Imported m ≡ answer.Imported n → m ≡ n
 rows-are e = cc
@@ -116,6 +117,7 @@ module _ (b : Book) (k : Name × Name) (one : Kept) (there : get b.imports k ≡
   act-has c actor (checked.Command command) = perform-has c command
   act-has c actor (checked.Import i) = import-has c.params i (get b.imports (i.supplier, i.label)) refl
   act-has c actor (checked.Replace r) = gives_bind_last _ (λ (o : Outcome). Keeps b o.book) _ (replace-keeps c.params b r) (λ o keeps. keeps-has o.book keeps)
+  act-has c actor (checked.Try t) = trial-leaves Has b there c.params t
   act-has c actor (checked.Query query) = gives_each _ (reply c.params b actor query) _ (λ rows _. there)
 
   outcome-has : (r : Result Outcome Refusal) → IfOk r (λ o. Has o.book) → Has (outcome b r).book

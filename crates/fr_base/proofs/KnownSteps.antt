@@ -28,6 +28,7 @@ use Rattle.fr_base.proofs.SoundTables.{contains-more}
 use Rattle.fr_base.proofs.SoundRefusing.{gives_or, gives_bind, gives_bind_last, gives_each, gives_when, gives_unless}
 use Rattle.fr_base.proofs.SoundImports.{Keeps, change_rows-keeps, rows-keep}
 use Rattle.fr_base.proofs.SoundReplacements.{replace-keeps}
+use Rattle.fr_base.proofs.SoundTrials.{trial-leaves}
 
 module _ (b : Book) (s : Name) (there : IsTrue (contains b.suppliers s)) where
   abbrev Knows : Book → Type 0
@@ -94,6 +95,7 @@ module _ (b : Book) (s : Name) (there : IsTrue (contains b.suppliers s)) where
   act-knows c actor (checked.Command command) = perform-knows c command
   act-knows c actor (checked.Import i) = import-knows c.params i (get b.imports (i.supplier, i.label))
   act-knows c actor (checked.Replace r) = gives_bind_last _ (λ (o : Outcome). Keeps b o.book) _ (replace-keeps c.params b r) (λ o keeps. keeps-knows o.book keeps)
+  act-knows c actor (checked.Try t) = trial-leaves Knows b there c.params t
   act-knows c actor (checked.Query query) = gives_each _ (reply c.params b actor query) _ (λ rows _. there)
 
   outcome-knows : (r : Result Outcome Refusal) → IfOk r (λ o. Knows o.book) → Knows (outcome b r).book

@@ -74,7 +74,7 @@ sum-kept keep f (x ∷ xs) none = elim (cases_Bool (keep x)) [
       ap (λ b. sum_by f (cond b (x ∷ filter keep xs) (filter keep xs))) out ∙ omega (arith, e, zero, rest)
 ]
 
-count-none : {X : Type 0} (t : X → Bool) (xs : List X) → ((x : X) → t x ≡ false) → count_by t xs ≡ 0
+pub count-none : {X : Type 0} (t : X → Bool) (xs : List X) → ((x : X) → t x ≡ false) → count_by t xs ≡ 0
 count-none t xs none = sum-alike (λ x. cond (t x) 1 0) (λ x. 0) xs (λ x. ap (λ b. cond b 1 0) (none x)) ∙ sum-nothing xs
 
 -- ---- the rows of a schedule, lane by lane
@@ -115,7 +115,7 @@ module _ {O : Type 0} (filled : Cell → Option O) where
       ∙ sym (map-append (λ lane. lane_cell lane k) (lanes_in channels slot) (flat_map (lanes_in channels) slots))
 
   -- so the used cycles of all lanes add up to them
-  all-lanes : (p : Params) → sum_by (used_cycles p filled) (lanes_of p) ≡ length (entries filled (cluster_cells p))
+  pub all-lanes : (p : Params) → sum_by (used_cycles p filled) (lanes_of p) ≡ length (entries filled (cluster_cells p))
   unfolding used_cycles lanes_of cluster_cells
   all-lanes p = sym (
       length-entries (cluster_cells p)

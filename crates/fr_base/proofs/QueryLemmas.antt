@@ -4,7 +4,7 @@ use Rattle.std.specs.Prelude.{⊤, MatchResult, option_map}
 use Rattle.fr_base.specs.Refusing.{◌>>=◌}
 use Rattle.fr_base.specs.QueryNames.{IsReportRead, IsQueryRead, report_by, report_with, query_by, query_with}
 use Rattle.fr_base.specs.declared.query.Query.{Query}
-use Rattle.fr_base.specs.declared.query.Query.TheVariants.{Register, Variant}
+use Rattle.fr_base.specs.declared.query.Query.TheVariants.{Register, Variant, Difference}
 use Rattle.fr_base.specs.declared.import.Header.{Header}
 use Rattle.fr_base.specs.declared.report.Report.{Report}
 use Rattle.fr_base.specs.declared.report.Report.TheVariants.{Grants, Frames, Schedule, Gaps, Layout, Load, Room, Export}
@@ -56,6 +56,18 @@ module _ {N M A E : Type 0} (reads : N → Result A E → Type 0) (counts : M �
   unfolding names_open
   report_unread variant v report e read unread = (Ok v, read, (Err e, unread, refl))
 
+  pub difference_read : (variant : N) (v : A) (from : N) (f : A) → reads variant (Ok v) → reads from (Ok f) → IsQueryRead reads counts (Difference variant from) (Ok (Difference v f))
+  unfolding names_open
+  difference_read variant v from f read other = (Ok v, read, (Ok f, other, refl))
+
+  pub newer_unread : (variant from : N) (e : E) → reads variant (Err e) → IsQueryRead {A = A} reads counts (Difference variant from) (Err e)
+  unfolding names_open
+  newer_unread variant from e unread = (Err e, unread, refl)
+
+  pub older_unread : (variant : N) (v : A) (from : N) (e : E) → reads variant (Ok v) → reads from (Err e) → IsQueryRead {A = A} reads counts (Difference variant from) (Err e)
+  unfolding names_open
+  older_unread variant v from e read unread = (Ok v, read, (Err e, unread, refl))
+
 -- where a reader makes this of each name that it reads, and that of each number, so do the names and numbers of the query become
 module _ {N M A E : Type 0} (f : N → A) (g : M → ℕ) where
   abbrev Makes : {X Y : Type 0} → (X → Y) → X → Result Y E → Type 0
@@ -82,6 +94,9 @@ module _ {N M A E : Type 0} (f : N → A) (g : M → ℕ) where
   query_made (Variant variant report) result (Ok v, made, (Ok r, read, is)) = rw is (ap (λ n. Variant n r) made ∙ ap (Variant (f variant)) (report_made report (Ok r) read))
   query_made (Variant variant report) result (Ok v, made, (Err e, read, is)) = rw is tt
   query_made (Variant variant report) result (Err e, made, is) = rw is tt
+  query_made (Difference variant from) result (Ok v, made, (Ok o, other, is)) = rw is (ap (λ n. Difference n o) made ∙ ap (Difference (f variant)) other)
+  query_made (Difference variant from) result (Ok v, made, (Err e, other, is)) = rw is tt
+  query_made (Difference variant from) result (Err e, made, is) = rw is tt
 
 -- Where names are read alike and each number is read, or found to be none, so is the query. `Lacks` says why a name is not read, `Refuses` why a
 -- number is not.
@@ -123,3 +138,6 @@ module _ {N M A E : Type 0} (f : N → A) (g : M → Option ℕ) (Lacks Refuses 
   query_taken (Variant variant report) result (Ok v, made, (Ok r, read, is)) = rw (is, made) (ap (option_map (Variant (f variant))) (report_taken report (Ok r) read))
   query_taken (Variant variant report) result (Ok v, made, (Err e, read, is)) = rw is (more_taken (Variant (f variant)) (report_by f g report) e (report_taken report (Err e) read))
   query_taken (Variant variant report) result (Err e, lacks, is) = rw is (inl lacks)
+  query_taken (Difference variant from) result (Ok v, made, (Ok o, other, is)) = rw (is, made, other) refl
+  query_taken (Difference variant from) result (Ok v, made, (Err e, lacks, is)) = rw is (inl lacks)
+  query_taken (Difference variant from) result (Err e, lacks, is) = rw is (inl lacks)

@@ -17,7 +17,8 @@ use Rattle.fr_base.specs.declared.request.Import.{Import}
 use Rattle.fr_base.specs.declared.request.Replacement.{Replacement}
 use Rattle.fr_base.specs.declared.request.Checked.{Checked}
 use Rattle.fr_base.specs.declared.request.Checked.TheVariants as checked
-use Rattle.fr_base.proofs.SoundRefusing.{gives_or, gives_each, gives_when, gives_unless}
+use Rattle.fr_base.proofs.SoundRefusing.{gives_or, gives_each, gives_when, gives_unless, gives_bind_last}
+use Rattle.fr_base.proofs.SoundTrials.{trial-leaves}
 
 module _ (b : Book) where
   -- a refusal leaves the book
@@ -63,6 +64,7 @@ module _ (b : Book) where
   act-unchanged c actor (checked.Command command) = perform-unchanged c command
   act-unchanged c actor (checked.Import i) = import-unchanged c.params i (get b.imports (i.supplier, i.label))
   act-unchanged c actor (checked.Replace r) = replace-unchanged c.params r
+  act-unchanged c actor (checked.Try t) = gives_bind_last Unchanged (λ (o : Outcome). o.book ≡ b) _ (trial-leaves (λ d. d ≡ b) b refl c.params t) (λ o still refused. still)
   act-unchanged c actor (checked.Query query) = gives_each _ (reply c.params b actor query) _ (λ rows _ refused. refl)
 
   outcome-unchanged : (r : Result Outcome Refusal) → IfOk r Unchanged → Unchanged (outcome b r)

@@ -11,6 +11,8 @@ use Rattle.fr_base.specs.Names.{same_text}
 use Rattle.fr_base.specs.Book.{Frame, Variant, Kept, Book}
 use Rattle.fr_base.specs.ImportRows.{rows_of_body}
 use Rattle.fr_base.specs.Queries.{shown, found, reply}
+use Rattle.fr_base.specs.Differences.{differences}
+use Rattle.fr_base.specs.declared.answer.ReportRows.TheVariants as rows
 use Rattle.fr_base.specs.Step.{Outcome, knows, with_variant, begun, common, add_supplier, set_key, add_node, own_rows, shared_by, admits, change_rows, done, perform, RefusedAt, frame_at, with_frame, act_row, act_rows, imported, import, replace_row, replace_rows, replace, act, outcome, step}
 use Rattle.fr_base.specs.Run.{IsRun}
 use Rattle.fr_base.specs.declared.key.Key.{Key}
@@ -24,7 +26,7 @@ use Rattle.fr_base.specs.declared.actor.Actor.{Actor}
 use Rattle.fr_base.specs.declared.request.Ask.{Ask}
 use Rattle.fr_base.specs.declared.request.Request.{Request}
 use Rattle.fr_base.specs.declared.query.Query.{Query}
-use Rattle.fr_base.specs.declared.query.Query.TheVariants.{Variant as OfVariant}
+use Rattle.fr_base.specs.declared.query.Query.TheVariants.{Variant as OfVariant, Difference}
 use Rattle.fr_base.specs.declared.report.Report.{Report}
 use Rattle.fr_base.specs.declared.request.Command.{Command}
 use Rattle.fr_base.specs.declared.request.Command.TheVariants.{Common, AddSupplier, SetKey, AddNode, Rows}
@@ -45,6 +47,7 @@ use Rattle.fr_base.proofs.SoundTables.{same_some}
 use Rattle.fr_base.proofs.SoundRefusing.{gives_or, gives_each, gives_then, gives_bind, gives_when, gives_unless}
 use Rattle.fr_base.proofs.SoundImports.{at_line-gives}
 use Rattle.fr_base.proofs.SoundReplacements.{replaced-gives}
+use Rattle.fr_base.proofs.SoundTrials.{trial-leaves}
 use Rattle.fr_base.proofs.KnownSteps.{run-knows}
 
 -- the variant stands
@@ -193,6 +196,7 @@ module _ (b : Book) (v : Name) (x : Variant) (there : get b.variants v ≡ Some 
   act-stays c actor (checked.Command command) = perform-stays b v x there frozen c command
   act-stays c actor (checked.Import i) = import-stays b v x there frozen c.params i (get b.imports (i.supplier, i.label))
   act-stays c actor (checked.Replace r) = replace-stays b v x there frozen c.params r
+  act-stays c actor (checked.Try t) = trial-leaves (Stays v x) b there c.params t
   act-stays c actor (checked.Query query) = gives_each _ (reply c.params b actor query) _ (λ rows _. there)
 
   pub step-stays : (c : Cluster) (actor : Actor) (request : Request) → Stays v x (step c b actor request).book
@@ -241,3 +245,19 @@ pub run-keeps_answers : (c : Cluster) (b last : Book) (asks : List Ask) (answers
 run-keeps_answers c b last asks answers v x there frozen run actor request report known passed =
     query-alike c b last actor request (OfVariant v report) passed known (run-knows c b last asks answers actor known run)
     (reply-alike c.params b last actor v report (run-stays c b last asks answers v x there frozen run ∙ sym there))
+
+-- where both variants are the same, so is in what they differ
+difference-alike : (p : Params) (b d : Book) (actor : Actor) (v w : Name) → get d.variants v ≡ get b.variants v → get d.variants w ≡ get b.variants w →
+    reply p d actor (Difference v w) ≡ reply p b actor (Difference v w)
+unfolding reply found
+difference-alike p b d actor v w same other i =
+    ((same i or NoVariant) >>= (λ new. (other i or NoVariant) >>= (λ old. Ok (rows.Difference (differences p actor old new)))))
+    >>= (λ rows. Ok (answer.Report (is_integrator actor) rows))
+
+pub run-keeps_differences : (c : Cluster) (b last : Book) (asks : List Ask) (answers : List Answer) (v w : Name) (new old : Variant) →
+    get b.variants v ≡ Some new → IsTrue new.released → get b.variants w ≡ Some old → IsTrue old.released → IsRun c b asks answers last →
+    (actor : Actor) (request : Request) → IsTrue (knows b actor) → check c.params actor request ≡ Ok (checked.Query (Difference v w)) →
+    (step c last actor request).answer ≡ (step c b actor request).answer
+run-keeps_differences c b last asks answers v w new old there frozen other frozen_too run actor request known passed =
+    query-alike c b last actor request (Difference v w) passed known (run-knows c b last asks answers actor known run)
+    (difference-alike c.params b last actor v w (run-stays c b last asks answers v new there frozen run ∙ sym there) (run-stays c b last asks answers w old other frozen_too run ∙ sym other))

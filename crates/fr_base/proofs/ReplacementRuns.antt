@@ -28,15 +28,15 @@ abbrev pub by : List ℕ → Ask
 by body = s1 (Replace (codes "v1") body)
 
 -- rows of placements
-abbrev placements : List ℕ → List ℕ
+abbrev pub placements : List ℕ → List ℕ
 placements rows = codes "frame,node,slot,channels,base,repetition\n" ++ rows
 
 -- a placement in slot 1 of channel A
-abbrev at : ℕ → ℕ → Placement
+abbrev pub at : ℕ → ℕ → Placement
 at base repetition = record { slot = 1; channels = chs.A; cycles = record { count = 64; base = base; repetition = repetition } }
 
 -- a frame of `n1`
-abbrev frame : List ℕ → List Placement → FrameRow
+abbrev pub frame : List ℕ → List Placement → FrameRow
 frame name places = record { frame = name; node = codes "n1"; supplier = codes "s1"; placements = places }
 
 -- a signal of `s1`

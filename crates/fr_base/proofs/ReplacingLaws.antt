@@ -37,18 +37,18 @@ use Rattle.fr_base.proofs.AloneCells.{same_text-itself}
 
 module _ {K V : Type 0} {o : Order K} where
   -- what is put in twice stands as it was put in last
-  insert-again : (t : Table o V) (k : K) (v w : V) → insert (insert t k v) k w ≡ insert t k w
+  pub insert-again : (t : Table o V) (k : K) (v w : V) → insert (insert t k v) k w ≡ insert t k w
   insert-again t k v w = same_table _ _ (λ q. get-insert (insert t k v) k w q ∙ by_test q (eq_by_cmp o.compare q k) refl ∙ sym (get-insert t k w q))
     where
       by_test : (q : K) (b : Bool) → eq_by_cmp o.compare q k ≡ b → cond (eq_by_cmp o.compare q k) (Some w) (get (insert t k v) q) ≡ cond (eq_by_cmp o.compare q k) (Some w) (get t q)
       by_test q true e = rw e refl
       by_test q false e = rw e (get-insert t k v q ∙ ap (λ b. cond b (Some v) (get t q)) e)
 
-  get-put : (t : Table o V) (k : K) (v : V) → get (insert t k v) k ≡ Some v
+  pub get-put : (t : Table o V) (k : K) (v : V) → get (insert t k v) k ≡ Some v
   get-put t k v = get-insert t k v k ∙ ap (λ b. cond b (Some v) (get t k)) (same_key o k)
 
   -- what becomes of a row leaves every other
-  settle-other : (t : Table o V) (k q : K) (fate : Fate V) → (k ≡ q → ⊥) → get (settle t k fate) q ≡ get t q
+  pub settle-other : (t : Table o V) (k q : K) (fate : Fate V) → (k ≡ q → ⊥) → get (settle t k fate) q ≡ get t q
   unfolding settle
   settle-other t k q (Becomes v) other = elim (cases_Bool (eq_by_cmp o.compare q k)) [
     | inl tie ↦ absurd (other (sym (o.exact q k (equal _ tie))))
@@ -59,7 +59,7 @@ module _ {K V : Type 0} {o : Order K} where
     | inr apart ↦ get-remove_other o t k q apart
   ]
 
-or_later : (a c : Bool) → IsTrue c → IsTrue (a || c)
+pub or_later : (a c : Bool) → IsTrue c → IsTrue (a || c)
 or_later true c h = refl
 or_later false c h = h
 
@@ -175,10 +175,10 @@ module _ (p : Params) (b : Book) (r : Replacement) where
       })))))
 
 module _ (c : Cluster) (b : Book) (s : Name) (variant body : List ℕ) where
-  abbrev it : Replacement
+  abbrev pub it : Replacement
   it = record { supplier = s; variant = variant; body = body }
 
-  check-is : IfOk (check c.params (Supplier s) (request.Replace variant body)) (λ what. what ≡ checked.Replace it)
+  pub check-is : IfOk (check c.params (Supplier s) (request.Replace variant body)) (λ what. what ≡ checked.Replace it)
   unfolding check asking name ◌>>=◌
   check-is = elim (cases_Bool (is_name variant)) [ inl h ↦ rw h refl | inr h ↦ rw h tt ]
 

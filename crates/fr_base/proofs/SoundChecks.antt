@@ -61,6 +61,7 @@ abbrev pub IsFormed : Params → Actor → Checked → Type 0
 IsFormed p actor (checked.Command command) = HasForm p command
 IsFormed p actor (checked.Import i) = IsFormedImport actor i
 IsFormed p actor (checked.Replace r) = actor ≡ Supplier r.supplier
+IsFormed p actor (checked.Try t) = actor ≡ Supplier t.supplier
 IsFormed p actor (checked.Query query) = IsTrue (has_repetition p query)
 
 asking-form : (actor : Actor) → IfOk (asking actor) (λ s. actor ≡ Supplier s)
@@ -181,6 +182,9 @@ check-form p actor (request.Import variant label body) =
     gives_bind _ _ (name label) _ (name-form label) (λ l labelled.
     record { asks = asks; variant = named; label = labelled })))
 check-form p actor (request.Replace variant body) =
+    gives_bind _ _ (asking actor) _ (asking-form actor) (λ s asks.
+    gives_each _ (name variant) _ (λ v _. asks))
+check-form p actor (request.Try variant replaces body) =
     gives_bind _ _ (asking actor) _ (asking-form actor) (λ s asks.
     gives_each _ (name variant) _ (λ v _. asks))
 check-form p actor (request.Query asked) =

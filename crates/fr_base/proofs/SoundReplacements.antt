@@ -74,7 +74,7 @@ module _ (p : Params) (s v : Name) where
       gives_bind_last _ (Keeps d) _ (replace_rows-keep rest d) (λ e last. keeps_on b d e mid last))
 
 module _ (c : Cluster) (s v : Name) where
-  replace_row-sound : (b : Book) → IsSound c b → (r : Row) → IsFormedRow c.params r → IfOk (replace_row c.params b s v r) (IsSound c)
+  pub replace_row-sound : (b : Book) → IsSound c b → (r : Row) → IsFormedRow c.params r → IfOk (replace_row c.params b s v r) (IsSound c)
   unfolding replace_row
   replace_row-sound b sound (row.AddFrame f n) form = gives_unless _ _ _ _ (λ _. framed-sound c s v b sound f n form (frame_at b s v f))
   replace_row-sound b sound (row.Place f n q) form = row-sound c s v b sound (row.Place f n q) form

@@ -17,6 +17,7 @@ use Rattle.fr_base.proofs.SoundChecks.{IsFormed, check-form}
 use Rattle.fr_base.proofs.SoundCommands.{perform-sound}
 use Rattle.fr_base.proofs.SoundImports.{import-sound}
 use Rattle.fr_base.proofs.SoundReplacements.{replace-sound}
+use Rattle.fr_base.proofs.SoundTrials.{trial-leaves}
 
 module _ (c : Cluster) (b : Book) (sound : IsSound c b) where
   act-sound : (actor : Actor) → IsTrue (knows b actor) → (what : Checked) → IsFormed c.params actor what → IfOk (act c b actor what) (λ o. IsSound c o.book)
@@ -24,6 +25,7 @@ module _ (c : Cluster) (b : Book) (sound : IsSound c b) where
   act-sound actor known (checked.Command command) h = perform-sound c b sound command h
   act-sound actor known (checked.Import i) h = import-sound c b sound i h.label (subst (λ a. IsTrue (knows b a)) h.asks known) (get b.imports (i.supplier, i.label))
   act-sound actor known (checked.Replace r) h = replace-sound c b sound r
+  act-sound actor known (checked.Try t) h = trial-leaves (IsSound c) b sound c.params t
   act-sound actor known (checked.Query query) h = gives_each _ (reply c.params b actor query) _ (λ rows _. sound)
 
   outcome-sound : (r : Result Outcome Refusal) → IfOk r (λ o. IsSound c o.book) → IsSound c (outcome b r).book

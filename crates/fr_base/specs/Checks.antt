@@ -24,7 +24,7 @@ use Rattle.fr_base.specs.declared.request.CommonCommand.TheVariants.{OpenVariant
 use Rattle.fr_base.specs.declared.request.Change.TheVariants.{Grant, Revoke, Frame}
 use Rattle.fr_base.specs.declared.request.FrameChange.TheVariants.{Add, Drop, Place, Unplace, AddSignal, DropSignal}
 use Rattle.fr_base.specs.declared.query.Query.{Query}
-use Rattle.fr_base.specs.declared.query.Query.TheVariants.{Register, Variant}
+use Rattle.fr_base.specs.declared.query.Query.TheVariants.{Register, Variant, Difference}
 use Rattle.fr_base.specs.declared.report.Report.{Report}
 use Rattle.fr_base.specs.declared.report.Report.TheVariants.{Grants, Frames, Schedule, Gaps, Layout, Load, Room, Export}
 use Rattle.fr_base.specs.declared.request.Checked.{Checked}
@@ -115,6 +115,10 @@ query (Variant variant asked) = do
   v ← name variant
   r ← report asked
   Ok (Variant v r)
+query (Difference variant from) = do
+  v ← name variant
+  f ← name from
+  Ok (Difference v f)
 
 -- whether a query is of the room for a frame, which a supplier alone may ask
 abbrev pub is_of_room : {N M : Type 0} → Query N M → Bool
@@ -217,6 +221,10 @@ check p actor (request.Replace variant body) = do
   s ← asking actor
   v ← name variant
   Ok (checked.Replace (record { supplier = s; variant = v; body = body }))
+check p actor (request.Try variant replaces body) = do
+  s ← asking actor
+  v ← name variant
+  Ok (checked.Try (record { supplier = s; variant = v; replaces = replaces; body = body }))
 check p actor (request.Query asked) = do
   refuse NotYours when is_integrator actor && is_of_room asked
   q ← query asked

@@ -1,6 +1,6 @@
 -- Import's file: what its bytes say. One byte order mark is taken off, and the first record says which rows follow.
 -- Each record is a row or its own refusal, up to the first refused one. There are at most 512 rows.
-use Rattle.std.specs.Prelude.{ℕ, suc, ◌+◌, ◌^◌, ◌==◌, Bool, not, ◌&&◌, List, [], ◌∷◌, length, codes, nat_le, nat_lt, if◌then◌else◌, Option, Some, None, is_err, Result, Ok, Err}
+use Rattle.std.specs.Prelude.{ℕ, suc, ◌+◌, ◌^◌, ◌==◌, Bool, not, ◌&&◌, List, [], ◌∷◌, length, take, codes, nat_le, nat_lt, if◌then◌else◌, Option, Some, None, is_err, Result, Ok, Err}
 use Rattle.std.specs.Cmp.Lexicographic.{pointwise}
 use Rattle.std.specs.List.{list_all}
 use Rattle.std.specs.Str.{is_utf8}
@@ -156,6 +156,10 @@ rows_below p None records = record { line = 1; row = Err BadText } ∷ []
 unfoldable pub rows_of_records : Params → List (List (List ℕ)) → List RowRead
 rows_of_records p [] = rows_below p None []
 rows_of_records p (first ∷ records) = rows_below p (header_of first) records
+
+-- All the rows that a body's bytes are, each a row or its own refusal, to the file's end: at most 512, and one more that is refused.
+unfoldable pub all_rows_of_body : Params → List ℕ → List RowRead
+all_rows_of_body p body = take (MAX_ROWS + 1) (rows_of_records p (records_of body))
 
 -- the rows up to the first that is refused
 unfoldable pub up_to_refused : List RowRead → List RowRead

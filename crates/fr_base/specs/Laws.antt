@@ -1,44 +1,50 @@
 -- Laws: a new register is sound. Each request, done or refused, leaves a sound book sound, and so does each run. In a
 -- sound book at most one frame is sent in a cell of a variant, by one placement alone, and its supplier and node hold
 -- the grant of the cell's slot and channel. Who is known stays known; a key that was changed is nobody's. A released
--- variant stays, and so do the answers to queries of it. A refusal changes nothing. An import that was carried out has the same answer ever after and
--- changes nothing again; its label stays used. What is a supplier's is answered as in a register of its own, and does
--- the same to its rows. Two sound registers under one cluster that are alike for a supplier stay alike for it.
--- Suppliers depend on each other alone by a Grant that another's grant makes `Taken`, and by a supplier that is to have
--- another's key, or is to join beside 64. Each law says of which books it is: any, or sound ones.
-use Rattle.std.specs.Prelude.{◌≡◌, ◌⊎◌, ℕ, ◌&&◌, List, length, take, drop, Some, None, Ok, Err, IsTrue, IsFalse}
-use Rattle.fr_base.specs.Tables.{get}
+-- variant stays, and so do the answers to queries of it. A refusal changes nothing. An import that was carried out has
+-- the same answer ever after and changes nothing again; its label stays used. A file is answered as its trial tells.
+-- What is a supplier's is answered as in a register of its own, and does the same to its rows. Two sound registers under
+-- one cluster that are alike for a supplier stay alike for it. Suppliers depend on each other alone by a Grant that
+-- another's grant makes `Taken`, and by a supplier that is to have another's key, or is to join beside 64. Each law says
+-- of which books it is: any, or sound ones.
+use Rattle.std.specs.Prelude.{◌≡◌, ◌⊎◌, ℕ, Bool, true, false, ◌&&◌, nat_lt, List, [], length, take, drop, Some, None, Ok, Err, IsTrue, IsFalse}
+use Rattle.fr_base.specs.Tables.{get, len}
 use Rattle.fr_base.specs.Cells.{Cell, cells_of}
 use Rattle.fr_base.specs.Schedule.{first_taken}
 use Rattle.fr_base.specs.Cycles.{is_repetition}
 use Rattle.fr_base.specs.Checks.{check}
 use Rattle.fr_base.specs.Cluster.{Cluster, ClusterFile, IsWellFormed}
 use Rattle.fr_base.specs.Names.{is_name, same_text}
-use Rattle.fr_base.specs.Book.{Frame, Variant, Book, opening, granted, schedule_of}
+use Rattle.fr_base.specs.Book.{Frame, Variant, Book, opening, own, granted, schedule_of}
 use Rattle.fr_base.specs.Actors.{actor_of}
-use Rattle.fr_base.specs.Step.{knows, step}
+use Rattle.fr_base.specs.Step.{knows, common, step}
+use Rattle.fr_base.specs.Fates.{answer_told}
 use Rattle.fr_base.specs.Room.{room_in, has_place}
 use Rattle.fr_base.specs.Queries.{sendings_of}
 use Rattle.fr_base.specs.Seen.{seen_grants, seen_frames}
+use Rattle.fr_base.specs.Differences.{gone_in, new_in, differences, missing, in_both}
 use Rattle.fr_base.specs.Load.{load_of, all_used}
 use Rattle.fr_base.specs.Run.{IsRun}
 use Rattle.fr_base.specs.Sound.{FitsCluster, IsSent, IsSound}
 use Rattle.fr_base.specs.Alone.{own_variant, rows_of, own_sender, concerns, is_done, is_refused, is_mine, asks_of, answers_of, alone, answers_to, book_after, beside}
+use Rattle.fr_base.specs.declared.limits.TheConstants.{MAX_IMPORTS}
 use Rattle.fr_base.specs.declared.answer.Answer.{Answer}
-use Rattle.fr_base.specs.declared.answer.Answer.TheVariants.{Done, Imported, Refused}
+use Rattle.fr_base.specs.declared.answer.Answer.TheVariants.{Done, Imported, Replaced, Refused}
 use Rattle.fr_base.specs.declared.refusal.Refusal.{Refusal}
 use Rattle.fr_base.specs.declared.refusal.Refusal.TheVariants.{BadName, LabelUsed, Limit}
 use Rattle.fr_base.specs.declared.name.Name.{Name}
 use Rattle.fr_base.specs.declared.key.Key.{Key}
+use Rattle.fr_base.specs.declared.params.Params.{Params}
 use Rattle.fr_base.specs.declared.placement.Placement.{Placement}
 use Rattle.fr_base.specs.declared.actor.Actor.{Actor}
 use Rattle.fr_base.specs.declared.actor.Actor.TheVariants.{Integrator, Supplier}
 use Rattle.fr_base.specs.declared.request.Ask.{Ask}
 use Rattle.fr_base.specs.declared.request.Request.{Request}
-use Rattle.fr_base.specs.declared.request.Request.TheVariants.{SetKey, Import}
-use Rattle.fr_base.specs.declared.query.Query.TheVariants.{Variant as OfVariant}
+use Rattle.fr_base.specs.declared.request.Request.TheVariants.{SetKey, Import, Replace, Try}
+use Rattle.fr_base.specs.declared.query.Query.TheVariants.{Variant as OfVariant, Difference}
 use Rattle.fr_base.specs.declared.report.Report.{Report}
 use Rattle.fr_base.specs.declared.request.Command.TheVariants.{Rows}
+use Rattle.fr_base.specs.declared.request.CommonCommand.TheVariants.{OpenVariant}
 use Rattle.fr_base.specs.declared.request.Change.TheVariants as change
 use Rattle.fr_base.specs.declared.request.FrameChange.TheVariants.{Place}
 use Rattle.fr_base.specs.declared.request.Checked.TheVariants as checked
@@ -149,6 +155,26 @@ BadVariantIsBadName = (c : Cluster) (s : Name) (variant label body : List ℕ) (
     (other_variant other_body : List ℕ) → IsFalse (is_name other_variant) →
     step c last (Supplier s) (Import other_variant label other_body) ≡ record { book = last; answer = Refused BadName }
 
+-- ---- what would become of a file
+
+-- A trial changes nothing, whoever asks for it.
+abbrev pub TrialChangesNothing : Type 0
+TrialChangesNothing = (c : Cluster) (b : Book) (actor : Actor) (variant body : List ℕ) (replaces : Bool) →
+    (step c b actor (Try variant replaces body)).book ≡ b
+
+-- An import under a label that is not kept, where the supplier may keep one more, is answered as its trial tells. Imported, with so many
+-- rows, exactly where so many are told and each is done; RefusedRow exactly where the first row that is not done is this one; and refused
+-- before its rows exactly as the trial is.
+abbrev pub ImportIsTold : Type 0
+ImportIsTold = (c : Cluster) (b : Book) (s : Name) (variant label body : List ℕ) →
+    IsTrue (is_name label) → get b.imports (s, label) ≡ None → IsTrue (nat_lt (len (own s b.imports)) MAX_IMPORTS) →
+    (step c b (Supplier s) (Import variant label body)).answer ≡ answer_told Imported (step c b (Supplier s) (Try variant false body)).answer
+
+-- And a replacement is answered as its trial tells.
+abbrev pub ReplacementIsTold : Type 0
+ReplacementIsTold = (c : Cluster) (b : Book) (s : Name) (variant body : List ℕ) →
+    (step c b (Supplier s) (Replace variant body)).answer ≡ answer_told Replaced (step c b (Supplier s) (Try variant true body)).answer
+
 -- ---- a supplier alone
 
 -- In a sound book, where one of a supplier's nodes holds a placement's slot on each of its channels, the first of its cells
@@ -241,3 +267,37 @@ RoomFits = (c : Cluster) (b : Book) (s v f : Name) (repetition : ℕ) (q : Place
 abbrev pub LoadAddsUp : Type 0
 LoadAddsUp = (c : Cluster) (b : Book) (v : Name) (variant : Variant) (actor : Actor) → IsSound c b → get b.variants v ≡ Some variant →
     all_used (load_of c.params actor (seen_grants actor variant.grants) (seen_frames actor variant.frames)) ≡ length (sendings_of c.params (seen_frames actor variant.frames))
+
+-- ---- in what two variants differ
+
+-- What is told to be gone is what the older variant has, as the actor sees it, and the newer one has not, and what is told to be new is
+-- what the newer one has and the older one has not: each in the order of the rows.
+abbrev pub DifferencesDiffer : Type 0
+DifferencesDiffer = (p : Params) (actor : Actor) (old new : Variant) →
+    (gone_in (differences p actor old new) ≡ missing p actor old new) × (new_in (differences p actor old new) ≡ missing p actor new old)
+
+-- Without what is gone the rows of the older variant are those of the newer one without what is new, in the same order.
+abbrev pub RestIsAlike : Type 0
+RestIsAlike = (p : Params) (actor : Actor) (old new : Variant) → in_both p actor old new ≡ in_both p actor new old
+
+-- Turned round, what was gone is new, and what was new is gone.
+abbrev pub DifferencesTurn : Type 0
+DifferencesTurn = (p : Params) (actor : Actor) (old new : Variant) →
+    (gone_in (differences p actor new old) ≡ new_in (differences p actor old new)) × (new_in (differences p actor new old) ≡ gone_in (differences p actor old new))
+
+-- A variant does not differ from itself.
+abbrev pub NothingDiffersFromItself : Type 0
+NothingDiffersFromItself = (p : Params) (actor : Actor) (x : Variant) → differences p actor x x ≡ []
+
+-- Nor does it from the one from which it was opened a moment ago.
+abbrev pub OpenedDiffersNowhere : Type 0
+OpenedDiffersNowhere = (p : Params) (actor : Actor) (b after : Book) (v from : Name) (old new : Variant) → common b (OpenVariant v (Some from)) ≡ Ok after →
+    get after.variants from ≡ Some old → get after.variants v ≡ Some new → differences p actor old new ≡ []
+
+-- Of two released variants the difference that is told is the same ever after, as the answers to other queries are.
+abbrev pub ReleasedDifferencesStay : Type 0
+ReleasedDifferencesStay = (c : Cluster) (b last : Book) (asks : List Ask) (answers : List Answer) (v w : Name) (new old : Variant) →
+    get b.variants v ≡ Some new → IsTrue new.released → get b.variants w ≡ Some old → IsTrue old.released → IsRun c b asks answers last →
+    (actor : Actor) (request : Request) → IsTrue (knows b actor) →
+    check c.params actor request ≡ Ok (checked.Query (Difference v w)) →
+    (step c last actor request).answer ≡ (step c b actor request).answer

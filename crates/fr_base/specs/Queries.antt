@@ -1,6 +1,6 @@
 -- Query: an actor sees its own rows, and the integrator those of all suppliers. Of the register these are the cluster's
 -- figures with the suppliers, the variants, and the nodes; of a variant grants, frames, schedule, gaps, layouts, the load,
--- the room for a frame, and records for a file, each in its order.
+-- the room for a frame, and records for a file, each in its order; and in what two variants differ.
 use Rattle.std.specs.Prelude.{ℕ, ◌==◌, List, [], ◌∷◌, ◌++◌, map, codes, Result, Ok, Err, ⊤}
 use Rattle.std.specs.List.{flat_map}
 use Rattle.fr_base.specs.Refusing.{◌>>=◌, ◌>>◌, ◌or◌, refuse◌when◌}
@@ -11,6 +11,7 @@ use Rattle.fr_base.specs.Schedule.{entries}
 use Rattle.fr_base.specs.Moments.{greatest_gap}
 use Rattle.fr_base.specs.Seen.{seen_suppliers, seen_nodes, seen_grants, seen_frames}
 use Rattle.fr_base.specs.Exports.{exported}
+use Rattle.fr_base.specs.Differences.{differences}
 use Rattle.fr_base.specs.Load.{load_of}
 use Rattle.fr_base.specs.Room.{own_room}
 use Rattle.fr_base.specs.Checks.{is_integrator}
@@ -42,7 +43,7 @@ use Rattle.fr_base.specs.declared.actor.Actor.{Actor}
 use Rattle.fr_base.specs.declared.actor.Actor.TheVariants.{Integrator, Supplier}
 use Rattle.fr_base.specs.declared.key.Key.{Key}
 use Rattle.fr_base.specs.declared.query.Query.{Query}
-use Rattle.fr_base.specs.declared.query.Query.TheVariants.{Register as OfRegister, Variant as OfVariant}
+use Rattle.fr_base.specs.declared.query.Query.TheVariants.{Register as OfRegister, Variant as OfVariant, Difference}
 use Rattle.fr_base.specs.declared.query.Inventory.{Inventory}
 use Rattle.fr_base.specs.declared.query.Inventory.TheVariants.{Cluster as TheCluster, Variants, Nodes}
 use Rattle.fr_base.specs.declared.report.Report.{Report}
@@ -71,6 +72,7 @@ word_of_inventory Nodes = codes "nodes"
 abbrev pub word_of_query : {N M : Type 0} → Query N M → List ℕ
 word_of_query (OfRegister inventory) = word_of_inventory inventory
 word_of_query (OfVariant variant report) = word_of report
+word_of_query (Difference variant from) = codes "diff"
 
 -- the name of the report that has these rows
 abbrev pub name_of_rows : ReportRows → List ℕ
@@ -87,6 +89,8 @@ name_of_rows (rows.Room _) = codes "room"
 name_of_rows (rows.FrameRecords _) = codes "export_frames"
 name_of_rows (rows.PlacementRecords _) = codes "export_placements"
 name_of_rows (rows.SignalRecords _) = codes "export_signals"
+name_of_rows (rows.Difference _) = codes "diff"
+name_of_rows (rows.Fates _) = codes "try"
 
 -- a frame's placements, in order
 abbrev pub placements_in : Frame → List Placement
@@ -208,6 +212,10 @@ found p b actor (OfRegister inventory) = Ok (held p b actor inventory)
 found p b actor (OfVariant v report) = do
   variant ← get b.variants v or NoVariant
   shown p actor variant report
+found p b actor (Difference v from) = do
+  new ← get b.variants v or NoVariant
+  old ← get b.variants from or NoVariant
+  Ok (rows.Difference (differences p actor old new))
 
 -- the answer to a query
 unfoldable pub reply : Params → Book → Actor → Query Name ℕ → Result Answer Refusal

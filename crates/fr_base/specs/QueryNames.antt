@@ -3,7 +3,7 @@
 use Rattle.std.specs.Prelude.{ℕ, ◌≡◌, Option, Some, option_map, Result, Ok, Err, MatchResult}
 use Rattle.fr_base.specs.Refusing.{◌>>=◌}
 use Rattle.fr_base.specs.declared.query.Query.{Query}
-use Rattle.fr_base.specs.declared.query.Query.TheVariants.{Register, Variant}
+use Rattle.fr_base.specs.declared.query.Query.TheVariants.{Register, Variant, Difference}
 use Rattle.fr_base.specs.declared.report.Report.{Report}
 use Rattle.fr_base.specs.declared.report.Report.TheVariants.{Grants, Frames, Schedule, Gaps, Layout, Load, Room, Export}
 
@@ -30,6 +30,10 @@ IsQueryRead {N} {M} {A} {E} reads counts (Variant variant report) result =
     (name : Result A E) × reads variant name × MatchResult name
     (λ v. (asked : Result (Report A ℕ) E) × IsReportRead reads counts report asked × (result ≡ (asked >>= (λ r. Ok (Variant v r)))))
     (λ e. result ≡ Err e)
+IsQueryRead {N} {M} {A} {E} reads counts (Difference variant from) result =
+    (name : Result A E) × reads variant name × MatchResult name
+    (λ v. (other : Result A E) × reads from other × (result ≡ (other >>= (λ f. Ok (Difference v f)))))
+    (λ e. result ≡ Err e)
 
 -- a report with each name changed alike, and each number
 abbrev pub report_with : {N M A : Type 0} → (N → A) → (M → ℕ) → Report N M → Report A ℕ
@@ -46,6 +50,7 @@ report_with f g (Export header part) = Export header (g part)
 abbrev pub query_with : {N M A : Type 0} → (N → A) → (M → ℕ) → Query N M → Query A ℕ
 query_with f g (Register inventory) = Register inventory
 query_with f g (Variant variant report) = Variant (f variant) (report_with f g report)
+query_with f g (Difference variant from) = Difference (f variant) (f from)
 
 -- a report with each name changed alike, and each number read; there is none where a number is none
 abbrev pub report_by : {N M A : Type 0} → (N → A) → (M → Option ℕ) → Report N M → Option (Report A ℕ)
@@ -62,3 +67,4 @@ report_by f g (Export header part) = option_map (Export header) (g part)
 abbrev pub query_by : {N M A : Type 0} → (N → A) → (M → Option ℕ) → Query N M → Option (Query A ℕ)
 query_by f g (Register inventory) = Some (Register inventory)
 query_by f g (Variant variant report) = option_map (Variant (f variant)) (report_by f g report)
+query_by f g (Difference variant from) = Some (Difference (f variant) (f from))

@@ -5,8 +5,8 @@
 -- placements is its frame, added where it is not there, and then its placement; a row of signals adds the signal. All are carried out and the import
 -- is kept, or the first refused row is told and nothing is changed. An import whose label is kept has its answer again,
 -- or is `LabelUsed`. A replacement's rows act so where the frames that they name have lost what the file brings anew. A
--- refusal leaves the book as it was.
-use Rattle.std.specs.Prelude.{ℕ, suc, ◌==◌, Bool, true, false, not, ◌&&◌, List, [], ◌∷◌, length, nat_le, nat_lt, Option, Some, None, is_some, Result, Ok, Err, ⊤}
+-- refusal leaves the book as it was. A trial tells what would become of each row of a file, and changes nothing.
+use Rattle.std.specs.Prelude.{ℕ, suc, ◌==◌, Bool, true, false, not, ◌&&◌, if◌then◌else◌, List, [], ◌∷◌, length, nat_le, nat_lt, Option, Some, None, is_some, Result, Ok, Err, ⊤}
 use Rattle.std.specs.List.{list_any}
 use Rattle.std.specs.Option.{option_and_then}
 use Rattle.fr_base.specs.Refusing.{◌>>=◌, ◌>>◌, ◌or◌, refuse◌when◌}
@@ -18,7 +18,7 @@ use Rattle.fr_base.specs.Checks.{check}
 use Rattle.fr_base.specs.Channels.{has_channel}
 use Rattle.fr_base.specs.Cluster.{Cluster, keys_of}
 use Rattle.fr_base.specs.Layouts.{LayoutData, has_signal, with_signal, without_signal, admits_signal}
-use Rattle.fr_base.specs.ImportRows.{rows_of_body}
+use Rattle.fr_base.specs.ImportRows.{rows_of_body, all_rows_of_body}
 use Rattle.fr_base.specs.Queries.{reply}
 use Rattle.fr_base.specs.Names.{same_text}
 use Rattle.fr_base.specs.Book.{Holder, Frame, Variant, Kept, Book, Sender, file_of, empty_variant, held_by_node, own, own_grants, granted, placements_of, schedule_of}
@@ -48,6 +48,9 @@ use Rattle.fr_base.specs.declared.request.FrameChange.{FrameChange}
 use Rattle.fr_base.specs.declared.request.FrameChange.TheVariants.{Add, Drop, Place, Unplace, AddSignal, DropSignal}
 use Rattle.fr_base.specs.declared.request.Import.{Import}
 use Rattle.fr_base.specs.declared.request.Replacement.{Replacement}
+use Rattle.fr_base.specs.declared.request.Trial.{Trial}
+use Rattle.fr_base.specs.declared.answer.FateRow.{FateRow}
+use Rattle.fr_base.specs.declared.answer.ReportRows.TheVariants as shows
 use Rattle.fr_base.specs.declared.request.Checked.{Checked}
 use Rattle.fr_base.specs.declared.request.Checked.TheVariants as checked
 
@@ -355,6 +358,42 @@ replace p b r = do
   Ok (replaced b (length (rows_of_body p r.body))
       (replace_rows p (with_freed b r.supplier r.variant variant (rows_of_body p r.body)) r.supplier r.variant (rows_of_body p r.body)))
 
+-- ---- a trial
+
+-- what a row of a file does, as an import or as a replacement
+abbrev pub try_row : Params → Bool → Book → Name → Name → Row → Result Book Refusal
+try_row p true b s v row = replace_row p b s v row
+try_row p false b s v row = act_row p b s v row
+
+-- what becomes of a row, and the rows after it; a refused row changes nothing
+unfoldable pub fate_of : {B : Type 0} → B → ℕ → Result B Refusal → B × FateRow
+fate_of before line (Ok after) = (after, record { line = line; refusal = None })
+fate_of before line (Err refusal) = (before, record { line = line; refusal = Some refusal })
+
+-- what becomes of the rows in turn, each on the rows that those before it left
+unfoldable pub fates_of : Params → Bool → Book → Name → Name → List RowRead → List FateRow
+fates_of p replaces b s v [] = []
+fates_of p replaces b s v (read ∷ rest) =
+    (fate_of b read.line (read.row >>= try_row p replaces b s v)).1
+    ∷ fates_of p replaces (fate_of b read.line (read.row >>= try_row p replaces b s v)).0 s v rest
+
+-- the book on which the first row acts: in that of a replacement the frames that its rows name are freed
+abbrev pub tried : Bool → Book → Name → Name → Variant → List RowRead → Book
+tried true b s v variant reads = with_freed b s v variant reads
+tried false b s v variant reads = b
+
+-- A trial: its variant is there and open, and its bytes are within the limit. What becomes of each row is told, and the book stays.
+unfoldable pub try : Params → Book → Trial → Result Outcome Refusal
+try p b t = do
+  variant ← get b.variants t.variant or NoVariant
+  refuse Released when variant.released
+  refuse Limit when nat_lt MAX_IMPORT_BYTES (length t.body)
+  Ok (record {
+    book = b;
+    answer = answer.Report false (shows.Fates
+        (fates_of p t.replaces (tried t.replaces b t.supplier t.variant variant (rows_of_body p t.body)) t.supplier t.variant (all_rows_of_body p t.body)));
+  })
+
 -- ---- the step
 
 -- what was done, unless it was refused
@@ -376,6 +415,7 @@ unfoldable pub act : Cluster → Book → Actor → Checked → Result Outcome R
 act c b actor (checked.Command command) = perform c b command
 act c b actor (checked.Import i) = import c.params b i (get b.imports (i.supplier, i.label))
 act c b actor (checked.Replace r) = replace c.params b r
+act c b actor (checked.Try t) = try c.params b t
 act c b actor (checked.Query query) = do
   shown ← reply c.params b actor query
   Ok (record { book = b; answer = shown })

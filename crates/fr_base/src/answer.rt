@@ -56,6 +56,10 @@ pub enum ReportRows {
     PlacementRecords(Rows<PlacementRecord>),
     /// A part of their signals, by supplier, frame and start.
     SignalRecords(Rows<SignalRecord>),
+    /// What differs between two variants, by what the rows are and their keys; what is gone comes before what is new.
+    Difference(Rows<DifferenceRow>),
+    /// What would become of each row of a file, by its line.
+    Fates(Rows<FateRow>),
 }
 
 // It is written out, so that a caller does not prove again how each kind of answer is dropped.
@@ -113,6 +117,8 @@ impl ReportRows {
             ReportRows::FrameRecords(_) => "export_frames",
             ReportRows::PlacementRecords(_) => "export_placements",
             ReportRows::SignalRecords(_) => "export_signals",
+            ReportRows::Difference(_) => "diff",
+            ReportRows::Fates(_) => "try",
         }
     }
 }
@@ -279,4 +285,40 @@ pub struct SignalRecord {
     pub frame: Name,
     pub signal: Signal,
     pub supplier: Name,
+}
+
+/// A row in which two variants differ.
+#[derive(Clone, Copy, PartialEq, Eq)]
+pub struct DifferenceRow {
+    /// Whether the variant has it and the other one has not; or the other way round.
+    pub is_new: bool,
+    pub row: SeenRow,
+}
+
+/// A row of a variant, as a difference tells it.
+#[derive(Clone, Copy, PartialEq, Eq)]
+pub enum SeenRow {
+    /// A node holds a slot and channel.
+    Grant(GrantRow),
+    /// A frame, with the node that sends it.
+    Frame(FrameRecord),
+    /// A placement of a frame.
+    Placement {
+        frame: Name,
+        placement: Placement,
+        supplier: Name,
+    },
+    /// A signal of a frame.
+    Signal(SignalRecord),
+    /// The greatest gap of a frame.
+    Gap(GapRow),
+}
+
+/// What would become of a row of a file.
+#[derive(Clone, Copy, PartialEq, Eq)]
+pub struct FateRow {
+    /// The row's place among the file's records, of which the header is the first.
+    pub line: u32,
+    /// What refuses it; none where it would be done.
+    pub refusal: Option<Refusal>,
 }

@@ -19,7 +19,7 @@ use crate::query::{Query, QueryReader};
 use crate::refusal::Refusal;
 use crate::report::Report;
 use crate::request::{
-    Change, Checked, Command, CommonCommand, FrameChange, Import, Replacement, Request,
+    Change, Checked, Command, CommonCommand, FrameChange, Import, Replacement, Request, Trial,
 };
 use crate::signal::{Order, Signal};
 use crate::slot::Slot;
@@ -102,6 +102,11 @@ pub fn check<'a>(
             body,
         } => import(actor, variant, label, body),
         Request::Replace { variant, body } => replace(actor, variant, body),
+        Request::Try {
+            variant,
+            replaces,
+            body,
+        } => trial(actor, variant, *replaces, body),
         Request::Query(asked) => query(params, actor, asked),
     }
 }
@@ -306,6 +311,25 @@ fn replace<'a>(actor: &Actor, variant: &Text, body: &'a Body) -> Result<Checked<
     Ok(Checked::Replace(Replacement {
         supplier,
         variant,
+        body,
+    }))
+}
+
+#[tactic(auto, unfolding(crate::proofs::ChecksLemmas::checks_open))]
+fn trial<'a>(
+    actor: &Actor,
+    variant: &Text,
+    replaces: bool,
+    body: &'a Body,
+) -> Result<Checked<'a>, Refusal>
+    ensures { (p : Params) → result ≡ check p actor.now (request.Try variant.now replaces body.now) }
+{
+    let (supplier, variant) = (asking(actor)?, name(variant)?);
+    let body = BodyRef::of(body);
+    Ok(Checked::Try(Trial {
+        supplier,
+        variant,
+        replaces,
         body,
     }))
 }

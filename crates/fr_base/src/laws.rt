@@ -1,8 +1,30 @@
 //! Laws of the register: functions with nothing to do, whose contracts say what holds of any register. A new register
 //! is sound and stays so, one frame is sent in a cell, a release freezes, an import acts once, and each supplier is
 //! answered as if alone.
-ghost use Rattle.fr_base.specs.Laws.{BadVariantIsBadName, EqualViews, FirstTakenIsOwn, HolderSends, ImportActsOnce, ImportIsKept, KeyIsChanged, KnownStaysKnown, LabelStaysUsed, LoadAddsUp, OneDependence, OneFrameInACell, OpeningIsAlone, OpeningIsSound, OtherStepLeavesRows, OwnStepIsAlone, RefusedChangesNothing, ReleaseFreezes, ReleasedAnswersStay, RoomFits, RoomIsAlone, RoomIsPlace, RoomIsRefused, RunIsAlone, RunIsSoundThroughout, RunKeepsSound, ScheduleIsOwn, StepKeepsSound, StepsAreARun};
+ghost use Rattle.fr_base.specs.Laws.{BadVariantIsBadName, DifferencesDiffer, DifferencesTurn, EqualViews, FirstTakenIsOwn, HolderSends, ImportActsOnce, ImportIsKept, ImportIsTold, KeyIsChanged, KnownStaysKnown, LabelStaysUsed, LoadAddsUp, NothingDiffersFromItself, OneDependence, OneFrameInACell, OpenedDiffersNowhere, OpeningIsAlone, OpeningIsSound, OtherStepLeavesRows, OwnStepIsAlone, RefusedChangesNothing, ReleaseFreezes, ReleasedAnswersStay, ReleasedDifferencesStay, ReplacementIsTold, RestIsAlike, RoomFits, RoomIsAlone, RoomIsPlace, RoomIsRefused, RunIsAlone, RunIsSoundThroughout, RunKeepsSound, ScheduleIsOwn, StepKeepsSound, StepsAreARun, TrialChangesNothing};
+ghost use Rattle.fr_base.specs.DifferenceLaws.{NothingIsGoneAndNew, ToldIsWhatDiffers};
+ghost use Rattle.fr_base.specs.ExportParts.{AllRecordsAreTold, ExportHasParts, ExportIsTold, FewRecordsAreTold};
 ghost use Rattle.fr_base.specs.ReplacingLaws.{ReplacedLeavesTheRest};
+ghost use Rattle.fr_base.specs.RoomLaws.{RefusedRoomRefuses, RoomIsTold, ToldRoomFits, ToldRoomIsInOrder, ToldRoomIsPlace};
+ghost use Rattle.fr_base.specs.ReplacedLaws.{ReplacedIsFiled, SameFileChangesNothing};
+ghost use Rattle.fr_base.specs.ExportedLaws.{ExportIsImported, OwnExportChangesNothing};
+
+mod edits;
+mod fates;
+mod keys;
+mod loads;
+mod queries;
+mod rooms;
+
+pub use edits::{differences_are_in_order, new_is_old_edited, seen_rows_are_in_order};
+pub use fates::{
+    each_fate_is_its_rows, lines_are_in_turn, one_too_many_is_limit, refused_rows_leave_nothing,
+    trial_is_told,
+};
+pub use keys::{set_key_changes_one_key, set_key_is_done};
+pub use loads::{load_counts_the_schedule, load_shows_each_lane, load_shows_own_lanes};
+pub use queries::{difference_is_told, inventory_is_told, load_is_told, query_changes_nothing};
+pub use rooms::{no_room_where_released, refused_room_refuses_each};
 
 /// The book of a new register is sound.
 pub fn opening_is_sound()
@@ -80,9 +102,46 @@ pub fn replaced_leaves_the_rest()
     ensures { ReplacedLeavesTheRest }
 {}
 
+/// Each frame that its file names has exactly what the file's rows say of it.
+pub fn replaced_is_filed()
+    ensures { ReplacedIsFiled }
+{}
+
+/// The same file again is answered the same and changes nothing.
+pub fn same_file_changes_nothing()
+    ensures { SameFileChangesNothing }
+{}
+
+/// In a sound book a part of the variant's own export changes nothing.
+pub fn own_export_changes_nothing()
+    ensures { OwnExportChangesNothing }
+{}
+
+/// The parts of an export, imported into a variant where the supplier has the same nodes and grants and no frames,
+/// bring its frames along.
+pub fn export_is_imported()
+    ensures { ExportIsImported }
+{}
+
 /// A refusal changes nothing, that of an import's row too.
 pub fn refused_changes_nothing()
     ensures { RefusedChangesNothing }
+{}
+
+/// A trial changes nothing.
+pub fn trial_changes_nothing()
+    ensures { TrialChangesNothing }
+{}
+
+/// An import under a label that is not kept, where one more may be kept, is answered as its trial tells:
+/// so many rows exactly where each is done, and else the first that is not.
+pub fn import_is_told()
+    ensures { ImportIsTold }
+{}
+
+/// A replacement is answered as its trial tells.
+pub fn replacement_is_told()
+    ensures { ReplacementIsTold }
 {}
 
 /// In a sound book, where one of a supplier's nodes holds a placement's slot on each of its channels,
@@ -159,7 +218,100 @@ pub fn room_fits()
     ensures { RoomFits }
 {}
 
+/// In a sound book a supplier that is known is told the room that is there among the rows of all.
+pub fn room_is_told()
+    ensures { RoomIsTold }
+{}
+
+/// In a sound book, for each placement of the cluster, a supplier's Place is answered Done exactly
+/// where the room that it is told has the placement.
+pub fn told_room_is_place()
+    ensures { ToldRoomIsPlace }
+{}
+
+/// What a supplier is told of room for is a placement of the cluster with the repetition that it
+/// asked for.
+pub fn told_room_fits()
+    ensures { ToldRoomFits }
+{}
+
+/// What a supplier is told of room for is in order, by slot, channels and base, and nothing stands
+/// twice.
+pub fn told_room_is_in_order()
+    ensures { ToldRoomIsInOrder }
+{}
+
+/// Where a supplier is told that the room is refused, each Place of the frame is refused, and by the
+/// same, but for `Limit`.
+pub fn refused_room_refuses()
+    ensures { RefusedRoomRefuses }
+{}
+
 /// In a sound book the used cycles of a load add up to the rows of the schedule that the same actor sees.
 pub fn load_adds_up()
     ensures { LoadAddsUp }
+{}
+
+/// What is told to be gone is what the older variant has and the newer one has not, and what is told to be new is what
+/// the newer one has and the older one has not.
+pub fn differences_differ()
+    ensures { DifferencesDiffer }
+{}
+
+/// A row is told to be gone exactly where who asks sees it of the older variant and not of the newer
+/// one, and to be new exactly where it is the other way round.
+pub fn told_is_what_differs()
+    ensures { ToldIsWhatDiffers }
+{}
+
+/// No row is told to be gone and to be new.
+pub fn nothing_is_gone_and_new()
+    ensures { NothingIsGoneAndNew }
+{}
+
+/// What else the two variants have is the same, in the same order.
+pub fn rest_is_alike()
+    ensures { RestIsAlike }
+{}
+
+/// Turned round, what was gone is new, and what was new is gone.
+pub fn differences_turn()
+    ensures { DifferencesTurn }
+{}
+
+/// A variant does not differ from itself.
+pub fn nothing_differs_from_itself()
+    ensures { NothingDiffersFromItself }
+{}
+
+/// Nor does it from the one from which it was opened a moment ago.
+pub fn opened_differs_nowhere()
+    ensures { OpenedDiffersNowhere }
+{}
+
+/// The difference of two released variants stays, from when who asks is known.
+pub fn released_differences_stay()
+    ensures { ReleasedDifferencesStay }
+{}
+
+/// In a sound book each part of an export takes whole frames from where the part before ended, as
+/// many as give at most 512 records; together they have each record once, and behind the last there
+/// is nothing.
+pub fn export_has_parts()
+    ensures { ExportHasParts }
+{}
+
+/// Who is known is told the part that it asks for, of the frames that it sees.
+pub fn export_is_told()
+    ensures { ExportIsTold }
+{}
+
+/// Of a part at most 512 records are told, whoever asks.
+pub fn few_records_are_told()
+    ensures { FewRecordsAreTold }
+{}
+
+/// In a sound book who is known is told, part by part, each record of the frames that it sees, once.
+pub fn all_records_are_told()
+    ensures { AllRecordsAreTold }
 {}

@@ -29,42 +29,149 @@ mod slot;
 mod text;
 
 pub use actor::Actor;
-pub use answer::{
-    Answer, ClusterRow, Figure, FrameRecord, FrameRow, GapRow, GrantRow, LaneHolder, LoadRow,
-    NodeRow, PlacementRecord, ReportRows, Sending, SignalRecord, SignalRow, VariantRow,
-};
-pub use body::{Body, BodyRef};
-pub use channel::{Channel, Channels};
+pub use answer::Answer;
+pub use answer::ClusterRow;
+pub use answer::DifferenceRow;
+pub use answer::FateRow;
+pub use answer::Figure;
+pub use answer::FrameRecord;
+pub use answer::FrameRow;
+pub use answer::GapRow;
+pub use answer::GrantRow;
+pub use answer::LaneHolder;
+pub use answer::LoadRow;
+pub use answer::NodeRow;
+pub use answer::PlacementRecord;
+pub use answer::ReportRows;
+pub use answer::SeenRow;
+pub use answer::Sending;
+pub use answer::SignalRecord;
+pub use answer::SignalRow;
+pub use answer::VariantRow;
+pub use body::Body;
+pub use body::BodyRef;
+pub use channel::Channel;
+pub use channel::Channels;
 pub use checks::check;
-pub use config::{Config, Supplier, Suppliers};
-pub use cycles::{BadCycles, CycleSet, MAX_CYCLES};
+pub use config::Config;
+pub use config::Supplier;
+pub use config::Suppliers;
+pub use cycles::BadCycles;
+pub use cycles::CycleSet;
+pub use cycles::MAX_CYCLES;
 pub use desk::Desk;
-pub use import::{Header, Row, RowRead};
+pub use import::Header;
+pub use import::Row;
+pub use import::RowRead;
 pub use key::Key;
-pub use laws::{
-    bad_variant_is_bad_name, equal_views, first_taken_is_own, holder_sends, import_acts_once,
-    import_is_kept, key_is_changed, known_stays_known, label_stays_used, load_adds_up,
-    one_dependence, one_frame_in_a_cell, opening_is_alone, opening_is_sound,
-    other_step_leaves_rows, own_step_is_alone, refused_changes_nothing, release_freezes,
-    released_answers_stay, replaced_leaves_the_rest, room_fits, room_is_alone, room_is_place,
-    room_is_refused, run_is_alone, run_is_sound_throughout, run_keeps_sound, schedule_is_own,
-    step_keeps_sound, steps_are_a_run,
-};
-pub use limits::{
-    MAX_DEPTH, MAX_FRAMES, MAX_IMPORT_BYTES, MAX_IMPORTS, MAX_NODES, MAX_PAYLOAD_WORDS,
-    MAX_PLACEMENTS, MAX_ROWS, MAX_SIGNALS, MAX_SUPPLIERS, MAX_VARIANTS,
-};
+pub use laws::all_records_are_told;
+pub use laws::bad_variant_is_bad_name;
+pub use laws::difference_is_told;
+pub use laws::differences_are_in_order;
+pub use laws::differences_differ;
+pub use laws::differences_turn;
+pub use laws::each_fate_is_its_rows;
+pub use laws::equal_views;
+pub use laws::export_has_parts;
+pub use laws::export_is_imported;
+pub use laws::export_is_told;
+pub use laws::few_records_are_told;
+pub use laws::first_taken_is_own;
+pub use laws::holder_sends;
+pub use laws::import_acts_once;
+pub use laws::import_is_kept;
+pub use laws::import_is_told;
+pub use laws::inventory_is_told;
+pub use laws::key_is_changed;
+pub use laws::known_stays_known;
+pub use laws::label_stays_used;
+pub use laws::lines_are_in_turn;
+pub use laws::load_adds_up;
+pub use laws::load_counts_the_schedule;
+pub use laws::load_is_told;
+pub use laws::load_shows_each_lane;
+pub use laws::load_shows_own_lanes;
+pub use laws::new_is_old_edited;
+pub use laws::no_room_where_released;
+pub use laws::nothing_differs_from_itself;
+pub use laws::nothing_is_gone_and_new;
+pub use laws::one_dependence;
+pub use laws::one_frame_in_a_cell;
+pub use laws::one_too_many_is_limit;
+pub use laws::opened_differs_nowhere;
+pub use laws::opening_is_alone;
+pub use laws::opening_is_sound;
+pub use laws::other_step_leaves_rows;
+pub use laws::own_export_changes_nothing;
+pub use laws::own_step_is_alone;
+pub use laws::query_changes_nothing;
+pub use laws::refused_changes_nothing;
+pub use laws::refused_room_refuses;
+pub use laws::refused_room_refuses_each;
+pub use laws::refused_rows_leave_nothing;
+pub use laws::release_freezes;
+pub use laws::released_answers_stay;
+pub use laws::released_differences_stay;
+pub use laws::replaced_is_filed;
+pub use laws::replaced_leaves_the_rest;
+pub use laws::replacement_is_told;
+pub use laws::rest_is_alike;
+pub use laws::room_fits;
+pub use laws::room_is_alone;
+pub use laws::room_is_place;
+pub use laws::room_is_refused;
+pub use laws::room_is_told;
+pub use laws::run_is_alone;
+pub use laws::run_is_sound_throughout;
+pub use laws::run_keeps_sound;
+pub use laws::same_file_changes_nothing;
+pub use laws::schedule_is_own;
+pub use laws::seen_rows_are_in_order;
+pub use laws::set_key_changes_one_key;
+pub use laws::set_key_is_done;
+pub use laws::step_keeps_sound;
+pub use laws::steps_are_a_run;
+pub use laws::told_is_what_differs;
+pub use laws::told_room_fits;
+pub use laws::told_room_is_in_order;
+pub use laws::told_room_is_place;
+pub use laws::trial_changes_nothing;
+pub use laws::trial_is_told;
+pub use limits::MAX_DEPTH;
+pub use limits::MAX_FRAMES;
+pub use limits::MAX_IMPORT_BYTES;
+pub use limits::MAX_IMPORTS;
+pub use limits::MAX_NODES;
+pub use limits::MAX_PAYLOAD_WORDS;
+pub use limits::MAX_PLACEMENTS;
+pub use limits::MAX_ROWS;
+pub use limits::MAX_SIGNALS;
+pub use limits::MAX_SUPPLIERS;
+pub use limits::MAX_VARIANTS;
 pub use name::Name;
-pub use params::{ParamFault, Params, RawParams};
+pub use params::ParamFault;
+pub use params::Params;
+pub use params::RawParams;
 pub use placement::Placement;
-pub use query::{Inventory, Query, QueryReader};
+pub use query::Inventory;
+pub use query::Query;
+pub use query::QueryReader;
 pub use refusal::Refusal;
 pub use report::Report;
-pub use request::{
-    Ask, Change, Checked, Command, CommonCommand, FrameChange, Import, Replacement, Request,
-};
+pub use request::Ask;
+pub use request::Change;
+pub use request::Checked;
+pub use request::Command;
+pub use request::CommonCommand;
+pub use request::FrameChange;
+pub use request::Import;
+pub use request::Replacement;
+pub use request::Request;
+pub use request::Trial;
 pub use rows::Rows;
-pub use signal::{BadSignal, Order, Signal};
+pub use signal::BadSignal;
+pub use signal::Order;
+pub use signal::Signal;
 pub use slot::Slot;
 pub use text::Text;
 

@@ -10,6 +10,8 @@ pub enum Query<N, M = u32> {
     Register(Inventory),
     /// A report of a variant.
     Variant { variant: N, report: Report<N, M> },
+    /// What differs between two variants: what the variant has in place of what the other one has.
+    Difference { variant: N, from: N },
 }
 
 /// What a register holds beside the rows of its variants.
@@ -57,6 +59,11 @@ impl<N, M> Query<N, M> {
                 let variant = reader.read_name(variant)?;
                 let report = report.read(reader)?;
                 Ok(Query::Variant { variant, report })
+            }
+            Query::Difference { variant, from } => {
+                let variant = reader.read_name(variant)?;
+                let from = reader.read_name(from)?;
+                Ok(Query::Difference { variant, from })
             }
         }
     }

@@ -108,6 +108,12 @@ pub enum Request {
         variant: Text,
         body: Body,
     },
+    /// A supplier asks what would become of each row of a file, as an import or as a replacement, and nothing is changed.
+    Try {
+        variant: Text,
+        replaces: bool,
+        body: Body,
+    },
     /// The integrator or a supplier asks what the register holds, and nothing is changed.
     Query(Query<Text>),
 }
@@ -191,6 +197,11 @@ impl Drop for Request {
             } => {}
             Request::Replace {
                 variant: _,
+                body: _,
+            } => {}
+            Request::Try {
+                variant: _,
+                replaces: _,
                 body: _,
             } => {}
             Request::Query(_) => {}
@@ -298,11 +309,22 @@ pub struct Replacement<'a> {
     pub body: BodyRef<'a>,
 }
 
+/// A supplier's file to be tried, with checked names; what it says is not yet read.
+#[derive(Drop)]
+pub struct Trial<'a> {
+    pub supplier: Name,
+    pub variant: Name,
+    /// Whether it is tried as a replacement, or else as an import.
+    pub replaces: bool,
+    pub body: BodyRef<'a>,
+}
+
 /// A request whose own texts and numbers are in order.
 #[derive(Drop)]
 pub enum Checked<'a> {
     Command(Command),
     Import(Import<'a>),
     Replace(Replacement<'a>),
+    Try(Trial<'a>),
     Query(Query<Name>),
 }

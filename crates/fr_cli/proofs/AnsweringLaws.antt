@@ -13,7 +13,7 @@ use Rattle.fr_base.specs.declared.request.Ask.{Ask}
 use Rattle.fr_office.specs.Answering.{Answers}
 use Rattle.fr_world.specs.Held.{Standing}
 use Rattle.fr_cli.specs.Answering.{AnswersLine, AnswersLines, Anything, Reads, WasCutShort}
-use Rattle.fr_cli.specs.Asking.{line_of}
+use Rattle.fr_cli.specs.Outcomes.{line_of}
 use Rattle.fr_cli.specs.ScriptRun.{AreAnswered, Replied}
 use Rattle.fr_cli.specs.declared.script_fault.ScriptFault.{ScriptFault}
 use Rattle.fr_cli.proofs.ScriptRunLaws.{answered-sound}

@@ -1,5 +1,5 @@
--- What is printed of an answer that refuses what was asked.
-use Rattle.std.proofs.Common.{◌≡◌, ◌⊎◌, ◌∙◌, List, None, ℕ, Ok, Err, OnOk, Option, Some, Result, inl, inr, refl, true, subst, sym}
+-- What is printed of an answer, and what of the register follows of it.
+use Rattle.std.proofs.Common.{◌≡◌, ◌⊎◌, ◌∙◌, List, None, ℕ, Ok, Err, OnOk, Option, Some, Result, inl, inr, refl, subst, sym}
 use Rattle.std.specs.Prelude.{⊤}
 use Rattle.fr_base.specs.Book.{Book}
 use Rattle.fr_base.specs.Cluster.{Cluster, ClusterFile}
@@ -20,7 +20,8 @@ use Rattle.sqlite.specs.declared.file.Leftover.{Leftover}
 use Rattle.sqlite_disk.specs.declared.Disk.{Ghosts}
 use Rattle.sqlite_wal.specs.Recovery.{Image}
 use Rattle.fr_cli.specs.Asked.{asked_by}
-use Rattle.fr_cli.specs.Asking.{IsAnswer, IsForReader, IsRefusedBy, Leads, Prints, asked_with, is_refusal, line_of, query_of}
+use Rattle.fr_cli.specs.Asking.{IsAnswer, IsForReader, IsRefusedBy, IsToldBy, Leads, Prints, asked_with, query_of}
+use Rattle.fr_cli.specs.Outcomes.{outcome_of}
 use Rattle.fr_cli.specs.Faults.{IsNotDelivered, IsNotReported}
 use Rattle.fr_cli.specs.Keys.{IsKeyGiven}
 use Rattle.fr_cli.specs.Performing.{Says}
@@ -34,18 +35,28 @@ use Rattle.fr_cli.specs.declared.fault.Fault.TheVariants.{CannotOpen, NoMemory}
 use Rattle.std.specs.Global.{Vec}
 use Rattle.fr_cli.specs.declared.failure.Failure.{Failure}
 use Rattle.fr_cli.specs.declared.failure.Failure.TheVariants as failure
+use Rattle.fr_cli.specs.declared.outcome.Outcome.TheVariants as outcome
 
-pub refused_prints : (Is : Answer → Type 0) (print : Answer → List ℕ) (answer : Answer) (f : Failure) → Is answer → is_refusal answer ≡ true
-    → IsRefusedBy answer f → Prints Is print (Err f)
-refused_prints Is print answer (failure.Refused line) is refusal by = (answer, is, refusal, by)
-refused_prints Is print answer (failure.Fault fault) is refusal by = by
+-- what is told by an answer is told by such an answer
+pub told_prints : (Is : Answer → Type 0) (answer : Answer) (done : Result (Vec ℕ) Failure) → Is answer → IsToldBy answer done → Prints Is done
+told_prints Is answer (Ok text) is (a, same, kind, said) = (a, subst Is (sym same) is, kind, said)
+told_prints Is answer (Err (failure.RefusedRows text)) is (a, same, kind, said) = (a, subst Is (sym same) is, kind, said)
+told_prints Is answer (Err (failure.Refused line)) is (a, same, kind, said) = (a, subst Is (sym same) is, kind, said)
+told_prints Is answer (Err (failure.Fault fault)) is told = told
+
+-- what refuses by an answer is told by it
+pub refused_told : (answer : Answer) (f : Failure) → outcome_of answer ≡ outcome.Refused → IsRefusedBy answer f → IsToldBy answer (Err f)
+refused_told answer (failure.RefusedRows text) refused by = absurd by
+refused_told answer (failure.Refused line) refused by = (answer, refl, refused, by)
+refused_told answer (failure.Fault fault) refused by = by
 
 -- what was printed of an answer is said of what follows of it
-pub prints_says : (May : Fault → Type 0) (Is Was : Answer → Type 0) (print : Answer → List ℕ) (done : Result (Vec ℕ) Failure) → ((answer : Answer) → Was answer → Is answer)
-    → May NoMemory → Prints Was print done → Says May Is print done
-prints_says May Is Was print (Ok text) follows may p = (p.0, follows p.0 p.1, p.2, p.3)
-prints_says May Is Was print (Err (failure.Refused line)) follows may p = (p.0, follows p.0 p.1, p.2, p.3)
-prints_says May Is Was print (Err (failure.Fault fault)) follows may p = subst May (sym p) may
+pub prints_says : (May : Fault → Type 0) (Is Was : Answer → Type 0) (done : Result (Vec ℕ) Failure) → ((answer : Answer) → Was answer → Is answer)
+    → May NoMemory → Prints Was done → Says May Is done
+prints_says May Is Was (Ok text) follows may p = (p.0, follows p.0 p.1, p.2, p.3)
+prints_says May Is Was (Err (failure.RefusedRows text)) follows may p = (p.0, follows p.0 p.1, p.2, p.3)
+prints_says May Is Was (Err (failure.Refused line)) follows may p = (p.0, follows p.0 p.1, p.2, p.3)
+prints_says May Is Was (Err (failure.Fault fault)) follows may p = subst May (sym p) may
 
 module _ {D : Type 0} {g : Ghosts D} where
   -- what was asked of a register that stands for what a file held, and was closed, was asked of the file
@@ -61,29 +72,30 @@ module _ {D : Type 0} {g : Ghosts D} where
   )
 
   -- so what is printed of its answer is said of the file
-  pub says_of_file : (May : Fault → Type 0) (print : Answer → List ℕ) (done : Result (Vec ℕ) Failure) (held : Image) (left : Leftover D g) (clean before : Type 0) (old new : Standing)
+  pub says_of_file : (May : Fault → Type 0) (done : Result (Vec ℕ) Failure) (held : Image) (left : Leftover D g) (clean before : Type 0) (old new : Standing)
       (asks : Cluster → Book → Result Ask Refusal) → (IsCleanLeft left → clean) → (clean → before) → FindsHeld held before old
-      → ((c : Cluster) (b : Book) → new c b → IsLeftWith left c b) → May NoMemory → Prints (IsAnswer clean old new asks) print done
-      → Says May (IsAnswerOfFile held (Some left) asks) print done
-  says_of_file May print done held left clean before old new asks closes falls finds leaves may p =
-      prints_says May (IsAnswerOfFile held (Some left) asks) (IsAnswer clean old new asks) print done
+      → ((c : Cluster) (b : Book) → new c b → IsLeftWith left c b) → May NoMemory → Prints (IsAnswer clean old new asks) done
+      → Says May (IsAnswerOfFile held (Some left) asks) done
+  says_of_file May done held left clean before old new asks closes falls finds leaves may p =
+      prints_says May (IsAnswerOfFile held (Some left) asks) (IsAnswer clean old new asks) done
       (λ answer is. asks_file held left clean before old new asks answer closes falls finds leaves is) may p
 
   -- so what is printed for a reader
-  pub read_of_file : (May : Fault → Type 0) (print : Answer → List ℕ) (done : Result (Vec ℕ) Failure) (held : Image) (left : Leftover D g) (clean before : Type 0) (old new : Standing)
+  pub read_of_file : (May : Fault → Type 0) (done : Result (Vec ℕ) Failure) (held : Image) (left : Leftover D g) (clean before : Type 0) (old new : Standing)
       (asks : Cluster → Book → Result Ask Refusal) → (IsCleanLeft left → clean) → (clean → before) → FindsHeld held before old
-      → ((c : Cluster) (b : Book) → new c b → IsLeftWith left c b) → May NoMemory → Prints (IsForReader (IsAnswer clean old new asks)) print done
-      → Says May (IsForReader (IsAnswerOfFile held (Some left) asks)) print done
-  read_of_file May print done held left clean before old new asks closes falls finds leaves may p =
-      prints_says May (IsForReader (IsAnswerOfFile held (Some left) asks)) (IsForReader (IsAnswer clean old new asks)) print done
+      → ((c : Cluster) (b : Book) → new c b → IsLeftWith left c b) → May NoMemory → Prints (IsForReader (IsAnswer clean old new asks)) done
+      → Says May (IsForReader (IsAnswerOfFile held (Some left) asks)) done
+  read_of_file May done held left clean before old new asks closes falls finds leaves may p =
+      prints_says May (IsForReader (IsAnswerOfFile held (Some left) asks)) (IsForReader (IsAnswer clean old new asks)) done
       (λ answer is. (is.0, asks_file held left clean before old new asks is.0 closes falls finds leaves is.1, is.2)) may p
 
   -- what is said of the answer to who has the key is said of the key that is given
   pub given_says : (held : Image) (rest : Option (Leftover D g)) (word : List ℕ) (input left : Option (List ℕ)) (key : List ℕ) (request : Request)
       (done : Result (Vec ℕ) Failure) → IsKeyGiven word input left key
-      → Says (IsNotReported held rest) (IsAnswerOfFile held rest (asked_with key request)) line_of done
-      → Says (IsNotDelivered held rest word) (IsAnswerToGiven held rest word request input left) line_of done
+      → Says (IsNotReported held rest) (IsAnswerOfFile held rest (asked_with key request)) done
+      → Says (IsNotDelivered held rest word) (IsAnswerToGiven held rest word request input left) done
   given_says held rest word input left key request (Ok text) given (answer, is, kind, said) = (answer, (key, given, is), kind, said)
+  given_says held rest word input left key request (Err (failure.RefusedRows text)) given (answer, is, kind, said) = (answer, (key, given, is), kind, said)
   given_says held rest word input left key request (Err (failure.Refused line)) given (answer, is, kind, said) = (answer, (key, given, is), kind, said)
   given_says held rest word input left key request (Err (failure.Fault fault)) given may = inl may
 

@@ -11,11 +11,11 @@ use Rattle.clap.specs.declared.parser.matches.Found.{Found}
 use Rattle.fr_base.specs.declared.report.Report.{Report}
 use Rattle.fr_base.specs.declared.query.Inventory.TheVariants.{Cluster, Variants, Nodes}
 use Rattle.fr_base.specs.declared.query.Query.{Query}
-use Rattle.fr_base.specs.declared.query.Query.TheVariants.{Register as OfRegister, Variant as OfVariant}
+use Rattle.fr_base.specs.declared.query.Query.TheVariants.{Register as OfRegister, Variant as OfVariant, Difference as OfTwo}
 use Rattle.fr_base.specs.declared.report.Report.TheVariants.{Grants, Frames, Schedule, Gaps, Layout, Load, Room, Export}
 use Rattle.fr_cli.specs.Words.{HasNames, HasNumber, HasReport, IsJobIn, IsJobOf, IsNumberIn, max_number, word_of_delivery, word_of_job, word_of_report}
 use Rattle.fr_cli.specs.declared.delivery.DeliveryKind.{DeliveryKind}
-use Rattle.fr_cli.specs.declared.delivery.DeliveryKind.TheVariants.{Import as ByLabel, Replacement}
+use Rattle.fr_cli.specs.declared.delivery.DeliveryKind.TheVariants.{Import as ByLabel, Replacement, Trial}
 use Rattle.fr_cli.specs.declared.words.Job.{Job}
 use Rattle.fr_cli.specs.declared.words.Job.TheVariants.{Run, Create, Migrate, Serve, Ask, Report as ReportOn, Picture, Deliver, Check, Explain}
 
@@ -87,12 +87,14 @@ numbers_of rows (ReportOn db query) is = asked query.query is.0
     asked (OfRegister Variants) same = apart _ _ refl same
     asked (OfRegister Nodes) same = apart _ _ refl same
     asked (OfVariant variant of) same = report of same
+    asked (OfTwo variant from) same = apart _ _ refl same
 numbers_of rows (Picture db variant supplier) is = apart _ _ refl is.0
 numbers_of rows (Deliver db delivery) is = delivered delivery.kind is.0
   where
     delivered : {X : Type 0} (kind : DeliveryKind) → codes "serve" ≡ word_of_delivery kind → X
     delivered (ByLabel label) same = apart _ _ refl same
     delivered Replacement same = apart _ _ refl same
+    delivered (Trial replaces) same = apart _ _ refl same
 numbers_of rows (Check file) is = apart _ _ refl is.0
 numbers_of rows (Explain word) is = apart _ _ refl is.0
 
@@ -125,6 +127,7 @@ repetition_of rows (ReportOn db query) is = asked query.query is.0 is.2.0
     asked (OfRegister Variants) same has = apart _ _ refl same
     asked (OfRegister Nodes) same has = apart _ _ refl same
     asked (OfVariant variant of) same has = report of same has.1
+    asked (OfTwo variant from) same has = apart _ _ refl same
 repetition_of rows Run is = apart _ _ refl is
 repetition_of rows (Create db config) is = apart _ _ refl is.0
 repetition_of rows (Migrate db) is = apart _ _ refl is.0
@@ -138,6 +141,7 @@ repetition_of rows (Deliver db delivery) is = delivered delivery.kind is.0
     delivered : {X : Type 0} (kind : DeliveryKind) → codes "room" ≡ word_of_delivery kind → X
     delivered (ByLabel label) same = apart _ _ refl same
     delivered Replacement same = apart _ _ refl same
+    delivered (Trial replaces) same = apart _ _ refl same
 
 pub no_room : (rows : List Row) (job : Option Job) → job ≡ None → ((number : ℕ) → HasNumber (codes "REPETITION") 0 max_number rows number → ⊥) → IsJobIn job (codes "room") rows
 no_room rows (Some job) none lacks = cc
@@ -162,6 +166,7 @@ part_of rows (ReportOn db query) is = asked query.query is.0 is.2.0
     asked (OfRegister Variants) same has = apart _ _ refl same
     asked (OfRegister Nodes) same has = apart _ _ refl same
     asked (OfVariant variant of) same has = report of same has.1
+    asked (OfTwo variant from) same has = apart _ _ refl same
 part_of rows Run is = apart _ _ refl is
 part_of rows (Create db config) is = apart _ _ refl is.0
 part_of rows (Migrate db) is = apart _ _ refl is.0
@@ -175,6 +180,7 @@ part_of rows (Deliver db delivery) is = delivered delivery.kind is.0
     delivered : {X : Type 0} (kind : DeliveryKind) → codes "export" ≡ word_of_delivery kind → X
     delivered (ByLabel label) same = apart _ _ refl same
     delivered Replacement same = apart _ _ refl same
+    delivered (Trial replaces) same = apart _ _ refl same
 
 pub no_export : (rows : List Row) (job : Option Job) → job ≡ None → ((number : ℕ) → HasNumber (codes "part") 0 max_number rows number → ⊥) → IsJobIn job (codes "export") rows
 no_export rows (Some job) none lacks = cc

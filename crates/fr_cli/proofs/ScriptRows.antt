@@ -76,19 +76,20 @@ planned =
 unfoldable pub shown : List (List ℕ)
 shown = s1 (codes "{\"do\":\"schedule\",\"variant\":\"v1\"}") ∷ []
 
+-- its answer
+unfoldable pub told : List Answer
+told = Told false (rows_of.Schedule (record { cycle = 0; slot = 1; channel = ch.A; frame = codes "f1"; node = codes "n1"; supplier = codes "s1" } ∷ [])) ∷ []
+
 -- the answers to both
 unfoldable pub answered : List Answer
-answered =
-    Done ∷ Done ∷ Done ∷ Done ∷ Done
-    ∷ Told false (rows_of.Schedule (record { cycle = 0; slot = 1; channel = ch.A; frame = codes "f1"; node = codes "n1"; supplier = codes "s1" } ∷ []))
-    ∷ []
+answered = Done ∷ Done ∷ Done ∷ Done ∷ Done ∷ told
 
 -- all of the first script is the supplier's
 pub the_first_script :
     (lines_for (codes "s1") (planned ++ shown) ≡ planned ++ shown)
     × (answers_for (codes "s1") (planned ++ shown) ≡ answered)
     × (answers_alone (codes "s1") (planned ++ shown) ≡ answered)
-unfolding a_script planned shown answered
+unfolding a_script planned shown told answered
 the_first_script = (refl, refl, refl)
 
 -- others' lines: a node of `s2`, a grant of what `s1` holds and one of the other channel, a frame, a line that is no request, one of
@@ -107,19 +108,24 @@ between =
 unfoldable pub answered_between : List Answer
 answered_between = Done ∷ Refused Taken ∷ Done ∷ Done ∷ Refused BadText ∷ Refused UnknownKey ∷ Refused BadText ∷ []
 
--- others' lines between change nothing for `s1`
+-- of nobody's lines the last two, that of `s3` and the one without a space
+unfoldable pub nobodys : List (List ℕ)
+nobodys = s3 (codes "{\"do\":\"schedule\",\"variant\":\"v1\"}") ∷ codes "schedule" ∷ []
+
+-- others' lines between change nothing for `s1`; those that nobody sends are refused alike
 pub others_lines_between :
     (answers (planned ++ between) ≡ Done ∷ Done ∷ Done ∷ Done ∷ Done ∷ answered_between)
-    × (lines_for (codes "s1") (planned ++ between ++ shown) ≡ planned ++ shown)
-    × (answers_for (codes "s1") (planned ++ between ++ shown) ≡ answered)
-unfolding a_script planned shown answered between answered_between
-others_lines_between = (refl, refl, refl)
+    × (lines_for (codes "s1") (planned ++ between ++ shown) ≡ planned ++ nobodys ++ shown)
+    × (answers_for (codes "s1") (planned ++ between ++ shown) ≡ Done ∷ Done ∷ Done ∷ Done ∷ Done ∷ Refused UnknownKey ∷ Refused BadText ∷ told)
+    × (answers_alone (codes "s1") (planned ++ nobodys ++ shown) ≡ Done ∷ Done ∷ Done ∷ Done ∷ Done ∷ Refused UnknownKey ∷ Refused BadText ∷ told)
+unfolding a_script planned shown told between answered_between nobodys
+others_lines_between = (refl, refl, refl, refl)
 
--- a line that has the supplier's key and is no request is the supplier's
+-- a line that is no request is the supplier's, where it has its key or none
 pub a_line_that_asks_nothing :
-    (lines_for (codes "s2") (s1 (codes "grants") ∷ s2 (codes "grants") ∷ codes "grants" ∷ []) ≡ s2 (codes "grants") ∷ [])
-    × (answers_for (codes "s2") (s1 (codes "grants") ∷ s2 (codes "grants") ∷ codes "grants" ∷ []) ≡ Refused BadText ∷ [])
-    × (answers_alone (codes "s2") (s2 (codes "grants") ∷ []) ≡ Refused BadText ∷ [])
+    (lines_for (codes "s2") (s1 (codes "grants") ∷ s2 (codes "grants") ∷ codes "grants" ∷ []) ≡ s2 (codes "grants") ∷ codes "grants" ∷ [])
+    × (answers_for (codes "s2") (s1 (codes "grants") ∷ s2 (codes "grants") ∷ codes "grants" ∷ []) ≡ Refused BadText ∷ Refused BadText ∷ [])
+    × (answers_alone (codes "s2") (s2 (codes "grants") ∷ codes "grants" ∷ []) ≡ Refused BadText ∷ Refused BadText ∷ [])
 unfolding a_script
 a_line_that_asks_nothing = (refl, refl, refl)
 
@@ -130,13 +136,13 @@ joined =
     ∷ s3 (codes "{\"do\":\"add_frame\",\"variant\":\"v1\",\"frame\":\"f1\",\"node\":\"n1\"}")
     ∷ []
 
--- before it joins, a line with its key is nobody's
+-- before it joins, a line with its key is nobody's, and so among its own
 pub one_that_joins :
     (answers (shown ++ between ++ joined) ≡ Refused NoVariant ∷ Done ∷ Refused NoVariant ∷ Refused NoVariant ∷ Refused NoVariant ∷ Refused BadText ∷ Refused UnknownKey ∷ Refused BadText ∷ Done ∷ Refused NoVariant ∷ [])
-    × (lines_for (codes "s3") (shown ++ between ++ joined) ≡ joined)
-    × (answers_for (codes "s3") (shown ++ between ++ joined) ≡ Done ∷ Refused NoVariant ∷ [])
-    × (answers_alone (codes "s3") joined ≡ Done ∷ Refused NoVariant ∷ [])
-unfolding a_script planned shown between joined
+    × (lines_for (codes "s3") (shown ++ between ++ joined) ≡ nobodys ++ joined)
+    × (answers_for (codes "s3") (shown ++ between ++ joined) ≡ Refused UnknownKey ∷ Refused BadText ∷ Done ∷ Refused NoVariant ∷ [])
+    × (answers_alone (codes "s3") (nobodys ++ joined) ≡ Refused UnknownKey ∷ Refused BadText ∷ Done ∷ Refused NoVariant ∷ [])
+unfolding a_script planned shown between joined nobodys
 one_that_joins = (refl, refl, refl, refl)
 
 -- a line that was answered Unavailable is left out, as if it had not been sent

@@ -1,5 +1,5 @@
 -- Lines that were answered so: the book stays sound, what they ask is a run, and to each supplier they are answered as if it were alone.
-use Rattle.std.proofs.Common.{◌≡◌, inl, inr, ℕ, Bool, true, false, true≢false, cond, zero, suc, take, ◌||◌, List, [], ◌∷◌, map, Option, Some, None, Result, Ok, Err, refl, sym, ap, ◌∙◌, subst}
+use Rattle.std.proofs.Common.{◌≡◌, ◌⊎◌, inl, inr, ℕ, Bool, true, false, true≢false, cond, zero, suc, take, ◌||◌, List, [], ◌∷◌, map, Option, Some, None, Result, Ok, Err, refl, sym, ap, ◌∙◌, subst}
 use Rattle.std.specs.List.{list_any}
 use Rattle.std.specs.Option.{option_and_then}
 use Rattle.std.proofs.lemmas.Bool.{cases_Bool}
@@ -23,7 +23,7 @@ use Rattle.fr_base.proofs.SoundLaws.{holder, one_frame, opening-sound}
 use Rattle.fr_base.proofs.RefusedSteps.{step-unchanged}
 use Rattle.fr_base.proofs.AloneSteps.{step-alone, step-not_mine}
 use Rattle.fr_base.proofs.AloneRuns.{opening-alone}
-use Rattle.fr_http.proofs.AloneActors.{actor-alone, is_heard, mine-heard, not_lacked}
+use Rattle.fr_http.proofs.AloneActors.{actor-alone, is_heard, mine-heard, nobody-alone, not_lacked}
 use Rattle.fr_cli.specs.Asked.{ask_in, asked, request_in, sender_of}
 use Rattle.fr_cli.specs.ScriptRun.{AreAnswered, AreAsIfAlone, Replied, WasCollisionFreeAfter, answers_of, answers_to, asks_in, book_after, book_then, is_own, line_step, lines_of, outcome_of, with_ask}
 
@@ -142,24 +142,25 @@ lines-steps c b last (line ∷ lines) (answer ∷ answers) so given =
 -- ---- who sends a line, in the register of one supplier alone
 
 module _ (s : Name) where
-  own-heard : (sender : Option Actor) (request : Option Request) (answer : Answer) → is_own s sender request answer ≡ true → is_heard s sender ≡ true
-  own-heard None request answer own = own
-  own-heard (Some Integrator) request answer own = refl
-  own-heard (Some (Supplier t)) None answer own = own
-  own-heard (Some (Supplier t)) (Some request) answer own = mine-heard s (Supplier t) request answer own
+  own-heard : (sender : Option Actor) (request : Option Request) (answer : Answer) → is_own s sender request answer ≡ true → (is_heard s sender ≡ true) ⊎ (sender ≡ None)
+  own-heard None request answer own = inr refl
+  own-heard (Some Integrator) request answer own = inl refl
+  own-heard (Some (Supplier t)) None answer own = inl own
+  own-heard (Some (Supplier t)) (Some request) answer own = inl (mine-heard s (Supplier t) request answer own)
 
   module _ (c : Cluster) (b : Book) where
-    sender-alone : (parts : Option (List ℕ × List ℕ)) → is_heard s (option_and_then (λ p. actor_of c b p.0) parts) ≡ true →
-        option_and_then (λ p. actor_of c (rows_of s b) p.0) parts ≡ option_and_then (λ p. actor_of c b p.0) parts
+    sender-alone : (parts : Option (List ℕ × List ℕ)) → let sender = option_and_then (λ p. actor_of c b p.0) parts in
+        (is_heard s sender ≡ true) ⊎ (sender ≡ None) → option_and_then (λ p. actor_of c (rows_of s b) p.0) parts ≡ sender
     sender-alone None own = refl
-    sender-alone (Some parts) own = actor-alone s c b parts.0 own
+    sender-alone (Some parts) (inl heard) = actor-alone s c b parts.0 heard
+    sender-alone (Some parts) (inr nobodys) = nobody-alone s c b parts.0 nobodys ∙ sym nobodys
 
     -- ---- a line, in that register
 
     outcome-own : (d : Book) (request : Option Request) (sender : Option Actor) (answer : Answer) → IsSound c b → Replied c b (asked request sender) answer d →
         is_own s sender request answer ≡ true → outcome_of c (rows_of s b) (asked request sender) ≡ record { book = rows_of s d; answer = answer }
     outcome-own d None sender answer sound replied own = λ i. record { book = rows_of s (sym replied.1 i); answer = sym replied.0 i }
-    outcome-own d (Some request) None answer sound replied own = cc
+    outcome-own d (Some request) None answer sound replied own = λ i. record { book = rows_of s (sym replied.1 i); answer = sym replied.0 i }
     outcome-own d (Some request) (Some actor) answer sound (inl lacks) own =
         absurd (true≢false (sym own ∙ ap (is_mine s actor request) lacks.1 ∙ not_lacked s actor request))
     outcome-own d (Some request) (Some actor) answer sound (inr steps) own =

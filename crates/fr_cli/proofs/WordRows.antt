@@ -4,7 +4,7 @@ use Rattle.clap.proofs.OnLiterals.{clap_on_literals}
 use Rattle.clap.specs.Walk.{one_of}
 use Rattle.clap.specs.Words.{IsAmong, fault_of, subcommand_of}
 use Rattle.clap.specs.declared.error.kind.ErrorKind.TheVariants as kinds
-use Rattle.fr_base.specs.declared.query.Query.TheVariants.{Variant as OfVariant}
+use Rattle.fr_base.specs.declared.query.Query.TheVariants.{Variant as OfVariant, Difference as OfTwo}
 use Rattle.fr_base.specs.declared.report.Report.TheVariants.{Schedule}
 use Rattle.fr_cli.specs.Commands.{slotplan}
 use Rattle.fr_cli.specs.Words.{AskFor, IsFaultOf}
@@ -61,6 +61,25 @@ other_rows_are_taken : fault_of slotplan (codes "export" ∷ codes "car.db" ∷ 
 unfolding clap_on_literals
 other_rows_are_taken = refl
 
+-- a file is tried as a replacement where that is said, and else as an import
+try_is_taken : fault_of slotplan (codes "try" ∷ codes "car.db" ∷ codes "supplier01" ∷ codes "v1" ∷ codes "rows.csv" ∷ codes "--replace" ∷ []) ≡ []
+unfolding clap_on_literals
+try_is_taken = refl
+
+flag_is_set : option_map (λ found. one_of (codes "replace") found.1)
+    (subcommand_of slotplan (codes "try" ∷ codes "--replace" ∷ codes "car.db" ∷ codes "supplier01" ∷ codes "v1" ∷ codes "rows.csv" ∷ [])) ≡ Some (Some (codes "true"))
+unfolding clap_on_literals
+flag_is_set = refl
+
+flag_is_not_set : option_map (λ found. one_of (codes "replace") found.1)
+    (subcommand_of slotplan (codes "try" ∷ codes "car.db" ∷ codes "supplier01" ∷ codes "v1" ∷ codes "rows.csv" ∷ [])) ≡ Some (Some (codes "false"))
+unfolding clap_on_literals
+flag_is_not_set = refl
+
+flag_has_no_word : fault_of slotplan (codes "try" ∷ codes "car.db" ∷ codes "supplier01" ∷ codes "v1" ∷ codes "rows.csv" ∷ codes "--replace=true" ∷ []) ≡ kinds.TooManyValues ∷ []
+unfolding clap_on_literals
+flag_has_no_word = refl
+
 wants_help : fault_of slotplan (codes "--help" ∷ []) ≡ kinds.DisplayHelp ∷ []
 unfolding clap_on_literals
 wants_help = refl
@@ -101,6 +120,13 @@ schedule_is_asked : (db variant : Bor (List ℕ)) → db.now ≡ codes "car.db" 
     → AskFor (codes "schedule" ∷ codes "car.db" ∷ codes "v1" ∷ []) (job.Report db (record { query = OfVariant variant Schedule; supplier = None }))
 unfolding clap_on_literals
 schedule_is_asked db variant is of = (refl, ap (λ (t : List ℕ). Some t) (sym is), ((ap (λ (t : List ℕ). Some t) (sym of), tt), refl))
+
+-- what is compared is the second variant, with the first
+difference_is_asked : (db variant from : Bor (List ℕ)) → db.now ≡ codes "car.db" → variant.now ≡ codes "v2" → from.now ≡ codes "v1"
+    → AskFor (codes "diff" ∷ codes "car.db" ∷ codes "v1" ∷ codes "v2" ∷ []) (job.Report db (record { query = OfTwo variant from; supplier = None }))
+unfolding clap_on_literals
+difference_is_asked db variant from is of since =
+    (refl, ap (λ (t : List ℕ). Some t) (sym is), ((ap (λ (t : List ℕ). Some t) (sym of), ap (λ (t : List ℕ). Some t) (sym since)), refl))
 
 -- a request for help is no mistake
 help_is_no_usage : (text : String Global) → IsFaultOf (codes "--help" ∷ []) (Usage text) → ⊥

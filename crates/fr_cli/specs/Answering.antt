@@ -11,7 +11,7 @@ use Rattle.fr_base.specs.declared.refusal.Refusal.{Refusal}
 use Rattle.fr_base.specs.declared.refusal.Refusal.TheVariants.{Unavailable}
 use Rattle.fr_base.specs.declared.request.Ask.{Ask}
 use Rattle.fr_cli.specs.Asked.{ask_in}
-use Rattle.fr_cli.specs.Asking.{line_of}
+use Rattle.fr_cli.specs.Outcomes.{line_of}
 use Rattle.fr_cli.specs.Output.{text_of_answers}
 use Rattle.fr_cli.specs.ScriptRun.{AreAnswered, Replied}
 use Rattle.fr_cli.specs.declared.script_fault.ScriptFault.{ScriptFault}

@@ -1,26 +1,27 @@
--- Report, change: what a command asks of a register, and what it prints of the answer. That is the report, the answer's
--- line, or the line of one that refuses.
-use Rattle.std.specs.Prelude.{◌≡◌, ◌⊎◌, ◌++◌, ℕ, List, Bool, true, false, Result, Ok, Err, codes}
+-- Report, change, trial: what a command asks of a register, and what it prints of the answer. That is the report, the
+-- answer's line, or the line of one that refuses.
+use Rattle.std.specs.Prelude.{◌≡◌, ◌⊎◌, ℕ, List, Result, Ok, Err}
 use Rattle.std.specs.Global.{Vec}
 use Rattle.fr_base.specs.Actors.{actor_of}
 use Rattle.fr_base.specs.Book.{Book}
 use Rattle.fr_base.specs.Cluster.{Cluster}
 use Rattle.fr_base.specs.declared.answer.Answer.{Answer}
-use Rattle.fr_base.specs.declared.answer.Answer.TheVariants.{Refused, RefusedRow}
+use Rattle.fr_base.specs.declared.answer.Answer.TheVariants.{Refused}
 use Rattle.fr_base.specs.declared.refusal.Refusal.{Refusal}
 use Rattle.fr_base.specs.declared.refusal.Refusal.TheVariants.{NoSupplier, UnknownKey}
 use Rattle.fr_base.specs.declared.request.Ask.{Ask}
 use Rattle.fr_base.specs.declared.request.Request.{Request}
-use Rattle.fr_text.specs.AnswerText.{text_of}
 use Rattle.fr_http.specs.Asking.{Standing}
 use Rattle.fr_http.specs.Connection.{InSound}
 use Rattle.fr_cli.specs.Asked.{asked_by}
+use Rattle.fr_cli.specs.Outcomes.{line_of, outcome_of, printed_of}
 use Rattle.fr_cli.specs.Queries.{reader_of, request_for}
 use Rattle.fr_cli.specs.ScriptRun.{Replied}
 use Rattle.fr_cli.specs.declared.query.Inquiry.{Inquiry}
 use Rattle.fr_cli.specs.declared.failure.Failure.{Failure}
 use Rattle.fr_cli.specs.declared.failure.Failure.TheVariants as failure
 use Rattle.fr_cli.specs.declared.fault.Fault.TheVariants.{NoMemory}
+use Rattle.fr_cli.specs.declared.outcome.Outcome.TheVariants as outcome
 
 -- the report is asked for by who reads it
 abbrev pub query_of : Inquiry → Cluster → Book → Result Ask Refusal
@@ -29,12 +30,6 @@ query_of query c b = asked_by (reader_of query) (request_for query)
 -- whoever has the key asks for this
 abbrev pub asked_with : List ℕ → Request → Cluster → Book → Result Ask Refusal
 asked_with key request c b = asked_by (actor_of c b key) request
-
--- whether the answer refuses what was asked
-abbrev pub is_refusal : Answer → Bool
-is_refusal (Refused refusal) = true
-is_refusal (RefusedRow line refusal) = true
-is_refusal _ = false
 
 -- the answer as a reader is told it whom the command line names: it gave no key, so nobody of that name is no such supplier
 abbrev pub for_reader : Answer → Answer
@@ -45,10 +40,6 @@ for_reader answer = answer
 abbrev pub IsForReader : (Answer → Type 0) → Answer → Type 0
 IsForReader Is answer = (given : Answer) × Is given × (answer ≡ for_reader given)
 
--- the answer on a line of its own
-abbrev pub line_of : Answer → List ℕ
-line_of answer = text_of answer ++ codes "\n"
-
 -- In each sound book for which the register stood this was asked, and may be answered so; and the register stands for the book
 -- after it.
 abbrev pub IsAnswer : Type 0 → Standing → Standing → (Cluster → Book → Result Ask Refusal) → Answer → Type 0
@@ -58,13 +49,19 @@ IsAnswer clean old new asks answer = clean → InSound old (λ c b. (last : Book
 abbrev pub Leads : Type 0 → Standing → Standing → (Cluster → Book → Result Ask Refusal) → Type 0
 Leads clean old new asks = clean → InSound old (λ c b. (last : Book) × ((last ≡ b) ⊎ ((answer : Answer) × Replied c b (asks c b) answer last)) × new c last)
 
--- What is printed is this text of the answer; where it is a refusal, its line; or memory was wanting.
-abbrev pub Prints : (Answer → Type 0) → (Answer → List ℕ) → Result (Vec ℕ) Failure → Type 0
-Prints Is print (Ok text) = (answer : Answer) × Is answer × (is_refusal answer ≡ false) × (text.items ≡ print answer)
-Prints Is print (Err (failure.Refused line)) = (answer : Answer) × Is answer × (is_refusal answer ≡ true) × (line.items ≡ line_of answer)
-Prints Is print (Err (failure.Fault fault)) = fault ≡ NoMemory
+-- How a job ends that was answered so: what is printed of the answer, by its outcome; or memory was wanting.
+abbrev pub Prints : (Answer → Type 0) → Result (Vec ℕ) Failure → Type 0
+Prints Is (Ok text) = (answer : Answer) × Is answer × (outcome_of answer ≡ outcome.Done) × (text.items ≡ printed_of answer)
+Prints Is (Err (failure.RefusedRows text)) = (answer : Answer) × Is answer × (outcome_of answer ≡ outcome.RefusedRows) × (text.items ≡ printed_of answer)
+Prints Is (Err (failure.Refused line)) = (answer : Answer) × Is answer × (outcome_of answer ≡ outcome.Refused) × (line.items ≡ line_of answer)
+Prints Is (Err (failure.Fault fault)) = fault ≡ NoMemory
+
+-- The job ends so by this answer.
+abbrev pub IsToldBy : Answer → Result (Vec ℕ) Failure → Type 0
+IsToldBy answer done = Prints (λ a. a ≡ answer) done
 
 -- What failed so was answered by this line; or memory was wanting for it.
 abbrev pub IsRefusedBy : Answer → Failure → Type 0
+IsRefusedBy answer (failure.RefusedRows text) = ⊥
 IsRefusedBy answer (failure.Refused line) = line.items ≡ line_of answer
 IsRefusedBy answer (failure.Fault fault) = fault ≡ NoMemory

@@ -24,6 +24,7 @@ use Rattle.fr_cli.specs.declared.text_file.TextFile.TheVariants as of
 -- The bytes are a cluster file; or they are none, and the line begins with the word of their fault; or memory was wanting.
 abbrev pub IsChecked : List ℕ → Result (Vec ℕ) Failure → Type 0
 IsChecked bytes (Ok text) = (f : ClusterFile) × (config_of bytes ≡ Ok f)
+IsChecked bytes (Err (failure.RefusedRows text)) = ⊥
 IsChecked bytes (Err (failure.Refused line)) = (fault : ConfigFault) × (place : List ℕ) × (config_of bytes ≡ Err fault)
     × (line.items ≡ word_line (config_fault_word fault ++ codes ": " ++ place))
 IsChecked bytes (Err (failure.Fault fault)) = fault ≡ NoMemory
@@ -66,6 +67,7 @@ fine_rows told = fine_line (codes "rows") (length told - 1)
 -- What is told of the file so has no fault, and that is said so; or each fault is a line; or memory was wanting.
 abbrev pub AreChecked : (List LineFaults → Type 0) → (List LineFaults → List ℕ) → Result (Vec ℕ) Failure → Type 0
 AreChecked AreTold print (Ok text) = (told : List LineFaults) × AreTold told × (all_fine told ≡ true) × (text.items ≡ print told)
+AreChecked AreTold print (Err (failure.RefusedRows text)) = ⊥
 AreChecked AreTold print (Err (failure.Refused line)) = (told : List LineFaults) × AreTold told × (all_fine told ≡ false) × (line.items ≡ all_lines told)
 AreChecked AreTold print (Err (failure.Fault fault)) = fault ≡ NoMemory
 
@@ -78,5 +80,6 @@ IsCheckedAs (of.Rows path) bytes done = AreChecked (AreToldOfRows bytes) fine_ro
 -- Some bytes were read and checked so; or the file cannot be read, or memory was wanting.
 abbrev pub IsCheckedFile : TextFile → Result (Vec ℕ) Failure → Type 0
 IsCheckedFile file (Ok text) = (bytes : List ℕ) × IsCheckedAs file bytes (Ok text)
+IsCheckedFile file (Err (failure.RefusedRows text)) = ⊥
 IsCheckedFile file (Err (failure.Refused line)) = (bytes : List ℕ) × IsCheckedAs file bytes (Err (failure.Refused line))
 IsCheckedFile file (Err (failure.Fault fault)) = (fault ≡ CannotOpen) ⊎ (fault ≡ NoMemory)

@@ -2,7 +2,7 @@
 use Rattle.std.specs.Prelude.{◌∷◌, [], ◌≡◌, Some, pos, true, false, codes}
 use Rattle.clap.specs.Simple.{new_shape}
 use Rattle.clap.specs.Words.{App, Rule, Text, app_of, new_app, new_rule, with_rule, with_subcommand}
-use Rattle.clap.specs.declared.builder.action.ArgAction.TheVariants.{Set}
+use Rattle.clap.specs.declared.builder.action.ArgAction.TheVariants.{Set, SetTrue}
 use Rattle.clap.specs.declared.builder.command.Command.{Command}
 use Rattle.clap.specs.declared.builder.command.Command.TheViews.{out-Command as fields_of}
 use Rattle.clap.specs.declared.builder.value_parser.ValueParser.TheVariants.{Signed}
@@ -62,6 +62,9 @@ supplier = record (new_rule (codes "supplier")) { long = Some (codes "supplier")
 abbrev pub inventory : Text → App
 inventory name = with_rule (with_rule (new_app name) (word (codes "DB"))) supplier
 
+abbrev pub diff : App
+diff = with_rule (with_rule (with_rule (with_rule (new_app (codes "diff")) (word (codes "DB"))) (word (codes "FROM"))) (word (codes "TO"))) supplier
+
 -- `grants`, `frames`, `schedule`, `gaps`, `load` and `picture`
 abbrev pub report : Text → App
 report name = with_rule (with_rule (with_rule (new_app name) (word (codes "DB"))) (word (codes "VARIANT"))) supplier
@@ -103,6 +106,14 @@ abbrev pub import_words : App
 import_words = with_rule (with_rule (with_rule (with_rule (with_rule (new_app (codes "import")) (word (codes "DB"))) (word (codes "KEY")))
     (word (codes "VARIANT"))) (word (codes "LABEL"))) (word (codes "FILE"))
 
+-- a word that is given or left out
+abbrev pub flag : Text → Rule
+flag name = record (new_rule name) { long = Some name; action = Some SetTrue }
+
+abbrev pub try_words : App
+try_words = with_rule (with_rule (with_rule (with_rule (with_rule (new_app (codes "try")) (word (codes "DB"))) (word (codes "KEY")))
+    (word (codes "VARIANT"))) (word (codes "FILE"))) (flag (codes "replace"))
+
 -- a file that may be named
 abbrev pub file : Text → Rule
 file name = record (new_rule name) { long = Some name; action = Some Set; value_names = 1 }
@@ -122,12 +133,12 @@ unasked name = record {
 
 -- the program, with one subcommand for each job
 abbrev pub slotplan : App
-slotplan = with_subcommand (with_subcommand (with_subcommand (with_subcommand (with_subcommand (with_subcommand (with_subcommand (with_subcommand (with_subcommand
+slotplan = with_subcommand (with_subcommand (with_subcommand (with_subcommand (with_subcommand (with_subcommand (with_subcommand (with_subcommand (with_subcommand (with_subcommand (with_subcommand
     (with_subcommand (with_subcommand (with_subcommand (with_subcommand (with_subcommand (with_subcommand (with_subcommand (with_subcommand (with_subcommand
     (with_subcommand (with_subcommand (with_subcommand (unasked (codes "slotplan"))
-    run.top) create.top) migrate.top) serve.top) ask.top) (inventory (codes "cluster")).top) (inventory (codes "variants")).top) (inventory (codes "nodes")).top)
+    run.top) create.top) migrate.top) serve.top) ask.top) (inventory (codes "cluster")).top) (inventory (codes "variants")).top) (inventory (codes "nodes")).top) diff.top)
     (report (codes "grants")).top) (report (codes "frames")).top) (report (codes "schedule")).top) (report (codes "gaps")).top) (report (codes "load")).top)
-    layout.top) room.top) export.top) (report (codes "picture")).top) import_words.top) replace_words.top) check.top) explain.top
+    layout.top) room.top) export.top) (report (codes "picture")).top) import_words.top) replace_words.top) try_words.top) check.top) explain.top
 
 -- The command is read so, and has no argument that its subcommands have too.
 abbrev pub IsReadAs : App → Command → Type 0

@@ -1,15 +1,16 @@
--- Delivery: a file of rows that a supplier delivers, and the request for it: an import, or a replacement.
+-- Delivery: a file of rows that a supplier delivers, and the request for it: an import, a replacement, or a trial.
 use Rattle.std.specs.Prelude.{ℕ, List}
 use Rattle.fr_base.specs.declared.request.Request.{Request}
 use Rattle.fr_base.specs.declared.request.Request.TheVariants as request
 use Rattle.fr_cli.specs.declared.delivery.Delivery.{Delivery}
 use Rattle.fr_cli.specs.declared.delivery.DeliveryKind.{DeliveryKind}
-use Rattle.fr_cli.specs.declared.delivery.DeliveryKind.TheVariants.{Import, Replacement}
+use Rattle.fr_cli.specs.declared.delivery.DeliveryKind.TheVariants.{Import, Replacement, Trial}
 
 -- the request for a file with these bytes, as that of this variant
 abbrev pub request_as : DeliveryKind → List ℕ → List ℕ → Request
 request_as (Import label) variant body = request.Import variant label.now body
 request_as Replacement variant body = request.Replace variant body
+request_as (Trial replaces) variant body = request.Try variant replaces body
 
 -- the request that delivers a file with these bytes
 abbrev pub request_with : Delivery → List ℕ → Request

@@ -36,8 +36,10 @@ IsPrinted text out out' err err' status =
     ((status ≡ 0) × Appends out out' text × Keeps err err')
     ⊎ ((status ≡ 1) × AppendsLess out out' text × AppendsFront err err' (word_line (fault_word WriteFailed)))
 
--- What a job gives is printed. Of one that is not done its refusal's line is said, or its fault's, as far as it can be written.
+-- What a job gives is printed. So is what it tells of rows that would be refused, and the status is 1. Of another that is not done its
+-- refusal's line is said, or its fault's, as far as it can be written.
 abbrev pub IsTold : Result (Vec ℕ) Failure → Option (List ℕ) → Option (List ℕ) → Option (List ℕ) → Option (List ℕ) → ℕ → Type 0
 IsTold (Ok text) out out' err err' status = IsPrinted text.items out out' err err' status
+IsTold (Err (failure.RefusedRows text)) out out' err err' status = (status ≡ 1) × ((printed : ℕ) × IsPrinted text.items out out' err err' printed)
 IsTold (Err (failure.Refused line)) out out' err err' status = (status ≡ 1) × Keeps out out' × AppendsFront err err' line.items
 IsTold (Err (failure.Fault fault)) out out' err err' status = (status ≡ 1) × Keeps out out' × AppendsFront err err' (word_line (fault_word fault))

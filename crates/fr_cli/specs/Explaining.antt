@@ -22,8 +22,10 @@ IsUnknown word text = (alike : List ℕ) × ListsAlike word alike
 -- The word is explained, or the refusal that has this number, and this is its text; or it is not, and refused. Without a word, each that is explained has its line.
 abbrev pub IsExplained : Option (Bor (List ℕ)) → Result (Vec ℕ) Failure → Type 0
 IsExplained None (Ok text) = ListsAll text.items
+IsExplained None (Err (failure.RefusedRows text)) = ⊥
 IsExplained None (Err (failure.Refused line)) = ⊥
 IsExplained None (Err (failure.Fault fault)) = fault ≡ NoMemory
 IsExplained (Some word) (Ok text) = Explains (meant word.now) (Some text)
+IsExplained (Some word) (Err (failure.RefusedRows text)) = ⊥
 IsExplained (Some word) (Err (failure.Refused line)) = Explains (meant word.now) None × IsUnknown word.now line.items
 IsExplained (Some word) (Err (failure.Fault fault)) = fault ≡ NoMemory

@@ -10,6 +10,7 @@ pub mod Words
 pub mod Faults
 pub mod Queries
 pub mod Deliveries
+pub mod Outcomes
 pub mod Asking
 pub mod Keys
 pub mod Reading

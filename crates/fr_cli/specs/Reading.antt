@@ -8,7 +8,8 @@ use Rattle.fr_base.specs.declared.answer.Answer.TheVariants as answer
 use Rattle.fr_base.specs.declared.refusal.Refusal.{Refusal}
 use Rattle.fr_http.specs.Asking.{Standing}
 use Rattle.fr_http.specs.Connection.{InSound}
-use Rattle.fr_cli.specs.Asking.{for_reader, line_of}
+use Rattle.fr_cli.specs.Asking.{for_reader}
+use Rattle.fr_cli.specs.Outcomes.{line_of}
 use Rattle.fr_cli.specs.declared.failure.Failure.{Failure}
 use Rattle.fr_cli.specs.declared.failure.Failure.TheVariants as failure
 use Rattle.fr_cli.specs.declared.fault.Fault.{Fault}
@@ -28,5 +29,6 @@ Stays clean old new = clean → InSound old (λ c b. new c b)
 -- What is printed is such a text of what was read; where that was refused, the refusal's line; or such a fault ended it.
 abbrev pub PrintsRead : {X : Type 0} → (Fault → Type 0) → (Result X Refusal → Type 0) → (X → List ℕ → Type 0) → Result (Vec ℕ) Failure → Type 0
 PrintsRead {X} May Is IsText (Ok text) = (x : X) × Is (Ok x) × IsText x text.items
+PrintsRead May Is IsText (Err (failure.RefusedRows text)) = ⊥
 PrintsRead May Is IsText (Err (failure.Refused line)) = (refusal : Refusal) × Is (Err refusal) × (line.items ≡ line_of (for_reader (answer.Refused refusal)))
 PrintsRead May Is IsText (Err (failure.Fault fault)) = May fault

@@ -1,9 +1,9 @@
 -- Run of lines: how lines may be answered one after another. What a line asks is a step, and a line that asks nothing
--- is refused. What answered lines ask. Which of them are one supplier's: those with its key once it is there, unless they were answered
--- `Unavailable`, and the integrator's that were done and are common or name it. When the supplier is answered as if it
--- were alone: a new register of the cluster file with this supplier alone gives these lines, one after another, the
--- same answers, and ends with the same rows of the supplier.
-use Rattle.std.specs.Prelude.{◌≡◌, ℕ, Bool, false, List, [], ◌∷◌, map, take, Option, Some, None, Result, Ok, Err, if◌then◌else◌}
+-- is refused. What answered lines ask. Which of them are one supplier's: those with its key, unless they were answered `Unavailable`; those
+-- without a key, or whose key is nobody's, as its own is before it joins; and the integrator's that were done and are common or name it. When
+-- the supplier is answered as if it were alone: a new register of the cluster file with this supplier alone gives these lines, one after
+-- another, the same answers, and ends with the same rows of the supplier.
+use Rattle.std.specs.Prelude.{◌≡◌, ℕ, Bool, true, false, List, [], ◌∷◌, map, take, Option, Some, None, Result, Ok, Err, if◌then◌else◌}
 use Rattle.fr_base.specs.Alone.{alone, is_mine, is_unavailable, rows_of}
 use Rattle.fr_base.specs.Book.{Book, opening}
 use Rattle.fr_base.specs.Cluster.{Cluster, ClusterFile}
@@ -11,7 +11,7 @@ use Rattle.fr_base.specs.Names.{same_text}
 use Rattle.fr_base.specs.Run.{IsRun}
 use Rattle.fr_base.specs.Step.{Outcome, step}
 use Rattle.fr_base.specs.declared.actor.Actor.{Actor}
-use Rattle.fr_base.specs.declared.actor.Actor.TheVariants.{Supplier}
+use Rattle.fr_base.specs.declared.actor.Actor.TheVariants.{Integrator, Supplier}
 use Rattle.fr_base.specs.declared.answer.Answer.{Answer}
 use Rattle.fr_base.specs.declared.answer.Answer.TheVariants.{Refused}
 use Rattle.fr_base.specs.declared.name.Name.{Name}
@@ -84,13 +84,14 @@ asks_in c b _ _ = []
 
 -- ---- what of answered lines is one supplier's
 
--- Whether a line that was sent so, and answered so, is the supplier's. What it asks is: then it is the supplier's own, unless it was
--- answered Unavailable, or a command of the integrator's that was done and is common or names the supplier. Or it asks nothing, and has
--- the supplier's key.
+-- Whether a line that was sent so, and answered so, is among the supplier's. Nobody sends it: it has no key, or its key is nobody's, as the
+-- supplier's is before it joins. Or what it asks is the supplier's: then it is its own, unless it was answered Unavailable, or a command of
+-- the integrator's that was done and is common or names the supplier. Or it asks nothing, and has the supplier's key.
 abbrev pub is_own : Name → Option Actor → Option Request → Answer → Bool
+is_own s None request answer = true
 is_own s (Some actor) (Some request) answer = is_mine s actor request answer
 is_own s (Some (Supplier t)) None answer = same_text t s
-is_own s _ _ answer = false
+is_own s (Some Integrator) None answer = false
 
 -- the supplier's of lines that were answered so, each by its sender as the book then stood, in order and each with its answer
 abbrev pub own_lines : Name → Cluster → Book → List (List ℕ) → List Answer → List (List ℕ × Answer)

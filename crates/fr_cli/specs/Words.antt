@@ -1,6 +1,6 @@
 -- Program's words: which job the words of the command line name, and which number a word is. When `clap` takes them; and
 -- why they are refused: they ask for help, have another fault, or name no job.
-use Rattle.std.specs.Prelude.{◌≡◌, ◌≢◌, ◌≤◌, ◌⊎◌, [], ℕ, List, None, Option, Some, codes, option_map, ⊤}
+use Rattle.std.specs.Prelude.{◌≡◌, ◌≢◌, ◌≤◌, ◌⊎◌, [], ℕ, Bool, true, false, List, None, Option, Some, codes, option_map, ⊤}
 use Rattle.std.specs.Borrow.{Bor}
 use Rattle.std.specs.Str.Parse.{IsNumeral, digits_value, without_leading_plus}
 use Rattle.clap.specs.Walk.{Row, Text, first_of, one_of}
@@ -11,7 +11,7 @@ use Rattle.fr_base.specs.Queries.{word_of, word_of_inventory}
 use Rattle.fr_base.specs.declared.import.Header.{Header}
 use Rattle.fr_base.specs.declared.import.Header.TheVariants.{Frames, Placements, Signals}
 use Rattle.fr_base.specs.declared.query.Query.{Query}
-use Rattle.fr_base.specs.declared.query.Query.TheVariants.{Register as OfRegister, Variant as OfVariant}
+use Rattle.fr_base.specs.declared.query.Query.TheVariants.{Register as OfRegister, Variant as OfVariant, Difference as OfTwo}
 use Rattle.fr_base.specs.declared.report.Report.{Report}
 use Rattle.fr_base.specs.declared.report.Report.TheVariants.{Layout, Room, Export}
 use Rattle.fr_cli.specs.Commands.{slotplan}
@@ -21,7 +21,7 @@ use Rattle.fr_cli.specs.declared.words.WordFault.{WordFault}
 use Rattle.fr_cli.specs.declared.words.WordFault.TheVariants.{Help, Usage, NoMemory}
 use Rattle.fr_cli.specs.declared.delivery.Delivery.{Delivery}
 use Rattle.fr_cli.specs.declared.delivery.DeliveryKind.{DeliveryKind}
-use Rattle.fr_cli.specs.declared.delivery.DeliveryKind.TheVariants.{Import as ByLabel, Replacement}
+use Rattle.fr_cli.specs.declared.delivery.DeliveryKind.TheVariants.{Import as ByLabel, Replacement, Trial}
 use Rattle.fr_cli.specs.declared.query.Inquiry.{Inquiry}
 use Rattle.fr_cli.specs.declared.text_file.TextFile.{TextFile}
 use Rattle.fr_cli.specs.declared.text_file.TextFile.TheVariants as of
@@ -40,6 +40,11 @@ HasNumber name least most rows number = (text : Text) × (one_of name rows ≡ S
 abbrev pub IsNumberIn : Option ℕ → Text → ℕ → ℕ → List Row → Type 0
 IsNumberIn (Some number) name least most rows = HasNumber name least most rows number
 IsNumberIn None name least most rows = (number : ℕ) → HasNumber name least most rows number → ⊥
+
+-- The flag is the one of this name: `clap` gives it the text `true` where it is among the words, and else `false` or none.
+abbrev pub IsFlagIn : Bool → Text → List Row → Type 0
+IsFlagIn flag name rows = (one_of name rows ≡ Some (codes "true") → flag ≡ true)
+    × (one_of name rows ≡ Some (codes "false") → flag ≡ false) × (one_of name rows ≡ None → flag ≡ false)
 
 -- the greatest number that a word may be where no other bound is named
 abbrev pub max_number : ℕ
@@ -65,6 +70,7 @@ word_of_report report = word_of report
 abbrev pub word_of_job : Query (Bor (List ℕ)) ℕ → Text
 word_of_job (OfRegister inventory) = word_of_inventory inventory
 word_of_job (OfVariant variant report) = word_of_report report
+word_of_job (OfTwo variant from) = codes "diff"
 
 -- The names and numbers of a report are the words at their places.
 abbrev pub HasReport : Report (Bor (List ℕ)) ℕ → List Row → Type 0
@@ -81,6 +87,7 @@ IsOfSupplier supplier rows = option_map (λ name. name.now) supplier ≡ first_o
 abbrev pub HasNames : Query (Bor (List ℕ)) ℕ → List Row → Type 0
 HasNames (OfRegister inventory) rows = ⊤
 HasNames (OfVariant variant report) rows = Has (codes "VARIANT") rows variant.now × HasReport report rows
+HasNames (OfTwo variant from) rows = Has (codes "TO") rows variant.now × Has (codes "FROM") rows from.now
 
 -- The query is of these words, and the supplier's that is named, if one is.
 abbrev pub IsQueryIn : List Row → Inquiry → Type 0
@@ -101,15 +108,17 @@ abbrev pub IsFileIn : Option TextFile → List Row → Type 0
 IsFileIn (Some file) rows = IsFileOf file rows
 IsFileIn None rows = (file : TextFile) → IsFileOf file rows → ⊥
 
--- the subcommand that delivers a file of rows
+-- the subcommand that delivers a file of rows, or tries it
 abbrev pub word_of_delivery : DeliveryKind → Text
 word_of_delivery (ByLabel label) = codes "import"
 word_of_delivery Replacement = codes "replace"
+word_of_delivery (Trial replaces) = codes "try"
 
--- The label of an import is the word at its place.
+-- The label of an import is the word at its place. A file is tried as a replacement where that is said.
 abbrev pub HasKind : DeliveryKind → List Row → Type 0
 HasKind (ByLabel label) rows = Has (codes "LABEL") rows label.now
 HasKind Replacement rows = ⊤
+HasKind (Trial replaces) rows = IsFlagIn replaces (codes "replace") rows
 
 -- The delivery is of these words.
 abbrev pub IsDeliveryIn : List Row → Delivery → Type 0

@@ -1,14 +1,15 @@
-//! Asks a register for a report or a change, and gives the text of its answer.
-ghost use Rattle.std.specs.Prelude.{◌≡◌};
-ghost use Rattle.fr_text.specs.AnswerText.{report_of};
+//! Asks a register for a report, a change or a trial, and gives the text of its answer.
+ghost use Rattle.std.specs.Prelude.{◌≡◌, IfOk};
 ghost use Rattle.fr_cli.specs.Asked.{asked_by};
 ghost use Rattle.fr_cli.specs.Reading.{Stays};
-ghost use Rattle.fr_cli.specs.Asking.{IsAnswer, IsForReader, IsRefusedBy, Leads, Prints, asked_with, for_reader, is_refusal, line_of, query_of};
+ghost use Rattle.fr_cli.specs.Asking.{IsAnswer, IsForReader, IsRefusedBy, IsToldBy, Leads, Prints, asked_with, for_reader, query_of};
+ghost use Rattle.fr_cli.specs.Outcomes.{printed_of};
 
 use crate::answering::actor_of;
 use crate::failure::Failure;
 use crate::fault::Fault;
 use crate::lines_out::line_of;
+use crate::outcome::{Outcome, outcome_of};
 use crate::query::Inquiry;
 use fr_base::{Actor, Answer, Ask, Desk, NoMemory, Refusal, Request};
 use fr_text::write_lines;
@@ -21,19 +22,15 @@ pub fn report_on<D: Desk>(
     query: Inquiry<'_>,
 ) -> Result<Vec<u8>, Failure>
     ensures falls { D.clean desk.new → D.clean desk.old }
-    ensures prints { Prints (IsForReader (IsAnswer (D.clean desk.new) (D.stands desk.old) (D.stands desk.new) (query_of query.entry))) report_of result }
+    ensures prints { Prints (IsForReader (IsAnswer (D.clean desk.new) (D.stands desk.old) (D.stands desk.new) (query_of query.entry))) result }
     ensures stays { Stays (D.clean desk.new) (D.stands desk.old) (D.stands desk.new) }
 {
     let request = query.request(alloc)?;
     let given = ask_as(alloc, desk, query.reader(), request);
-    let answer = for_reader(given);
-    if is_refusal(&answer) {
-        return Err(refused(alloc, &answer));
-    }
-    Ok(write_lines(alloc, &answer)?)
+    told(alloc, &for_reader(given))
 }
 
-/// Asks for a change as who has the key, and gives the line of the answer.
+/// Asks for a change, or for a trial, as who has the key, and gives what is printed of the answer.
 pub fn change<D: Desk>(
     alloc: Global,
     desk: &mut D,
@@ -41,14 +38,11 @@ pub fn change<D: Desk>(
     request: Request,
 ) -> Result<Vec<u8>, Failure>
     ensures falls { D.clean desk.new → D.clean desk.old }
-    ensures prints { Prints (IsAnswer (D.clean desk.new) (D.stands desk.old) (D.stands desk.new) (asked_with key.now request)) line_of result }
+    ensures prints { Prints (IsAnswer (D.clean desk.new) (D.stands desk.old) (D.stands desk.new) (asked_with key.now request)) result }
     ensures leads { Leads (D.clean desk.new) (D.stands desk.old) (D.stands desk.new) (asked_with key.now request) }
 {
     let answer = ask_by(alloc, desk, key, request);
-    if is_refusal(&answer) {
-        return Err(refused(alloc, &answer));
-    }
-    Ok(line_of(alloc, &answer)?)
+    told(alloc, &answer)
 }
 
 // Asks as who has the key.
@@ -81,11 +75,27 @@ fn for_reader(answer: Answer) -> Answer
     answer
 }
 
-// Whether the answer refuses what was asked.
-fn is_refusal(answer: &Answer) -> bool
-    ensures { result ≡ is_refusal answer.now }
+// How a job ends that was answered so, and what is printed of it.
+fn told(alloc: Global, answer: &Answer) -> Result<Vec<u8>, Failure>
+    ensures { IsToldBy answer.now result }
 {
-    matches!(answer, Answer::Refused(_) | Answer::RefusedRow { .. })
+    match outcome_of(answer) {
+        Outcome::Done => Ok(printed_of(alloc, answer)?),
+        Outcome::RefusedRows => Err(Failure::RefusedRows {
+            text: printed_of(alloc, answer)?,
+        }),
+        Outcome::Refused => Err(refused(alloc, answer)),
+    }
+}
+
+// The lines of a report, or the line of another answer.
+fn printed_of(alloc: Global, answer: &Answer) -> Result<Vec<u8>, NoMemory>
+    ensures { IfOk result (λ text. text.items ≡ printed_of answer.now) }
+{
+    match answer {
+        Answer::Report { .. } => write_lines(alloc, answer),
+        _ => line_of(alloc, answer),
+    }
 }
 
 /// The failure of a job in which a reader, whom the command line names, was refused so.

@@ -29,6 +29,7 @@ pub fn program<'a>(alloc: Global) -> Result<Command<'a>, AllocError>
         .subcommand(inventory(alloc, "cluster", CLUSTER_ABOUT, CLUSTER_HELP)?)?
         .subcommand(inventory(alloc, "variants", VARIANTS_ABOUT, VARIANTS_HELP)?)?
         .subcommand(inventory(alloc, "nodes", NODES_ABOUT, NODES_HELP)?)?
+        .subcommand(diff(alloc)?)?
         .subcommand(report(alloc, "grants", GRANTS_ABOUT, GRANTS_HELP)?)?
         .subcommand(report(alloc, "frames", FRAMES_ABOUT, FRAMES_HELP)?)?
         .subcommand(report(alloc, "schedule", SCHEDULE_ABOUT, SCHEDULE_HELP)?)?
@@ -40,6 +41,7 @@ pub fn program<'a>(alloc: Global) -> Result<Command<'a>, AllocError>
         .subcommand(report(alloc, "picture", PICTURE_ABOUT, PICTURE_HELP)?)?
         .subcommand(import(alloc)?)?
         .subcommand(replace(alloc)?)?
+        .subcommand(trial(alloc)?)?
         .subcommand(check(alloc)?)?
         .subcommand(explain(alloc)?)?;
     Ok(program)
@@ -163,6 +165,26 @@ fn inventory<'a>(
     Ok(command)
 }
 
+// What differs between two variants.
+fn diff<'a>(alloc: Global) -> Result<Command<'a>, AllocError>
+    ensures { IfOk result (IsReadAs app.diff) }
+{
+    let command = Command::new(alloc, "diff")
+        .about(
+            "Prints what differs between two variants: the rows that are gone, and those that are new",
+        )
+        .after_help(DIFF_HELP)
+        .arg(db(alloc))?
+        .arg(word(
+            alloc,
+            "FROM",
+            "The variant with which the other is compared",
+        ))?
+        .arg(word(alloc, "TO", "The variant that is compared"))?
+        .arg(supplier(alloc))?;
+    Ok(command)
+}
+
 fn report<'a>(
     alloc: Global,
     name: &'a str,
@@ -248,6 +270,25 @@ fn replace<'a>(alloc: Global) -> Result<Command<'a>, AllocError>
         .arg(key(alloc))?
         .arg(variant(alloc))?
         .arg(rows(alloc))?;
+    Ok(command)
+}
+
+// What would become of each row of a file.
+fn trial<'a>(alloc: Global) -> Result<Command<'a>, AllocError>
+    ensures { IfOk result (IsReadAs app.try_words) }
+{
+    let command = Command::new(alloc, "try")
+        .about("Says what would become of each row of a supplier's CSV file, and changes nothing")
+        .after_help(TRY_HELP)
+        .arg(db(alloc))?
+        .arg(key(alloc))?
+        .arg(variant(alloc))?
+        .arg(rows(alloc))?
+        .arg(flag(
+            alloc,
+            "replace",
+            "Tries it as replace would carry it out; without it, as import would",
+        ))?;
     Ok(command)
 }
 
@@ -378,6 +419,16 @@ fn file<'a>(alloc: Global, name: &'a str, help: &'a str) -> Arg<'a>
         .action(ArgAction::Set)
 }
 
+// A word that is given or left out.
+fn flag<'a>(alloc: Global, name: &'a str, help: &'a str) -> Arg<'a>
+    ensures { (rule_of result ≡ app.flag name.entry.now) × (result.global ≡ false) }
+{
+    Arg::new(alloc, name)
+        .long(name)
+        .help(help)
+        .action(ArgAction::SetTrue)
+}
+
 // A word that is to stand at its place.
 fn word<'a>(alloc: Global, name: &'a str, help: &'a str) -> Arg<'a>
     ensures { (rule_of result ≡ app.word name.entry.now) × (result.global ≡ false) }
@@ -489,6 +540,15 @@ Example:
   slotplan variants car.db
   slotplan variants car.db --supplier s1";
 
+const DIFF_HELP: &str = "\
+A line for each grant, frame, placement, signal and greatest gap that one of the two has
+and the other has not: - where FROM has it, + where TO has it. Behind it the supplier.
+With --supplier the last is left out.
+
+Example:
+  slotplan diff car.db v1 v2
+  slotplan diff car.db v1 v2 --supplier s1";
+
 const GRANTS_HELP: &str = "\
 Each line: slot, channel, node, supplier. With --supplier the last is left out.
 
@@ -578,6 +638,18 @@ it is read from standard input, whose first line it is.
 
 Example:
   slotplan replace car.db - v1 placements.csv < key.txt";
+
+const TRY_HELP: &str = "\
+A line for each row: its number (the header is 1), the number and the name of its refusal,
+and what it meets; or 00 done. A refused row changes nothing for those behind it. Where
+there is one the status is 1.
+
+Other users of the machine may see a key that stands on the command line. With - for KEY
+it is read from standard input, whose first line it is.
+
+Example:
+  slotplan try car.db - v1 placements.csv < key.txt
+  slotplan try car.db - v1 placements.csv --replace < key.txt";
 
 const CHECK_HELP: &str = "\
 Of a cluster file the first fault is told, of requests and rows each fault with its line.

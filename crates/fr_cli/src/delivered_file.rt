@@ -2,7 +2,7 @@
 ghost use Rattle.std.specs.Prelude.{◌≡◌, List, ℕ};
 ghost use Rattle.std.specs.Str.Lines.{lines};
 ghost use Rattle.sqlite_wal.specs.Files.{image_at};
-ghost use Rattle.fr_cli.specs.Asking.{asked_with, line_of};
+ghost use Rattle.fr_cli.specs.Asking.{asked_with};
 ghost use Rattle.fr_cli.specs.Faults.{IsNotDelivered, IsNotReported};
 ghost use Rattle.fr_cli.specs.Keys.{first_of};
 ghost use Rattle.fr_cli.specs.Performing.{Says};
@@ -43,7 +43,7 @@ pub fn deliver_file<S: Start, R: Read>(
     input: &mut R,
 ) -> (Result<Vec<u8>, Failure>, Left<S>)
     ensures { (body : List ℕ) × Says (IsNotDelivered (image_at S.Start) result.1 delivery.entry.key.now)
-        (IsDeliveryToFile (image_at S.Start) result.1 delivery.entry (R.remaining input.old) (R.remaining input.new) body) line_of result.0 }
+        (IsDeliveryToFile (image_at S.Start) result.1 delivery.entry (R.remaining input.old) (R.remaining input.new) body) result.0 }
 {
     match read_front(rt, delivery.file, FILE_BYTES) {
         Ok(body) => deliver(rt, db, start, delivery, &body, input),
@@ -61,7 +61,7 @@ fn deliver<S: Start, R: Read>(
     input: &mut R,
 ) -> (Result<Vec<u8>, Failure>, Left<S>)
     ensures { Says (IsNotDelivered (image_at S.Start) result.1 delivery.entry.key.now)
-        (IsDeliveryToFile (image_at S.Start) result.1 delivery.entry (R.remaining input.old) (R.remaining input.new) body.now) line_of result.0 }
+        (IsDeliveryToFile (image_at S.Start) result.1 delivery.entry (R.remaining input.old) (R.remaining input.new) body.now) result.0 }
 {
     match delivery.request(rt.alloc(), body) {
         Ok(request) => change_given(rt, db, start, delivery.key, request, input),
@@ -79,7 +79,7 @@ fn change_given<S: Start, R: Read>(
     input: &mut R,
 ) -> (Result<Vec<u8>, Failure>, Left<S>)
     ensures { Says (IsNotDelivered (image_at S.Start) result.1 key.now)
-        (IsAnswerToGiven (image_at S.Start) result.1 key.now request (R.remaining input.old) (R.remaining input.new)) line_of result.0 }
+        (IsAnswerToGiven (image_at S.Start) result.1 key.now request (R.remaining input.old) (R.remaining input.new)) result.0 }
 {
     if key != KEY_ON_INPUT {
         return change_file(rt, db, start, key.as_bytes(), request);
@@ -111,7 +111,7 @@ fn change_file<S: Start>(
     key: &[u8],
     request: Request,
 ) -> (Result<Vec<u8>, Failure>, Left<S>)
-    ensures { Says (IsNotReported (image_at S.Start) result.1) (IsAnswerOfFile (image_at S.Start) result.1 (asked_with key.now request)) line_of result.0 }
+    ensures { Says (IsNotReported (image_at S.Start) result.1) (IsAnswerOfFile (image_at S.Start) result.1 (asked_with key.now request)) result.0 }
 {
     match file_desk::open(rt, db, start) {
         Ok(mut desk) => {

@@ -1,4 +1,4 @@
-//! What a supplier delivers to a register: a file of rows, as an import or in place of earlier rows.
+//! What a supplier delivers to a register: a file of rows, as an import, in place of earlier rows, or to be tried.
 ghost use Rattle.std.specs.Prelude.{◌≡◌, IfOk};
 ghost use Rattle.fr_cli.specs.Deliveries.{request_with};
 
@@ -25,6 +25,8 @@ pub enum DeliveryKind<'a> {
     Import { label: &'a str },
     /// In place of what the frames that they name have.
     Replacement,
+    /// Not at all: it is told what would become of each of them, in place of what the frames have, or as an import.
+    Trial { replaces: bool },
 }
 
 impl Delivery<'_> {
@@ -41,6 +43,11 @@ impl Delivery<'_> {
                 body,
             }),
             DeliveryKind::Replacement => Ok(Request::Replace { variant, body }),
+            DeliveryKind::Trial { replaces } => Ok(Request::Try {
+                variant,
+                replaces,
+                body,
+            }),
         }
     }
 }

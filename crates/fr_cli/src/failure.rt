@@ -1,14 +1,16 @@
-//! A job that is not done: it was refused, or a fault ended it.
+//! A job that is not done: it was refused, or rows of a file would be, or a fault ended it.
 ghost use Rattle.std.specs.Prelude.{◌≡◌};
 
 use crate::fault::Fault;
 use fr_base::NoMemory;
 
-/// Why a job is not done: it was refused, or a fault ended it.
+/// Why a job is not done.
 #[derive(Debug, Drop)]
 pub enum Failure {
     /// It was refused; these are the lines that say so, with their ends.
     Refused { line: Vec<u8> },
+    /// Rows of a file that was tried would be refused; this text tells of each row.
+    RefusedRows { text: Vec<u8> },
     /// A fault ended it.
     Fault(Fault),
 }

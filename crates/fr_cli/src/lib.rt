@@ -21,6 +21,7 @@ mod laws;
 mod lines;
 mod lines_out;
 mod numbers;
+mod outcome;
 pub mod perform;
 mod picturing;
 mod printing;

@@ -4,8 +4,7 @@ ghost use Rattle.std.specs.Borrow.{Bor};
 ghost use Rattle.std.specs.Global.{Vec};
 ghost use Rattle.std.specs.Io.KnownBytes.{Appends, Keeps};
 ghost use Rattle.sqlite_wal.specs.Files.{image_at};
-ghost use Rattle.fr_text.specs.AnswerText.{report_of};
-ghost use Rattle.fr_cli.specs.Asking.{IsForReader, line_of, query_of};
+ghost use Rattle.fr_cli.specs.Asking.{IsForReader, query_of};
 ghost use Rattle.fr_cli.specs.Checking.{IsCheckedFile};
 ghost use Rattle.fr_cli.specs.Endings.{AppendsFront, IsPrinted, IsTold, Tells, status_of};
 ghost use Rattle.fr_cli.specs.Explaining.{IsExplained};
@@ -47,7 +46,7 @@ use std::alloc::Global;
 use std::io::{Read, Write};
 
 /// Does the job, and gives the status that the process ends with: 0 where it was done, 1 where the
-/// register refused it or a fault ended it. What cannot be written to `err` is lost. Beside the status it gives what is
+/// register refused it, or would refuse rows of a file that was tried, or a fault ended it. What cannot be written to `err` is lost. Beside the status it gives what is
 /// left of the job's register file, closed. `start` says what is supposed of that file.
 pub fn perform<S: Start, R: Read, O: Write, E: Write>(
     rt: &HostRuntime,
@@ -69,13 +68,13 @@ pub fn perform<S: Start, R: Read, O: Write, E: Write>(
     ensures ask { (db : Bor (List ℕ)) → job.now ≡ Job.Ask db → (done : Result ⊤ Word) × (result.0 ≡ status_of done)
         × Tells (E.contents err.old) (E.contents err.new) done
         × IsAsked (image_at S.Start) result.1 (R.remaining input.old) (R.remaining input.new) (O.contents out.old) (O.contents out.new) done }
-    ensures report { (db : Bor (List ℕ)) (query : Inquiry) → job.now ≡ Job.Report db query → (done : Result (Vec ℕ) Ended) × Says (IsNotReported (image_at S.Start) result.1) (IsForReader (IsAnswerOfFile (image_at S.Start) result.1 (query_of query))) report_of done
+    ensures report { (db : Bor (List ℕ)) (query : Inquiry) → job.now ≡ Job.Report db query → (done : Result (Vec ℕ) Ended) × Says (IsNotReported (image_at S.Start) result.1) (IsForReader (IsAnswerOfFile (image_at S.Start) result.1 (query_of query))) done
         × IsTold done (O.contents out.old) (O.contents out.new) (E.contents err.old) (E.contents err.new) result.0 }
     ensures picture { (db variant : Bor (List ℕ)) (supplier : Option (Bor (List ℕ))) → job.now ≡ Job.Picture db variant supplier → (done : Result (Vec ℕ) Ended) × PrintsRead (IsNotReported (image_at S.Start) result.1) (IsReadOfFile (image_at S.Start) result.1 (plans_for (named supplier) variant.now)) IsPage done
         × IsTold done (O.contents out.old) (O.contents out.new) (E.contents err.old) (E.contents err.new) result.0 }
     ensures deliver { (db : Bor (List ℕ)) (delivery : Delivery) → job.now ≡ Job.Deliver db delivery → (body : List ℕ) × (done : Result (Vec ℕ) Ended)
         × Says (IsNotDelivered (image_at S.Start) result.1 delivery.key.now)
-        (IsDeliveryToFile (image_at S.Start) result.1 delivery (R.remaining input.old) (R.remaining input.new) body) line_of done
+        (IsDeliveryToFile (image_at S.Start) result.1 delivery (R.remaining input.old) (R.remaining input.new) body) done
         × IsTold done (O.contents out.old) (O.contents out.new) (E.contents err.old) (E.contents err.new) result.0 }
     ensures check { (file : TextFile) → job.now ≡ Job.Check file → (done : Result (Vec ℕ) Ended) × IsCheckedFile file done
         × IsTold done (O.contents out.old) (O.contents out.new) (E.contents err.old) (E.contents err.new) result.0 }
@@ -190,7 +189,7 @@ fn report_file<S: Start>(
     start: S,
     query: Inquiry<'_>,
 ) -> (Result<Vec<u8>, Failure>, Left<S>)
-    ensures { Says (IsNotReported (image_at S.Start) result.1) (IsForReader (IsAnswerOfFile (image_at S.Start) result.1 (query_of query.entry))) report_of result.0 }
+    ensures { Says (IsNotReported (image_at S.Start) result.1) (IsForReader (IsAnswerOfFile (image_at S.Start) result.1 (query_of query.entry))) result.0 }
 {
     match file_desk::open(rt, db, start) {
         Ok(mut desk) => {

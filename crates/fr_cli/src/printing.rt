@@ -19,6 +19,10 @@ pub fn tell<O: Write, E: Write>(
 {
     match done {
         Ok(text) => print_all(&text, out, err),
+        Err(Failure::RefusedRows { text }) => {
+            let _ = print_all(&text, out, err);
+            1
+        }
         Err(Failure::Refused { line }) => {
             let _ = print(&line, err);
             1

@@ -3,7 +3,7 @@ ghost use Rattle.std.specs.Prelude.{◌≡◌, codes, map, option_map, string_by
 ghost use Rattle.clap.specs.Walk.{first_of, rows_of};
 ghost use Rattle.clap.specs.Words.{found_of, kind_of, subcommand_rows_of};
 ghost use Rattle.fr_base.specs.Queries.{word_of_inventory};
-ghost use Rattle.fr_cli.specs.Words.{AreTaken, AskFor, HasKind, HasReport, IsFaultOf, IsFileIn, IsHeaderIn, IsJobFound, IsJobIn, IsJobOf, IsNumberIn, IsOfKind, MayRefuse, word_of_delivery, word_of_report};
+ghost use Rattle.fr_cli.specs.Words.{AreTaken, AskFor, HasKind, HasReport, IsFaultOf, IsFileIn, IsFlagIn, IsHeaderIn, IsJobFound, IsJobIn, IsJobOf, IsNumberIn, IsOfKind, MayRefuse, word_of_delivery, word_of_report};
 
 use crate::commands::{MAX_CONNECTIONS, MAX_PORT, MAX_SECONDS, program};
 use crate::delivery::{Delivery, DeliveryKind};
@@ -57,7 +57,7 @@ pub enum Job<'a> {
         variant: &'a str,
         supplier: Option<&'a str>,
     },
-    /// Deliver a file of rows to a register.
+    /// Deliver a file of rows to a register, or try it there.
     Deliver {
         db: &'a str,
         delivery: Delivery<'a>,
@@ -138,6 +138,7 @@ fn named_job<'a>(name: &str, found: &ArgMatches<'a>) -> Option<Job<'a>>
         "cluster" => inventory_job(found, Inventory::Cluster),
         "variants" => inventory_job(found, Inventory::Variants),
         "nodes" => inventory_job(found, Inventory::Nodes),
+        "diff" => diff_job(found),
         "grants" => report_job(found, Report::Grants),
         "frames" => report_job(found, Report::Frames),
         "schedule" => report_job(found, Report::Schedule),
@@ -149,6 +150,7 @@ fn named_job<'a>(name: &str, found: &ArgMatches<'a>) -> Option<Job<'a>>
         "picture" => picture_job(found),
         "import" => import_job(found),
         "replace" => deliver_job(found, DeliveryKind::Replacement),
+        "try" => try_job(found),
         "check" => check_job(found),
         "explain" => Some(explain_job(found)),
         _ => None,
@@ -197,6 +199,19 @@ fn inventory_job<'a>(found: &ArgMatches<'a>, inventory: Inventory) -> Option<Job
     let db = word(found, "DB")?;
     let query = Inquiry {
         query: Query::Register(inventory),
+        supplier: word(found, "supplier"),
+    };
+    Some(Job::Report { db, query })
+}
+
+fn diff_job<'a>(found: &ArgMatches<'a>) -> Option<Job<'a>>
+    ensures { IsJobIn result (codes "diff") (rows_of (found_of found.now)) }
+{
+    let db = word(found, "DB")?;
+    let variant = word(found, "TO")?;
+    let from = word(found, "FROM")?;
+    let query = Inquiry {
+        query: Query::Difference { variant, from },
         supplier: word(found, "supplier"),
     };
     Some(Job::Report { db, query })
@@ -266,6 +281,13 @@ fn import_job<'a>(found: &ArgMatches<'a>) -> Option<Job<'a>>
     deliver_job(found, DeliveryKind::Import { label })
 }
 
+fn try_job<'a>(found: &ArgMatches<'a>) -> Option<Job<'a>>
+    ensures { IsJobIn result (codes "try") (rows_of (found_of found.now)) }
+{
+    let replaces = flag(found, "replace");
+    deliver_job(found, DeliveryKind::Trial { replaces })
+}
+
 fn deliver_job<'a>(found: &ArgMatches<'a>, kind: DeliveryKind<'a>) -> Option<Job<'a>>
     ensures { HasKind kind.entry (rows_of (found_of found.now)) → IsJobIn result (word_of_delivery kind.entry) (rows_of (found_of found.now)) }
 {
@@ -315,6 +337,13 @@ fn word<'a>(found: &ArgMatches<'a>, name: &str) -> Option<&'a str>
     ensures { option_map (λ text. text.now) result ≡ first_of name.now (rows_of (found_of found.now)) }
 {
     found.get_str(name)
+}
+
+// Whether the word of this name is given.
+fn flag(found: &ArgMatches<'_>, name: &str) -> bool
+    ensures { IsFlagIn result name.now (rows_of (found_of found.now)) }
+{
+    found.get_flag(name)
 }
 
 // The number at this place, if it is `least` to `most`.

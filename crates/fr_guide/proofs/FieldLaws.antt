@@ -10,8 +10,8 @@ use Rattle.serde_json.specs.Data.{Data, Members, Num}
 use Rattle.serde_json.specs.Find.{as_null, as_number, as_object, as_str, as_u64, get_member}
 use Rattle.serde_json.specs.Read.{read}
 use Rattle.fr_base.specs.declared.request.Request.{Request}
-use Rattle.fr_text.specs.Fields.{◌>>=◌, ◌>>◌, is_among, provided, text, text_or_null, value_of, whole}
-use Rattle.fr_text.specs.RequestText.{request_of, request_in, readers, open_variant, release, add_supplier, set_key, add_node, grant, revoke, add_frame, drop_frame, place, unplace, add_signal, drop_signal, import, replace, inventory, report, layout, room, export}
+use Rattle.fr_text.specs.Fields.{◌>>=◌, ◌>>◌, is_among, provided, flag, text, text_or_null, value_of, whole}
+use Rattle.fr_text.specs.RequestText.{request_of, request_in, readers, open_variant, release, add_supplier, set_key, add_node, grant, revoke, add_frame, drop_frame, place, unplace, add_signal, drop_signal, import, replace, trial, inventory, difference, report, layout, room, export}
 use Rattle.fr_guide.specs.Faults.{are_none}
 use Rattle.fr_guide.specs.RequestFields.{are_of_request, is_request, has_fields, has_fields_of, has_just, has_kind, is_whole, kind_of, numbers, requests}
 use Rattle.fr_guide.specs.declared.requests.forms.Kind.TheVariants as kind
@@ -69,6 +69,14 @@ text_or_null_is name fields = by (get_member name fields) refl
     by None is = rw is refl
     by (Some value) is = rw is (there (is_some (as_null value)) (is_some (as_str value)) (as_str value) refl)
 
+flag_is : (name : List ℕ) (fields : Members) → is_some (flag name fields) ≡ has_kind kind.Flag (get_member name fields)
+unfolding flag
+flag_is name fields = by (get_member name fields) refl
+  where
+    by : (o : Option Data) → get_member name fields ≡ o → is_some (flag name fields) ≡ has_kind kind.Flag o
+    by None is = rw is refl
+    by (Some value) is = rw is refl
+
 texted : {B : Type 0} (name : List ℕ) (fields : Members) (f : List ℕ → Option B) (b : Bool) → ((x : List ℕ) → is_some (f x) ≡ b)
     → is_some (text name fields >>= f) ≡ (has_kind kind.Text (get_member name fields) && b)
 texted name fields f b others = asked (text name fields) f _ b (text_is name fields) others
@@ -81,36 +89,40 @@ nulled : {B : Type 0} (name : List ℕ) (fields : Members) (f : Option (List ℕ
     → is_some (text_or_null name fields >>= f) ≡ (has_kind kind.TextOrNull (get_member name fields) && b)
 nulled name fields f b others = asked (text_or_null name fields) f _ b (text_or_null_is name fields) others
 
+flagged : {B : Type 0} (name : List ℕ) (fields : Members) (f : Bool → Option B) (b : Bool) → ((x : Bool) → is_some (f x) ≡ b)
+    → is_some (flag name fields >>= f) ≡ (has_kind kind.Flag (get_member name fields) && b)
+flagged name fields f b others = asked (flag name fields) f _ b (flag_is name fields) others
+
 -- ---- the readers
 
--- a reader reads a request exactly where its fields are there
-abbrev Reads : (Members → Option Request) → List (List ℕ) → Type 0
-Reads reader names = (fields : Members) → is_some (reader fields) ≡ has_just names fields
+-- a reader reads a request of this name exactly where its fields are there
+abbrev Reads : List ℕ → (Members → Option Request) → List (List ℕ) → Type 0
+Reads name reader names = (fields : Members) → is_some (reader fields) ≡ has_just name names fields
 
 -- what is looked up among readers, and among the names of their fields
 Parallel : List (List ℕ × (Members → Option Request)) → List (List ℕ × List (List ℕ)) → Type 0
 Parallel [] [] = ⊤
 Parallel [] (y ∷ ys) = ⊥
 Parallel (x ∷ xs) [] = ⊥
-Parallel (x ∷ xs) (y ∷ ys) = (x.0 ≡ y.0) × Reads x.1 y.1 × Parallel xs ys
+Parallel (x ∷ xs) (y ∷ ys) = (x.0 ≡ y.0) × Reads y.0 x.1 y.1 × Parallel xs ys
 
-looked_up : (test : List ℕ → Bool) (xs : List (List ℕ × (Members → Option Request))) (ys : List (List ℕ × List (List ℕ))) (fields : Members) → Parallel xs ys
-    → is_some (lookup test xs >>= λ reader. reader fields) ≡ has_fields (lookup test ys) fields
+looked_up : (request : List ℕ) (xs : List (List ℕ × (Members → Option Request))) (ys : List (List ℕ × List (List ℕ))) (fields : Members) → Parallel xs ys
+    → is_some (lookup (bytes_eq request) xs >>= λ reader. reader fields) ≡ has_fields request (lookup (bytes_eq request) ys) fields
 unfolding Parallel
-looked_up test [] [] fields same = refl
-looked_up test [] (y ∷ ys) fields same = absurd same
-looked_up test (x ∷ xs) [] fields same = absurd same
-looked_up test (x ∷ xs) (y ∷ ys) fields same =
-    ap (λ name. is_some (cond (test name) (Some x.1) (lookup test xs) >>= λ reader. reader fields)) same.0
-    ∙ by (test y.0) (looked_up test xs ys fields same.2)
+looked_up request [] [] fields same = refl
+looked_up request [] (y ∷ ys) fields same = absurd same
+looked_up request (x ∷ xs) [] fields same = absurd same
+looked_up request (x ∷ xs) (y ∷ ys) fields same =
+    ap (λ name. is_some (cond (bytes_eq request name) (Some x.1) (lookup (bytes_eq request) xs) >>= λ reader. reader fields)) same.0
+    ∙ by (bytes_eq request y.0) (bytes_eq-Decides request y.0).0 (looked_up request xs ys fields same.2)
   where
-    by : (b : Bool) → is_some (lookup test xs >>= λ reader. reader fields) ≡ has_fields (lookup test ys) fields
-        → is_some (cond b (Some x.1) (lookup test xs) >>= λ reader. reader fields) ≡ has_fields (cond b (Some y.1) (lookup test ys)) fields
-    by true others = same.1 fields
-    by false others = others
+    by : (b : Bool) → (b ≡ true → request ≡ y.0) → is_some (lookup (bytes_eq request) xs >>= λ reader. reader fields) ≡ has_fields request (lookup (bytes_eq request) ys) fields
+        → is_some (cond b (Some x.1) (lookup (bytes_eq request) xs) >>= λ reader. reader fields) ≡ has_fields request (cond b (Some y.1) (lookup (bytes_eq request) ys)) fields
+    by true equal others = same.1 fields ∙ ap (λ name. has_just name y.1 fields) (sym (equal refl))
+    by false equal others = others
 
 more : (name : List ℕ) (reader : Members → Option Request) (names : List (List ℕ)) (xs : List (List ℕ × (Members → Option Request)))
-    (ys : List (List ℕ × List (List ℕ))) → Reads reader names → Parallel xs ys → Parallel ((name, reader) ∷ xs) ((name, names) ∷ ys)
+    (ys : List (List ℕ × List (List ℕ))) → Reads name reader names → Parallel xs ys → Parallel ((name, reader) ∷ xs) ((name, names) ∷ ys)
 unfolding Parallel
 more name reader names xs ys reads others = (refl, reads, others)
 
@@ -119,7 +131,7 @@ unfolding Parallel
 none = tt
 
 each : Parallel readers requests
-unfolding readers requests open_variant release add_supplier set_key add_node grant revoke add_frame drop_frame place unplace add_signal drop_signal import replace inventory report layout room export kind_of numbers is_among
+unfolding readers requests open_variant release add_supplier set_key add_node grant revoke add_frame drop_frame place unplace add_signal drop_signal import replace trial inventory difference report layout room export kind_of numbers is_among
 each =
     more _ _ _ _ _ (λ fields. first _ _ _ (texted _ fields _ _ (λ v. nulled _ fields _ true (λ p. refl))))
     (more _ _ _ _ _ (λ fields. first _ _ _ (texted _ fields _ true (λ v. refl)))
@@ -136,9 +148,11 @@ each =
     (more _ _ _ _ _ (λ fields. first _ _ _ (texted _ fields _ _ (λ v. texted _ fields _ _ (λ f. texted _ fields _ true (λ s. refl)))))
     (more _ _ _ _ _ (λ fields. first _ _ _ (texted _ fields _ _ (λ v. texted _ fields _ _ (λ l. texted _ fields _ true (λ b. refl)))))
     (more _ _ _ _ _ (λ fields. first _ _ _ (texted _ fields _ _ (λ v. texted _ fields _ true (λ b. refl))))
+    (more _ _ _ _ _ (λ fields. first _ _ _ (texted _ fields _ _ (λ v. texted _ fields _ _ (λ b. flagged _ fields _ true (λ r. refl)))))
     (more _ _ _ _ _ (λ fields. first _ _ true refl)
     (more _ _ _ _ _ (λ fields. first _ _ true refl)
     (more _ _ _ _ _ (λ fields. first _ _ true refl)
+    (more _ _ _ _ _ (λ fields. first _ _ _ (texted _ fields _ _ (λ v. texted _ fields _ true (λ f. refl))))
     (more _ _ _ _ _ (λ fields. first _ _ _ (texted _ fields _ true (λ v. refl)))
     (more _ _ _ _ _ (λ fields. first _ _ _ (texted _ fields _ true (λ v. refl)))
     (more _ _ _ _ _ (λ fields. first _ _ _ (texted _ fields _ true (λ v. refl)))
@@ -149,7 +163,7 @@ each =
     (more _ _ _ _ _ (λ fields. first _ _ _ (texted _ fields _ _ (λ v. numbered _ fields _ true (λ k. refl))))
     (more _ _ _ _ _ (λ fields. first _ _ _ (texted _ fields _ _ (λ v. numbered _ fields _ true (λ k. refl))))
     (more _ _ _ _ _ (λ fields. first _ _ _ (texted _ fields _ _ (λ v. numbered _ fields _ true (λ k. refl))))
-    none)))))))))))))))))))))))))))
+    none)))))))))))))))))))))))))))))
 
 -- ---- the request
 
@@ -159,7 +173,7 @@ fields_read fields = by (text (codes "do") fields)
   where
     by : (name : Option (List ℕ)) → is_some (name >>= λ n. lookup (bytes_eq n) readers >>= λ reader. reader fields) ≡ has_fields_of name fields
     by None = refl
-    by (Some name) = looked_up (bytes_eq name) readers requests fields each
+    by (Some name) = looked_up name readers requests fields each
 
 -- ---- its text
 

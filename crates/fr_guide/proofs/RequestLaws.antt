@@ -13,7 +13,7 @@ use Rattle.fr_base.specs.declared.name.Name.{Name}
 use Rattle.fr_base.specs.declared.params.Params.{Params}
 use Rattle.fr_base.specs.declared.refusal.Refusal.{Refusal}
 use Rattle.fr_base.specs.declared.refusal.Refusal.TheVariants.{BadChannel, BadCycles, BadKey, BadName, BadSignal, BadSlot}
-use Rattle.fr_base.specs.declared.query.Query.TheVariants.{Register as OfRegister, Variant as OfVariant}
+use Rattle.fr_base.specs.declared.query.Query.TheVariants.{Register as OfRegister, Variant as OfVariant, Difference as OfTwo}
 use Rattle.fr_base.specs.declared.report.Report.TheVariants.{Grants, Frames, Schedule, Gaps, Layout, Load, Room, Export}
 use Rattle.fr_base.specs.declared.request.Request.TheVariants as request
 use Rattle.fr_base.specs.declared.signal.Order.{Order}
@@ -146,6 +146,7 @@ misformed_requests p s (request.AddSignal v frame x start length text) =
 misformed_requests p s (request.DropSignal v frame x) = sym (named v _ _ (named frame _ _ (named x _ true refl)))
 misformed_requests p s (request.Import v label body) = sym (named v _ _ (named label _ true refl))
 misformed_requests p s (request.Replace v body) = sym (named v _ true refl)
+misformed_requests p s (request.Try v replaces body) = sym (named v _ true refl)
 misformed_requests p s (request.Query (OfRegister inventory)) = refl
 misformed_requests p s (request.Query (OfVariant v Grants)) = sym (named_within v _ _ refl)
 misformed_requests p s (request.Query (OfVariant v Frames)) = sym (named_within v _ _ refl)
@@ -158,3 +159,4 @@ misformed_requests p s (request.Query (OfVariant v (Room frame repetition))) =
     sym (ap is_formed (in_turn (name v) _ _) ∙ named v _ (is_name frame && true)
     (ap is_formed (in_turn (name frame >>= (λ f. Ok (Room f repetition))) _ _) ∙ named_within frame _ _ (repeats-formed (not (is_repetition p.cycles repetition)) _)))
 misformed_requests p s (request.Query (OfVariant v (Export header part))) = sym (named_within v _ _ refl)
+misformed_requests p s (request.Query (OfTwo v from)) = sym (ap is_formed (in_turn (name v) _ _) ∙ named v _ (is_name from && true) (named_within from _ _ refl))

@@ -10,14 +10,12 @@ use Rattle.fr_base.specs.Checks.{name, placement, signal}
 use Rattle.fr_base.specs.ImportRows.{frame_in, frame_row, number, number_at, placement_in, placement_row, row_of, signal_in, signal_row, spelled, text_at}
 use Rattle.fr_base.specs.Names.{is_digit, is_name}
 use Rattle.fr_base.specs.Refusing.{◌>>=◌, ◌>>◌, ◌or◌, refuse◌when◌}
-use Rattle.fr_base.specs.declared.import.Header.{Header}
 use Rattle.fr_base.specs.declared.import.Header.TheVariants.{Frames, Placements, Signals}
-use Rattle.fr_base.specs.declared.import.Row.{Row}
 use Rattle.fr_base.specs.declared.params.Params.{Params}
 use Rattle.fr_base.specs.declared.refusal.Refusal.{Refusal}
 use Rattle.fr_base.specs.declared.refusal.Refusal.TheVariants.{BadText, BadName}
 use Rattle.fr_guide.proofs.RequestLaws.{formed_behind, is_formed, named, placement-formed, signal-formed}
-use Rattle.fr_guide.specs.Laws.{MisformedRowsAreRefused, is_misformed, is_of_form}
+use Rattle.fr_guide.specs.Laws.{MisformedRowsAreRefused, is_of_form}
 use Rattle.fr_guide.specs.Rows.{is_fine_frame, is_fine_placement, is_fine_row, is_fine_signal, name_at}
 
 -- What is refused is refused for its form.

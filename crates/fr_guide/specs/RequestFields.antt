@@ -4,7 +4,7 @@ use Rattle.std.specs.List.{list_all}
 use Rattle.std.specs.Map.{lookup}
 use Rattle.std.specs.Str.{bytes_eq}
 use Rattle.serde_json.specs.Data.{Data, Members}
-use Rattle.serde_json.specs.Find.{as_null, as_number, as_str, as_u64, get_member}
+use Rattle.serde_json.specs.Find.{as_bool, as_null, as_number, as_str, as_u64, get_member}
 use Rattle.fr_text.specs.Fields.{is_among, only, text}
 use Rattle.fr_guide.specs.declared.requests.forms.Kind.{Kind}
 use Rattle.fr_guide.specs.declared.requests.forms.Kind.TheVariants as kind
@@ -27,9 +27,11 @@ requests =
     ∷ (codes "drop_signal", codes "variant" ∷ codes "frame" ∷ codes "signal" ∷ [])
     ∷ (codes "import", codes "variant" ∷ codes "label" ∷ codes "body" ∷ [])
     ∷ (codes "replace", codes "variant" ∷ codes "body" ∷ [])
+    ∷ (codes "try", codes "variant" ∷ codes "body" ∷ codes "replace" ∷ [])
     ∷ (codes "cluster", [])
     ∷ (codes "variants", [])
     ∷ (codes "nodes", [])
+    ∷ (codes "diff", codes "variant" ∷ codes "from" ∷ [])
     ∷ (codes "grants", codes "variant" ∷ [])
     ∷ (codes "frames", codes "variant" ∷ [])
     ∷ (codes "schedule", codes "variant" ∷ [])
@@ -50,9 +52,13 @@ fields_of request = lookup (bytes_eq request) requests
 unfoldable pub numbers : List (List ℕ)
 numbers = codes "slot" ∷ codes "base" ∷ codes "repetition" ∷ codes "start" ∷ codes "length" ∷ codes "part" ∷ []
 
--- what the field of this name has to be
-unfoldable pub kind_of : List ℕ → Kind
-kind_of name = if is_among numbers name then kind.Number else if bytes_eq name (codes "from") then kind.TextOrNull else kind.Text
+-- what the field of this name has to be, in the request of this name
+unfoldable pub kind_of : List ℕ → List ℕ → Kind
+kind_of request name =
+    if is_among numbers name then kind.Number
+    else if bytes_eq name (codes "from") && bytes_eq request (codes "open_variant") then kind.TextOrNull
+    else if bytes_eq name (codes "replace") then kind.Flag
+    else kind.Text
 
 -- whether there is a number, of at most 4,294,967,295
 abbrev pub is_whole : Option ℕ → Bool
@@ -63,32 +69,34 @@ is_whole (Some n) = nat_lt n (2 ^ 32)
 abbrev pub is_of_kind : Kind → Data → Bool
 is_of_kind kind.Text value = is_some (as_str value)
 is_of_kind kind.TextOrNull value = is_some (as_null value) || is_some (as_str value)
+is_of_kind kind.Flag value = is_some (as_bool value)
 is_of_kind kind.Number value = is_whole (option_and_then as_u64 (as_number value))
 
 -- whether a field may have this value, or may lack one
 abbrev pub has_kind : Kind → Option Data → Bool
 has_kind kind.Text None = false
 has_kind kind.TextOrNull None = true
+has_kind kind.Flag None = true
 has_kind kind.Number None = false
 has_kind k (Some value) = is_of_kind k value
 
--- whether the field of this name is of its kind
-abbrev pub has_field : Members → List ℕ → Bool
-has_field fields name = has_kind (kind_of name) (get_member name fields)
+-- whether the field of this name is of its kind, in the request of this name
+abbrev pub has_field : List ℕ → Members → List ℕ → Bool
+has_field request fields name = has_kind (kind_of request name) (get_member name fields)
 
--- whether these are the fields, besides `do`, each of its kind
-abbrev pub has_just : List (List ℕ) → Members → Bool
-has_just names fields = only (codes "do" ∷ names) fields && list_all (has_field fields) names
+-- whether these are the request's fields, besides `do`, each of its kind
+abbrev pub has_just : List ℕ → List (List ℕ) → Members → Bool
+has_just request names fields = only (codes "do" ∷ names) fields && list_all (has_field request fields) names
 
--- whether the fields are those of a request of these, if there is one
-abbrev pub has_fields : Option (List (List ℕ)) → Members → Bool
-has_fields None fields = false
-has_fields (Some names) fields = has_just names fields
+-- whether the fields are those of the request, if it has any
+abbrev pub has_fields : List ℕ → Option (List (List ℕ)) → Members → Bool
+has_fields request None fields = false
+has_fields request (Some names) fields = has_just request names fields
 
 -- whether they are those of the request of this name, if there is a name
 abbrev pub has_fields_of : Option (List ℕ) → Members → Bool
 has_fields_of None fields = false
-has_fields_of (Some request) fields = has_fields (fields_of request) fields
+has_fields_of (Some request) fields = has_fields request (fields_of request) fields
 
 -- whether they are those of the request that `do` names
 unfoldable pub are_of_request : Members → Bool

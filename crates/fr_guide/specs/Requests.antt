@@ -3,7 +3,7 @@ use Rattle.std.specs.Prelude.{ℕ, Bool, false, List, [], ◌∷◌, Option, Som
 use Rattle.std.specs.List.{list_all}
 use Rattle.fr_base.specs.Names.{is_key, is_name}
 use Rattle.fr_base.specs.declared.query.Query.{Query}
-use Rattle.fr_base.specs.declared.query.Query.TheVariants.{Register as OfRegister, Variant as OfVariant}
+use Rattle.fr_base.specs.declared.query.Query.TheVariants.{Register as OfRegister, Variant as OfVariant, Difference as OfTwo}
 use Rattle.fr_base.specs.declared.report.Report.{Report}
 use Rattle.fr_base.specs.declared.report.Report.TheVariants.{Grants, Frames, Schedule, Gaps, Layout, Load, Room, Export}
 use Rattle.fr_base.specs.declared.request.Request.{Request}
@@ -41,6 +41,7 @@ frame_in (Export header part) = []
 abbrev pub names_in : Query (List ℕ) ℕ → List (Form × List ℕ)
 names_in (OfRegister inventory) = []
 names_in (OfVariant variant report) = name variant ∷ frame_in report
+names_in (OfTwo variant from) = name variant ∷ name from ∷ []
 
 -- the texts of a request that have to have a form
 unfoldable pub formed_in : Request → List (Form × List ℕ)
@@ -59,6 +60,7 @@ formed_in (request.AddSignal variant frame signal start length order) = name var
 formed_in (request.DropSignal variant frame signal) = name variant ∷ name frame ∷ name signal ∷ []
 formed_in (request.Import variant label body) = name variant ∷ name label ∷ []
 formed_in (request.Replace variant body) = name variant ∷ []
+formed_in (request.Try variant replaces body) = name variant ∷ []
 formed_in (request.Query query) = names_in query
 
 -- whether each of these texts has its form

@@ -74,3 +74,25 @@ module _ (s : Name) where
         | true ↦ λ heard. refl
         | false ↦ found-own key b.suppliers.rows
       ]
+
+  -- a key that is none of the suppliers' is not the supplier's
+  none-own : (key : List ℕ) (rows : List (Name × Key)) → sending (find (λ r. same_text r.1 key) rows) ≡ None →
+      sending (find (λ r. same_text r.1 key) (filter (λ r. same_text r.0 s) rows)) ≡ None
+  none-own key [] = λ none. refl
+  none-own key (r ∷ rs) = elim (cases_Bool (same_text r.1 key)) [
+    | inl has ↦ rw has (λ none. absurd cc)
+    | inr other ↦ rw other (λ none. elim (cases_Bool (same_text r.0 s)) [
+      | inl its ↦ rw (its, other) (none-own key rs none)
+      | inr anothers ↦ rw anothers (none-own key rs none)
+    ])
+  ]
+
+  -- a key that is nobody's is nobody's in that register
+  pub nobody-alone : (c : Cluster) (b : Book) (key : List ℕ) → actor_of c b key ≡ None → actor_of c (rows_of s b) key ≡ None
+  unfolding actor_of rows_of only
+  nobody-alone c b key =
+      elim (same_text c.integrator key) as (λ t. cond t (Some Integrator) (sending (find (λ r. same_text r.1 key) b.suppliers.rows)) ≡ None →
+      cond t (Some Integrator) (sending (find (λ r. same_text r.1 key) (filter (λ r. same_text r.0 s) b.suppliers.rows))) ≡ None) [
+        | true ↦ λ none. absurd cc
+        | false ↦ none-own key b.suppliers.rows
+      ]

@@ -15,7 +15,7 @@ use Rattle.fr_base.specs.declared.refusal.Refusal.TheVariants.{BadText, UnknownK
 use Rattle.fr_base.specs.declared.request.Ask.{Ask}
 use Rattle.fr_base.proofs.SoundSteps.{step-sound}
 use Rattle.fr_base.proofs.AloneSteps.{step-alone, step-not_mine}
-use Rattle.fr_http.specs.Exchanges.{AreExchanged, Answered, Asks, Deals, Dealing, Drawn, Exchange, IsReplied, asked_in, is_own, own_exchanges}
+use Rattle.fr_http.specs.Exchanges.{AreExchanged, Answered, Asks, Deals, Dealing, Drawn, Exchange, IsReplied, IsUnasked, asked_in, is_own, own_exchanges}
 use Rattle.fr_http.specs.Head.{HeadData, key_of, said}
 use Rattle.fr_http.specs.Outcome.{IsOutcome, asked_by, by_engine, front, holder, outcome_of, plan_of}
 use Rattle.fr_http.specs.Routes.{matter_by, method_of, path_of}
@@ -25,9 +25,11 @@ use Rattle.fr_http.specs.declared.asked.Matter.{Matter}
 use Rattle.fr_http.specs.declared.asked.Matter.TheVariants as matter
 use Rattle.fr_http.specs.declared.fault.Unasked.{Unasked}
 use Rattle.fr_http.specs.declared.fault.Unasked.TheVariants.{Refused, Fault}
-use Rattle.fr_http.specs.declared.fault.LinkFault.TheVariants.{Truncated}
+use Rattle.fr_http.specs.declared.fault.LinkFault.{LinkFault}
+use Rattle.fr_http.specs.declared.fault.LinkFault.TheVariants.{NoMemory, ReadFailed, TooManyReads, Truncated, WriteFailed}
 use Rattle.fr_http.specs.declared.method.Method.{Method}
-use Rattle.fr_http.proofs.AloneActors.{actor-alone, is_heard, mine-heard, not_lacked, picture-heard}
+use Rattle.fr_http.specs.declared.serve.Served.{Served}
+use Rattle.fr_http.proofs.AloneActors.{actor-alone, is_heard, mine-heard, nobody-alone, not_lacked, picture-heard}
 use Rattle.fr_http.proofs.AlonePictures.{picture-alone}
 
 -- ---- what bytes ask, where the key of who asks has the same holder
@@ -94,19 +96,26 @@ cause_in : Unasked → Result Asked Unasked → Unasked
 cause_in other (Ok asked) = other
 cause_in other (Err unasked) = unasked
 
-module _ (who alone : List ℕ → Option Actor) (unasked : Unasked) (known : unasked ≢ Refused UnknownKey) where
-  not_refused : (found : Option Actor) (what : Matter) (method : Method) → asks_found found what method ≡ Err unasked → ⊥
+-- a key that is nobody's for the one is nobody's for the other, where that is why nothing is asked
+module _ (who alone : List ℕ → Option Actor) (unasked : Unasked) (nobodys : (key : List ℕ) → unasked ≡ Refused UnknownKey → who key ≡ None → alone key ≡ None) where
+  not_found : (found : Option Actor) (what : Matter) (method : Method) → asks_found found what method ≡ Err unasked → (unasked ≡ Refused UnknownKey) × (found ≡ None)
   unfolding ◌>>=◌ ◌or◌ cause_in
-  not_refused None what method is = known (sym (ap (cause_in unasked) is))
-  not_refused (Some actor) what method is = cc
+  not_found None what method is = (sym (ap (cause_in unasked) is), refl)
+  not_found (Some actor) what method is = absurd cc
+
+  refused_alike : (key : Option (List ℕ)) (what : Matter) (method : Method) → asks_found (holder who key) what method ≡ Err unasked → asks_found (holder alone key) what method ≡ Err unasked
+  refused_alike None what method is = is
+  refused_alike (Some key) what method is =
+      let none = not_found (who key) what method is in
+      ap (λ o. asks_found o what method) (nobodys key none.0 none.1 ∙ sym none.1) ∙ is
 
   unasked_alike : (head : HeadData) (rest : List ℕ) → outcome_of who head rest ≡ Err unasked → outcome_of alone head rest ≡ Err unasked
   unfolding outcome_of
   unasked_alike head rest =
       bind_refused_alike (by_engine (plan_of head)) _ _ unasked (λ plan.
       bind_refused_alike (front plan.length rest or Fault Truncated) _ _ unasked (λ body.
-      bind_refused_alike (matter_by plan.route (path_of head.target) body or Refused BadText) _ _ unasked (λ what is.
-      absurd (not_refused (holder who (key_of head)) what (method_of plan.route) is))))
+      bind_refused_alike (matter_by plan.route (path_of head.target) body or Refused BadText) _ _ unasked (λ what.
+      refused_alike (key_of head) what (method_of plan.route))))
 
   unasked_outcome_alike : (bytes before : List ℕ) → IsOutcome who bytes before (Err unasked) → IsOutcome alone bytes before (Err unasked)
   unasked_outcome_alike bytes before (inl by_head) = inl (record {
@@ -118,15 +127,19 @@ module _ (who alone : List ℕ → Option Actor) (unasked : Unasked) (known : un
   })
   unasked_outcome_alike bytes before (inr without) = inr without
 
-pub replied-alike : (c d : Cluster) (b e : Book) (x : Exchange) (replied : IsReplied c b x) → replied.unasked ≢ Refused UnknownKey → IsReplied d e x
-replied-alike c d b e x replied known = record {
+replied_alike : (c d : Cluster) (b e : Book) (x : Exchange) (replied : IsReplied c b x)
+    → ((key : List ℕ) → replied.unasked ≡ Refused UnknownKey → actor_of c b key ≡ None → actor_of d e key ≡ None) → IsReplied d e x
+replied_alike c d b e x replied nobodys = record {
   before = replied.before;
   unasked = replied.unasked;
-  outcome = unasked_outcome_alike (actor_of c b) (actor_of d e) replied.unasked known x.read replied.before replied.outcome;
+  outcome = unasked_outcome_alike (actor_of c b) (actor_of d e) replied.unasked nobodys x.read replied.before replied.outcome;
   reply = replied.reply;
   is_reply = replied.is_reply;
   told = replied.told;
 }
+
+pub replied-alike : (c d : Cluster) (b e : Book) (x : Exchange) (replied : IsReplied c b x) → replied.unasked ≢ Refused UnknownKey → IsReplied d e x
+replied-alike c d b e x replied known = replied_alike c d b e x replied (λ key unknown none. absurd (known unknown))
 
 -- ---- a connection
 
@@ -168,8 +181,21 @@ module _ (s : Name) (c : Cluster) (b last : Book) where
   deals-other (Answered ask method answer) other deals = step-other ask answer other deals
   deals-other (Drawn reader variant drawn) other deals = ap (rows_of s) deals.0
 
+  -- what asks nothing has the same reply in that register, since a key that is nobody's is nobody's there
+  replied-alone : (x : Exchange) → IsReplied c b x → IsReplied c (rows_of s b) x
+  replied-alone x replied = replied_alike c c b (rows_of s b) x replied (λ key unknown. nobody-alone s c b key)
+
+  unasked-alone : (x : Exchange) (done : Result Served LinkFault) → IsUnasked c b x done → IsUnasked c (rows_of s b) x done
+  unasked-alone x (Ok served) so = replied-alone x so
+  unasked-alone x (Err (WriteFailed asked)) (inl replied) = inl (replied-alone x replied)
+  unasked-alone x (Err (WriteFailed asked)) (inr before) = inr before
+  unasked-alone x (Err (NoMemory asked)) so = so
+  unasked-alone x (Err Truncated) so = so
+  unasked-alone x (Err ReadFailed) so = so
+  unasked-alone x (Err TooManyReads) so = so
+
   asks-own : (x : Exchange) (a : Option Dealing) → IsSound c b → is_own s a ≡ true → Asks c b x a last → Asks c (rows_of s b) x a (rows_of s last)
-  asks-own x None sound own so = cc
+  asks-own x None sound own so = (ap (rows_of s) so.0, unasked-alone x x.done so.1)
   asks-own x (Some dealing) sound own so =
       let asked = asked_in dealing in
       let heard : (key : List ℕ) → actor_of c b key ≡ Some (sender asked) → actor_of c (rows_of s b) key ≡ Some (sender asked) =
@@ -184,7 +210,7 @@ module _ (s : Name) (c : Cluster) (b last : Book) where
       }
 
   asks-other : (x : Exchange) (a : Option Dealing) → is_own s a ≡ false → Asks c b x a last → rows_of s last ≡ rows_of s b
-  asks-other x None other so = ap (rows_of s) so.0
+  asks-other x None other so = cc
   asks-other x (Some dealing) other so = deals-other dealing other so.deals
 
 -- ---- connections one after another

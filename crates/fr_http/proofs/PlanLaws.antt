@@ -8,15 +8,15 @@ use Rattle.std.proofs.lemmas.Str.Parse.{digits_value-take-le}
 use Rattle.std.proofs.lemmas.Bool.Decides.{nat_tests}
 use Rattle.std.specs.Char.{digit_value, is_ascii, is_ascii_digit}
 use Rattle.std.specs.Iterator.{YieldsFirstRef}
-use Rattle.std.specs.Option.{is_some}
+use Rattle.std.specs.Option.{is_some, option_map}
 use Rattle.std.specs.List.{list_all}
 use Rattle.std.specs.Prelude.{codes}
 use Rattle.std.specs.Str.Parse.{digits_value}
 use Rattle.fr_base.specs.Names.{same_text}
 use Rattle.fr_base.specs.Refusing.{◌>>=◌, ◌>>◌, ◌or◌, refuse◌when◌}
 use Rattle.fr_http.specs.Head.{HeadData, values}
-use Rattle.fr_http.specs.Outcome.{body_length, is_decimal, length_in, max_body, plan_of}
-use Rattle.fr_http.specs.Routes.{matched, method_of, path_of, route_of, text_of_method}
+use Rattle.fr_http.specs.Outcome.{body_length, is_decimal, length_in, max_body, plan_of, route_to}
+use Rattle.fr_http.specs.Routes.{allowed, chosen, matched, method_of, path_of, route_of, text_of_method}
 use Rattle.fr_http.specs.declared.fault.Rejection.{Rejection}
 use Rattle.fr_http.specs.declared.fault.Rejection.TheVariants.{BadRequest, NotFound, MethodNotAllowed, LengthRequired, PayloadTooLarge, NotImplemented}
 use Rattle.fr_http.specs.declared.routes.Route.{Route}
@@ -91,21 +91,21 @@ pub coded : (head : HeadData) (value : List ℕ) (more : List (List ℕ)) → va
 unfolding plan_of ◌>>=◌ ◌>>◌ ◌or◌ refuse◌when◌
 coded head value more h = rw h (rw (lt-ltb 0 (length (value ∷ more)) (omega arith)) refl)
 
-pub unrouted : (head : HeadData) → Plain head → route_of (path_of head.target) ≡ None → plan_of head ≡ Err NotFound
+pub unrouted : (head : HeadData) → Plain head → route_to head ≡ None → plan_of head ≡ Err NotFound
 unfolding plan_of ◌>>=◌ ◌>>◌ ◌or◌ refuse◌when◌
 unrouted head plain none = rw plain (rw none refl)
 
-pub not_allowed : (head : HeadData) (route : Route) → Plain head → route_of (path_of head.target) ≡ Some route
-    → same_text head.method (text_of_method (method_of route)) ≡ false → plan_of head ≡ Err (MethodNotAllowed (method_of route))
+pub not_allowed : (head : HeadData) (route : Route) → Plain head → route_to head ≡ Some route
+    → same_text head.method (text_of_method (method_of route)) ≡ false → plan_of head ≡ Err (MethodNotAllowed (allowed route))
 unfolding plan_of ◌>>=◌ ◌>>◌ ◌or◌ refuse◌when◌
 not_allowed head route plain found other = rw plain (rw found (rw other refl))
 
-pub bad_body : (head : HeadData) (route : Route) (rejection : Rejection) → Plain head → route_of (path_of head.target) ≡ Some route
+pub bad_body : (head : HeadData) (route : Route) (rejection : Rejection) → Plain head → route_to head ≡ Some route
     → same_text head.method (text_of_method (method_of route)) ≡ true → body_length (method_of route) head ≡ Err rejection → plan_of head ≡ Err rejection
 unfolding plan_of ◌>>=◌ ◌>>◌ ◌or◌ refuse◌when◌
 bad_body head route rejection plain found same bad = rw plain (rw found (rw same (rw bad refl)))
 
-pub planned : (head : HeadData) (route : Route) (n : ℕ) → Plain head → route_of (path_of head.target) ≡ Some route
+pub planned : (head : HeadData) (route : Route) (n : ℕ) → Plain head → route_to head ≡ Some route
     → same_text head.method (text_of_method (method_of route)) ≡ true → body_length (method_of route) head ≡ Ok n
     → plan_of head ≡ Ok (record { route = route; length = n })
 unfolding plan_of ◌>>=◌ ◌>>◌ ◌or◌ refuse◌when◌
@@ -152,3 +152,12 @@ ascii_path path p is = path_is (list_all is_ascii path) path p is
 pub not_ascii : (path : List ℕ) → None ≡ ascii_or path → route_of path ≡ None
 unfolding route_of
 not_ascii path is = unroutable (list_all is_ascii path) path is
+
+-- and by the method of the head
+pub route_chosen : (head : HeadData) (p : List ℕ) (route chosen_route : Route) → Some p ≡ ascii_or (path_of head.target) → Some route ≡ matched p → chosen_route ≡ chosen head.method route → route_to head ≡ Some chosen_route
+unfolding route_to
+route_chosen head p route chosen_route is found by = ap (option_map (chosen head.method)) (route_found (path_of head.target) p (Some route) is found) ∙ ap (λ r. Some r) (sym by)
+
+pub no_route : (head : HeadData) → route_of (path_of head.target) ≡ None → route_to head ≡ None
+unfolding route_to
+no_route head none = ap (option_map (chosen head.method)) none

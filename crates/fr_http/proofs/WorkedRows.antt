@@ -19,23 +19,24 @@ use Rattle.fr_text.specs.Styles.{plain_lines, json_lines}
 use Rattle.fr_text.specs.Words.{right_in}
 use Rattle.fr_http.specs.Head.{HeadData, values}
 use Rattle.fr_http.specs.Routes.{export, matter_by, of_variant, part, route_of, router, table, with_route}
-use Rattle.fr_http.specs.Outcome.{due, interim, length_in, outcome_of, plan_of}
+use Rattle.fr_http.specs.Outcome.{due, interim, length_in, outcome_of, plan_of, route_to}
 use Rattle.fr_http.specs.Reply.{answer_reply, body_of, engine_reply, page_reply, print, status_line}
 use Rattle.fr_http.specs.declared.asked.Asked.TheVariants as asked
 use Rattle.fr_http.specs.declared.asked.Matter.TheVariants as matter
 use Rattle.fr_http.specs.declared.fault.Rejection.TheVariants.{BadRequest, NotFound, MethodNotAllowed, LengthRequired, PayloadTooLarge, HeadTooLarge, NotImplemented}
 use Rattle.fr_http.specs.declared.fault.Unasked.TheVariants.{Refused, Fault}
 use Rattle.fr_http.specs.declared.fault.LinkFault.TheVariants.{Truncated}
+use Rattle.fr_http.specs.declared.method.Allowed.TheVariants.{Only, PostAndPut}
 use Rattle.fr_http.specs.declared.method.Method.TheVariants.{Get, Post, Put}
 use Rattle.fr_base.specs.declared.import.Header.TheVariants as header
 use Rattle.fr_base.specs.declared.query.Inventory.TheVariants.{Cluster, Variants, Nodes}
 use Rattle.fr_base.specs.declared.query.Query.TheVariants.{Register as OfRegister, Variant as OfVariant}
 use Rattle.fr_base.specs.declared.report.Report.TheVariants.{Grants, Frames, Schedule, Gaps, Layout, Load, Room, Export}
-use Rattle.fr_http.specs.declared.routes.Route.TheVariants.{Commands, Import, Replace, Query, Picture}
+use Rattle.fr_http.specs.declared.routes.Route.TheVariants.{Commands, Import, Replace, Try, Query, Picture}
 
 -- what an answer unfolds to compute these definitions
 unfoldable rows : ⊤
-unfolding seek param_step scan values part matter_by route_of router table with_route interim due length_in outcome_of plan_of answer_reply engine_reply page_reply body_of print ◌>>=◌ ◌>>◌ ◌or◌ refuse◌when◌ report_of text_of text_of_refusal lines_of lines_of_rows frame_record header_line node_line schedule_line number plain_lines json_lines right_in digits
+unfolding seek param_step scan values part matter_by route_of router table with_route interim due length_in outcome_of route_to plan_of answer_reply engine_reply page_reply body_of print ◌>>=◌ ◌>>◌ ◌or◌ refuse◌when◌ report_of text_of text_of_refusal lines_of lines_of_rows frame_record header_line node_line schedule_line number plain_lines json_lines right_in digits
 rows = tt
 
 -- ---- routes
@@ -126,7 +127,7 @@ pub rejections :
     ∷ command (length_field [] ∷ []) ∷ command (length_field (codes "+1") ∷ []) ∷ command (length_field (codes "65537") ∷ [])
     ∷ command (length_field (codes "999999999999999999999999999999") ∷ []) ∷ []
     )
-    ≡ Err NotImplemented ∷ Err NotFound ∷ Err (MethodNotAllowed Post) ∷ Err (MethodNotAllowed Get) ∷ Err LengthRequired ∷ Err BadRequest ∷ Err BadRequest
+    ≡ Err NotImplemented ∷ Err NotFound ∷ Err (MethodNotAllowed (Only Post)) ∷ Err (MethodNotAllowed (Only Get)) ∷ Err LengthRequired ∷ Err BadRequest ∷ Err BadRequest
     ∷ Err BadRequest ∷ Err BadRequest ∷ Err PayloadTooLarge ∷ Err PayloadTooLarge ∷ []
 unfolding rows
 rejections = refl
@@ -147,9 +148,25 @@ pub puts :
     ∷ head (codes "PUT") (codes "/v1/variants/v1/rows") (length_field (codes "65537") ∷ []) ∷ head (codes "POST") (codes "/v1/variants/v1/rows") []
     ∷ head (codes "PUT") (codes "/v1/variants/v1/load") [] ∷ []
     )
-    ≡ Ok (record { route = Replace; length = 7 }) ∷ Err LengthRequired ∷ Err PayloadTooLarge ∷ Err (MethodNotAllowed Put) ∷ Err (MethodNotAllowed Get) ∷ []
+    ≡ Ok (record { route = Replace; length = 7 }) ∷ Err LengthRequired ∷ Err PayloadTooLarge ∷ Err (MethodNotAllowed (Only Put)) ∷ Err (MethodNotAllowed (Only Get)) ∷ []
 unfolding rows
 puts = refl
+
+-- a file to be tried, as an import where it is posted, and as a replacement where it is put
+pub tries :
+    map plan_of (
+    head (codes "POST") (codes "/v1/variants/v1/tries") (length_field (codes "7") ∷ []) ∷ head (codes "PUT") (codes "/v1/variants/v1/tries") (length_field (codes "7") ∷ [])
+    ∷ head (codes "PUT") (codes "/v1/variants/v1/tries") [] ∷ head (codes "GET") (codes "/v1/variants/v1/tries") [] ∷ []
+    )
+    ≡ Ok (record { route = Try false; length = 7 }) ∷ Ok (record { route = Try true; length = 7 }) ∷ Err LengthRequired ∷ Err (MethodNotAllowed PostAndPut) ∷ []
+unfolding rows
+tries = refl
+
+pub matters_of_tries :
+    matter_by (Try false) (codes "/v1/variants/v1/tries") (codes "x") ∷ matter_by (Try true) (codes "/v1/variants/v1/tries") (codes "x") ∷ []
+    ≡ Some (matter.Request (request.Try (codes "v1") false (codes "x"))) ∷ Some (matter.Request (request.Try (codes "v1") true (codes "x"))) ∷ []
+unfolding rows
+matters_of_tries = refl
 
 -- `100 Continue` is due for a body that is to come by HTTP/1.1, and else not
 pub continues :
@@ -267,13 +284,18 @@ unfolding rows
 too_large_reply = refl
 
 pub not_allowed_reply :
-    print (engine_reply (MethodNotAllowed Get)) ≡ codes "HTTP/1.1 405 Method Not Allowed\r\ncontent-length: 0\r\nallow: GET\r\nconnection: close\r\n\r\n"
+    print (engine_reply (MethodNotAllowed (Only Get))) ≡ codes "HTTP/1.1 405 Method Not Allowed\r\ncontent-length: 0\r\nallow: GET\r\nconnection: close\r\n\r\n"
 unfolding rows
 not_allowed_reply = refl
 
+pub two_methods_allowed :
+    print (engine_reply (MethodNotAllowed PostAndPut)) ≡ codes "HTTP/1.1 405 Method Not Allowed\r\ncontent-length: 0\r\nallow: POST, PUT\r\nconnection: close\r\n\r\n"
+unfolding rows
+two_methods_allowed = refl
+
 -- the first line of each of the engine's own answers
 pub status_lines :
-    map (λ rejection. status_line (engine_reply rejection).status) (BadRequest ∷ NotFound ∷ MethodNotAllowed Post ∷ LengthRequired ∷ PayloadTooLarge ∷ HeadTooLarge ∷ NotImplemented ∷ [])
+    map (λ rejection. status_line (engine_reply rejection).status) (BadRequest ∷ NotFound ∷ MethodNotAllowed (Only Post) ∷ LengthRequired ∷ PayloadTooLarge ∷ HeadTooLarge ∷ NotImplemented ∷ [])
     ≡ codes "HTTP/1.1 400 Bad Request\r\n" ∷ codes "HTTP/1.1 404 Not Found\r\n" ∷ codes "HTTP/1.1 405 Method Not Allowed\r\n" ∷ codes "HTTP/1.1 411 Length Required\r\n"
     ∷ codes "HTTP/1.1 413 Payload Too Large\r\n" ∷ codes "HTTP/1.1 431 Request Header Fields Too Large\r\n" ∷ codes "HTTP/1.1 501 Not Implemented\r\n" ∷ []
 unfolding rows

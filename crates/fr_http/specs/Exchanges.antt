@@ -1,7 +1,7 @@
 -- Exchange: what happened on a connection: the bytes read and written, and what the register was asked, with what it
 -- gave, which is a request's answer or a picture's plan. When that is an exchange with a register from a book, and when a
--- list of them is one after another. Which of them are one supplier's.
-use Rattle.std.specs.Prelude.{◌≡◌, ◌⊎◌, ⊤, ℕ, Bool, false, not, ◌&&◌, List, [], ◌∷◌, ◌++◌, filter, Option, Some, None, is_some, Result, Ok, Err, MatchResult}
+-- list of them is one after another. Which of them are one supplier's: also each that asks nothing.
+use Rattle.std.specs.Prelude.{◌≡◌, ◌⊎◌, ⊤, ℕ, Bool, true, false, not, ◌&&◌, List, [], ◌∷◌, ◌++◌, filter, Option, Some, None, is_some, Result, Ok, Err, MatchResult}
 use Rattle.httparse.specs.Grammar.{RequestHead}
 use Rattle.fr_base.specs.Actors.{actor_of}
 use Rattle.fr_base.specs.Alone.{is_mine, lacked}
@@ -157,13 +157,14 @@ abbrev pub is_own_picture : Name → Actor → Result Plan Refusal → Bool
 is_own_picture s (Supplier t) drawn = same_text t s && not (lacks_plan drawn)
 is_own_picture s Integrator drawn = false
 
--- whether what was asked, and answered so, is the supplier's: its own, unless it was answered Unavailable; or the integrator's, and it was
--- done and is common or names the supplier
+-- Whether what was asked, and answered so, is among the supplier's: its own, unless it was answered Unavailable; or the integrator's, and
+-- it was done and is common or names the supplier. What asks nothing is among them, whoever sent it: so is what the supplier sends before
+-- it joins, when its key is nobody's.
 abbrev pub is_own : Name → Option Dealing → Bool
-is_own s None = false
+is_own s None = true
 is_own s (Some (Answered ask method answer)) = is_mine s ask.actor ask.request answer
 is_own s (Some (Drawn reader variant drawn)) = is_own_picture s reader drawn
 
--- the exchanges that are the supplier's, in order
+-- the exchanges that are the supplier's, and those that ask nothing, in order
 abbrev pub own_exchanges : Name → List Exchange → List Exchange
 own_exchanges s xs = filter (λ x. is_own s x.asked) xs

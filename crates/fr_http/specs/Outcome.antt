@@ -3,6 +3,7 @@
 use Rattle.std.specs.Prelude.{ℕ, ◌≡◌, ◌⊎◌, ◌≤◌, ◌<◌, Bool, false, not, ◌&&◌, ◌==◌, nat_lt, nat_le, List, [], ◌∷◌, length, take, codes, Option, Some, None, Result, Ok, Err, if◌then◌else◌}
 use Rattle.std.specs.Char.{is_ascii_digit}
 use Rattle.std.specs.List.{list_all, list_any}
+use Rattle.std.specs.Option.{option_map}
 use Rattle.std.specs.Str.Parse.{digits_value}
 use Rattle.httparse.specs.Grammar.{NeverHasRequest, RequestHead}
 use Rattle.httparse.specs.Spans.{RequestExceeds}
@@ -11,7 +12,7 @@ use Rattle.fr_base.specs.Refusing.{◌>>=◌, ◌>>◌, ◌or◌, refuse◌when�
 use Rattle.fr_base.specs.declared.actor.Actor.{Actor}
 use Rattle.fr_base.specs.declared.refusal.Refusal.TheVariants.{BadText, UnknownKey}
 use Rattle.fr_http.specs.Head.{BeginsWith, HasNoHead, HeadData, key_of, max_fields, max_head, said, same_but_case, values}
-use Rattle.fr_http.specs.Routes.{matter_by, method_of, path_of, route_of, text_of_method}
+use Rattle.fr_http.specs.Routes.{allowed, chosen, matter_by, method_of, path_of, route_of, text_of_method}
 use Rattle.fr_http.specs.declared.asked.Asked.{Asked}
 use Rattle.fr_http.specs.declared.asked.Asked.TheVariants as asked
 use Rattle.fr_http.specs.declared.asked.Matter.{Matter}
@@ -54,12 +55,16 @@ pub record Wanted : Type 0 where
   pub route : Route
   pub length : ℕ
 
+-- the route of a head's path, by its method
+unfoldable pub route_to : HeadData → Option Route
+route_to head = option_map (chosen head.method) (route_of (path_of head.target))
+
 -- what the head asks for, or the engine's own answer
 unfoldable pub plan_of : HeadData → Result Wanted Rejection
 plan_of head = do
   refuse NotImplemented when nat_lt 0 (length (values (codes "transfer-encoding") head.fields))
-  route ← route_of (path_of head.target) or NotFound
-  refuse MethodNotAllowed (method_of route) when not (same_text head.method (text_of_method (method_of route)))
+  route ← route_to head or NotFound
+  refuse MethodNotAllowed (allowed route) when not (same_text head.method (text_of_method (method_of route)))
   n ← body_length (method_of route) head
   Ok (record { route = route; length = n })
 

@@ -6,7 +6,7 @@ use Rattle.fr_base.specs.declared.answer.Answer.{Answer}
 use Rattle.fr_base.specs.declared.answer.Answer.TheVariants.{Refused, RefusedRow, Report}
 use Rattle.fr_base.specs.declared.answer.ReportRows.TheVariants.{FrameRecords, PlacementRecords, SignalRecords}
 use Rattle.fr_text.specs.AnswerText.{report_of, text_of}
-use Rattle.fr_http.specs.Routes.{text_of_method}
+use Rattle.fr_http.specs.Routes.{text_of_allowed}
 use Rattle.fr_http.specs.declared.fault.Rejection.{Rejection}
 use Rattle.fr_http.specs.declared.fault.Rejection.TheVariants.{BadRequest, NotFound, MethodNotAllowed, LengthRequired, PayloadTooLarge, HeadTooLarge, NotImplemented}
 use Rattle.fr_http.specs.declared.method.Method.{Method}
@@ -51,9 +51,9 @@ status_of_rejection PayloadTooLarge = 413
 status_of_rejection HeadTooLarge = 431
 status_of_rejection NotImplemented = 501
 
--- which method is allowed, where another was used
+-- which methods are allowed, where another was used
 abbrev pub allow : Rejection → List ℕ
-allow (MethodNotAllowed method) = field_line (codes "allow") (text_of_method method)
+allow (MethodNotAllowed methods) = field_line (codes "allow") (text_of_allowed methods)
 allow _ = []
 
 -- the reply of the engine itself has no body

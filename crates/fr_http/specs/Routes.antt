@@ -1,5 +1,5 @@
 -- Route: what a path asks for, by `matchit`, and its names and numbers.
-use Rattle.std.specs.Prelude.{ℕ, ◌==◌, List, [], ◌∷◌, codes, Option, Some, None, Result, Ok, Err, if◌then◌else◌, unwrap_or}
+use Rattle.std.specs.Prelude.{ℕ, ◌==◌, true, false, List, [], ◌∷◌, codes, Option, Some, None, Result, Ok, Err, if◌then◌else◌, unwrap_or}
 use Rattle.std.specs.List.{before_first, fold, list_all, slice_get, slice_split}
 use Rattle.std.specs.Option.{option_map}
 use Rattle.std.specs.Result.{result_ok}
@@ -11,22 +11,25 @@ use Rattle.matchit.specs.Rows.{RowsOf}
 use Rattle.matchit.specs.Seek.{first}
 use Rattle.matchit.specs.declared.error.InsertError.{InsertError}
 use Rattle.fr_base.specs.ImportRows.{number}
+use Rattle.fr_base.specs.Names.{same_text}
 use Rattle.fr_base.specs.QueryNames.{query_by}
 use Rattle.fr_base.specs.declared.import.Header.{Header}
 use Rattle.fr_base.specs.declared.import.Header.TheVariants as header
 use Rattle.fr_base.specs.declared.query.Inventory.{Inventory}
 use Rattle.fr_base.specs.declared.query.Inventory.TheVariants.{Cluster, Variants, Nodes}
-use Rattle.fr_base.specs.declared.query.Query.TheVariants.{Register as OfRegister, Variant as OfVariant}
+use Rattle.fr_base.specs.declared.query.Query.TheVariants.{Register as OfRegister, Variant as OfVariant, Difference as OfTwo}
 use Rattle.fr_base.specs.declared.report.Report.{Report}
 use Rattle.fr_base.specs.declared.report.Report.TheVariants.{Grants, Frames, Schedule, Gaps, Layout, Load, Room, Export}
 use Rattle.fr_base.specs.declared.request.Request.TheVariants as request
 use Rattle.fr_text.specs.RequestText.{request_of}
 use Rattle.fr_http.specs.declared.asked.Matter.{Matter}
 use Rattle.fr_http.specs.declared.asked.Matter.TheVariants as matter
+use Rattle.fr_http.specs.declared.method.Allowed.{Allowed}
+use Rattle.fr_http.specs.declared.method.Allowed.TheVariants.{Only, PostAndPut}
 use Rattle.fr_http.specs.declared.method.Method.{Method}
 use Rattle.fr_http.specs.declared.method.Method.TheVariants.{Get, Post, Put}
 use Rattle.fr_http.specs.declared.routes.Route.{Route}
-use Rattle.fr_http.specs.declared.routes.Route.TheVariants.{Commands, Import, Replace, Query, Picture}
+use Rattle.fr_http.specs.declared.routes.Route.TheVariants.{Commands, Import, Replace, Try, Query, Picture}
 
 -- a method as a request spells it
 abbrev pub text_of_method : Method → List ℕ
@@ -39,8 +42,25 @@ abbrev pub method_of : Route → Method
 method_of Commands = Post
 method_of Import = Post
 method_of Replace = Put
+method_of (Try true) = Put
+method_of (Try false) = Post
 method_of (Query asked) = Get
 method_of Picture = Get
+
+-- the methods that a route's path allows, as a reply lists them
+abbrev pub text_of_allowed : Allowed → List ℕ
+text_of_allowed (Only method) = text_of_method method
+text_of_allowed PostAndPut = codes "POST, PUT"
+
+-- the methods that a route's path allows
+abbrev pub allowed : Route → Allowed
+allowed (Try replaces) = PostAndPut
+allowed route = Only (method_of route)
+
+-- the route by the method of the request: a file to be tried is a replacement's where it is put
+abbrev pub chosen : List ℕ → Route → Route
+chosen method (Try replaces) = Try (same_text method (text_of_method Put))
+chosen method route = route
 
 -- what the register holds
 abbrev pub of_register : Inventory → Route
@@ -49,6 +69,10 @@ of_register inventory = Query (OfRegister inventory)
 -- a report of a variant, whose name is the part of the path after three slashes
 abbrev pub of_variant : Report ℕ ℕ → Route
 of_variant report = Query (OfVariant 3 report)
+
+-- in what two variants differ: the older one's name is the part of the path after five slashes
+abbrev pub of_two : Route
+of_two = Query (OfTwo 3 5)
 
 -- the records below a header; the number of their part is the part of the path after six slashes
 abbrev pub export : Header → Route
@@ -62,6 +86,7 @@ table =
     ∷ (codes "/v1/variants", of_register Variants)
     ∷ (codes "/v1/nodes", of_register Nodes)
     ∷ (codes "/v1/variants/{variant}/imports/{label}", Import)
+    ∷ (codes "/v1/variants/{variant}/since/{from}", of_two)
     ∷ (codes "/v1/variants/{variant}/grants", of_variant Grants)
     ∷ (codes "/v1/variants/{variant}/frames", of_variant Frames)
     ∷ (codes "/v1/variants/{variant}/schedule", of_variant Schedule)
@@ -73,6 +98,7 @@ table =
     ∷ (codes "/v1/variants/{variant}/exports/placements/{part}", export header.Placements)
     ∷ (codes "/v1/variants/{variant}/exports/signals/{part}", export header.Signals)
     ∷ (codes "/v1/variants/{variant}/rows", Replace)
+    ∷ (codes "/v1/variants/{variant}/tries", Try false)
     ∷ (codes "/v1/variants/{variant}/picture", Picture)
     ∷ []
 
@@ -114,6 +140,7 @@ unfoldable pub matter_by : Route → List ℕ → List ℕ → Option Matter
 matter_by Commands path body = option_map matter.Request (request_of body)
 matter_by Import path body = Some (matter.Request (request.Import (part 3 path) (part 5 path) body))
 matter_by Replace path body = Some (matter.Request (request.Replace (part 3 path) body))
+matter_by (Try replaces) path body = Some (matter.Request (request.Try (part 3 path) replaces body))
 matter_by (Query asked) path body =
     option_map (λ query. matter.Request (request.Query query)) (query_by (λ slashes. part slashes path) (λ slashes. number_in slashes path) asked)
 matter_by Picture path body = Some (matter.Picture (part 3 path))

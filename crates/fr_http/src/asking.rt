@@ -29,6 +29,11 @@ pub(crate) fn matter(alloc: Global, plan: &Plan<'_>, body: &[u8]) -> Result<Matt
             variant: name(alloc, plan.path, 3)?,
             body: Body::copy(alloc, body)?,
         })),
+        Route::Try { replaces } => Ok(Matter::Request(Request::Try {
+            variant: name(alloc, plan.path, 3)?,
+            replaces,
+            body: Body::copy(alloc, body)?,
+        })),
         Route::Query(asked) => {
             let words = PathWords {
                 alloc,

@@ -1,5 +1,5 @@
 //! A connection that asks nothing: the engine answers itself, the request is refused, or a fault ends it.
-use crate::method::Method;
+use crate::method::Allowed;
 use fr_base::{NoMemory, Refusal};
 
 /// What the engine answers itself.
@@ -9,8 +9,8 @@ pub enum Rejection {
     BadRequest,
     /// The path has no route.
     NotFound,
-    /// The path's route has another method: this one.
-    MethodNotAllowed(Method),
+    /// The path's route has another method: one of these.
+    MethodNotAllowed(Allowed),
     /// The body has no length.
     LengthRequired,
     /// The body is too long.

@@ -1,11 +1,12 @@
 //! Laws of connections. On connections one after another each supplier has the exchanges of a register that holds it
-//! alone, and the register is sound after each.
+//! alone, among them each that asks nothing; and the register is sound after each.
 //!
 //! What asks nothing has the same reply from every register, unless its key is nobody's.
 ghost use Rattle.fr_http.specs.Laws.{ExchangesAreAlone, ExchangesAreSoundThroughout, UnaskedIsAlike};
 
 /// On connections that are served one after another each supplier has the same exchanges as with a
-/// register that holds it alone.
+/// register that holds it alone. Those that ask nothing are among them, so also what it sends before it
+/// joins, when its key is nobody's.
 pub fn exchanges_are_alone()
     ensures { ExchangesAreAlone }
 {}

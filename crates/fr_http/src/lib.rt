@@ -21,6 +21,6 @@ pub use fault::{LinkFault, Rejection};
 pub use head::{MAX_FIELDS, MAX_HEAD};
 pub use input::MAX_READS;
 pub use laws::{exchanges_are_alone, exchanges_are_sound_throughout, unasked_is_alike};
-pub use method::Method;
+pub use method::{Allowed, Method};
 pub use plan::MAX_BODY;
 pub use serve::{Served, serve_one};

@@ -1,6 +1,6 @@
 //! The methods of the routes.
 ghost use Rattle.std.specs.Prelude.{◌≡◌};
-ghost use Rattle.fr_http.specs.Routes.{text_of_method};
+ghost use Rattle.fr_http.specs.Routes.{text_of_allowed, text_of_method};
 
 /// The method of a route.
 #[derive(Clone, Copy, PartialEq, Eq)]
@@ -22,6 +22,27 @@ impl Method {
             Method::Get => "GET",
             Method::Post => "POST",
             Method::Put => "PUT",
+        }
+    }
+}
+
+/// The methods that a path allows.
+#[derive(Clone, Copy, PartialEq, Eq)]
+pub enum Allowed {
+    /// This one alone.
+    Only(Method),
+    /// POST, and PUT.
+    PostAndPut,
+}
+
+impl Allowed {
+    /// The methods as a reply lists them.
+    pub fn as_str(self) -> &'static str
+        ensures { result.now ≡ text_of_allowed self }
+    {
+        match self {
+            Allowed::Only(method) => method.as_str(),
+            Allowed::PostAndPut => "POST, PUT",
         }
     }
 }

@@ -37,8 +37,9 @@ pub(crate) fn make_plan(alloc: Global, received: &Received) -> Result<Plan<'_>, 
     let Some(route) = find_route(alloc, path)? else {
         return Err(Unasked::Engine(Rejection::NotFound));
     };
+    let route = route.by(received.method());
     if !is_by(received, route.method()) {
-        return Err(Unasked::Engine(Rejection::MethodNotAllowed(route.method())));
+        return Err(Unasked::Engine(Rejection::MethodNotAllowed(route.allowed())));
     }
     match body_length(received, route.method()) {
         Ok(length) => Ok(Plan {

@@ -35,12 +35,12 @@ pub(crate) fn engine_reply(alloc: Global, rejection: Rejection) -> Result<ReplyT
     })
 }
 
-// Appends which method is allowed, where another was used.
+// Appends which methods are allowed, where another was used.
 fn push_allow(rejection: Rejection, out: &mut Vec<u8>) -> Result<(), NoMemory>
     ensures { OnOk result (out.new.items ≡ out.old.items ++ allow rejection) }
 {
     match rejection {
-        Rejection::MethodNotAllowed(method) => push_field("allow", method.as_str(), out),
+        Rejection::MethodNotAllowed(allowed) => push_field("allow", allowed.as_str(), out),
         Rejection::BadRequest
         | Rejection::NotFound
         | Rejection::LengthRequired

@@ -3,9 +3,9 @@ ghost use Rattle.std.specs.Prelude.{◌≡◌, ◌==◌, if◌then◌else◌, ma
 ghost use Rattle.std.specs.Char.{is_ascii};
 ghost use Rattle.std.specs.List.{list_all, position};
 ghost use Rattle.std.specs.Option.{option_map};
-ghost use Rattle.fr_http.specs.Routes.{export, matched, method_of, of_register, of_variant, part, path_of, router, table, with_route};
+ghost use Rattle.fr_http.specs.Routes.{allowed, chosen, export, matched, method_of, of_register, of_two, of_variant, part, path_of, router, table, with_route};
 
-use crate::method::Method;
+use crate::method::{Allowed, Method};
 use fr_base::{Header, Inventory, NoMemory, Query, Report};
 use matchit::Router;
 use std::alloc::{AllocError, Global};
@@ -20,6 +20,8 @@ pub enum Route {
     Import,
     /// The body is a file that is put in the place of earlier rows.
     Replace,
+    /// The body is a file, and it is told what would become of each row: as a replacement, or else as an import.
+    Try { replaces: bool },
     /// A query. Each name and each number in it is said by how many slashes of the path stand before it.
     Query(Query<usize, usize>),
     /// The page of a variant's plan.
@@ -32,9 +34,31 @@ impl Route {
         ensures { result ≡ method_of self }
     {
         match self {
-            Route::Commands | Route::Import => Method::Post,
-            Route::Replace => Method::Put,
+            Route::Commands | Route::Import | Route::Try { replaces: false } => Method::Post,
+            Route::Replace | Route::Try { replaces: true } => Method::Put,
             Route::Query(_) | Route::Picture => Method::Get,
+        }
+    }
+
+    /// The methods that its path allows.
+    pub fn allowed(self) -> Allowed
+        ensures { result ≡ allowed self }
+    {
+        match self {
+            Route::Try { .. } => Allowed::PostAndPut,
+            route => Allowed::Only(route.method()),
+        }
+    }
+
+    /// The route, by the method of the request: a file to be tried is a replacement's where it is put.
+    pub(crate) fn by(self, method: &[u8]) -> Route
+        ensures { result ≡ chosen method.now self }
+    {
+        match self {
+            Route::Try { .. } => Route::Try {
+                replaces: method == Method::Put.as_str().as_bytes(),
+            },
+            route => route,
         }
     }
 }
@@ -99,6 +123,16 @@ fn of_variant(report: Report<usize, usize>) -> Route
     Route::Query(Query::Variant { variant: 3, report })
 }
 
+// In what two variants differ. Their names stand behind three slashes of the path and behind five.
+fn of_two() -> Route
+    ensures { result ≡ of_two }
+{
+    Route::Query(Query::Difference {
+        variant: 3,
+        from: 5,
+    })
+}
+
 // The records of a variant below this header. The number of their part stands behind six slashes of the path.
 fn export(header: Header) -> Route
     ensures { result ≡ export header }
@@ -108,7 +142,7 @@ fn export(header: Header) -> Route
 
 // The routes, each behind the text of the paths that match it.
 #[tactic(auto, unfolding(crate::specs::Routes::table))]
-fn routes() -> [(&'static str, Route); 17]
+fn routes() -> [(&'static str, Route); 19]
     ensures { map (λ entry. (entry.0.now, entry.1)) result ≡ table }
 {
     [
@@ -117,6 +151,7 @@ fn routes() -> [(&'static str, Route); 17]
         ("/v1/variants", of_register(Inventory::Variants)),
         ("/v1/nodes", of_register(Inventory::Nodes)),
         ("/v1/variants/{variant}/imports/{label}", Route::Import),
+        ("/v1/variants/{variant}/since/{from}", of_two()),
         ("/v1/variants/{variant}/grants", of_variant(Report::Grants)),
         ("/v1/variants/{variant}/frames", of_variant(Report::Frames)),
         (
@@ -149,6 +184,10 @@ fn routes() -> [(&'static str, Route); 17]
             export(Header::Signals),
         ),
         ("/v1/variants/{variant}/rows", Route::Replace),
+        (
+            "/v1/variants/{variant}/tries",
+            Route::Try { replaces: false },
+        ),
         ("/v1/variants/{variant}/picture", Route::Picture),
     ]
 }

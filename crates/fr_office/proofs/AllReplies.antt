@@ -64,7 +64,7 @@ module _ {X : Type 0} (p q : X → Bool) where
   filter-swap (x ∷ xs) = swap-by_tests x xs (p x) (q x) refl refl (filter-swap xs)
 
   -- what is left was there
-  In-filter : (x : X) (xs : List X) → In x (filter p xs) → In x xs
+  pub In-filter : (x : X) (xs : List X) → In x (filter p xs) → In x xs
   In-filter x [] i = absurd i
   In-filter x (y ∷ ys) i = by_test (p y) i (In-filter x ys)
     where

@@ -57,6 +57,7 @@ abbrev IsOwn : Actor → Checked → Type 0
 IsOwn actor (checked.Command command) = IsOwnCommand actor command
 IsOwn actor (checked.Import i) = ⊤
 IsOwn actor (checked.Replace r) = ⊤
+IsOwn actor (checked.Try t) = ⊤
 IsOwn actor (checked.Query query) = ⊤
 
 asking-own : (actor : Actor) → IfOk (asking actor) (λ s. actor ≡ Supplier s)
@@ -123,6 +124,9 @@ check-own p actor (request.Import variant label body) =
     gives_each _ (name variant) _ (λ v _.
     gives_each _ (name label) _ (λ l _. tt)))
 check-own p actor (request.Replace variant body) =
+    gives_each _ (asking actor) _ (λ s _.
+    gives_each _ (name variant) _ (λ v _. tt))
+check-own p actor (request.Try variant replaces body) =
     gives_each _ (asking actor) _ (λ s _.
     gives_each _ (name variant) _ (λ v _. tt))
 check-own p actor (request.Query asked) = gives_when _ _ _ _ (λ _. gives_each _ (query asked) _ (λ q _. gives_when _ _ _ _ (λ _. tt)))

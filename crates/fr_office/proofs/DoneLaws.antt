@@ -7,7 +7,7 @@ use Rattle.fr_base.specs.Checks.{check}
 use Rattle.fr_base.specs.Queries.{found, reply}
 use Rattle.fr_base.specs.Refusing.{◌or◌}
 use Rattle.fr_base.specs.Sound.{IsSound}
-use Rattle.fr_base.specs.Step.{Outcome, RefusedAt, act, add_node, add_supplier, set_key, change_rows, common, done, import, imported, knows, outcome, perform, replace, replaced, step}
+use Rattle.fr_base.specs.Step.{Outcome, RefusedAt, act, add_node, add_supplier, set_key, change_rows, common, done, import, imported, knows, outcome, perform, replace, replaced, try, step}
 use Rattle.fr_base.specs.Tables.{get}
 use Rattle.fr_base.specs.declared.actor.Actor.{Actor}
 use Rattle.fr_base.specs.declared.answer.Answer.{Answer}
@@ -23,8 +23,10 @@ use Rattle.fr_base.specs.declared.request.Checked.{Checked}
 use Rattle.fr_base.specs.declared.request.Checked.TheVariants as checked
 use Rattle.fr_base.specs.declared.request.Import.{Import}
 use Rattle.fr_base.specs.declared.request.Replacement.{Replacement}
+use Rattle.fr_base.specs.declared.request.Trial.{Trial}
 use Rattle.fr_base.specs.declared.query.Query.{Query}
-use Rattle.fr_base.proofs.SoundRefusing.{gives_bind, gives_each, gives_unless, gives_when}
+use Rattle.fr_base.proofs.SoundRefusing.{gives_bind, gives_bind_last, gives_each, gives_unless, gives_when}
+use Rattle.fr_base.proofs.SoundTrials.{trial-leaves}
 use Rattle.fr_office.specs.Answering.{AfterAct, WhereChanged}
 use Rattle.fr_world.specs.Held.{Standing}
 
@@ -71,6 +73,14 @@ module _ (p : Params) (b : Book) (r : Replacement) where
       gives_each _ (get b.variants r.variant or NoVariant) _ (λ x _.
       gives_when _ _ _ _ (λ _.
       gives_when _ _ _ _ (λ _. replaced-told _ _)))
+
+-- a trial tells of rows
+trial-told : (p : Params) (b : Book) (t : Trial) → IfOk (try p b t) (λ o. IsNoChange o.answer)
+unfolding try
+trial-told p b t =
+    gives_each _ (get b.variants t.variant or NoVariant) _ (λ x _.
+    gives_when _ _ _ _ (λ _.
+    gives_when _ _ _ _ (λ _. (refl, refl))))
 
 module _ (p : Params) (actor : Actor) where
   reply-told : (b : Book) (query : Query Name ℕ) → IfOk (reply p b actor query) IsNoChange
@@ -130,6 +140,7 @@ module _ (b : Book) where
   act-quiet c actor (checked.Command command) = perform-quiet c command
   act-quiet c actor (checked.Import i) = import-quiet c.params i (get b.imports (i.supplier, i.label))
   act-quiet c actor (checked.Replace r) = replace-quiet c.params r
+  act-quiet c actor (checked.Try t) = gives_bind_last Quiet (λ (o : Outcome). o.book ≡ b) _ (trial-leaves (λ d. d ≡ b) b refl c.params t) (λ o still quiet. still)
   act-quiet c actor (checked.Query query) = gives_each _ (reply c.params b actor query) _ (λ rows _ quiet. refl)
 
   outcome-quiet : (r : Result Outcome Refusal) → IfOk r Quiet → Quiet (outcome b r)
@@ -161,6 +172,8 @@ module _ (c : Cluster) (b : Book) (actor : Actor) where
       absurd (true≢false (subst (λ r. IfOk r (λ (o : Outcome). IsNoChange o.answer)) made (import-told c.params b i (get b.imports (i.supplier, i.label)))).0)
   done_so stands (checked.Replace r) P after made h =
       absurd (true≢false (subst (λ r. IfOk r (λ (o : Outcome). IsNoImport o.answer)) made (replace-told c.params b r)).0)
+  done_so stands (checked.Try t) P after made h =
+      absurd (true≢false (subst (λ r. IfOk r (λ (o : Outcome). IsNoChange o.answer)) made (trial-told c.params b t)).0)
   done_so stands (checked.Query query) P after made h =
       absurd (true≢false (query-told query after Done made).0)
 
@@ -168,6 +181,8 @@ module _ (c : Cluster) (b : Book) (actor : Actor) where
       → AfterAct stands valid (Ok (Imported rows)) P → (after ≡ b) ⊎ P
   unfolding act
   imported_so stands (checked.Command command) P after rows stood sound made h = inr h
+  imported_so stands (checked.Try t) P after rows stood sound made h =
+      inl (subst (λ r. IfOk r (λ (o : Outcome). o.book ≡ b)) made (trial-leaves (λ d. d ≡ b) b refl c.params t))
   imported_so stands (checked.Query query) P after rows stood sound made h =
       inl (subst (λ r. IfOk r (λ (o : Outcome). o.book ≡ b)) made (gives_each _ (reply c.params b actor query) _ (λ shown _. refl)))
   imported_so stands (checked.Import i) P after rows stood sound made h =
@@ -184,6 +199,8 @@ module _ (c : Cluster) (b : Book) (actor : Actor) where
   replaced_so stands (checked.Import i) P after rows made h =
       absurd (true≢false (subst (λ r. IfOk r (λ (o : Outcome). IsNoChange o.answer)) made (import-told c.params b i (get b.imports (i.supplier, i.label)))).1)
   replaced_so stands (checked.Replace r) P after rows made h = h
+  replaced_so stands (checked.Try t) P after rows made h =
+      absurd (true≢false (subst (λ r. IfOk r (λ (o : Outcome). IsNoChange o.answer)) made (trial-told c.params b t)).1)
   replaced_so stands (checked.Query query) P after rows made h = absurd (true≢false (query-told query after (Replaced rows) made).1)
 
   -- what holds after a command, a new import or a replacement holds after what tells of a change

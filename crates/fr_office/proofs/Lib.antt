@@ -3,6 +3,7 @@ pub mod RowsLaws
 pub mod CheckedLaws
 pub mod ImportLaws
 pub mod ReplacementLaws
+pub mod TrialLaws
 pub mod RunLaws
 pub mod PageBack
 pub mod FreshLaws
@@ -25,3 +26,5 @@ pub mod CrashLaws
 pub mod DoneLaws
 pub mod CrashedLaws
 pub mod ListingLaws
+pub mod FlatRows
+pub mod DifferenceReplies

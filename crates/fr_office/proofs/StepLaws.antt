@@ -19,6 +19,7 @@ use Rattle.fr_base.specs.declared.request.Ask.{Ask}
 use Rattle.fr_base.specs.declared.request.Command.{Command}
 use Rattle.fr_base.specs.declared.request.Import.{Import}
 use Rattle.fr_base.specs.declared.request.Replacement.{Replacement}
+use Rattle.fr_base.specs.declared.request.Trial.{Trial}
 use Rattle.fr_base.specs.declared.name.Name.{Name}
 use Rattle.fr_base.specs.declared.query.Query.{Query}
 use Rattle.fr_base.specs.declared.request.Request.{Request}
@@ -31,6 +32,7 @@ use Rattle.fr_office.specs.Carried.{IsRefused, Performs, Replies}
 use Rattle.fr_world.specs.Held.{Standing}
 use Rattle.fr_office.specs.Imports.{GivesImport}
 use Rattle.fr_office.specs.Replacements.{GivesReplacement}
+use Rattle.fr_office.specs.Trials.{TellsTrial}
 use Rattle.fr_office.proofs.CheckedLaws.{command-checked, command-own}
 
 -- who is in the book is in what a cluster file says of it
@@ -43,6 +45,7 @@ pub passed : (p : Params) (actor : Actor) (request : Request) (valid : Checked) 
 passed p actor request (checked.Command command) said = (command-checked p actor request command said, command-own p actor request command said)
 passed p actor request (checked.Import i) said = (subst (λ r. IfOk r (IsFormed p actor)) said (check-form p actor request)).asks
 passed p actor request (checked.Replace r) said = subst (λ r. IfOk r (IsFormed p actor)) said (check-form p actor request)
+passed p actor request (checked.Try t) said = subst (λ r. IfOk r (IsFormed p actor)) said (check-form p actor request)
 passed p actor request (checked.Query query) said = subst (λ r. IfOk r (IsFormed p actor)) said (check-form p actor request)
 
 module _ (c : Cluster) (b : Book) (ask : Ask) where
@@ -129,6 +132,16 @@ module _ (old new : Standing) (actor : Actor) where
   pub replacement_acts : (replacement : Replacement) (r : Result Answer Refusal) → actor ≡ Supplier replacement.supplier → GivesReplacement old new r replacement → Acts old new r actor (checked.Replace replacement)
   unfolding act
   replacement_acts replacement r asks gives c b stood sound known = gives c b stood sound (subst (λ a. IsTrue (knows b a)) asks known)
+
+  -- a trial
+  pub trial_acts : (t : Trial) (r : Result Answer Refusal) → actor ≡ Supplier t.supplier → TellsTrial old new r t → Acts old new r actor (checked.Try t)
+  unfolding act
+  trial_acts t (Ok answer) asks tells c b stood sound known =
+      let k = tells c b stood sound (subst (λ a. IsTrue (knows b a)) asks known) in
+      (b, k.1, k.0)
+  trial_acts t (Err e) asks tells c b stood sound known =
+      let k = tells c b stood sound (subst (λ a. IsTrue (knows b a)) asks known) in
+      (k.0, k.1)
 
   -- a query
   pub query_acts : (query : Query Name ℕ) (r : Result Answer Refusal) → Replies old new r (λ c b. reply c.params b actor query) → Acts old new r actor (checked.Query query)

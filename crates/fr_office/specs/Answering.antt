@@ -30,12 +30,13 @@ abbrev pub is_known : ClusterFile → Actor → Bool
 is_known f Integrator = true
 is_known f (Supplier s) = list_any (λ t. same_text s t.name) f.suppliers
 
--- So much of what the check of a request leaves is needed: a command's values fit the cluster, a change of a frame, an import and
--- a replacement are of who asks, and the repetition of a query, where it has one, divides the count of cycles.
+-- So much of what the check of a request leaves is needed: a command's values fit the cluster, a change of a frame, an import, a
+-- replacement and a trial are of who asks, and the repetition of a query, where it has one, divides the count of cycles.
 abbrev pub HasPassed : Params → Actor → Checked → Type 0
 HasPassed p actor (checked.Command command) = IsCheckedCommand p command × IsOwnCommand actor command
 HasPassed p actor (checked.Import i) = actor ≡ Supplier i.supplier
 HasPassed p actor (checked.Replace r) = actor ≡ Supplier r.supplier
+HasPassed p actor (checked.Try t) = actor ≡ Supplier t.supplier
 HasPassed p actor (checked.Query query) = IsTrue (has_repetition p query)
 
 -- In a sound book that knows who asks, a request with checked values was carried out as the definition has it, and the records stand
@@ -59,6 +60,7 @@ abbrev pub AfterAct : Standing → Checked → Result Answer Refusal → Type 0 
 AfterAct stands (checked.Command command) r P = OnOk r P
 AfterAct stands (checked.Import i) r P = AfterNew stands i r P
 AfterAct stands (checked.Replace replacement) r P = OnReplaced r P
+AfterAct stands (checked.Try t) r P = ⊤
 AfterAct stands (checked.Query query) r P = ⊤
 
 -- This holds after a step that leads from one book to another, where its answer tells of a change. An import that was there already has

@@ -4,6 +4,7 @@ pub mod Decided
 pub mod Headline
 pub mod Imports
 pub mod Replacements
+pub mod Trials
 pub mod ImportCounts
 pub mod KeptPages
 pub mod Shared
@@ -11,3 +12,4 @@ pub mod Shelves
 pub mod Shown
 pub mod Crashed
 pub mod Listing
+pub mod Compared

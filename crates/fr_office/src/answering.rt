@@ -10,6 +10,7 @@ use crate::imports::import;
 use crate::lender::Lender;
 use crate::queries::reply;
 use crate::replacing::replace;
+use crate::trials::try_file;
 use fr_base::{Actor, Answer, Ask, Checked, Config, Name, Refusal, Supplier, check};
 use fr_world::Records;
 use std::alloc::Global;
@@ -97,6 +98,7 @@ fn act<R: Lender>(
         }
         Checked::Import(new) => import(alloc, records, new),
         Checked::Replace(new) => replace(alloc, records, new),
+        Checked::Try(trial) => try_file(alloc, records, trial),
         Checked::Query(query) => reply(alloc, records, actor, query),
     }
 }

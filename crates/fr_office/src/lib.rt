@@ -16,6 +16,7 @@ mod queries;
 mod replacing;
 mod running;
 mod shelf;
+mod trials;
 mod warm;
 
 pub use answering::{answer, decline};

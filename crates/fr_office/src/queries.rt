@@ -11,6 +11,8 @@ ghost use Rattle.fr_office.specs.Shown.{FindsPage, ShowsAll, ShowsOwn};
 ghost use Rattle.fr_world.specs.Held.{Reads};
 
 mod cluster;
+mod compared;
+mod differences;
 mod exports;
 mod frames;
 mod gaps;
@@ -23,6 +25,7 @@ mod suppliers;
 
 use crate::lender::Lender;
 use crate::queries::cluster::cluster_rows;
+use crate::queries::differences::differences;
 use crate::queries::exports::{gather_export, page_export};
 use crate::queries::frames::{gather_frames, push_frames};
 use crate::queries::gaps::{gather_gaps, push_gaps};
@@ -75,6 +78,9 @@ fn find_rows<R: Lender>(
     match query {
         Query::Register(inventory) => held(alloc, records, actor, *inventory),
         Query::Variant { variant, report } => of_variant(alloc, records, actor, *variant, report),
+        Query::Difference { variant, from } => {
+            differences(alloc, records, actor, *variant, *from)
+        }
     }
 }
 

@@ -29,6 +29,7 @@ abbrev IsQuery : Checked → Type 0
 IsQuery (checked.Command command) = ⊥
 IsQuery (checked.Import i) = ⊥
 IsQuery (checked.Replace r) = ⊥
+IsQuery (checked.Try t) = ⊥
 IsQuery (checked.Query query) = ⊤
 
 abbrev Same : Book → Outcome → Type 0
@@ -39,6 +40,7 @@ unfolding act
 act_same c b actor (checked.Command command) is = absurd is
 act_same c b actor (checked.Import i) is = absurd is
 act_same c b actor (checked.Replace r) is = absurd is
+act_same c b actor (checked.Try t) is = absurd is
 act_same c b actor (checked.Query query) is = gives_each _ (reply c.params b actor query) _ (λ rows _. refl)
 
 outcome_same : (b : Book) (r : Result Outcome Refusal) → IfOk r (Same b) → Same b (outcome b r)

@@ -1,6 +1,6 @@
 -- In a sound book the records of an export are words, and each is read as its row.
-use Rattle.std.proofs.Common.{◌≡◌, ◌∙◌, ap, refl, sym, subst, ℕ, zero, suc, ◌+◌, ◌*◌, ◌^◌, ◌≤◌, ◌<◌, Bool, true, false, eqb, List, [], ◌∷◌, map, length, Option, Some, None, Result, Ok, Err, IfOk, IsTrue, All, arith, is_some}
-use Rattle.std.specs.Prelude.{⊤, T, ◌&&◌, ◌||◌, nat_lt, decimal, reverse}
+use Rattle.std.proofs.Common.{◌≡◌, ◌∙◌, ap, refl, subst, ℕ, zero, suc, ◌*◌, ◌^◌, ◌≤◌, ◌<◌, Bool, true, false, eqb, List, [], ◌∷◌, map, length, Option, Some, None, Result, Ok, IfOk, IsTrue, All, arith, is_some}
+use Rattle.std.specs.Prelude.{T, ◌||◌, nat_lt, decimal, reverse}
 use Rattle.std.specs.List.{AllByRecursion, list_all, list_any}
 use Rattle.std.specs.FinMap.Entries.{find, is_sorted}
 use Rattle.std.specs.Cmp.{tied_itself}
@@ -16,6 +16,7 @@ use Rattle.fr_base.specs.Bits.{bits_of, run_of, run_big}
 use Rattle.fr_base.specs.Book.{Frame, Variant, Book, is_of, own}
 use Rattle.fr_base.specs.Channels.{text_of_channels}
 use Rattle.fr_base.specs.Cluster.{Cluster}
+use Rattle.fr_base.specs.ExportedLaws.{exported_rows}
 use Rattle.fr_base.specs.Exports.{exported, frame_records, placement_records, signal_records, part_of}
 use Rattle.fr_base.specs.Keys.{owned, placement_order}
 use Rattle.fr_base.specs.ImportRows.{row_of, rows_of_body, spelled}
@@ -23,11 +24,11 @@ use Rattle.fr_base.specs.Layouts.{lies_inside}
 use Rattle.fr_base.specs.Names.{is_name}
 use Rattle.fr_base.specs.Parameters.{check_params}
 use Rattle.fr_base.specs.Queries.{found, shown}
-use Rattle.fr_base.specs.Refusing.{◌>>=◌, ◌or◌, ◌>>◌, refuse◌when◌}
+use Rattle.fr_base.specs.Refusing.{◌>>=◌, ◌or◌}
 use Rattle.fr_base.specs.Signals.{SignalData, is_signal_length, text_of_order}
 use Rattle.fr_base.specs.Sound.{FitsCluster, IsSoundFrame, IsSoundVariant, IsSound}
 use Rattle.fr_base.specs.TableRows.{first, second}
-use Rattle.fr_base.specs.Tables.{Order, Table, get, contains, only}
+use Rattle.fr_base.specs.Tables.{Order, get, contains}
 use Rattle.fr_base.specs.declared.answer.FrameRecord.{FrameRecord}
 use Rattle.fr_base.specs.declared.answer.PlacementRecord.{PlacementRecord}
 use Rattle.fr_base.specs.declared.answer.SignalRecord.{SignalRecord}
@@ -44,7 +45,6 @@ use Rattle.fr_base.specs.declared.limits.TheConstants.{MAX_ROWS, MAX_IMPORT_BYTE
 use Rattle.fr_base.specs.declared.name.Name.{Name}
 use Rattle.fr_base.specs.declared.params.Params.{Params}
 use Rattle.fr_base.specs.declared.placement.Placement.{Placement}
-use Rattle.fr_base.specs.declared.query.Query.TheVariants.{Variant as OfVariant}
 use Rattle.fr_base.specs.declared.refusal.Refusal.{Refusal}
 use Rattle.fr_base.specs.declared.refusal.Refusal.TheVariants.{NoVariant}
 use Rattle.fr_base.specs.declared.report.Report.TheVariants.{Export}
@@ -53,13 +53,13 @@ use Rattle.fr_base.specs.declared.signal.Order.TheVariants.{Little, Big}
 use Rattle.fr_base.proofs.CycleLemmas.{within}
 use Rattle.fr_base.proofs.ParametersLaws.{few_words}
 use Rattle.fr_base.proofs.SoundRefusing.{gives_when}
-use Rattle.fr_base.proofs.SoundTables.{only-stood, same_some}
+use Rattle.fr_base.proofs.SoundTables.{only-stood}
 use Rattle.fr_base.proofs.TableLaws.{equal, none_above}
-use Rattle.fr_text.proofs.ExportLemmas.{IsShort, sizes, file_text, file_read, file_short, part_all, part_few}
+use Rattle.fr_text.proofs.ExportLemmas.{IsShort, file_text, file_read, file_short, part_all, part_few}
 use Rattle.fr_text.proofs.FileLemmas.{IsRecord}
 use Rattle.fr_text.proofs.RecordLemmas.{AreSmall, IsFineFrame, IsFinePlacement, IsFineSignal, frame_words, frame_read, placement_words, placement_read, signal_words, signal_read}
 use Rattle.fr_text.specs.AnswerText.{report_of}
-use Rattle.fr_text.specs.ExportLaws.{ExportIsReadBack, ExportIsWithinBytes, IsExport, rows_in, read_from, sent}
+use Rattle.fr_text.specs.ExportLaws.{ExportIsReadBack, ExportIsWithinBytes, IsExport, read_from, sent}
 use Rattle.fr_text.specs.Report.{frame_record, header_line, lines_of, lines_of_rows, placement_fields, placement_record, signal_fields, signal_record}
 use Rattle.fr_text.specs.Styles.{plain_lines}
 use Rattle.fr_text.specs.Words.{comma_line}
@@ -267,8 +267,8 @@ signal_short r h =
 
 -- what the laws say of rows
 record IsGood (p : Params) (rows : ReportRows) : Type 0 where
-  read : rows_of_body p (sent rows) ≡ read_from 2 (rows_in rows)
-  few : length (rows_in rows) ≤ MAX_ROWS
+  read : rows_of_body p (sent rows) ≡ read_from 2 (exported_rows rows)
+  few : length (exported_rows rows) ≤ MAX_ROWS
   short : length (sent rows) ≤ MAX_IMPORT_BYTES
 
 module _ {R : Type 0} (p : Params) (header : Header) (fields : R → List (List ℕ)) (row : R → Row) (line : R → List ℕ) (same : (r : R) → line r ≡ comma_line (fields r)) where
@@ -277,7 +277,7 @@ module _ {R : Type 0} (p : Params) (header : Header) (fields : R → List (List 
   lines_are (r ∷ records) = rw (same r, lines_are records) refl
 
   -- records of words that are read as their rows, and short
-  good : (rows : ReportRows) (records : List R) → rows_in rows ≡ map row records → sent rows ≡ plain_lines (comma_line (spelled header) ∷ map line records)
+  good : (rows : ReportRows) (records : List R) → exported_rows rows ≡ map row records → sent rows ≡ plain_lines (comma_line (spelled header) ∷ map line records)
       → length records ≤ MAX_ROWS → AllByRecursion (λ r. IsRecord (fields r)) records → AllByRecursion (λ r. row_of p header (fields r) ≡ Ok (row r)) records
       → AllByRecursion (λ r. IsShort (fields r)) records → IsGood p rows
   good rows records are says few words reads shorts =
@@ -317,14 +317,24 @@ export_good c b sound v variant there s Signals part =
     (all_more IsFineSignal _ _ (λ r h. signal_words r h) fine) (all_more IsFineSignal _ _ (λ r h. signal_read c.params r h) fine)
     (all_more IsFineSignal _ _ (λ r h. signal_short r h) fine)
 
--- so are the rows of an export, if there is one
-found_good : (c : Cluster) (b : Book) (s v : Name) (header : Header) (part : ℕ) (rows : ReportRows) → IsSound c b → IsExport c b s v header part rows → IsGood c.params rows
+-- the rows of an export, if there is one, are those of a variant that is there
+pub record IsExported (c : Cluster) (b : Book) (s v : Name) (header : Header) (part : ℕ) (rows : ReportRows) : Type 0 where
+  pub variant : Variant
+  pub there : get b.variants v ≡ Some variant
+  pub are : exported header part (own s variant.frames).rows ≡ rows
+
+pub is_exported : (c : Cluster) (b : Book) (s v : Name) (header : Header) (part : ℕ) (rows : ReportRows) → IsExport c b s v header part rows → IsExported c b s v header part rows
 unfolding found shown ◌>>=◌ ◌or◌
-found_good c b s v header part rows sound is = by (get b.variants v) refl is
+is_exported c b s v header part rows is = by (get b.variants v) refl is
   where
-    by : (o : Option Variant) → get b.variants v ≡ o → ((o or NoVariant) >>= λ variant. shown c.params (Supplier s) variant (Export header part)) ≡ Ok rows → IsGood c.params rows
+    by : (o : Option Variant) → get b.variants v ≡ o → ((o or NoVariant) >>= λ variant. shown c.params (Supplier s) variant (Export header part)) ≡ Ok rows → IsExported c b s v header part rows
     by None there e = cc
-    by (Some variant) there e = subst (IsGood c.params) (same_ok _ rows _ refl e) (export_good c b sound v variant there s header part)
+    by (Some variant) there e = record { variant = variant; there = there; are = same_ok _ rows _ refl e }
+
+found_good : (c : Cluster) (b : Book) (s v : Name) (header : Header) (part : ℕ) (rows : ReportRows) → IsSound c b → IsExport c b s v header part rows → IsGood c.params rows
+found_good c b s v header part rows sound is =
+    let of = is_exported c b s v header part rows is in
+    subst (IsGood c.params) of.are (export_good c b sound v of.variant of.there s header part)
 
 pub export_is_read_back : ExportIsReadBack
 export_is_read_back c b s v header part rows sound is =

@@ -12,3 +12,4 @@ pub mod FileLemmas
 pub mod RecordLemmas
 pub mod ExportLemmas
 pub mod ExportLaws
+pub mod SentLaws

@@ -3,13 +3,13 @@ use Rattle.std.proofs.Common.{◌≡◌, ◌^◌, Bool, true, false, ◌&&◌, S
 use Rattle.std.specs.Prelude.{nat_lt}
 use Rattle.std.specs.List.{list_all}
 use Rattle.fr_base.specs.declared.request.Request.{Request}
-use Rattle.fr_base.specs.declared.request.Request.TheVariants.{OpenVariant, Release, AddSupplier, SetKey, AddNode, Grant, Revoke, AddFrame, DropFrame, Place, Unplace, AddSignal, DropSignal, Import, Replace, Query}
+use Rattle.fr_base.specs.declared.request.Request.TheVariants.{OpenVariant, Release, AddSupplier, SetKey, AddNode, Grant, Revoke, AddFrame, DropFrame, Place, Unplace, AddSignal, DropSignal, Import, Try, Replace, Query}
 use Rattle.fr_base.specs.declared.query.Inventory.TheVariants.{Cluster, Variants, Nodes}
-use Rattle.fr_base.specs.declared.query.Query.TheVariants.{Register as OfRegister, Variant as OfVariant}
+use Rattle.fr_base.specs.declared.query.Query.TheVariants.{Register as OfRegister, Variant as OfVariant, Difference as OfTwo}
 use Rattle.fr_base.specs.declared.report.Report.TheVariants.{Grants, Frames, Schedule, Gaps, Layout, Load, Room, Export}
 use Rattle.fr_base.specs.declared.import.Header.TheVariants as header
-use Rattle.fr_text.specs.Fields.{value_of, text, text_or_null, whole, only, is_among}
-use Rattle.fr_text.specs.RequestText.{open_variant, release, add_supplier, set_key, add_node, grant, revoke, add_frame, drop_frame, place, unplace, add_signal, drop_signal, import, replace, inventory, report, layout, room, export, readers, request_in, request_of}
+use Rattle.fr_text.specs.Fields.{value_of, text, text_or_null, flag, whole, only, is_among}
+use Rattle.fr_text.specs.RequestText.{open_variant, release, add_supplier, set_key, add_node, grant, revoke, add_frame, drop_frame, place, unplace, add_signal, drop_signal, import, trial, replace, inventory, report, layout, room, export, difference, readers, request_in, request_of}
 use Rattle.fr_text.specs.Laws.{fields_of, numbers_of, WrittenIsReadBack}
 
 -- what two tests say that both pass
@@ -19,7 +19,7 @@ both false y h = cc
 
 -- the fields of a request are read as it
 pub fields_read : (r : Request) → IsTrue (list_all (λ n. nat_lt n (2 ^ 32)) (numbers_of r)) → request_in (fields_of r) ≡ Some r
-unfolding request_in readers open_variant release add_supplier set_key add_node grant revoke add_frame drop_frame place unplace add_signal drop_signal import replace inventory report layout room export fields_of text text_or_null whole only is_among
+unfolding request_in readers open_variant release add_supplier set_key add_node grant revoke add_frame drop_frame place unplace add_signal drop_signal import trial replace inventory report layout room export difference fields_of text text_or_null flag whole only is_among
 fields_read (OpenVariant v None) fit = refl
 fields_read (OpenVariant v (Some parent)) fit = refl
 fields_read (Release v) fit = refl
@@ -44,6 +44,7 @@ fields_read (AddSignal v f x start length order) fit =
 fields_read (DropSignal v f x) fit = refl
 fields_read (Import v label body) fit = refl
 fields_read (Replace v body) fit = refl
+fields_read (Try v replaces body) fit = refl
 fields_read (Query (OfRegister Cluster)) fit = refl
 fields_read (Query (OfRegister Variants)) fit = refl
 fields_read (Query (OfRegister Nodes)) fit = refl
@@ -57,6 +58,7 @@ fields_read (Query (OfVariant v (Room f r))) fit = rw (both (nat_lt r (2 ^ 32)) 
 fields_read (Query (OfVariant v (Export header.Frames k))) fit = rw (both (nat_lt k (2 ^ 32)) _ fit).0 refl
 fields_read (Query (OfVariant v (Export header.Placements k))) fit = rw (both (nat_lt k (2 ^ 32)) _ fit).0 refl
 fields_read (Query (OfVariant v (Export header.Signals k))) fit = rw (both (nat_lt k (2 ^ 32)) _ fit).0 refl
+fields_read (Query (OfTwo v from)) fit = refl
 
 pub written_is_read_back : WrittenIsReadBack
 unfolding request_of value_of

@@ -1,8 +1,8 @@
 -- The records of an export, of names and of numbers that fit: their fields are words, and each is read as its row.
-use Rattle.std.proofs.Common.{◌≡◌, ◌∙◌, ap, refl, sym, ℕ, ◌^◌, ◌<◌, ◌≤◌, Bool, true, false, List, [], ◌∷◌, ◌++◌, map, length, Result, Ok, Err, IsTrue, arith}
-use Rattle.std.specs.Prelude.{⊤, decimal, nat_le, nat_lt, ◌&&◌}
-use Rattle.std.specs.List.{AllByRecursion, list_all}
-use Rattle.std.specs.Str.Parse.{AllDigits, digits_value}
+use Rattle.std.proofs.Common.{◌≡◌, refl, sym, ℕ, ◌^◌, ◌<◌, ◌≤◌, true, List, [], ◌∷◌, length, Ok, IsTrue, arith}
+use Rattle.std.specs.Prelude.{decimal, nat_le, nat_lt}
+use Rattle.std.specs.List.{list_all}
+use Rattle.std.specs.Str.Parse.{AllDigits}
 use Rattle.std.proofs.lemmas.Bool.{and_parts}
 use Rattle.std.proofs.lemmas.Bool.Decides.{nat_tests}
 use Rattle.std.proofs.lemmas.Fmt.{decimal_is_IsNumeral, length-decimal-le}
@@ -10,7 +10,6 @@ use Rattle.std.proofs.lemmas.Str.Parse.{digit_from_value}
 use Rattle.csv.specs.Records.{field_at}
 use Rattle.fr_base.specs.Channels.{channels_in, has_channel, text_of_channels}
 use Rattle.fr_base.specs.Checks.{name, cycles, slot, channels, placement, signal}
-use Rattle.fr_base.specs.Cycles.{are_cycles}
 use Rattle.fr_base.specs.ImportRows.{number, frame_row, placement_row, signal_row, row_of}
 use Rattle.fr_base.specs.Names.{is_digit, is_name, is_name_byte}
 use Rattle.fr_base.specs.Refusing.{◌>>=◌, ◌>>◌, ◌or◌, refuse◌when◌}
@@ -25,7 +24,6 @@ use Rattle.fr_base.specs.declared.import.Header.TheVariants.{Frames, Placements,
 use Rattle.fr_base.specs.declared.import.Row.TheVariants.{AddFrame, Place, AddSignal}
 use Rattle.fr_base.specs.declared.params.Params.{Params}
 use Rattle.fr_base.specs.declared.placement.Placement.{Placement}
-use Rattle.fr_base.specs.declared.refusal.Refusal.{Refusal}
 use Rattle.fr_base.specs.declared.signal.Order.{Order}
 use Rattle.fr_base.specs.declared.signal.Order.TheVariants.{Little, Big}
 use Rattle.fr_text.proofs.FileLemmas.{IsWord, IsRecord, word_is_text}

@@ -1,17 +1,15 @@
 -- The lines of a room, as they are written one placement after another.
-use Rattle.std.proofs.Common.{◌≡◌, ℕ, suc, ◌+◌, ◌-◌, ◌<◌, ◌≤◌, ◌∙◌, Bool, true, false, List, [], ◌∷◌, ◌++◌, map, length, take, drop, get_or, refl, sym, ap, append_assoc, append-nil, arith, add-one, drop-cons, if◌then◌else◌, ◌⊎◌, inl, inr}
+use Rattle.std.proofs.Common.{◌≡◌, ℕ, suc, ◌+◌, ◌-◌, ◌<◌, ◌≤◌, ◌∙◌, Bool, true, false, List, [], ◌∷◌, ◌++◌, map, length, take, drop, get_or, refl, sym, ap, append_assoc, append-nil, arith, add-one, drop-cons, if◌then◌else◌}
 use Rattle.std.specs.Prelude.{codes}
-use Rattle.std.proofs.lemmas.Bool.{cases_Bool}
 use Rattle.std.proofs.lemmas.Grind.{flat_map-append}
 use Rattle.std.proofs.lemmas.List.{drop_all, take_all}
 use Rattle.fr_base.specs.Channels.{text_of_channels}
 use Rattle.fr_base.specs.declared.placement.Placement.{Placement}
 use Rattle.fr_text.specs.declared.style.Style.{Style}
-use Rattle.fr_text.specs.RoomLines.{share_line, with_place, groups_of, base_word, group_line, room_lines}
+use Rattle.fr_text.specs.RoomLines.{share_line, groups_of, base_word, group_line, room_lines}
 use Rattle.fr_text.specs.Styles.{before_mark, between_mark, after_mark, joined, marked, set_in}
 use Rattle.fr_text.specs.Words.{two_digits, four_digits, line, behind}
 use Rattle.fr_text.proofs.ReportLemmas.{joined-cons, set_below, set_in-nil}
-use Rattle.fr_text.proofs.WordsLemmas.{adds}
 
 -- a line with more words
 line-more : (w : List ℕ) (ws more : List (List ℕ)) → line (w ∷ (ws ++ more)) ≡ line (w ∷ ws) ++ behind more

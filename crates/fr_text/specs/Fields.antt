@@ -1,12 +1,12 @@
--- Fields: a field of a JSON object is a text, a text that may be null or absent, or a whole number; and no other field
--- is there.
-use Rattle.std.specs.Prelude.{◌≡◌, ◌⊎◌, ℕ, ◌^◌, Bool, List, [], ◌∷◌, nat_lt, if◌then◌else◌, Option, Some, None, is_some, ⊤, Result, Ok, Err, String}
+-- Fields: a field of a JSON object is a text, a text that may be null or absent, a flag that may be absent, or a whole
+-- number; and no other field is there.
+use Rattle.std.specs.Prelude.{◌≡◌, ◌⊎◌, ℕ, ◌^◌, Bool, false, List, [], ◌∷◌, nat_lt, if◌then◌else◌, Option, Some, None, is_some, ⊤, Result, Ok, Err, String}
 use Rattle.std.specs.BTreeMap.{BTreeMap}
 use Rattle.std.specs.Global.{Global}
 use Rattle.std.specs.List.{list_all, list_any}
 use Rattle.std.specs.Str.{bytes_eq, is_utf8}
 use Rattle.serde_json.specs.Data.{Data, Members, no_members, member}
-use Rattle.serde_json.specs.Find.{get_member, as_null, as_str, as_number, as_u64}
+use Rattle.serde_json.specs.Find.{get_member, as_null, as_bool, as_str, as_number, as_u64}
 use Rattle.serde_json.specs.Read.{read}
 use Rattle.serde_json.specs.View.{members_view}
 use Rattle.serde_json.specs.declared.value.Value.{Value}
@@ -60,6 +60,14 @@ text_or_null name fields = text_in (get_member name fields)
     text_in : Option Data → Option (Option (List ℕ))
     text_in None = Some None
     text_in (Some value) = if is_some (as_null value) then Some None else (as_str value >>= λ there. Some (Some there))
+
+-- the field of this name, true or false; it may be absent, and is false then
+unfoldable pub flag : List ℕ → Members → Option Bool
+flag name fields = flag_in (get_member name fields)
+  where
+    flag_in : Option Data → Option Bool
+    flag_in None = Some false
+    flag_in (Some value) = as_bool value
 
 -- the field of this name, a whole number from 0 to 4,294,967,295
 unfoldable pub whole : List ℕ → Members → Option ℕ

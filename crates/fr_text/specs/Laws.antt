@@ -2,13 +2,13 @@
 use Rattle.std.specs.Prelude.{◌≡◌, ℕ, ◌^◌, List, [], ◌∷◌, codes, nat_lt, Option, Some, None, IsTrue}
 use Rattle.std.specs.List.{list_all}
 use Rattle.std.specs.Str.{is_utf8}
-use Rattle.serde_json.specs.Data.{Data, Members, no_members, string, number, unsigned, null, object, put}
+use Rattle.serde_json.specs.Data.{Data, Members, no_members, boolean, string, number, unsigned, null, object, put}
 use Rattle.serde_json.specs.Read.{read}
 use Rattle.fr_base.specs.Queries.{word_of_query}
 use Rattle.fr_base.specs.declared.request.Request.{Request}
-use Rattle.fr_base.specs.declared.request.Request.TheVariants.{OpenVariant, Release, AddSupplier, SetKey, AddNode, Grant, Revoke, AddFrame, DropFrame, Place, Unplace, AddSignal, DropSignal, Import, Replace, Query}
+use Rattle.fr_base.specs.declared.request.Request.TheVariants.{OpenVariant, Release, AddSupplier, SetKey, AddNode, Grant, Revoke, AddFrame, DropFrame, Place, Unplace, AddSignal, DropSignal, Import, Try, Replace, Query}
 use Rattle.fr_base.specs.declared.query.Query as asked
-use Rattle.fr_base.specs.declared.query.Query.TheVariants.{Register as OfRegister, Variant as OfVariant}
+use Rattle.fr_base.specs.declared.query.Query.TheVariants.{Register as OfRegister, Variant as OfVariant, Difference as OfTwo}
 use Rattle.fr_base.specs.declared.report.Report.{Report}
 use Rattle.fr_base.specs.declared.report.Report.TheVariants.{Layout, Room, Export}
 use Rattle.fr_text.specs.RequestText.{request_of}
@@ -38,6 +38,7 @@ report_fields _ = []
 abbrev pub query_fields : asked.Query (List ℕ) ℕ → List (List ℕ × Data)
 query_fields (OfRegister held) = []
 query_fields (OfVariant v report) = (codes "variant", string v) ∷ report_fields report
+query_fields (OfTwo v from) = (codes "variant", string v) ∷ (codes "from", string from) ∷ []
 
 -- the fields that a request is written with
 unfoldable pub fields_of : Request → Members
@@ -56,6 +57,7 @@ fields_of (AddSignal v f x start length order) = fields ((codes "do", string (co
 fields_of (DropSignal v f x) = fields ((codes "do", string (codes "drop_signal")) ∷ (codes "variant", string v) ∷ (codes "frame", string f) ∷ (codes "signal", string x) ∷ [])
 fields_of (Import v label body) = fields ((codes "do", string (codes "import")) ∷ (codes "variant", string v) ∷ (codes "label", string label) ∷ (codes "body", string body) ∷ [])
 fields_of (Replace v body) = fields ((codes "do", string (codes "replace")) ∷ (codes "variant", string v) ∷ (codes "body", string body) ∷ [])
+fields_of (Try v replaces body) = fields ((codes "do", string (codes "try")) ∷ (codes "variant", string v) ∷ (codes "body", string body) ∷ (codes "replace", boolean replaces) ∷ [])
 fields_of (Query query) = fields ((codes "do", string (word_of_query query)) ∷ query_fields query)
 
 -- a query's numbers

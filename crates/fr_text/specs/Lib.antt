@@ -5,6 +5,7 @@ pub mod RequestText
 pub mod ImportText
 pub mod Words
 pub mod RoomLines
+pub mod FateLines
 pub mod Report
 pub mod Styles
 pub mod AnswerText

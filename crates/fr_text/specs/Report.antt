@@ -1,5 +1,5 @@
 -- Report: the lines of each report, with a gap right in seven places. The supplier's name stands at the end of each but
--- `AT` lines, those of the cluster and of variants, and those of a room, for the integrator alone.
+-- the `AT` lines of frames, those of the cluster and of variants, and those of a room and of fates, for the integrator alone.
 use Rattle.std.specs.Prelude.{ℕ, Bool, List, [], ◌∷◌, ◌++◌, map, codes, decimal, Option, Some, None, if◌then◌else◌}
 use Rattle.std.specs.List.{flat_map}
 use Rattle.fr_base.specs.Channels.{text_of_channel, text_of_channels}
@@ -24,11 +24,15 @@ use Rattle.fr_base.specs.declared.answer.LaneHolder.{LaneHolder}
 use Rattle.fr_base.specs.declared.answer.FrameRecord.{FrameRecord}
 use Rattle.fr_base.specs.declared.answer.PlacementRecord.{PlacementRecord}
 use Rattle.fr_base.specs.declared.answer.SignalRecord.{SignalRecord}
+use Rattle.fr_base.specs.declared.answer.DifferenceRow.{DifferenceRow}
+use Rattle.fr_base.specs.declared.answer.SeenRow.{SeenRow}
+use Rattle.fr_base.specs.declared.answer.SeenRow.TheVariants as seen
 use Rattle.fr_base.specs.declared.import.Header.{Header}
 use Rattle.fr_base.specs.declared.import.Header.TheVariants as header
 use Rattle.fr_base.specs.declared.name.Name.{Name}
 use Rattle.fr_base.specs.declared.placement.Placement.{Placement}
 use Rattle.fr_text.specs.RoomLines.{room_lines}
+use Rattle.fr_text.specs.FateLines.{fate_line}
 use Rattle.fr_text.specs.Words.{two_digits, four_digits, right_in, gap_word, line, comma_line, shown_to}
 
 -- slot, channel and node
@@ -113,6 +117,21 @@ placement_record all r = comma_line (r.frame ∷ r.node ∷ placement_fields r.p
 unfoldable pub signal_record : Bool → SignalRecord → List ℕ
 signal_record all r = comma_line (r.frame ∷ signal_fields r.signal ++ shown_to all r.supplier)
 
+-- a row of a variant as a difference has it, whose line can be read alone: a grant, a frame and its node, a placement of a frame, a
+-- signal of a frame, a frame's greatest gap
+unfoldable pub seen_line : Bool → SeenRow → List ℕ
+seen_line all (seen.Grant g) = line (codes "GRANT" ∷ four_digits g.slot ∷ text_of_channel g.channel ∷ g.node ∷ shown_to all g.supplier)
+seen_line all (seen.Frame f) = line (codes "FRAME" ∷ f.frame ∷ f.node ∷ shown_to all f.supplier)
+seen_line all (seen.Placement f q s) =
+    line (codes "AT" ∷ f ∷ four_digits q.slot ∷ text_of_channels q.channels ∷ two_digits q.cycles.base ∷ two_digits q.cycles.repetition ∷ shown_to all s)
+seen_line all (seen.Signal r) =
+    line (codes "SIGNAL" ∷ r.frame ∷ four_digits r.signal.start ∷ two_digits r.signal.length ∷ text_of_order r.signal.order ∷ r.signal.name ∷ shown_to all r.supplier)
+seen_line all (seen.Gap g) = gap_line all g
+
+-- the sign of a row that is gone, or new, and the row
+unfoldable pub difference_line : Bool → DifferenceRow → List ℕ
+difference_line all d = (if d.is_new then codes "+ " else codes "- ") ++ seen_line all d.row
+
 -- the lines of a report's rows
 unfoldable pub lines_of_rows : Bool → ReportRows → List (List ℕ)
 lines_of_rows all (rows.Cluster cluster) = map cluster_line cluster
@@ -128,6 +147,8 @@ lines_of_rows all (rows.Room places) = room_lines places
 lines_of_rows all (rows.FrameRecords records) = header_line all header.Frames ∷ map (frame_record all) records
 lines_of_rows all (rows.PlacementRecords records) = header_line all header.Placements ∷ map (placement_record all) records
 lines_of_rows all (rows.SignalRecords records) = header_line all header.Signals ∷ map (signal_record all) records
+lines_of_rows all (rows.Difference differences) = map (difference_line all) differences
+lines_of_rows all (rows.Fates fates) = map fate_line fates
 
 -- the lines of an answer; one that answers no query has none
 unfoldable pub lines_of : Answer → List (List ℕ)

@@ -6,15 +6,15 @@ use Rattle.std.specs.Str.{bytes_eq}
 use Rattle.serde_json.specs.Data.{Members}
 use Rattle.serde_json.specs.Find.{as_object}
 use Rattle.fr_base.specs.declared.request.Request.{Request}
-use Rattle.fr_base.specs.declared.request.Request.TheVariants.{OpenVariant, Release, AddSupplier, SetKey, AddNode, Grant, Revoke, AddFrame, DropFrame, Place, Unplace, AddSignal, DropSignal, Import, Replace, Query}
+use Rattle.fr_base.specs.declared.request.Request.TheVariants.{OpenVariant, Release, AddSupplier, SetKey, AddNode, Grant, Revoke, AddFrame, DropFrame, Place, Unplace, AddSignal, DropSignal, Import, Replace, Try, Query}
 use Rattle.fr_base.specs.declared.query.Inventory.{Inventory}
 use Rattle.fr_base.specs.declared.query.Inventory.TheVariants.{Cluster, Variants, Nodes}
-use Rattle.fr_base.specs.declared.query.Query.TheVariants.{Register as OfRegister, Variant as OfVariant}
+use Rattle.fr_base.specs.declared.query.Query.TheVariants.{Register as OfRegister, Variant as OfVariant, Difference as OfTwo}
 use Rattle.fr_base.specs.declared.report.Report.{Report}
 use Rattle.fr_base.specs.declared.report.Report.TheVariants.{Grants, Frames, Schedule, Gaps, Layout, Load, Room, Export}
 use Rattle.fr_base.specs.declared.import.Header.{Header}
 use Rattle.fr_base.specs.declared.import.Header.TheVariants as header
-use Rattle.fr_text.specs.Fields.{◌>>=◌, ◌>>◌, provided, value_of, only, text, text_or_null, whole}
+use Rattle.fr_text.specs.Fields.{◌>>=◌, ◌>>◌, provided, value_of, only, text, text_or_null, flag, whole}
 
 -- ---- the integrator's
 
@@ -144,6 +144,14 @@ replace fields = do
   body ← text (codes "body") fields
   Some (Replace variant body)
 
+unfoldable pub trial : Members → Option Request
+trial fields = do
+  provided (only (codes "do" ∷ codes "variant" ∷ codes "body" ∷ codes "replace" ∷ []) fields)
+  variant ← text (codes "variant") fields
+  body ← text (codes "body") fields
+  replaces ← flag (codes "replace") fields
+  Some (Try variant replaces body)
+
 -- ---- queries
 
 -- what the register holds
@@ -184,6 +192,14 @@ export header fields = do
   part ← whole (codes "part") fields
   Some (Query (OfVariant variant (Export header part)))
 
+-- in what two variants differ
+unfoldable pub difference : Members → Option Request
+difference fields = do
+  provided (only (codes "do" ∷ codes "variant" ∷ codes "from" ∷ []) fields)
+  variant ← text (codes "variant") fields
+  from ← text (codes "from") fields
+  Some (Query (OfTwo variant from))
+
 -- ---- the request
 
 -- what each name of a request reads
@@ -204,9 +220,11 @@ readers =
     ∷ (codes "drop_signal", drop_signal)
     ∷ (codes "import", import)
     ∷ (codes "replace", replace)
+    ∷ (codes "try", trial)
     ∷ (codes "cluster", inventory Cluster)
     ∷ (codes "variants", inventory Variants)
     ∷ (codes "nodes", inventory Nodes)
+    ∷ (codes "diff", difference)
     ∷ (codes "grants", report Grants)
     ∷ (codes "frames", report Frames)
     ∷ (codes "schedule", report Schedule)

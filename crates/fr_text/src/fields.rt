@@ -4,7 +4,7 @@ ghost use Rattle.std.specs.Str.{is_utf8};
 ghost use Rattle.serde_json.specs.Errors.{IsMemory};
 ghost use Rattle.serde_json.specs.Find.{get_member};
 ghost use Rattle.serde_json.specs.View.{view};
-ghost use Rattle.fr_text.specs.Fields.{fields_in, value_of, text, text_or_null, whole, is_among, only, provided, Reads};
+ghost use Rattle.fr_text.specs.Fields.{fields_in, value_of, text, text_or_null, flag, whole, is_among, only, provided, Reads};
 
 use fr_base::{Refusal, Text};
 use serde_json::{Error, Map, Value};
@@ -71,6 +71,18 @@ pub(crate) fn copy_text_or_null(
     match text_or_null_in(fields, name)? {
         Some(text) => Ok(Some(Text::copy(alloc, text)?)),
         None => Ok(None),
+    }
+}
+
+/// The field of this name, `true` or `false`; `false` where it is absent.
+#[tactic(auto, unfolding(crate::specs::Fields::flag))]
+pub(crate) fn flag_in(fields: &Fields, name: &str) -> Result<bool, Refusal>
+    ensures there { Reads (λ b. b) (flag name.now (fields_in fields.now)) result }
+    ensures plain { IfErr result (λ refusal. refusal ≡ Refusal.BadText) }
+{
+    match field(fields, name) {
+        None => Ok(false),
+        Some(value) => value.as_bool().ok_or(Refusal::BadText),
     }
 }
 

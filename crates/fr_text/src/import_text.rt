@@ -1,6 +1,6 @@
 //! Reads an import's file: comma-separated records, of which the first is a header that says what the
 //! others are.
-ghost use Rattle.std.specs.Prelude.{◌≡◌, ◌∷◌, ◌&&◌, [], map, MatchResult, Ok, Err, Some, None, if◌then◌else◌, ◌++◌, true, false, IfOk, IfSome, OnOk};
+ghost use Rattle.std.specs.Prelude.{◌≡◌, ◌∷◌, ◌&&◌, ◌+◌, [], map, take, MatchResult, Ok, Err, Some, None, if◌then◌else◌, ◌++◌, true, false, IfOk, IfSome, OnOk};
 ghost use Rattle.std.specs.Option.{MatchOption};
 ghost use Rattle.std.specs.Result.{is_ok};
 ghost use Rattle.std.specs.Cmp.Lexicographic.{pointwise};
@@ -8,7 +8,8 @@ ghost use Rattle.csv.specs.Records.{field_at, fields_of};
 ghost use Rattle.fr_base.specs.Names.{same_text};
 ghost use Rattle.fr_base.specs.declared.params.RawParams.{RawParams};
 ghost use Rattle.fr_base.specs.declared.params.Params.{Params};
-ghost use Rattle.fr_base.specs.ImportRows.{records_of, spelled, header_of, text_at, number, number_at, frame_in, placement_in, signal_in, row_of, rows_from, rows_below, rows_of_records, rows_of_body, up_to_refused};
+ghost use Rattle.fr_base.specs.ImportRows.{records_of, spelled, header_of, text_at, number, number_at, frame_in, placement_in, signal_in, row_of, rows_from, rows_below, rows_of_records, rows_of_body, all_rows_of_body, up_to_refused};
+ghost use Rattle.fr_base.specs.declared.limits.TheConstants.{MAX_ROWS};
 
 use csv::{ByteRecord, Reader, ReaderBuilder};
 use fr_base::{Header, MAX_ROWS, Name, NoMemory, Params, Refusal, Row, RowRead, Rows};
@@ -25,6 +26,24 @@ pub fn read_import(alloc: Global, params: &Params, body: &[u8]) -> Result<Rows<R
     let mut rows = Rows::new(alloc);
     match read_header(&mut records, &mut fields)? {
         Some(header) => push_rows(&mut rows, params, header, &mut records, &mut fields)?,
+        None => rows.push(RowRead {
+            line: 1,
+            row: Err(Refusal::BadText),
+        })?,
+    }
+    Ok(rows)
+}
+
+/// Reads all the rows of a file, each checked as one of an import is, or its own refusal. A row behind 512 others is
+/// the last, and refused. Want of memory is `Unavailable`.
+pub fn read_rows(alloc: Global, params: &Params, body: &[u8]) -> Result<Rows<RowRead>, Refusal>
+    ensures { MatchResult result (λ rows. rows ≡ all_rows_of_body params.now body.now) (λ refusal. refusal ≡ Refusal.Unavailable) }
+{
+    let mut records = Records::new(alloc, body);
+    let mut fields = ByteRecord::new(alloc);
+    let mut rows = Rows::new(alloc);
+    match read_header(&mut records, &mut fields)? {
+        Some(header) => push_all(&mut rows, params, header, &mut records, &mut fields)?,
         None => rows.push(RowRead {
             line: 1,
             row: Err(Refusal::BadText),
@@ -75,6 +94,35 @@ fn push_rows(
         rows.push(RowRead {
             line: MAX_ROWS + 2,
             row: Err(Refusal::Limit),
+        })?;
+    }
+    Ok(())
+}
+
+// Appends the rows that the records behind the header are, each a row or its own refusal, and the one that is too many.
+fn push_all(
+    rows: &mut Rows<RowRead>,
+    params: &Params,
+    header: Header,
+    records: &mut Records<'_>,
+    fields: &mut ByteRecord,
+) -> Result<(), Refusal>
+    ensures { MatchResult result
+        (λ _. rows.new ≡ rows.old ++ take (MAX_ROWS + 1) (rows_from params.now header 2 records.old))
+        (λ refusal. refusal ≡ Refusal.Unavailable) }
+{
+    // The header is line 1.
+    for line in 2..MAX_ROWS + 2 {
+        if !records.read(fields)? {
+            return Ok(());
+        }
+        push_row(rows, line, params, header, fields)?;
+    }
+    if records.read(fields)? {
+        let row = Err(Refusal::Limit);
+        rows.push(RowRead {
+            line: MAX_ROWS + 2,
+            row,
         })?;
     }
     Ok(())

@@ -15,8 +15,13 @@ mod words;
 
 pub use answer_text::write_answer;
 pub use cluster_file::{ConfigFault, read_config};
-pub use import_text::{Records, header_of, names, number_at, read_import, read_number, text_at};
-pub use laws::{export_is_read_back, export_is_within_bytes, written_is_read_back};
+pub use import_text::{
+    Records, header_of, names, number_at, read_import, read_number, read_rows, text_at,
+};
+pub use laws::{
+    export_is_read_back, export_is_within_bytes, sent_back_changes_nothing, sent_is_imported,
+    written_is_read_back,
+};
 pub use output::{Output, WRITE_RETRIES, WriteFailed};
 pub use report::write_lines;
 pub use request_text::read_command;

@@ -6,6 +6,8 @@ ghost use Rattle.fr_text.specs.Styles.{joined, lines_in, marked, set_in};
 ghost use Rattle.fr_text.specs.Words.{Extends};
 
 mod cluster;
+mod differences;
+mod fates;
 mod frames;
 mod gaps;
 mod grants;
@@ -102,6 +104,8 @@ pub(crate) fn push_lines(
         ReportRows::SignalRecords(records) => {
             push_records(Header::Signals, records.as_slice(), all, style, out)
         }
+        ReportRows::Difference(rows) => push_rows(rows.as_slice(), all, style, out),
+        ReportRows::Fates(rows) => push_rows(rows.as_slice(), all, style, out),
     }
 }
 

@@ -1,14 +1,14 @@
 -- Changes that free a row's frame: the page admits them, one after the other, and then the frame has no placements, or no
 -- signals.
-use Rattle.std.proofs.Common.{◌≡◌, ◌≢◌, ℕ, IsTrue, ◌||◌, Bool, true, false, not, cond, All, AllPairs, List, [], ◌∷◌, map, filter, Option, Some, None, Ok, refl, sym, ap, subst, ◌∙◌, inl, inr, is_some, Ordering, Less, Equal, Greater}
+use Rattle.std.proofs.Common.{◌≡◌, ◌≢◌, ℕ, IsTrue, ◌||◌, Bool, true, false, not, cond, All, AllPairs, List, [], ◌∷◌, map, filter, Option, Some, None, Ok, refl, sym, ap, subst, ◌∙◌, is_some, Ordering, Less, Equal, Greater}
 use Rattle.std.specs.Prelude.{T, ⊤}
 use Rattle.std.specs.Ordering.{is_eq, is_lt, eq_by_cmp}
 use Rattle.std.specs.FinMap.Entries.{find, is_sorted, below_all}
 use Rattle.std.proofs.lemmas.List.Elements.{All-head, All-tail}
 use Rattle.fr_base.specs.TableRows.{first, second}
-use Rattle.fr_base.specs.Refusing.{◌>>=◌, ◌>>◌, ◌or◌, refuse◌when◌}
+use Rattle.fr_base.specs.Refusing.{◌>>=◌, ◌or◌, refuse◌when◌}
 use Rattle.fr_base.specs.Tables.{Order, Table, empty, get, contains, insert, only, remove, settle}
-use Rattle.fr_base.specs.Keys.{owned, placement_order}
+use Rattle.fr_base.specs.Keys.{owned}
 use Rattle.fr_base.specs.Names.{same_text}
 use Rattle.fr_base.specs.Layouts.{has_signal, without_signal}
 use Rattle.fr_base.specs.Signals.{SignalData}
@@ -22,7 +22,7 @@ use Rattle.fr_base.specs.declared.placement.Placement.{Placement}
 use Rattle.fr_base.specs.declared.request.Change.TheVariants as change
 use Rattle.fr_base.specs.declared.request.FrameChange.{FrameChange}
 use Rattle.fr_base.specs.declared.request.FrameChange.TheVariants.{Unplace, DropSignal}
-use Rattle.fr_base.proofs.TableLaws.{equal, get-insert, insert-same, same_rows, same_table}
+use Rattle.fr_base.proofs.TableLaws.{get-insert, insert-same, same_rows, same_table}
 use Rattle.fr_base.proofs.SoundTables.{same_key}
 use Rattle.fr_base.proofs.SoundRows.{same_text-is}
 use Rattle.fr_base.proofs.AloneCells.{same_text-itself}

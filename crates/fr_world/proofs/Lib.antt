@@ -46,9 +46,13 @@ pub mod PlaceLaws
 pub mod ReadLaws
 pub mod FreeingLaws
 pub mod ReplacementRows
+pub mod TrialRows
 pub mod ReplacementsLead
 pub mod ReplacementsDecide
+pub mod TrialsDecide
 pub mod RoomLaws
 pub mod RecordLaws
 pub mod PartLaws
 pub mod LoadLaws
+pub mod DifferenceSteps
+pub mod MergeSplit

@@ -1,10 +1,8 @@
 -- A draft after rows of a replacement: what frees their frames, and then the rows.
-use Rattle.std.proofs.Common.{◌≡◌, ◌++◌, List, [], ◌∷◌, Result, Ok, Err, IfOk, refl, sym, ap, subst, ◌∙◌}
+use Rattle.std.proofs.Common.{◌≡◌, List, [], ◌∷◌, Result, Ok, Err, IfOk, refl, subst, ◌∙◌}
 use Rattle.fr_base.specs.Refusing.{◌>>=◌}
-use Rattle.fr_base.specs.Tables.{Table, get}
-use Rattle.fr_base.specs.Keys.{owned}
-use Rattle.fr_base.specs.Book.{Frame}
-use Rattle.fr_base.specs.Step.{OwnRows, at_line, frame_of_row}
+use Rattle.fr_base.specs.Tables.{get}
+use Rattle.fr_base.specs.Step.{at_line, frame_of_row}
 use Rattle.fr_base.specs.declared.import.Row.{Row}
 use Rattle.fr_base.specs.declared.import.Row.TheVariants as row
 use Rattle.fr_base.specs.declared.import.RowRead.{RowRead}
@@ -33,7 +31,7 @@ pub all_freed-params : (reads : List RowRead) (d : DraftData) → Keeps d (free_
 all_freed-params [] d = refl
 all_freed-params (read ∷ rest) d = all_freed-params rest (free_row d read.row) ∙ freed-params d read.row
 
-replace_row-keeps : (d : DraftData) (r : Row) → IfOk (replace_row d r) (Keeps d)
+pub replace_row-keeps : (d : DraftData) (r : Row) → IfOk (replace_row d r) (Keeps d)
 unfolding replace_row
 replace_row-keeps d (row.AddFrame f n) = frame-keeps d f n
 replace_row-keeps d (row.Place f n q) = row-keeps d (row.Place f n q)

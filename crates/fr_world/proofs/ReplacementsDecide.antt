@@ -1,9 +1,9 @@
 -- What a supplier's replacement is decided to on the supplier's page is what it makes of the register.
-use Rattle.std.proofs.Common.{◌≡◌, ℕ, false, not, List, [], ◌∷◌, map, Option, Some, None, is_some, Result, Ok, Err, IfOk, IsTrue, refl, sym, ap, subst, ◌∙◌}
+use Rattle.std.proofs.Common.{◌≡◌, ℕ, false, not, List, [], ◌∷◌, map, Option, Some, None, Result, Ok, Err, IfOk, IsTrue, refl, sym, ap, subst, ◌∙◌}
 use Rattle.std.specs.List.{AllByRecursion}
-use Rattle.fr_base.specs.Refusing.{◌>>=◌, ◌>>◌, refuse◌when◌}
-use Rattle.fr_base.specs.Tables.{Table, get, contains, settle}
-use Rattle.fr_base.specs.Keys.{names, owned}
+use Rattle.fr_base.specs.Refusing.{◌>>=◌}
+use Rattle.fr_base.specs.Tables.{get, contains, settle}
+use Rattle.fr_base.specs.Keys.{owned}
 use Rattle.fr_base.specs.Cluster.{Cluster}
 use Rattle.fr_base.specs.Book.{Frame, Variant, Book, is_of}
 use Rattle.fr_base.specs.ImportRows.{rows_of_body}
@@ -30,7 +30,6 @@ use Rattle.fr_base.proofs.SoundChecks.{IsFormedFrame}
 use Rattle.fr_base.proofs.SoundTables.{same_some, get-passing}
 use Rattle.fr_world.specs.BookEdits.{applied, all_applied, changed_at}
 use Rattle.fr_world.specs.Decisions.{admits_alone}
-use Rattle.fr_world.specs.Edits.{rows_after}
 use Rattle.fr_world.specs.Pages.{page_in}
 use Rattle.fr_world.specs.ReplacementDecisions.{AreAdmitted, free_row, free_rows, freeing, replace_read, replace_row, replace_rows, replacement_decision, with_changes}
 use Rattle.fr_world.specs.RowDecisions.{DraftData, draft_of, make_frame, with_change, with_frame}
@@ -128,7 +127,7 @@ module _ (c : Cluster) (start : Book) (s v : Name) where
       (changes-drawn f (freeing r there) b d draws (freeing-formed c.params f r there) (freeing-admitted d.page r there refl apart))
   freed-drawn b d draws (Err e) = subst (λ e. Drawn e d) (sym (same-book b d draws)) draws
 
-  all_freed-drawn : (reads : List RowRead) (b : Book) (d : DraftData) → (draws : Drawn b d) → Drawn (with_freed b s v draws.x reads) (free_rows d reads)
+  pub all_freed-drawn : (reads : List RowRead) (b : Book) (d : DraftData) → (draws : Drawn b d) → Drawn (with_freed b s v draws.x reads) (free_rows d reads)
   unfolding step.free_rows
   all_freed-drawn [] b d draws = subst (λ e. Drawn e d) (sym (same-book b d draws)) draws
   all_freed-drawn (read ∷ rest) b d draws =
@@ -145,7 +144,7 @@ module _ (c : Cluster) (start : Book) (s v : Name) where
   abbrev Alike : {E : Type 0} → Result Book E → Result DraftData E → Type 0
   Alike = Like c start s v
 
-  replace_row-like : (b : Book) (d : DraftData) → Drawn b d → (r : Row) → IsFormedRow c.params r → Alike (step.replace_row c.params b s v r) (replace_row d r)
+  pub replace_row-like : (b : Book) (d : DraftData) → Drawn b d → (r : Row) → IsFormedRow c.params r → Alike (step.replace_row c.params b s v r) (replace_row d r)
   unfolding step.replace_row replace_row make_frame
   replace_row-like b d draws (row.AddFrame f n) form =
       like_when c start s v NoNode _ _ _ _ (ap not (node-shown c start s v b d draws n))

@@ -217,7 +217,7 @@ formed-checked p (Ok (row.Place f n q)) form = form.1
 formed-checked p (Ok (row.AddSignal f signal)) form = form.1
 formed-checked p (Err e) form = tt
 
-all-checked : (p : Params) (reads : List RowRead) → AllByRecursion (IsFormedRead p) reads → AllByRecursion (λ read. IfOk read.row (IsCheckedRow p)) reads
+pub all-checked : (p : Params) (reads : List RowRead) → AllByRecursion (IsFormedRead p) reads → AllByRecursion (λ read. IfOk read.row (IsCheckedRow p)) reads
 all-checked p [] forms = tt
 all-checked p (read ∷ rest) forms = (formed-checked p read.row forms.0, all-checked p rest forms.1)
 

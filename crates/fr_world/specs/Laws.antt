@@ -1,7 +1,7 @@
 -- Laws: in a sound book what is decided on a supplier's page is the register's step, of a change and of an import's
 -- rows, and the edits that a page decides lead it to what the change or the rows make of it. They fit the register's
 -- rows. An edit does the same to the book and to the page, and leaves others' pages.
-use Rattle.std.specs.Prelude.{◌≡◌, ◌||◌, ◌++◌, ℕ, List, [], ◌∷◌, false, Option, Some, None, Ok, IsTrue, IsFalse}
+use Rattle.std.specs.Prelude.{◌≡◌, ◌||◌, ◌++◌, ℕ, Bool, List, [], ◌∷◌, false, Option, Some, None, Ok, IsTrue, IsFalse}
 use Rattle.fr_base.specs.Refusing.{◌>>=◌, ◌>>◌, refuse◌when◌}
 use Rattle.fr_base.specs.Tables.{get, contains}
 use Rattle.fr_base.specs.Cluster.{Cluster}
@@ -11,8 +11,8 @@ use Rattle.fr_base.specs.Names.{same_text}
 use Rattle.fr_base.specs.Parameters.{check_params}
 use Rattle.fr_base.specs.Book.{Variant, Kept, Book, file_of}
 use Rattle.fr_base.specs.Sound.{IsSound}
-use Rattle.fr_base.specs.ImportRows.{rows_of_body}
-use Rattle.fr_base.specs.Step.{add_supplier, set_key, add_node, common, change_rows, own_rows, act_rows, import, with_freed, replace_rows}
+use Rattle.fr_base.specs.ImportRows.{rows_of_body, all_rows_of_body}
+use Rattle.fr_base.specs.Step.{add_supplier, set_key, add_node, common, change_rows, own_rows, act_rows, import, with_freed, replace_rows, fates_of, tried}
 use Rattle.fr_base.specs.Room.{room_in}
 use Rattle.fr_base.specs.declared.channel.Channel.{Channel}
 use Rattle.fr_base.specs.declared.import.RowRead.{RowRead}
@@ -34,6 +34,7 @@ use Rattle.fr_world.specs.ImportLabels.{after_label, label_decision}
 use Rattle.fr_world.specs.ImportLimits.{new_import}
 use Rattle.fr_world.specs.ReplacementDecisions.{replacement_decision}
 use Rattle.fr_world.specs.RowDecisions.{AreChecked, rows_decision}
+use Rattle.fr_world.specs.Trials.{trial}
 use Rattle.fr_world.specs.declared.edit.Edit.{Edit}
 use Rattle.fr_world.specs.declared.edit.Edit.TheVariants.{NewSupplier, SetKey, KeepImport}
 use Rattle.fr_world.specs.Nodes.{new_node}
@@ -79,9 +80,21 @@ ReplacementDecides = (c : Cluster) (b : Book) (s v : Name) (x : Variant) (body :
     replace_rows c.params (with_freed b s v x (rows_of_body c.params body)) s v (rows_of_body c.params body)
     ≡ (replacement_decision (page_in c.params b s v x) (rows_of_body c.params body) >>= λ edits. Ok (all_applied b edits))
 
+-- In a sound book what would become of each row of a supplier's file, in a variant that is there and open, is what would on the
+-- supplier's page.
+abbrev pub TrialDecides : Type 0
+TrialDecides = (c : Cluster) (b : Book) (s v : Name) (x : Variant) (body : List ℕ) (replaces : Bool) →
+    IsSound c b → get b.variants v ≡ Some x → IsFalse x.released → IsTrue (contains b.suppliers s) →
+    fates_of c.params replaces (tried replaces b s v x (rows_of_body c.params body)) s v (all_rows_of_body c.params body)
+    ≡ trial replaces (page_in c.params b s v x) (all_rows_of_body c.params body)
+
 -- The rows of a file are checked under the parameters that they are read by.
 abbrev pub RowsAreChecked : Type 0
 RowsAreChecked = (p : Params) (body : List ℕ) → AreChecked p (rows_of_body p body)
+
+-- So are all of them, to the file's end.
+abbrev pub AllRowsAreChecked : Type 0
+AllRowsAreChecked = (p : Params) (body : List ℕ) → AreChecked p (all_rows_of_body p body)
 
 -- What rows are decided to on a page, whose parameters make a cluster: the edits fit the page, which takes them one after the other.
 abbrev pub RowsLead : Type 0

@@ -2,12 +2,14 @@ pub mod Maps
 pub mod Masks
 pub mod PageCells
 pub mod Pages
+pub mod KeyedRows
 pub mod Parts
 pub mod Decisions
 pub mod Rooms
 pub mod Edits
 pub mod RowDecisions
 pub mod ReplacementDecisions
+pub mod Trials
 pub mod Drafts
 pub mod RowFaults
 pub mod BookEdits

@@ -1,6 +1,6 @@
 -- Part: which frames a part of an export takes, as they come one after another with their records; and what of the
 -- records that are still to come is in it.
-use Rattle.std.specs.Prelude.{ℕ, zero, suc, ◌-◌, ◌||◌, Bool, true, false, nat_le, nat_lt, ◌==◌, List, [], if◌then◌else◌}
+use Rattle.std.specs.Prelude.{ℕ, zero, suc, ◌-◌, Bool, true, false, nat_le, List, [], if◌then◌else◌}
 use Rattle.fr_base.specs.Exports.{fitting, part_of}
 use Rattle.fr_base.specs.declared.limits.TheConstants.{MAX_ROWS}
 use Rattle.fr_world.specs.declared.part.Part.{Part}

@@ -1,6 +1,6 @@
 -- Decision on a replacement: what its rows are decided to on a page, the edits or the first refused row. First each
 -- frame that a row names is freed, and then the rows act in turn.
-use Rattle.std.specs.Prelude.{◌≡◌, List, [], ◌∷◌, map, Option, Some, None, Result, Ok, Err, ⊤}
+use Rattle.std.specs.Prelude.{◌≡◌, List, [], ◌∷◌, map, Option, Some, Result, Ok, Err, ⊤}
 use Rattle.fr_base.specs.Refusing.{◌>>=◌}
 use Rattle.fr_base.specs.Tables.{get}
 use Rattle.fr_base.specs.Book.{Frame}

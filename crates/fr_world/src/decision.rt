@@ -14,6 +14,7 @@ mod placements;
 mod replacement;
 pub(crate) mod rows;
 mod signals;
+mod trial;
 
 use crate::edit::Edit;
 use crate::page::Page;
@@ -22,6 +23,7 @@ use fr_base::{Change, FrameChange, Name, Refusal};
 pub use import_rows::{RowFault, decide_rows};
 pub use replacement::decide_replacement;
 use std::alloc::Global;
+pub use trial::try_rows;
 
 /// The edits that a change of the page's rows makes, or the first refusal that applies. `Released` comes
 /// before all others, and then, of

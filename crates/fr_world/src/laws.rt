@@ -1,5 +1,5 @@
 //! Laws of pages: what is decided on one, of a change or of a file's rows, is the register's step.
-ghost use Rattle.fr_world.specs.Laws.{CommonDecides, CommonFits, DecisionFits, DecisionLeads, EditsAgree, GrantDecides, ImportFits, JoiningDecides, JoiningFits, JoiningIsListed, KeyDecides, KeyFits, KeyIsListed, LabelDecides, NewImportDecides, NodeDecides, NodeFits, OthersStay, ReplacementDecides, ReplacementFits, RevokeDecides, RoomDecides, RowsAreChecked, RowsAreTheRegisters, RowsDecide, RowsFit, RowsLead, SoundRowsAreAPage, SupplierDecides};
+ghost use Rattle.fr_world.specs.Laws.{AllRowsAreChecked, CommonDecides, CommonFits, DecisionFits, DecisionLeads, EditsAgree, GrantDecides, ImportFits, JoiningDecides, JoiningFits, JoiningIsListed, KeyDecides, KeyFits, KeyIsListed, LabelDecides, NewImportDecides, NodeDecides, NodeFits, OthersStay, ReplacementDecides, ReplacementFits, RevokeDecides, RoomDecides, RowsAreChecked, RowsAreTheRegisters, RowsDecide, RowsFit, RowsLead, SoundRowsAreAPage, SupplierDecides, TrialDecides};
 
 /// In a sound book a supplier's rows of a variant are a page's.
 pub fn sound_rows_are_a_page()
@@ -40,9 +40,19 @@ pub fn room_decides()
     ensures { RoomDecides }
 {}
 
+/// In a sound book what would become of each row of a supplier's file is what would on the supplier's page.
+pub fn trial_decides()
+    ensures { TrialDecides }
+{}
+
 /// The rows of an import's file are checked under the parameters that they are read by.
 pub fn rows_are_checked()
     ensures { RowsAreChecked }
+{}
+
+/// So are all of them, to the file's end.
+pub fn all_rows_are_checked()
+    ensures { AllRowsAreChecked }
 {}
 
 /// The edits that are decided on a page, whose parameters make a cluster, for the rows of an import lead

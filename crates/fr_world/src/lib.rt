@@ -6,6 +6,7 @@ mod amend;
 mod build;
 mod cycle_channel;
 mod decision;
+mod differences;
 mod edit;
 mod file_records;
 mod filled_cycles;
@@ -15,6 +16,7 @@ mod grants;
 mod import_label;
 mod import_room;
 mod kept_import;
+mod keyed_rows;
 mod lanes;
 mod laws;
 mod loads;
@@ -34,7 +36,8 @@ mod suppliers;
 mod triggerings;
 mod variants;
 
-pub use decision::{Draft, RowFault, decide, decide_replacement, decide_rows};
+pub use decision::{Draft, RowFault, decide, decide_replacement, decide_rows, try_rows};
+pub use differences::{KeyedRow, push_differences};
 pub use edit::Edit;
 pub use file_records::FileRecord;
 pub use frame_rows::{frame_row, gap_row, push_signal_rows};
@@ -43,11 +46,11 @@ pub use import_label::decide_label;
 pub use import_room::admit_import;
 pub use kept_import::KeptImport;
 pub use laws::{
-    common_decides, common_fits, decision_fits, decision_leads, edits_agree, grant_decides,
-    import_fits, joining_decides, joining_fits, joining_is_listed, label_decides,
+    all_rows_are_checked, common_decides, common_fits, decision_fits, decision_leads, edits_agree,
+    grant_decides, import_fits, joining_decides, joining_fits, joining_is_listed, label_decides,
     new_import_decides, node_decides, node_fits, others_stay, replacement_decides,
     replacement_fits, revoke_decides, room_decides, rows_are_checked, rows_are_the_registers,
-    rows_decide, rows_fit, rows_lead, sound_rows_are_a_page, supplier_decides,
+    rows_decide, rows_fit, rows_lead, sound_rows_are_a_page, supplier_decides, trial_decides,
 };
 pub use loads::page_load;
 pub use mask_occupancy::MaskOccupancy;

@@ -69,7 +69,7 @@ fn known_faults(
     names: &[&str],
     fields: &Fields,
 ) -> Result<Vec<String>, NoMemory>
-    ensures { IfOk result (λ faults. are_none faults.items ≡ has_just (map (λ name. name.now) names.now) (fields_in fields.now)) }
+    ensures { IfOk result (λ faults. are_none faults.items ≡ has_just request.now (map (λ name. name.now) names.now) (fields_in fields.now)) }
 {
     let mut faults = Vec::new(alloc);
     add_unknown(alloc, &mut faults, request, names, fields)?;
@@ -122,11 +122,11 @@ fn add_bad(
     fields: &Fields,
 ) -> Result<(), NoMemory>
     ensures { OnOk result (are_none faults.new.items ≡ are_none faults.old.items
-        && list_all (has_field (fields_in fields.now)) (map (λ name. name.now) names.now)) }
+        && list_all (has_field request.now (fields_in fields.now)) (map (λ name. name.now) names.now)) }
 {
     for name in names {
         let value = field(fields, name);
-        if !is_there(kind_of(name), value) {
+        if !is_there(kind_of(request, name), value) {
             faults.push(bad(alloc, request, name, value)?)?;
         }
     }
@@ -139,7 +139,7 @@ fn is_there(kind: Kind, value: Option<&Value>) -> bool
 {
     match value {
         Some(value) => is_of_kind(kind, value),
-        None => kind == Kind::TextOrNull,
+        None => matches!(kind, Kind::TextOrNull | Kind::Flag),
     }
 }
 
@@ -150,6 +150,7 @@ fn is_of_kind(kind: Kind, value: &Value) -> bool
     match kind {
         Kind::Text => value.is_string(),
         Kind::TextOrNull => value.is_null() || value.is_string(),
+        Kind::Flag => value.is_boolean(),
         Kind::Number => value
             .as_u64()
             .is_some_and(|number| u32::try_from(number).is_ok()),
@@ -164,7 +165,7 @@ fn bad(
     value: Option<&Value>,
 ) -> Result<String, NoMemory> {
     match value {
-        Some(value) => other_kind(alloc, name, value),
+        Some(value) => other_kind(alloc, request, name, value),
         None => format!(in alloc; "field \"{name}\" of {request} is missing"),
     }
 }
@@ -182,8 +183,8 @@ fn listed(alloc: Global, names: &[&str]) -> Result<String, NoMemory> {
 }
 
 // What stands in a field, and what may stand there. A key is not shown.
-fn other_kind(alloc: Global, name: &str, value: &Value) -> Result<String, NoMemory> {
-    let range = range(kind_of(name));
+fn other_kind(alloc: Global, request: &str, name: &str, value: &Value) -> Result<String, NoMemory> {
+    let range = range(kind_of(request, name));
     match value {
         Value::String(text) if name != "key" => {
             let text = shown(alloc, text.as_str())?;
@@ -204,6 +205,7 @@ fn range(kind: Kind) -> &'static str {
     match kind {
         Kind::Text => "a text, in double quotes",
         Kind::TextOrNull => "a text, in double quotes, or null",
+        Kind::Flag => "true or false, without quotes",
         Kind::Number => "a whole number from 0 to 4294967295, without quotes",
     }
 }

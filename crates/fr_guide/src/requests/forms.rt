@@ -9,13 +9,15 @@ pub enum Kind {
     Text,
     /// A text, or null; the field may also be left out.
     TextOrNull,
+    /// `true` or `false`; the field may also be left out.
+    Flag,
     /// A whole number from 0 to 4,294,967,295.
     Number,
 }
 
 /// The names of the requests, as a line lists them.
 pub const REQUESTS: &str =
-    "open_variant, release, add_supplier, set_key, add_node, grant, revoke, add_frame, drop_frame, place, unplace, add_signal, drop_signal, import, replace, cluster, variants, nodes, grants, frames, schedule, gaps, load, layout, room, export_frames, export_placements, export_signals";
+    "open_variant, release, add_supplier, set_key, add_node, grant, revoke, add_frame, drop_frame, place, unplace, add_signal, drop_signal, import, replace, try, cluster, variants, nodes, diff, grants, frames, schedule, gaps, load, layout, room, export_frames, export_placements, export_signals";
 
 /// The fields of the request of this name, besides `do`.
 #[tactic(auto, unfolding(crate::specs::RequestFields::requests))]
@@ -24,7 +26,7 @@ pub fn fields_of(request: &str) -> Option<&'static [&'static str]>
 {
     match request {
         "cluster" | "variants" | "nodes" => Some(&[]),
-        "open_variant" => Some(&["variant", "from"]),
+        "open_variant" | "diff" => Some(&["variant", "from"]),
         "release" | "grants" | "frames" | "schedule" | "gaps" | "load" => Some(&["variant"]),
         "add_supplier" | "set_key" => Some(&["supplier", "key"]),
         "add_node" => Some(&["supplier", "node"]),
@@ -44,21 +46,24 @@ pub fn fields_of(request: &str) -> Option<&'static [&'static str]>
         "drop_signal" => Some(&["variant", "frame", "signal"]),
         "import" => Some(&["variant", "label", "body"]),
         "replace" => Some(&["variant", "body"]),
+        "try" => Some(&["variant", "body", "replace"]),
         "room" => Some(&["variant", "frame", "repetition"]),
         "export_frames" | "export_placements" | "export_signals" => Some(&["variant", "part"]),
         _ => None,
     }
 }
 
-/// What the field of this name has to be.
+/// What the field of this name has to be, in the request of this name.
 #[tactic(auto, unfolding(crate::specs::RequestFields::kind_of))]
-pub fn kind_of(field: &str) -> Kind
-    ensures { result ≡ kind_of field.now }
+pub fn kind_of(request: &str, field: &str) -> Kind
+    ensures { result ≡ kind_of request.now field.now }
 {
     if is_number(field) {
         Kind::Number
-    } else if field == "from" {
+    } else if field == "from" && request == "open_variant" {
         Kind::TextOrNull
+    } else if field == "replace" {
+        Kind::Flag
     } else {
         Kind::Text
     }

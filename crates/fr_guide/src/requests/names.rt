@@ -122,7 +122,12 @@ pub fn name_faults(alloc: Global, request: &Request) -> Result<Vec<String>, NoMe
             label,
             body: _,
         } => faults(alloc, &[name("variant", variant), name("label", label)]),
-        Request::Replace { variant, body: _ } => faults(alloc, &[name("variant", variant)]),
+        Request::Replace { variant, body: _ }
+        | Request::Try {
+            variant,
+            replaces: _,
+            body: _,
+        } => faults(alloc, &[name("variant", variant)]),
         Request::Query(query) => query_faults(alloc, query),
     }
 }
@@ -143,6 +148,9 @@ fn query_faults(alloc: Global, query: &Query<Text>) -> Result<Vec<String>, NoMem
                 } => faults(alloc, &[variant, name("frame", frame)]),
                 _ => faults(alloc, &[variant]),
             }
+        }
+        Query::Difference { variant, from } => {
+            faults(alloc, &[name("variant", variant), name("from", from)])
         }
     }
 }

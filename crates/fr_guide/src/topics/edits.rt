@@ -16,9 +16,9 @@ const LIMIT: Topic = Topic {
     about: "refusal 23, and a fault of a cluster file. There would be one too many.",
     help: "\
 At most: 64 suppliers, 64 nodes a supplier, 64 variants; 256 frames a supplier in one variant;
-8 placements and 64 signals a frame; 1000 imports a supplier; 65536 bytes and 512 rows an import.
+8 placements and 64 signals a frame; 1000 imports a supplier; 65536 bytes and 512 rows a file.
 In a cluster file there are more than 64 suppliers. For `room` the frame has 8 placements.
-Drop frames, placements or signals that are not needed, or split the import.
+Drop frames, placements or signals that are not needed, or split the file.
 Suppliers, nodes, variants and kept imports stay.
 ",
 };
@@ -39,7 +39,7 @@ const CELL_TAKEN: Topic = Topic {
     help: "\
 A cell is a cycle, a slot and a channel, and one frame at most is sent in it.
 The answer names the filled cell of least cycle, A before B, and the frame that is sent there.
-It comes for `place` and for a row of an import. The report `schedule` shows what is sent.
+It comes for `place` and for a row of a file. The report `schedule` shows what is sent.
 Choose a base and a repetition that share no cycle with that frame's, or another slot. `room` shows which there are.
 ",
 };

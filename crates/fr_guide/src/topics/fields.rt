@@ -28,7 +28,7 @@ const BAD_SLOT: Topic = Topic {
     about: "refusal 6. The cluster has no such static slot.",
     help: "\
 Static slots are numbered from 1 to `static_slots` of the cluster file.
-It comes for `grant`, `revoke`, `place` and `unplace`, and for a row of an import.
+It comes for `grant`, `revoke`, `place` and `unplace`, and for a row of a file.
 Choose a slot in that range.
 ",
 };
@@ -37,7 +37,7 @@ const BAD_CHANNEL: Topic = Topic {
     word: "BadChannel",
     about: "refusal 7. There is no such channel, or the cluster does not have it.",
     help: "\
-`grant` and `revoke` take A or B. `place`, `unplace` and a row of an import take A, B or AB.
+`grant` and `revoke` take A or B. `place`, `unplace` and a row of a file take A, B or AB.
 A cluster whose `channels` is A has no B, and so no AB.
 Choose a channel that the cluster has, in capital letters.
 ",
@@ -48,7 +48,7 @@ const BAD_SIGNAL: Topic = Topic {
     about: "refusal 8. The signal's length or order is not allowed.",
     help: "\
 A signal has 1 to 64 bits. Its order is `little` or `big`, in small letters.
-It comes for `add_signal` and for a row of an import.
+It comes for `add_signal` and for a row of a file.
 Split what is longer into several signals.
 ",
 };

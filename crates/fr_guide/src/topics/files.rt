@@ -21,7 +21,7 @@ pub fn topics() -> [Topic; 7]
 
 const CANNOT_OPEN: Topic = Topic {
     word: "CannotOpen",
-    about: "a fault of a file. The file cannot be read: a cluster's, an import's or one of requests.",
+    about: "a fault of a file. The file cannot be read: a cluster's, one of rows or one of requests.",
     help: "\
 There is no such file, you may not read it, or it is a folder or a pipe, as `/dev/stdin` behind a `|` and `<(..)` are.
 A cluster file of more than 1048576 bytes is not read, nor requests of more than 16777216 bytes, nor a file that takes
@@ -43,7 +43,8 @@ const NOT_A_REGISTER: Topic = Topic {
     word: "NotARegister",
     about: "a fault of the commands on DB. The file is no register.",
     help: "\
-There is no file DB, it is no SQLite database, it does not have a register's tables, or no row in the table `register`.
+There is no file DB, or it is no SQLite database, has no table `register` or no row in it, or has a row that breaks a
+rule of its table.
 Look at the path. `slotplan create` makes a register file.
 A file that was damaged is no register either: put a backup in its place.
 ",

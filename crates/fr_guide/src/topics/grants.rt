@@ -16,7 +16,7 @@ const EXISTS: Topic = Topic {
     about: "refusal 19. What would be added is there already.",
     help: "\
 There is a variant, supplier, node, frame or signal of that name, or the grant to this supplier and node.
-It comes for the commands that add one of these, and for a row of frames or of signals in an import.
+It comes for the commands that add one of these, and for a row of frames or of signals in a file.
 If it is the one that you want, there is nothing to do. Else choose another name.
 ",
 };
@@ -26,7 +26,7 @@ const NODE_DIFFERS: Topic = Topic {
     about: "refusal 20. Another node of the same supplier has it.",
     help: "\
 For `grant` the supplier holds slot and channel with another of its nodes: revoke that grant first.
-For a row of placements in an import the frame is there with another node: name that node in the row.
+For a row of placements in a file the frame is there with another node: name that node in the row.
 The reports `grants` and `frames` show the nodes.
 ",
 };
@@ -35,7 +35,7 @@ const NOT_GRANTED: Topic = Topic {
     word: "NotGranted",
     about: "refusal 21. The slot is not granted.",
     help: "\
-For `place` and for a row of an import: the frame's node does not hold the slot on one of the channels.
+For `place` and for a row of a file: the frame's node does not hold the slot on one of the channels.
 For `revoke`: the supplier does not hold the slot on the channel.
 A placement on AB needs the grants of both channels, each to the frame's node.
 The report `grants` shows which node holds what. The integrator grants by `grant`.

@@ -19,9 +19,9 @@ pub fn topics() -> [Topic; 5]
 
 const TOO_LONG: Topic = Topic {
     word: "TooLong",
-    about: "a fault of `run`, `ask` and `import` with `-`. Standard input is too long, or a line of it.",
+    about: "a fault of `run`, `ask`, and commands whose KEY is `-`. Standard input is too long, or a line of it.",
     help: "\
-For `run` and `ask` it has at most 16777216 bytes, a line of `ask` 1048576, and the key's line of `import` 8192.
+For `run` and `ask` it has at most 16777216 bytes, a line of `ask` 1048576, and the key's line 8192.
 `run` has answered nothing. `ask` has answered the lines before, and what they did is in the file;
 but not those of the last 8192 bytes or less that it read at once.
 A script's register ends with the script, so a second script would begin anew.
@@ -31,9 +31,10 @@ For many requests make a register file by `slotplan create`, and `ask` them in s
 
 const TOO_MANY_READS: Topic = Topic {
     word: "TooManyReads",
-    about: "a fault of `run`, `ask`, `import` with `-` or a connection. It did not end in the reads that are allowed.",
+    about: "a fault of `run`, `ask`, a KEY that is `-`, or a connection. It did not end in the reads that are allowed.",
     help: "\
-`run` and `ask` read at most 20000000 times, `import` for its key and the server from a connection at most 100000 times.
+`run` and `ask` read at most 20000000 times. A command for its key, and the server from a connection, read at most
+100000 times.
 The input came in very small pieces. `run` has answered nothing, and a connection's request was not asked.
 `ask` has answered the lines before, and what they did is in the file.
 Send the input in larger pieces: a script from a file, a request as one piece.
@@ -42,7 +43,7 @@ Send the input in larger pieces: a script from a file, a request as one piece.
 
 const READ_FAILED: Topic = Topic {
     word: "ReadFailed",
-    about: "a fault of `run`, `ask`, `import` with `-` or a connection. A read failed.",
+    about: "a fault of `run`, `ask`, a KEY that is `-`, or a connection. A read failed.",
     help: "\
 `run` has answered nothing. `ask` has answered the lines before, and what they did is in the file.
 Read standard input from a file: slotplan run < FILE

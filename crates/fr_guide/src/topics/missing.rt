@@ -25,7 +25,7 @@ const NO_NODE: Topic = Topic {
     word: "NoNode",
     about: "refusal 15. The supplier has no such node.",
     help: "\
-It comes for `grant`, for `add_frame`, and for a row of an import.
+It comes for `grant`, for `add_frame`, and for a row of a file.
 Nodes are a supplier's own, and the same in all variants.
 Look at the spelling; case matters. Or let the integrator add the node by `add_node`.
 ",
@@ -36,7 +36,7 @@ const NO_FRAME: Topic = Topic {
     about: "refusal 16. There is no such frame in the variant.",
     help: "\
 It comes for `drop_frame`, `place`, `unplace`, `add_signal`, `drop_signal`, `layout` and `room`,
-and for a row of signals in an import.
+and for a row of signals in a file.
 A supplier reaches its own frames only. For the integrator's `layout` no supplier has such a frame.
 The report `frames` shows which frames there are; `add_frame` adds one.
 ",

@@ -1,4 +1,4 @@
-//! The refusal of an import's row.
+//! The refusal of a file's row.
 ghost use Rattle.std.specs.Prelude.{◌≡◌};
 ghost use Rattle.fr_guide.specs.Topics.{rows, words_of};
 
@@ -13,10 +13,10 @@ pub fn topics() -> [Topic; 1]
 
 const BAD_ROW: Topic = Topic {
     word: "BadRow",
-    about: "refusal 29. A row of an import is refused, and nothing of the file is carried out.",
+    about: "refusal 29. A row of an import or a replacement is refused, and nothing of the file is carried out.",
     help: "\
 The answer names the row by its line, and says the row's own refusal.
 The header is line 1, and empty lines are not counted. `slotplan check --rows FILE` counts each line.
-Look that refusal up, and fix the row. The file may be sent again under the same label.
+Look that refusal up, and fix the row. The file may be sent again, an import under the same label.
 ",
 };

@@ -18,7 +18,7 @@ const OUT_OF_PAYLOAD: Topic = Topic {
 The payload has 16 bits for each of the cluster's `payload_words`, numbered from 0.
 A signal in little order has the bits from its start upwards. In big order they go down from the start,
 and after a byte's lowest bit on to the highest of the next byte.
-It comes for `add_signal` and for a row of an import. Choose another start, or a shorter length.
+It comes for `add_signal` and for a row of a file. Choose another start, or a shorter length.
 ",
 };
 
@@ -27,7 +27,7 @@ const BIT_TAKEN: Topic = Topic {
     about: "refusal 27. A bit of the signal is used by another signal.",
     help: "\
 The answer names the least such bit, and the signal that uses it.
-It comes for `add_signal` and for a row of an import.
+It comes for `add_signal` and for a row of a file.
 The report `layout` shows where the frame's signals begin, and how long they are.
 Choose another start, or drop the other signal first.
 ",

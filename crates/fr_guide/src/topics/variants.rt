@@ -25,7 +25,8 @@ const RELEASED: Topic = Topic {
     word: "Released",
     about: "refusal 11. The variant is released and never changes.",
     help: "\
-It comes for each command that would change the variant, for a second `release`, for a new import, and for `room`.
+It comes for each command that would change the variant, for a second `release`, for a new import, for `try` and for
+`room`.
 An import that was carried out before the release has its old answer when it is sent again.
 To go on, let the integrator open a new variant from this one, and change the new one.
 ",

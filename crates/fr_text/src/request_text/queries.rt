@@ -1,6 +1,6 @@
 //! Reads the requests that change nothing.
 ghost use Rattle.fr_text.specs.Fields.{fields_in, Reads};
-ghost use Rattle.fr_text.specs.RequestText.{export, inventory, layout, report, room};
+ghost use Rattle.fr_text.specs.RequestText.{difference, export, inventory, layout, report, room};
 
 use crate::fields::{Fields, allow_only, copy_text, number_in};
 use fr_base::{Header, Inventory, Query, Refusal, Report, Request, Text};
@@ -28,6 +28,17 @@ pub(super) fn report(
     let variant = copy_text(alloc, fields, "variant")?;
     let report = asked;
     Ok(Request::Query(Query::Variant { variant, report }))
+}
+
+/// The request for what differs between two variants.
+#[tactic(auto, unfolding(crate::specs::RequestText::difference))]
+pub(super) fn difference(alloc: Global, fields: &Fields) -> Result<Request, Refusal>
+    ensures { Reads (λ request. request) (difference (fields_in fields.now)) result }
+{
+    allow_only(fields, &["do", "variant", "from"])?;
+    let variant = copy_text(alloc, fields, "variant")?;
+    let from = copy_text(alloc, fields, "from")?;
+    Ok(Request::Query(Query::Difference { variant, from }))
 }
 
 /// The request for the layout of a frame.

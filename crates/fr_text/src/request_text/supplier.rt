@@ -1,8 +1,8 @@
 //! Reads the requests that a supplier gives.
 ghost use Rattle.fr_text.specs.Fields.{fields_in, Reads};
-ghost use Rattle.fr_text.specs.RequestText.{add_frame, drop_frame, place, unplace, add_signal, drop_signal, import, replace};
+ghost use Rattle.fr_text.specs.RequestText.{add_frame, drop_frame, place, unplace, add_signal, drop_signal, import, trial, replace};
 
-use crate::fields::{Fields, allow_only, copy_text, number_in, text_in};
+use crate::fields::{Fields, allow_only, copy_text, flag_in, number_in, text_in};
 use fr_base::{Body, Refusal, Request};
 use std::alloc::Global;
 
@@ -133,5 +133,20 @@ pub(super) fn replace(alloc: Global, fields: &Fields) -> Result<Request, Refusal
     Ok(Request::Replace {
         variant: copy_text(alloc, fields, "variant")?,
         body: Body::copy(alloc, text_in(fields, "body")?.as_bytes())?,
+    })
+}
+
+#[tactic(auto, unfolding(crate::specs::RequestText::trial))]
+pub(super) fn trial(alloc: Global, fields: &Fields) -> Result<Request, Refusal>
+    ensures { Reads (λ request. request) (trial (fields_in fields.now)) result }
+{
+    allow_only(fields, &["do", "variant", "body", "replace"])?;
+    let variant = copy_text(alloc, fields, "variant")?;
+    let body = Body::copy(alloc, text_in(fields, "body")?.as_bytes())?;
+    let replaces = flag_in(fields, "replace")?;
+    Ok(Request::Try {
+        variant,
+        replaces,
+        body,
     })
 }

@@ -86,10 +86,17 @@ impl Draft {
         Ok(())
     }
 
-    // The frame is there, with the node: it is added where it is not there yet.
-    fn make_frame(&mut self, alloc: Global, frame: Name, node: Name) -> Result<(), Refusal>
+    /// The frame is there, with the node: it is added where it is not there yet. A refusal, but `Unavailable`, leaves the
+    /// draft.
+    pub(super) fn make_frame(
+        &mut self,
+        alloc: Global,
+        frame: Name,
+        node: Name,
+    ) -> Result<(), Refusal>
         ensures ok { OnOk result (make_frame (draft_data self.old) frame node ≡ Ok (draft_data self.new)) }
         ensures err { IfErr result (λ e. (e ≡ Unavailable) ⊎ (make_frame (draft_data self.old) frame node ≡ Err e)) }
+        ensures left { IfErr result (λ e. (e ≡ Unavailable) ⊎ (draft_data self.new ≡ draft_data self.old)) }
     {
         if !has_node(&self.page, node) {
             return Err(Refusal::NoNode);
@@ -101,37 +108,60 @@ impl Draft {
         }
     }
 
-    // The frame is added.
-    fn add_frame(&mut self, alloc: Global, frame: Name, node: Name) -> Result<(), Refusal>
+    /// The frame is added. A refusal leaves the draft so.
+    pub(super) fn add_frame(
+        &mut self,
+        alloc: Global,
+        frame: Name,
+        node: Name,
+    ) -> Result<(), Refusal>
         ensures ok { OnOk result (make (draft_data self.old) (Change.Frame frame (FrameChange.Add node)) ≡ Ok (draft_data self.new)) }
         ensures err { IfErr result (λ e. (e ≡ Unavailable) ⊎ (make (draft_data self.old) (Change.Frame frame (FrameChange.Add node)) ≡ Err e)) }
+        ensures left { IfErr result (λ e. (e ≡ Unavailable) ⊎ (draft_data self.new ≡ draft_data self.old)) }
     {
         admit_frame(&self.page, frame, node)?;
         self.make(alloc, frame, FrameChange::Add { node })
     }
 
-    // The frame is sent in the placement's cells too.
-    fn place(&mut self, alloc: Global, frame: Name, placement: Placement) -> Result<(), Refusal>
+    /// The frame is sent in the placement's cells too. A refusal leaves the draft so.
+    pub(super) fn place(
+        &mut self,
+        alloc: Global,
+        frame: Name,
+        placement: Placement,
+    ) -> Result<(), Refusal>
         requires checked { FitsCluster self.old.page.params placement }
         ensures ok { OnOk result (make (draft_data self.old) (Change.Frame frame (FrameChange.Place placement)) ≡ Ok (draft_data self.new)) }
         ensures err { IfErr result (λ e. (e ≡ Unavailable) ⊎ (make (draft_data self.old) (Change.Frame frame (FrameChange.Place placement)) ≡ Err e)) }
+        ensures left { IfErr result (λ e. (e ≡ Unavailable) ⊎ (draft_data self.new ≡ draft_data self.old)) }
     {
         admit_placement(&self.page, frame, &placement)?;
         self.make(alloc, frame, FrameChange::Place(placement))
     }
 
-    // The frame's payload has the signal too.
-    fn add_signal(&mut self, alloc: Global, frame: Name, signal: Signal) -> Result<(), Refusal>
+    /// The frame's payload has the signal too. A refusal leaves the draft so.
+    pub(super) fn add_signal(
+        &mut self,
+        alloc: Global,
+        frame: Name,
+        signal: Signal,
+    ) -> Result<(), Refusal>
         requires checked { IsTrue (is_signal_length signal.length) }
         ensures ok { OnOk result (make (draft_data self.old) (Change.Frame frame (FrameChange.AddSignal signal)) ≡ Ok (draft_data self.new)) }
         ensures err { IfErr result (λ e. (e ≡ Unavailable) ⊎ (make (draft_data self.old) (Change.Frame frame (FrameChange.AddSignal signal)) ≡ Err e)) }
+        ensures left { IfErr result (λ e. (e ≡ Unavailable) ⊎ (draft_data self.new ≡ draft_data self.old)) }
     {
         admit_signal(&self.page, frame, &signal)?;
         self.make(alloc, frame, FrameChange::AddSignal(signal))
     }
 
-    // Makes the change of the frame, which the page admits.
-    fn make(&mut self, alloc: Global, frame: Name, change: FrameChange) -> Result<(), Refusal>
+    /// Makes the change of the frame, which the page admits.
+    pub(super) fn make(
+        &mut self,
+        alloc: Global,
+        frame: Name,
+        change: FrameChange,
+    ) -> Result<(), Refusal>
         requires admitted { admits_alone (own_rows_of self.old.page) (Change.Frame frame change) ≡ Ok tt }
         requires checked { IsChecked self.old.page.params (Change.Frame frame change) }
         ensures ok { OnOk result (draft_data self.new ≡ with_change (draft_data self.old) (Change.Frame frame change)) }

@@ -54,8 +54,8 @@ fn freed(alloc: Global, page: Page, rows: &[RowRead]) -> Result<Draft, RowFault>
     Ok(draft)
 }
 
-// Frees the frame of the row.
-fn free_row(alloc: Global, draft: &mut Draft, row: &Row) -> Result<(), Refusal>
+/// Frees the frame of the row.
+pub(super) fn free_row(alloc: Global, draft: &mut Draft, row: &Row) -> Result<(), Refusal>
     ensures ok { OnOk result (draft_data draft.new ≡ free_row (draft_data draft.old) (Ok row.now)) }
     ensures err { IfErr result (λ e. e ≡ Unavailable) }
 {

@@ -2,7 +2,7 @@ use Rattle.std.proofs.Common.{◌≡◌, ◌++◌, ◌∷◌, [], Err, refl, sym
 use Rattle.std.proofs.KnownBytes.{Appends-nil, Appends-trans, Appends-kept}
 use Rattle.fr_base.specs.declared.answer.Answer.TheVariants.{Done}
 use Rattle.fr_cli.specs.Answering.{AnswersLines, HasWritten}
-use Rattle.fr_cli.specs.Asking.{line_of}
+use Rattle.fr_cli.specs.Outcomes.{line_of}
 use Rattle.fr_cli.specs.Script.{request_lines}
 use Rattle.fr_cli.specs.declared.script_fault.ScriptFault.TheVariants.{NoMemory, WriteFailed}
 use Rattle.fr_cli.proofs.AnsweringLaws.{cut_here, lines_kept, lines_then, no_lines, one_line}

@@ -17,19 +17,21 @@ returns c =
     (with_job _ _ _ _ _ c.in_ok-subcommand-4.ensures
     (with_job _ _ _ _ _ c.in_ok-subcommand-3.ensures
     (with_job _ _ _ _ _ c.in_ok-subcommand-2.ensures started c.in_ok-create.ensures) c.in_ok-migrate.ensures) c.in_ok-serve.ensures) c.in_ok-ask.ensures in
-    let inventories = with_job _ _ _ _ _ c.in_ok-subcommand-8.ensures
+    let inventories = with_job _ _ _ _ _ c.in_ok-subcommand-9.ensures
+    (with_job _ _ _ _ _ c.in_ok-subcommand-8.ensures
     (with_job _ _ _ _ _ c.in_ok-subcommand-7.ensures
-    (with_job _ _ _ _ _ c.in_ok-subcommand-6.ensures files c.in_ok-inventory.ensures) c.in_ok-inventory-2.ensures) c.in_ok-inventory-3.ensures in
-    let reports = with_job _ _ _ _ _ c.in_ok-subcommand-13.ensures
+    (with_job _ _ _ _ _ c.in_ok-subcommand-6.ensures files c.in_ok-inventory.ensures) c.in_ok-inventory-2.ensures) c.in_ok-inventory-3.ensures) c.in_ok-diff.ensures in
+    let reports = with_job _ _ _ _ _ c.in_ok-subcommand-14.ensures
+    (with_job _ _ _ _ _ c.in_ok-subcommand-13.ensures
     (with_job _ _ _ _ _ c.in_ok-subcommand-12.ensures
     (with_job _ _ _ _ _ c.in_ok-subcommand-11.ensures
-    (with_job _ _ _ _ _ c.in_ok-subcommand-10.ensures
-    (with_job _ _ _ _ _ c.in_ok-subcommand-9.ensures inventories c.in_ok-report.ensures) c.in_ok-report-2.ensures) c.in_ok-report-3.ensures) c.in_ok-report-4.ensures) c.in_ok-report-5.ensures in
-    let rooms = with_job _ _ _ _ _ c.in_ok-subcommand-16.ensures
-    (with_job _ _ _ _ _ c.in_ok-subcommand-15.ensures
-    (with_job _ _ _ _ _ c.in_ok-subcommand-14.ensures reports c.in_ok-layout.ensures) c.in_ok-room.ensures) c.in_ok-export.ensures in
-    let changes = with_job _ _ _ _ _ c.in_ok-subcommand-19.ensures
-    (with_job _ _ _ _ _ c.in_ok-subcommand-18.ensures
-    (with_job _ _ _ _ _ c.in_ok-subcommand-17.ensures rooms c.in_ok-report-6.ensures) c.in_ok-import.ensures) c.in_ok-replace.ensures in
+    (with_job _ _ _ _ _ c.in_ok-subcommand-10.ensures inventories c.in_ok-report.ensures) c.in_ok-report-2.ensures) c.in_ok-report-3.ensures) c.in_ok-report-4.ensures) c.in_ok-report-5.ensures in
+    let rooms = with_job _ _ _ _ _ c.in_ok-subcommand-17.ensures
+    (with_job _ _ _ _ _ c.in_ok-subcommand-16.ensures
+    (with_job _ _ _ _ _ c.in_ok-subcommand-15.ensures reports c.in_ok-layout.ensures) c.in_ok-room.ensures) c.in_ok-export.ensures in
+    let changes = with_job _ _ _ _ _ c.in_ok-subcommand-21.ensures
+    (with_job _ _ _ _ _ c.in_ok-subcommand-20.ensures
+    (with_job _ _ _ _ _ c.in_ok-subcommand-19.ensures
+    (with_job _ _ _ _ _ c.in_ok-subcommand-18.ensures rooms c.in_ok-report-6.ensures) c.in_ok-import.ensures) c.in_ok-replace.ensures) c.in_ok-trial.ensures in
     with_job _ _ _ _ _ c.in_ok-program.ensures
-    (with_job _ _ _ _ _ c.in_ok-subcommand-20.ensures changes c.in_ok-check.ensures) c.in_ok-explain.ensures
+    (with_job _ _ _ _ _ c.in_ok-subcommand-22.ensures changes c.in_ok-check.ensures) c.in_ok-explain.ensures

@@ -1,7 +1,6 @@
 use Rattle.std.proofs.Common.{inl, inr, refl, subst}
 use Rattle.sqlite_wal.specs.Files.{image_at}
 use Rattle.fr_base.specs.declared.request.Request.{Request}
-use Rattle.fr_cli.specs.Asking.{line_of}
 use Rattle.fr_cli.specs.Faults.{IsNotDelivered}
 use Rattle.fr_cli.specs.Performing.{Says}
 use Rattle.fr_cli.specs.RegisterFiles.{IsAnswerToGiven}
@@ -11,7 +10,7 @@ pub returns-in-Ok : goal.returns-in-Ok
 returns-in-Ok g c =
     subst (λ (r : Request). Says (IsNotDelivered (image_at g.S.Start) c.change_given.result.1 c.args.delivery.key.now)
     (IsAnswerToGiven (image_at g.S.Start) c.change_given.result.1 c.args.delivery.key.now r (g.R.Read.remaining c.args.input.now) (g.R.Read.remaining c.change_given.new.input))
-    line_of c.change_given.result.0) c.in-Ok.ensures c.change_given.ensures
+    c.change_given.result.0) c.in-Ok.ensures c.change_given.ensures
 
 pub returns-in-Err : goal.returns-in-Err
 returns-in-Err g c = inl (inr refl)

@@ -1,9 +1,8 @@
 use Rattle.std.proofs.Common.{rules, ◌∙◌, List, ℕ, Option, ap, subst, sym}
 use Rattle.std.specs.Borrow.{Bor}
 use Rattle.sqlite_wal.specs.Files.{image_at}
-use Rattle.fr_text.specs.AnswerText.{report_of}
 use Rattle.fr_cli.specs.Checking.{IsCheckedFile}
-use Rattle.fr_cli.specs.Asking.{IsForReader, line_of, query_of}
+use Rattle.fr_cli.specs.Asking.{IsForReader, query_of}
 use Rattle.fr_cli.specs.Faults.{IsNotDelivered, IsNotReported}
 use Rattle.fr_cli.specs.Performing.{Says}
 use Rattle.fr_cli.specs.Picturing.{plans_for}
@@ -26,7 +25,7 @@ query_in query _ = query
 
 pub returns-in-Report-clause-report : goal.returns-in-Report-clause-report
 returns-in-Report-clause-report g c db query is =
-    let says = subst (λ asked. Says (IsNotReported (image_at g.S.Start) c.report_file-done.result.1) (IsForReader (IsAnswerOfFile (image_at g.S.Start) c.report_file-done.result.1 (query_of asked))) report_of c.report_file-done.result.0)
+    let says = subst (λ asked. Says (IsNotReported (image_at g.S.Start) c.report_file-done.result.1) (IsForReader (IsAnswerOfFile (image_at g.S.Start) c.report_file-done.result.1 (query_of asked))) c.report_file-done.result.0)
     (ap (query_in query) (sym c.in-Report.is ∙ is)) c.report_file-done.ensures in
     (c.report_file-done.result.0, says, search rules)
 
@@ -40,7 +39,7 @@ returns-in-Deliver-clause-deliver g c db delivery is =
     let said = c.deliver_file-done.ensures in
     let says = subst (λ (d : Delivery). Says (IsNotDelivered (image_at g.S.Start) c.deliver_file-done.result.1 d.key.now)
     (IsDeliveryToFile (image_at g.S.Start) c.deliver_file-done.result.1 d (g.R.Read.remaining c.args.input.now) (g.R.Read.remaining c.deliver_file-done.new.input) said.0)
-    line_of c.deliver_file-done.result.0)
+    c.deliver_file-done.result.0)
     (ap (delivery_in delivery) (sym c.in-Deliver.is ∙ is)) said.1 in
     (said.0, c.deliver_file-done.result.0, says, search rules)
 

@@ -1,4 +1,4 @@
-use Rattle.std.proofs.Common.{◌<◌, ◌^◌, ◌≡◌, ◌∙◌, ◌+◌, [], ap, arith, false, length, rules, sym, true}
+use Rattle.std.proofs.Common.{◌<◌, ◌^◌, ◌≡◌, ◌∙◌, [], ap, arith, false, length, rules, sym, true}
 use Rattle.fr_guide.specs.Faults.{are_none}
 use Rattle.fr_cli.proofs.CheckingLaws.{line_fine, line_told, lines-most, nothing_left}
 use Rattle.fr_cli.proofs.request_file.request_faults.Goals as goal

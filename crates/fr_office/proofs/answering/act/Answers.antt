@@ -3,7 +3,7 @@ use Rattle.fr_base.specs.declared.actor.Actor.TheVariants.{Supplier}
 use Rattle.fr_base.specs.declared.answer.Answer.TheVariants.{Done}
 use Rattle.fr_base.specs.declared.request.Checked.{Checked}
 use Rattle.fr_office.specs.Answering.{Acts, HasPassed, LeavesAct}
-use Rattle.fr_office.proofs.StepLaws.{command_done, command_refused, import_acts, query_acts, replacement_acts}
+use Rattle.fr_office.proofs.StepLaws.{command_done, command_refused, import_acts, query_acts, replacement_acts, trial_acts}
 use Rattle.fr_office.proofs.CheckedLaws.{from-known}
 use Rattle.fr_office.proofs.CrashLaws.{act_command, act_import, act_replace}
 use Rattle.fr_office.proofs.answering.act.Goals as goal
@@ -47,6 +47,14 @@ returns-in-Replace-clause-acts g c = λ clean.
     subst (λ (valid : Checked). Acts old new c.replace.result c.args.actor.now valid) (sym c.in-Replace.is)
     (replacement_acts old new c.args.actor.now c.in-Replace.new c.replace.result asks (c.replace.ensures.gives clean))
 
+pub returns-in-Try-clause-acts : goal.returns-in-Try-clause-acts
+returns-in-Try-clause-acts g c = λ clean.
+    let old = g.R.Records.stands c.args.records.now in
+    let new = g.R.Records.stands c.try_file.new.records in
+    let asks : c.args.actor.now ≡ Supplier c.in-Try.trial.supplier = subst (λ (valid : Checked). HasPassed (g.R.Records.params c.args.records.now) c.args.actor.now valid) c.in-Try.is c.requires.passed in
+    subst (λ (valid : Checked). Acts old new c.try_file.result c.args.actor.now valid) (sym c.in-Try.is)
+    (trial_acts old new c.args.actor.now c.in-Try.trial c.try_file.result asks (c.try_file.ensures.tells clean))
+
 pub returns-in-Query-clause-acts : goal.returns-in-Query-clause-acts
 returns-in-Query-clause-acts g c = λ clean.
     let old = g.R.Records.stands c.args.records.now in
@@ -87,6 +95,9 @@ returns-in-Replace-clause-leaves g c = λ clean.
     let new = records.leaves c.replace.new.records in
     let asks : c.args.actor.now ≡ Supplier c.in-Replace.new.supplier = subst (λ (valid : Checked). HasPassed (records.params c.args.records.now) c.args.actor.now valid) c.in-Replace.is c.requires.passed in
     subst (λ (valid : Checked). LeavesAct stands old new c.args.actor.now valid) (sym c.in-Replace.is) (act_replace stands old new c.args.actor.now c.in-Replace.new asks (c.replace.ensures.leaves clean))
+
+pub returns-in-Try-clause-leaves : goal.returns-in-Try-clause-leaves
+returns-in-Try-clause-leaves g c = λ clean cl b books stood sound known left. inl (c.try_file.ensures.reads.leaves clean cl books left)
 
 pub returns-in-Query-clause-leaves : goal.returns-in-Query-clause-leaves
 returns-in-Query-clause-leaves g c = λ clean cl b books stood sound known left. inl (c.reply.ensures.reads.leaves clean cl books left)

@@ -1,4 +1,4 @@
-use Rattle.std.proofs.Common.{rules, ◌≡◌}
+use Rattle.std.proofs.Common.{rules}
 use Rattle.fr_base.proofs.QueryLemmas.{query_made}
 use Rattle.fr_cli.proofs.query.Inquiry.request.Goals as goal
 

@@ -8,4 +8,4 @@ use Rattle.fr_guide.proofs.requests.fields.add_bad.Given as goal
 
 abbrev pub invariant-loop-name : goal.invariant-loop-name
 invariant-loop-name l =
-    are_none l.faults.items ≡ (are_none l.fn.faults.items && list_all (has_field (fields_in l.fields)) (map (λ name. name.now) (take l.name-index l.names)))
+    are_none l.faults.items ≡ (are_none l.fn.faults.items && list_all (has_field l.request (fields_in l.fields)) (map (λ name. name.now) (take l.name-index l.names)))

@@ -1,0 +1,17 @@
+-- A trial leaves the book.
+use Rattle.std.proofs.Common.{IfOk}
+use Rattle.fr_base.specs.Tables.{get}
+use Rattle.fr_base.specs.Book.{Book}
+use Rattle.fr_base.specs.Step.{try}
+use Rattle.fr_base.specs.declared.params.Params.{Params}
+use Rattle.fr_base.specs.declared.request.Trial.{Trial}
+use Rattle.fr_base.proofs.SoundRefusing.{gives_or, gives_when}
+
+module _ (P : Book → Type 0) (b : Book) (holds : P b) where
+  -- what holds of the book holds after it
+  pub trial-leaves : (p : Params) (t : Trial) → IfOk (try p b t) (λ o. P o.book)
+  unfolding try
+  trial-leaves p t =
+      gives_or _ (get b.variants t.variant) _ _ (λ x _.
+      gives_when _ _ _ _ (λ _.
+      gives_when _ _ _ _ (λ _. holds)))

@@ -1,0 +1,5 @@
+use Rattle.fr_base.proofs.RoomSteps.{told_room_fits}
+use Rattle.fr_base.proofs.laws.told_room_fits.Goals as goal
+
+pub returns : goal.returns
+returns c = told_room_fits

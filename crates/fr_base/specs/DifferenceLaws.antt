@@ -1,0 +1,41 @@
+-- Laws of a difference: it tells exactly the rows that the actor sees of the one variant and not of
+-- the other. So no row is both gone and new.
+use Rattle.std.specs.Prelude.{◌↔◌, List, map, ◌++◌}
+use Rattle.std.specs.List.{Contains}
+use Rattle.fr_base.specs.Tables.{Table, each}
+use Rattle.fr_base.specs.Keys.{owned}
+use Rattle.fr_base.specs.Book.{Frame, Variant}
+use Rattle.fr_base.specs.Seen.{seen_grants, seen_frames}
+use Rattle.fr_base.specs.Differences.{all_placements, all_signals, gap_of, grant_seen, frame_seen, placement_seen, signal_seen, gap_seen, gone_in, new_in, differences}
+use Rattle.fr_base.specs.declared.params.Params.{Params}
+use Rattle.fr_base.specs.declared.actor.Actor.{Actor}
+use Rattle.fr_base.specs.declared.answer.SeenRow.{SeenRow}
+
+-- the rows of frames: their nodes, placements, signals and gaps
+unfoldable pub rows_of_frames : Params → Table owned Frame → List SeenRow
+rows_of_frames p frames =
+    map frame_seen (each (λ f. f.node) frames).rows
+    ++ map placement_seen (all_placements frames).rows
+    ++ map signal_seen (all_signals frames).rows
+    ++ map gap_seen (each (gap_of p) frames).rows
+
+-- the rows that the actor sees of a variant
+unfoldable pub seen_rows : Params → Actor → Variant → List SeenRow
+seen_rows p actor x =
+    map grant_seen (seen_grants actor x.grants).rows ++ rows_of_frames p (seen_frames actor x.frames)
+
+-- the row is seen of the one variant, and not of the other
+abbrev pub IsSeenOnlyIn : Params → Actor → Variant → Variant → SeenRow → Type 0
+IsSeenOnlyIn p actor one other row = Contains (seen_rows p actor one) row × (¬ Contains (seen_rows p actor other) row)
+
+-- A row is told to be gone exactly where the older variant has it and the newer one has not, and to
+-- be new exactly where it is the other way round.
+abbrev pub ToldIsWhatDiffers : Type 0
+ToldIsWhatDiffers = (p : Params) (actor : Actor) (old new : Variant) (row : SeenRow) →
+    (Contains (gone_in (differences p actor old new)) row ↔ IsSeenOnlyIn p actor old new row)
+    × (Contains (new_in (differences p actor old new)) row ↔ IsSeenOnlyIn p actor new old row)
+
+-- No row is told to be gone and to be new.
+abbrev pub NothingIsGoneAndNew : Type 0
+NothingIsGoneAndNew = (p : Params) (actor : Actor) (old new : Variant) (row : SeenRow) →
+    Contains (gone_in (differences p actor old new)) row → ¬ Contains (new_in (differences p actor old new)) row

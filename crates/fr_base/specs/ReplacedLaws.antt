@@ -1,0 +1,45 @@
+-- Laws of what a replacement leaves: each frame that its file names has what the file's rows say, and the same file
+-- again changes nothing.
+use Rattle.std.specs.Prelude.{◌≡◌, ℕ, List, length, Option, Some, is_err, IsTrue, IsFalse}
+use Rattle.std.specs.List.{list_all, list_any}
+use Rattle.fr_base.specs.Cluster.{Cluster}
+use Rattle.fr_base.specs.Names.{same_text}
+use Rattle.fr_base.specs.Book.{Frame, Book}
+use Rattle.fr_base.specs.ImportRows.{rows_of_body}
+use Rattle.fr_base.specs.Brought.{nodes_for, placements_for, signals_for, node_or, had_placements, had_signals, placed_by, signalled_by}
+use Rattle.fr_base.specs.ReplacingLaws.{is_named}
+use Rattle.fr_base.specs.Step.{frame_at, step}
+use Rattle.fr_base.specs.declared.answer.Answer.TheVariants.{Replaced}
+use Rattle.fr_base.specs.declared.import.RowRead.{RowRead}
+use Rattle.fr_base.specs.declared.name.Name.{Name}
+use Rattle.fr_base.specs.declared.actor.Actor.TheVariants.{Supplier}
+use Rattle.fr_base.specs.declared.request.Request.TheVariants.{Replace}
+
+-- The frame has what the rows say of it. It is of the node of which it was; if it was not there, of that of the first row that names one; and
+-- each row that names one names this. Its placements are exactly those of the rows that name it, where one gives it a placement, and else
+-- stay; so its signals.
+pub record IsAsFiled (reads : List RowRead) (f : Name) (before : Option Frame) (after : Frame) : Type 0 where
+  pub node : node_or (nodes_for f reads) before ≡ Some after.node
+  pub one_node : IsTrue (list_all (same_text after.node) (nodes_for f reads))
+  pub placements : after.placements ≡ placed_by (placements_for f reads) (had_placements before)
+  pub signals : after.signals ≡ signalled_by (signals_for f reads) (had_signals before)
+
+-- in the book after, the supplier's frame of the variant is there, and it has what the rows say of it
+abbrev pub IsFiledIn : Book → Name → Name → List RowRead → Book → Name → Type 0
+IsFiledIn b s v reads after f = (y : Frame) × (frame_at after s v f ≡ Some y) × IsAsFiled reads f (frame_at b s v f) y
+
+-- A replacement that was answered Replaced, with so many rows, was of a file of so many rows, of which none was refused, and each frame
+-- that they name has what they say.
+abbrev pub ReplacedIsFiled : Type 0
+ReplacedIsFiled = (c : Cluster) (b : Book) (s : Name) (variant body : List ℕ) (rows : ℕ) →
+    (step c b (Supplier s) (Replace variant body)).answer ≡ Replaced rows →
+    (length (rows_of_body c.params body) ≡ rows)
+    × IsFalse (list_any (λ read. is_err read.row) (rows_of_body c.params body))
+    × ((f : Name) → IsTrue (is_named f (rows_of_body c.params body)) →
+    IsFiledIn b s variant (rows_of_body c.params body) (step c b (Supplier s) (Replace variant body)).book f)
+
+-- The same file again is answered the same and changes nothing.
+abbrev pub SameFileChangesNothing : Type 0
+SameFileChangesNothing = (c : Cluster) (b after : Book) (s : Name) (variant body : List ℕ) (rows : ℕ) →
+    step c b (Supplier s) (Replace variant body) ≡ record { book = after; answer = Replaced rows } →
+    step c after (Supplier s) (Replace variant body) ≡ record { book = after; answer = Replaced rows }

@@ -1,0 +1,28 @@
+use Rattle.std.proofs.Common.{◌+◌, ◌∙◌, ◌++◌, [], ◌∷◌, take, sym, ap}
+use Rattle.std.specs.List.{flat_map}
+use Rattle.std.proofs.lemmas.List.{take_more}
+use Rattle.fr_office.proofs.GatherLaws.{gathered-more, gathered-all}
+use Rattle.fr_office.proofs.OwnReplies.{finds-lent}
+use Rattle.fr_world.proofs.ReadLaws.{reads_then}
+use Rattle.fr_office.proofs.queries.compared.gather_rows.Goals as goal
+
+pub loop-supplier-preserved : goal.loop-supplier-preserved
+loop-supplier-preserved g c =
+    let records = g.R.Records in
+    let i = c.loop-supplier.supplier-index in
+    let suppliers = c.args.suppliers.now in
+    record {
+      reads = reads_then _ _ _ _ _ _ c.loop-supplier.invariant.reads c.find_page.ensures.reads;
+      gathered = λ now.
+          gathered-more (λ p t. flat_map (g.T.ComparedRow.compared p) t.rows) (records.stands c.args.records.now) c.args.variant
+          (records.stands c.loop-supplier.records) (records.stands c.find_page.new.records)
+          c.supplier-item.result (take i suppliers) (take (i + 1) suppliers) c.lent.result.now c.loop-supplier.rows c.push_page.new.rows
+          (c.loop-supplier.invariant.gathered (c.find_page.ensures.reads.falls now)) (finds-lent _ _ _ _ _ _ c.lent.ensures (c.in_ok-find_page.ensures.page now)) c.in_ok-push_page.ensures
+          (take_more suppliers i c.supplier-item.result c.loop-supplier-test.true ∙ ap (λ s. take i suppliers ++ s ∷ []) (sym c.supplier-item.is));
+    }
+
+pub returns-clause-gathers : goal.returns-clause-gathers
+returns-clause-gathers g c = λ now.
+    let records = g.R.Records in
+    gathered-all (λ p t. flat_map (g.T.ComparedRow.compared p) t.rows) (records.stands c.args.records.now) c.args.variant (records.stands c.loop-supplier.records)
+    c.loop-supplier.supplier-index c.args.suppliers.now c.loop-supplier.rows c.loop-supplier-test.false (c.loop-supplier.invariant.gathered now)

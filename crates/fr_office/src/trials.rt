@@ -1,0 +1,51 @@
+//! Tells what would become of each row of a file.
+#![tactic(auto, using(fr_world::proofs::ReadLaws::reads_none, fr_world::proofs::ReadLaws::reads_then))]
+
+ghost use Rattle.std.specs.Prelude.{◌≡◌, ◌⊎◌, Ok, Err, MatchResult};
+ghost use Rattle.fr_base.specs.declared.refusal.Refusal.TheVariants.{Unavailable};
+ghost use Rattle.fr_office.specs.Trials.{TellsTrial, fates_on, told_on};
+ghost use Rattle.fr_world.specs.Held.{Reads};
+
+use crate::lender::{Lender, open_page};
+use fr_base::{Answer, FateRow, MAX_IMPORT_BYTES, Refusal, ReportRows, Rows, Trial};
+use fr_text::read_rows;
+use fr_world::{Page, all_rows_are_checked, try_rows};
+use std::alloc::Global;
+
+/// What would become of each row of the file, on the rows of a supplier that is there. Its variant and its file's length
+/// are decided first. The records are only read.
+pub(crate) fn try_file<R: Lender>(
+    alloc: Global,
+    records: &mut R,
+    trial: &Trial<'_>,
+) -> Result<Answer, Refusal>
+    ensures reads { Reads R.clean R.params R.leaves records.old records.new }
+    ensures tells { R.clean records.new → TellsTrial (R.stands records.old) (R.stands records.new) result trial.now }
+{
+    open_page(alloc, records, trial.supplier, trial.variant)?;
+    tell_rows(alloc, records.lent(), trial)
+}
+
+// What is told on this page; `Limit`, where the file has more than 65,536 bytes.
+#[tactic(auto, unfolding(crate::proofs::TrialLaws::told_open))]
+fn tell_rows(alloc: Global, page: &Page, trial: &Trial<'_>) -> Result<Answer, Refusal>
+    ensures { MatchResult result (λ answer. told_on page.now trial.now ≡ Ok answer) (λ e. (e ≡ Unavailable) ⊎ (told_on page.now trial.now ≡ Err e)) }
+{
+    if trial.body.as_slice().len() > MAX_IMPORT_BYTES {
+        return Err(Refusal::Limit);
+    }
+    let fates = fates(alloc, page, trial)?;
+    Ok(Answer::Report {
+        all: false,
+        rows: ReportRows::Fates(fates),
+    })
+}
+
+// What becomes of each row of the file, on a copy of the page.
+fn fates(alloc: Global, page: &Page, trial: &Trial<'_>) -> Result<Rows<FateRow>, Refusal>
+    ensures { MatchResult result (λ fates. fates ≡ fates_on page.now trial.now) (λ e. e ≡ Unavailable) }
+{
+    let rows = read_rows(alloc, &page.params(), trial.body.as_slice())?;
+    all_rows_are_checked();
+    try_rows(alloc, page.clone()?, rows.as_slice(), trial.replaces)
+}

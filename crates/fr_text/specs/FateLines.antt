@@ -1,0 +1,24 @@
+-- Fates: what a trial tells of a row of a file. That is its line; then the number and the name of what refuses it, or `00` and
+-- `done`; and of a cell or bit that is taken, what has taken it.
+use Rattle.std.specs.Prelude.{ℕ, List, [], ◌∷◌, codes, Option, Some, None}
+use Rattle.fr_base.specs.Channels.{text_of_channel}
+use Rattle.fr_base.specs.Refusals.{number_of, name_of}
+use Rattle.fr_base.specs.declared.answer.FateRow.{FateRow}
+use Rattle.fr_base.specs.declared.refusal.Refusal.{Refusal}
+use Rattle.fr_base.specs.declared.refusal.Refusal.TheVariants.{CellTaken, BitTaken}
+use Rattle.fr_text.specs.Words.{two_digits, four_digits, line}
+
+-- the cell's cycle and channel, and the frame that has taken it; or the bit, and the signal that has
+abbrev pub taken_words : Refusal → List (List ℕ)
+taken_words (CellTaken cycle channel frame) = two_digits cycle ∷ text_of_channel channel ∷ frame ∷ []
+taken_words (BitTaken bit signal) = four_digits bit ∷ signal ∷ []
+taken_words refusal = []
+
+-- what refuses a row, or that it is done
+abbrev pub fate_words : Option Refusal → List (List ℕ)
+fate_words None = codes "00" ∷ codes "done" ∷ []
+fate_words (Some refusal) = two_digits (number_of refusal) ∷ name_of refusal ∷ taken_words refusal
+
+-- what becomes of a row
+unfoldable pub fate_line : FateRow → List ℕ
+fate_line row = line (four_digits row.line ∷ fate_words row.refusal)

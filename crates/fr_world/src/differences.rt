@@ -1,0 +1,109 @@
+//! In what two lists of rows differ, each of which stands in the order of its rows' keys.
+ghost use Rattle.std.specs.Prelude.{◌≡◌, [], ◌∷◌, ◌++◌, List, IfOk, OnOk};
+ghost use Rattle.fr_base.specs.Merging.{come, gone, merge, met, put_in};
+ghost use Rattle.fr_base.specs.declared.answer.DifferenceRow.{DifferenceRow as Told};
+
+use fr_base::{DifferenceRow, NoMemory, Rows, SeenRow};
+use std::cmp::Ordering;
+
+/// A row that has a key, and that a difference tells.
+pub trait KeyedRow {
+    ghost use Rattle.std.specs.Prelude.{◌≡◌, Bool};
+    ghost use Rattle.std.specs.declared.cmp.Ordering.{Ordering as Order};
+    ghost use Rattle.fr_base.specs.declared.answer.SeenRow.{SeenRow as Seen};
+
+    /// The order of keys.
+    ghost compare: { Self → Self → Order };
+
+    /// Whether rows of one key are the same.
+    ghost same: { Self → Self → Bool };
+
+    /// What is told of a row.
+    ghost told: { Self → Seen };
+
+    /// Which of the keys comes first.
+    fn compare(&self, other: &Self) -> Ordering
+        ensures { result ≡ compare self.now other.now };
+
+    /// Whether the rows, which have one key, are the same.
+    fn is_same(&self, other: &Self) -> bool
+        ensures { result ≡ same self.now other.now };
+
+    /// The row as a difference tells it.
+    fn seen(&self) -> SeenRow
+        ensures { result ≡ told self.now };
+}
+
+/// Appends the rows in which the lists differ, by key. Where memory is refused, some of them may have been appended.
+pub fn push_differences<T: KeyedRow>(
+    old: &[T],
+    new: &[T],
+    rows: &mut Rows<DifferenceRow>,
+) -> Result<(), NoMemory>
+    ensures { OnOk result (rows.new ≡ rows.old ++ merge T.compare T.same T.told old.now new.now) }
+{
+    let mut left = new;
+    for row in old {
+        left = push_up_to(row, left, rows)?;
+    }
+    for next in left {
+        rows.push(new_row(next))?;
+    }
+    Ok(())
+}
+
+// Appends what is told of the rows of the one list before this row of the other list, and of the row. What is left of the list is behind.
+fn push_up_to<'a, T: KeyedRow>(
+    row: &T,
+    list: &'a [T],
+    rows: &mut Rows<DifferenceRow>,
+) -> Result<&'a [T], NoMemory>
+    ensures { IfOk result (λ left. (rest : List T → List Told) → rows.new ++ rest left.now ≡ rows.old ++ put_in T.compare T.same T.told row.now rest list.now) }
+{
+    let mut left = list;
+    while let Some((next, after)) = left.split_first() {
+        match row.compare(next) {
+            Ordering::Less => break,
+            Ordering::Equal => {
+                push_met(row, next, rows)?;
+                return Ok(after);
+            }
+            Ordering::Greater => {
+                rows.push(new_row(next))?;
+                left = after;
+            }
+        }
+    }
+    rows.push(gone_row(row))?;
+    Ok(left)
+}
+
+// Appends what is told of two rows of one key, which is nothing if they are the same.
+#[tactic(auto, unfolding(fr_base::specs::Merging::met))]
+fn push_met<T: KeyedRow>(old: &T, new: &T, rows: &mut Rows<DifferenceRow>) -> Result<(), NoMemory>
+    ensures { OnOk result (rows.new ≡ rows.old ++ met T.compare T.same T.told old.now new.now) }
+{
+    if !old.is_same(new) {
+        rows.push(gone_row(old))?;
+        rows.push(new_row(new))?;
+    }
+    Ok(())
+}
+
+fn gone_row<T: KeyedRow>(row: &T) -> DifferenceRow
+    ensures { result ≡ gone T.compare T.same T.told row.now }
+{
+    DifferenceRow {
+        is_new: false,
+        row: row.seen(),
+    }
+}
+
+fn new_row<T: KeyedRow>(row: &T) -> DifferenceRow
+    ensures { result ≡ come T.compare T.same T.told row.now }
+{
+    DifferenceRow {
+        is_new: true,
+        row: row.seen(),
+    }
+}
