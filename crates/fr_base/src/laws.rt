@@ -41,7 +41,7 @@ pub fn run_keeps_sound()
     ensures { RunKeepsSound }
 {}
 
-/// And so does each front of them: the register is sound at every point.
+/// Each front of requests leaves a sound book sound: it is sound at every point.
 pub fn run_is_sound_throughout()
     ensures { RunIsSoundThroughout }
 {}
@@ -61,7 +61,7 @@ pub fn known_stays_known()
     ensures { KnownStaysKnown }
 {}
 
-/// Once a supplier has another key, that is the supplier's, the old one is nobody's, and all others stay whose they were.
+/// Once a supplier of a sound register has another key, that is the supplier's, the old one is nobody's, and all others stay whose they were.
 pub fn key_is_changed()
     ensures { KeyIsChanged }
 {}
@@ -76,23 +76,23 @@ pub fn released_answers_stay()
     ensures { ReleasedAnswersStay }
 {}
 
-/// An import that comes again, with the same label, variant and file, has its answer again and changes
-/// nothing, ever after.
+/// An import that a sound register carried out, and that comes again with the same label, variant and file, has
+/// its answer again and changes nothing, ever after.
 pub fn import_acts_once()
     ensures { ImportActsOnce }
 {}
 
-/// It is kept, as it was sent.
+/// An import that was carried out is kept, as it was sent.
 pub fn import_is_kept()
     ensures { ImportIsKept }
 {}
 
-/// With another file, or the name of another variant, its label is used.
+/// An import under a kept label with another file, or the name of another variant, is `LabelUsed`.
 pub fn label_stays_used()
     ensures { LabelStaysUsed }
 {}
 
-/// And with what is no variant's name it is `BadName`.
+/// An import under a kept label with what is no variant's name is `BadName`.
 pub fn bad_variant_is_bad_name()
     ensures { BadVariantIsBadName }
 {}
@@ -102,12 +102,12 @@ pub fn replaced_leaves_the_rest()
     ensures { ReplacedLeavesTheRest }
 {}
 
-/// Each frame that its file names has exactly what the file's rows say of it.
+/// After a replacement each frame that its file names has exactly what the file's rows say of it.
 pub fn replaced_is_filed()
     ensures { ReplacedIsFiled }
 {}
 
-/// The same file again is answered the same and changes nothing.
+/// The file of a replacement, sent again, is answered the same and changes nothing.
 pub fn same_file_changes_nothing()
     ensures { SameFileChangesNothing }
 {}
@@ -203,7 +203,8 @@ pub fn room_is_alone()
     ensures { RoomIsAlone }
 {}
 
-/// A supplier's Place is answered Done exactly where there is room for the placement.
+/// A Place that `check` accepts, by a supplier that is known, is answered Done exactly where there is room for the
+/// placement.
 pub fn room_is_place()
     ensures { RoomIsPlace }
 {}
@@ -213,7 +214,8 @@ pub fn room_is_refused()
     ensures { RoomIsRefused }
 {}
 
-/// What there is room for is a placement of the cluster with the repetition.
+/// In a sound book what there is room for, where the repetition divides the count of cycles, is a placement of the
+/// cluster with the repetition.
 pub fn room_fits()
     ensures { RoomFits }
 {}

@@ -38,6 +38,10 @@ mod words;
 pub use delivery::{Delivery, DeliveryKind};
 pub use incoming::answer_input;
 pub use lasting::Lasting;
+pub use laws::{
+    answered_lines_are_a_run, available_answers_are_steps, each_fault_is_explained,
+    each_number_is_named,
+};
 pub use query::Inquiry;
 pub use script::run_script;
 pub use script_fault::ScriptFault;

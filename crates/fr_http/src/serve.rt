@@ -29,7 +29,9 @@ pub struct Served {
     pub asked: bool,
 }
 
-/// Serves one connection: reads a request, asks the register, and writes the reply.
+/// Serves one connection: reads a request, asks the register or draws a picture of what the key's owner sees, and
+/// writes the reply. It gives the reply's status, or the fault that ended the connection, and whether the register
+/// was asked. Where it was not, the desk is as it was.
 pub fn serve_one<R: Read, W: Write, D: Desk>(
     alloc: Global,
     reader: &mut R,

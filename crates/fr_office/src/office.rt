@@ -90,7 +90,8 @@ impl<R: Records> Office<R> {
     /// not there is answered `UnknownKey`.
     ///
     /// Until it answers, a crash leaves what it would have left before, or the register after the step. Where it
-    /// answers `Done`, or `Imported` to an import that is new, a crash leaves the register after the step, and no other.
+    /// answers `Done`, `Replaced`, or `Imported` to an import that is new, a crash leaves the register after the step,
+    /// and no other.
     pub fn ask(&mut self, alloc: Global, ask: &Ask) -> Answer
         ensures falls { R.clean self.new.records → R.clean self.old.records }
         ensures answers { R.clean self.new.records → Answers (StandsWarm R.stands self.old) (StandsWarm R.stands self.new) ask.now result }
@@ -100,8 +101,8 @@ impl<R: Records> Office<R> {
         answer(alloc, &mut self.warm, ask)
     }
 
-    /// What a request is answered while the register's rows are not to be had: `UnknownKey` where who asks is not
-    /// there; then what the request's own text refuses it for; else `Unavailable`.
+    /// What a request is answered while the register's rows are not to be had: it is refused, as a step may
+    /// refuse it, or as `Unavailable`.
     pub fn decline(&self, ask: &Ask) -> Answer
         ensures refused { (refusal : Refusal) × (result ≡ Answer.Refused refusal) }
         ensures answers { Answers (StandsWarm R.stands self.now) (StandsWarm R.stands self.now) ask.now result }

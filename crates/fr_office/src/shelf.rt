@@ -10,7 +10,7 @@ use std::alloc::Global;
 use std::collections::BTreeMap;
 use std::marker::Model;
 
-/// The most bytes that the pages of a shelf take, 64 MB, reckoned page by page.
+/// The most bytes that the pages of a shelf take, 64 MiB, reckoned page by page.
 pub const MAX_BYTES: usize = 67_108_864;
 
 /// The bytes that a page takes at most beside its frames and grants: its names, its nodes, and its place on the shelf.

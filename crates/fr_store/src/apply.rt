@@ -58,8 +58,8 @@ impl<S: Alter> Store<S> {
     /// Carries the edits out, one after the other, in one transaction: all of them, or none. Each has to
     /// fit the rows that those before it left: what it adds is not there, what it names or takes out is
     /// there, a variant that changes is open, and a parent is released. The config then lists the
-    /// suppliers that joined. The only refusal is `Unavailable`, also where the config does not admit a
-    /// supplier; then the rows and the config are as they were, but a crash may leave the rows after the
+    /// suppliers that joined, and the keys that were changed. The only refusal is `Unavailable`, also where the
+    /// config does not admit a supplier or a key; then the rows and the config are as they were, but a crash may leave the rows after the
     /// edits. Where they were carried out, a crash leaves no others.
     pub fn apply(&mut self, alloc: Global, edits: &[Edit]) -> Result<(), StoreFault>
         ensures stands { HasCleanDisk (state S.Store self.new.conn) → (c : _) (b : _) → Stands (state S.Store self.old.conn) c b → AllFit c.params b edits.now

@@ -47,10 +47,11 @@ pub use import_room::admit_import;
 pub use kept_import::KeptImport;
 pub use laws::{
     all_rows_are_checked, common_decides, common_fits, decision_fits, decision_leads, edits_agree,
-    grant_decides, import_fits, joining_decides, joining_fits, joining_is_listed, label_decides,
-    new_import_decides, node_decides, node_fits, others_stay, replacement_decides,
-    replacement_fits, revoke_decides, room_decides, rows_are_checked, rows_are_the_registers,
-    rows_decide, rows_fit, rows_lead, sound_rows_are_a_page, supplier_decides, trial_decides,
+    grant_decides, import_fits, joining_decides, joining_fits, joining_is_listed, key_decides,
+    key_fits, key_is_listed, label_decides, new_import_decides, node_decides, node_fits,
+    others_stay, replacement_decides, replacement_fits, revoke_decides, room_decides,
+    rows_are_checked, rows_are_the_registers, rows_decide, rows_fit, rows_lead,
+    sound_rows_are_a_page, supplier_decides, trial_decides,
 };
 pub use loads::page_load;
 pub use mask_occupancy::MaskOccupancy;
