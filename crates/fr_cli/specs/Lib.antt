@@ -24,3 +24,4 @@ pub mod Runs
 pub mod Checking
 pub mod Numbers
 pub mod Explaining
+pub mod Jobs

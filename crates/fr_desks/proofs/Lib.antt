@@ -1,1 +1,2 @@
+mod RefusedFiles
 mod FileDeskLemmas

@@ -1,16 +1,12 @@
 //! Registers in files: made, migrated, opened as a desk that the other commands ask, and closed.
-ghost use Rattle.std.specs.Prelude.{◌≡◌, ◌≢◌, ◌⊎◌, IfErr, IfOk, IfSome, None};
+ghost use Rattle.std.specs.Prelude.{IfErr, IfOk};
 ghost use Rattle.fr_base.specs.Book.{Book, opening};
 ghost use Rattle.fr_base.specs.Cluster.{Cluster};
-ghost use Rattle.fr_desks.specs.FileDesk.{BarsMigration, FindsHeld, FindsLeft, FindsRegister, HoldStill, IsLeftWith, LeavesBook};
-ghost use Rattle.fr_store.specs.Before.{HoldsBookBefore};
-ghost use Rattle.fr_store.specs.Opening.{AllowsCreation, AllowsMigration, Explains, ExplainsFiles, ForbidsFiles, Refuses};
-ghost use Rattle.fr_store.specs.Store.{MayForbid};
-ghost use Rattle.fr_store.specs.StoreFiles.{HoldsBook, image_left};
-ghost use Rattle.fr_store.specs.declared.fault.StoreFault.TheVariants.{NotARegister, NotEmpty, Unavailable, WrongSchema};
-ghost use Rattle.fr_tables.specs.Asking.{old_schema_number};
-ghost use Rattle.sqlite.specs.Effect.{IsDatabase};
-ghost use Rattle.sqlite.specs.Files.{HoldsDatabase, IsCleanLeft};
+ghost use Rattle.fr_desks.specs.FileDesk.{FindsHeld, FindsLeft, FindsRegister, IsLeftWith, LeavesBook};
+ghost use Rattle.fr_store.specs.Opened.{IsMigrated};
+ghost use Rattle.fr_store.specs.Opening.{AllowsCreation};
+ghost use Rattle.fr_store.specs.Refused.{IsRefusedBy, IsUnavailable, NeedsNone, makes, migrates, opens};
+ghost use Rattle.sqlite.specs.Files.{IsCleanLeft};
 ghost use Rattle.sqlite_wal.specs.Files.{image_at};
 ghost use Rattle.sqlite_wal.specs.Reads.{AreClean};
 
@@ -39,13 +35,12 @@ pub fn create<S: Start>(
     config: &Config,
     start: S,
 ) -> Result<Files<FileFrom<S>>, FileFault<S>>
-    ensures book { IfOk result (λ files. LeavesBook ⟦<FileFrom<S> as Disk>⟧ files config.now.cluster (opening config.now)) }
-    ensures bare { IfOk result (λ files. AreClean ⟦<FileFrom<S> as Disk>⟧ files.log files.db → AllowsCreation (image_at S.Start)) }
-    ensures told { IfErr result (λ e. IfSome e.1 (λ left. IsCleanLeft left → (d : _) → IsDatabase d → HoldsDatabase (image_at S.Start) d.trees → MayForbid d.schema e.0)) }
-    ensures cause { IfErr result (λ e. IfSome e.1 (λ left. IsCleanLeft left → ForbidsFiles (image_at S.Start) e.0)) }
-    ensures untouched { IfErr result (λ e. e.0 ≡ NotEmpty → IfSome e.1 (λ left. IsCleanLeft left → HoldStill (image_at S.Start) left)) }
-    ensures fault { IfErr result (λ e. (e.0 ≡ NotEmpty) ⊎ (e.0 ≡ Unavailable)) }
-    ensures lost { IfErr result (λ e. e.1 ≡ None → e.0 ≡ Unavailable) }
+    ensures book { IfOk result (λ files.
+        LeavesBook ⟦<FileFrom<S> as Disk>⟧ files config.now.cluster (opening config.now)) }
+    ensures bare { IfOk result (λ files. AreClean ⟦<FileFrom<S> as Disk>⟧ files.log files.db
+        → AllowsCreation (image_at S.Start)) }
+    ensures refused { IfErr result (λ e.
+        IsRefusedBy makes IsUnavailable (image_at S.Start) e.0 e.1) }
 {
     let desk = new_desk(rt, path, config, start)?;
     match closed(desk) {
@@ -61,13 +56,12 @@ fn new_desk<S: Start>(
     config: &Config,
     start: S,
 ) -> Result<FileDesk<S>, FileFault<S>>
-    ensures stands { IfOk result (λ desk. ⟦<FileDesk<S> as Desk>⟧.clean desk → ⟦<FileDesk<S> as Desk>⟧.stands desk config.now.cluster (opening config.now)) }
-    ensures bare { IfOk result (λ desk. ⟦<FileDesk<S> as Desk>⟧.clean desk → AllowsCreation (image_at S.Start)) }
-    ensures told { IfErr result (λ e. IfSome e.1 (λ left. IsCleanLeft left → (d : _) → IsDatabase d → HoldsDatabase (image_at S.Start) d.trees → MayForbid d.schema e.0)) }
-    ensures cause { IfErr result (λ e. IfSome e.1 (λ left. IsCleanLeft left → ForbidsFiles (image_at S.Start) e.0)) }
-    ensures untouched { IfErr result (λ e. e.0 ≡ NotEmpty → IfSome e.1 (λ left. IsCleanLeft left → HoldStill (image_at S.Start) left)) }
-    ensures fault { IfErr result (λ e. (e.0 ≡ NotEmpty) ⊎ (e.0 ≡ Unavailable)) }
-    ensures lost { IfErr result (λ e. e.1 ≡ None → e.0 ≡ Unavailable) }
+    ensures stands { let it = ⟦<FileDesk<S> as Desk>⟧ in IfOk result (λ desk. it.clean desk
+        → it.stands desk config.now.cluster (opening config.now)) }
+    ensures bare { let it = ⟦<FileDesk<S> as Desk>⟧ in IfOk result (λ desk. it.clean desk
+        → AllowsCreation (image_at S.Start)) }
+    ensures refused { IfErr result (λ e.
+        IsRefusedBy makes IsUnavailable (image_at S.Start) e.0 e.1) }
 {
     // Gives the proof that the suppliers are in order.
     let _formed = config.params();
@@ -84,14 +78,9 @@ pub fn migrate<S: Start>(
     path: &str,
     start: S,
 ) -> Result<Leftover<FileFrom<S>>, FileFault<S>>
-    ensures migrated { IfOk result (λ left. IsCleanLeft left → (c : Cluster) (b : Book) → HoldsBookBefore c b (image_at S.Start) → HoldsBook c b (image_left left)) }
-    ensures ready { IfOk result (λ left. IsCleanLeft left → AllowsMigration (image_at S.Start)) }
-    ensures told { IfErr result (λ e. IfSome e.1 (λ left. IsCleanLeft left → (d : _) → IsDatabase d → HoldsDatabase (image_at S.Start) d.trees → Refuses old_schema_number d e.0)) }
-    ensures cause { IfErr result (λ e. IfSome e.1 (λ left. IsCleanLeft left → BarsMigration (image_at S.Start) e.0)) }
-    ensures known { IfErr result (λ e. IfSome e.1 (λ left. IsCleanLeft left → (c : Cluster) (b : Book) → HoldsBookBefore c b (image_at S.Start) → e.0 ≡ Unavailable)) }
-    ensures untouched { IfErr result (λ e. e.0 ≢ Unavailable → IfSome e.1 (λ left. IsCleanLeft left → HoldStill (image_at S.Start) left)) }
-    ensures not_made { IfErr result (λ e. e.0 ≢ NotEmpty) }
-    ensures lost { IfErr result (λ e. e.1 ≡ None → (e.0 ≡ Unavailable) ⊎ (e.0 ≡ NotARegister)) }
+    ensures migrated { IfOk result (λ left. IsCleanLeft left → IsMigrated (image_at S.Start) left) }
+    ensures refused { IfErr result (λ e.
+        IsRefusedBy migrates NeedsNone (image_at S.Start) e.0 e.1) }
 {
     if let Ok(false) = fs::exists(rt, path) {
         return Err((StoreFault::NotARegister, None));
@@ -105,16 +94,15 @@ pub fn migrate<S: Start>(
 /// The desk of the register in the file at a path, which stands for the book that the file holds. Where there is
 /// no file there is no register, and none is made. `start` says what is supposed of the file.
 pub fn open<S: Start>(rt: &HostRuntime, path: &str, start: S) -> Result<FileDesk<S>, FileFault<S>>
-    ensures found { IfOk result (λ desk. FindsHeld (image_at S.Start) (⟦<FileDesk<S> as Desk>⟧.clean desk) (⟦<FileDesk<S> as Desk>⟧.stands desk)) }
-    ensures left { IfOk result (λ desk. FindsLeft (image_at S.Start) (⟦<FileDesk<S> as Desk>⟧.clean desk) (⟦<FileDesk<S> as Desk>⟧.stands desk)) }
-    ensures reads { IfOk result (λ desk. FindsRegister (image_at S.Start) (⟦<FileDesk<S> as Desk>⟧.clean desk) (⟦<FileDesk<S> as Desk>⟧.stands desk)) }
-    ensures serves { IfOk result (λ desk. ⟦<FileDesk<S> as Desk>⟧.clean desk → ⟦<Store<FileStore<FileFrom<S>>> as Records>⟧.serves desk.records) }
-    ensures told { IfErr result (λ e. IfSome e.1 (λ left. IsCleanLeft left → (d : _) → IsDatabase d → HoldsDatabase (image_at S.Start) d.trees → Explains d e.0)) }
-    ensures cause { IfErr result (λ e. IfSome e.1 (λ left. IsCleanLeft left → ExplainsFiles (image_at S.Start) e.0)) }
-    ensures known { IfErr result (λ e. IfSome e.1 (λ left. IsCleanLeft left → (c : Cluster) (b : Book) → HoldsBook c b (image_at S.Start) → e.0 ≡ Unavailable)) }
-    ensures untouched { IfErr result (λ e. e.0 ≢ Unavailable → IfSome e.1 (λ left. IsCleanLeft left → HoldStill (image_at S.Start) left)) }
-    ensures not_made { IfErr result (λ e. e.0 ≢ NotEmpty) }
-    ensures lost { IfErr result (λ e. e.1 ≡ None → (e.0 ≡ Unavailable) ⊎ (e.0 ≡ NotARegister)) }
+    ensures found { let it = ⟦<FileDesk<S> as Desk>⟧ in IfOk result (λ desk.
+        FindsHeld (image_at S.Start) (it.clean desk) (it.stands desk)) }
+    ensures left { let it = ⟦<FileDesk<S> as Desk>⟧ in IfOk result (λ desk.
+        FindsLeft (image_at S.Start) (it.clean desk) (it.stands desk)) }
+    ensures reads { let it = ⟦<FileDesk<S> as Desk>⟧ in IfOk result (λ desk.
+        FindsRegister (image_at S.Start) (it.clean desk) (it.stands desk)) }
+    ensures serves { IfOk result (λ desk. ⟦<FileDesk<S> as Desk>⟧.clean desk
+        → ⟦<Store<FileStore<FileFrom<S>>> as Records>⟧.serves desk.records) }
+    ensures refused { IfErr result (λ e. IsRefusedBy opens NeedsNone (image_at S.Start) e.0 e.1) }
 {
     if let Ok(false) = fs::exists(rt, path) {
         return Err((StoreFault::NotARegister, None));

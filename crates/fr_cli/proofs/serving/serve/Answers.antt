@@ -11,4 +11,4 @@ returns-in-Ok-clause-served g c =
 
 pub returns-in-Err-clause-served : goal.returns-in-Err-clause-served
 returns-in-Err-clause-served g c =
-    inl (_, refl, not_opened _ _ _ c.in-Err.ensures.not_made c.in-Err.ensures.cause c.in-Err.ensures.untouched c.in-Err.ensures.lost, Keeps-refl (g.O.Write.contents c.args.out.now), Keeps-refl (g.E.Write.contents c.args.err.now.writer.now))
+    inl (_, refl, not_opened _ _ _ c.in-Err.ensures.refused, Keeps-refl (g.O.Write.contents c.args.out.now), Keeps-refl (g.E.Write.contents c.args.err.now.writer.now))

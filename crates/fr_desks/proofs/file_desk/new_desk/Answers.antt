@@ -11,11 +11,12 @@ returns-in-Ok-clause-stands g c clean =
     let store = c.in-Ok.store in
     let file = c.args.config.now in
     let kept = subst (λ w. HasCleanDisk (file_state w.records.conn)) c.new.ensures.value clean in
+    let made = c.in-Ok.ensures.made kept in
     let stands : StandsStored store.config (file_state store.conn) file.cluster (opening file) = record {
       config = c.in-Ok.ensures.config ∙ sym (file_of-opening file c.params-formed.ensures.formed.cluster);
-      rows = λ _. (c.in-Ok.ensures.stands kept, c.in-Ok.ensures.committed kept);
+      rows = λ _. (made.stands, made.committed);
     } in
     c.new.ensures.stands file.cluster (opening file) stands
 
 pub returns-in-Ok-clause-bare : goal.returns-in-Ok-clause-bare
-returns-in-Ok-clause-bare g c clean = c.in-Ok.ensures.bare (subst (λ w. HasCleanDisk (file_state w.records.conn)) c.new.ensures.value clean)
+returns-in-Ok-clause-bare g c clean = (c.in-Ok.ensures.made (subst (λ w. HasCleanDisk (file_state w.records.conn)) c.new.ensures.value clean)).bare
