@@ -19,6 +19,7 @@ pub mod Endings
 pub mod Performing
 pub mod RegisterFiles
 pub mod Incoming
+pub mod Visits
 pub mod Serving
 pub mod Runs
 pub mod Checking

@@ -18,6 +18,7 @@ ghost use Rattle.fr_cli.specs.Reading.{PrintsRead};
 ghost use Rattle.fr_cli.specs.RegisterFiles.{IsAnswerOfFile, IsDeliveryToFile, IsMade, IsMoved, IsReadOfFile};
 ghost use Rattle.fr_cli.specs.Runs.{IsRunOf};
 ghost use Rattle.fr_cli.specs.Serving.{IsAnnounced, IsServed};
+ghost use Rattle.fr_cli.specs.Visits.{AreVisitedAt};
 ghost use Rattle.fr_cli.specs.declared.delivery.Delivery.{Delivery};
 ghost use Rattle.fr_cli.specs.declared.failure.Failure.{Failure as Ended};
 ghost use Rattle.fr_cli.specs.declared.fault.Fault.{Fault as Word};
@@ -33,6 +34,7 @@ use crate::delivered_file::deliver_file;
 use crate::explaining::explain_word;
 use crate::failure::Failure;
 use crate::fault::{Fault, of_script};
+use crate::listener::Listener;
 use crate::picturing::picture;
 use crate::printing::{end, print, print_all, tell};
 use crate::query::Inquiry;
@@ -47,14 +49,15 @@ use std::io::{Read, Write};
 
 /// Does the job, and gives the status that the process ends with: 0 where it was done, 1 where the
 /// register refused it, or would refuse rows of a file that was tried, or a fault ended it. What cannot be written to `err` is lost. Beside the status it gives what is
-/// left of the job's register file, closed. `start` says what is supposed of that file.
-pub fn perform<S: Start, R: Read, O: Write, E: Write>(
+/// left of the job's register file, closed. `start` says what is supposed of that file. A server's connections come in at the listener.
+pub fn perform<S: Start, R: Read, O: Write, E: Write, L: Listener>(
     rt: &HostRuntime,
     job: &Job<'_>,
     start: S,
     input: &mut R,
     out: &mut O,
     err: &mut E,
+    listener: &mut L,
 ) -> (u8, Left<S>)
     ensures run { job.now ≡ Job.Run → (done : Result ⊤ Early) × (result.0 ≡ status_of (of_script done))
         × Tells (E.contents err.old) (E.contents err.new) (of_script done)
@@ -82,7 +85,8 @@ pub fn perform<S: Start, R: Read, O: Write, E: Write>(
         × IsTold done (O.contents out.old) (O.contents out.new) (E.contents err.old) (E.contents err.new) result.0 }
     ensures serve { (db : Bor (List ℕ)) (port count seconds : ℕ) → job.now ≡ Job.Serve db port count seconds → (done : Result ⊤ Word) × (result.0 ≡ status_of done)
         × IsAnnounced port (O.contents out.old) (O.contents out.new) done
-        × ((told : Option (List ℕ)) × IsServed (image_at S.Start) result.1 port count (O.contents out.old) (O.contents out.new) (E.contents err.old) told done
+        × ((told : Option (List ℕ)) × IsServed (image_at S.Start) result.1 port count (listener.new ≡ listener.old)
+        (λ visits. AreVisitedAt L.Listener L.Reader.Read L.Writer.Write listener.old port visits listener.new) (O.contents out.old) (O.contents out.new) (E.contents err.old) told done
         × Tells told (E.contents err.new) done) }
 {
     let mut err = Output::new(err);
@@ -107,7 +111,7 @@ pub fn perform<S: Start, R: Read, O: Write, E: Write>(
                 count,
                 seconds,
             };
-            let (done, left) = serve(rt, db, start, service, out, &mut err);
+            let (done, left) = serve(rt, db, start, service, listener, out, &mut err);
             (end(done, &mut err), left)
         }
         Job::Ask { db } => {

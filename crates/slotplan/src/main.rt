@@ -4,7 +4,7 @@
 mod streams;
 
 use fr_cli::perform::{explain, perform};
-use fr_cli::{WordFault, read_words};
+use fr_cli::{LocalListener, WordFault, read_words};
 use sqlite::Unknown;
 use std::env;
 use std::io::{self, ErrorKind};
@@ -26,7 +26,15 @@ fn run(rt: &HostRuntime) -> u8 {
     };
     match read_words(rt.alloc(), &words) {
         Ok(job) => {
-            let (status, _left) = perform(rt, &job, Unknown, &mut rt.reader(), &mut out, &mut err);
+            let (status, _left) = perform(
+                rt,
+                &job,
+                Unknown,
+                &mut rt.reader(),
+                &mut out,
+                &mut err,
+                &mut LocalListener::new(rt),
+            );
             status
         }
         Err(fault) => explain(&fault, &mut out, &mut err),

@@ -1,4 +1,4 @@
-use Rattle.std.proofs.Common.{rules, ◌∙◌, List, ℕ, Option, ap, subst, sym}
+use Rattle.std.proofs.Common.{rules, ◌≡◌, ◌∙◌, List, ℕ, Option, ap, subst, sym}
 use Rattle.std.specs.Borrow.{Bor}
 use Rattle.sqlite_wal.specs.Files.{image_at}
 use Rattle.fr_cli.specs.Checking.{IsCheckedFile}
@@ -11,6 +11,7 @@ use Rattle.fr_cli.specs.Queries.{named}
 use Rattle.fr_cli.specs.Reading.{PrintsRead}
 use Rattle.fr_cli.specs.RegisterFiles.{IsAnswerOfFile, IsDeliveryToFile, IsReadOfFile}
 use Rattle.fr_cli.specs.Serving.{IsAnnounced, IsServed}
+use Rattle.fr_cli.specs.Visits.{AreVisitedAt, Visit}
 use Rattle.fr_cli.specs.declared.delivery.Delivery.{Delivery}
 use Rattle.fr_cli.specs.declared.query.Inquiry.{Inquiry}
 use Rattle.fr_cli.specs.declared.text_file.TextFile.{TextFile}
@@ -72,10 +73,12 @@ returns-in-Serve-clause-serve g c db port count seconds is =
     let out' = g.O.Write.contents c.serve-done.new.out in
     let told = g.E.Write.contents c.serve-done.new.err.writer.now in
     let announced = subst (λ p. IsAnnounced p out out' done) (ap port_in same) c.serve-done.ensures.announced in
-    let ported = subst (λ p. IsServed (image_at g.S.Start) c.serve-done.result.1 p c.in-Serve.count out out' (g.E.Write.contents c.new-err.result.writer.now) told done) (ap port_in same)
+    let stayed = c.serve-done.new.listener ≡ c.args.listener.now in
+    let CameIn : ℕ → List Visit → Type 0 = λ p visits. AreVisitedAt g.L.Listener g.L.Reader.Read g.L.Writer.Write c.args.listener.now p visits c.serve-done.new.listener in
+    let ported = subst (λ p. IsServed (image_at g.S.Start) c.serve-done.result.1 p c.in-Serve.count stayed (CameIn p) out out' (g.E.Write.contents c.new-err.result.writer.now) told done) (ap port_in same)
     c.serve-done.ensures.served in
-    let served = subst (λ n. IsServed (image_at g.S.Start) c.serve-done.result.1 port n out out' (g.E.Write.contents c.new-err.result.writer.now) told done) (ap count_in same) ported in
-    let from = subst (λ e. IsServed (image_at g.S.Start) c.serve-done.result.1 port count out out' (g.E.Write.contents e) told done) c.new-err.ensures.holds served in
+    let served = subst (λ n. IsServed (image_at g.S.Start) c.serve-done.result.1 port n stayed (CameIn port) out out' (g.E.Write.contents c.new-err.result.writer.now) told done) (ap count_in same) ported in
+    let from = subst (λ e. IsServed (image_at g.S.Start) c.serve-done.result.1 port count stayed (CameIn port) out out' (g.E.Write.contents e) told done) c.new-err.ensures.holds served in
     (done, search rules, announced, (told, from, search rules))
 
 -- the file that a job checks
