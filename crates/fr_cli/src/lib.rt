@@ -5,6 +5,7 @@ mod answering;
 mod asked_file;
 mod asking;
 mod checking;
+mod closing;
 mod commands;
 mod creating;
 mod delivered_file;
@@ -35,6 +36,7 @@ mod timed_stream;
 mod watch;
 mod words;
 
+pub use closing::end_closed;
 pub use delivery::{Delivery, DeliveryKind};
 pub use incoming::answer_input;
 pub use lasting::Lasting;

@@ -10,7 +10,7 @@ use Rattle.sqlite_wal.specs.Recovery.{Image}
 use Rattle.fr_base.specs.Book.{Book}
 use Rattle.fr_base.specs.Cluster.{Cluster, ClusterFile}
 use Rattle.fr_world.specs.Held.{Leaving, Standing}
-use Rattle.fr_office.specs.Crashed.{EachBook, IsOrNext, WasLacking}
+use Rattle.fr_office.specs.Crashed.{EachBook, IsKept, IsNear, IsOrNext, WasLacking}
 use Rattle.fr_office.proofs.CrashedLaws.{is_found, were_kept}
 use Rattle.fr_store.specs.Crashes.{IsForOne}
 use Rattle.fr_store.specs.Store.{IsRegisterFor}
@@ -19,7 +19,7 @@ use Rattle.fr_store.specs.Stored.{StandsStored}
 use Rattle.fr_store.proofs.AgainLemmas as again
 use Rattle.fr_store.proofs.StoredLaws.{holds_book}
 use Rattle.fr_desks.specs.FileDesk.{IsLeftBy, LeavesBook}
-use Rattle.fr_desks.specs.Laws.{CrashIsFound}
+use Rattle.fr_desks.specs.Laws.{CrashIsFound, StoppedIsFound}
 
 -- files that hold what was committed hold the book
 pub holds_committed : (found : ClusterFile) (s : State) (c : Cluster) (b : Book) (image : Image) → IsTrue s.is_open → IsHeld image s.committed → StandsStored found s c b → HoldsBook c b image
@@ -31,7 +31,7 @@ left_holds g files held c b are leaves (inl same) = subst (HoldsBook c b) (sym s
 left_holds g files held c b are leaves (inr crash) = (leaves are).1 held crash
 
 -- of what may be left it is one
-one_of : (c : Cluster) (P : Book → Type 0) (books : List Book) (db : Trees) → EachBook P books → IsForOne c books db → (x : Book) × P x × IsRegisterFor c x (database_of db)
+pub one_of : (c : Cluster) (P : Book → Type 0) (books : List Book) (db : Trees) → EachBook P books → IsForOne c books db → (x : Book) × P x × IsRegisterFor c x (database_of db)
 one_of c P [] db each is = absurd is
 one_of c P (b ∷ books) db each (inl this) = (b, each.0, this)
 one_of c P (b ∷ books) db each (inr other) = one_of c P books db each.1 other
@@ -44,3 +44,14 @@ crash_found {D} {Desk} g stands serves leaves held clean finds settled c b first
     ∥∥₁_map (given are held crash c kept.books kept.left) (λ one.
     let x = one_of c (IsOrNext c (WasLacking asks answers) kept.last) kept.books one.0 kept.each one.2 in
     is_found (finds found c) c b kept.last x.0 asks answers sound kept.run x.1 (finds_left is_clean c x.0 one.0 one.1 x.2))
+
+-- what is opened of the files of a desk that was given up
+pub stopped_found : {D Desk Found : Type 0} (g : Ghosts D) (stands : Desk → Standing) (leaves : Desk → Leaving) (held : Image)
+    (clean : Found → Type 0) (finds : Found → Standing)
+    → ((desk : Desk) (c : Cluster) (b : Book) → stands desk c b → IsKept (leaves desk c) c b) → StoppedIsFound g stands leaves held clean finds
+stopped_found {D} {Desk} {Found} g stands leaves held clean finds keeps c b desk files found stood given are crash finds_left is_clean =
+    let kept = keeps desk c b stood in
+    ∥∥₁_map (given are held crash c kept.books kept.left) (λ one.
+    let x = one_of c (IsNear c b) kept.books one.0 kept.each one.2 in
+    let found_near : (x : Book) × IsNear c b x × finds found c x = (x.0, x.1, finds_left is_clean c x.0 one.0 one.1 x.2) in
+    found_near)

@@ -1,8 +1,8 @@
 //! Registers in files: made, migrated, opened as a desk that the other commands ask, and closed.
-ghost use Rattle.std.specs.Prelude.{◌≡◌, ◌≢◌, ◌⊎◌, IfErr, IfOk, IfSome, None};
+ghost use Rattle.std.specs.Prelude.{◌≡◌, ◌≢◌, ◌⊎◌, List, IfErr, IfOk, IfSome, IsTrue, None};
 ghost use Rattle.fr_base.specs.Book.{Book, opening};
 ghost use Rattle.fr_base.specs.Cluster.{Cluster};
-ghost use Rattle.fr_desks.specs.FileDesk.{BarsMigration, FindsHeld, FindsLeft, FindsRegister, HoldStill, IsLeftWith, LeavesBook};
+ghost use Rattle.fr_desks.specs.FileDesk.{AreGivenUp, BarsMigration, FindsHeld, FindsLeft, FindsOneOf, FindsRegister, HoldStill, IsLeftWith, LeavesBook};
 ghost use Rattle.fr_store.specs.Before.{HoldsBookBefore};
 ghost use Rattle.fr_store.specs.Opening.{AllowsCreation, AllowsMigration, Explains, ExplainsFiles, ForbidsFiles, Refuses};
 ghost use Rattle.fr_store.specs.Store.{MayForbid};
@@ -11,6 +11,7 @@ ghost use Rattle.fr_store.specs.declared.fault.StoreFault.TheVariants.{NotARegis
 ghost use Rattle.fr_tables.specs.Asking.{old_schema_number};
 ghost use Rattle.sqlite.specs.Effect.{IsDatabase};
 ghost use Rattle.sqlite.specs.Files.{HoldsDatabase, IsCleanLeft};
+ghost use Rattle.sqlite_store.specs.FileStore.{view};
 ghost use Rattle.sqlite_wal.specs.Files.{image_at};
 ghost use Rattle.sqlite_wal.specs.Reads.{AreClean};
 
@@ -50,7 +51,7 @@ pub fn create<S: Start>(
     let desk = new_desk(rt, path, config, start)?;
     match closed(desk) {
         Ok(files) => Ok(files),
-        Err(left) => Err((StoreFault::Unavailable, Some(left))),
+        Err(store) => Err((StoreFault::Unavailable, Some(Leftover::Store(store)))),
     }
 }
 
@@ -126,21 +127,24 @@ pub fn open<S: Start>(rt: &HostRuntime, path: &str, start: S) -> Result<FileDesk
 }
 
 /// Closes the register, and gives what is left of the files. Where they close, they hold its book as long as nobody else
-/// writes to them, and so does what a crash leaves of them. Where they fail to close, nothing is said of what they hold.
+/// writes to them, and so does what a crash leaves of them. Where they fail to close, their store is left: what is opened
+/// after a crash is then the register as it stood, or after one request more.
 pub fn close<S: Start>(desk: FileDesk<S>) -> Leftover<FileFrom<S>>
     ensures clean { IsCleanLeft result → ⟦<FileDesk<S> as Desk>⟧.clean desk }
     ensures book { (c : Cluster) (b : Book) → ⟦<FileDesk<S> as Desk>⟧.stands desk c b → IsLeftWith result c b }
 {
     match closed(desk) {
         Ok(files) => Leftover::Files(files),
-        Err(left) => left,
+        Err(store) => Leftover::Store(store),
     }
 }
 
-// Closes the register: its files, or what is left of them where they fail to close.
-fn closed<S: Start>(desk: FileDesk<S>) -> Result<Files<FileFrom<S>>, Leftover<FileFrom<S>>>
+// Closes the register: its files, or the store that is left of them where they fail to close.
+fn closed<S: Start>(desk: FileDesk<S>) -> Result<Files<FileFrom<S>>, FileStore<FileFrom<S>>>
     ensures clean { IfOk result (λ files. AreClean ⟦<FileFrom<S> as Disk>⟧ files.log files.db → ⟦<FileDesk<S> as Desk>⟧.clean desk) }
-    ensures left { IfErr result (λ left. (IsCleanLeft left → ⟦<FileDesk<S> as Desk>⟧.clean desk) × ((c : Cluster) (b : Book) → IsLeftWith left c b)) }
+    ensures still { IfErr result (λ it. IsTrue (view it).is_clean → ⟦<FileDesk<S> as Desk>⟧.clean desk) }
+    ensures left { IfErr result (λ it. (c : Cluster) (books : List Book) →
+        ⟦<Store<FileStore<FileFrom<S>>> as Records>⟧.leaves desk.records c books → FindsOneOf it c books) }
     ensures book { IfOk result (λ files. (c : Cluster) (b : Book) → ⟦<FileDesk<S> as Desk>⟧.stands desk c b → LeavesBook ⟦<FileFrom<S> as Disk>⟧ files c b) }
 {
     let conn = desk.into_records().into_connection();
@@ -148,6 +152,14 @@ fn closed<S: Start>(desk: FileDesk<S>) -> Result<Files<FileFrom<S>>, Leftover<Fi
     let _schema = conn.schema();
     match conn.close_files() {
         Ok(files) => Ok(files),
-        Err((_, store)) => Err(Leftover::Store(store)),
+        Err((_, store)) => Err(store),
     }
+}
+
+/// Gives the register's files back as they are, as a stop of the program leaves them, with nothing done to them. What a
+/// crash leaves of them is a register that it might have left before.
+pub fn give_up<S: Start>(desk: FileDesk<S>) -> Files<FileFrom<S>>
+    ensures { AreGivenUp ⟦<FileFrom<S> as Disk>⟧ (⟦<Store<FileStore<FileFrom<S>>> as Records>⟧.leaves desk.records) result }
+{
+    desk.into_records().give_up()
 }

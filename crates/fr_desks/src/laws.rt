@@ -1,6 +1,7 @@
 //! Laws of registers in files: one that was made, or closed, and is opened then has the same book. One that is opened after
 //! a crash is the register after all that was answered, or after one request more.
-ghost use Rattle.fr_desks.specs.Laws.{CrashIsFound, LeftIsFound, MadeIsFound};
+ghost use Rattle.fr_desks.specs.Laws.{CrashIsFound, LeftIsFound, MadeIsFound, StoppedIsFound};
+ghost use Rattle.fr_office.specs.KeptPages.{StandsWarm};
 ghost use Rattle.sqlite_wal.specs.Files.{image_at};
 
 use crate::file_desk::FileDesk;
@@ -25,6 +26,13 @@ pub fn made_is_found<D: Disk, S: Start>()
 /// all that was answered, or after one request more, which had been answered `Unavailable`; each supplier was answered
 /// as if it were alone, and at most one frame is sent in a cell.
 pub fn crash_is_found<D: Disk, S: Start>()
-    ensures { CrashIsFound D.Disk ⟦<Office<Store<FileStore<D>>> as Desk>⟧.stands (λ desk. ⟦<Store<FileStore<D>> as Records>⟧.serves desk.records)
+    ensures { CrashIsFound D.Disk (StandsWarm ⟦<Store<FileStore<D>> as Records>⟧.stands) (λ desk. ⟦<Store<FileStore<D>> as Records>⟧.serves desk.records)
         (λ desk. ⟦<Store<FileStore<D>> as Records>⟧.leaves desk.records) (image_at S.Start) ⟦<FileDesk<S> as Desk>⟧.clean ⟦<FileDesk<S> as Desk>⟧.stands }
+{}
+
+/// Whatever job was done at a register in files, and wherever a crash falls: what is opened afterwards has the book for
+/// which the register stood, with all that was answered, or the one after one request more.
+pub fn stopped_is_found<D: Disk, S: Start>()
+    ensures { StoppedIsFound D.Disk ⟦<Office<Store<FileStore<D>>> as Desk>⟧.stands (λ desk. ⟦<Store<FileStore<D>> as Records>⟧.leaves desk.records)
+        (image_at S.Start) ⟦<FileDesk<S> as Desk>⟧.clean ⟦<FileDesk<S> as Desk>⟧.stands }
 {}

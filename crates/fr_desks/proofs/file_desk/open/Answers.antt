@@ -1,9 +1,11 @@
-use Rattle.std.proofs.Common.{◌∙◌, subst, sym}
+use Rattle.std.proofs.Common.{◌∙◌, [], ◌∷◌, subst, sym}
 use Rattle.std.proofs.lemmas.Option.{IfSome_then}
 use Rattle.sqlite.specs.Files.{file_state}
 use Rattle.sqlite.specs.State.{HasCleanDisk}
 use Rattle.fr_base.specs.Book.{file_of}
-use Rattle.fr_store.specs.Crashes.{Serves}
+use Rattle.fr_office.proofs.CrashedLaws.{kept_alone}
+use Rattle.fr_store.specs.Crashes.{Serves, StoredLeaves}
+use Rattle.fr_store.specs.Settled.{stored_settled}
 use Rattle.fr_store.specs.Stored.{StandsStored}
 use Rattle.fr_desks.proofs.file_desk.open.Goals as goal
 
@@ -14,7 +16,9 @@ returns-in-Ok-clause-found g c clean k b holds =
     let found = c.in-Ok.ensures.again kept k b holds in
     let is = c.in-Ok.ensures.opened kept (file_of k b) holds.trees holds.register in
     let stored : StandsStored store.config (file_state store.conn) k b = record { config = found.0; rows = λ _. (found.1, is.1 ∙ sym is.0) } in
-    c.new.ensures.stands k b stored
+    let left = stored_settled (file_state store.conn) store.config k b (c.in-Ok.ensures.serves kept) stored in
+    let inside = subst (λ w. StoredLeaves (file_state w.records.conn) k (b ∷ [])) (sym c.new.ensures.value) left in
+    (c.new.ensures.stands k b stored, kept_alone k b _ inside)
 
 pub returns-in-Err-clause-known : goal.returns-in-Err-clause-known
 returns-in-Err-clause-known g c =
@@ -26,7 +30,9 @@ returns-in-Ok-clause-left g c clean k b db held is =
     let kept : HasCleanDisk (file_state store.conn) = subst (λ w. HasCleanDisk (file_state w.records.conn)) c.new.ensures.value clean in
     let found = c.in-Ok.ensures.left kept k b db held is in
     let stored : StandsStored store.config (file_state store.conn) k b = record { config = found.0; rows = λ _. (found.1, c.in-Ok.ensures.committed kept) } in
-    c.new.ensures.stands k b stored
+    let left = stored_settled (file_state store.conn) store.config k b (c.in-Ok.ensures.serves kept) stored in
+    let inside = subst (λ w. StoredLeaves (file_state w.records.conn) k (b ∷ [])) (sym c.new.ensures.value) left in
+    (c.new.ensures.stands k b stored, kept_alone k b _ inside)
 
 pub returns-in-Ok-clause-serves : goal.returns-in-Ok-clause-serves
 returns-in-Ok-clause-serves g c clean =
@@ -43,7 +49,7 @@ returns-in-Ok-clause-reads g c clean =
       c.in-Ok.ensures.reads kept,
       c.in-Ok.ensures.stands kept,
       λ k b stood.
-          let there : StandsStored store.config (file_state store.conn) k b = subst (λ w. StandsStored w.records.config (file_state w.records.conn) k b) c.new.ensures.value stood.0 in
+          let there : StandsStored store.config (file_state store.conn) k b = subst (λ w. StandsStored w.records.config (file_state w.records.conn) k b) c.new.ensures.value stood.0.0 in
           let rows = (there.rows (c.in-Ok.ensures.open kept)).0 in
           record { has = rows.has; for = rows.for },
     )
