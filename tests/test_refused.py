@@ -261,7 +261,8 @@ class Requests(FileCase):
         states = {right: [after], UNAVAILABLE_REPLY: [before], b"": [before, after]}
         for what, (reply, ended, found) in self.each_refused(lambda more: self.serve(data, more), (right, (0, b""), after), behind=True):
             said = b"" if reply else NO_MEMORY
-            self.see(what, True, (found in states.get(reply, []) and ended == (0, said)) or (reply, ended, found))
+            ends = (0, said), (1, said + NOT_MADE)  # or the register failed to close
+            self.see(what, True, (found in states.get(reply, []) and ended in ends) or (reply, ended, found))
 
     def test_picture(self):
         """How its page looks is no format, so the right one is that of the command, which is compared with the plan below."""
@@ -284,7 +285,8 @@ class CommandCase(FileCase):
         self.see("it", ((0, right, b""), True), (ended, after[0]))
         self.see("whether it changes the rows", words[0] in ("import", "replace"), after != before)
         lacks, fails, is_refused = (1, b"", NO_MEMORY), (1, b"", NOT_MADE), (1, b"", UNAVAILABLE + b"\n")
-        wanted = {(0, right, b""): [after], lacks: [before, after], fails: [before], is_refused: [before]}
+        ends, not_closed = (0, right, b""), (1, right, NOT_MADE)
+        wanted = {ends: [after], not_closed: [after], lacks: [before, after], fails: [before], is_refused: [before]}
         for what, (ended, rows) in self.each_refused(lambda more: self.perform(words, more), ((0, right, b""), after)):
             self.see(what, True, rows in wanted.get(ended, []) or (ended, rows))
             yield ended
@@ -382,6 +384,7 @@ def asked_states(before):
     """How `ask` may end where an allocation is refused, each with what the register may then be: one line is Unavailable; or a fault
     ends it behind whole answers, and the line that it then was at is carried out or not; or the register was not opened."""
     states = {ANSWERED: [rows_behind(before, LINES)], (1, b"", NOT_MADE): [before]}
+    states[1, ANSWERED[1], NOT_MADE] = states[ANSWERED]  # the file failed to close
     for at, line in enumerate(LINES):
         others = [SHOWS_ONE if other is SHOWS and line is PLACES else other for other in LINES]
         answers = [UNAVAILABLE + b"\n" if other is line else other.answer for other in others]

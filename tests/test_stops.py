@@ -35,6 +35,7 @@ QUIETLY = 0, b"", b""
 WORD, WRONG_SCHEMA = ((1, b"", b"slotplan: %s\n" % word) for word in (b"Unavailable", b"WrongSchema"))
 REFUSED = 1, b"", refused(28, "Unavailable") + b"\n"
 IMPORTED = 0, b'{"ok":"imported","rows":1}\n', b""
+SHOWN = b"00 0001 A f1 n1 s1\n"
 
 # What a supplier may not ask is answered so whatever became of the file.
 STRANGE = command("supplier01", b'{"do":"release","variant":"v1"}')
@@ -116,9 +117,11 @@ class Making(StopCase):
 
 @each_way
 class Reading(StopCase):
-    """Where a report is stopped at a call on files, the register is as it was; five of its requests lie in its log."""
+    """Where a report is stopped at a call on files, the register is as it was; five of its requests lie in its log.
 
-    begins, well, fails, after = "logged", [(0, b"00 0001 A f1 n1 s1\n", b"")], [WORD, REFUSED], PLACED
+    Where the file fails to close, that is told behind the report; so with an import."""
+
+    begins, well, fails, after = "logged", [(0, SHOWN, b"")], [WORD, REFUSED, (1, SHOWN, WORD[2])], PLACED
 
     def ran(self, files, more):
         return performed(SCHEDULE, files, more), {PLACED}
@@ -148,11 +151,11 @@ class Migrating(StopCase):
 class Importing(StopCase):
     """Where `import` is stopped at a call on files, its rows are there, all or none; all where it was answered."""
 
-    begins, well, fails, after = "placed", [IMPORTED], [WORD, REFUSED], PLACED + 1
+    begins, well, fails, after = "placed", [IMPORTED], [WORD, REFUSED, (1, IMPORTED[1], WORD[2])], PLACED + 1
 
     def ran(self, files, more):
         ended = performed(IMPORT, files, more)
-        return ended, {PLACED + 1} if ended[0] == 0 else {PLACED, PLACED + 1}
+        return ended, {PLACED + 1} if ended[1] == IMPORTED[1] else {PLACED, PLACED + 1}
 
 
 class Client:

@@ -16,6 +16,7 @@ pub mod ReadingLaws
 pub mod RefusedFiles
 pub mod PicturingLaws
 pub mod ServingLaws
+pub mod VisitLaws
 mod NumberedLaws
 mod EachFault
 mod CheckingLaws

@@ -1,7 +1,11 @@
--- Ending: the status with which a job ends, and what standard output and standard error get.
-use Rattle.std.specs.Prelude.{◌≡◌, ◌≢◌, ◌⊎◌, [], ℕ, List, ◌++◌, codes, Option, Result, Ok, Err, ⊤}
+-- Ending: the status with which a job ends, and what standard output and standard error get. When its file failed to
+-- close.
+use Rattle.std.specs.Prelude.{◌≡◌, ◌≢◌, ◌⊎◌, [], ℕ, List, ◌++◌, codes, Option, Some, None, Result, Ok, Err, ⊤}
 use Rattle.std.specs.Global.{Vec}
 use Rattle.std.specs.Io.KnownBytes.{Appends, Keeps}
+use Rattle.sqlite.specs.declared.file.Leftover.{Leftover}
+use Rattle.sqlite.specs.declared.file.Leftover.TheVariants as left
+use Rattle.sqlite_disk.specs.declared.Disk.{Ghosts}
 use Rattle.fr_cli.specs.Faults.{fault_word}
 use Rattle.fr_cli.specs.declared.failure.Failure.{Failure}
 use Rattle.fr_cli.specs.declared.failure.Failure.TheVariants as failure
@@ -43,3 +47,10 @@ IsTold (Ok text) out out' err err' status = IsPrinted text.items out out' err er
 IsTold (Err (failure.RefusedRows text)) out out' err err' status = (status ≡ 1) × ((printed : ℕ) × IsPrinted text.items out out' err err' printed)
 IsTold (Err (failure.Refused line)) out out' err err' status = (status ≡ 1) × Keeps out out' × AppendsFront err err' line.items
 IsTold (Err (failure.Fault fault)) out out' err err' status = (status ≡ 1) × Keeps out out' × AppendsFront err err' (word_line (fault_word fault))
+
+-- What is left of a job's file is the store that it had, since it failed to close, or to open.
+abbrev pub FailedToClose : {D : Type 0} {g : Ghosts D} → Option (Leftover D g) → Type 0
+FailedToClose None = ⊥
+FailedToClose (Some (left.Files files)) = ⊥
+FailedToClose (Some (left.Unopened files)) = ⊥
+FailedToClose (Some (left.Store it)) = ⊤

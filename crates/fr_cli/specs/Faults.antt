@@ -13,6 +13,7 @@ use Rattle.fr_cli.specs.declared.fault.Fault.TheVariants.{Script, Config, Regist
 use Rattle.fr_http.specs.declared.fault.LinkFault.{LinkFault}
 use Rattle.fr_http.specs.declared.fault.LinkFault.TheVariants as link
 use Rattle.fr_store.specs.Opening.{ExplainsFiles, ForbidsFiles}
+use Rattle.fr_store.specs.Refused.{NeedsNone}
 use Rattle.fr_store.specs.declared.fault.StoreFault.{StoreFault}
 use Rattle.fr_store.specs.declared.fault.StoreFault.TheVariants as store
 use Rattle.fr_text.specs.ClusterFile.{config_fault_word, config_of}
@@ -54,10 +55,6 @@ IsNotRead (Config fault) = (text : List ℕ) × IsClusterFault text (Config faul
 IsNotRead CannotOpen = ⊤
 IsNotRead NoMemory = ⊤
 IsNotRead _ = ⊥
-
--- A fault for which no file need be there.
-abbrev pub NeedsNone : StoreFault → Type 0
-NeedsNone fault = (fault ≡ store.Unavailable) ⊎ (fault ≡ store.NotARegister)
 
 -- What holds where nothing is left of files, or of what is left.
 abbrev pub IfLeft : {D : Type 0} {g : Ghosts D} → Option (Leftover D g) → Type 0 → (Leftover D g → Type 0) → Type 0

@@ -19,8 +19,10 @@ pub mod Endings
 pub mod Performing
 pub mod RegisterFiles
 pub mod Incoming
+pub mod Visits
 pub mod Serving
 pub mod Runs
 pub mod Checking
 pub mod Numbers
 pub mod Explaining
+pub mod Jobs

@@ -5,6 +5,7 @@ mod answering;
 mod asked_file;
 mod asking;
 mod checking;
+mod closing;
 mod commands;
 mod creating;
 mod delivered_file;
@@ -20,6 +21,8 @@ mod lasting;
 mod laws;
 mod lines;
 mod lines_out;
+mod listener;
+mod local_listener;
 mod numbers;
 mod outcome;
 pub mod perform;
@@ -35,6 +38,7 @@ mod timed_stream;
 mod watch;
 mod words;
 
+pub use closing::end_closed;
 pub use delivery::{Delivery, DeliveryKind};
 pub use incoming::answer_input;
 pub use lasting::Lasting;
@@ -42,9 +46,11 @@ pub use laws::{
     answered_lines_are_a_run, available_answers_are_steps, each_fault_is_explained,
     each_number_is_named,
 };
+pub use listener::Listener;
+pub use local_listener::LocalListener;
 pub use query::Inquiry;
 pub use script::run_script;
 pub use script_fault::ScriptFault;
-pub use serving::serve_stream;
+pub use serving::serve_next;
 pub use text_file::TextFile;
 pub use words::{Job, WordFault, read_words};

@@ -5,25 +5,21 @@ ghost use Rattle.std.specs.Global.{Vec};
 ghost use Rattle.std.specs.Io.KnownBytes.{Appends, Keeps};
 ghost use Rattle.sqlite_wal.specs.Files.{image_at};
 ghost use Rattle.fr_cli.specs.Asking.{IsForReader, query_of};
-ghost use Rattle.fr_cli.specs.Checking.{IsCheckedFile};
-ghost use Rattle.fr_cli.specs.Endings.{AppendsFront, IsPrinted, IsTold, Tells, status_of};
-ghost use Rattle.fr_cli.specs.Explaining.{IsExplained};
-ghost use Rattle.fr_cli.specs.Faults.{IsNotDelivered, IsNotMade, IsNotMigrated, IsNotReported};
-ghost use Rattle.fr_cli.specs.Incoming.{IsAsked};
+ghost use Rattle.fr_cli.specs.Endings.{AppendsFront, IsPrinted, Tells, status_of};
+ghost use Rattle.fr_cli.specs.Faults.{IsNotMigrated, IsNotReported};
+ghost use Rattle.fr_cli.specs.Jobs.{IsPerformed};
 ghost use Rattle.fr_cli.specs.Performing.{Says, of_script};
 ghost use Rattle.fr_cli.specs.Picturing.{plans_for};
 ghost use Rattle.fr_picture.specs.Pages.{IsPage};
 ghost use Rattle.fr_cli.specs.Queries.{named};
 ghost use Rattle.fr_cli.specs.Reading.{PrintsRead};
-ghost use Rattle.fr_cli.specs.RegisterFiles.{IsAnswerOfFile, IsDeliveryToFile, IsMade, IsMoved, IsReadOfFile};
+ghost use Rattle.fr_cli.specs.RegisterFiles.{IsAnswerOfFile, IsMoved, IsReadOfFile};
 ghost use Rattle.fr_cli.specs.Runs.{IsRunOf};
-ghost use Rattle.fr_cli.specs.Serving.{IsAnnounced, IsServed};
-ghost use Rattle.fr_cli.specs.declared.delivery.Delivery.{Delivery};
+ghost use Rattle.fr_cli.specs.Visits.{comings};
 ghost use Rattle.fr_cli.specs.declared.failure.Failure.{Failure as Ended};
 ghost use Rattle.fr_cli.specs.declared.fault.Fault.{Fault as Word};
 ghost use Rattle.fr_cli.specs.declared.query.Inquiry.{Inquiry};
 ghost use Rattle.fr_cli.specs.declared.script_fault.ScriptFault.{ScriptFault as Early};
-ghost use Rattle.fr_cli.specs.declared.text_file.TextFile.{TextFile};
 
 use crate::asked_file::ask_file;
 use crate::asking::report_on;
@@ -33,6 +29,7 @@ use crate::delivered_file::deliver_file;
 use crate::explaining::explain_word;
 use crate::failure::Failure;
 use crate::fault::{Fault, of_script};
+use crate::listener::Listener;
 use crate::picturing::picture;
 use crate::printing::{end, print, print_all, tell};
 use crate::query::Inquiry;
@@ -45,45 +42,25 @@ use sqlite::Start;
 use std::alloc::Global;
 use std::io::{Read, Write};
 
-/// Does the job, and gives the status that the process ends with: 0 where it was done, 1 where the
-/// register refused it, or would refuse rows of a file that was tried, or a fault ended it. What cannot be written to `err` is lost. Beside the status it gives what is
-/// left of the job's register file, closed. `start` says what is supposed of that file.
-pub fn perform<S: Start, R: Read, O: Write, E: Write>(
+/// Does the job, and gives the status that the process ends with: 0 where it was done; 1 where the
+/// register refused it, or would refuse rows of a file that was tried, or a fault ended it. What cannot be
+/// written to `err` is lost. Beside the status it gives what is left of the job's register file, closed.
+/// A server's connections come in at the listener. `start` says what is supposed of the job's file.
+pub fn perform<S: Start, R: Read, O: Write, E: Write, L: Listener>(
     rt: &HostRuntime,
     job: &Job<'_>,
     start: S,
     input: &mut R,
     out: &mut O,
     err: &mut E,
+    listener: &mut L,
 ) -> (u8, Left<S>)
-    ensures run { job.now ≡ Job.Run → (done : Result ⊤ Early) × (result.0 ≡ status_of (of_script done))
-        × Tells (E.contents err.old) (E.contents err.new) (of_script done)
-        × IsRunOf (R.remaining input.old) (R.remaining input.new) (O.contents out.old) (O.contents out.new) done }
-    ensures create { (db config : Bor (List ℕ)) → job.now ≡ Job.Create db config → (done : Result ⊤ Word) × (result.0 ≡ status_of done)
-        × IfErr done (IsNotMade (image_at S.Start) result.1) × IsMade (image_at S.Start) result.1 done
-        × Keeps (O.contents out.old) (O.contents out.new) × Tells (E.contents err.old) (E.contents err.new) done }
-    ensures migrate { (db : Bor (List ℕ)) → job.now ≡ Job.Migrate db → (done : Result ⊤ Word) × (result.0 ≡ status_of done)
-        × IfErr done (IsNotMigrated (image_at S.Start) result.1) × IsMoved (image_at S.Start) result.1 done
-        × Keeps (O.contents out.old) (O.contents out.new) × Tells (E.contents err.old) (E.contents err.new) done }
-    ensures ask { (db : Bor (List ℕ)) → job.now ≡ Job.Ask db → (done : Result ⊤ Word) × (result.0 ≡ status_of done)
-        × Tells (E.contents err.old) (E.contents err.new) done
-        × IsAsked (image_at S.Start) result.1 (R.remaining input.old) (R.remaining input.new) (O.contents out.old) (O.contents out.new) done }
-    ensures report { (db : Bor (List ℕ)) (query : Inquiry) → job.now ≡ Job.Report db query → (done : Result (Vec ℕ) Ended) × Says (IsNotReported (image_at S.Start) result.1) (IsForReader (IsAnswerOfFile (image_at S.Start) result.1 (query_of query))) done
-        × IsTold done (O.contents out.old) (O.contents out.new) (E.contents err.old) (E.contents err.new) result.0 }
-    ensures picture { (db variant : Bor (List ℕ)) (supplier : Option (Bor (List ℕ))) → job.now ≡ Job.Picture db variant supplier → (done : Result (Vec ℕ) Ended) × PrintsRead (IsNotReported (image_at S.Start) result.1) (IsReadOfFile (image_at S.Start) result.1 (plans_for (named supplier) variant.now)) IsPage done
-        × IsTold done (O.contents out.old) (O.contents out.new) (E.contents err.old) (E.contents err.new) result.0 }
-    ensures deliver { (db : Bor (List ℕ)) (delivery : Delivery) → job.now ≡ Job.Deliver db delivery → (body : List ℕ) × (done : Result (Vec ℕ) Ended)
-        × Says (IsNotDelivered (image_at S.Start) result.1 delivery.key.now)
-        (IsDeliveryToFile (image_at S.Start) result.1 delivery (R.remaining input.old) (R.remaining input.new) body) done
-        × IsTold done (O.contents out.old) (O.contents out.new) (E.contents err.old) (E.contents err.new) result.0 }
-    ensures check { (file : TextFile) → job.now ≡ Job.Check file → (done : Result (Vec ℕ) Ended) × IsCheckedFile file done
-        × IsTold done (O.contents out.old) (O.contents out.new) (E.contents err.old) (E.contents err.new) result.0 }
-    ensures explain { (word : Option (Bor (List ℕ))) → job.now ≡ Job.Explain word → (done : Result (Vec ℕ) Ended) × IsExplained word done
-        × IsTold done (O.contents out.old) (O.contents out.new) (E.contents err.old) (E.contents err.new) result.0 }
-    ensures serve { (db : Bor (List ℕ)) (port count seconds : ℕ) → job.now ≡ Job.Serve db port count seconds → (done : Result ⊤ Word) × (result.0 ≡ status_of done)
-        × IsAnnounced port (O.contents out.old) (O.contents out.new) done
-        × ((told : Option (List ℕ)) × IsServed (image_at S.Start) result.1 port count (O.contents out.old) (O.contents out.new) (E.contents err.old) told done
-        × Tells told (E.contents err.new) done) }
+    ensures { IsPerformed (image_at S.Start) result.1
+        (comings L.Listener L.Reader.Read L.Writer.Write listener.old listener.new) job.now record {
+          input = record { old = R.remaining input.old; new = R.remaining input.new };
+          out = record { old = O.contents out.old; new = O.contents out.new };
+          err = record { old = E.contents err.old; new = E.contents err.new };
+        } result.0 }
 {
     let mut err = Output::new(err);
     match *job {
@@ -107,7 +84,7 @@ pub fn perform<S: Start, R: Read, O: Write, E: Write>(
                 count,
                 seconds,
             };
-            let (done, left) = serve(rt, db, start, service, out, &mut err);
+            let (done, left) = serve(rt, db, start, service, listener, out, &mut err);
             (end(done, &mut err), left)
         }
         Job::Ask { db } => {

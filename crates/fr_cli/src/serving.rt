@@ -1,17 +1,17 @@
 //! Serves a register file over HTTP: connections are accepted, served and closed, one after another.
-ghost use Rattle.std.specs.Prelude.{◌≡◌, ◌⊎◌, ◌∷◌, [], false, IfErr, Result, ⊤};
+ghost use Rattle.std.specs.Prelude.{◌≡◌, ◌⊎◌, ◌∷◌, [], false, IfErr, IfOk, OnErr, OnOk, ⊤};
 ghost use Rattle.std.specs.Io.KnownBytes.{Appends};
 ghost use Rattle.sqlite_wal.specs.Files.{image_at};
 ghost use Rattle.fr_cli.specs.Performing.{listening};
-ghost use Rattle.fr_cli.specs.Serving.{HasServed, IsAnnounced, IsServed, ServesOne, StopsServing, TellsEach};
-ghost use Rattle.fr_http.specs.Outcome.{asked_before};
-ghost use Rattle.fr_http.specs.declared.fault.LinkFault.{LinkFault as Link};
+ghost use Rattle.fr_cli.specs.Serving.{HasServed, IsAnnounced, IsServed, ServesOne, StopsServing, TellsEach, TellsEnd};
+ghost use Rattle.fr_cli.specs.Visits.{AreVisited, AreVisitedAt, IsVisited, Visit};
+ghost use Rattle.fr_http.specs.Exchanges.{was_asked};
 
 use crate::fault::{Fault, link_word};
 use crate::guarded::Guarded;
 use crate::lasting::Lasting;
+use crate::listener::Listener;
 use crate::printing::{print, print_word};
-use crate::timed_stream::TimedStream;
 use crate::watch::Watch;
 use fr_base::Desk;
 use fr_desks::{Left, file_desk};
@@ -22,9 +22,7 @@ use fr_text::Output;
 use fr_world::Records;
 use sqlite::Start;
 use std::alloc::Global;
-use std::io::{self, ErrorKind, Read, Write};
-use std::net::{Ipv4Addr, Shutdown, TcpListener, TcpStream};
-use std::time::Duration;
+use std::io::{self, ErrorKind, Write};
 
 /// How a register is served.
 #[derive(Clone, Copy)]
@@ -37,40 +35,29 @@ pub struct Service {
     pub seconds: u32,
 }
 
-/// How much of what a client sends behind its request is read at once, how often, and for how many
-/// seconds in all: a socket that is closed before that is read might lose the reply.
-const REST_BYTES: usize = 4096;
-
-const REST_READS: u32 = 256;
-
-const REST_SECONDS: u64 = 1;
-
-/// How many connections in a row may be gone before they are accepted.
-const ACCEPT_TRIES: u32 = 1_000_000;
-
-/// The number of the system's error of a connection whose protocol failed, for which there is no `ErrorKind`.
-const EPROTO: i32 = 71;
-
 /// Serves the register in the file at `db`, one connection after another, and ends after so many
 /// connections as the service has. A connection's fault is printed, and the next one is served. Where another file stands in the
 /// place of the register's, a request is answered `Unavailable`, and the server ends so; also where a fault has shut the register.
+/// What is answered is what came in at the listener, and nothing else.
 /// It gives what is left of the file, closed. `start` says what is supposed of it.
-pub fn serve<S: Start, O: Write, E: Write>(
+pub fn serve<S: Start, L: Listener, O: Write, E: Write>(
     rt: &HostRuntime,
     db: &str,
     start: S,
     service: Service,
+    listener: &mut L,
     out: &mut O,
     err: &mut Output<'_, E>,
 ) -> (Result<(), Fault>, Left<S>)
     ensures announced { IsAnnounced service.port (O.contents out.old) (O.contents out.new) result.0 }
-    ensures served { IsServed (image_at S.Start) result.1 service.port service.count (O.contents out.old) (O.contents out.new)
+    ensures served { IsServed (image_at S.Start) result.1 service.port service.count (listener.new ≡ listener.old)
+        (λ visits. AreVisitedAt L.Listener L.Reader.Read L.Writer.Write listener.old service.port visits listener.new) (O.contents out.old) (O.contents out.new)
         (E.contents err.old.writer.now) (E.contents err.new.writer.now) result.0 }
     ensures same { err.new.writer.ghost_name ≡ err.old.writer.ghost_name }
 {
     match file_desk::open(rt, db, start) {
         Ok(desk) => {
-            let (done, served) = serve_office(rt, db, desk, service, out, err);
+            let (done, served) = serve_office(rt, db, desk, service, listener, out, err);
             (done, Some(file_desk::close(served)))
         }
         Err((fault, left)) => (Err(Fault::Register(fault)), left),
@@ -78,18 +65,20 @@ pub fn serve<S: Start, O: Write, E: Write>(
 }
 
 // Serves the register, whose file is at `db`, and gives it back.
-fn serve_office<R: Records, O: Write, E: Write>(
+fn serve_office<R: Records, L: Listener, O: Write, E: Write>(
     rt: &HostRuntime,
     db: &str,
     office: Office<R>,
     service: Service,
+    listener: &mut L,
     out: &mut O,
     err: &mut Output<'_, E>,
 ) -> (Result<(), Fault>, Office<R>)
     ensures falls { ⟦<Office<R> as Desk>⟧.clean result.1 → ⟦<Office<R> as Desk>⟧.clean office }
     ensures announced { IsAnnounced service.port (O.contents out.old) (O.contents out.new) result.0 }
     ensures served { HasServed (⟦<Office<R> as Desk>⟧.clean result.1) (⟦<Office<R> as Desk>⟧.stands office) (⟦<Office<R> as Desk>⟧.stands result.1) service.count
-        (Appends (O.contents out.old) (O.contents out.new) (listening service.port)) (E.contents err.old.writer.now) (E.contents err.new.writer.now) result.0 }
+        (Appends (O.contents out.old) (O.contents out.new) (listening service.port))
+        (λ visits. AreVisitedAt L.Listener L.Reader.Read L.Writer.Write listener.old service.port visits listener.new) (E.contents err.old.writer.now) (E.contents err.new.writer.now) result.0 }
     ensures same { err.new.writer.ghost_name ≡ err.old.writer.ghost_name }
 {
     let watch = match Watch::new(rt, db) {
@@ -97,7 +86,7 @@ fn serve_office<R: Records, O: Write, E: Write>(
         Err(error) => return (Err(watch_fault(&error)), office),
     };
     let mut guarded = Guarded::new(office, watch);
-    let done = listen(rt, &mut guarded, service, out, err);
+    let done = listen(rt.alloc(), &mut guarded, service, listener, out, err);
     (done, guarded.into_office())
 }
 
@@ -112,10 +101,11 @@ fn watch_fault(error: &io::Error) -> Fault
 }
 
 // Listens, and serves as many connections as the service has.
-fn listen<D: Lasting, O: Write, E: Write>(
-    rt: &HostRuntime,
+fn listen<D: Lasting, L: Listener, O: Write, E: Write>(
+    alloc: Global,
     desk: &mut D,
     service: Service,
+    listener: &mut L,
     out: &mut O,
     err: &mut Output<'_, E>,
 ) -> Result<(), Fault>
@@ -123,14 +113,21 @@ fn listen<D: Lasting, O: Write, E: Write>(
     ensures announced { IsAnnounced service.port (O.contents out.old) (O.contents out.new) result }
     ensures served { HasServed (D.clean desk.new) (D.stands desk.old) (D.stands desk.new)
         service.count (Appends (O.contents out.old) (O.contents out.new) (listening service.port))
+        (λ visits. AreVisitedAt L.Listener L.Reader.Read L.Writer.Write listener.old service.port visits listener.new)
         (E.contents err.old.writer.now) (E.contents err.new.writer.now) result }
     ensures same { err.new.writer.ghost_name ≡ err.old.writer.ghost_name }
 {
-    let listener = TcpListener::bind(rt, (Ipv4Addr::LOCALHOST, service.port)).map_err(
-        |_| Fault::CannotListen,
-    )?;
-    announce(rt.alloc(), service.port, out)?;
-    answer_all(rt, &listener, &service, desk, err)
+    begin(listener, service.port)?;
+    announce(alloc, service.port, out)?;
+    answer_all(alloc, listener, &service, desk, err)
+}
+
+// Begins to listen at the port.
+fn begin<L: Listener>(listener: &mut L, port: u16) -> Result<(), Fault>
+    ensures ok { OnOk result (L.listens listener.old port listener.new) }
+    ensures err { IfErr result (λ fault. (fault ≡ Fault.CannotListen) × (listener.new ≡ listener.old)) }
+{
+    listener.listen(port).map_err(|_| Fault::CannotListen)
 }
 
 // Prints where it listens.
@@ -143,68 +140,57 @@ fn announce<O: Write>(alloc: Global, port: u16, out: &mut O) -> Result<(), Fault
 }
 
 // Serves so many connections, or fewer, where the register comes to an end.
-fn answer_all<D: Lasting, E: Write>(
-    rt: &HostRuntime,
-    listener: &TcpListener,
+fn answer_all<D: Lasting, L: Listener, E: Write>(
+    alloc: Global,
+    listener: &mut L,
     service: &Service,
     desk: &mut D,
     err: &mut Output<'_, E>,
 ) -> Result<(), Fault>
     ensures falls { D.clean desk.new → D.clean desk.old }
-    ensures served { HasServed (D.clean desk.new) (D.stands desk.old) (D.stands desk.new)
-        service.now.count ⊤ (E.contents err.old.writer.now) (E.contents err.new.writer.now) result }
+    ensures served { HasServed (D.clean desk.new) (D.stands desk.old) (D.stands desk.new) service.now.count ⊤
+        (λ visits. AreVisited L.Listener L.Reader.Read L.Writer.Write listener.old visits listener.new)
+        (E.contents err.old.writer.now) (E.contents err.new.writer.now) result }
     ensures fault { IfErr result (λ fault. (fault ≡ Fault.CannotListen) ⊎ (fault ≡ Fault.Register StoreFault.Unavailable)) }
     ensures same { err.new.writer.ghost_name ≡ err.old.writer.ghost_name }
 {
     for _ in 0..service.count {
-        let stream = accept(listener)?;
-        if !answer_stream(rt, &stream, service.seconds, desk, err) {
+        let lasts = answer_next(alloc, listener, service.seconds, desk, err)?;
+        if !lasts {
             return Err(Fault::Register(StoreFault::Unavailable));
         }
     }
     Ok(())
 }
 
-// The next connection. One that its client gave up before it was accepted is passed over.
-fn accept(listener: &TcpListener) -> Result<TcpStream, Fault>
-    ensures { IfErr result (λ fault. fault ≡ Fault.CannotListen) }
-{
-    for _ in 0..ACCEPT_TRIES {
-        match listener.accept() {
-            Ok((stream, _)) => return Ok(stream),
-            Err(error) if was_given_up(&error) => {}
-            Err(_) => return Err(Fault::CannotListen),
-        }
-    }
-    Err(Fault::CannotListen)
-}
-
-// Whether it is the connection that failed and not the socket on which connections come.
-fn was_given_up(error: &io::Error) -> bool {
-    error.kind() == ErrorKind::ConnectionAborted || error.raw_os_error() == Some(EPROTO)
-}
-
-// Serves one connection, and tells of its fault. The answer is whether the next one can be served.
-fn answer_stream<D: Lasting, E: Write>(
-    rt: &HostRuntime,
-    stream: &TcpStream,
+// Serves the next connection, and tells of its fault. The answer is whether another can be served.
+fn answer_next<D: Lasting, L: Listener, E: Write>(
+    alloc: Global,
+    listener: &mut L,
     seconds: u32,
     desk: &mut D,
     err: &mut Output<'_, E>,
-) -> bool
+) -> Result<bool, Fault>
     ensures falls { D.clean desk.new → D.clean desk.old }
-    ensures served { (end : Result ⊤ Link) × ServesOne (D.clean desk.new) (D.stands desk.old) (D.stands desk.new) end
-        × TellsEach (E.contents err.old.writer.now) (E.contents err.new.writer.now) (end ∷ []) }
+    ensures served { OnOk result ((visit : Visit) × IsVisited L.Listener L.Reader.Read L.Writer.Write listener.old visit listener.new
+        × ServesOne (D.clean desk.new) (D.stands desk.old) (D.stands desk.new) visit
+        × TellsEach (E.contents err.old.writer.now) (E.contents err.new.writer.now) (visit ∷ [])) }
+    ensures fault { IfErr result (λ fault. (fault ≡ Fault.CannotListen) × (listener.new ≡ listener.old) × (desk.new ≡ desk.old)
+        × (E.contents err.new.writer.now ≡ E.contents err.old.writer.now)) }
     ensures same { err.new.writer.ghost_name ≡ err.old.writer.ghost_name }
 {
-    let done = serve_stream(rt, stream, seconds, desk);
-    tell_end(done, err);
-    desk.lasts(rt.alloc())
+    match serve_next(alloc, listener, seconds, desk) {
+        Ok(done) => {
+            tell_end(done, err);
+            Ok(desk.lasts(alloc))
+        }
+        Err(_) => Err(Fault::CannotListen),
+    }
 }
 
 // Tells the fault of a connection, if one ended it.
-fn tell_end<E: Write>(done: Result<(), LinkFault>, err: &mut Output<'_, E>)
-    ensures told { TellsEach (E.contents err.old.writer.now) (E.contents err.new.writer.now) (done ∷ []) }
+fn tell_end<E: Write>(done: Result<Served, LinkFault>, err: &mut Output<'_, E>)
+    ensures told { TellsEnd (E.contents err.old.writer.now) (E.contents err.new.writer.now) done }
     ensures same { err.new.writer.ghost_name ≡ err.old.writer.ghost_name }
 {
     if let Err(fault) = done {
@@ -212,41 +198,26 @@ fn tell_end<E: Write>(done: Result<(), LinkFault>, err: &mut Output<'_, E>)
     }
 }
 
-/// Serves one connection within so many seconds: one exchange with the register, which then stands for the book after it.
-pub fn serve_stream<D: Desk>(
-    rt: &HostRuntime,
-    stream: &TcpStream,
+/// Serves the next connection, for so many seconds at most: one exchange with the register, which then stands for the book after
+/// it. The exchange has exactly the bytes that were read of the connection and those that were written to it. It is an error
+/// where no connection could be accepted; then all is as it was.
+pub fn serve_next<D: Desk, L: Listener>(
+    alloc: Global,
+    listener: &mut L,
     seconds: u32,
     desk: &mut D,
-) -> Result<(), LinkFault>
+) -> io::Result<Result<Served, LinkFault>>
     ensures falls { D.clean desk.new → D.clean desk.old }
-    ensures served { ServesOne (D.clean desk.new) (D.stands desk.old) (D.stands desk.new) result }
+    ensures served { IfOk result (λ done. (visit : Visit) × (visit.done ≡ done)
+        × IsVisited L.Listener L.Reader.Read L.Writer.Write listener.old visit listener.new
+        × ServesOne (D.clean desk.new) (D.stands desk.old) (D.stands desk.new) visit) }
 
     // Where the register was not asked it is as it was.
-    ensures stays { IfErr result (λ fault. asked_before fault ≡ false → desk.new ≡ desk.old) }
+    ensures stays { IfOk result (λ done. was_asked done ≡ false → desk.new ≡ desk.old) }
+    ensures none { OnErr result ((listener.new ≡ listener.old) × (desk.new ≡ desk.old)) }
 {
-    let time = Duration::from_secs(u64::from(seconds));
-    let Ok(mut client) = TimedStream::new(rt, stream, time) else {
-        return Err(LinkFault::ReadFailed);
-    };
-    let mut reply = client;
-    let _ = stream.set_nodelay(true);
-    let served = serve_one(rt.alloc(), &mut client, &mut reply, desk)?;
-    let _ = finish(rt, stream, served);
-    Ok(())
-}
-
-// Ends the reply, and reads what the client sent behind its request. Where the request was not read to its
-// end, what is still to come is waited for.
-fn finish(rt: &HostRuntime, stream: &TcpStream, served: Served) -> io::Result<()> {
-    stream.shutdown(Shutdown::Write)?;
-    stream.set_nonblocking(served.asked)?;
-    let mut rest = TimedStream::new(rt, stream, Duration::from_secs(REST_SECONDS))?;
-    let mut piece = [0u8; REST_BYTES];
-    for _ in 0..REST_READS {
-        if rest.read(&mut piece)? == 0 {
-            break;
-        }
-    }
-    Ok(())
+    let (mut reader, mut writer) = listener.accept(seconds)?;
+    let done = serve_one(alloc, &mut reader, &mut writer, desk);
+    listener.close(reader, writer, &done);
+    Ok(done)
 }

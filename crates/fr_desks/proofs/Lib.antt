@@ -1,1 +1,3 @@
+mod RefusedFiles
 mod FileDeskLemmas
+mod SessionLaws

@@ -2,7 +2,7 @@
 -- crash leaves of them. What is found stands for the book that the files held, and is a register that was in them. What
 -- is opened is what was left, or what a crash leaves of it. Why files are not migrated, and that files still hold the
 -- database that they held.
-use Rattle.std.specs.Prelude.{◌≡◌, ◌⊎◌, List, ⊤}
+use Rattle.std.specs.Prelude.{◌≡◌, ◌⊎◌, List}
 use Rattle.sqlite.specs.Effect.{Database, IsDatabase}
 use Rattle.sqlite.specs.Files.{HoldsDatabase, image_of}
 use Rattle.sqlite.specs.Tree.{Trees}
@@ -10,13 +10,16 @@ use Rattle.sqlite.specs.declared.file.Leftover.{Leftover}
 use Rattle.sqlite.specs.declared.file.Leftover.TheVariants as left
 use Rattle.sqlite_disk.specs.declared.Disk.{Ghosts}
 use Rattle.sqlite_disk.specs.declared.Files.{Files}
+use Rattle.sqlite_store.specs.FileStore.{recovers}
+use Rattle.sqlite_store.specs.declared.store.FileStore.{FileStore}
 use Rattle.sqlite_wal.specs.Files.{outcomes}
 use Rattle.sqlite_wal.specs.Reads.{AreClean}
 use Rattle.sqlite_wal.specs.Recovery.{Image}
 use Rattle.fr_base.specs.Book.{Book}
 use Rattle.fr_base.specs.Cluster.{Cluster, ClusterFile}
 use Rattle.fr_world.specs.Held.{Leaving, Standing}
-use Rattle.fr_store.specs.Crashes.{HoldsOne}
+use Rattle.fr_office.specs.Crashed.{IsNear}
+use Rattle.fr_store.specs.Crashes.{HoldsOne, IsForOne}
 use Rattle.fr_store.specs.Opening.{RefusesFiles}
 use Rattle.fr_store.specs.Store.{IsRegisterFor, IsRegisterOf}
 use Rattle.fr_store.specs.StoreFiles.{HoldsBook, IsFound, IsHeld, database_of, image_left}
@@ -28,11 +31,22 @@ abbrev pub LeavesBook : {D : Type 0} → Ghosts D → Files D → Cluster → Bo
 LeavesBook g files c b = AreClean g files.log files.db
     → HoldsBook c b (image_of g files) × ((image : Image) → outcomes g files.log files.db image → HoldsBook c b image)
 
--- So with what is left of them. Where they failed to close nothing is said.
+-- Whatever an open after a crash may find of a store, it is a register of this cluster with one of these books.
+abbrev pub FindsOneOf : {D : Type 0} {g : Ghosts D} → FileStore D g → Leaving
+FindsOneOf it c books = (db : Trees) → recovers it db → IsForOne c books db
+
+-- Whatever an open after a crash may find of a store, it is a register of this cluster with the book, or with the one
+-- after one request more.
+abbrev pub FindsNear : {D : Type 0} {g : Ghosts D} → FileStore D g → Standing
+FindsNear it c b = (db : Trees) → recovers it db → (x : Book) × IsNear c b x × IsRegisterFor c x (database_of db)
+
+-- What is left of the files of a register with this book. Files that were closed hold it. Where they failed to close
+-- their store is left, and an open after a crash finds the book there, or the one after one request more. Files that
+-- were opened are not left unopened.
 abbrev pub IsLeftWith : {D : Type 0} {g : Ghosts D} → Leftover D g → Standing
 IsLeftWith {D} {g} (left.Files files) c b = LeavesBook g files c b
-IsLeftWith (left.Unopened files) c b = ⊤
-IsLeftWith (left.Store it) c b = ⊤
+IsLeftWith (left.Unopened files) c b = ⊥
+IsLeftWith (left.Store it) c b = FindsNear it c b
 
 -- If files held a database, those that are left still hold it.
 abbrev pub HoldStill : {D : Type 0} {g : Ghosts D} → Image → Leftover D g → Type 0
@@ -42,17 +56,17 @@ HoldStill held left = (d : Database) → IsDatabase d → HoldsDatabase held d.t
 abbrev pub BarsMigration : Image → StoreFault → Type 0
 BarsMigration = RefusesFiles old_schema_number
 
--- the book that files hold
-abbrev pub Held : Image → Standing
-Held image c b = HoldsBook c b image
+-- Files hold a database whose tables stand for the book, as a crash leaves them.
+abbrev pub HoldsLeft : Cluster → Book → Image → Type 0
+HoldsLeft c b image = (db : Trees) × HoldsDatabase image db × IsRegisterFor c b (database_of db)
 
--- What is found in files that held a register stands for its book, as long as it is clean.
+-- Files hold the book: a register's own, or what a crash left of one.
+abbrev pub Held : Image → Standing
+Held image c b = HoldsBook c b image ⊎ HoldsLeft c b image
+
+-- What is found in files that held a book stands for it, as long as it is clean.
 abbrev pub FindsHeld : Image → Type 0 → Standing → Type 0
 FindsHeld held clean stands = clean → (c : Cluster) (b : Book) → Held held c b → stands c b
-
--- So where all that is known of what they held is that its tables stood for the book.
-abbrev pub FindsLeft : Image → Type 0 → Standing → Type 0
-FindsLeft held clean stands = clean → (c : Cluster) (b : Book) (db : Trees) → HoldsDatabase held db → IsRegisterFor c b (database_of db) → stands c b
 
 -- What is found in files that are opened is a register of some cluster. Where the desk stands for a cluster and a book, so do its tables.
 abbrev pub FindsRegister : Image → Type 0 → Standing → Type 0

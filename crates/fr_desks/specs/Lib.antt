@@ -1,2 +1,3 @@
 pub mod FileDesk
 pub mod Laws
+pub mod Sessions

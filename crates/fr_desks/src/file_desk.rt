@@ -1,16 +1,14 @@
 //! Registers in files: made, migrated, opened as a desk that the other commands ask, and closed.
-ghost use Rattle.std.specs.Prelude.{◌≡◌, ◌≢◌, ◌⊎◌, IfErr, IfOk, IfSome, None};
+ghost use Rattle.std.specs.Prelude.{List, IfErr, IfOk, IsTrue};
 ghost use Rattle.fr_base.specs.Book.{Book, opening};
 ghost use Rattle.fr_base.specs.Cluster.{Cluster};
-ghost use Rattle.fr_desks.specs.FileDesk.{BarsMigration, FindsHeld, FindsLeft, FindsRegister, HoldStill, IsLeftWith, LeavesBook};
-ghost use Rattle.fr_store.specs.Before.{HoldsBookBefore};
-ghost use Rattle.fr_store.specs.Opening.{AllowsCreation, AllowsMigration, Explains, ExplainsFiles, ForbidsFiles, Refuses};
-ghost use Rattle.fr_store.specs.Store.{MayForbid};
-ghost use Rattle.fr_store.specs.StoreFiles.{HoldsBook, image_left};
-ghost use Rattle.fr_store.specs.declared.fault.StoreFault.TheVariants.{NotARegister, NotEmpty, Unavailable, WrongSchema};
-ghost use Rattle.fr_tables.specs.Asking.{old_schema_number};
-ghost use Rattle.sqlite.specs.Effect.{IsDatabase};
-ghost use Rattle.sqlite.specs.Files.{HoldsDatabase, IsCleanLeft};
+ghost use Rattle.fr_desks.specs.FileDesk.{AreGivenUp, FindsHeld, FindsOneOf, FindsRegister, IsLeftWith, LeavesBook};
+ghost use Rattle.fr_office.specs.Crashed.{leaves_of, serves_of};
+ghost use Rattle.fr_store.specs.Opened.{IsMigrated};
+ghost use Rattle.fr_store.specs.Opening.{AllowsCreation};
+ghost use Rattle.fr_store.specs.Refused.{IsRefusedBy, IsUnavailable, NeedsNone, makes, migrates, opens};
+ghost use Rattle.sqlite.specs.Files.{IsCleanLeft};
+ghost use Rattle.sqlite_store.specs.FileStore.{view};
 ghost use Rattle.sqlite_wal.specs.Files.{image_at};
 ghost use Rattle.sqlite_wal.specs.Reads.{AreClean};
 
@@ -39,18 +37,17 @@ pub fn create<S: Start>(
     config: &Config,
     start: S,
 ) -> Result<Files<FileFrom<S>>, FileFault<S>>
-    ensures book { IfOk result (λ files. LeavesBook ⟦<FileFrom<S> as Disk>⟧ files config.now.cluster (opening config.now)) }
-    ensures bare { IfOk result (λ files. AreClean ⟦<FileFrom<S> as Disk>⟧ files.log files.db → AllowsCreation (image_at S.Start)) }
-    ensures told { IfErr result (λ e. IfSome e.1 (λ left. IsCleanLeft left → (d : _) → IsDatabase d → HoldsDatabase (image_at S.Start) d.trees → MayForbid d.schema e.0)) }
-    ensures cause { IfErr result (λ e. IfSome e.1 (λ left. IsCleanLeft left → ForbidsFiles (image_at S.Start) e.0)) }
-    ensures untouched { IfErr result (λ e. e.0 ≡ NotEmpty → IfSome e.1 (λ left. IsCleanLeft left → HoldStill (image_at S.Start) left)) }
-    ensures fault { IfErr result (λ e. (e.0 ≡ NotEmpty) ⊎ (e.0 ≡ Unavailable)) }
-    ensures lost { IfErr result (λ e. e.1 ≡ None → e.0 ≡ Unavailable) }
+    ensures book { IfOk result (λ files.
+        LeavesBook ⟦<FileFrom<S> as Disk>⟧ files config.now.cluster (opening config.now)) }
+    ensures bare { IfOk result (λ files. AreClean ⟦<FileFrom<S> as Disk>⟧ files.log files.db
+        → AllowsCreation (image_at S.Start)) }
+    ensures refused { IfErr result (λ e.
+        IsRefusedBy makes IsUnavailable (image_at S.Start) e.0 e.1) }
 {
     let desk = new_desk(rt, path, config, start)?;
     match closed(desk) {
         Ok(files) => Ok(files),
-        Err(left) => Err((StoreFault::Unavailable, Some(left))),
+        Err(store) => Err((StoreFault::Unavailable, Some(Leftover::Store(store)))),
     }
 }
 
@@ -61,13 +58,12 @@ fn new_desk<S: Start>(
     config: &Config,
     start: S,
 ) -> Result<FileDesk<S>, FileFault<S>>
-    ensures stands { IfOk result (λ desk. ⟦<FileDesk<S> as Desk>⟧.clean desk → ⟦<FileDesk<S> as Desk>⟧.stands desk config.now.cluster (opening config.now)) }
-    ensures bare { IfOk result (λ desk. ⟦<FileDesk<S> as Desk>⟧.clean desk → AllowsCreation (image_at S.Start)) }
-    ensures told { IfErr result (λ e. IfSome e.1 (λ left. IsCleanLeft left → (d : _) → IsDatabase d → HoldsDatabase (image_at S.Start) d.trees → MayForbid d.schema e.0)) }
-    ensures cause { IfErr result (λ e. IfSome e.1 (λ left. IsCleanLeft left → ForbidsFiles (image_at S.Start) e.0)) }
-    ensures untouched { IfErr result (λ e. e.0 ≡ NotEmpty → IfSome e.1 (λ left. IsCleanLeft left → HoldStill (image_at S.Start) left)) }
-    ensures fault { IfErr result (λ e. (e.0 ≡ NotEmpty) ⊎ (e.0 ≡ Unavailable)) }
-    ensures lost { IfErr result (λ e. e.1 ≡ None → e.0 ≡ Unavailable) }
+    ensures stands { let it = ⟦<FileDesk<S> as Desk>⟧ in IfOk result (λ desk. it.clean desk
+        → it.stands desk config.now.cluster (opening config.now)) }
+    ensures bare { let it = ⟦<FileDesk<S> as Desk>⟧ in IfOk result (λ desk. it.clean desk
+        → AllowsCreation (image_at S.Start)) }
+    ensures refused { IfErr result (λ e.
+        IsRefusedBy makes IsUnavailable (image_at S.Start) e.0 e.1) }
 {
     // Gives the proof that the suppliers are in order.
     let _formed = config.params();
@@ -84,14 +80,9 @@ pub fn migrate<S: Start>(
     path: &str,
     start: S,
 ) -> Result<Leftover<FileFrom<S>>, FileFault<S>>
-    ensures migrated { IfOk result (λ left. IsCleanLeft left → (c : Cluster) (b : Book) → HoldsBookBefore c b (image_at S.Start) → HoldsBook c b (image_left left)) }
-    ensures ready { IfOk result (λ left. IsCleanLeft left → AllowsMigration (image_at S.Start)) }
-    ensures told { IfErr result (λ e. IfSome e.1 (λ left. IsCleanLeft left → (d : _) → IsDatabase d → HoldsDatabase (image_at S.Start) d.trees → Refuses old_schema_number d e.0)) }
-    ensures cause { IfErr result (λ e. IfSome e.1 (λ left. IsCleanLeft left → BarsMigration (image_at S.Start) e.0)) }
-    ensures known { IfErr result (λ e. IfSome e.1 (λ left. IsCleanLeft left → (c : Cluster) (b : Book) → HoldsBookBefore c b (image_at S.Start) → e.0 ≡ Unavailable)) }
-    ensures untouched { IfErr result (λ e. e.0 ≢ Unavailable → IfSome e.1 (λ left. IsCleanLeft left → HoldStill (image_at S.Start) left)) }
-    ensures not_made { IfErr result (λ e. e.0 ≢ NotEmpty) }
-    ensures lost { IfErr result (λ e. e.1 ≡ None → (e.0 ≡ Unavailable) ⊎ (e.0 ≡ NotARegister)) }
+    ensures migrated { IfOk result (λ left. IsCleanLeft left → IsMigrated (image_at S.Start) left) }
+    ensures refused { IfErr result (λ e.
+        IsRefusedBy migrates NeedsNone (image_at S.Start) e.0 e.1) }
 {
     if let Ok(false) = fs::exists(rt, path) {
         return Err((StoreFault::NotARegister, None));
@@ -102,19 +93,16 @@ pub fn migrate<S: Start>(
     }
 }
 
-/// The desk of the register in the file at a path, which stands for the book that the file holds. Where there is
-/// no file there is no register, and none is made. `start` says what is supposed of the file.
+/// The desk of the register in the file at a path, which stands for the book that the file holds, or that a crash left in
+/// it. Where there is no file there is no register, and none is made. `start` says what is supposed of the file.
 pub fn open<S: Start>(rt: &HostRuntime, path: &str, start: S) -> Result<FileDesk<S>, FileFault<S>>
-    ensures found { IfOk result (λ desk. FindsHeld (image_at S.Start) (⟦<FileDesk<S> as Desk>⟧.clean desk) (⟦<FileDesk<S> as Desk>⟧.stands desk)) }
-    ensures left { IfOk result (λ desk. FindsLeft (image_at S.Start) (⟦<FileDesk<S> as Desk>⟧.clean desk) (⟦<FileDesk<S> as Desk>⟧.stands desk)) }
-    ensures reads { IfOk result (λ desk. FindsRegister (image_at S.Start) (⟦<FileDesk<S> as Desk>⟧.clean desk) (⟦<FileDesk<S> as Desk>⟧.stands desk)) }
-    ensures serves { IfOk result (λ desk. ⟦<FileDesk<S> as Desk>⟧.clean desk → ⟦<Store<FileStore<FileFrom<S>>> as Records>⟧.serves desk.records) }
-    ensures told { IfErr result (λ e. IfSome e.1 (λ left. IsCleanLeft left → (d : _) → IsDatabase d → HoldsDatabase (image_at S.Start) d.trees → Explains d e.0)) }
-    ensures cause { IfErr result (λ e. IfSome e.1 (λ left. IsCleanLeft left → ExplainsFiles (image_at S.Start) e.0)) }
-    ensures known { IfErr result (λ e. IfSome e.1 (λ left. IsCleanLeft left → (c : Cluster) (b : Book) → HoldsBook c b (image_at S.Start) → e.0 ≡ Unavailable)) }
-    ensures untouched { IfErr result (λ e. e.0 ≢ Unavailable → IfSome e.1 (λ left. IsCleanLeft left → HoldStill (image_at S.Start) left)) }
-    ensures not_made { IfErr result (λ e. e.0 ≢ NotEmpty) }
-    ensures lost { IfErr result (λ e. e.1 ≡ None → (e.0 ≡ Unavailable) ⊎ (e.0 ≡ NotARegister)) }
+    ensures found { let it = ⟦<FileDesk<S> as Desk>⟧ in IfOk result (λ desk.
+        FindsHeld (image_at S.Start) (it.clean desk) (it.stands desk)) }
+    ensures reads { let it = ⟦<FileDesk<S> as Desk>⟧ in IfOk result (λ desk.
+        FindsRegister (image_at S.Start) (it.clean desk) (it.stands desk)) }
+    ensures serves { IfOk result (λ desk. ⟦<FileDesk<S> as Desk>⟧.clean desk
+        → serves_of ⟦<Store<FileStore<FileFrom<S>>> as Records>⟧.serves desk) }
+    ensures refused { IfErr result (λ e. IsRefusedBy opens NeedsNone (image_at S.Start) e.0 e.1) }
 {
     if let Ok(false) = fs::exists(rt, path) {
         return Err((StoreFault::NotARegister, None));
@@ -126,21 +114,24 @@ pub fn open<S: Start>(rt: &HostRuntime, path: &str, start: S) -> Result<FileDesk
 }
 
 /// Closes the register, and gives what is left of the files. Where they close, they hold its book as long as nobody else
-/// writes to them, and so does what a crash leaves of them. Where they fail to close, nothing is said of what they hold.
+/// writes to them, and so does what a crash leaves of them. Where they fail to close, their store is left: what is opened
+/// after a crash is then the register as it stood, or after one request more.
 pub fn close<S: Start>(desk: FileDesk<S>) -> Leftover<FileFrom<S>>
     ensures clean { IsCleanLeft result → ⟦<FileDesk<S> as Desk>⟧.clean desk }
     ensures book { (c : Cluster) (b : Book) → ⟦<FileDesk<S> as Desk>⟧.stands desk c b → IsLeftWith result c b }
 {
     match closed(desk) {
         Ok(files) => Leftover::Files(files),
-        Err(left) => left,
+        Err(store) => Leftover::Store(store),
     }
 }
 
-// Closes the register: its files, or what is left of them where they fail to close.
-fn closed<S: Start>(desk: FileDesk<S>) -> Result<Files<FileFrom<S>>, Leftover<FileFrom<S>>>
+// Closes the register: its files, or the store that is left of them where they fail to close.
+fn closed<S: Start>(desk: FileDesk<S>) -> Result<Files<FileFrom<S>>, FileStore<FileFrom<S>>>
     ensures clean { IfOk result (λ files. AreClean ⟦<FileFrom<S> as Disk>⟧ files.log files.db → ⟦<FileDesk<S> as Desk>⟧.clean desk) }
-    ensures left { IfErr result (λ left. (IsCleanLeft left → ⟦<FileDesk<S> as Desk>⟧.clean desk) × ((c : Cluster) (b : Book) → IsLeftWith left c b)) }
+    ensures still { IfErr result (λ it. IsTrue (view it).is_clean → ⟦<FileDesk<S> as Desk>⟧.clean desk) }
+    ensures left { IfErr result (λ it. (c : Cluster) (books : List Book) →
+        leaves_of ⟦<Store<FileStore<FileFrom<S>>> as Records>⟧.leaves desk c books → FindsOneOf it c books) }
     ensures book { IfOk result (λ files. (c : Cluster) (b : Book) → ⟦<FileDesk<S> as Desk>⟧.stands desk c b → LeavesBook ⟦<FileFrom<S> as Disk>⟧ files c b) }
 {
     let conn = desk.into_records().into_connection();
@@ -148,6 +139,14 @@ fn closed<S: Start>(desk: FileDesk<S>) -> Result<Files<FileFrom<S>>, Leftover<Fi
     let _schema = conn.schema();
     match conn.close_files() {
         Ok(files) => Ok(files),
-        Err((_, store)) => Err(Leftover::Store(store)),
+        Err((_, store)) => Err(store),
     }
+}
+
+/// Gives the register's files back as they are, as a stop of the program leaves them, with nothing done to them. What a
+/// crash leaves of them is a register that it might have left before.
+pub fn give_up<S: Start>(desk: FileDesk<S>) -> Files<FileFrom<S>>
+    ensures { AreGivenUp ⟦<FileFrom<S> as Disk>⟧ (leaves_of ⟦<Store<FileStore<FileFrom<S>>> as Records>⟧.leaves desk) result }
+{
+    desk.into_records().give_up()
 }

@@ -5,9 +5,10 @@
 pub mod file_desk;
 mod laws;
 mod memory_desk;
-mod stored;
 
 pub use file_desk::{FileDesk, FileFault, Left};
-pub use laws::{crash_is_found, left_is_found, made_is_found};
+pub use laws::{
+    crash_is_found, left_is_found, made_is_found, session_leads, sessions_are_kept,
+    stopped_is_found,
+};
 pub use memory_desk::MemoryDesk;
-pub use stored::close_office;

@@ -2,15 +2,17 @@
 ghost use Rattle.std.specs.Prelude.{◌≡◌, ◌<◌, length, IfErr, IfOk, ⊤};
 ghost use Rattle.fr_base.specs.Book.{opening};
 ghost use Rattle.fr_office.specs.Headline.{AnswersEach};
+ghost use Rattle.fr_office.specs.KeptPages.{StandsWarm};
 ghost use Rattle.fr_store.specs.declared.fault.StoreFault.TheVariants.{Unavailable};
 
 use fr_base::{Actor, Answer, Ask, Config, Desk};
 use fr_office::{Office, Stopped};
 use fr_store::{MemoryFile, Store, StoreFault};
+use fr_world::Records;
 use sqlite::FileStore;
 use std::alloc::Global;
 
-/// The desk of a register in memory. Nobody else can write there, so it is always clean.
+/// The desk of a register in memory. Nobody else can write there, so it is always clean. A crash leaves nothing of it.
 pub struct MemoryDesk {
     office: Office<Store<FileStore<MemoryFile>>>,
 }
@@ -23,7 +25,7 @@ impl Drop for MemoryDesk {
 }
 
 impl Desk for MemoryDesk {
-    ghost stands = { λ it. ⟦<Office<Store<FileStore<MemoryFile>>> as Desk>⟧.stands it.office };
+    ghost stands = { λ it. StandsWarm ⟦<Store<FileStore<MemoryFile>> as Records>⟧.stands it.office };
 
     ghost clean = { λ _. ⊤ };
 

@@ -1,5 +1,6 @@
 -- A crash leaves what was answered.
-use Rattle.std.proofs.Common.{◌≡◌, ◌≢◌, ◌⊎◌, inl, inr, List, [], ◌∷◌, ◌++◌, refl, sym, ap, subst}
+use Rattle.std.specs.Bool.{⊤}
+use Rattle.std.proofs.Common.{◌≡◌, ◌≢◌, ◌⊎◌, ◌∙◌, inl, inr, List, [], ◌∷◌, ◌++◌, refl, sym, ap, subst}
 use Rattle.fr_base.specs.Book.{Book}
 use Rattle.fr_base.specs.Cluster.{Cluster}
 use Rattle.fr_base.specs.Run.{IsRun}
@@ -12,8 +13,8 @@ use Rattle.fr_base.specs.declared.refusal.Refusal.TheVariants.{Unavailable}
 use Rattle.fr_base.specs.declared.request.Ask.{Ask}
 use Rattle.fr_base.specs.declared.request.Request.{Request}
 use Rattle.fr_base.proofs.SoundLaws.{run-sound}
-use Rattle.fr_office.specs.Answering.{Answers, AfterChange, KeepsChange, WhereChanged}
-use Rattle.fr_office.specs.Crashed.{IsTurn, WereAsked, NoneDone, WasLacking, IsOrNext, EachBook, WereKept, KeepsAnswered, IsFound}
+use Rattle.fr_office.specs.Answering.{Answers, AfterChange, KeepsChange, LeavesStep, WhereChanged}
+use Rattle.fr_office.specs.Crashed.{IsTurn, WereAsked, NoneDone, WasLacking, IsOrNext, IsNear, EachBook, IsKept, WereKept, KeepsAnswered, IsFound}
 use Rattle.fr_office.proofs.DoneLaws.{changes, step-quiet}
 use Rattle.fr_office.proofs.RunLaws.{run_more, were_answered}
 use Rattle.fr_world.specs.Held.{Leaving, Standing}
@@ -50,6 +51,49 @@ led c b actor request (RefusedRow line e) P is kept = inr (λ done. absurd cc, s
 
 not_done : (answer : Answer) → answer ≡ Refused Unavailable → answer ≢ Done
 not_done answer lacked = λ done. absurd cc
+
+-- ---- the book, or the one after one request more
+
+-- A crash leaves no more than before, or the book after a request.
+near_left : (c : Cluster) (b : Book) (leaves : List Book → Type 0) (ask : Ask) (books : List Book)
+    → EachBook (IsNear c b) books
+    → leaves books ⊎ leaves ((step c b ask.actor ask.request).book ∷ books) → IsKept leaves c b
+near_left c b leaves ask books each (inl same) = record { books = books; left = same; each = each }
+near_left c b leaves ask books each (inr more) = record {
+  books = (step c b ask.actor ask.request).book ∷ books;
+  left = more;
+  each = (inr (ask, tt, refl), each);
+}
+
+-- Where it left the book, or the one after one request more, so it does when a request is answered.
+pub still_kept : (old new : Standing) (before after : Leaving) (ask : Ask) (answer : Answer)
+    → Answers old new ask answer → LeavesStep old before after ask → KeepsChange old after ask answer
+    → Answers (λ c b. old c b × IsKept (before c) c b) (λ c b. new c b × IsKept (after c) c b) ask answer
+still_kept old new before after ask answer answers leaves keeps c b stood sound =
+    let a = answers c b stood.0 sound in
+    let next = (step c b ask.actor ask.request).book in
+    let was = stood.1 in
+    let left = leaves c b was.books stood.0 sound was.left in
+    let stays : IsKept (after c) c b = near_left c b (after c) ask was.books was.each left in
+    let kept : IsKept (after c) c a.0 = elim a.2 [
+      | inl lacked ↦ subst (λ k. IsKept (after c) c k) (sym lacked.2) stays
+      | inr ran ↦ elim (led c b ask.actor ask.request answer (after c (next ∷ [])) ran.0 (keeps c b stood.0 sound)) [
+        | inl only ↦
+            let alone : IsKept (after c) c next = record { books = next ∷ []; left = only; each = (inl refl, tt) } in
+            subst (λ k. IsKept (after c) c k) (sym ran.1) alone
+        | inr same ↦ subst (λ k. IsKept (after c) c k) (sym (ran.1 ∙ same.1)) stays
+      ]
+    ] in
+    (a.0, (a.1, kept), a.2)
+
+-- so where a register is only read
+pub kept_still : (c : Cluster) (b : Book) (before after : List Book → Type 0)
+    → ((books : List Book) → before books → after books) → IsKept before c b → IsKept after c b
+kept_still c b before after follows was = record { books = was.books; left = follows was.books was.left; each = was.each }
+
+-- so where a crash leaves the book for which it stands, and no other
+pub kept_alone : (c : Cluster) (b : Book) (leaves : List Book → Type 0) → leaves (b ∷ []) → IsKept leaves c b
+kept_alone c b leaves left = record { books = b ∷ []; left = left; each = (inl refl, tt) }
 
 -- ---- requests one after another
 
@@ -188,6 +232,15 @@ module _ {R : Type 0} (stands : R → Standing) (leaves : R → Leaving) where
             | inr later ↦ later
           ]) near) k.each;
         }
+
+-- so a crash leaves the book to which that led, or the one after one request more
+pub near_kept : {now : Book → Type 0} (leaves : List Book → Type 0) (c : Cluster) (b : Book) (asks : List Ask) (answers : List Answer)
+    → (kept : WereKept now leaves c b asks answers) → IsKept leaves c kept.last
+near_kept leaves c b asks answers kept = record {
+  books = kept.books;
+  left = kept.left;
+  each = each_so _ _ kept.books (λ x near. next_so c (WasLacking asks answers) (λ _. ⊤) kept.last x (λ _ _. tt) near) kept.each;
+}
 
 pub keeps_answered : {R : Type 0} (stands : R → Standing) (leaves : R → Leaving) → KeepsAnswered stands leaves
 keeps_answered stands leaves c b first last asks answers asked stood sound left = were_kept stands leaves c b first last asks answers asked stood sound left

@@ -18,16 +18,21 @@ use Rattle.fr_base.proofs.AloneRuns.{run-alone}
 use Rattle.fr_base.proofs.SoundLaws.{fronts, holder, one_frame, run-sound}
 use Rattle.fr_office.specs.Headline.{WereAnswered, AreDone, IsCollisionFreeAfter, IsAsIfAlone, IsDoneFor, IsAsPromised, IsCollisionFree}
 
+-- requests of a run, and those of one that goes on from there
+pub runs_joined : (c : Cluster) (b mid last : Book) (asks more : List Ask) (answers others : List Answer) →
+    IsRun c b asks answers mid → IsRun c mid more others last → IsRun c b (asks ++ more) (answers ++ others) last
+runs_joined c b mid last [] more [] others run next = subst (λ x. IsRun c x more others last) run next
+runs_joined c b mid last [] more (a ∷ answers) others run next = absurd run
+runs_joined c b mid last (x ∷ asks) more [] others run next = absurd run
+runs_joined c b mid last (x ∷ asks) more (a ∷ answers) others (inl lacking) next =
+    inl (lacking.0, lacking.1, runs_joined c b mid last asks more answers others lacking.2 next)
+runs_joined c b mid last (x ∷ asks) more (a ∷ answers) others (inr done) next =
+    inr (done.0, runs_joined c (step c b x.actor x.request).book mid last asks more answers others done.1 next)
+
 -- one request more, after the others
 pub run_more : (c : Cluster) (b mid last : Book) (asks : List Ask) (ask : Ask) (answers : List Answer) (answer : Answer) →
     IsRun c b asks answers mid → IsRun c mid (ask ∷ []) (answer ∷ []) last → IsRun c b (asks ++ ask ∷ []) (answers ++ answer ∷ []) last
-run_more c b mid last [] ask [] answer run next = subst (λ x. IsRun c x (ask ∷ []) (answer ∷ []) last) run next
-run_more c b mid last [] ask (a ∷ answers) answer run next = absurd run
-run_more c b mid last (x ∷ asks) ask [] answer run next = absurd run
-run_more c b mid last (x ∷ asks) ask (a ∷ answers) answer (inl lacking) next =
-    inl (lacking.0, lacking.1, run_more c b mid last asks ask answers answer lacking.2 next)
-run_more c b mid last (x ∷ asks) ask (a ∷ answers) answer (inr done) next =
-    inr (done.0, run_more c (step c b x.actor x.request).book mid last asks ask answers answer done.1 next)
+run_more c b mid last asks ask answers answer run next = runs_joined c b mid last asks (ask ∷ []) answers (answer ∷ []) run next
 
 -- ---- the integrator's commands that are the supplier's were done
 

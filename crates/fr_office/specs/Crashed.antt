@@ -1,6 +1,6 @@
 -- Crashed: when records were asked requests one after another. What a crash leaves then: the book after all that was
 -- answered, or after one request more, which had been answered `Unavailable`. When a register that is found afterwards
--- is as promised.
+-- is as promised. When records stand for a book that a crash leaves, or leaves with one request more.
 use Rattle.std.specs.Global.{Vec}
 use Rattle.std.specs.Prelude.{◌≡◌, ◌≢◌, ◌⊎◌, List, [], ◌∷◌, ◌++◌, length, take, Result, MatchResult, ⊤}
 use Rattle.fr_base.specs.Book.{Book}
@@ -14,6 +14,7 @@ use Rattle.fr_base.specs.declared.refusal.Refusal.TheVariants.{Unavailable}
 use Rattle.fr_base.specs.declared.request.Ask.{Ask}
 use Rattle.fr_office.specs.Answering.{Answers, KeepsChange, LeavesStep}
 use Rattle.fr_office.specs.Headline.{WereAnswered}
+use Rattle.fr_office.specs.KeptPages.{StandsWarm, WarmData}
 use Rattle.fr_office.specs.declared.running.Stopped.{Stopped}
 use Rattle.fr_world.specs.Held.{Leaving, Standing}
 
@@ -83,3 +84,27 @@ abbrev pub IsFound : (Book → Type 0) → Cluster → Book → List Ask → Lis
 IsFound now c b asks answers =
     WereAnswered now c b asks answers
     ⊎ ((ask : Ask) × (answer : Answer) × WasLacking asks answers ask × WereAnswered now c b (asks ++ ask ∷ []) (answers ++ answer ∷ []))
+
+-- It is the book, or the one after one request more, whichever.
+abbrev pub IsNear : Cluster → Book → Book → Type 0
+IsNear c = IsOrNext c (λ _. ⊤)
+
+-- A crash leaves the book, with all that was answered, or the one after one request more: each book that it may leave
+-- is one of these.
+pub record IsKept (leaves : List Book → Type 0) (c : Cluster) (b : Book) : Type 0 where
+  pub books : List Book
+  pub left : leaves books
+  pub each : EachBook (IsNear c b) books
+
+-- The records stand for the book, with no page beside them that is stale; and a crash leaves it, or the book after one
+-- request more.
+abbrev pub StandsKept : {R : Type 0} → (R → Standing) → (R → Leaving) → WarmData R → Standing
+StandsKept stands leaves warm c b = StandsWarm stands warm c b × IsKept (leaves warm.records c) c b
+
+-- what a crash leaves of the records
+abbrev pub leaves_of : {R : Type 0} → (R → Leaving) → WarmData R → Leaving
+leaves_of leaves warm = leaves warm.records
+
+-- whether the records serve
+abbrev pub serves_of : {R : Type 0} → (R → Type 0) → WarmData R → Type 0
+serves_of serves warm = serves warm.records

@@ -5,7 +5,7 @@ ghost use Rattle.fr_base.specs.Book.{Book, file_of};
 ghost use Rattle.fr_base.specs.Cluster.{Cluster};
 ghost use Rattle.fr_base.specs.Sound.{IsSound};
 ghost use Rattle.fr_office.specs.Answering.{Answers, KeepsChange, LeavesStep};
-ghost use Rattle.fr_office.specs.Crashed.{AsksEach, KeepsEach};
+ghost use Rattle.fr_office.specs.Crashed.{AsksEach, KeepsEach, StandsKept};
 ghost use Rattle.fr_office.specs.Headline.{AnswersEach};
 ghost use Rattle.fr_office.specs.KeptPages.{StandsWarm};
 ghost use Rattle.fr_office.specs.Listing.{Lists};
@@ -42,7 +42,7 @@ impl<R: Records + Drop> Drop for Office<R> {
 }
 
 impl<R: Records> Desk for Office<R> {
-    ghost stands = { StandsWarm R.stands };
+    ghost stands = { StandsKept R.stands R.leaves };
 
     ghost clean = { λ office. R.clean office.records };
 
@@ -92,11 +92,14 @@ impl<R: Records> Office<R> {
     /// Until it answers, a crash leaves what it would have left before, or the register after the step. Where it
     /// answers `Done`, `Replaced`, or `Imported` to an import that is new, a crash leaves the register after the step,
     /// and no other.
+    /// So where a crash left the register with all that was answered, or after one request more, it still does.
     pub fn ask(&mut self, alloc: Global, ask: &Ask) -> Answer
         ensures falls { R.clean self.new.records → R.clean self.old.records }
         ensures answers { R.clean self.new.records → Answers (StandsWarm R.stands self.old) (StandsWarm R.stands self.new) ask.now result }
         ensures leaves { R.clean self.new.records → LeavesStep (StandsWarm R.stands self.old) (R.leaves self.old.records) (R.leaves self.new.records) ask.now }
         ensures durable { R.clean self.new.records → KeepsChange (StandsWarm R.stands self.old) (R.leaves self.new.records) ask.now result }
+        ensures kept { R.clean self.new.records →
+            Answers (StandsKept R.stands R.leaves self.old) (StandsKept R.stands R.leaves self.new) ask.now result }
     {
         answer(alloc, &mut self.warm, ask)
     }
@@ -106,6 +109,7 @@ impl<R: Records> Office<R> {
     pub fn decline(&self, ask: &Ask) -> Answer
         ensures refused { (refusal : Refusal) × (result ≡ Answer.Refused refusal) }
         ensures answers { Answers (StandsWarm R.stands self.now) (StandsWarm R.stands self.now) ask.now result }
+        ensures kept { Answers (StandsKept R.stands R.leaves self.now) (StandsKept R.stands R.leaves self.now) ask.now result }
     {
         decline(&self.warm, ask)
     }
@@ -123,6 +127,8 @@ impl<R: Records> Office<R> {
     pub fn variants(&mut self, alloc: Global, actor: &Actor) -> Result<Vec<VariantRow>, Refusal>
         ensures reads { Reads R.clean R.params R.leaves self.old.records self.new.records }
         ensures lists { R.clean self.new.records → Lists (StandsWarm R.stands self.old) (StandsWarm R.stands self.new) actor.now result }
+        ensures kept { R.clean self.new.records →
+            Lists (StandsKept R.stands R.leaves self.old) (StandsKept R.stands R.leaves self.new) actor.now result }
     {
         list_variants(alloc, &mut self.warm, actor)
     }

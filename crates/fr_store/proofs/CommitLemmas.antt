@@ -20,6 +20,9 @@ module _ {S : Type 0} (g : Ghosts S) (held begun : Held S) (is : begun ≡ recor
   pub begun_stands : (c : Cluster) (b : Book) → Stands (state g held) c b → Stands (state g begun) c b
   begun_stands c b stands = still_stands (state g held) (state g begun) c b (ap (λ h. (state g h).now) is) stands
 
+  pub begun_now : (state g begun).now ≡ (state g held).now
+  begun_now = ap (λ h. (state g h).now) is
+
   pub begun_inside : IsTrue (state g begun).in_transaction
   begun_inside = ap (λ (h : Held S). h.in_transaction) is
 

@@ -1,6 +1,7 @@
 -- Edits that are carried out one after the other.
-use Rattle.std.proofs.Common.{◌≡◌, ℕ, suc, ◌+◌, ◌<◌, ◌≤◌, List, [], ◌∷◌, ◌++◌, take, drop, length, get_or, refl, sym, ap, ◌∙◌, subst, arith}
+use Rattle.std.proofs.Common.{◌≡◌, ℕ, suc, false, ◌+◌, ◌<◌, ◌≤◌, List, [], ◌∷◌, ◌++◌, take, drop, length, get_or, refl, sym, ap, ◌∙◌, subst, arith}
 use Rattle.std.proofs.lemmas.List.{take_all}
+use Rattle.std.proofs.lemmas.List.Elements.{All-get_or}
 use Rattle.std.proofs.Math.Seq.{take-suc, drop-cons}
 use Rattle.sqlite.specs.State.{State, KeepsCommit}
 use Rattle.fr_base.specs.Cluster.{Cluster}
@@ -10,6 +11,9 @@ use Rattle.fr_world.specs.Fits.{Fits, AllFit}
 use Rattle.fr_world.specs.declared.edit.Edit.{Edit}
 use Rattle.fr_store.specs.Applying.{GoesOn}
 use Rattle.fr_store.specs.Reading.{Stands}
+use Rattle.fr_store.specs.Sparing.{ChangeNoFrame, HasSameFrames, changes_frame}
+use Rattle.fr_tables.specs.Changes.{tables_of}
+use Rattle.fr_store.proofs.SparingLemmas.{same_frames_then}
 use Rattle.fr_store.proofs.InsideLemmas.{keeps_then}
 
 -- the first edits are carried out, and the others fit what they left
@@ -22,6 +26,7 @@ pub record HasCome (edits : List Edit) (at : ℕ) (old now : State) : Type 0 whe
   pub keeps : KeepsCommit old now
   pub goes : GoesOn now
   pub carried : (c : Cluster) (b : Book) → Stands old c b → AllFit c.params b edits → HasCarriedOut edits at old now c b
+  pub spared : ChangeNoFrame edits → HasSameFrames (tables_of old) (tables_of now)
 
 -- one edit more
 applied_more : (b : Book) (edits : List Edit) (edit : Edit) → all_applied b (edits ++ edit ∷ []) ≡ applied (all_applied b edits) edit
@@ -40,10 +45,13 @@ module _ (edits : List Edit) (at : ℕ) (edit : Edit) (within : at < length edit
 
   pub one_more : (old before new : State) → HasCome edits at old before → KeepsCommit before new → GoesOn new
       → ((c : Cluster) (b : Book) → Stands before c b → Fits c.params b edit → Stands new c (applied b edit))
-      → HasCome edits (at + 1) old new
-  one_more old before new come keeps goes carries = record {
+      → (changes_frame edit ≡ false → HasSameFrames (tables_of before) (tables_of new)) → HasCome edits (at + 1) old new
+  one_more old before new come keeps goes carries spares = record {
     keeps = keeps_then old before new come.keeps keeps;
     goes = goes;
+    spared = λ none.
+        let this = subst (λ e. changes_frame e ≡ false) is (All-get_or (λ e. changes_frame e ≡ false) edits at edit within none) in
+        same_frames_then (tables_of old) (tables_of before) (tables_of new) (come.spared none) (spares this);
     carried = λ c b stands fit.
         let come_so_far = come.carried c b stands fit in
         let b' = all_applied b (take at edits) in

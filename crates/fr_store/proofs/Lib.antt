@@ -4,6 +4,8 @@ pub mod OpenLemmas
 pub mod SameCluster
 pub mod AgainLemmas
 pub mod FileLemmas
+pub mod RefusedLemmas
+pub mod OpenedLemmas
 pub mod MemoryLemmas
 pub mod OrderLemmas
 pub mod SectionLemmas
@@ -38,6 +40,7 @@ pub mod OwningLemmas
 pub mod ClimbLemmas
 pub mod OwnCopies
 pub mod EditSteps
+pub mod SparingLemmas
 pub mod CommitLemmas
 pub mod CrashLemmas
 pub mod ChainLemmas

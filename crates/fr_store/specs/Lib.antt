@@ -1,4 +1,6 @@
 pub mod Opening
+pub mod Refused
+pub mod Opened
 pub mod Before
 pub mod Store
 pub mod StoreFiles
@@ -6,6 +8,7 @@ pub mod Crashes
 pub mod StandsFor
 pub mod Owning
 pub mod Applying
+pub mod Sparing
 pub mod Reading
 pub mod FrameEdits
 pub mod Paging

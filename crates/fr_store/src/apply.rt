@@ -10,6 +10,8 @@ ghost use Rattle.fr_store.specs.Applying.{CarriesOutAll, LeavesAll, StaysInside}
 ghost use Rattle.fr_store.specs.Crashes.{LeavesOnly};
 ghost use Rattle.fr_tables.specs.Asking.{AreAsBefore};
 ghost use Rattle.fr_store.specs.Reading.{Stands};
+ghost use Rattle.fr_store.specs.Sparing.{ChangeNoFrame, HasSameFrames, SparesFrames};
+ghost use Rattle.fr_tables.specs.Changes.{tables_of};
 ghost use Rattle.fr_tables.specs.Tables.{HasTables};
 ghost use Rattle.fr_store.specs.declared.fault.StoreFault.TheVariants.{Unavailable};
 
@@ -24,7 +26,10 @@ use std::alloc::Global;
 /// Carries the edits out, one after the other.
 fn all<S: Alter>(tx: &mut Transaction<'_, S>, edits: &[Edit]) -> Result<(), StoreFault>
     ensures same_reference { tx.new.conn.ghost_name ≡ tx.old.conn.ghost_name }
-    ensures carried { CarriesOutAll edits.now (state S.Store tx.old.conn.now) (state S.Store tx.new.conn.now) result }
+    ensures carried { CarriesOutAll edits.now
+        (state S.Store tx.old.conn.now) (state S.Store tx.new.conn.now) result }
+    ensures spared { ChangeNoFrame edits.now
+        → SparesFrames (state S.Store tx.old.conn.now) (state S.Store tx.new.conn.now) result }
     ensures stays { StaysInside (state S.Store tx.old.conn.now) (state S.Store tx.new.conn.now) result }
     ensures refused { IfErr result (λ fault. fault ≡ Unavailable) }
     ensures survives { Survives (state S.Store tx.old.conn.now) (state S.Store tx.new.conn.now) (λ _. ⊥) }
@@ -38,14 +43,22 @@ fn all<S: Alter>(tx: &mut Transaction<'_, S>, edits: &[Edit]) -> Result<(), Stor
 /// Carries all edits out in one transaction.
 fn in_one<S: Alter>(conn: &mut Connection<S>, edits: &[Edit]) -> Result<(), StoreFault>
     requires { conn.old.in_transaction ≡ false }
-    ensures stands { HasCleanDisk (state S.Store conn.new) → (c : _) (b : _) → Stands (state S.Store conn.old) c b → AllFit c.params b edits.now
-        → OnOk result (Stands (state S.Store conn.new) c (all_applied b edits.now)) }
-    ensures committed { HasCleanDisk (state S.Store conn.new) → OnOk result ((state S.Store conn.new).committed ≡ (state S.Store conn.new).now) }
-    ensures open { HasCleanDisk (state S.Store conn.new) → OnOk result (IsTrue (state S.Store conn.new).is_open) }
-    ensures undone { HasCleanDisk (state S.Store conn.new) → HasTables (state S.Store conn.old).now → OnErr result (AreAsBefore (state S.Store conn.old) (state S.Store conn.new)) }
+    ensures stands { let old = state S.Store conn.old in let new = state S.Store conn.new in
+        HasCleanDisk new → (c : _) (b : _) → Stands old c b → AllFit c.params b edits.now
+        → OnOk result (Stands new c (all_applied b edits.now)) }
+    ensures spared { let old = state S.Store conn.old in let new = state S.Store conn.new in
+        HasCleanDisk new → HasTables old.now → ChangeNoFrame edits.now
+        → OnOk result (HasSameFrames (tables_of old) (tables_of new)) }
+    ensures committed { let new = state S.Store conn.new in
+        HasCleanDisk new → OnOk result (new.committed ≡ new.now) }
+    ensures open { let new = state S.Store conn.new in
+        HasCleanDisk new → OnOk result (IsTrue new.is_open) }
+    ensures undone { let old = state S.Store conn.old in let new = state S.Store conn.new in
+        HasCleanDisk new → HasTables old.now → OnErr result (AreAsBefore old new) }
     ensures refused { IfErr result (λ fault. fault ≡ Unavailable) }
     ensures autocommit { conn.new.in_transaction ≡ false }
-    ensures survives { Survives (state S.Store conn.old) (state S.Store conn.new) (LeavesAll edits.now (state S.Store conn.old)) }
+    ensures survives { let old = state S.Store conn.old in
+        Survives old (state S.Store conn.new) (LeavesAll edits.now old) }
 {
     let _settled = conn.is_autocommit();
     let mut tx = conn.transaction();
@@ -62,21 +75,36 @@ impl<S: Alter> Store<S> {
     /// config does not admit a supplier or a key; then the rows and the config are as they were, but a crash may leave the rows after the
     /// edits. Where they were carried out, a crash leaves no others.
     pub fn apply(&mut self, alloc: Global, edits: &[Edit]) -> Result<(), StoreFault>
-        ensures stands { HasCleanDisk (state S.Store self.new.conn) → (c : _) (b : _) → Stands (state S.Store self.old.conn) c b → AllFit c.params b edits.now
-            → OnOk result (Stands (state S.Store self.new.conn) c (all_applied b edits.now)) }
-        ensures committed { HasCleanDisk (state S.Store self.new.conn) → OnOk result ((state S.Store self.new.conn).committed ≡ (state S.Store self.new.conn).now) }
-        ensures open { HasCleanDisk (state S.Store self.new.conn) → OnOk result (IsTrue (state S.Store self.new.conn).is_open) }
-        ensures undone { HasCleanDisk (state S.Store self.new.conn) → HasTables (state S.Store self.old.conn).now
-            → OnErr result (AreAsBefore (state S.Store self.old.conn) (state S.Store self.new.conn)) }
+        ensures stands { let old = state S.Store self.old.conn in
+            let new = state S.Store self.new.conn in
+            HasCleanDisk new → (c : _) (b : _) → Stands old c b → AllFit c.params b edits.now
+            → OnOk result (Stands new c (all_applied b edits.now)) }
+        ensures spared { let old = state S.Store self.old.conn in
+            let new = state S.Store self.new.conn in
+            HasCleanDisk new → HasTables old.now → ChangeNoFrame edits.now
+            → OnOk result (HasSameFrames (tables_of old) (tables_of new)) }
+        ensures committed { let new = state S.Store self.new.conn in
+            HasCleanDisk new → OnOk result (new.committed ≡ new.now) }
+        ensures open { let new = state S.Store self.new.conn in
+            HasCleanDisk new → OnOk result (IsTrue new.is_open) }
+        ensures undone { let old = state S.Store self.old.conn in
+            let new = state S.Store self.new.conn in
+            HasCleanDisk new → HasTables old.now → OnErr result (AreAsBefore old new) }
         ensures refused { IfErr result (λ fault. fault ≡ Unavailable) }
         ensures outside { self.old.conn.in_transaction ≡ false → self.new.conn.in_transaction ≡ false }
         ensures config { OnOk result (self.new.config ≡ after_edits self.old.config edits.now) }
         ensures same { OnErr result (self.new.config ≡ self.old.config) }
-        ensures survives { Survives (state S.Store self.old.conn) (state S.Store self.new.conn) (LeavesAll edits.now (state S.Store self.old.conn)) }
-        ensures leaves { HasCleanDisk (state S.Store self.new.conn) → (c : _) (b : _) (books : _) → Stands (state S.Store self.old.conn) c b → AllFit c.params b edits.now
-            → LeavesOnly (state S.Store self.old.conn) c books → LeavesOnly (state S.Store self.new.conn) c (all_applied b edits.now ∷ books) }
-        ensures durable { HasCleanDisk (state S.Store self.new.conn) → (c : _) (b : _) → Stands (state S.Store self.old.conn) c b → AllFit c.params b edits.now
-            → OnOk result (LeavesOnly (state S.Store self.new.conn) c (all_applied b edits.now ∷ [])) }
+        ensures survives { let old = state S.Store self.old.conn in
+            Survives old (state S.Store self.new.conn) (LeavesAll edits.now old) }
+        ensures leaves { let old = state S.Store self.old.conn in
+            let new = state S.Store self.new.conn in
+            HasCleanDisk new → (c : _) (b : _) (books : _) → Stands old c b
+            → AllFit c.params b edits.now → LeavesOnly old c books
+            → LeavesOnly new c (all_applied b edits.now ∷ books) }
+        ensures durable { let old = state S.Store self.old.conn in
+            let new = state S.Store self.new.conn in
+            HasCleanDisk new → (c : _) (b : _) → Stands old c b → AllFit c.params b edits.now
+            → OnOk result (LeavesOnly new c (all_applied b edits.now ∷ [])) }
     {
         if !self.conn.is_autocommit() {
             return Err(StoreFault::Unavailable);

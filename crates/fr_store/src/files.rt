@@ -1,21 +1,16 @@
 //! A register made, and one opened, in a database file and its log, and these closed.
 
-ghost use Rattle.std.specs.Prelude.{◌≡◌, ◌≢◌, [], ◌∷◌, IsTrue, IfOk, IfErr, IfSome, None, false};
+ghost use Rattle.std.specs.Prelude.{◌≡◌, IsTrue, IfOk, IfErr, IfSome, Some, false};
 ghost use Rattle.sqlite_wal.specs.Files.{outcomes};
 ghost use Rattle.sqlite_wal.specs.Reads.{AreClean};
-ghost use Rattle.sqlite.specs.Effect.{IsDatabase};
-ghost use Rattle.sqlite.specs.State.{HasCleanDisk, Opens, IsLive};
-ghost use Rattle.sqlite.specs.Files.{file_state, image_of, HoldsDatabase};
+ghost use Rattle.sqlite.specs.State.{HasCleanDisk};
+ghost use Rattle.sqlite.specs.Files.{file_state, image_of};
 ghost use Rattle.fr_base.specs.Book.{opening};
-ghost use Rattle.fr_tables.specs.Schema.{IsOurs, IsOld};
-ghost use Rattle.fr_store.specs.Opening.{AllowsCreation, Explains, ExplainsFiles, ForbidsFiles};
-ghost use Rattle.fr_tables.specs.Changes.{tables_of};
-ghost use Rattle.fr_store.specs.Reading.{Stands, TellsOpened};
-ghost use Rattle.fr_tables.specs.Tables.{AreOrdered, AreOrderedBefore};
-ghost use Rattle.fr_store.specs.Store.{IsNewOf, IsRegisterFor, IsRegisterOf, MayForbid};
-ghost use Rattle.fr_store.specs.Crashes.{HoldsOne, LeavesOnly, Serves};
-ghost use Rattle.fr_store.specs.StoreFiles.{HoldsRegister, KeepsBook, FindsBook, FindsLeft, IsFound, IsHeld, SurvivesSince, database_of};
-ghost use Rattle.fr_store.specs.declared.fault.StoreFault.TheVariants as fault;
+ghost use Rattle.fr_store.specs.Crashes.{HoldsOne, LeavesOnly};
+ghost use Rattle.fr_store.specs.Opened.{HoldCommitted, IsConnected, IsMadeIn, IsOpenedIn};
+ghost use Rattle.fr_store.specs.Refused.{IsRefusedBy, IsUnavailable, IsUnopened, files_alone, given_back, makes, opens};
+ghost use Rattle.fr_store.specs.Store.{IsRegisterFor, IsRegisterOf};
+ghost use Rattle.fr_store.specs.StoreFiles.{HoldsRegister, KeepsBook, SurvivesSince, database_of};
 
 use crate::fault::StoreFault;
 use crate::store::Store;
@@ -27,10 +22,10 @@ use std::alloc::Global;
 
 /// Gives the files back, with each commit in the database file.
 pub(crate) fn closed<D: Disk + Drop>(conn: Connection<FileStore<D>>) -> Option<Files<D>>
-    ensures usable { IfSome result (λ files. IsTrue (D.Disk.is_usable files.log) × IsTrue (D.Disk.is_usable files.db)) }
-    ensures clean { IfSome result (λ files. AreClean D.Disk files.log files.db → HasCleanDisk (file_state conn) × IsTrue (file_state conn).is_open) }
-    ensures held { IfSome result (λ files. AreClean D.Disk files.log files.db → IsHeld (image_of D.Disk files) (file_state conn).committed) }
-    ensures left { IfSome result (λ files. AreClean D.Disk files.log files.db → (image : _) → outcomes D.Disk files.log files.db image → IsHeld image (file_state conn).committed) }
+    ensures usable { IfSome result (λ files.
+        IsTrue (D.Disk.is_usable files.log) × IsTrue (D.Disk.is_usable files.db)) }
+    ensures closed { IfSome result (λ files. AreClean D.Disk files.log files.db
+        → HoldCommitted D.Disk files (file_state conn)) }
 {
     let _schema = conn.schema();
     match conn.close_files() {
@@ -54,15 +49,12 @@ pub(crate) fn connected<D: Disk + Drop>(
 ) -> Result<Connection<FileStore<D>>, (StoreFault, Files<D>)>
     requires log { IsTrue (D.Disk.is_usable files.log) }
     requires db { IsTrue (D.Disk.is_usable files.db) }
-    ensures opens { IfOk result (λ c. HasCleanDisk (file_state c) → Opens (file_state c) × IsLive (file_state c)) }
-    ensures ordered { IfOk result (λ c. HasCleanDisk (file_state c) → IsOurs (file_state c).now.schema → AreOrdered (file_state c).now.trees) }
-    ensures ordered_before { IfOk result (λ c. HasCleanDisk (file_state c) → IsOld (file_state c).now.schema → AreOrderedBefore (file_state c).now.trees) }
-    ensures found { IfOk result (λ c. HasCleanDisk (file_state c) → (db : _) → HoldsDatabase (image_of D.Disk files) db → (file_state c).now.trees ≡ db) }
-    ensures reads { IfOk result (λ c. HasCleanDisk (file_state c) → IsFound (image_of D.Disk files) (file_state c).now) }
-    ensures honest { IfOk result (λ c. HasCleanDisk (file_state c) → AreClean D.Disk files.log files.db) }
-    ensures told { IfErr result (λ e. AreClean D.Disk e.1.log e.1.db → (db : _) → HoldsDatabase (image_of D.Disk files) db → e.0 ≡ fault.Unavailable) }
-    ensures not_made { IfErr result (λ e. e.0 ≢ fault.NotEmpty) }
-    ensures not_ours { IfErr result (λ e. e.0 ≢ fault.WrongSchema) }
+    ensures connected { IfOk result (λ c. HasCleanDisk (file_state c)
+        → IsConnected (image_of D.Disk files) (file_state c)) }
+    ensures honest { IfOk result (λ c. HasCleanDisk (file_state c)
+        → AreClean D.Disk files.log files.db) }
+    ensures refused { IfErr result (λ e.
+        IsUnopened (image_of D.Disk files) e.0 (Some (files_alone D.Disk e.1))) }
 {
     let conn = match Connection::open_files(alloc, files, options) {
         Ok(conn) => conn,
@@ -80,13 +72,23 @@ pub(crate) fn connected<D: Disk + Drop>(
 impl<D: Disk + Drop> Store<FileStore<D>> {
     /// Gives the files back, with each commit in the database file.
     pub fn close(self) -> Result<Files<D>, StoreFault>
-        ensures usable { IfOk result (λ files. IsTrue (D.Disk.is_usable files.log) × IsTrue (D.Disk.is_usable files.db)) }
-        ensures clean { IfOk result (λ files. AreClean D.Disk files.log files.db → HasCleanDisk (file_state self.conn) × IsTrue (file_state self.conn).is_open) }
-        ensures held { IfOk result (λ files. AreClean D.Disk files.log files.db → IsRegisterOf self.config (file_state self.conn).committed → HoldsRegister self.config (image_of D.Disk files) (file_state self.conn).committed.trees) }
-        ensures book { IfOk result (λ files. AreClean D.Disk files.log files.db → KeepsBook (file_state self.conn).committed (image_of D.Disk files)) }
-        ensures survives { IfOk result (λ files. AreClean D.Disk files.log files.db → (image : _) → outcomes D.Disk files.log files.db image
-            → KeepsBook (file_state self.conn).committed image) }
-        ensures told { IfErr result (λ e. e ≡ fault.Unavailable) }
+        ensures usable { IfOk result (λ files.
+            IsTrue (D.Disk.is_usable files.log) × IsTrue (D.Disk.is_usable files.db)) }
+        ensures clean { let last = file_state self.conn in
+            IfOk result (λ files. AreClean D.Disk files.log files.db
+            → HasCleanDisk last × IsTrue last.is_open) }
+        ensures held { let last = file_state self.conn in
+            IfOk result (λ files. AreClean D.Disk files.log files.db
+            → IsRegisterOf self.config last.committed
+            → HoldsRegister self.config (image_of D.Disk files) last.committed.trees) }
+        ensures book { let last = file_state self.conn in
+            IfOk result (λ files. AreClean D.Disk files.log files.db
+            → KeepsBook last.committed (image_of D.Disk files)) }
+        ensures survives { let last = file_state self.conn in
+            IfOk result (λ files. AreClean D.Disk files.log files.db
+            → (image : _) → outcomes D.Disk files.log files.db image
+            → KeepsBook last.committed image) }
+        ensures told { IfErr result IsUnavailable }
     {
         match closed(self.into_connection()) {
             Some(files) => Ok(files),
@@ -96,8 +98,10 @@ impl<D: Disk + Drop> Store<FileStore<D>> {
 
     /// Gives the files back as they are. What a crash leaves of them holds a register that it might have left before.
     pub fn give_up(self) -> Files<D>
-        ensures left { AreClean D.Disk result.log result.db → (image : _) → outcomes D.Disk result.log result.db image → (c : _) (books : _)
-            → LeavesOnly (file_state self.conn) c books → ∥ HoldsOne c books image ∥₁ }
+        ensures left { AreClean D.Disk result.log result.db
+            → (image : _) → outcomes D.Disk result.log result.db image
+            → (c : _) (books : _) → LeavesOnly (file_state self.conn) c books
+            → ∥ HoldsOne c books image ∥₁ }
     {
         self.into_connection().into_store().close()
     }
@@ -114,24 +118,16 @@ impl<D: Disk + Drop> Store<FileStore<D>> {
     ) -> Result<Store<FileStore<D>>, (StoreFault, Option<Files<D>>)>
         requires log { IsTrue (D.Disk.is_usable files.log) }
         requires db { IsTrue (D.Disk.is_usable files.db) }
-        ensures made { IfOk result (λ s. HasCleanDisk (file_state s.conn) → IsNewOf config.now (file_state s.conn).now) }
-        ensures stands { IfOk result (λ s. HasCleanDisk (file_state s.conn) → Stands (file_state s.conn) config.now.cluster (opening config.now)) }
-        ensures committed { IfOk result (λ s. HasCleanDisk (file_state s.conn) → (file_state s.conn).committed ≡ (file_state s.conn).now) }
-        ensures open { IfOk result (λ s. HasCleanDisk (file_state s.conn) → IsTrue (file_state s.conn).is_open) }
-        ensures durable { IfOk result (λ s. HasCleanDisk (file_state s.conn) → LeavesOnly (file_state s.conn) config.now.cluster (opening config.now ∷ [])) }
+        ensures made { IfOk result (λ s. HasCleanDisk (file_state s.conn)
+            → IsMadeIn (image_of D.Disk files) config.now (file_state s.conn)) }
         ensures config { IfOk result (λ s. s.config ≡ config.now) }
-        ensures bare { IfOk result (λ s. HasCleanDisk (file_state s.conn) → AllowsCreation (image_of D.Disk files)) }
-        ensures honest { IfOk result (λ s. HasCleanDisk (file_state s.conn) → AreClean D.Disk files.log files.db) }
+        ensures honest { IfOk result (λ s. HasCleanDisk (file_state s.conn)
+            → AreClean D.Disk files.log files.db) }
         ensures outside { IfOk result (λ s. s.conn.in_transaction ≡ false) }
-        ensures survives { IfOk result (λ s. SurvivesSince (image_of D.Disk files) s.conn (λ db. IsRegisterFor config.now.cluster (opening config.now) (database_of db))) }
-        ensures told { IfErr result (λ e. IfSome e.1 (λ left. AreClean D.Disk left.log left.db → (d : _) → IsDatabase d → HoldsDatabase (image_of D.Disk files) d.trees → MayForbid d.schema e.0)) }
-        ensures cause { IfErr result (λ e. IfSome e.1 (λ left. AreClean D.Disk left.log left.db → ForbidsFiles (image_of D.Disk files) e.0)) }
-        ensures not_found { IfErr result (λ e. e.0 ≢ fault.NotARegister) }
-        ensures not_ours { IfErr result (λ e. e.0 ≢ fault.WrongSchema) }
-        ensures untouched { IfErr result (λ e. e.0 ≡ fault.NotEmpty → IfSome e.1 (λ left. AreClean D.Disk left.log left.db → (d : _) → IsDatabase d → HoldsDatabase (image_of D.Disk files) d.trees → IsHeld (image_of D.Disk left) d)) }
-        ensures survives_still { IfErr result (λ e. e.0 ≡ fault.NotEmpty → IfSome e.1 (λ left. AreClean D.Disk left.log left.db → (image : _) → outcomes D.Disk left.log left.db image
-            → (d : _) → IsDatabase d → HoldsDatabase (image_of D.Disk files) d.trees → IsHeld image d)) }
-        ensures lost { IfErr result (λ e. e.1 ≡ None → e.0 ≡ fault.Unavailable) }
+        ensures survives { IfOk result (λ s. SurvivesSince (image_of D.Disk files) s.conn
+            (λ db. IsRegisterFor config.now.cluster (opening config.now) (database_of db))) }
+        ensures refused { IfErr result (λ e.
+            IsRefusedBy makes IsUnavailable (image_of D.Disk files) e.0 (given_back D.Disk e.1)) }
     {
         let conn = match connected(alloc, files, options) {
             Ok(conn) => conn,
@@ -156,27 +152,15 @@ impl<D: Disk + Drop> Store<FileStore<D>> {
     ) -> Result<Store<FileStore<D>>, (StoreFault, Option<Files<D>>)>
         requires log { IsTrue (D.Disk.is_usable files.log) }
         requires db { IsTrue (D.Disk.is_usable files.db) }
-        ensures open { IfOk result (λ s. HasCleanDisk (file_state s.conn) → IsTrue (file_state s.conn).is_open) }
-        ensures stands { IfOk result (λ s. HasCleanDisk (file_state s.conn) → IsRegisterOf s.config (file_state s.conn).now) }
-        ensures opened { IfOk result (λ s. HasCleanDisk (file_state s.conn) → (c : _) (db : _) → HoldsRegister c (image_of D.Disk files) db
-            → ((file_state s.conn).now ≡ database_of db) × ((file_state s.conn).committed ≡ database_of db)) }
-        ensures committed { IfOk result (λ s. HasCleanDisk (file_state s.conn) → (file_state s.conn).committed ≡ (file_state s.conn).now) }
-        ensures serves { IfOk result (λ s. HasCleanDisk (file_state s.conn) → Serves (file_state s.conn)) }
-        ensures reads { IfOk result (λ s. HasCleanDisk (file_state s.conn) → IsFound (image_of D.Disk files) (file_state s.conn).now) }
-        ensures variants { IfOk result (λ s. HasCleanDisk (file_state s.conn) → TellsOpened (tables_of (file_state s.conn))) }
-        ensures again { IfOk result (λ s. HasCleanDisk (file_state s.conn) → FindsBook (image_of D.Disk files) (file_state s.conn) s.config) }
-        ensures left { IfOk result (λ s. HasCleanDisk (file_state s.conn) → FindsLeft (image_of D.Disk files) (file_state s.conn) s.config) }
-        ensures honest { IfOk result (λ s. HasCleanDisk (file_state s.conn) → AreClean D.Disk files.log files.db) }
+        ensures opened { IfOk result (λ s. HasCleanDisk (file_state s.conn)
+            → IsOpenedIn (image_of D.Disk files) s.config (file_state s.conn)) }
+        ensures honest { IfOk result (λ s. HasCleanDisk (file_state s.conn)
+            → AreClean D.Disk files.log files.db) }
         ensures outside { IfOk result (λ s. s.conn.in_transaction ≡ false) }
-        ensures survives { IfOk result (λ s. SurvivesSince (image_of D.Disk files) s.conn (λ _. ⊥)) }
-        ensures told { IfErr result (λ e. IfSome e.1 (λ left. AreClean D.Disk left.log left.db → (d : _) → IsDatabase d → HoldsDatabase (image_of D.Disk files) d.trees → Explains d e.0)) }
-        ensures cause { IfErr result (λ e. IfSome e.1 (λ left. AreClean D.Disk left.log left.db → ExplainsFiles (image_of D.Disk files) e.0)) }
-        ensures untouched { IfErr result (λ e. e.0 ≢ fault.Unavailable → IfSome e.1 (λ left. AreClean D.Disk left.log left.db → (d : _) → IsDatabase d → HoldsDatabase (image_of D.Disk files) d.trees → IsHeld (image_of D.Disk left) d)) }
-        ensures survives_still { IfErr result (λ e. e.0 ≢ fault.Unavailable → IfSome e.1 (λ left. AreClean D.Disk left.log left.db → (image : _) → outcomes D.Disk left.log left.db image
-            → (d : _) → IsDatabase d → HoldsDatabase (image_of D.Disk files) d.trees → IsHeld image d)) }
-        ensures not_made { IfErr result (λ e. e.0 ≢ fault.NotEmpty) }
-        ensures known { IfErr result (λ e. IfSome e.1 (λ left. AreClean D.Disk left.log left.db → (c : _) (db : _) → HoldsRegister c (image_of D.Disk files) db → e.0 ≡ fault.Unavailable)) }
-        ensures lost { IfErr result (λ e. e.1 ≡ None → e.0 ≡ fault.Unavailable) }
+        ensures survives { IfOk result (λ s.
+            SurvivesSince (image_of D.Disk files) s.conn (λ _. ⊥)) }
+        ensures refused { IfErr result (λ e.
+            IsRefusedBy opens IsUnavailable (image_of D.Disk files) e.0 (given_back D.Disk e.1)) }
     {
         let conn = match connected(alloc, files, options) {
             Ok(conn) => conn,

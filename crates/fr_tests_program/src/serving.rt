@@ -1,6 +1,6 @@
 //! A connection over a socket. The check would let pass a server from which no client reads a reply.
 use crate::fixture::{CLUSTER, PLAN, carried_out};
-use fr_cli::serve_stream;
+use fr_cli::{LocalListener, serve_next};
 use fr_desks::MemoryDesk;
 use fr_text::read_config;
 use std::io::{Read, Write};
@@ -23,9 +23,8 @@ fn a_client_reads_its_schedule(rt: HostRuntime) -> Result<(), Fail> {
     let mut client = TcpStream::connect(&rt, listener.local_addr()?)?;
     client.write_all(REQUEST)?;
     client.shutdown(Shutdown::Write)?;
-    let (stream, _) = listener.accept()?;
-    assert!(rt; serve_stream(&rt, &stream, 10, &mut desk).is_ok());
-    drop(stream);
+    let mut listener = LocalListener::of(&rt, listener);
+    assert!(rt; serve_next(rt.alloc(), &mut listener, 10, &mut desk)?.is_ok());
     let mut reply = Vec::new(rt.alloc());
     let _ = client.read_to_end(&mut reply)?;
     assert!(rt; reply.as_slice() == REPLY);

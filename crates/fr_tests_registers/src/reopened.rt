@@ -4,7 +4,6 @@ ghost use Rattle.std.specs.Prelude.{◌≡◌, IsTrue, IfOk};
 
 use crate::asks::{FIRST, are_answers, config, name, push_lines};
 use fr_base::{Channel, Channels, CycleSet, Placement, Slot, VariantRow};
-use fr_desks::close_office;
 use fr_office::Office;
 use fr_store::{Holder, MemoryFile, Store, StoreFault};
 use fr_world::{ChannelSlot, Page, Records};
@@ -105,7 +104,7 @@ fn filled<D: Disk + Drop>(alloc: Global, files: Files<D>) -> Result<Files<D>, Fa
     if !are_answered(alloc, &mut office)? {
         return Err(Fail::from("other answers"));
     }
-    Ok(close_office(office)?)
+    Ok(office.into_records().close()?)
 }
 
 // The files that the register in these leaves, which has the rows of the first requests.

@@ -4,7 +4,7 @@
 mod streams;
 
 use fr_cli::perform::{explain, perform};
-use fr_cli::{WordFault, read_words};
+use fr_cli::{LocalListener, WordFault, end_closed, read_words};
 use sqlite::Unknown;
 use std::env;
 use std::io::{self, ErrorKind};
@@ -26,8 +26,16 @@ fn run(rt: &HostRuntime) -> u8 {
     };
     match read_words(rt.alloc(), &words) {
         Ok(job) => {
-            let (status, _left) = perform(rt, &job, Unknown, &mut rt.reader(), &mut out, &mut err);
-            status
+            let (status, left) = perform(
+                rt,
+                &job,
+                Unknown,
+                &mut rt.reader(),
+                &mut out,
+                &mut err,
+                &mut LocalListener::new(rt),
+            );
+            end_closed(status, &left, &mut err)
         }
         Err(fault) => explain(&fault, &mut out, &mut err),
     }

@@ -1,10 +1,11 @@
 //! An edit, carried out in the tables.
 
-ghost use Rattle.std.specs.Prelude.{◌≡◌, IfErr};
+ghost use Rattle.std.specs.Prelude.{◌≡◌, IfErr, false};
 ghost use Rattle.sqlite.specs.State.{Survives};
 ghost use Rattle.sqlite.specs.Held.{state};
 ghost use Rattle.fr_world.specs.declared.edit.Edit.TheVariants.{NewVariant, Rows};
 ghost use Rattle.fr_store.specs.Applying.{CarriesOut, StaysInside};
+ghost use Rattle.fr_store.specs.Sparing.{SparesFrames, changes_frame};
 ghost use Rattle.fr_store.specs.declared.fault.StoreFault.TheVariants.{Unavailable};
 
 use crate::applying::frames::change_frame;
@@ -18,6 +19,8 @@ use sqlite::{Alter, Transaction};
 pub fn carry_out<S: Alter>(tx: &mut Transaction<'_, S>, edit: &Edit) -> Result<(), StoreFault>
     ensures same_reference { tx.new.conn.ghost_name ≡ tx.old.conn.ghost_name }
     ensures carried { CarriesOut edit.now (state S.Store tx.old.conn.now) (state S.Store tx.new.conn.now) result }
+    ensures spared { changes_frame edit.now ≡ false
+        → SparesFrames (state S.Store tx.old.conn.now) (state S.Store tx.new.conn.now) result }
     ensures stays { StaysInside (state S.Store tx.old.conn.now) (state S.Store tx.new.conn.now) result }
     ensures refused { IfErr result (λ fault. fault ≡ Unavailable) }
     ensures survives { Survives (state S.Store tx.old.conn.now) (state S.Store tx.new.conn.now) (λ _. ⊥) }
@@ -70,7 +73,9 @@ fn open_variant<S: Alter>(
     depth: u32,
 ) -> Result<(), StoreFault>
     ensures same_reference { tx.new.conn.ghost_name ≡ tx.old.conn.ghost_name }
-    ensures carried { CarriesOut (NewVariant variant.now parent depth) (state S.Store tx.old.conn.now) (state S.Store tx.new.conn.now) result }
+    ensures carried { CarriesOut (NewVariant variant.now parent depth)
+        (state S.Store tx.old.conn.now) (state S.Store tx.new.conn.now) result }
+    ensures spared { SparesFrames (state S.Store tx.old.conn.now) (state S.Store tx.new.conn.now) result }
     ensures stays { StaysInside (state S.Store tx.old.conn.now) (state S.Store tx.new.conn.now) result }
     ensures refused { IfErr result (λ fault. fault ≡ Unavailable) }
     ensures survives { Survives (state S.Store tx.old.conn.now) (state S.Store tx.new.conn.now) (λ _. ⊥) }
@@ -96,7 +101,10 @@ fn change_rows<S: Alter>(
     change: &Change,
 ) -> Result<(), StoreFault>
     ensures same_reference { tx.new.conn.ghost_name ≡ tx.old.conn.ghost_name }
-    ensures carried { CarriesOut (Rows supplier.now variant.now change.now) (state S.Store tx.old.conn.now) (state S.Store tx.new.conn.now) result }
+    ensures carried { CarriesOut (Rows supplier.now variant.now change.now)
+        (state S.Store tx.old.conn.now) (state S.Store tx.new.conn.now) result }
+    ensures spared { changes_frame (Rows supplier.now variant.now change.now) ≡ false
+        → SparesFrames (state S.Store tx.old.conn.now) (state S.Store tx.new.conn.now) result }
     ensures stays { StaysInside (state S.Store tx.old.conn.now) (state S.Store tx.new.conn.now) result }
     ensures refused { IfErr result (λ fault. fault ≡ Unavailable) }
     ensures survives { Survives (state S.Store tx.old.conn.now) (state S.Store tx.new.conn.now) (λ _. ⊥) }

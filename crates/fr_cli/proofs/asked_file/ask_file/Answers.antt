@@ -10,4 +10,4 @@ returns-in-Ok g c =
     c.of_script.ensures c.ask_office-asked.ensures.end c.ask_office-asked.ensures.answered
 
 pub returns-in-Err : goal.returns-in-Err
-returns-in-Err g c = inl (_, refl, not_opened _ _ _ c.in-Err.ensures.not_made c.in-Err.ensures.cause c.in-Err.ensures.untouched c.in-Err.ensures.lost, Keeps-refl (g.R.Read.remaining c.args.input.now), Keeps-refl (g.O.Write.contents c.args.out.now))
+returns-in-Err g c = inl (_, refl, not_opened _ _ _ c.in-Err.ensures.refused, Keeps-refl (g.R.Read.remaining c.args.input.now), Keeps-refl (g.O.Write.contents c.args.out.now))

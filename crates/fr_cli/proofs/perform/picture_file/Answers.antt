@@ -14,4 +14,4 @@ returns-in-Ok g c =
     c.picture-done.ensures.falls c.in-Ok.ensures.found c.close.ensures.book (inr refl) c.picture-done.ensures.prints
 
 pub returns-in-Err : goal.returns-in-Err
-returns-in-Err g c = inl (not_opened _ _ _ c.in-Err.ensures.not_made c.in-Err.ensures.cause c.in-Err.ensures.untouched c.in-Err.ensures.lost)
+returns-in-Err g c = inl (not_opened _ _ _ c.in-Err.ensures.refused)

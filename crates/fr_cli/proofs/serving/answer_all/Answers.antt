@@ -1,14 +1,18 @@
-use Rattle.std.proofs.Common.{◌≡◌, ◌≤◌, ◌+◌, ◌∷◌, ◌++◌, [], inl, inr, length, refl, sym, ap, subst, ◌∙◌, length-append, arith}
+use Rattle.std.proofs.Common.{◌≡◌, ◌≤◌, ◌+◌, ◌∷◌, ◌++◌, [], Err, inl, inr, length, refl, sym, ap, subst, ◌∙◌, length-append, arith, rules}
 use Rattle.std.proofs.KnownBytes.{Keeps-refl}
-use Rattle.fr_cli.proofs.ServingLaws.{serves_none, serves_then, tells_then}
+use Rattle.fr_cli.specs.Serving.{ServesAll, TellsEach}
+use Rattle.fr_cli.specs.Visits.{AreVisited}
+use Rattle.fr_cli.proofs.ServingLaws.{served_until, serves_none, serves_then, tells_then}
+use Rattle.fr_cli.proofs.VisitLaws.{visited_then}
 use Rattle.fr_cli.proofs.serving.answer_all.Goals as goal
 
 pub loop-init : goal.loop-init
 loop-init g c = record {
   same = refl;
   falls = λ clean. clean;
-  ends = [];
+  visits = [];
   each = refl;
+  came_in = refl;
   served = serves_none _ _;
   told = Keeps-refl (g.E.Write.contents c.args.err.now.writer.now);
 }
@@ -16,25 +20,40 @@ loop-init g c = record {
 pub loop-preserved : goal.loop-preserved
 loop-preserved g c =
     let l = c.loop.invariant in
-    let (end, serves, tells) = c.answer_stream.ensures.served in
+    let (visit, came, serves, tells) = c.in_ok-lasts.ensures.served in
     record {
-      same = c.answer_stream.ensures.same ∙ l.same;
-      falls = λ clean. l.falls (c.answer_stream.ensures.falls clean);
-      ends = l.ends ++ end ∷ [];
-      each = length-append l.ends (end ∷ []) ∙ ap (λ n. n + 1) l.each;
-      served = serves_then _ _ _ _ _ l.ends end c.answer_stream.ensures.falls l.served serves;
-      told = tells_then _ _ _ l.ends (end ∷ []) l.told tells;
+      same = c.answer_next.ensures.same ∙ l.same;
+      falls = λ clean. l.falls (c.answer_next.ensures.falls clean);
+      visits = l.visits ++ visit ∷ [];
+      each = length-append l.visits (visit ∷ []) ∙ ap (λ n. n + 1) l.each;
+      came_in = visited_then _ _ _ _ _ _ l.visits visit l.came_in came;
+      served = serves_then _ _ _ _ _ l.visits visit c.answer_next.ensures.falls l.served serves;
+      told = tells_then _ _ _ l.visits (visit ∷ []) l.told tells;
     }
 
-pub returns-then-not-answer_stream-clause-served : goal.returns-then-not-answer_stream-clause-served
-returns-then-not-answer_stream-clause-served g c =
+pub returns-in_err-lasts-clause-served : goal.returns-in_err-lasts-clause-served
+returns-in_err-lasts-clause-served g c =
     let l = c.loop.invariant in
-    let (end, serves, tells) = c.answer_stream.ensures.served in
-    let each : length (l.ends ++ end ∷ []) ≡ c.loop.counter + 1 = length-append l.ends (end ∷ []) ∙ ap (λ n. n + 1) l.each in
+    let fault = c.in_err-lasts.field-0.0 in
+    let is : c.from_residual.result ≡ Err fault = search rules in
+    let (cannot, stood, same, kept) = c.in_err-lasts.ensures.fault in
+    let few : length l.visits ≤ c.args.service.now.count = subst (λ n. n ≤ c.args.service.now.count) (sym l.each) (omega arith) in
+    served_until _ _ _ c.args.service.now.count _ _ _ c.from_residual.result fault l.visits is cannot
+    (subst (λ now. AreVisited g.L.Listener g.L.Reader.Read g.L.Writer.Write c.args.listener.now l.visits now) (sym stood) l.came_in)
+    (subst (λ d. ServesAll (g.D.Desk.clean d) (g.D.Desk.stands c.args.desk.now) (g.D.Desk.stands d) l.visits) (sym same) l.served)
+    (subst (λ told. TellsEach (g.E.Write.contents c.args.err.now.writer.now) told l.visits) (sym kept) l.told)
+    few
+
+pub returns-then-not-lasts-clause-served : goal.returns-then-not-lasts-clause-served
+returns-then-not-lasts-clause-served g c =
+    let l = c.loop.invariant in
+    let (visit, came, serves, tells) = c.in_ok-lasts.ensures.served in
+    let each : length (l.visits ++ visit ∷ []) ≡ c.loop.counter + 1 = length-append l.visits (visit ∷ []) ∙ ap (λ n. n + 1) l.each in
     record {
-      ends = l.ends ++ end ∷ [];
-      served = serves_then _ _ _ _ _ l.ends end c.answer_stream.ensures.falls l.served serves;
-      told = tells_then _ _ _ l.ends (end ∷ []) l.told tells;
+      visits = l.visits ++ visit ∷ [];
+      came_in = visited_then _ _ _ _ _ _ l.visits visit l.came_in came;
+      served = serves_then _ _ _ _ _ l.visits visit c.answer_next.ensures.falls l.served serves;
+      told = tells_then _ _ _ l.visits (visit ∷ []) l.told tells;
       all = tt;
       few = subst (λ n. n ≤ c.args.service.now.count) (sym each) (omega arith);
       fault = inr (inl refl);

@@ -6,9 +6,15 @@ use Rattle.fr_cli.proofs.serving.serve.Goals as goal
 
 pub returns-in-Ok-clause-served : goal.returns-in-Ok-clause-served
 returns-in-Ok-clause-served g c =
-    served_file _ _ _ _ _ _ _ _ _ _ _ _ c.serve_office-done.result.0 c.close.ensures.clean c.serve_office-done.ensures.falls c.in-Ok.ensures.found c.close.ensures.book
+    served_file _ _ _ _ _ _ _ _ _ _ _ _ _ _ c.serve_office-done.result.0 c.close.ensures.clean c.serve_office-done.ensures.falls c.in-Ok.ensures.found c.close.ensures.book
     c.serve_office-done.ensures.served
 
 pub returns-in-Err-clause-served : goal.returns-in-Err-clause-served
-returns-in-Err-clause-served g c =
-    inl (_, refl, not_opened _ _ _ c.in-Err.ensures.not_made c.in-Err.ensures.cause c.in-Err.ensures.untouched c.in-Err.ensures.lost, Keeps-refl (g.O.Write.contents c.args.out.now), Keeps-refl (g.E.Write.contents c.args.err.now.writer.now))
+returns-in-Err-clause-served g c = inl (
+  _,
+  refl,
+  not_opened _ _ _ c.in-Err.ensures.refused,
+  refl,
+  Keeps-refl (g.O.Write.contents c.args.out.now),
+  Keeps-refl (g.E.Write.contents c.args.err.now.writer.now),
+)

@@ -1,4 +1,8 @@
+use Rattle.std.proofs.Common.{Some}
+use Rattle.sqlite.specs.declared.file.Leftover.TheVariants as left
+use Rattle.sqlite_wal.specs.Files.{image_at}
 use Rattle.fr_base.specs.Book.{opening}
+use Rattle.fr_store.proofs.RefusedLemmas.{make_lacks}
 use Rattle.fr_desks.proofs.file_desk.create.Goals as goal
 
 pub returns-in-Ok-clause-book : goal.returns-in-Ok-clause-book
@@ -7,3 +11,6 @@ returns-in-Ok-clause-book g c are =
 
 pub returns-in-Ok-clause-bare : goal.returns-in-Ok-clause-bare
 returns-in-Ok-clause-bare g c are = c.in_ok-desk.ensures.bare (c.in-Ok.ensures.clean are)
+
+pub returns-in-Err-clause-refused : goal.returns-in-Err-clause-refused
+returns-in-Err-clause-refused g c = make_lacks (image_at g.S.Start) (Some (left.Store c.in-Err.store))

@@ -21,7 +21,8 @@ loop-edit-preserved g c =
           let clean_before : HasCleanDisk before = omega (arith, c.carry_out.ensures.survives.clean, clean) in
           let come = c.loop-edit.invariant.1 clean_before inside has in
           let stays = c.in_ok-carry_out.ensures.stays clean come.goes.inside come.goes.has in
-          one_more edits at edit within is old before new come stays.0 stays.1 (λ cluster b stands fits. c.in_ok-carry_out.ensures.carried clean come.goes.inside cluster b stands fits),
+          one_more edits at edit within is old before new come stays.0 stays.1 (λ cluster b stands fits. c.in_ok-carry_out.ensures.carried clean come.goes.inside cluster b stands fits)
+          (λ none. c.in_ok-carry_out.ensures.spared none clean come.goes.inside come.goes.has),
       survives_both old before new c.loop-edit.invariant.2 c.carry_out.ensures.survives,
     )
 
@@ -29,3 +30,6 @@ pub returns-clause-carried : goal.returns-clause-carried
 returns-clause-carried g c clean inside cluster b stands fit =
     all_come c.args.edits.now c.loop-edit.edit-index (state g.S.Store c.args.tx.now.conn.now) (state g.S.Store c.loop-edit.tx.conn.now) c.loop-edit-test.false
     (c.loop-edit.invariant.1 clean inside stands.has) cluster b stands fit
+
+pub returns-clause-spared : goal.returns-clause-spared
+returns-clause-spared g c none clean inside has = (c.loop-edit.invariant.1 clean inside has).spared none

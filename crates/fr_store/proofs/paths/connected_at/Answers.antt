@@ -5,14 +5,16 @@ use Rattle.sqlite_wal.specs.Files.{image_at}
 use Rattle.fr_store.proofs.FileLemmas.{found_opened}
 use Rattle.fr_store.proofs.paths.connected_at.Goals as goal
 
-pub returns-in-Ok-reopen-clause-found : goal.returns-in-Ok-reopen-clause-found
-returns-in-Ok-reopen-clause-found g c clean db held =
-    let before : HasCleanDisk (file_state c.in-Ok.conn) = omega (arith, c.in-Ok-reopen.ensures.clean, clean) in
-    c.in-Ok-reopen.ensures.trees clean ∙ (c.in-Ok.ensures.found before).holds db held
-
-pub returns-in-Ok-reopen-clause-reads : goal.returns-in-Ok-reopen-clause-reads
-returns-in-Ok-reopen-clause-reads g c clean =
+pub returns-in-Ok-reopen-clause-connected : goal.returns-in-Ok-reopen-clause-connected
+returns-in-Ok-reopen-clause-connected g c clean =
     let before : HasCleanDisk (file_state c.in-Ok.conn) = omega (arith, c.in-Ok-reopen.ensures.clean, clean) in
     let opens = c.in-Ok-reopen.ensures.opens clean in
+    let trees = c.in-Ok-reopen.ensures.trees clean in
     let finds = c.in-Ok.ensures.found before in
-    found_opened (image_at g.S.Start) (file_state c.in-Ok-reopen.conn) opens.0.is_open opens.1 (file_state c.in-Ok.conn).committed.trees (c.in-Ok-reopen.ensures.trees clean) finds.reads finds.holds
+    record {
+      opens = opens;
+      ordered = c.in-Ok-reopen.ensures.ordered clean;
+      ordered_before = c.in-Ok-reopen.ensures.ordered_before clean;
+      found = λ db held. trees ∙ finds.holds db held;
+      reads = found_opened (image_at g.S.Start) (file_state c.in-Ok-reopen.conn) opens.0.is_open opens.1 (file_state c.in-Ok.conn).committed.trees trees finds.reads finds.holds;
+    }

@@ -1,6 +1,6 @@
 use Rattle.std.proofs.Common.{subst, sym}
 use Rattle.fr_office.specs.KeptPages.{StandsWarm}
-use Rattle.fr_office.proofs.CrashedLaws.{keeps_change}
+use Rattle.fr_office.proofs.CrashedLaws.{keeps_change, still_kept}
 use Rattle.fr_office.proofs.office.Office.ask.Goals as goal
 
 pub returns-clause-answers : goal.returns-clause-answers
@@ -19,3 +19,7 @@ returns-clause-durable g c = λ clean k b stands sound.
     let records = c.answer.new.records.records in
     keeps_change _ _ (g.R.Records.leaves records) (g.R.Records.serves records) c.args.ask.now c.answer.result (λ cl book serves stood. g.R.Records.settled records cl book clean serves stood.0)
     (c.answer.ensures.answers clean) (c.answer.ensures.open clean) k b inside sound
+
+pub returns-clause-kept : goal.returns-clause-kept
+returns-clause-kept g c = λ clean.
+    still_kept _ _ _ _ c.args.ask.now c.answer.result (returns-clause-answers g c clean) (returns-clause-leaves g c clean) (returns-clause-durable g c clean)

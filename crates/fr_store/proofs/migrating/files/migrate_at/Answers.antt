@@ -1,117 +1,37 @@
-use Rattle.std.proofs.Common.{◌≡◌, ◌∙◌, arith, sym, subst}
-use Rattle.std.proofs.lemmas.Option.{IfSome_then}
-use Rattle.sqlite_wal.specs.Files.{image_at}
-use Rattle.sqlite.specs.Effect.{Database}
+use Rattle.std.proofs.Common.{None, arith}
 use Rattle.sqlite.specs.State.{HasCleanDisk}
 use Rattle.sqlite.specs.Files.{file_state}
-use Rattle.fr_tables.specs.Asking.{old_schema_number}
-use Rattle.fr_store.specs.Opening.{Refuses}
-use Rattle.fr_store.proofs.BeforeLemmas.{allowed_opened, found_before, old_if_before, committed_held, only_unavailable_held, openable_held}
-use Rattle.fr_store.proofs.FileLemmas.{held_as, refused_opened, refused_unopened, same_database}
+use Rattle.sqlite_wal.specs.Files.{image_at}
+use Rattle.fr_store.specs.Refused.{files_alone, migrates}
+use Rattle.fr_store.proofs.BeforeLemmas.{old_if_before}
+use Rattle.fr_store.proofs.OpenedLemmas.{migrated_in}
+use Rattle.fr_store.proofs.RefusedLemmas.{all_left, migrate_lacks, migrate_tells, not_migrated}
 use Rattle.fr_store.proofs.migrating.files.migrate_at.Goals as goal
 
--- ---- files that are not opened
-
-pub returns-in-Err-clause-told : goal.returns-in-Err-clause-told
-returns-in-Err-clause-told g c =
-    IfSome_then c.in-Err.left c.in-Err.ensures.told (λ rest told clean d is held. subst (Refuses old_schema_number d) (sym (told clean d.trees held)) tt)
-
-pub returns-in-Err-clause-known : goal.returns-in-Err-clause-known
-returns-in-Err-clause-known g c =
-    IfSome_then c.in-Err.left c.in-Err.ensures.told (λ rest told clean k b holds.
-    only_unavailable_held (image_at g.S.Start) k b c.in-Err.fault holds (λ d is held. subst (Refuses old_schema_number d) (sym (told clean d.trees held)) tt))
-
-pub returns-in-Err-clause-untouched : goal.returns-in-Err-clause-untouched
-returns-in-Err-clause-untouched g c refused = IfSome_then c.in-Err.left c.in-Err.ensures.told (λ rest told clean d is held. absurd (refused (told clean d.trees held)))
-
--- ---- a register that is migrated
-
 pub returns-in-Ok-told-clause-migrated : goal.returns-in-Ok-told-clause-migrated
-returns-in-Ok-told-clause-migrated g c clean k b holds =
-    let late = (c.in-Some.ensures.clean clean).0 in
-    let before : HasCleanDisk (file_state c.in-Ok.conn) = omega (arith, c.migrate_on-told.ensures.survives.clean, late) in
-    let opens = c.in-Ok.ensures.opens before in
-    let stands = found_before (image_at g.S.Start) (file_state c.in-Ok.conn) k b (opens.1 opens.0.is_open).0 (c.in-Ok.ensures.found before) holds in
-    committed_held _ (file_state c.migrate_on-told.new.conn) k b (c.in-Ok-told.ensures.migrated late k b stands) (c.in-Ok-told.ensures.committed late) (c.in-Some.ensures.held clean)
+returns-in-Ok-told-clause-migrated g c clean =
+    let is = c.in-Ok-told.ensures in
+    let closed = c.in-Some.ensures.closed clean in
+    let before : HasCleanDisk (file_state c.in-Ok.conn) = omega (arith, c.migrate_on-told.ensures.survives.clean, closed.clean) in
+    migrated_in _ (image_at g.S.Start) c.in-Some.files (file_state c.in-Ok.conn) (file_state c.migrate_on-told.new.conn) (c.in-Ok.ensures.connected before)
+    (is.migrated closed.clean) (is.committed closed.clean) (is.opens closed.clean) is.before (is.numbered closed.clean) closed
 
-pub returns-in-Ok-told-clause-ready : goal.returns-in-Ok-told-clause-ready
-returns-in-Ok-told-clause-ready g c clean =
-    let late = (c.in-Some.ensures.clean clean).0 in
-    let before : HasCleanDisk (file_state c.in-Ok.conn) = omega (arith, c.migrate_on-told.ensures.survives.clean, late) in
-    allowed_opened (image_at g.S.Start) (file_state c.in-Ok.conn) (c.in-Ok.ensures.reads before) (c.in-Ok.ensures.ordered_before before) c.in-Ok-told.ensures.before
-    (c.in-Ok-told.ensures.numbered late)
+pub returns-in-Err-clause-refused : goal.returns-in-Err-clause-refused
+returns-in-Err-clause-refused g c = not_migrated (image_at g.S.Start) c.in-Err.fault c.in-Err.left c.in-Err.ensures.refused
 
--- ---- one that is refused
+pub returns-in_default-clause-refused : goal.returns-in_default-clause-refused
+returns-in_default-clause-refused g c = migrate_lacks (image_at g.S.Start) None
 
-pub returns-in-Err-told-clause-told : goal.returns-in-Err-told-clause-told
-returns-in-Err-told-clause-told g c clean d is held =
-    let late = (c.in-Some.ensures.clean clean).0 in
-    let before : HasCleanDisk (file_state c.in-Ok.conn) = omega (arith, c.migrate_on-told.ensures.survives.clean, late) in
-    let opens = c.in-Ok.ensures.opens before in
-    let same : (file_state c.in-Ok.conn).now ≡ d = same_database (file_state c.in-Ok.conn).now d (opens.1 opens.0.is_open).0 is (c.in-Ok.ensures.found before d.trees held) in
-    subst (λ (e : Database). Refuses old_schema_number e c.in-Err-told.fault) same (c.in-Err-told.ensures.told late)
-
-pub returns-in-Err-told-clause-known : goal.returns-in-Err-told-clause-known
-returns-in-Err-told-clause-known g c clean k b holds =
-    only_unavailable_held (image_at g.S.Start) k b c.in-Err-told.fault holds (returns-in-Err-told-clause-told g c clean)
-
-pub returns-in-Err-told-clause-untouched : goal.returns-in-Err-told-clause-untouched
-returns-in-Err-told-clause-untouched g c refused clean d is held =
-    let late = (c.in-Some.ensures.clean clean).0 in
-    let up = (c.in-Some.ensures.clean clean).1 in
-    let before : HasCleanDisk (file_state c.in-Ok.conn) = omega (arith, c.migrate_on-told.ensures.survives.clean, late) in
-    let opens = c.in-Ok.ensures.opens before in
-    let sound = (opens.1 opens.0.is_open).0 in
-    let same : (file_state c.in-Ok.conn).now ≡ d = same_database (file_state c.in-Ok.conn).now d sound is (c.in-Ok.ensures.found before d.trees held) in
-    let unharmed = c.in-Err-told.ensures.unharmed late (old_if_before (file_state c.in-Ok.conn) sound (c.in-Ok.ensures.ordered_before before)) up in
-    held_as _ _ d (unharmed.2 ∙ sym opens.0.clean ∙ same) (c.in-Some.ensures.held clean)
-
--- ---- whatever the files hold
-
-pub returns-in-Err-clause-cause : goal.returns-in-Err-clause-cause
-returns-in-Err-clause-cause g c =
-    IfSome_then c.in-Err.left c.in-Err.ensures.told (λ rest told clean. refused_unopened old_schema_number (image_at g.S.Start) c.in-Err.fault c.in-Err.ensures.not_made c.in-Err.ensures.not_ours (told clean))
-
-pub returns-in-Err-told-clause-cause : goal.returns-in-Err-told-clause-cause
-returns-in-Err-told-clause-cause g c clean =
-    let late = (c.in-Some.ensures.clean clean).0 in
-    let before : HasCleanDisk (file_state c.in-Ok.conn) = omega (arith, c.migrate_on-told.ensures.survives.clean, late) in
-    refused_opened old_schema_number (image_at g.S.Start) (file_state c.in-Ok.conn).now c.in-Err-told.fault (c.in-Ok.ensures.reads before) (c.in-Err-told.ensures.told late)
-
-pub returns-in-Err-clause-survives_still : goal.returns-in-Err-clause-survives_still
-returns-in-Err-clause-survives_still g c refused = IfSome_then c.in-Err.left c.in-Err.ensures.told (λ rest told clean image may d is held. absurd (refused (told clean d.trees held)))
-
-pub returns-in-Err-told-clause-survives_still : goal.returns-in-Err-told-clause-survives_still
-returns-in-Err-told-clause-survives_still g c refused clean image may d is held =
-    let late = (c.in-Some.ensures.clean clean).0 in
-    let up = (c.in-Some.ensures.clean clean).1 in
-    let before : HasCleanDisk (file_state c.in-Ok.conn) = omega (arith, c.migrate_on-told.ensures.survives.clean, late) in
-    let opens = c.in-Ok.ensures.opens before in
-    let sound = (opens.1 opens.0.is_open).0 in
-    let same : (file_state c.in-Ok.conn).now ≡ d = same_database (file_state c.in-Ok.conn).now d sound is (c.in-Ok.ensures.found before d.trees held) in
-    let unharmed = c.in-Err-told.ensures.unharmed late (old_if_before (file_state c.in-Ok.conn) sound (c.in-Ok.ensures.ordered_before before)) up in
-    held_as image _ d (unharmed.2 ∙ sym opens.0.clean ∙ same) (c.in-Some.ensures.left clean image may)
-
-pub returns-in-Ok-told-clause-survives : goal.returns-in-Ok-told-clause-survives
-returns-in-Ok-told-clause-survives g c clean image may k b holds =
-    let late = (c.in-Some.ensures.clean clean).0 in
-    let before : HasCleanDisk (file_state c.in-Ok.conn) = omega (arith, c.migrate_on-told.ensures.survives.clean, late) in
-    let opens = c.in-Ok.ensures.opens before in
-    let stands = found_before (image_at g.S.Start) (file_state c.in-Ok.conn) k b (opens.1 opens.0.is_open).0 (c.in-Ok.ensures.found before) holds in
-    committed_held image (file_state c.migrate_on-told.new.conn) k b (c.in-Ok-told.ensures.migrated late k b stands) (c.in-Ok-told.ensures.committed late) (c.in-Some.ensures.left clean image may)
-
-pub returns-in-Ok-told-clause-opens : goal.returns-in-Ok-told-clause-opens
-returns-in-Ok-told-clause-opens g c clean =
-    let late = (c.in-Some.ensures.clean clean).0 in
-    let before : HasCleanDisk (file_state c.in-Ok.conn) = omega (arith, c.migrate_on-told.ensures.survives.clean, late) in
-    let found = c.in-Ok.ensures.reads before in
-    let has = old_if_before (file_state c.in-Ok.conn) found.sound (c.in-Ok.ensures.ordered_before before) c.in-Ok-told.ensures.before in
-    openable_held _ (file_state c.migrate_on-told.new.conn) (c.in-Ok-told.ensures.opens late has) (c.in-Ok-told.ensures.committed late) (c.in-Some.ensures.held clean)
-
-pub returns-in-Ok-told-clause-opens_still : goal.returns-in-Ok-told-clause-opens_still
-returns-in-Ok-told-clause-opens_still g c clean image may =
-    let late = (c.in-Some.ensures.clean clean).0 in
-    let before : HasCleanDisk (file_state c.in-Ok.conn) = omega (arith, c.migrate_on-told.ensures.survives.clean, late) in
-    let found = c.in-Ok.ensures.reads before in
-    let has = old_if_before (file_state c.in-Ok.conn) found.sound (c.in-Ok.ensures.ordered_before before) c.in-Ok-told.ensures.before in
-    openable_held image (file_state c.migrate_on-told.new.conn) (c.in-Ok-told.ensures.opens late has) (c.in-Ok-told.ensures.committed late) (c.in-Some.ensures.left clean image may)
+pub returns-in-Err-told-clause-refused : goal.returns-in-Err-told-clause-refused
+returns-in-Err-told-clause-refused g c =
+    let held = image_at g.S.Start in
+    let files = c.in-Some.files in
+    let refused = c.in-Err-told.ensures in
+    let fault = c.in-Err-told.fault in
+    let old = file_state c.in-Ok.conn in
+    all_left migrates held fault (files_alone _ files) refused.not_made (λ clean.
+    let closed = c.in-Some.ensures.closed clean in
+    let before : HasCleanDisk old = omega (arith, c.migrate_on-told.ensures.survives.clean, closed.clean) in
+    let connected = c.in-Ok.ensures.connected before in
+    migrate_tells held fault files old (file_state c.migrate_on-told.new.conn) (refused.told closed.clean) connected.opens.0 connected.reads
+    (refused.unharmed closed.clean (old_if_before old connected.reads.sound connected.ordered_before)) closed)

@@ -1,31 +1,30 @@
-use Rattle.std.proofs.Common.{◌≡◌, ◌∙◌, arith, ap, sym, subst}
-use Rattle.sqlite_wal.specs.Files.{image_at}
+use Rattle.std.proofs.Common.{◌∙◌, None, ap, arith}
 use Rattle.sqlite.specs.Effect.{Database}
-use Rattle.sqlite.specs.State.{HasCleanDisk}
 use Rattle.sqlite.specs.Files.{file_state, HoldsDatabase}
+use Rattle.sqlite.specs.State.{HasCleanDisk}
 use Rattle.sqlite.specs.Tree.{Trees}
-use Rattle.fr_store.specs.Store.{Forbids}
-use Rattle.fr_store.proofs.FileLemmas.{forbidden_opened, found_opened, held_as, same_database, may_forbid}
+use Rattle.sqlite_wal.specs.Files.{image_at}
+use Rattle.fr_store.specs.Refused.{files_alone, makes}
+use Rattle.fr_store.proofs.FileLemmas.{found_opened}
+use Rattle.fr_store.proofs.RefusedLemmas.{all_left, make_faults, make_lacks, make_tells}
 use Rattle.fr_store.proofs.paths.Store+FileStore+FileFrom+S.create_at.Goals as goal
 
-pub returns-in-Some-clause-told : goal.returns-in-Some-clause-told
-returns-in-Some-clause-told g c clean d is held =
-    let late = (c.in-Some.ensures.clean clean).0 in
-    let before : HasCleanDisk (file_state c.in-Ok.conn) = omega (arith, c.in-Err-create_on.ensures.survives_still.clean, late) in
+pub returns-in-Ok-create_on-clause-made : goal.returns-in-Ok-create_on-clause-made
+returns-in-Ok-create_on-clause-made g c clean =
+    let made = c.in-Ok-create_on.ensures in
+    let old = file_state c.in-Ok.conn in
+    let before : HasCleanDisk old = omega (arith, made.survives.clean, clean) in
     let opens = c.in-Ok.ensures.opened before in
-    let trees = ap (λ (e : Database). e.trees) opens.0.clean ∙ (c.in-Ok.ensures.found before).holds d.trees held in
-    let same : (file_state c.in-Ok.conn).now ≡ d = same_database (file_state c.in-Ok.conn).now d (opens.1 opens.0.is_open).0 is trees in
-    may_forbid d.schema c.in-Err-create_on.fault (subst (λ (e : Database). Forbids e.schema c.in-Err-create_on.fault) same c.in-Err-create_on.ensures.told)
-
-pub returns-in-Some-clause-untouched : goal.returns-in-Some-clause-untouched
-returns-in-Some-clause-untouched g c refused clean d is held =
-    let late = (c.in-Some.ensures.clean clean).0 in
-    let up = (c.in-Some.ensures.clean clean).1 in
-    let before : HasCleanDisk (file_state c.in-Ok.conn) = omega (arith, c.in-Err-create_on.ensures.survives_still.clean, late) in
-    let opens = c.in-Ok.ensures.opened before in
-    let trees = ap (λ (e : Database). e.trees) opens.0.clean ∙ (c.in-Ok.ensures.found before).holds d.trees held in
-    let same : (file_state c.in-Ok.conn).now ≡ d = same_database (file_state c.in-Ok.conn).now d (opens.1 opens.0.is_open).0 is trees in
-    held_as _ _ d ((c.in-Err-create_on.ensures.unharmed late up).2 ∙ sym opens.0.clean ∙ same) (c.in-Some.ensures.held clean)
+    let finds = c.in-Ok.ensures.found before in
+    let found = found_opened (image_at g.S.Start) old opens.0.is_open opens.1 old.committed.trees (ap (λ (e : Database). e.trees) opens.0.clean) finds.reads finds.holds in
+    record {
+      made = made.made clean;
+      stands = made.stands clean;
+      committed = made.committed clean;
+      is_open = made.open clean;
+      durable = made.durable clean;
+      bare = (old.now, found, made.bare);
+    }
 
 pub returns-in-Ok-create_on-clause-survives : goal.returns-in-Ok-create_on-clause-survives
 returns-in-Ok-create_on-clause-survives g c =
@@ -33,29 +32,23 @@ returns-in-Ok-create_on-clause-survives g c =
     ap (λ (d : Database). d.trees) (c.in-Ok.ensures.opened clean).0.clean ∙ (c.in-Ok.ensures.found clean).holds t h in
     (c.in-Ok.conn, record { opens = c.in-Ok.ensures.opened; found = found }, c.in-Ok-create_on.ensures.survives)
 
-pub returns-in-Some-clause-cause : goal.returns-in-Some-clause-cause
-returns-in-Some-clause-cause g c clean =
-    let late = (c.in-Some.ensures.clean clean).0 in
-    let before : HasCleanDisk (file_state c.in-Ok.conn) = omega (arith, c.in-Err-create_on.ensures.survives_still.clean, late) in
+pub returns-in-Err-clause-refused : goal.returns-in-Err-clause-refused
+returns-in-Err-clause-refused g c = make_lacks (image_at g.S.Start) c.in-Err.left
+
+pub returns-in-None-clause-refused : goal.returns-in-None-clause-refused
+returns-in-None-clause-refused g c = make_lacks (image_at g.S.Start) None
+
+pub returns-in-Some-clause-refused : goal.returns-in-Some-clause-refused
+returns-in-Some-clause-refused g c =
+    let held = image_at g.S.Start in
+    let files = c.in-Some.files in
+    let refused = c.in-Err-create_on.ensures in
+    let fault = c.in-Err-create_on.fault in
+    let old = file_state c.in-Ok.conn in
+    all_left makes held fault (files_alone _ files) (make_faults old.now fault refused.told) (λ clean.
+    let closed = c.in-Some.ensures.closed clean in
+    let before : HasCleanDisk old = omega (arith, refused.survives_still.clean, closed.clean) in
     let opens = c.in-Ok.ensures.opened before in
     let finds = c.in-Ok.ensures.found before in
-    let found = found_opened (image_at g.S.Start) (file_state c.in-Ok.conn) opens.0.is_open opens.1 (file_state c.in-Ok.conn).committed.trees (ap (λ (e : Database). e.trees) opens.0.clean) finds.reads finds.holds in
-    forbidden_opened (image_at g.S.Start) (file_state c.in-Ok.conn).now c.in-Err-create_on.fault found c.in-Err-create_on.ensures.told
-
-pub returns-in-Some-clause-survives_still : goal.returns-in-Some-clause-survives_still
-returns-in-Some-clause-survives_still g c refused clean image may d is held =
-    let late = (c.in-Some.ensures.clean clean).0 in
-    let up = (c.in-Some.ensures.clean clean).1 in
-    let before : HasCleanDisk (file_state c.in-Ok.conn) = omega (arith, c.in-Err-create_on.ensures.survives_still.clean, late) in
-    let opens = c.in-Ok.ensures.opened before in
-    let trees = ap (λ (e : Database). e.trees) opens.0.clean ∙ (c.in-Ok.ensures.found before).holds d.trees held in
-    let same : (file_state c.in-Ok.conn).now ≡ d = same_database (file_state c.in-Ok.conn).now d (opens.1 opens.0.is_open).0 is trees in
-    held_as image _ d ((c.in-Err-create_on.ensures.unharmed late up).2 ∙ sym opens.0.clean ∙ same) (c.in-Some.ensures.left clean image may)
-
-pub returns-in-Ok-create_on-clause-bare : goal.returns-in-Ok-create_on-clause-bare
-returns-in-Ok-create_on-clause-bare g c clean =
-    let before : HasCleanDisk (file_state c.in-Ok.conn) = omega (arith, c.in-Ok-create_on.ensures.survives.clean, clean) in
-    let opens = c.in-Ok.ensures.opened before in
-    let finds = c.in-Ok.ensures.found before in
-    let found = found_opened (image_at g.S.Start) (file_state c.in-Ok.conn) opens.0.is_open opens.1 (file_state c.in-Ok.conn).committed.trees (ap (λ (e : Database). e.trees) opens.0.clean) finds.reads finds.holds in
-    ((file_state c.in-Ok.conn).now, found, c.in-Ok-create_on.ensures.bare)
+    let found = found_opened held old opens.0.is_open opens.1 old.committed.trees (ap (λ (e : Database). e.trees) opens.0.clean) finds.reads finds.holds in
+    make_tells held fault files old (file_state c.in-Err-create_on.conn) refused.told opens.0 found (refused.unharmed closed.clean) closed)

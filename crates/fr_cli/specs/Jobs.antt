@@ -1,0 +1,83 @@
+-- Jobs: what each job does. With which status it ends, what it reads, prints and tells, and what is left of its file.
+use Rattle.std.specs.Prelude.{◌≡◌, ℕ, List, IfErr, Option, Result, ⊤}
+use Rattle.std.specs.Global.{Vec}
+use Rattle.std.specs.Io.KnownBytes.{Keeps}
+use Rattle.fr_picture.specs.Pages.{IsPage}
+use Rattle.sqlite.specs.declared.file.Leftover.{Leftover}
+use Rattle.sqlite_disk.specs.declared.Disk.{Ghosts}
+use Rattle.sqlite_wal.specs.Recovery.{Image}
+use Rattle.fr_cli.specs.Asking.{IsForReader, query_of}
+use Rattle.fr_cli.specs.Checking.{IsCheckedFile}
+use Rattle.fr_cli.specs.Endings.{IsTold, Tells, status_of}
+use Rattle.fr_cli.specs.Explaining.{IsExplained}
+use Rattle.fr_cli.specs.Faults.{IsNotDelivered, IsNotMade, IsNotMigrated, IsNotReported}
+use Rattle.fr_cli.specs.Incoming.{IsAsked}
+use Rattle.fr_cli.specs.Performing.{Says, of_script}
+use Rattle.fr_cli.specs.Picturing.{plans_for}
+use Rattle.fr_cli.specs.Queries.{named}
+use Rattle.fr_cli.specs.Reading.{PrintsRead}
+use Rattle.fr_cli.specs.RegisterFiles.{IsAnswerOfFile, IsDeliveryToFile, IsMade, IsMoved, IsReadOfFile}
+use Rattle.fr_cli.specs.Runs.{IsRunOf}
+use Rattle.fr_cli.specs.Serving.{IsAnnounced, IsServed}
+use Rattle.fr_cli.specs.Visits.{Comings}
+use Rattle.fr_cli.specs.declared.failure.Failure.{Failure}
+use Rattle.fr_cli.specs.declared.fault.Fault.{Fault}
+use Rattle.fr_cli.specs.declared.script_fault.ScriptFault.{ScriptFault}
+use Rattle.fr_cli.specs.declared.words.Job.{Job}
+use Rattle.fr_cli.specs.declared.words.Job.TheVariants as job
+
+-- a stream before and after a job: what it has still to give, or what it was given
+pub record Stream : Type 0 where
+  pub old : Option (List ℕ)
+  pub new : Option (List ℕ)
+
+-- standard input, output and error
+pub record Streams : Type 0 where
+  pub input : Stream
+  pub out : Stream
+  pub err : Stream
+
+-- A job ended so: the status says whether it was done, and standard error has the word of the fault where it was not.
+abbrev pub Ends : Result ⊤ Fault → Streams → ℕ → Type 0
+Ends done s status = (status ≡ status_of done) × Tells s.err.old s.err.new done
+
+-- A job that gives a text ended so: the text is printed, or why there is none is told.
+abbrev pub Shows : Result (Vec ℕ) Failure → Streams → ℕ → Type 0
+Shows done s status = IsTold done s.out.old s.out.new s.err.old s.err.new status
+
+-- Of a job's file, what it held and what is left of it; and the connections that came in.
+module _ {D : Type 0} {g : Ghosts D} (held : Image) (rest : Option (Leftover D g)) (comings : Comings) where
+  -- a register file was made
+  abbrev pub Creates : Streams → ℕ → Type 0
+  Creates s status = (done : Result ⊤ Fault) × IfErr done (IsNotMade held rest) × IsMade held rest done
+      × Keeps s.out.old s.out.new × Ends done s status
+
+  -- a register file was brought to this schema
+  abbrev pub Migrates : Streams → ℕ → Type 0
+  Migrates s status = (done : Result ⊤ Fault) × IfErr done (IsNotMigrated held rest) × IsMoved held rest done
+      × Keeps s.out.old s.out.new × Ends done s status
+
+  -- connections were served
+  abbrev pub Serves : ℕ → ℕ → Streams → ℕ → Type 0
+  Serves port count s status = (done : Result ⊤ Fault) × (told : Option (List ℕ)) × (status ≡ status_of done)
+      × IsAnnounced port s.out.old s.out.new done
+      × IsServed held rest port count comings.none (comings.at port) s.out.old s.out.new s.err.old told done
+      × Tells told s.err.new done
+
+  -- What the job does.
+  abbrev pub IsPerformed : Job → Streams → ℕ → Type 0
+  IsPerformed job.Run s status = (done : Result ⊤ ScriptFault) × IsRunOf s.input.old s.input.new s.out.old s.out.new done
+      × Ends (of_script done) s status
+  IsPerformed (job.Create db config) s status = Creates s status
+  IsPerformed (job.Migrate db) s status = Migrates s status
+  IsPerformed (job.Serve db port count seconds) s status = Serves port count s status
+  IsPerformed (job.Ask db) s status = (done : Result ⊤ Fault) × IsAsked held rest s.input.old s.input.new s.out.old s.out.new done
+      × Ends done s status
+  IsPerformed (job.Report db query) s status = (done : Result (Vec ℕ) Failure) × Shows done s status
+      × Says (IsNotReported held rest) (IsForReader (IsAnswerOfFile held rest (query_of query))) done
+  IsPerformed (job.Picture db variant supplier) s status = (done : Result (Vec ℕ) Failure) × Shows done s status
+      × PrintsRead (IsNotReported held rest) (IsReadOfFile held rest (plans_for (named supplier) variant.now)) IsPage done
+  IsPerformed (job.Deliver db delivery) s status = (body : List ℕ) × (done : Result (Vec ℕ) Failure) × Shows done s status
+      × Says (IsNotDelivered held rest delivery.key.now) (IsDeliveryToFile held rest delivery s.input.old s.input.new body) done
+  IsPerformed (job.Check file) s status = (done : Result (Vec ℕ) Failure) × Shows done s status × IsCheckedFile file done
+  IsPerformed (job.Explain word) s status = (done : Result (Vec ℕ) Failure) × Shows done s status × IsExplained word done

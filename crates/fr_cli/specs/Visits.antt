@@ -1,0 +1,54 @@
+-- Visits: what is read of a connection and written to it, and how it ended. When connections come in at a listener one after
+-- another, each is closed before the next one comes in, and these are what happened on them.
+use Rattle.std.specs.Prelude.{◌≡◌, ◌⊎◌, ℕ, List, [], ◌∷◌, Result}
+use Rattle.std.specs.Io.KnownBytes.{Appends, Consumes}
+use Rattle.std.specs.declared.io.Read as Read
+use Rattle.std.specs.declared.io.Write as Write
+use Rattle.fr_http.specs.Exchanges.{Exchange}
+use Rattle.fr_http.specs.declared.fault.LinkFault.{LinkFault}
+use Rattle.fr_http.specs.declared.serve.Served.{Served}
+use Rattle.fr_cli.specs.declared.listener.Listener as Listener
+
+-- What happened on a connection, as far as its ends tell: the bytes that were read of it, those that were written to it, and how it ended.
+pub record Visit : Type 0 where
+  pub read : List ℕ
+  pub written : List ℕ
+  pub done : Result Served LinkFault
+
+-- what the ends of the connection tell of an exchange
+abbrev pub visit_of : Exchange → Visit
+visit_of x = record { read = x.read; written = x.written; done = x.done }
+
+module _ {L R W : Type 0} (listener : Listener.Ghosts L R W) (reader : Read.Ghosts R) (writer : Write.Ghosts W) where
+  -- A connection came in. Exactly these bytes were read of it, and exactly these were written to it, and then it was closed.
+  pub record IsVisited (old : L) (visit : Visit) (new : L) : Type 0 where
+    pub input : R
+    pub output : W
+    pub between : L
+    pub input_left : R
+    pub output_made : W
+    pub accepted : listener.accepts old input output between
+    pub consumed : Consumes (reader.remaining input) (reader.remaining input_left) visit.read
+    pub appended : Appends (writer.contents output) (writer.contents output_made) visit.written
+    pub closed : listener.closes between input_left output_made new
+
+  -- So connections came in, one after another, and no other.
+  abbrev pub AreVisited : L → List Visit → L → Type 0
+  AreVisited old [] new = new ≡ old
+  AreVisited old (visit ∷ visits) new = (next : L) × IsVisited old visit next × AreVisited next visits new
+
+  -- It listened at the port, and then so connections came in; or none came in, and it is as it was.
+  abbrev pub AreVisitedAt : L → ℕ → List Visit → L → Type 0
+  AreVisitedAt old port visits new = ((visits ≡ []) × (new ≡ old)) ⊎ ((first : L) × listener.listens old port first × AreVisited first visits new)
+
+-- The connections that came in at a listener while a job was done: none, and it is as it was; or these, at a port.
+pub record Comings : Type 1 where
+  pub none : Type 0
+  pub at : ℕ → List Visit → Type 0
+
+-- those that came in while one listener became another
+abbrev pub comings : {L R W : Type 0} → Listener.Ghosts L R W → Read.Ghosts R → Write.Ghosts W → L → L → Comings
+comings listener reader writer old new = record {
+  none = new ≡ old;
+  at = λ port visits. AreVisitedAt listener reader writer old port visits new;
+}

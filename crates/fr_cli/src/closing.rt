@@ -1,0 +1,29 @@
+//! What is told where the register file of a job fails to close.
+ghost use Rattle.std.specs.Prelude.{◌≡◌, ◌≢◌, ◌⊎◌};
+ghost use Rattle.std.specs.Io.KnownBytes.{Keeps};
+ghost use Rattle.fr_cli.specs.Endings.{AppendsFront, FailedToClose, word_line};
+ghost use Rattle.fr_cli.specs.Faults.{store_word};
+
+use crate::fault::Fault;
+use crate::printing::end;
+use fr_desks::Left;
+use fr_store::StoreFault;
+use fr_text::Output;
+use sqlite::{Leftover, Start};
+use std::io::Write;
+
+/// The status that the process ends with, after a job whose status this is, and that left this of its register file. Where
+/// the job was done, and the file failed to close, it is 1, and that is told; what the job printed stands.
+pub fn end_closed<S: Start, E: Write>(status: u8, left: &Left<S>, err: &mut E) -> u8
+    ensures failed { status ≡ 0 → FailedToClose left.now → (result ≡ 1)
+        × AppendsFront (E.contents err.old) (E.contents err.new) (word_line (store_word StoreFault.Unavailable)) }
+    ensures closed { (status ≢ 0) ⊎ (¬ FailedToClose left.now) → (result ≡ status) × Keeps (E.contents err.old) (E.contents err.new) }
+{
+    match left {
+        Some(Leftover::Store(_)) if status == 0 => {
+            let fault = Fault::Register(StoreFault::Unavailable);
+            end(Err(fault), &mut Output::new(err))
+        }
+        _ => status,
+    }
+}

@@ -1,0 +1,43 @@
+//! A port at which the connections of a server come in.
+use fr_http::{LinkFault, Served};
+use std::io::{self, Read, Write};
+
+/// Connections come in at it, one after another. Each has two ends: one gives what comes in, the other takes what goes out.
+/// What a server is proved to do, it is proved to do at each listener, whatever may come in at it.
+pub trait Listener {
+    ghost use Rattle.std.specs.Prelude.{◌≡◌, ℕ, IfOk, OnOk, OnErr};
+
+    /// Gives the bytes that come in.
+    type Reader: Read + Drop;
+
+    /// Takes the bytes that go out.
+    type Writer: Write + Drop;
+
+    /// So it may come to listen at a port.
+    ghost listens: { Self → ℕ → Self → Type 0 };
+
+    /// So a connection with these ends may come in.
+    ghost accepts: { Self → Self.Reader → Self.Writer → Self → Type 0 };
+
+    /// So the connection may end whose ends these are now.
+    ghost closes: { Self → Self.Reader → Self.Writer → Self → Type 0 };
+
+    /// Listens at the port.
+    fn listen(&mut self, port: u16) -> io::Result<()>
+        ensures ok { OnOk result (listens self.old port self.new) }
+        ensures err { OnErr result (self.new ≡ self.old) };
+
+    /// The next connection, which lasts so many seconds at most.
+    fn accept(&mut self, seconds: u32) -> io::Result<(Self::Reader, Self::Writer)>
+        ensures ok { IfOk result (λ ends. accepts self.old ends.0 ends.1 self.new) }
+        ensures err { OnErr result (self.new ≡ self.old) };
+
+    /// Ends the connection that was served so. What its client sent behind its request may be read before.
+    fn close(
+        &mut self,
+        reader: Self::Reader,
+        writer: Self::Writer,
+        done: &Result<Served, LinkFault>,
+    )
+        ensures { closes self.old reader writer self.new };
+}

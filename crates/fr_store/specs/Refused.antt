@@ -1,0 +1,95 @@
+-- Refused: what a call says that refuses files, in which it was to open, to migrate or to make a register: which faults
+-- it tells, for what cause, and that it leaves what the files held. The same of files in which no database was opened.
+use Rattle.std.specs.Prelude.{◌≡◌, ◌≢◌, ◌⊎◌, ℤ, Option, Some, None, IfSome, false}
+use Rattle.sqlite.specs.Effect.{Database, IsDatabase}
+use Rattle.sqlite.specs.Files.{HoldsDatabase, IsCleanLeft}
+use Rattle.sqlite.specs.Tree.{Trees}
+use Rattle.sqlite.specs.declared.file.Leftover.{Leftover}
+use Rattle.sqlite.specs.declared.file.Leftover.TheVariants as left
+use Rattle.sqlite_disk.specs.declared.Disk.{Ghosts}
+use Rattle.sqlite_disk.specs.declared.Files.{Files}
+use Rattle.sqlite_wal.specs.Recovery.{Image}
+use Rattle.fr_base.specs.Book.{Book}
+use Rattle.fr_base.specs.Cluster.{Cluster, ClusterFile}
+use Rattle.fr_tables.specs.Asking.{old_schema_number, our_schema_number}
+use Rattle.fr_store.specs.Before.{HoldsBookBefore}
+use Rattle.fr_store.specs.Opening.{ForbidsFiles, Refuses, RefusesFiles}
+use Rattle.fr_store.specs.Store.{MayForbid, has_table}
+use Rattle.fr_store.specs.StoreFiles.{HoldsRegister, IsHeld, image_left, outcomes_left}
+use Rattle.fr_store.specs.declared.fault.StoreFault.{StoreFault}
+use Rattle.fr_store.specs.declared.fault.StoreFault.TheVariants.{NotEmpty, NotARegister, WrongSchema, Unavailable}
+
+-- ---- why files are refused
+
+-- What a call says of files that it refuses: which faults it tells of any; why it refuses a database that they hold; why it refuses them,
+-- whatever they hold; and which files it refuses as Unavailable alone.
+pub record Refusing : Type 1 where
+  pub tells : StoreFault → Type 0
+  pub database : Database → StoreFault → Type 0
+  pub files : Image → StoreFault → Type 0
+  pub takes : Image → Type 0
+
+-- a call that wants this number of the schema
+abbrev pub wanting : ℤ → (Image → Type 0) → Refusing
+wanting number takes = record { tells = λ fault. fault ≢ NotEmpty; database = Refuses number; files = RefusesFiles number; takes = takes }
+
+-- one that opens a register
+abbrev pub opens : Refusing
+opens = wanting our_schema_number (λ held. (c : ClusterFile) × (db : Trees) × HoldsRegister c held db)
+
+-- one that migrates a register of the schema before
+abbrev pub migrates : Refusing
+migrates = wanting old_schema_number (λ held. (c : Cluster) × (b : Book) × HoldsBookBefore c b held)
+
+-- one that makes a register, where none of its tables is
+abbrev pub makes : Refusing
+makes = record {
+  tells = λ fault. (fault ≡ NotEmpty) ⊎ (fault ≡ Unavailable);
+  database = λ db. MayForbid db.schema;
+  files = ForbidsFiles;
+  takes = λ held. (db : Database) × IsDatabase db × HoldsDatabase held db.trees × (has_table db.schema ≡ false);
+}
+
+-- ---- what is left of the files
+
+-- files that are given back are all that is left
+abbrev pub files_alone : {D : Type 0} (g : Ghosts D) → Files D → Leftover D g
+files_alone g files = left.Files files
+
+-- and nothing is left of such as are not
+abbrev pub given_back : {D : Type 0} (g : Ghosts D) → Option (Files D) → Option (Leftover D g)
+given_back g None = None
+given_back g (Some files) = Some (files_alone g files)
+
+-- a fault for which files are not given back
+abbrev pub IsUnavailable : StoreFault → Type 0
+IsUnavailable fault = fault ≡ Unavailable
+
+-- a fault for which no file need be there
+abbrev pub NeedsNone : StoreFault → Type 0
+NeedsNone fault = IsUnavailable fault ⊎ (fault ≡ NotARegister)
+
+-- ---- a refusal
+
+module _ {D : Type 0} {g : Ghosts D} where
+  -- What a fault says of files that held this, where nobody else wrote to those that are left. But for Unavailable they still hold the
+  -- database that they held, and so does whatever a crash leaves of them.
+  pub record IsToldBy (call : Refusing) (held : Image) (fault : StoreFault) (left : Leftover D g) : Type 0 where
+    pub told : (d : Database) → IsDatabase d → HoldsDatabase held d.trees → call.database d fault
+    pub cause : call.files held fault
+    pub known : call.takes held → fault ≡ Unavailable
+    pub untouched : fault ≢ Unavailable → (d : Database) → IsDatabase d → HoldsDatabase held d.trees → IsHeld (image_left left) d
+    pub survives : fault ≢ Unavailable → (image : Image) → outcomes_left left image → (d : Database) → IsDatabase d → HoldsDatabase held d.trees → IsHeld image d
+
+  -- A call refuses files that held this, for a fault that it tells. Where nothing is left of them the fault is such a one.
+  pub record IsRefusedBy (call : Refusing) (Without : StoreFault → Type 0) (held : Image) (fault : StoreFault) (rest : Option (Leftover D g)) : Type 0 where
+    pub tells : call.tells fault
+    pub left : IfSome rest (λ left. IsCleanLeft left → IsToldBy call held fault left)
+    pub lost : rest ≡ None → Without fault
+
+  -- No database is opened in files that held this. Where they held one it is for want of memory or a fault.
+  pub record IsUnopened (held : Image) (fault : StoreFault) (rest : Option (Leftover D g)) : Type 0 where
+    pub told : IfSome rest (λ left. IsCleanLeft left → (db : Trees) → HoldsDatabase held db → fault ≡ Unavailable)
+    pub not_made : fault ≢ NotEmpty
+    pub not_ours : fault ≢ WrongSchema
+    pub lost : rest ≡ None → fault ≡ Unavailable

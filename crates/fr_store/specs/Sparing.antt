@@ -1,0 +1,28 @@
+-- Sparing: an edit that changes no frame leaves all rows of frames. So a variant that is opened from another gets none.
+use Rattle.std.specs.Prelude.{◌≡◌, Bool, true, false, List, Result, OnOk, IsTrue, All}
+use Rattle.sqlite.specs.State.{State, HasCleanDisk}
+use Rattle.fr_base.specs.declared.request.Change.TheVariants.{Frame}
+use Rattle.fr_tables.specs.Changes.{tables_of}
+use Rattle.fr_tables.specs.Tables.{Tables, HasTables}
+use Rattle.fr_world.specs.declared.edit.Edit.{Edit}
+use Rattle.fr_world.specs.declared.edit.Edit.TheVariants.{Rows}
+
+-- whether the edit changes a frame
+abbrev pub changes_frame : Edit → Bool
+changes_frame (Rows supplier variant (Frame frame change)) = true
+changes_frame _ = false
+
+-- none of them does
+abbrev pub ChangeNoFrame : List Edit → Type 0
+ChangeNoFrame = All (λ edit. changes_frame edit ≡ false)
+
+-- the rows of frames, those of their placements and signals, and those of dropped frames are the ones that were there
+pub record HasSameFrames (old new : Tables) : Type 0 where
+  pub frames : new.frames ≡ old.frames
+  pub placements : new.placements ≡ old.placements
+  pub signals : new.signals ≡ old.signals
+  pub dropped : new.dropped ≡ old.dropped
+
+-- Statements inside a transaction leave them, or one fails.
+abbrev pub SparesFrames : {X E : Type 0} → State → State → Result X E → Type 0
+SparesFrames old new r = HasCleanDisk new → IsTrue old.in_transaction → HasTables old.now → OnOk r (HasSameFrames (tables_of old) (tables_of new))
