@@ -164,6 +164,8 @@ WRONG = [
     (b"payload_words = 1\n", b"payload_words = 128\n", b"BadPayload: payload_words is 128, it may be 0 to 127"),
     (b"payload_words = 1\n", b"payload_words = 1\npayload = 1\n", b'BadField: "payload" is no key of a cluster file'),
     (b"payload_words = 1\n", b'payload_words = 1\n"a\\nb" = 1\n', b'BadField: "a?b" is no key of a cluster file'),
+    (b"payload_words = 1\n", b'payload_words = "\\u001b[2J\\u007f\\u009b1\\r"\n', b'BadField: payload_words is the text "?[2J??1?", it may be 0 to 127'),
+    (b"payload_words = 1\n", b'payload_words = 1\n"\\u001b[2J" = 1\n', b'BadField: "?[2J" is no key of a cluster file'),
     (b"payload_words = 1\n", b"payload_words = 1\npayload_words = 1\n", b"BadToml: line 9: duplicate key"),
     (b"payload_words = 1\n", b"payload_words 1\n", b"BadToml: line 8: key with no value, expected `=`"),
     (b"payload_words = 1\n", b"payload_words = 1 # \xff\n", b"BadToml: line 8: invalid UTF-8"),
@@ -189,9 +191,11 @@ WRONG = [
         b"BadField: suppliers is a text, it may be a table from each supplier's name to its key",
     ),
     (b's1 = "supplier01"', b"s1 = 12345678", b"BadField: suppliers: the key of s1 is a whole number, it may be a text"),
+    (b's1 = "supplier01"', b'"s\\u001b[2J" = 12345678', b"BadField: suppliers: the key of s?[2J is a whole number, it may be a text"),
     (b's1 = "supplier01"', b's1 = "supplier-1"', b"BadKey: the key of s1 is not 8 to 64 ASCII letters and digits"),
     (b's1 = "supplier01"', b's1 = "supplier02"', b"KeyTwice: s1 and s2 have the same key"),
     (b's1 = "supplier01"', b's-1 = "supplier01"', b'BadName: the supplier\'s name "s-1" is not 1 to 32 ASCII letters, digits and underscores, a letter first'),
+    (b's1 = "supplier01"', b'"s\\u001b[2J" = "supplier01"', b'BadName: the supplier\'s name "s?[2J" is not 1 to 32 ASCII letters, digits and underscores, a letter first'),
     (b"[suppliers]\n", b"[suppliers]\n" + b"".join(b't%d = "another0%d"\n' % (n, n) for n in range(63)), b"Limit: there are 65 suppliers, at most 64 may be there"),
 ]
 
@@ -226,6 +230,10 @@ class Checking(RegisterCase):
 LINK_FAULTS = {"Truncated", "ReadFailed", "TooManyReads", "WriteFailed", "NoMemory"}
 
 
+# What explains one refusal and no other that comes for the same requests.
+TELLING = {"TooDeep": "depth", "OutOfPayload": "`payload_words`", "BadSignal": "`little`", "BadKey": "8 to 64"}
+
+
 class Explaining(RegisterCase):
     """`explain` tells of each refusal and each fault, and of nothing else."""
 
@@ -247,6 +255,18 @@ class Explaining(RegisterCase):
             self.see(f"lines of {word} that fit a screen", [], [line for line in text if len(line) > 120])
         for number, name in formats.numbered_refusals():
             self.see(f"the number of {name}", True, any(line.startswith(f"{name}: refusal {number}") for line in self.lines))
+
+    def test_requests(self):
+        """What says for which requests a refusal comes names all that can meet it, or some of those where it speaks of each."""
+        told, by_number = [], formats.refused_requests()
+        for number, name in formats.numbered_refusals():
+            help = ran(["explain", name], self.folder)[1].decode().partition("\n")[2].replace("\n", " ")
+            self.see(f"the explanation of {name} is its own", True, TELLING.get(name, "") in help)
+            comes = " ".join(re.findall(r"[Ii]t comes for (.*?)[.:]", help))
+            if named := set(re.findall(r"`(\w+)`", comes)):
+                told.append(name)
+                self.see(f"requests for which {name} comes", by_number[number] & (named if "each" in comes else by_number[number]), named)
+        self.see("of refusals requests are told", True, len(told) > 15 or told)
 
     def test_names_that_begin_alike(self):
         for word, *begin in [

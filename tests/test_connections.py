@@ -1,10 +1,11 @@
 """What no contract says of the built program: where its server listens, how long a connection lasts, what it reads and writes in which order, and how
-many connections it serves; and what is read as a file, in how many reads.
+many connections it serves, and in how much memory; and what is read as a file, in how many reads.
 
 What is wanted was typed by hand from docs/HTTP.md and docs/FORMATS.md, or is made by their rules; none of it is the program's own
 output."""
 import fcntl
 import os
+import re
 import signal
 import socket
 import sqlite3
@@ -14,6 +15,7 @@ import time
 from contextlib import ExitStack, closing, contextmanager, suppress
 from functools import partial
 from itertools import product
+from pathlib import Path
 from threading import Event, Thread
 
 from tests.lib import made
@@ -30,9 +32,11 @@ LIMIT, SHORT, LATE = 10, 2, 7
 REST = 1
 # How many clients are each in the way of the next. A server that waits a second for each takes twice the time that is allowed.
 HOLDERS = 8
-CONNECTIONS = 2_000
+CONNECTIONS = 20_001
 FILE_READS = 100_000
 IMPORT_BYTES = 65_536
+# How many bytes the pages take at most that were used last, and as many those that were used before them, as docs/PROVED.md says.
+SHELF = 67_108_864
 
 ADD = b'{"do":"add_frame","variant":"v1","frame":"f7","node":"n1"}'
 FRAMES = head("GET", "/v1/variants/v1/frames", "supplier01"), text(b"FRAME f1 n1\nAT 0001 A 00 64\n")
@@ -124,6 +128,11 @@ def interrupt(server):
         server.send_signal(signal.SIGSTOP)
         time.sleep(0.05)
         server.send_signal(signal.SIGCONT)
+
+
+def memory_of(server):
+    """How many bytes of memory it has."""
+    return int(re.search(r"VmRSS:\s+(\d+) kB", Path(f"/proc/{server.pid}/status").read_text())[1]) * 1024
 
 
 def limited(seconds):
@@ -225,6 +234,42 @@ class Listening(PlannedCase):
         with self.served("--count", str(CONNECTIONS)) as (server, port):
             replies = {sent(port, NOTHING[0]) for _ in range(CONNECTIONS)}
             self.see(f"to each of {CONNECTIONS}", {NOTHING[1]}, replies)
+            self.ends(server)
+
+
+class Keeping(ConnectionCase):
+    """A server keeps pages of what it reads, on two shelves of 64 MiB at most, and its memory grows no more, however many it reads."""
+
+    waits, seconds = False, 30
+    keepers = [f"s{number}" for number in range(1, 4)]
+    cluster = made.cluster_file({**made.LARGE, "suppliers": made.suppliers(len(keepers))}).encode()
+
+    def setUp(self):
+        """As many variants as there may be, in each of which each supplier has as many frames and signals as it may."""
+        super().setUp()
+        self.create()
+        frames, signals = [f"f{number:03}" for number in range(made.FRAMES)], range(made.SIGNALS)
+        variants = [f"v{number}" for number in range(2, made.VARIANTS + 1)]
+        with closing(sqlite3.connect(self.folder / "car.db")) as file, file:
+            file.execute("INSERT INTO variants VALUES ('v1', NULL, 1, 1, 0)")
+            file.executemany("INSERT INTO variants VALUES (?, 'v1', 2, 0, 1)", [(name,) for name in variants])
+            file.executemany("INSERT INTO nodes VALUES (?, 'n1')", [(name,) for name in self.keepers])
+            file.executemany("INSERT INTO frames VALUES ('v1', ?, ?, 'n1')", product(self.keepers, frames))
+            rows = ((*frame, f"x{at}", 8 * at, 8) for frame in product(self.keepers, frames) for at in signals)
+            file.executemany("INSERT INTO signals VALUES ('v1', ?, ?, ?, ?, ?, 0)", rows)
+        self.variants = ["v1", *variants]
+
+    def test_memory(self):
+        wanted = text("".join(f"{8 * at:04} 08 little x{at} {name}\n" for name in self.keepers for at in range(made.SIGNALS)).encode())
+        with self.served("--count", str(2 + len(self.variants))) as (server, port):
+            self.see("before a page is read", NOTHING[1], sent(port, NOTHING[0]))
+            before = memory_of(server)
+            for variant in self.variants:
+                self.see(f"to one in {variant}", wanted, sent(port, head("GET", f"/v1/variants/{variant}/frames/f000/layout", "integrator1")))
+            grown = memory_of(server) - before
+            self.see("by how many bytes its memory has grown", True, 0 < grown <= 2 * SHELF or grown)
+            print(f"its memory has grown by {grown} bytes", flush=True)
+            self.see("behind that", NOTHING[1], sent(port, NOTHING[0]))
             self.ends(server)
 
 

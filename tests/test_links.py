@@ -1,14 +1,15 @@
 """The built program's server, given malformed requests, and connections that end or fail at each byte.
 
 A client sends a request up to each of its bytes, and then no more, or resets the connection. A small library that cc makes, loaded before the C library,
-has the server read or write one byte a call, and lets its reads or writes fail, be interrupted for ever or take nothing, behind each byte.
+has the server read or write one byte a call, and lets its reads or writes fail, be interrupted for ever or take nothing, behind each byte. It
+interrupts standard input and standard error, as often as it is told.
 
 What is wanted was typed by hand from docs/FORMATS.md and docs/HTTP.md."""
 import socket
 import struct
 
 from tests.lib.case import for_each
-from tests.lib.messages import CONTINUE, DONE, UNKNOWN, command, engine, head, json, post, refused, text
+from tests.lib.messages import CONTINUE, DONE, FIRST, FIRST_ANSWERS, UNKNOWN, command, engine, head, json, post, refused, text
 from tests.lib.preload import Links
 from tests.lib.program import SECONDS, ran
 from tests.lib.registers import RegisterCase
@@ -24,6 +25,10 @@ SCHEDULE = head("GET", "/v1/variants/v1/schedule", "supplier01")
 SCHEDULED = text(b"00 0001 A f1 n1\n")
 FRAMES = head("GET", "/v1/variants/v1/frames", "supplier01")
 ONE_FRAME, TWO_FRAMES = (text(b"FRAME f1 n1\nAT 0001 A 00 64\n" + more) for more in (b"", b"FRAME f7 n1\n"))
+# All lines of a script or of `ask` are read in so many reads at most.
+READS = 20_000_000
+TOO_MANY = b"slotplan: TooManyReads\n"
+ASKED, ANSWERED = b"supplier01 " + LINE + b"\n", DONE + b"\n"
 IMPORT, IMPORTED = post("/v1/variants/v1/imports/a", "supplier01", BODY), json(b'{"ok":"imported","rows":1}')
 
 
@@ -209,11 +214,28 @@ class LostReplies(FailingCase):
 
 
 class Interrupted(FailingCase):
-    """Input that is interrupted for ever ends a script with a word, and a line on standard error is tried 1,000 times more, whatever those before took."""
+    """Input is read in 20,000,000 reads, interrupted ones too, and no more; a line on standard error is tried 1,000 times more, whatever those before took."""
 
-    def test_input(self):
-        ended = ran(["run"], self.folder, more=self.links.ending(INPUT_WAY="EINTR"))
-        self.see("input that is interrupted for ever", (1, b"", b"slotplan: TooManyReads\n"), ended)
+    def interrupted(self, waits, words, given, wanted):
+        """How this ends whose input is interrupted so often before it gives anything."""
+        got = ran(words, self.folder, given, self.links.ending(INPUT_WAITS=waits))
+        self.see(f"{' '.join(words)} behind {waits} interruptions of its input", wanted, got)
+        self.see("it came to that", True, self.links.has_acted())
+
+    def test_script(self):
+        """One read gives it all, and one finds its end."""
+        self.interrupted(READS - 2, ["run"], FIRST, (0, FIRST_ANSWERS, b""))
+        self.interrupted(READS - 1, ["run"], FIRST, (1, b"", TOO_MANY))
+
+    def test_lines(self):
+        """What was read is answered, though the end of all is not found; and where there was no end of a line, nothing is."""
+        for waits, wanted in (READS - 2, (0, ANSWERED, b"")), (READS - 1, (1, ANSWERED, TOO_MANY)), (READS, (1, b"", TOO_MANY)):
+            self.anew()
+            self.interrupted(waits, ["ask", "car.db"], ASKED, wanted)
+
+    def test_key(self):
+        (self.folder / "signals.csv").write_bytes(BODY)
+        self.interrupted(1_000, ["import", "car.db", "-", "v1", "a", "signals.csv"], b"supplier01\n", (0, b'{"ok":"imported","rows":1}\n', b""))
 
     def test_words(self):
         """A line is told in three writes. With 334 interruptions before each, the last of the first line meets 333 of them, and the line

@@ -19,6 +19,7 @@ from tests.lib.mixtures import mixture
 from tests.lib.program import ran
 from tests.lib.registers import RegisterCase
 from tests.lib.server import sent
+from tests.lib.states import has_frames
 
 WORDS = ["migrate", "car.db"]
 IMPORT = ["import", "car.db", "supplier01", "v1", "a", "header.csv"]
@@ -165,7 +166,8 @@ class MigratingCase(RegisterCase):
         self.see("a register that is to be migrated stays", before, self.content())
 
     def is_schema_2(self, cluster, rows):
-        """The file has the tables of schema 2 in their order, the cluster with 64 cycles, and the rows that it had."""
+        """The file alone has the tables of schema 2 in their order, the cluster with 64 cycles, and the rows that it had."""
+        self.see("whether something lies in the log", False, has_frames(self.folder))
         self.sound()
         listed = self.rows("SELECT sql FROM sqlite_schema WHERE sql IS NOT NULL ORDER BY rowid")
         self.see("the schema in the file", schema2.statements(), [schema2.plain(text) for text, in listed])

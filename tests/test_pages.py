@@ -11,7 +11,7 @@ from tests.lib.program import TOP
 
 PAGES = [TOP / "README.md", *(path for place in ("docs", "tests", "bench", "examples") for path in sorted((TOP / place).rglob("*.md")))]
 # Pages on the code, in which a word of code is a word of the sources.
-ON_CODE = [TOP / f"docs/{name}.md" for name in ("PROVED", "DEFINITIONS", "DEVELOPING")]
+ON_CODE = [TOP / f"docs/{name}.md" for name in ("PROVED", "DEFINITIONS", "DEVELOPING", "DECISIONS")]
 PLACES = [*(f"crates/*/{folder}" for folder in ("src", "specs", "proofs", "must-fail", "wrong-bodies")), "tests", "bench", "examples"]
 # In DEVELOPING this is any file of a reader's own.
 OWN = "crates/NAME/wrong-bodies/WHAT_IT_DOES.edit"

@@ -1,10 +1,16 @@
 """Pictures of plans: each page, read without a browser and compared with the lines of the reports"""
+import re
+
 from tests.lib.case import Case
 from tests.lib.picture import Page, compare
 from tests.lib.plans import Register, examples, limits
 
 # How many bytes a page may have at the limits, by itself and for each supplier, lane, placement, frame and signal, as FORMATS says.
 PAGE, SUPPLIER, LANE, PLACEMENT, FRAME, SIGNAL = 25_000, 100, 220, 150, 170, 35
+
+# The suppliers' colours: eight that readers who are colour-blind can tell apart.
+COLOURS = {"#56B4E9", "#E69F00", "#009E73", "#F0E442", "#CC79A7", "#D55E00", "#0072B2", "#882255"}
+COLOUR = re.compile(r"^\.c(\d)\{fill:(#\w{6});background:(#\w{6});stroke:(#\w{6})\}$", re.M)
 
 
 def head_of(register, opened, supplier):
@@ -47,6 +53,19 @@ class PicturesOfExamples(PictureCase):
         self.agrees(f"{name} {variant} {supplier or ''}", compare(text, register.plan(variant, supplier)))
         told = " ".join(Page(text).text.split())
         self.see(f"{name} {variant} {supplier or ''}: the head", True, head_of(register, opened, supplier) in told)
+
+
+class ColoursOfSuppliers(PictureCase):
+    """The style gives the colours from c0 to c7 in turn, no two of them alike, and each is the same in a lane, in the legend and in a hatched cell."""
+
+    def test_colours(self):
+        _, cluster, requests = next(examples())
+        register = Register(self.folder, cluster, requests)
+        text = register.tell("picture", "car.db", next(register.done("open_variant"))["variant"])
+        given = COLOUR.findall(text)
+        self.see("the colours' numbers", list("01234567"), [number for number, *_ in given])
+        self.see("the colours", sorted(COLOURS), sorted(lane for _, lane, _, _ in given))
+        self.see("a colour that differs in the legend or in a hatched cell", [], [colour for colour in given if len(set(colour[1:])) > 1])
 
 
 class PicturesAtTheLimits(PictureCase):

@@ -13,7 +13,7 @@ from tests.lib.sql import TEXT, sources
 READ_WHOLE = {"register", "cluster", "cluster2", "suppliers", "variants"}
 # Registers of an earlier schema have its row; now none is added.
 LEFT_EMPTY = {"cluster"}
-# `asked` in asking.rt is given its text by its callers.
+# `ask_and_undo` in asking.rt is given its text by its callers.
 PASSED_ON = [("asking.rt", "sql")]
 
 CALL = re.compile(r"\.(?:execute|query)\w*\(\s*(\"|\w+)")

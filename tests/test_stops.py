@@ -415,7 +415,25 @@ def removed(files):
     (files / "car.db").unlink()
 
 
-@for_each([(change.__name__, change) for change in (moved_there, written_over, without_log, cut_log, cut_file, removed)])
+def replaced(name):
+    """Another file with the same bytes, written at the same time, is put in the file's place."""
+
+    def change(files):
+        shutil.copy2(files / name, files / "same")
+        os.rename(files / "same", files / name)
+
+    return change
+
+
+def rewritten(name):
+    """The file is written once more with the bytes that it has."""
+    return lambda files: (files / name).write_bytes((files / name).read_bytes())
+
+
+@for_each([
+    *((change.__name__, change) for change in (moved_there, written_over, without_log, cut_log, cut_file, removed)),
+    *((f"{change.__name__}_{name}", change(name)) for change in (replaced, rewritten) for name in ("car.db", "car.db-wal")),
+])
 class Changed(FileCase):
     """Where other programs than SQLite change a server's file, the next request is Unavailable, or refused by its own text, and the server ends so.
 

@@ -40,8 +40,8 @@ def exported(source):
 
 
 def masked(text):
-    """The text with letters in the place of what stands in quotes and comments, so that its brackets are those of the code."""
-    return QUOTED.sub(lambda found: re.sub(r"[^\n]", "x", found[0]), text)
+    """The text with letters in the place of what stands in quotes, and spaces in that of comments, so that its brackets are those of the code."""
+    return QUOTED.sub(lambda found: re.sub(r"[^\n]", " " if found[0].startswith("//") else "x", found[0]), text)
 
 
 def closed(text, at):

@@ -4,6 +4,7 @@ The page's rectangles are read as cells: a lane is found by where it stands, its
 import re
 from collections import Counter
 from html.parser import HTMLParser
+from itertools import combinations
 
 BOX = re.compile(r"M(\d+) (\d+)h(\d+)v(\d+)h-(\d+)z")
 TITLE = re.compile(r"(\w+)\n(\w+) of (\w+)\n(\d+) ([AB]) (?:(\d+/\d+)|cycles((?: [\d-]+)+))")
@@ -11,8 +12,10 @@ HELD = re.compile(r"(\w+) of (\w+)\n(\d+) ([AB])")
 GAP = re.compile(r"(nobody holds|not yours) (\d+)(?: to (\d+))?")
 KEY = re.compile(r"([a-h]\d?) (\w+): lanes (\d+), cells (\d+), sent in (\d+) of them \((\d+) %\)")
 SENT = re.compile(r"(?:(\d+/\d+)|cycles((?: [\d-]+)+)) (\w+)")
-# Where channel B stands further right, where the cluster has both.
-SHIFT = 68
+# A colour of the page's style: of lanes, and of the legend.
+COLOUR = re.compile(r"\.c(\d)\{fill:#(\w{6});background:#(\w{6});")
+# Where the lanes of a part begin; where channel B stands further right, where the cluster has both; and how narrow and how wide a lane may be.
+START, SHIFT, NARROW, WIDE = 4, 68, 2, 12
 
 
 def boxes(path):
@@ -234,6 +237,8 @@ def compare(text, plan):
         return [f"the page contradicts itself: {type(fault).__name__} {fault}"]
     found = Difference()
     compare_drawing(found.same, page, lanes, gaps, free, plan)
+    compare_columns(found.same, page, plan)
+    compare_colours(found.same, text)
     marks = {supplier: mark_of(place) for place, supplier in enumerate(plan["suppliers"])}
     compare_suppliers(found.same, page, lanes, marks, plan)
     compare_slots(found.same, page, marks, plan)
@@ -268,6 +273,33 @@ def compare_drawing(same, page, lanes, gaps, free, plan):
     same("the gaps", runs, sorted(gaps))
     granted = {grant[:2] for grant in plan["grants"]}
     same("the crossed lanes", sorted((s, c) for s in shown for c in plan["channels"] if (s, c) not in granted), sorted(free))
+
+
+def columns_of(part, width, end):
+    """The columns of a part, each with where it stands and how wide it is."""
+    gaps = {int(lane["x"]): any(GAP.fullmatch(shape["text"]) for shape in lane["shapes"]) for lane in part.lanes}
+    return [(x, 1 if is_gap else width) for x, is_gap in sorted(gaps.items()) if x < end]
+
+
+def compare_columns(same, page, plan):
+    """Lanes are as wide as one part has room for. Where even narrow ones are too many, a part ends where the next column has no room in it."""
+    width, end = page.shapes["1"][0][2], SHIFT if plan["channels"] == "AB" else 2 * SHIFT
+    parts = [columns_of(part, width, end) for part in page.parts]
+    shown = {grant[0] for grant in plan["grants"]} | {cell[1] for cell in plan["cells"]}
+    gaps = sum(len(part) for part in parts) - len(shown)
+    fitting = [wide for wide in range(NARROW, WIDE + 1) if START + len(shown) * wide + gaps <= end]
+    same("how wide a lane is", max(fitting, default=NARROW), width)
+    for (*_, (x, wide)), ((_, more), *_) in zip(parts, parts[1:]):
+        same("a part ends where the next column has no room", True, x + wide + more > end)
+
+
+def compare_colours(same, text):
+    """Each letter has a colour of its own, the same in the drawing and in the legend. Two differ in red, green or blue by a fifth of what they may."""
+    colours = COLOUR.findall(text)
+    same("the colours of the legend", [(place, fill) for place, fill, _ in colours], [(place, ground) for place, _, ground in colours])
+    same("whose colours they are", [str(place) for place in range(8)], [place for place, _, _ in colours])
+    parts = [bytes.fromhex(fill) for _, fill, _ in colours]
+    same("colours that are alike", [], [pair for pair in combinations(parts, 2) if max(abs(a - b) for a, b in zip(*pair)) < 50])
 
 
 def compare_suppliers(same, page, lanes, marks, plan):

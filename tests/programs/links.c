@@ -3,17 +3,19 @@
 // SEND_WAY how each call then ends:
 //   EINTR, ECONNRESET, EPIPE  the call fails
 //   zero   nothing is taken
-// INPUT_WAY says so of each read of standard input. ERROR_WAITS says how often standard error is interrupted before
-// each of its writes. LINK_MARK is the path of a file that is made once it has come to that.
+// INPUT_WAITS says how often standard input is interrupted before it gives anything, and ERROR_WAITS how often standard
+// error is before each of its writes. LINK_MARK is the path of a file that is made once it has come to that.
 #define _GNU_SOURCE
 #include <dlfcn.h>
 #include <errno.h>
 #include <fcntl.h>
+#include <stdarg.h>
 #include <stdlib.h>
 #include <string.h>
 #include <sys/socket.h>
 #include <unistd.h>
-static int stream_of_first = -1, is_done;
+/* The first connection, and its copy by which replies are written. */
+static int stream_of_first = -1, copy_of_first = -1, is_done;
 static size_t received, replied;
 static size_t number(const char *name, size_t other) {
     const char *given = getenv(name);
@@ -45,15 +47,29 @@ int accept4(int socket, struct sockaddr *address, socklen_t *length, int flags) 
     is_done = 1;
     return stream;
 }
+static int is_first(int fd) { return fd >= 0 && (fd == stream_of_first || fd == copy_of_first); }
+int fcntl(int fd, int command, ...) {
+    int (*real)(int, int, ...) = dlsym(RTLD_NEXT, "fcntl");
+    va_list more;
+    va_start(more, command);
+    long given = va_arg(more, long);
+    va_end(more);
+    int got = real(fd, command, given);
+    if (is_first(fd) && command == F_DUPFD_CLOEXEC)
+        copy_of_first = got;
+    return got;
+}
 int close(int fd) {
     int (*real)(int) = dlsym(RTLD_NEXT, "close");
     if (fd == stream_of_first)
         stream_of_first = -1;
+    if (fd == copy_of_first)
+        copy_of_first = -1;
     return real(fd);
 }
 ssize_t recv(int fd, void *bytes, size_t n, int flags) {
     ssize_t (*real)(int, void *, size_t, int) = dlsym(RTLD_NEXT, "recv");
-    if (fd != stream_of_first || !n)
+    if (!is_first(fd) || !n)
         return real(fd, bytes, n, flags);
     n = may_take(n, received, "RECV_ROOM", "RECV_PIECE");
     if (!n)
@@ -65,7 +81,7 @@ ssize_t recv(int fd, void *bytes, size_t n, int flags) {
 }
 ssize_t send(int fd, const void *bytes, size_t n, int flags) {
     ssize_t (*real)(int, const void *, size_t, int) = dlsym(RTLD_NEXT, "send");
-    if (fd != stream_of_first || !n)
+    if (!is_first(fd) || !n)
         return real(fd, bytes, n, flags);
     n = may_take(n, replied, "SEND_ROOM", "SEND_PIECE");
     if (!n)
@@ -77,17 +93,16 @@ ssize_t send(int fd, const void *bytes, size_t n, int flags) {
 }
 ssize_t read(int fd, void *bytes, size_t n) {
     static ssize_t (*real)(int, void *, size_t);
-    static const char *way;
-    static int is_known;
-    if (!is_known) {
+    static size_t waits;
+    if (!real) {
         real = dlsym(RTLD_NEXT, "read");
-        way = getenv("INPUT_WAY");
-        is_known = 1;
-        if (way)
-            ends(way);
+        waits = number("INPUT_WAITS", 0);
+        if (waits)
+            mark();
     }
-    if (fd || !way)
+    if (fd || !waits)
         return real(fd, bytes, n);
+    --waits;
     errno = EINTR;
     return -1;
 }

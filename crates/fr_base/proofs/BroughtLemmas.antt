@@ -26,12 +26,12 @@ use Rattle.fr_base.specs.declared.refusal.Refusal.{Refusal}
 use Rattle.fr_base.specs.declared.request.FrameChange.{FrameChange}
 use Rattle.fr_base.specs.declared.request.FrameChange.TheVariants.{Add, Drop, Place, Unplace, AddSignal, DropSignal}
 use Rattle.fr_base.proofs.TableLaws.{get-insert, get-only, get-empty, get-from_rows, same_table, kept}
-use Rattle.fr_base.proofs.SoundTables.{same_key, same_some}
+use Rattle.fr_base.proofs.SoundTables.{get-put, same_key, same_some}
 use Rattle.fr_base.proofs.SoundRows.{same_text-is}
 use Rattle.fr_base.proofs.SoundRefusing.{gives_or, gives_bind, gives_next, gives_unless, gives_when, gives_when_last, gives_bind_last}
 use Rattle.fr_base.proofs.SoundImports.{at_line-gives}
 use Rattle.fr_base.proofs.AloneCells.{same_text-itself}
-use Rattle.fr_base.proofs.ReplacingLaws.{get-put, settle-other}
+use Rattle.fr_base.proofs.ReplacingLaws.{settle-other}
 use Rattle.fr_base.proofs.FrameRuns.{rows_at, change_in, framed_in, act_in, run_in}
 
 -- ---- tables

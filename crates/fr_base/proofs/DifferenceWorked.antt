@@ -1,9 +1,7 @@
 -- In what two variants of a small register differ: for each supplier its own rows, for the integrator those of all.
 use Rattle.std.proofs.Common.{◌≡◌, List, [], ◌∷◌, false, true, Some, None, refl, codes}
-use Rattle.fr_base.specs.Orders.{pairs_by}
 use Rattle.fr_base.specs.Tables.{each}
 use Rattle.fr_base.specs.Differences.{differ, keys_of_both, between, placed_frames, starts, all_placements, all_signals, grants_differ, frames_differ, differences}
-use Rattle.fr_base.specs.Layouts as layouts
 use Rattle.fr_base.specs.declared.answer.Answer.TheVariants.{Done, Refused, Report as Told}
 use Rattle.fr_base.specs.declared.answer.ReportRows.TheVariants as rows
 use Rattle.fr_base.specs.declared.answer.DifferenceRow.{DifferenceRow}

@@ -24,9 +24,8 @@ use Rattle.fr_base.specs.declared.placement.Placement.{Placement}
 use Rattle.fr_base.specs.declared.request.Change.TheVariants as change
 use Rattle.fr_base.specs.declared.request.FrameChange.{FrameChange}
 use Rattle.fr_base.specs.declared.request.FrameChange.TheVariants.{Add, Place, AddSignal}
-use Rattle.fr_base.proofs.SoundTables.{get-passing}
+use Rattle.fr_base.proofs.SoundTables.{get-passing, get-put, insert-again}
 use Rattle.fr_base.proofs.AloneCells.{same_text-itself}
-use Rattle.fr_base.proofs.ReplacingLaws.{insert-again, get-put}
 
 -- ---- what is not refused goes on
 

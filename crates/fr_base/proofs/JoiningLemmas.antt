@@ -1,9 +1,11 @@
 -- A supplier that joins a list of suppliers, or has another key there.
-use Rattle.std.proofs.Common.{◌≡◌, ◌∙◌, ◌+◌, ◌≤◌, ◌||◌, ℕ, suc, Bool, true, false, cond, not, List, [], ◌∷◌, map, length, Option, Some, None, arith, position, insert, unwrap_or, ltb, refl, ap}
+use Rattle.std.proofs.Common.{◌≡◌, ◌∙◌, ◌+◌, ◌≤◌, ◌||◌, ℕ, suc, Bool, true, false, cond, not, List, [], ◌∷◌, map, length, Option, Some, None, arith, position, insert, unwrap_or, ltb, refl, ap, ◌-◌, ◌&&◌, take, drop, get_or}
 use Rattle.std.specs.Prelude.{⊤}
 use Rattle.std.specs.List.{list_any, position_or_len}
 use Rattle.std.proofs.lemmas.Bool.Decides.{nat_tests}
+use Rattle.std.proofs.lemmas.Grind.{common_steps}
 use Rattle.std.proofs.lemmas.List.Sums.{prefix_len-le-length}
+use Rattle.fr_base.specs.Cluster.{keys_differ, keys_of}
 use Rattle.fr_base.specs.Refusing.{◌>>◌, refuse◌when◌}
 use Rattle.fr_base.specs.Joining.{admits_supplier, is_earlier, with_supplier}
 use Rattle.fr_base.specs.KeyChanges.{admits_key}
@@ -20,6 +22,17 @@ joining_open = tt
 pub any_key : (key : Key) (ss : List Supplier) → list_any (same_text key) (map (λ s. s.key) ss) ≡ list_any (λ s. same_text key s.key) ss
 any_key key [] = refl
 any_key key (s ∷ ss) = ap (λ t. same_text key s.key || t) (any_key key ss)
+
+-- all but the first supplier, as a pattern takes the list apart
+rest_of : (s : Supplier) (ss : List Supplier) → take (length (s ∷ ss) - 1) (drop 1 (s ∷ ss)) ≡ ss
+rest_of s ss = grind (arith, common_steps)
+
+-- the keys differ where the first is no other's, and those of the rest differ
+pub keys_differ-split : (key : Key) (ss : List Supplier) (next : Supplier) → next ≡ get_or ss 0 next → 1 ≤ length ss
+    → keys_differ (keys_of key ss)
+    ≡ (not (list_any (λ t. same_text key t.key) ss) && keys_differ (keys_of next.key (take (length ss - 1) (drop 1 ss))))
+keys_differ-split key [] next is some = absurd (omega arith)
+keys_differ-split key (s ∷ ss) next is some = rw (is, rest_of s ss, any_key key (s ∷ ss)) refl
 
 -- the place at which the supplier is put
 with_supplier_at : (s : Supplier) (ss : List Supplier) → insert ss (position_or_len (λ t. is_earlier s.name t.name) ss) s ≡ with_supplier s ss

@@ -3,7 +3,7 @@ use Rattle.std.proofs.Common.{◌≡◌, ℕ, Bool, true, false, true≢false, �
 use Rattle.std.specs.Ordering.{eq_by_cmp}
 use Rattle.std.proofs.lemmas.Bool.{cases_Bool}
 use Rattle.fr_base.specs.Refusing.{◌>>=◌}
-use Rattle.fr_base.specs.Tables.{Order, Table, Fate, Becomes, Gone, get, insert, settle}
+use Rattle.fr_base.specs.Tables.{Order, Table, Fate, Becomes, Gone, get, settle}
 use Rattle.fr_base.specs.Keys.{owned}
 use Rattle.fr_base.specs.Cluster.{Cluster}
 use Rattle.fr_base.specs.Names.{is_name, same_text}
@@ -27,8 +27,8 @@ use Rattle.fr_base.specs.declared.request.FrameChange.{FrameChange}
 use Rattle.fr_base.specs.declared.request.FrameChange.TheVariants.{Add, Place, AddSignal}
 use Rattle.fr_base.specs.declared.request.Replacement.{Replacement}
 use Rattle.fr_base.specs.declared.request.Request.TheVariants as request
-use Rattle.fr_base.proofs.TableLaws.{equal, get-insert, same_table}
-use Rattle.fr_base.proofs.SoundTables.{same_key, same_some, get-remove_other}
+use Rattle.fr_base.proofs.TableLaws.{equal, get-insert}
+use Rattle.fr_base.proofs.SoundTables.{get-put, get-remove_other, insert-again, same_some}
 use Rattle.fr_base.proofs.SoundRefusing.{gives_or, gives_bind, gives_then, gives_unless, gives_when}
 use Rattle.fr_base.proofs.SoundImports.{at_line-gives}
 use Rattle.fr_base.proofs.AloneCells.{same_text-itself}
@@ -36,17 +36,6 @@ use Rattle.fr_base.proofs.AloneCells.{same_text-itself}
 -- ---- tables
 
 module _ {K V : Type 0} {o : Order K} where
-  -- what is put in twice stands as it was put in last
-  pub insert-again : (t : Table o V) (k : K) (v w : V) → insert (insert t k v) k w ≡ insert t k w
-  insert-again t k v w = same_table _ _ (λ q. get-insert (insert t k v) k w q ∙ by_test q (eq_by_cmp o.compare q k) refl ∙ sym (get-insert t k w q))
-    where
-      by_test : (q : K) (b : Bool) → eq_by_cmp o.compare q k ≡ b → cond (eq_by_cmp o.compare q k) (Some w) (get (insert t k v) q) ≡ cond (eq_by_cmp o.compare q k) (Some w) (get t q)
-      by_test q true e = rw e refl
-      by_test q false e = rw e (get-insert t k v q ∙ ap (λ b. cond b (Some v) (get t q)) e)
-
-  pub get-put : (t : Table o V) (k : K) (v : V) → get (insert t k v) k ≡ Some v
-  get-put t k v = get-insert t k v k ∙ ap (λ b. cond b (Some v) (get t k)) (same_key o k)
-
   -- what becomes of a row leaves every other
   pub settle-other : (t : Table o V) (k q : K) (fate : Fate V) → (k ≡ q → ⊥) → get (settle t k fate) q ≡ get t q
   unfolding settle

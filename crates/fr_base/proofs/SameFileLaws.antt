@@ -37,12 +37,12 @@ use Rattle.fr_base.specs.declared.request.FrameChange.TheVariants.{Add, Place, A
 use Rattle.fr_base.specs.declared.request.Replacement.{Replacement}
 use Rattle.fr_base.specs.declared.request.Request.TheVariants as request
 use Rattle.fr_base.proofs.TableLaws.{equal, get-insert, get-only, same_table, kept}
-use Rattle.fr_base.proofs.SoundTables.{same_some}
+use Rattle.fr_base.proofs.SoundTables.{get-put, same_some}
 use Rattle.fr_base.proofs.SoundRows.{same_text-is}
 use Rattle.fr_base.proofs.SoundRefusing.{gives_or, gives_bind, gives_each, gives_bind_last, gives_unless, gives_when}
 use Rattle.fr_base.proofs.SoundImports.{at_line-gives}
 use Rattle.fr_base.proofs.AloneCells.{same_text-itself, entries_of}
-use Rattle.fr_base.proofs.ReplacingLaws.{get-put, settle-other}
+use Rattle.fr_base.proofs.ReplacingLaws.{settle-other}
 use Rattle.fr_base.proofs.FrameRuns.{past_or, past_when, past_unless, having, rows_at, change_in, framed_in, act_in, run_in, at, lifted, variant_at, put_at, replace_rows-lift, change-is, change-none, place-is, signal-is}
 use Rattle.fr_base.proofs.BroughtLemmas.{Frees, Makes, RowsMake, There, change-makes, free_rows-free, insert_all, node_of, rows-make, unless_brought}
 

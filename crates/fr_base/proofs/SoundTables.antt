@@ -46,6 +46,18 @@ module _ {K : Type 0} (o : Order K) where
   other_key q k e same = true≢false (sym (ap (λ x. eq_by_cmp o.compare x k) same ∙ same_key k) ∙ e)
 
 module _ {K V : Type 0} {o : Order K} where
+  -- a row that is put in over another leaves nothing of it
+  pub insert-again : (t : Table o V) (k : K) (v w : V) → insert (insert t k v) k w ≡ insert t k w
+  insert-again t k v w = same_table _ _ (λ q. get-insert (insert t k v) k w q ∙ by_test q (eq_by_cmp o.compare q k) refl ∙ sym (get-insert t k w q))
+    where
+      by_test : (q : K) (b : Bool) → eq_by_cmp o.compare q k ≡ b → cond (eq_by_cmp o.compare q k) (Some w) (get (insert t k v) q) ≡ cond (eq_by_cmp o.compare q k) (Some w) (get t q)
+      by_test q true e = rw e refl
+      by_test q false e = rw e (get-insert t k v q ∙ ap (λ b. cond b (Some v) (get t q)) e)
+
+  -- what is put in stands at its key
+  pub get-put : (t : Table o V) (k : K) (v : V) → get (insert t k v) k ≡ Some v
+  get-put t k v = get-insert t k v k ∙ ap (λ b. cond b (Some v) (get t k)) (same_key o k)
+
   -- after a row was put in, what stands at a key is that row, or stood there before
   pub insert-cases : (t : Table o V) (k : K) (v : V) (q : K) (w : V) → get (insert t k v) q ≡ Some w → ((q ≡ k) × (v ≡ w)) ⊎ ((q ≢ k) × (get t q ≡ Some w))
   insert-cases t k v q w e =

@@ -1,14 +1,14 @@
 -- What a trial of a file tells is what the file is answered.
-use Rattle.std.proofs.Common.{◌≡◌, ℕ, zero, suc, ◌+◌, Bool, true, false, cond, not, List, [], ◌∷◌, length, take, nat_le, nat_lt, leb-true, Option, Some, None, Result, Ok, Err, is_err, IfOk, refl, sym, ap, subst, ◌∙◌, arith, inl, inr}
+use Rattle.std.proofs.Common.{◌≡◌, ℕ, zero, suc, ◌+◌, Bool, true, false, cond, List, [], ◌∷◌, length, take, nat_le, nat_lt, leb-true, Option, Some, None, Result, Ok, Err, is_err, IfOk, refl, sym, ap, subst, ◌∙◌, arith, inl, inr}
 use Rattle.std.proofs.lemmas.Bool.{cases_Bool, lt-leb}
 use Rattle.fr_base.specs.Refusing.{◌>>=◌, ◌>>◌, ◌or◌, refuse◌when◌}
 use Rattle.fr_base.specs.Tables.{get, contains, len}
 use Rattle.fr_base.specs.Cluster.{Cluster}
 use Rattle.fr_base.specs.Checks.{asking, name, check}
 use Rattle.fr_base.specs.Names.{is_name}
-use Rattle.fr_base.specs.Book.{Variant, Book, own}
+use Rattle.fr_base.specs.Book.{Book, own}
 use Rattle.fr_base.specs.ImportRows.{row_at, rows_from, header_of, rows_below, rows_of_records, up_to_refused, records_of, rows_of_body, all_rows_of_body}
-use Rattle.fr_base.specs.Step.{Outcome, RefusedAt, at_line, act_row, act_rows, imported, import_rows, import, with_freed, replace_row, replace_rows, replaced, replace, fate_of, fates_of, tried, try, knows, act, outcome, step}
+use Rattle.fr_base.specs.Step.{Outcome, RefusedAt, at_line, act_row, act_rows, imported, import_rows, import, with_freed, replace_row, replace_rows, replaced, replace, fate_of, fates_of, try, knows, act, outcome, step}
 use Rattle.fr_base.specs.Fates.{told_by, answer_told}
 use Rattle.fr_base.specs.declared.limits.TheConstants.{MAX_ROWS, MAX_IMPORTS, MAX_IMPORT_BYTES}
 use Rattle.fr_base.specs.declared.answer.Answer.{Answer}
@@ -27,7 +27,6 @@ use Rattle.fr_base.specs.declared.actor.Actor.TheVariants.{Supplier}
 use Rattle.fr_base.specs.declared.request.Request.TheVariants as request
 use Rattle.fr_base.specs.declared.request.Import.{Import}
 use Rattle.fr_base.specs.declared.request.Replacement.{Replacement}
-use Rattle.fr_base.specs.declared.request.Trial.{Trial}
 use Rattle.fr_base.specs.declared.request.Checked.{Checked}
 use Rattle.fr_base.proofs.SoundRefusing.{gives_bind, gives_each, gives_unless}
 use Rattle.fr_base.proofs.SoundTrials.{trial-leaves}

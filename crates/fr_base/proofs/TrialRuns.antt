@@ -1,26 +1,26 @@
 -- Trials computed on a small register.
-use Rattle.std.proofs.Common.{◌≡◌, ℕ, Bool, true, false, List, [], ◌∷◌, ◌++◌, Option, Some, None, replicate, length, refl, ap, ◌∙◌, codes, drop}
+use Rattle.std.proofs.Common.{◌≡◌, ℕ, true, false, List, [], ◌∷◌, ◌++◌, Some, None, replicate, length, refl, ap, ◌∙◌, codes, drop}
 use Rattle.std.specs.Prelude.{⊤, take}
 use Rattle.std.proofs.lemmas.List.{drop-take}
 use Rattle.fr_base.specs.ImportRows.{rows_below, all_rows_of_body}
 use Rattle.fr_base.specs.Step.{fate_of, fates_of, try}
 use Rattle.fr_base.specs.declared.answer.Answer.{Answer}
-use Rattle.fr_base.specs.declared.answer.Answer.TheVariants.{Done, Imported, Replaced, Refused, RefusedRow, Report}
+use Rattle.fr_base.specs.declared.answer.Answer.TheVariants.{Done, Imported, Refused, RefusedRow, Report}
 use Rattle.fr_base.specs.declared.answer.FateRow.{FateRow}
 use Rattle.fr_base.specs.declared.answer.ReportRows.TheVariants.{Fates}
 use Rattle.fr_base.specs.declared.channel.Channel.TheVariants as ch
 use Rattle.fr_base.specs.declared.import.Header.{Header}
 use Rattle.fr_base.specs.declared.params.Params.{Params}
 use Rattle.fr_base.specs.declared.refusal.Refusal.{Refusal}
-use Rattle.fr_base.specs.declared.refusal.Refusal.TheVariants.{NotYours, BadName, BadText, BadSlot, NoVariant, Released, NoNode, NoFrame, NodeDiffers, NotGranted, Limit, CellTaken, BitTaken, Exists}
+use Rattle.fr_base.specs.declared.refusal.Refusal.TheVariants.{NotYours, BadName, BadText, BadSlot, NoVariant, Released, NoNode, NoFrame, NodeDiffers, NotGranted, Limit, CellTaken, Exists}
 use Rattle.fr_base.specs.declared.request.Ask.{Ask}
 use Rattle.fr_base.specs.declared.request.Request.TheVariants.{Release, Try, Query}
 use Rattle.fr_base.specs.declared.query.Query.TheVariants.{Variant as OfVariant}
 use Rattle.fr_base.specs.declared.report.Report.TheVariants.{Frames}
-use Rattle.fr_base.proofs.WorkedRows.{answers, integrator, s1, s2, Framed}
+use Rattle.fr_base.proofs.WorkedRows.{answers, integrator, s1, Framed}
 use Rattle.fr_base.proofs.ImportWorked.{refused, the_513th}
 use Rattle.fr_base.proofs.ImportRuns.{granted, into}
-use Rattle.fr_base.proofs.ReplacementRuns.{a_small_replacement, by, placements, at, frame}
+use Rattle.fr_base.proofs.ReplacementRuns.{a_small_replacement, placements, at, frame}
 
 -- what the rows below unfold
 unfoldable pub a_small_trial : ⊤

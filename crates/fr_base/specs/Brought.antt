@@ -52,35 +52,35 @@ placements_for f reads = flat_map (λ read. placement_for f read.row) reads
 abbrev pub signals_for : Name → List RowRead → List SignalData
 signals_for f reads = flat_map (λ read. signal_for f read.row) reads
 
--- ---- what the frame has then
+-- ---- what the frame has in the end
 
--- the node of the frame that was there, or else the first that the rows say
+-- the node of the frame that was there, or else the first node that the rows name
 abbrev pub node_or : List Name → Option Frame → Option Name
 node_or nodes (Some frame) = Some frame.node
 node_or (n ∷ nodes) None = Some n
 node_or [] None = None
 
--- the placements that a frame had; one that was not there had none
+-- the placements that a frame had before; none where no frame was there
 abbrev pub had_placements : Option Frame → Table placement_order ⊤
 had_placements (Some frame) = frame.placements
 had_placements None = empty
 
--- and its signals
+-- the signals that a frame had before; none where no frame was there
 abbrev pub had_signals : Option Frame → List SignalData
 had_signals (Some frame) = frame.signals
 had_signals None = []
 
--- these placements and no others; or those that it had, where there are none of these
+-- the placements that the rows bring; where they bring none, those that the frame had before
 abbrev pub placed_by : List Placement → Table placement_order ⊤ → Table placement_order ⊤
 placed_by [] had = had
 placed_by (q ∷ qs) had = from_rows (map (λ r. (r, tt)) (q ∷ qs))
 
--- the signals with these too, each put in by its start
+-- the signals of the first list with those of the second, each put in by its start
 abbrev pub put_in : List SignalData → List SignalData → List SignalData
 put_in signals [] = signals
 put_in signals (s ∷ more) = put_in (with_signal s signals) more
 
--- these signals and no others; or those that it had, where there are none of these
+-- the signals that the rows bring; where they bring none, those that the frame had before
 abbrev pub signalled_by : List SignalData → List SignalData → List SignalData
 signalled_by [] had = had
 signalled_by (s ∷ signals) had = put_in [] (s ∷ signals)

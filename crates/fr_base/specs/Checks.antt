@@ -93,7 +93,7 @@ parent_name (Some text) = do
   parent ← name text
   Ok (Some parent)
 
--- a report, with the name of its frame, if it is of one
+-- a report whose frame, if it names one, has a name
 unfoldable pub report : Report (List ℕ) ℕ → Result (Report Name ℕ) Refusal
 report Grants = Ok Grants
 report Frames = Ok Frames
@@ -108,7 +108,7 @@ report (Room frame repetition) = do
   Ok (Room f repetition)
 report (Export header part) = Ok (Export header part)
 
--- a query, with its names
+-- a query whose names are checked
 unfoldable pub query : Query (List ℕ) ℕ → Result (Query Name ℕ) Refusal
 query (Register inventory) = Ok (Register inventory)
 query (Variant variant asked) = do
@@ -130,7 +130,7 @@ abbrev pub divides : {F : Type 0} → Params → Report F ℕ → Bool
 divides p (Room frame repetition) = is_repetition p.cycles repetition
 divides p _ = true
 
--- and that of a query
+-- whether the repetition of a query, where it has one, divides the count of cycles
 abbrev pub has_repetition : {N : Type 0} → Params → Query N ℕ → Bool
 has_repetition p (Variant variant asked) = divides p asked
 has_repetition p _ = true

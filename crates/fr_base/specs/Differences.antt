@@ -112,14 +112,15 @@ differences p actor old new =
 
 -- ---- what one variant has and another has not
 
--- the rows that are gone, and those that are new
+-- the rows that are gone
 unfoldable pub gone_in : List DifferenceRow → List SeenRow
 gone_in rows = map (λ r. r.row) (filter (λ r. not r.is_new) rows)
 
+-- the rows that are new
 unfoldable pub new_in : List DifferenceRow → List SeenRow
 new_in rows = map (λ r. r.row) (filter (λ r. r.is_new) rows)
 
--- whether this stands at a key
+-- whether this value stands at a key
 abbrev pub stands : {V : Type 0} → (V → V → Bool) → V → Option V → Bool
 stands same v None = false
 stands same v (Some w) = same v w
@@ -128,14 +129,15 @@ stands same v (Some w) = same v w
 unfoldable pub has_row : {K V : Type 0} {o : Order K} → (V → V → Bool) → Table o V → K × V → Bool
 has_row same t e = stands same e.1 (get t e.0)
 
--- the rows of a table that another has not, and those that it has
+-- the rows of a table that the other table has not
 unfoldable pub lacked : {K V : Type 0} {o : Order K} → (V → V → Bool) → (K × V → SeenRow) → Table o V → Table o V → List SeenRow
 lacked same told t other = map told (filter (λ e. not (has_row same other e)) t.rows)
 
+-- the rows of a table that the other table has too
 unfoldable pub shared : {K V : Type 0} {o : Order K} → (V → V → Bool) → (K × V → SeenRow) → Table o V → Table o V → List SeenRow
 shared same told t other = map told (filter (has_row same other) t.rows)
 
--- the rows of frames that others have not, and those that they have
+-- the rows of frames that the other frames have not
 unfoldable pub frames_lacked : Params → Table owned Frame → Table owned Frame → List SeenRow
 frames_lacked p frames others =
     lacked same_text frame_seen (each (λ f. f.node) frames) (each (λ f. f.node) others)
@@ -143,6 +145,7 @@ frames_lacked p frames others =
     ++ lacked same_signal signal_seen (all_signals frames) (all_signals others)
     ++ lacked same_gap gap_seen (each (gap_of p) frames) (each (gap_of p) others)
 
+-- the rows of frames that the other frames have too
 unfoldable pub frames_shared : Params → Table owned Frame → Table owned Frame → List SeenRow
 frames_shared p frames others =
     shared same_text frame_seen (each (λ f. f.node) frames) (each (λ f. f.node) others)
@@ -150,12 +153,13 @@ frames_shared p frames others =
     ++ shared same_signal signal_seen (all_signals frames) (all_signals others)
     ++ shared same_gap gap_seen (each (gap_of p) frames) (each (gap_of p) others)
 
--- the rows of a variant, as the actor sees them, that another variant has not; and those that it has
+-- the rows that the actor sees of a variant and not of the other one
 unfoldable pub missing : Params → Actor → Variant → Variant → List SeenRow
 missing p actor x other =
     lacked same_holder grant_seen (seen_grants actor x.grants) (seen_grants actor other.grants)
     ++ frames_lacked p (seen_frames actor x.frames) (seen_frames actor other.frames)
 
+-- the rows that the actor sees of a variant and of the other one too
 unfoldable pub in_both : Params → Actor → Variant → Variant → List SeenRow
 in_both p actor x other =
     shared same_holder grant_seen (seen_grants actor x.grants) (seen_grants actor other.grants)

@@ -50,7 +50,7 @@ kind_of (row.Placement frame placement supplier) = 2
 kind_of (row.Signal signal) = 3
 kind_of (row.Gap gap) = 4
 
--- of one kind they come by their keys
+-- the order of two rows of one kind: by their keys
 abbrev pub key_cmp : SeenRow → SeenRow → Ordering
 key_cmp (row.Grant x) (row.Grant y) = channel_slots.compare (x.slot, x.channel) (y.slot, y.channel)
 key_cmp (row.Frame x) (row.Frame y) = owned.compare (x.supplier, x.frame) (y.supplier, y.frame)
@@ -60,15 +60,15 @@ key_cmp (row.Signal x) (row.Signal y) =
 key_cmp (row.Gap x) (row.Gap y) = owned.compare (x.supplier, x.frame) (y.supplier, y.frame)
 key_cmp _ _ = Equal
 
--- by kind, then key
+-- the order of rows: by kind, then key
 abbrev pub seen_cmp : SeenRow → SeenRow → Ordering
 seen_cmp x y = ordering_then (nat_cmp (kind_of x) (kind_of y)) (key_cmp x y)
 
--- what is gone comes before what is new
+-- the order of news at one key: what is gone comes before what is new
 abbrev pub news_cmp : Bool → Bool → Ordering
 news_cmp a b = nat_cmp (if a then 1 else 0) (if b then 1 else 0)
 
--- by kind, then key, and at one key so
+-- the order of a difference's rows: by kind, then key, then news
 abbrev pub difference_cmp : DifferenceRow → DifferenceRow → Ordering
 difference_cmp x y = ordering_then (seen_cmp x.row y.row) (news_cmp x.is_new y.is_new)
 
@@ -85,7 +85,8 @@ abbrev pub SeenRowsAreInOrder : Type 0
 SeenRowsAreInOrder = (p : Params) (actor : Actor) (x : Variant) →
     Rises seen_cmp (seen_rows p actor x)
 
--- So does a difference, and at one key what is gone comes before what is new.
+-- The rows of a difference come by kind, then key. At one key what is gone comes before what is
+-- new.
 abbrev pub DifferencesAreInOrder : Type 0
 DifferencesAreInOrder = (p : Params) (actor : Actor) (old new : Variant) →
     Rises difference_cmp (differences p actor old new)

@@ -44,7 +44,7 @@ joined part (suc n) = joined part n ++ part n
 abbrev pub parts : {R : Type 0} → List (List R) → ℕ → List R
 parts frames n = part_of n frames
 
--- these records leave no room for those of the next frame, if there is one
+-- the first records leave no room for those of the next frame, if there is one
 abbrev pub IsFull : {R : Type 0} → List R → List (List R) → Type 0
 IsFull part [] = ⊤
 IsFull part (records ∷ rest) = MAX_ROWS < length part + length records
@@ -61,8 +61,8 @@ pub record IsPart {R : Type 0} (frames : List (List R)) (n : ℕ) : Type 0 where
   pub few : length (part_of n frames) ≤ MAX_ROWS
   pub full : IsFull (part_of n frames) behind
 
--- These parts have all these records, of so many frames: where a part has none, those before it have
--- all, each once and in order; and behind as many parts as there are frames, each part has none.
+-- The parts have all the records of so many frames. Where a part has none, those before it have all
+-- records, each once and in order. Behind as many parts as there are frames, each part has none.
 pub record HaveAll {R : Type 0} (part : ℕ → List R) (frames : ℕ) (all : List R) : Type 0 where
   pub each_once : (n : ℕ) → part n ≡ [] → joined part n ≡ all
   pub end : (n : ℕ) → frames ≤ n → part n ≡ []
@@ -75,7 +75,8 @@ AreParts frames = ((n : ℕ) → IsPart frames n) × HaveAll (parts frames) (len
 abbrev pub frames_seen : Actor → Variant → List ((Name × Name) × Frame)
 frames_seen actor x = (seen_frames actor x.frames).rows
 
--- In a sound book the frames of a variant that an actor sees have such parts, of each kind of records.
+-- In a sound book the export of the frames that an actor sees of a variant has such parts, for each
+-- kind of records.
 abbrev pub ExportHasParts : Type 0
 ExportHasParts = (c : Cluster) (b : Book) (v : Name) (x : Variant) (actor : Actor) → IsSound c b →
     get b.variants v ≡ Some x →
@@ -102,12 +103,12 @@ abbrev pub frames_told : Answer → List FrameRecord
 frames_told (Report all (FrameRecords records)) = records
 frames_told _ = []
 
--- and if they are of placements
+-- the records of an answer, if they are of placements
 abbrev pub placements_told : Answer → List PlacementRecord
 placements_told (Report all (PlacementRecords records)) = records
 placements_told _ = []
 
--- and if they are of signals
+-- the records of an answer, if they are of signals
 abbrev pub signals_told : Answer → List SignalRecord
 signals_told (Report all (SignalRecords records)) = records
 signals_told _ = []
@@ -116,7 +117,7 @@ signals_told _ = []
 abbrev pub part_told : Cluster → Book → Actor → List ℕ → Header → ℕ → Answer
 part_told c b actor variant header part = (step c b actor (Query (OfVariant variant (Export header part)))).answer
 
--- Whoever asks for a part of whatever variant, in any book: at most 512 records are told.
+-- A part tells at most 512 records, whoever asks, of whatever variant, in any book.
 abbrev pub FewRecordsAreTold : Type 0
 FewRecordsAreTold = (c : Cluster) (b : Book) (actor : Actor) (variant : List ℕ) (header : Header) (part : ℕ) →
     (length (frames_told (part_told c b actor variant header part)) ≤ MAX_ROWS)

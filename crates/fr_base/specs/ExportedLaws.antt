@@ -37,8 +37,9 @@ exported_rows _ = []
 abbrev pub ReadsAs : Params → List ℕ → List Row → Type 0
 ReadsAs p body rows = map (λ read. read.row) (rows_of_body p body) ≡ map Ok rows
 
--- In a sound book a replacement of the supplier in an open variant, whose file has the rows of a part of the supplier's export of
--- this variant, of any kind, changes nothing, and is answered Replaced, with so many rows.
+-- In a sound book a supplier sends a replacement for an open variant. The rows of its file are
+-- those of a part of the supplier's export of this variant, of any kind. It changes nothing, and is
+-- answered Replaced, with as many rows as the file has.
 abbrev pub OwnExportChangesNothing : Type 0
 OwnExportChangesNothing = (c : Cluster) (b : Book) (s v : Name) (x : Variant) (header : Header) (part : ℕ) (body : List ℕ) →
     IsSound c b → IsTrue (knows b (Supplier s)) → get b.variants v ≡ Some x → IsFalse x.released →
@@ -57,14 +58,15 @@ pub record File : Type 0 where
 abbrev pub import_of : Name → Name → File → Ask
 import_of s v file = record { actor = Supplier s; request = Import v file.label file.body }
 
--- The files have the parts of the export of these frames, of this kind, from this part on, each its own, to the last: behind it there are no
--- records.
+-- The files have the export's parts of this kind, from this part on, one part a file. They go to
+-- the last part: behind them the export has no records.
 abbrev pub ArePartsFrom : Params → Header → List ((Name × Name) × Frame) → ℕ → List File → Type 0
 ArePartsFrom p header frames part [] = exported_rows (exported header part frames) ≡ []
 ArePartsFrom p header frames part (file ∷ files) =
     ReadsAs p file.body (exported_rows (exported header part frames)) × ArePartsFrom p header frames (suc part) files
 
--- The files are within the limit; their labels are names, no two alike, under which the supplier keeps nothing; and it may keep so many.
+-- The files are within the limit. Their labels are names, no two alike. The supplier keeps nothing
+-- under them, and may keep so many imports more.
 pub record MayBeKept (b : Book) (s : Name) (files : List File) : Type 0 where
   pub bytes : All (λ file. length file.body ≤ MAX_IMPORT_BYTES) files
   pub names : All (λ file. IsTrue (is_name file.label)) files
@@ -72,17 +74,19 @@ pub record MayBeKept (b : Book) (s : Name) (files : List File) : Type 0 where
   pub apart : AllPairs (λ f g. f.label ≢ g.label) files
   pub room : len (own s b.imports) + length files ≤ MAX_IMPORTS
 
--- In the book the variant is as it was, but that the supplier's frames are those of the other variant.
+-- In the book the variant is as it was, but the supplier's frames are those of the other variant.
 pub record IsBroughtAlong (s : Name) (other was : Variant) (v : Name) (b : Book) : Type 0 where
   pub frames : Table owned Frame
   pub there : get b.variants v ≡ Some (record was { frames = frames })
   pub mine : own s frames ≡ own s other.frames
   pub others : (k : Name × Name) → IsFalse (is_of s k) → get frames k ≡ get was.frames k
 
--- In a sound book a variant is open, and in it the supplier has no frames; it has the nodes and grants that it has in another variant,
--- of this or of another sound register with the same parameters. Imported there, first the parts of the export of that one's frames, then
--- those of its placements, then those of its signals, each is answered Imported, with as many rows as it has, and then the supplier's frames
--- are those of the other, and all else of the variant is as before.
+-- In a sound book a variant is open, and in it the supplier has no frames. It has the nodes and
+-- grants that it has in another variant, of this or of another sound register with the same
+-- parameters. The supplier imports the export of the other variant: first the parts of the frames,
+-- then those of the placements, then those of the signals. Each import is answered Imported, with
+-- as many rows as its file has. In the end the supplier's frames are those of the other variant,
+-- and all else of the variant is as before.
 abbrev pub ExportIsImported : Type 0
 ExportIsImported = (c e : Cluster) (b d : Book) (s v w : Name) (x y : Variant) (frames placements signals : List File) →
     IsSound c b → IsSound e d → c.params ≡ e.params → IsTrue (knows b (Supplier s)) →

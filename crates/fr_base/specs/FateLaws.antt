@@ -63,11 +63,11 @@ LinesAreInTurn = (p : Params) (replaces : Bool) (b : Book) (s v : Name) (body : 
     map (λ row. row.line) (fates_of p replaces b s v (all_rows_of_body p body))
     ≡ lines_of (records_of body)
 
--- where the line comes after 512 rows, the row is refused as Limit
+-- a row whose line comes after 512 rows is refused as Limit
 abbrev pub IsLimitBehind : FateRow → Type 0
 IsLimitBehind row = IsTrue (nat_lt (MAX_ROWS + 1) row.line) → row.refusal ≡ Some Limit
 
--- What comes after 512 rows is one too many, whatever it holds.
+-- A row behind 512 rows is one too many, whatever it holds.
 abbrev pub OneTooManyIsLimit : Type 0
 OneTooManyIsLimit = (p : Params) (replaces : Bool) (b : Book) (s v : Name) (body : List ℕ) →
     All IsLimitBehind (fates_of p replaces b s v (all_rows_of_body p body))
@@ -84,7 +84,7 @@ abbrev pub fate_on : Params → Bool → Book → Name → Name → RowRead → 
 fate_on p replaces b s v read =
     record { line = read.line; refusal = refusal_in (read.row >>= try_row p replaces b s v) }
 
--- the rows of which the fate is that they are done
+-- the rows whose fate is to be done
 abbrev pub done_rows : List RowRead → List FateRow → List RowRead
 done_rows (read ∷ rest) (fate ∷ fates) =
     if is_none fate.refusal then read ∷ done_rows rest fates else done_rows rest fates
@@ -110,14 +110,14 @@ EachFateIsItsRows = (p : Params) (replaces : Bool) (b d : Book) (s v : Name)
 
 -- ---- a refused row
 
--- the book after the rows in turn, as their fates are told
+-- the book after the rows in turn, where each does what its fate tells
 unfoldable pub after_fates : Params → Bool → Book → Name → Name → List RowRead → Book
 after_fates p replaces b s v [] = b
 after_fates p replaces b s v (read ∷ rest) =
     after_fates p replaces (fate_of b read.line (read.row >>= try_row p replaces b s v)).0 s v rest
 
--- Without the refused rows each of the others is done, all together too, and the book after them
--- is the same.
+-- Without the refused rows each of the others is done. Their whole list is done too, and the book
+-- after it is the same.
 pub record IsDoneWithout (p : Params) (replaces : Bool) (b : Book) (s v : Name)
     (reads kept : List RowRead) : Type 0 where
   pub done : All (λ fate. fate.refusal ≡ None) (fates_of p replaces b s v kept)
@@ -128,8 +128,8 @@ pub record IsDoneWithout (p : Params) (replaces : Bool) (b : Book) (s v : Name)
 abbrev pub rows_alone : List RowRead → List (Result Row Refusal)
 rows_alone reads = map (λ read. read.row) reads
 
--- A refused row leaves nothing: where a file has the done rows alone, at whatever lines, all is
--- as it was with the refused ones between.
+-- A refused row leaves nothing. Where a file has the done rows alone, at whatever lines, all is as
+-- it was with the refused rows between them.
 abbrev pub RefusedRowsLeaveNothing : Type 0
 RefusedRowsLeaveNothing = (p : Params) (replaces : Bool) (b : Book) (s v : Name)
     (reads kept : List RowRead) →

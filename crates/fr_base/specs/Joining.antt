@@ -27,7 +27,7 @@ with_supplier s (t ∷ ts) = if is_earlier s.name t.name then s ∷ t ∷ ts els
 abbrev pub joined : ClusterFile → Name → Key → ClusterFile
 joined f s key = record f { suppliers = with_supplier (record { name = s; key = key }) f.suppliers }
 
--- the first refusal that a supplier meets which is to join with this key, if it meets one
+-- the first refusal of a supplier that is to join with this key, or none
 unfoldable pub admits_supplier : ClusterFile → Name → Key → Result ⊤ Refusal
 admits_supplier f s key = do
   refuse Exists when list_any (λ t. same_text s t.name) f.suppliers

@@ -21,7 +21,7 @@ SetKeyIsDone = (c : Cluster) (b : Book) (actor : Actor) (s key : List ℕ) → I
     ≡ (is_integrator actor
     && (contains b.suppliers s && (is_key key && is_none (actor_of c b key))))
 
--- And then the book is as before, but that this one supplier has this key.
+-- After a SetKey that is done the book is as before, but this one supplier has this key.
 abbrev pub SetKeyChangesOneKey : Type 0
 SetKeyChangesOneKey = (c : Cluster) (b : Book) (actor : Actor) (s key : List ℕ) →
     (step c b actor (SetKey s key)).answer ≡ Done →

@@ -53,15 +53,16 @@ use Rattle.fr_base.specs.declared.request.Checked.TheVariants as checked
 abbrev pub OpeningIsSound : Type 0
 OpeningIsSound = (f : ClusterFile) → IsWellFormed f → IsSound f.cluster (opening f)
 
--- Whoever asks, and whatever is asked, done or refused: a sound book stays sound.
+-- A sound book stays sound, whoever asks, whatever is asked, and whether it is done or refused.
 abbrev pub StepKeepsSound : Type 0
 StepKeepsSound = (c : Cluster) (b : Book) (actor : Actor) (request : Request) → IsSound c b → IsSound c (step c b actor request).book
 
--- So after any number of requests, in any order, a book that was sound is sound.
+-- After any number of requests, in any order, a book that was sound is sound.
 abbrev pub RunKeepsSound : Type 0
 RunKeepsSound = (c : Cluster) (b last : Book) (asks : List Ask) (answers : List Answer) → IsSound c b → IsRun c b asks answers last → IsSound c last
 
--- And at every point: each front of a run is a run, to a sound book, and what is left of it is a run from there.
+-- Each front of a run is a run and leads to a sound book. The rest of it is a run from that book.
+-- So the book is sound at every point.
 abbrev pub RunIsSoundThroughout : Type 0
 RunIsSoundThroughout = (c : Cluster) (b last : Book) (asks : List Ask) (answers : List Answer) (n : ℕ) → IsSound c b → IsRun c b asks answers last →
     (mid : Book) × IsSound c mid × IsRun c b (take n asks) (take n answers) mid × IsRun c mid (drop n asks) (drop n answers) last
@@ -101,8 +102,9 @@ abbrev pub ReleaseFreezes : Type 0
 ReleaseFreezes = (c : Cluster) (b last : Book) (asks : List Ask) (answers : List Answer) (v : Name) (variant : Variant) →
     get b.variants v ≡ Some variant → IsTrue variant.released → IsRun c b asks answers last → get last.variants v ≡ Some variant
 
--- And each query of it that is not answered Unavailable gives the same actor, from when it is known, the same answer ever after. A
--- query whose frame is no name is no query by this law: it is BadName in every book that knows who asks.
+-- Each query of a released variant that is not answered Unavailable gives the same actor the same
+-- answer ever after, once the actor is known. A query whose frame is no name is no query by this
+-- law: it is BadName in every book that knows who asks.
 abbrev pub ReleasedAnswersStay : Type 0
 ReleasedAnswersStay = (c : Cluster) (b last : Book) (asks : List Ask) (answers : List Answer) (v : Name) (variant : Variant) →
     get b.variants v ≡ Some variant → IsTrue variant.released → IsRun c b asks answers last →
@@ -135,20 +137,21 @@ ImportActsOnce = (c : Cluster) (s : Name) (variant label body : List ℕ) (rows 
     WasImported c s variant label body rows last →
     step c last (Supplier s) (Import variant label body) ≡ record { book = last; answer = Imported rows }
 
--- So it is kept, as it was sent.
+-- An import that was carried out is kept, as it was sent.
 abbrev pub ImportIsKept : Type 0
 ImportIsKept = (c : Cluster) (s : Name) (variant label body : List ℕ) (rows : ℕ) (last : Book) →
     WasImported c s variant label body rows last →
     get last.imports (s, label) ≡ Some (record { variant = variant; body = body; rows = rows })
 
--- With another file, or the name of another variant, it is LabelUsed.
+-- Under a kept label an import with another file, or with the name of another variant, is
+-- LabelUsed.
 abbrev pub LabelStaysUsed : Type 0
 LabelStaysUsed = (c : Cluster) (s : Name) (variant label body : List ℕ) (rows : ℕ) (last : Book) →
     WasImported c s variant label body rows last →
     (other_variant other_body : List ℕ) → IsTrue (is_name other_variant) → IsFalse (same_text variant other_variant && same_text body other_body) →
     step c last (Supplier s) (Import other_variant label other_body) ≡ record { book = last; answer = Refused LabelUsed }
 
--- And with what is no variant's name it is BadName.
+-- Under a kept label an import with what is no variant's name is BadName.
 abbrev pub BadVariantIsBadName : Type 0
 BadVariantIsBadName = (c : Cluster) (s : Name) (variant label body : List ℕ) (rows : ℕ) (last : Book) →
     WasImported c s variant label body rows last →
@@ -170,7 +173,7 @@ ImportIsTold = (c : Cluster) (b : Book) (s : Name) (variant label body : List �
     IsTrue (is_name label) → get b.imports (s, label) ≡ None → IsTrue (nat_lt (len (own s b.imports)) MAX_IMPORTS) →
     (step c b (Supplier s) (Import variant label body)).answer ≡ answer_told Imported (step c b (Supplier s) (Try variant false body)).answer
 
--- And a replacement is answered as its trial tells.
+-- A replacement is answered as its trial tells.
 abbrev pub ReplacementIsTold : Type 0
 ReplacementIsTold = (c : Cluster) (b : Book) (s : Name) (variant body : List ℕ) →
     (step c b (Supplier s) (Replace variant body)).answer ≡ answer_told Replaced (step c b (Supplier s) (Try variant true body)).answer
@@ -219,9 +222,9 @@ RunIsAlone = (c : Cluster) (b last : Book) (asks : List Ask) (answers : List Ans
     (answers_to c (rows_of s b) (asks_of s asks answers) ≡ answers_of s asks answers)
     × (book_after c (rows_of s b) (asks_of s asks answers) ≡ rows_of s last)
 
--- So under the same parameters and integrator's key two sound registers that begin with the same rows of the supplier, and are asked
--- the same that is the supplier's, give it the same answers and end with the same rows of the supplier, whatever else is in them and
--- whatever else is asked.
+-- Two sound registers have the same parameters and integrator's key, begin with the same rows of
+-- the supplier, and are asked the same that is the supplier's. Then they give the supplier the same
+-- answers and end with the same rows of it, whatever else is in them and whatever else is asked.
 abbrev pub EqualViews : Type 0
 EqualViews = (c : Cluster) (b d last end : Book) (asks others : List Ask) (answers replies : List Answer) (s : Name) →
     IsSound c b → IsSound c d → IsRun c b asks answers last → IsRun c d others replies end →
@@ -244,19 +247,21 @@ abbrev pub RoomIsAlone : Type 0
 RoomIsAlone = (c : Cluster) (b : Book) (s v f : Name) (repetition : ℕ) → IsSound c b →
     room_in c.params (rows_of s b) s v f repetition ≡ room_in c.params b s v f repetition
 
--- In any book a Place by a supplier that is known, if it is one by itself, is answered Done exactly where there is room for the placement.
+-- In any book a Place from a supplier that is known, if nothing in it refuses it by itself, is
+-- answered Done exactly where there is room for the placement.
 abbrev pub RoomIsPlace : Type 0
 RoomIsPlace = (c : Cluster) (b : Book) (s v f : Name) (q : Placement) (request : Request) → IsTrue (knows b (Supplier s)) →
     check c.params (Supplier s) request ≡ Ok (checked.Command (Rows s v (change.Frame f (Place q)))) →
     is_done (step c b (Supplier s) request).answer ≡ has_place q (room_in c.params b s v f q.cycles.repetition)
 
--- Where the room for the frame is refused, but by Limit, such a Place is refused so too.
+-- Where the room for the frame is refused, and not by Limit, such a Place is refused the same.
 abbrev pub RoomIsRefused : Type 0
 RoomIsRefused = (c : Cluster) (b : Book) (s v f : Name) (q : Placement) (request : Request) (refusal : Refusal) → IsTrue (knows b (Supplier s)) →
     check c.params (Supplier s) request ≡ Ok (checked.Command (Rows s v (change.Frame f (Place q)))) →
     room_in c.params b s v f q.cycles.repetition ≡ Err refusal → (refusal ≡ Limit) ⊎ ((step c b (Supplier s) request).answer ≡ Refused refusal)
 
--- In a sound book what there is room for, where the repetition divides the count of cycles, is a placement of the cluster with it.
+-- In a sound book, where the repetition divides the count of cycles, the room for a frame has
+-- placements of the cluster with that repetition alone.
 abbrev pub RoomFits : Type 0
 RoomFits = (c : Cluster) (b : Book) (s v f : Name) (repetition : ℕ) (q : Placement) → IsSound c b → IsTrue (is_repetition c.params.cycles repetition) →
     IsTrue (has_place q (room_in c.params b s v f repetition)) → FitsCluster c.params q × (q.cycles.repetition ≡ repetition)
@@ -268,10 +273,11 @@ abbrev pub LoadAddsUp : Type 0
 LoadAddsUp = (c : Cluster) (b : Book) (v : Name) (variant : Variant) (actor : Actor) → IsSound c b → get b.variants v ≡ Some variant →
     all_used (load_of c.params actor (seen_grants actor variant.grants) (seen_frames actor variant.frames)) ≡ length (sendings_of c.params (seen_frames actor variant.frames))
 
--- ---- in what two variants differ
+-- ---- how two variants differ
 
--- What is told to be gone is what the older variant has, as the actor sees it, and the newer one has not, and what is told to be new is
--- what the newer one has and the older one has not: each in the order of the rows.
+-- The rows that are told to be gone are those that the actor sees of the older variant and that the
+-- newer one has not. The rows that are told to be new are those of the newer variant that the older
+-- one has not. Both are in the order of the rows.
 abbrev pub DifferencesDiffer : Type 0
 DifferencesDiffer = (p : Params) (actor : Actor) (old new : Variant) →
     (gone_in (differences p actor old new) ≡ missing p actor old new) × (new_in (differences p actor old new) ≡ missing p actor new old)
@@ -280,7 +286,7 @@ DifferencesDiffer = (p : Params) (actor : Actor) (old new : Variant) →
 abbrev pub RestIsAlike : Type 0
 RestIsAlike = (p : Params) (actor : Actor) (old new : Variant) → in_both p actor old new ≡ in_both p actor new old
 
--- Turned round, what was gone is new, and what was new is gone.
+-- Where the two variants change places, the gone rows are new and the new rows are gone.
 abbrev pub DifferencesTurn : Type 0
 DifferencesTurn = (p : Params) (actor : Actor) (old new : Variant) →
     (gone_in (differences p actor new old) ≡ new_in (differences p actor old new)) × (new_in (differences p actor new old) ≡ gone_in (differences p actor old new))
@@ -289,12 +295,13 @@ DifferencesTurn = (p : Params) (actor : Actor) (old new : Variant) →
 abbrev pub NothingDiffersFromItself : Type 0
 NothingDiffersFromItself = (p : Params) (actor : Actor) (x : Variant) → differences p actor x x ≡ []
 
--- Nor does it from the one from which it was opened a moment ago.
+-- A variant that was just opened does not differ from its parent.
 abbrev pub OpenedDiffersNowhere : Type 0
 OpenedDiffersNowhere = (p : Params) (actor : Actor) (b after : Book) (v from : Name) (old new : Variant) → common b (OpenVariant v (Some from)) ≡ Ok after →
     get after.variants from ≡ Some old → get after.variants v ≡ Some new → differences p actor old new ≡ []
 
--- Of two released variants the difference that is told is the same ever after, as the answers to other queries are.
+-- The difference of two released variants is the same for an actor ever after, as the answers to
+-- other queries are.
 abbrev pub ReleasedDifferencesStay : Type 0
 ReleasedDifferencesStay = (c : Cluster) (b last : Book) (asks : List Ask) (answers : List Answer) (v w : Name) (new old : Variant) →
     get b.variants v ≡ Some new → IsTrue new.released → get b.variants w ≡ Some old → IsTrue old.released → IsRun c b asks answers last →

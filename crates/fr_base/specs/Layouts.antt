@@ -48,13 +48,13 @@ user_of signals p = find (λ s. uses s p) signals
 abbrev pub taken_at : List SignalData → ℕ → Option (ℕ × List ℕ)
 taken_at signals p = option_map (λ s. (p, s.name)) (user_of signals p)
 
--- the least payload bit that both the signal and one of the layout use, with the name of that one
+-- the least payload bit that the signal shares with one of the layout, with that one's name
 unfoldable pub first_taken_bit : LayoutData → SignalData → Option (ℕ × List ℕ)
 first_taken_bit layout s =
     option_and_then (taken_at layout.signals)
     (find (λ p. uses s p && is_some (user_of layout.signals p)) (range_with_len 0 (16 * layout.words)))
 
--- a bit that is used refuses a signal
+-- a payload bit that is used refuses a signal
 abbrev pub bit_taken : Option (ℕ × List ℕ) → Result ⊤ Refusal
 bit_taken None = Ok tt
 bit_taken (Some taken) = Err (BitTaken taken.0 taken.1)
@@ -68,7 +68,7 @@ with_signal s (t ∷ signals) = if nat_lt s.start t.start then s ∷ t ∷ signa
 abbrev pub without_signal : List ℕ → List SignalData → List SignalData
 without_signal name signals = filter (λ s. not (same_text s.name name)) signals
 
--- the first refusal that a signal meets in the layout, or none
+-- the first refusal of a signal that is to be added to the layout, or none
 unfoldable pub admits_signal : LayoutData → SignalData → Result ⊤ Refusal
 admits_signal layout s = do
   refuse Exists when has_signal layout.signals s.name

@@ -50,3 +50,4 @@ pub mod EditLaws
 pub mod KeyLaws
 pub mod FateLaws
 pub mod RefusedRooms
+pub mod RunLaws

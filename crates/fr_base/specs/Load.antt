@@ -24,7 +24,8 @@ lanes_in channels slot = map (λ channel. (slot, channel)) channels
 unfoldable pub lanes_of : Params → List (ℕ × Channel)
 lanes_of p = flat_map (lanes_in (channels_in p.channels)) (slots_of p)
 
--- those that the actor has rows of, where it sees these grants: a supplier those that are granted to it, the integrator all
+-- the lanes that a load shows the actor: a supplier the lanes that are granted to it, the
+-- integrator all
 unfoldable pub seen_lanes : Params → Actor → Table channel_slots Holder → List (ℕ × Channel)
 seen_lanes p Integrator grants = lanes_of p
 seen_lanes p (Supplier s) grants = filter (contains grants) (lanes_of p)
@@ -33,14 +34,14 @@ seen_lanes p (Supplier s) grants = filter (contains grants) (lanes_of p)
 abbrev pub lane_cell : ℕ × Channel → ℕ → Cell
 lane_cell lane cycle = record { cycle = cycle; slot = lane.0; channel = lane.1 }
 
--- in how many of the cycles the lane is filled
+-- in how many cycles the lane is filled
 unfoldable pub used_cycles : {O : Type 0} → Params → (Cell → Option O) → ℕ × Channel → ℕ
 used_cycles p filled lane = count_by (λ cycle. is_some (filled (lane_cell lane cycle))) (all_cycles p.cycles)
 
 abbrev pub lane_holder : Holder → LaneHolder
 lane_holder h = record { node = h.node; supplier = h.supplier }
 
--- the row of a lane, where these are the grants, and the cells are filled so
+-- the row of a lane, with its used cycles in this schedule and its holder among these grants
 unfoldable pub load_row : {O : Type 0} → Params → Table channel_slots Holder → (Cell → Option O) → ℕ × Channel → LoadRow
 load_row p grants filled lane = record {
   slot = lane.0;
@@ -50,10 +51,10 @@ load_row p grants filled lane = record {
   holder = option_map lane_holder (get grants lane);
 }
 
--- how full each of them is, where the actor sees these grants and frames
+-- the load of the grants and the frames that the actor sees
 unfoldable pub load_of : Params → Actor → Table channel_slots Holder → Table owned Frame → List LoadRow
 load_of p actor grants frames = map (load_row p grants (schedule_of frames)) (seen_lanes p actor grants)
 
--- the used cycles of all rows together
+-- the sum of the used cycles of all rows
 abbrev pub all_used : List LoadRow → ℕ
 all_used rows = sum_by (λ row. row.used) rows

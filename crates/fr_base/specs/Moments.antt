@@ -15,11 +15,12 @@ ring p = p.cycles * p.macroticks_per_cycle
 unfoldable pub moment : Params → Cell → ℕ
 moment p c = c.cycle * p.macroticks_per_cycle + (c.slot - 1) * p.slot_macroticks
 
--- the moments of some placements; that of a cell on A and of one on B may be the same
+-- the moments of some placements; a cell on A and one on B may have the same moment
 unfoldable pub moments : Params → List Placement → List ℕ
 moments p placements = map (moment p) (flat_map cells_of placements)
 
--- how long it is from a moment to the next time of another, on a ring of this length: the whole ring where they are the same
+-- how far it is from a moment to the next time of another, on a ring of this length: the whole ring
+-- where the two are the same
 abbrev pub distance : ℕ → ℕ → ℕ → ℕ
 distance length from to = if nat_lt from to then to - from else (length - from) + to
 
@@ -41,7 +42,7 @@ greatest (n ∷ ns) = Some (higher n (greatest ns))
     higher n None = n
     higher n (Some m) = max n m
 
--- from each moment to the next one, which may be itself a whole ring later
+-- how far it is from each moment to the next one; a lone moment comes again a whole ring later
 unfoldable pub gaps : ℕ → List ℕ → List ℕ
 gaps length moments = filter_map (λ from. least (map (distance length from) moments)) moments
 

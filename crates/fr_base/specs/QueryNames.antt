@@ -1,5 +1,5 @@
--- Query's names: a query whose names and numbers are read, one after another. Where one gives nothing, that is what
--- comes of the query.
+-- Query's names: a query whose names and numbers are read, one after another. The first that gives
+-- an error gives it to the query.
 use Rattle.std.specs.Prelude.{ℕ, ◌≡◌, Option, Some, option_map, Result, Ok, Err, MatchResult}
 use Rattle.fr_base.specs.Refusing.{◌>>=◌}
 use Rattle.fr_base.specs.declared.query.Query.{Query}
@@ -7,7 +7,7 @@ use Rattle.fr_base.specs.declared.query.Query.TheVariants.{Register, Variant, Di
 use Rattle.fr_base.specs.declared.report.Report.{Report}
 use Rattle.fr_base.specs.declared.report.Report.TheVariants.{Grants, Frames, Schedule, Gaps, Layout, Load, Room, Export}
 
--- what comes of a report, where its names may be read so, and its numbers
+-- the result of a report whose names and numbers are read by these two relations
 unfoldable pub IsReportRead : {N M A E : Type 0} → (N → Result A E → Type 0) → (M → Result ℕ E → Type 0) → Report N M → Result (Report A ℕ) E → Type 0
 IsReportRead reads counts Grants result = result ≡ Ok Grants
 IsReportRead reads counts Frames result = result ≡ Ok Frames
@@ -23,7 +23,7 @@ IsReportRead {N} {M} {A} {E} reads counts (Room frame repetition) result =
 IsReportRead {N} {M} {A} {E} reads counts (Export header part) result =
     (number : Result ℕ E) × counts part number × (result ≡ (number >>= (λ k. Ok (Export header k))))
 
--- what comes of a query, where its names may be read so, and its numbers
+-- the result of a query whose names and numbers are read by these two relations
 unfoldable pub IsQueryRead : {N M A E : Type 0} → (N → Result A E → Type 0) → (M → Result ℕ E → Type 0) → Query N M → Result (Query A ℕ) E → Type 0
 IsQueryRead reads counts (Register inventory) result = result ≡ Ok (Register inventory)
 IsQueryRead {N} {M} {A} {E} reads counts (Variant variant report) result =
@@ -35,7 +35,7 @@ IsQueryRead {N} {M} {A} {E} reads counts (Difference variant from) result =
     (λ v. (other : Result A E) × reads from other × (result ≡ (other >>= (λ f. Ok (Difference v f)))))
     (λ e. result ≡ Err e)
 
--- a report with each name changed alike, and each number
+-- the report with its names changed by the first function and its numbers by the second
 abbrev pub report_with : {N M A : Type 0} → (N → A) → (M → ℕ) → Report N M → Report A ℕ
 report_with f g Grants = Grants
 report_with f g Frames = Frames
@@ -46,13 +46,13 @@ report_with f g Load = Load
 report_with f g (Room frame repetition) = Room (f frame) (g repetition)
 report_with f g (Export header part) = Export header (g part)
 
--- a query with each name changed alike, and each number
+-- the query with its names changed by the first function and its numbers by the second
 abbrev pub query_with : {N M A : Type 0} → (N → A) → (M → ℕ) → Query N M → Query A ℕ
 query_with f g (Register inventory) = Register inventory
 query_with f g (Variant variant report) = Variant (f variant) (report_with f g report)
 query_with f g (Difference variant from) = Difference (f variant) (f from)
 
--- a report with each name changed alike, and each number read; there is none where a number is none
+-- the report with its names changed and its numbers read; none where a number gives none
 abbrev pub report_by : {N M A : Type 0} → (N → A) → (M → Option ℕ) → Report N M → Option (Report A ℕ)
 report_by f g Grants = Some Grants
 report_by f g Frames = Some Frames
@@ -63,7 +63,7 @@ report_by f g Load = Some Load
 report_by f g (Room frame repetition) = option_map (Room (f frame)) (g repetition)
 report_by f g (Export header part) = option_map (Export header) (g part)
 
--- a query with each name changed alike, and each number read; there is none where a number is none
+-- the query with its names changed and its numbers read; none where a number gives none
 abbrev pub query_by : {N M A : Type 0} → (N → A) → (M → Option ℕ) → Query N M → Option (Query A ℕ)
 query_by f g (Register inventory) = Some (Register inventory)
 query_by f g (Variant variant report) = option_map (Variant (f variant)) (report_by f g report)

@@ -1,5 +1,5 @@
--- Laws of a room that is refused: so is each Place of the frame, with whatever repetition; and a
--- released variant has none.
+-- Laws of a room that is refused. Each Place of the frame is refused too, with whatever repetition.
+-- A released variant has no room.
 use Rattle.std.specs.Prelude.{◌≡◌, ◌⊎◌, ℕ, Some, None, Ok, IsTrue}
 use Rattle.fr_base.specs.Tables.{get}
 use Rattle.fr_base.specs.Checks.{check}
@@ -21,8 +21,8 @@ use Rattle.fr_base.specs.declared.request.FrameChange.TheVariants.{Place}
 use Rattle.fr_base.specs.declared.request.Checked.TheVariants as checked
 
 -- Where a supplier that is known is refused the room for a frame, each Place of this frame, with
--- whatever repetition, is refused the same; but where the refusal is Limit, a Place on what is
--- not granted to the frame's node is NotGranted.
+-- whatever repetition, is refused the same. There is one exception: where the refusal is Limit, a
+-- Place on what is not granted to the frame's node is NotGranted.
 abbrev pub RefusedRoomRefusesEach : Type 0
 RefusedRoomRefusesEach = (c : Cluster) (b : Book) (s v f : Name) (repetition : ℕ) (q : Placement)
     (asked request : Request) (refusal : Refusal) → IsTrue (knows b (Supplier s)) →

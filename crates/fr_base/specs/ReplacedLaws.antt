@@ -15,21 +15,23 @@ use Rattle.fr_base.specs.declared.name.Name.{Name}
 use Rattle.fr_base.specs.declared.actor.Actor.TheVariants.{Supplier}
 use Rattle.fr_base.specs.declared.request.Request.TheVariants.{Replace}
 
--- The frame has what the rows say of it. It is of the node of which it was; if it was not there, of that of the first row that names one; and
--- each row that names one names this. Its placements are exactly those of the rows that name it, where one gives it a placement, and else
--- stay; so its signals.
+-- The frame has what the rows say of it. Its node is the one that it had before, or, if it was not
+-- there, that of the first row that names a node. Each row that names a node names this one. Its
+-- placements are exactly those that the rows give it, or those that it had before where the rows
+-- give none. The same holds of its signals.
 pub record IsAsFiled (reads : List RowRead) (f : Name) (before : Option Frame) (after : Frame) : Type 0 where
   pub node : node_or (nodes_for f reads) before ≡ Some after.node
   pub one_node : IsTrue (list_all (same_text after.node) (nodes_for f reads))
   pub placements : after.placements ≡ placed_by (placements_for f reads) (had_placements before)
   pub signals : after.signals ≡ signalled_by (signals_for f reads) (had_signals before)
 
--- in the book after, the supplier's frame of the variant is there, and it has what the rows say of it
+-- The supplier's frame of the variant is there in the book after, and it has what the rows say of
+-- it.
 abbrev pub IsFiledIn : Book → Name → Name → List RowRead → Book → Name → Type 0
 IsFiledIn b s v reads after f = (y : Frame) × (frame_at after s v f ≡ Some y) × IsAsFiled reads f (frame_at b s v f) y
 
--- A replacement that was answered Replaced, with so many rows, was of a file of so many rows, of which none was refused, and each frame
--- that they name has what they say.
+-- A replacement was answered Replaced, with so many rows. Then its file has so many rows, none of
+-- them is refused, and each frame that they name has what they say.
 abbrev pub ReplacedIsFiled : Type 0
 ReplacedIsFiled = (c : Cluster) (b : Book) (s : Name) (variant body : List ℕ) (rows : ℕ) →
     (step c b (Supplier s) (Replace variant body)).answer ≡ Replaced rows →

@@ -16,20 +16,20 @@ use Rattle.fr_base.specs.declared.actor.Actor.TheVariants.{Supplier}
 use Rattle.fr_base.specs.declared.refusal.Refusal.{Refusal}
 use Rattle.fr_base.specs.declared.request.Request.TheVariants.{Replace}
 
--- whether the row is of the frame
+-- whether the row names the frame
 abbrev pub names_frame : Name → Result Row Refusal → Bool
 names_frame f (Ok row) = same_text (frame_of_row row) f
 names_frame f (Err refusal) = false
 
--- whether one of the rows is
+-- whether one of the rows names the frame
 abbrev pub is_named : Name → List RowRead → Bool
 is_named f reads = list_any (λ read. names_frame f read.row) reads
 
--- whether one of the rows is of the supplier's frame under this key
+-- whether the key is of a frame of the supplier that one of the rows names
 abbrev pub is_freed : Name → List RowRead → Name × Name → Bool
 is_freed s reads k = is_of s k && is_named k.1 reads
 
--- The book is as the first, but for the frames of the supplier in the variant that the rows name.
+-- The book is as the first one, except for the supplier's frames of the variant that the rows name.
 pub record IsElsewhereAs (b : Book) (s v : Name) (reads : List RowRead) (after : Book) : Type 0 where
   pub x : Variant
   pub there : get b.variants v ≡ Some x
@@ -37,7 +37,7 @@ pub record IsElsewhereAs (b : Book) (s v : Name) (reads : List RowRead) (after :
   pub is : after ≡ with_variant b v (record x { frames = frames })
   pub others : (k : Name × Name) → is_freed s reads k ≡ false → get frames k ≡ get x.frames k
 
--- After a replacement that was carried out, the frames that its file names are all that may have changed.
+-- A replacement that was carried out changes no other frames than those that its file names.
 abbrev pub ReplacedLeavesTheRest : Type 0
 ReplacedLeavesTheRest = (c : Cluster) (b : Book) (s : Name) (variant body : List ℕ) (rows : ℕ) →
     (step c b (Supplier s) (Replace variant body)).answer ≡ Replaced rows →

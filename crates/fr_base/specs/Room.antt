@@ -31,15 +31,15 @@ abbrev pub placed : Params → ℕ → ℕ → Channels → ℕ → Placement
 placed p repetition slot cs base =
     record { slot = slot; channels = cs; cycles = record { count = p.cycles; base = base; repetition = repetition } }
 
--- those with this repetition in a slot on some channels, by base
+-- the placements with this repetition in a slot on some channels, by base
 unfoldable pub places_on : Params → ℕ → ℕ → Channels → List Placement
 places_on p repetition slot cs = map (placed p repetition slot cs) (range_with_len 0 repetition)
 
--- those in a slot, by channels and base
+-- the placements with this repetition in a slot, by channels and base
 unfoldable pub places_in : Params → ℕ → ℕ → List Placement
 places_in p repetition slot = flat_map (places_on p repetition slot) (channels_within p.channels)
 
--- all of them, by slot, channels and base
+-- the placements of the cluster with this repetition, by slot, channels and base
 unfoldable pub places_with : Params → ℕ → List Placement
 places_with p repetition = flat_map (places_in p repetition) (slots_of p)
 
@@ -47,18 +47,19 @@ places_with p repetition = flat_map (places_in p repetition) (slots_of p)
 unfoldable pub is_vacant : Table channel_slots Holder → (Cell → Option Sender) → Name → Name → Placement → Bool
 is_vacant grants filled s node q = granted grants s node q && is_none (first_taken filled (cells_of q))
 
--- where the supplier's frame may be placed with this repetition, among these grants and frames, where cells are filled so
+-- where the supplier's frame may be placed with this repetition, by these grants, these frames and
+-- this schedule
 unfoldable pub room : Params → Table channel_slots Holder → Table owned Frame → (Cell → Option Sender) → Name → Name → ℕ → Result (List Placement) Refusal
 room p grants frames filled s f repetition = do
   frame ← get frames (s, f) or NoFrame
   refuse Limit when nat_le MAX_PLACEMENTS (len frame.placements)
   Ok (filter (is_vacant grants filled s frame.node) (places_with p repetition))
 
--- and so where its own rows are all that there are
+-- the room by the supplier's own grants and frames, as if no others were there
 abbrev pub own_room : Params → Table channel_slots Holder → Table owned Frame → Name → Name → ℕ → Result (List Placement) Refusal
 own_room p grants frames s f repetition = room p grants frames (schedule_of frames) s f repetition
 
--- and so in a variant of the book
+-- the room in a variant of the book
 unfoldable pub room_in : Params → Book → Name → Name → Name → ℕ → Result (List Placement) Refusal
 room_in p b s v f repetition = do
   variant ← get b.variants v or NoVariant

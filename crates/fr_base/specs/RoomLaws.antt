@@ -60,7 +60,7 @@ ToldRoomIsPlace = (c : Cluster) (b : Book) (s : Name) (variant frame : List ℕ)
     is_done (step c b (Supplier s) (place_of variant frame q)).answer
     ≡ tells_place q (step c b (Supplier s) (room_of variant frame q.cycles.repetition)).answer
 
--- Each placement that it is told of is one of the cluster, with this repetition.
+-- Each placement that a supplier is told is one of the cluster, with this repetition.
 abbrev pub ToldRoomFits : Type 0
 ToldRoomFits = (c : Cluster) (b : Book) (s : Name) (variant frame : List ℕ) (repetition : ℕ) (q : Placement) →
     IsSound c b → IsTrue (tells_place q (step c b (Supplier s) (room_of variant frame repetition)).answer) →
@@ -75,11 +75,11 @@ RefusedRoomRefuses = (c : Cluster) (b : Book) (s : Name) (variant frame : List �
     IsTrue (is_refused (step c b (Supplier s) (place_of variant frame q)).answer)
     × ((refusal ≡ Limit) ⊎ ((step c b (Supplier s) (place_of variant frame q)).answer ≡ Refused refusal))
 
--- by slot, then channels, A before AB before B, then base
+-- the order of placements: by slot, then channels, A before AB before B, then base
 abbrev pub IsBefore : Placement → Placement → Type 0
 IsBefore q r = placement_order.compare q r ≡ Less
 
--- What it is told of is in order, and nothing stands twice.
+-- The room that a supplier is told is in order, and no placement stands in it twice.
 abbrev pub ToldRoomIsInOrder : Type 0
 ToldRoomIsInOrder = (c : Cluster) (b : Book) (s : Name) (variant frame : List ℕ) (repetition : ℕ) (all : Bool)
     (places : List Placement) → IsSound c b →

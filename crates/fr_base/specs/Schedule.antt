@@ -5,13 +5,13 @@ use Rattle.std.specs.List.{filter_map}
 use Rattle.fr_base.specs.Cells.{Cell, has_cell}
 use Rattle.fr_base.specs.declared.placement.Placement.{Placement}
 
--- Owners and their placements fill cells: each in turn fills those of its cells that are still empty.
--- So in a cell is the first sender whose placement has it.
+-- Owners and their placements fill cells in turn: each fills those of its cells that are still
+-- empty. So the first sender whose placement has a cell is sent in it.
 unfoldable pub fill : {O : Type 0} → List (O × Placement) → Cell → Option O
 fill [] c = None
 fill (e ∷ es) c = if has_cell e.1 c then Some e.0 else fill es c
 
--- the first of the cells that is filled, with its sender
+-- the first cell of the list that is filled, with its sender
 unfoldable pub first_taken : {O : Type 0} → (Cell → Option O) → List Cell → Option (Cell × O)
 first_taken filled [] = None
 first_taken filled (c ∷ cs) = found c (filled c) (first_taken filled cs)
@@ -20,6 +20,6 @@ first_taken filled (c ∷ cs) = found c (filled c) (first_taken filled cs)
     found c (Some o) later = Some (c, o)
     found c None later = later
 
--- the filled ones of the cells, with their owners
+-- the cells of the list that are filled, with their owners
 unfoldable pub entries : {O : Type 0} → (Cell → Option O) → List Cell → List (Cell × O)
 entries filled cells = filter_map (λ c. option_map (λ o. (c, o)) (filled c)) cells

@@ -43,7 +43,7 @@ insert {o = o} t k v = record { rows = put o.compare k v t.rows; sorted = is_sor
 unfoldable pub only : {K V : Type 0} {o : Order K} → (K → V → Bool) → Table o V → Table o V
 only {o = o} p t = record { rows = filter (λ e. p e.0 e.1) t.rows; sorted = is_sorted-filter o.compare (λ e. p e.0 e.1) t.rows t.sorted }
 
--- each value changed alike
+-- the table with each value changed by the function
 unfoldable pub each : {K V W : Type 0} {o : Order K} → (V → W) → Table o V → Table o W
 each {o = o} f t = record { rows = map (λ e. (e.0, f e.1)) t.rows; sorted = is_sorted-map o.compare f t.rows t.sorted }
 
@@ -53,16 +53,16 @@ unfolding empty
 from_rows [] = empty
 from_rows (e ∷ es) = insert (from_rows es) e.0 e.1
 
--- the rows whose key is another
+-- the table without the row at a key
 unfoldable pub remove : {K V : Type 0} {o : Order K} → Table o V → K → Table o V
 remove {o = o} t k = only (λ j _. not (eq_by_cmp o.compare k j)) t
 
--- what becomes of a row: this value, or it is gone
+-- the fate of a row: it is now this value, or it is gone
 pub data Fate (V : Type 0) : Type 0 where
   Becomes : V → Fate V
   Gone : Fate V
 
--- the table after this became of what stands at a key
+-- the table where the row at a key had this fate
 unfoldable pub settle : {K V : Type 0} {o : Order K} → Table o V → K → Fate V → Table o V
 settle t k (Becomes v) = insert t k v
 settle t k Gone = remove t k

@@ -14,16 +14,17 @@ use crate::slot::Slot;
 pub enum Answer {
     /// The command was carried out.
     Done,
-    /// All rows of the import's file were carried out, so many, and the import is kept.
+    /// All rows of the import's file were carried out, and the import is kept. `rows` counts them.
     Imported { rows: u32 },
-    /// All rows of a replacement's file were carried out, so many, in place of what the frames that it names had.
+    /// All rows of a replacement's file were carried out. They stand in place of what the frames
+    /// that the file names had before. `rows` counts them.
     Replaced { rows: u32 },
     /// What a query asked for. `all` is true where the integrator asked, who sees the rows of all suppliers.
     Report { all: bool, rows: ReportRows },
     /// Nothing was changed.
     Refused(Refusal),
-    /// Nothing was changed: the import's file has a refused row, the first one at this line. The line
-    /// counts the file's records, of which the header is the first.
+    /// Nothing was changed: the file of an import or a replacement has a refused row, the first one at this line. The
+    /// line counts the file's records, of which the header is the first.
     RefusedRow { line: u32, refusal: Refusal },
 }
 
@@ -80,7 +81,7 @@ impl Drop for Answer {
 }
 
 impl Answer {
-    /// The rows of a report, or why it was refused. Another answer has none: `Unavailable`.
+    /// The rows of a report, or the refusal. Any other answer has no rows and gives `Unavailable`.
     pub fn into_rows(self) -> Result<ReportRows, Refusal>
         ensures { result ≡ rows_in self }
     {
@@ -123,14 +124,14 @@ impl ReportRows {
     }
 }
 
-/// A row of what is told of the cluster.
+/// A row of the report of the cluster.
 #[derive(Clone, Copy, PartialEq, Eq)]
 pub enum ClusterRow {
     /// The channels that the cluster has.
     Channels(Channels),
     /// A number of the cluster file, and what it is.
     Number { figure: Figure, value: u32 },
-    /// A supplier.
+    /// One of the suppliers.
     Supplier(Name),
 }
 
@@ -290,7 +291,7 @@ pub struct SignalRecord {
 /// A row in which two variants differ.
 #[derive(Clone, Copy, PartialEq, Eq)]
 pub struct DifferenceRow {
-    /// Whether the variant has it and the other one has not; or the other way round.
+    /// True where only the newer variant has the row, false where only the older one has it.
     pub is_new: bool,
     pub row: SeenRow,
 }

@@ -25,7 +25,7 @@ pub enum Channels {
 }
 
 impl Channel {
-    /// The channel that is written so: `A` or `B`.
+    /// The channel that the text writes: `A` or `B`.
     pub fn read(text: &str) -> Option<Channel>
         ensures { result ≡ channel_of_text text.now }
     {
@@ -48,14 +48,14 @@ impl Channel {
 }
 
 impl Channels {
-    /// The channels that are written so: `A`, `B` or `AB`.
+    /// The channels that the text writes: `A`, `B` or `AB`.
     pub fn read(text: &str) -> Option<Channels>
         ensures { result ≡ channels_of_text text.now }
     {
         Channels::from_bytes(text.as_bytes())
     }
 
-    /// The same of bytes, which need not be a text.
+    /// The channels that the bytes write. The bytes need not be a text.
     #[inline(always)]
     pub fn from_bytes(bytes: &[u8]) -> Option<Channels>
         ensures { result ≡ channels_of_text bytes.now }

@@ -222,7 +222,7 @@ fn drop_frame(actor: &Actor, variant: &Text, frame: &Text) -> Result<Checked<'st
     Ok(of_frame(supplier, variant, frame, FrameChange::Drop))
 }
 
-// What `placed` refuses comes behind what is said of the supplier, the variant and the frame.
+// A refusal by the supplier, the variant or the frame comes before a refusal in `placed`.
 #[tactic(auto, unfolding(crate::proofs::ChecksLemmas::frames_open))]
 fn place(
     actor: &Actor,
@@ -237,7 +237,7 @@ fn place(
     Ok(of_frame(supplier, variant, frame, FrameChange::Place(placed?)))
 }
 
-// What `placed` refuses comes behind what is said of the supplier, the variant and the frame.
+// A refusal by the supplier, the variant or the frame comes before a refusal in `placed`.
 #[tactic(auto, unfolding(crate::proofs::ChecksLemmas::frames_open))]
 fn unplace(
     actor: &Actor,
@@ -343,7 +343,7 @@ fn query(params: &Params, actor: &Actor, asked: &Query<Text>) -> Result<Checked<
     Ok(Checked::Query(query))
 }
 
-// A supplier alone may ask for the room of a frame.
+// Refuses the integrator that asks for the room of a frame: a supplier alone may ask.
 #[tactic(auto, unfolding(crate::proofs::ChecksLemmas::checks_open))]
 fn may_ask(actor: &Actor, asked: &Query<Text>) -> Result<(), Refusal>
     ensures { result ≡ (refuse Refusal.NotYours when is_integrator actor.now && is_of_room asked.now) }
@@ -360,7 +360,7 @@ fn may_ask(actor: &Actor, asked: &Query<Text>) -> Result<(), Refusal>
     }
 }
 
-// The repetition of a query, where it has one, divides the count of cycles.
+// Refuses a query whose repetition does not divide the count of cycles.
 #[tactic(auto, unfolding(crate::proofs::ChecksLemmas::checks_open))]
 fn repeats(params: &Params, query: &Query<Name>) -> Result<(), Refusal>
     ensures { result ≡ (refuse Refusal.BadCycles when not (has_repetition params.now query.now)) }
@@ -411,7 +411,7 @@ impl QueryReader<Text, u32, Name, Refusal> for Checking {
     }
 }
 
-// Whether the integrator asks.
+// Refuses a supplier: the integrator alone may ask.
 #[tactic(auto, unfolding(crate::proofs::ChecksLemmas::checks_open))]
 fn integrator(actor: &Actor) -> Result<(), Refusal>
     ensures { result ≡ (refuse Refusal.NotYours when not (is_integrator actor.now)) }
@@ -447,7 +447,7 @@ fn of_frame(supplier: Name, variant: Name, frame: Name, change: FrameChange) -> 
     rows(supplier, variant, Change::Frame { frame, change })
 }
 
-// The supplier that asks.
+// The supplier that asks. The integrator is refused.
 #[tactic(auto, unfolding(crate::specs::Checks::asking))]
 fn asking(actor: &Actor) -> Result<Name, Refusal>
     ensures { result ≡ asking actor.now }
@@ -503,7 +503,7 @@ fn slot(params: &Params, number: u32) -> Result<Slot, Refusal>
     }
 }
 
-// The channel that is written so, if the cluster has it.
+// The channel that the text writes, if the cluster has it.
 #[tactic(auto, unfolding(crate::proofs::ChecksLemmas::checks_open))]
 fn channel(params: &Params, text: &Text) -> Result<Channel, Refusal>
     ensures { result ≡ channel params.now text.now }
@@ -514,7 +514,7 @@ fn channel(params: &Params, text: &Text) -> Result<Channel, Refusal>
     }
 }
 
-// The channels that are written so, if the cluster has them all.
+// The channels that the text writes, if the cluster has them all.
 #[tactic(auto, unfolding(crate::proofs::ChecksLemmas::checks_open))]
 #[inline(always)]
 fn channels(params: &Params, text: &[u8]) -> Result<Channels, Refusal>
@@ -566,7 +566,7 @@ pub(crate) fn signal(name: Name, start: u32, length: u32, text: &[u8]) -> Result
     Signal::new(name, start, length, order).map_err(|_| Refusal::BadSignal)
 }
 
-// Whether a cluster of the first channels has the second ones.
+// Whether a cluster with the channels `cluster` has all of `wanted`.
 fn has_all(cluster: Channels, wanted: Channels) -> bool
     ensures { result ≡ list_all (has_channel cluster) (channels_in wanted) }
 {

@@ -1,8 +1,8 @@
-//! What a cluster file says, and the same with one supplier more or with another key of a supplier.
+//! What a cluster file says. A supplier more and another key of a supplier make another config.
 ghost use Rattle.std.specs.Prelude.{◌≡◌, ◌==◌, [], ◌∷◌, ◌++◌, length, OnOk, OnErr};
 ghost use Rattle.std.specs.Prelude.{◌⊎◌, Ok, Err, IfOk, IfErr, map, position, IsTrue};
 ghost use Rattle.std.specs.List.{list_any};
-ghost use Rattle.fr_base.specs.Cluster.{IsWellFormed, keys_of};
+ghost use Rattle.fr_base.specs.Cluster.{IsWellFormed, keys_differ, keys_of};
 ghost use Rattle.fr_base.specs.Joining.{admits_supplier, is_earlier, joined, with_supplier};
 ghost use Rattle.fr_base.specs.KeyChanges.{admits_key, keyed, with_key};
 ghost use Rattle.fr_base.specs.Names.{same_text};
@@ -170,7 +170,7 @@ impl Config {
         Ok(())
     }
 
-    // Whether the integrator or a supplier has this key.
+    // Whether the key is the integrator's or a supplier's.
     #[tactic(auto, using(crate::proofs::JoiningLemmas::any_key))]
     fn has_key(&self, key: Key) -> bool
         ensures { result ≡ list_any (same_text key) (keys_of self.now.cluster.integrator self.now.suppliers) }
@@ -178,8 +178,8 @@ impl Config {
         key == self.integrator() || is_key_of(self.suppliers(), key)
     }
 
-    /// This with one supplier more. It is refused as [`Config::admits`] says, or is `Unavailable` where memory
-    /// is refused.
+    /// The config with one more supplier. It is refused as [`Config::admits`] says, or is
+    /// `Unavailable` where memory is refused.
     pub fn joined(&self, alloc: Global, supplier: Supplier) -> Result<Config, Refusal>
         ensures ok { IfOk result (λ new. (admits_supplier self.now supplier.name supplier.key ≡ Ok tt) × (new ≡ joined self.now supplier.name supplier.key)) }
         ensures err { IfErr result (λ e. ((admits_supplier self.now supplier.name supplier.key ≡ Ok tt) × (e ≡ Unavailable)) ⊎ (admits_supplier self.now supplier.name supplier.key ≡ Err e)) }
@@ -192,8 +192,9 @@ impl Config {
         Ok(Config::new(self.params(), self.integrator(), suppliers))
     }
 
-    /// Whether the supplier may have this key. If not: `NoSupplier` where none has the name, `KeyTaken` where
-    /// the integrator or a supplier has the key, the supplier itself too; the first of these that applies.
+    /// Whether the supplier may have this key. If not: `NoSupplier` where no supplier has the name,
+    /// `KeyTaken` where the key is the integrator's or a supplier's, also where it is this
+    /// supplier's own. The first of these that applies is answered.
     #[tactic(auto, unfolding(crate::proofs::JoiningLemmas::joining_open))]
     pub fn admits_key(&self, supplier: Name, key: Key) -> Result<(), Refusal>
         ensures { result ≡ admits_key self.now supplier key }
@@ -207,8 +208,8 @@ impl Config {
         Ok(())
     }
 
-    /// This with another key of the supplier. It is refused as [`Config::admits_key`] says, or is `Unavailable`
-    /// where memory is refused.
+    /// The config with another key of the supplier. It is refused as [`Config::admits_key`] says,
+    /// or is `Unavailable` where memory is refused.
     pub fn with_key(&self, alloc: Global, supplier: Name, key: Key) -> Result<Config, Refusal>
         ensures ok { IfOk result (λ new. (admits_key self.now supplier key ≡ Ok tt) × (new ≡ with_key self.now supplier key)) }
         ensures err { IfErr result (λ e. ((admits_key self.now supplier key ≡ Ok tt) × (e ≡ Unavailable)) ⊎ (admits_key self.now supplier key ≡ Err e)) }
@@ -221,7 +222,7 @@ impl Config {
     }
 }
 
-// A copy of the list, in which this key is that of the supplier of this name.
+// A copy of the list, in which the supplier of this name has this key.
 fn rekeyed(alloc: Global, list: &[Supplier], name: Name, key: Key) -> Result<Suppliers, NoMemory>
     ensures { IfOk result (λ copy. copy ≡ map (keyed name key) list.now) }
 {
@@ -232,7 +233,7 @@ fn rekeyed(alloc: Global, list: &[Supplier], name: Name, key: Key) -> Result<Sup
     Ok(suppliers)
 }
 
-// The supplier, with this key where this is its name.
+// The supplier, with this key where it has this name.
 fn keyed(supplier: Supplier, name: Name, key: Key) -> Supplier
     ensures { result ≡ keyed name key supplier }
 {
@@ -268,9 +269,19 @@ fn has_name(suppliers: &[Supplier], name: Name) -> bool
     suppliers.iter().any(|supplier| name == supplier.name)
 }
 
-// Whether one of the suppliers has this key.
+// Whether the key is one of the suppliers'.
 fn is_key_of(suppliers: &[Supplier], key: Key) -> bool
     ensures { result ≡ list_any (λ s. same_text key s.key) suppliers.now }
 {
     suppliers.iter().any(|supplier| key == supplier.key)
+}
+
+/// Whether no two of the key and the suppliers' keys are equal.
+pub fn keys_differ(key: Key, suppliers: &[Supplier]) -> bool
+    ensures { result ≡ keys_differ (keys_of key suppliers.now) }
+{
+    match suppliers {
+        [] => true,
+        [next, rest @ ..] => !is_key_of(suppliers, key) && keys_differ(next.key, rest),
+    }
 }

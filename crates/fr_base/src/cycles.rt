@@ -40,7 +40,7 @@ impl CycleSet {
     ghost use Rattle.std.specs.Prelude.{ℕ};
     ghost use Rattle.fr_base.specs.Cycles.{are_cycles, is_cycle_count, is_cycle_set, has_cycle, first_common, is_bit_set};
 
-    /// The cycles of this base and repetition, of so many, if they select any.
+    /// The cycles that base and repetition select of so many cycles, if they select any.
     #[tactic(auto, using(crate::proofs::CycleLemmas::divisor_within))]
     pub fn new(cycles: u32, base: u32, repetition: u32) -> Result<CycleSet, BadCycles>
         requires { IsTrue (is_cycle_count cycles) }
@@ -57,7 +57,7 @@ impl CycleSet {
         }
     }
 
-    /// How many cycles there are, in the set or not.
+    /// How many cycles there are. The set has some of them.
     pub fn cycles(&self) -> u8
         ensures value { result ≡ self.now.count }
         ensures are_cycles { IsTrue (are_cycles self.now) }
@@ -74,7 +74,7 @@ impl CycleSet {
         self.base
     }
 
-    /// Every how many cycles one is in the set.
+    /// How many cycles lie from one cycle of the set to the next.
     pub fn repetition(&self) -> u8
         ensures value { result ≡ self.now.repetition }
         ensures are_cycles { IsTrue (are_cycles self.now) }
@@ -82,7 +82,7 @@ impl CycleSet {
         self.repetition
     }
 
-    /// Whether the cycle is in the set. None from the count on is.
+    /// Whether the cycle is in the set. A cycle at or above the count is not.
     pub fn contains(&self, cycle: u8) -> bool
         ensures { result ≡ has_cycle self.now cycle }
     {
@@ -94,7 +94,7 @@ impl CycleSet {
     pub fn mask(&self) -> u64
         ensures { (c : ℕ) → is_bit_set result c ≡ has_cycle self.now c }
     {
-        // Of so many ones as the count is, the first of each repetition is kept.
+        // The quotient has a one for the first cycle of each repetition.
         (ones(self.count) / ones(self.repetition)) << self.base
     }
 
@@ -110,7 +110,7 @@ impl CycleSet {
     }
 }
 
-// So many ones, from the bit of weight 1 on.
+// The word whose `count` lowest bits are ones.
 fn ones(count: u8) -> u64
     requires { (1 ≤ count) × (count ≤ 64) }
     ensures { result ≡ 2 ^ count - 1 }

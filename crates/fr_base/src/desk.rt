@@ -8,7 +8,8 @@ use crate::request::Ask;
 use std::alloc::Global;
 
 /// A register that knows who asks, and answers requests. What is said of its rows holds as long as it
-/// is clean: once somebody else may have written to them nothing is known, and it is never clean again.
+/// is clean: once somebody else may have written to them, or what was read may not be what was written, nothing is known,
+/// and it is never clean again.
 pub trait Desk {
     ghost use Rattle.fr_base.specs.Actors.{actor_of};
     ghost use Rattle.fr_base.specs.Book.{Book, file_of};
@@ -19,7 +20,7 @@ pub trait Desk {
     /// Its rows stand for the book, under the cluster file.
     ghost stands: { Self → Cluster → Book → Type 0 };
 
-    /// Nobody else has written to the rows so far.
+    /// Nobody else has written to the rows so far, and what was read of them was what was written.
     ghost clean: { Self → Type 0 };
 
     /// Who asks with this key in a sound register: the integrator, a supplier, or nobody.
@@ -30,8 +31,9 @@ pub trait Desk {
     fn config(&self) -> &Config
         ensures { (c : Cluster) (b : Book) → stands self.now c b → result.now ≡ file_of c b };
 
-    /// Answers a request. In a sound register this is one step of it; or the answer is `Unavailable`,
-    /// only where who asks is known and nothing in the request itself refuses it, and the rows stay.
+    /// Answers a request. In a sound register the answer is that of one step. Or the answer is
+    /// `Unavailable`, and the rows stay: that comes only where the sender is known and the request
+    /// itself gives no cause for a refusal.
     fn ask(&mut self, alloc: Global, ask: &Ask) -> Answer
         ensures falls { clean self.new → clean self.old }
         ensures answered { clean self.new → (c : Cluster) (b : Book) → stands self.old c b → IsSound c b →

@@ -43,7 +43,7 @@ pub enum Row {
     },
 }
 
-/// A row as it was read, or why it is refused by its own text.
+/// A record as a row, or why its own text refuses it.
 #[derive(Clone, Copy, PartialEq, Eq)]
 pub struct RowRead {
     /// The row's place among the file's records, of which the header is the first.
@@ -102,8 +102,8 @@ impl Row {
         Ok(Row::AddSignal { frame, signal })
     }
 
-    /// The row of placements with these names and fields, unless one of them refuses it. The channels
-    /// need not be a text.
+    /// The row of placements with these names and fields, or its first refusal. The channels need
+    /// not be a text.
     #[tactic(auto, unfolding(crate::proofs::ImportLemmas::rows_open))]
     #[inline(always)]
     pub fn place(
@@ -125,8 +125,8 @@ impl Row {
         })
     }
 
-    /// The row of signals with these names and fields, unless one of them refuses it. The order need not
-    /// be a text.
+    /// The row of signals with these names and fields, or its first refusal. The order need not be
+    /// a text.
     #[tactic(auto, unfolding(crate::proofs::ImportLemmas::rows_open))]
     #[inline(always)]
     pub fn add_signal(frame: Name, name: Name, start: u32, length: u32, order: &[u8]) -> Option<Row>

@@ -7,7 +7,8 @@ use crate::fixed_text::FixedText;
 use std::fmt::{self, Debug, Display, Formatter};
 use std::marker::Model;
 
-/// A key by which a request's line says whose it is: 8 to 64 ASCII letters and digits. Case matters.
+/// A key: it says who sends a request's line. It has 8 to 64 ASCII letters and digits. Case
+/// matters.
 #[derive(Clone, Copy, PartialEq, Eq)]
 pub struct Key {
     text: FixedText<64>,

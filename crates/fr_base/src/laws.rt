@@ -1,6 +1,6 @@
 //! Laws of the register: functions with nothing to do, whose contracts say what holds of any register. A new register
-//! is sound and stays so, one frame is sent in a cell, a release freezes, an import acts once, and each supplier is
-//! answered as if alone.
+//! is sound and stays so, one frame is sent in a cell, a release freezes, an import acts once, each supplier is answered
+//! as if alone, and the same requests come to one end.
 ghost use Rattle.fr_base.specs.Laws.{BadVariantIsBadName, DifferencesDiffer, DifferencesTurn, EqualViews, FirstTakenIsOwn, HolderSends, ImportActsOnce, ImportIsKept, ImportIsTold, KeyIsChanged, KnownStaysKnown, LabelStaysUsed, LoadAddsUp, NothingDiffersFromItself, OneDependence, OneFrameInACell, OpenedDiffersNowhere, OpeningIsAlone, OpeningIsSound, OtherStepLeavesRows, OwnStepIsAlone, RefusedChangesNothing, ReleaseFreezes, ReleasedAnswersStay, ReleasedDifferencesStay, ReplacementIsTold, RestIsAlike, RoomFits, RoomIsAlone, RoomIsPlace, RoomIsRefused, RunIsAlone, RunIsSoundThroughout, RunKeepsSound, ScheduleIsOwn, StepKeepsSound, StepsAreARun, TrialChangesNothing};
 ghost use Rattle.fr_base.specs.DifferenceLaws.{NothingIsGoneAndNew, ToldIsWhatDiffers};
 ghost use Rattle.fr_base.specs.ExportParts.{AllRecordsAreTold, ExportHasParts, ExportIsTold, FewRecordsAreTold};
@@ -15,6 +15,7 @@ mod keys;
 mod loads;
 mod queries;
 mod rooms;
+mod runs;
 
 pub use edits::{differences_are_in_order, new_is_old_edited, seen_rows_are_in_order};
 pub use fates::{
@@ -25,6 +26,7 @@ pub use keys::{set_key_changes_one_key, set_key_is_done};
 pub use loads::{load_counts_the_schedule, load_shows_each_lane, load_shows_own_lanes};
 pub use queries::{difference_is_told, inventory_is_told, load_is_told, query_changes_nothing};
 pub use rooms::{no_room_where_released, refused_room_refuses_each};
+pub use runs::{available_run_is_steps, runs_are_one};
 
 /// The book of a new register is sound.
 pub fn opening_is_sound()
@@ -61,7 +63,8 @@ pub fn known_stays_known()
     ensures { KnownStaysKnown }
 {}
 
-/// Once a supplier of a sound register has another key, that is the supplier's, the old one is nobody's, and all others stay whose they were.
+/// Once a supplier of a sound register has another key, the new key is the supplier's and the old
+/// one is nobody's. Every other key stays whose it was.
 pub fn key_is_changed()
     ensures { KeyIsChanged }
 {}
@@ -71,13 +74,14 @@ pub fn release_freezes()
     ensures { ReleaseFreezes }
 {}
 
-/// A query of a released variant gives the same actor, from when it is known, the same answer ever after.
+/// A query of a released variant, with names of their form, gives the same actor, from when it is known, the same answer
+/// ever after, unless that is `Unavailable`.
 pub fn released_answers_stay()
     ensures { ReleasedAnswersStay }
 {}
 
-/// An import that a sound register carried out, and that comes again with the same label, variant and file, has
-/// its answer again and changes nothing, ever after.
+/// An import that a sound register carried out has its answer again and changes nothing, ever
+/// after, where it comes again with the same label, variant and file.
 pub fn import_acts_once()
     ensures { ImportActsOnce }
 {}
@@ -97,7 +101,7 @@ pub fn bad_variant_is_bad_name()
     ensures { BadVariantIsBadName }
 {}
 
-/// A replacement that was carried out changes the frames that its file names, and all else is as before.
+/// A replacement that was carried out changes no more than the frames that its file names: all else is as before.
 pub fn replaced_leaves_the_rest()
     ensures { ReplacedLeavesTheRest }
 {}
@@ -112,13 +116,14 @@ pub fn same_file_changes_nothing()
     ensures { SameFileChangesNothing }
 {}
 
-/// In a sound book a part of the variant's own export changes nothing.
+/// In a sound book a part of an open variant's own export, sent there as a replacement, changes nothing.
 pub fn own_export_changes_nothing()
     ensures { OwnExportChangesNothing }
 {}
 
-/// The parts of an export, imported into a variant where the supplier has the same nodes and grants and no frames,
-/// bring its frames along.
+/// All parts of the exports of a sound book, imported into an open variant of one with the same parameters, where the
+/// supplier has the same nodes and grants and no frames, bring its frames along: first those of frames, then those of
+/// placements, then those of signals, each under a label that is free.
 pub fn export_is_imported()
     ensures { ExportIsImported }
 {}
@@ -133,8 +138,9 @@ pub fn trial_changes_nothing()
     ensures { TrialChangesNothing }
 {}
 
-/// An import under a label that is not kept, where one more may be kept, is answered as its trial tells:
-/// so many rows exactly where each is done, and else the first that is not.
+/// An import under a label that is not kept, where one more may be kept, is answered as its trial
+/// tells. It is answered with so many rows exactly where each row is done, and else with the first
+/// row that is not.
 pub fn import_is_told()
     ensures { ImportIsTold }
 {}
@@ -150,23 +156,24 @@ pub fn first_taken_is_own()
     ensures { FirstTakenIsOwn }
 {}
 
-/// In a sound book a supplier's schedule is what is the supplier's of the schedule of all.
+/// In a sound book a supplier's schedule has in each cell what the schedule of all suppliers has
+/// there of this supplier.
 pub fn schedule_is_own()
     ensures { ScheduleIsOwn }
 {}
 
-/// In a sound book what is a supplier's is answered as by the register that holds this supplier alone, and does the
-/// same to the supplier's rows.
+/// In a sound book a request that is the supplier's is answered as by the register that holds this
+/// supplier alone. It does the same to the supplier's rows.
 pub fn own_step_is_alone()
     ensures { OwnStepIsAlone }
 {}
 
-/// What is not a supplier's leaves its rows as they were.
+/// A request that is not a supplier's leaves the supplier's rows as they were.
 pub fn other_step_leaves_rows()
     ensures { OtherStepLeavesRows }
 {}
 
-/// A supplier's rows of a new register are a new register of the supplier alone.
+/// A new register's rows of one supplier are a new register of that supplier alone.
 pub fn opening_is_alone()
     ensures { OpeningIsAlone }
 {}
@@ -177,45 +184,46 @@ pub fn steps_are_a_run()
 {}
 
 /// Whatever is asked of a sound register, each supplier has the answers and the rows that it would
-/// have in a register of its own, asked only what is the supplier's.
+/// have in a register of its own, which is asked only what is the supplier's.
 pub fn run_is_alone()
     ensures { RunIsAlone }
 {}
 
-/// Two sound registers under one cluster file that are alike in a supplier's rows, and asked alike
-/// what is the supplier's, give it the same answers and stay alike in its rows.
+/// Two sound registers under one cluster file give a supplier the same answers, and stay alike in
+/// its rows, if they are alike in its rows and are asked alike what is the supplier's.
 pub fn equal_views()
     ensures { EqualViews }
 {}
 
-/// An integrator's command that is common or names a supplier is answered as alone, with three exceptions. A
-/// Grant which is done alone is `Taken` exactly where another supplier holds slot and channel. An
-/// AddSupplier which is done alone is `KeyTaken` exactly where another supplier has the key, else `Limit`
-/// exactly where 64 suppliers are there. A SetKey which is done alone is `KeyTaken` exactly where another
-/// supplier has the key.
+/// An integrator's command that is common or names a supplier is answered as alone, with three
+/// exceptions. A Grant that is done alone is `Taken` exactly where another supplier holds slot and
+/// channel. An AddSupplier that is done alone is `KeyTaken` exactly where another supplier has the
+/// key, else `Limit` exactly where 64 suppliers are there. A SetKey that is done alone is
+/// `KeyTaken` exactly where another supplier has the key.
 pub fn one_dependence()
     ensures { OneDependence }
 {}
 
-/// In a sound book the room for a supplier's frame is that of the register that holds this supplier
-/// alone.
+/// In a sound book the room for a supplier's frame is the same as in the register that holds this
+/// supplier alone.
 pub fn room_is_alone()
     ensures { RoomIsAlone }
 {}
 
-/// A Place that `check` accepts, by a supplier that is known, is answered Done exactly where there is room for the
-/// placement.
+/// A Place that `check` accepts, from a supplier that is known, is answered Done exactly where
+/// there is room for the placement.
 pub fn room_is_place()
     ensures { RoomIsPlace }
 {}
 
-/// Where the room for a frame is refused, but by `Limit`, so is each Place of the frame.
+/// Where the room for a frame is refused, and not by `Limit`, each Place of the frame is refused
+/// the same.
 pub fn room_is_refused()
     ensures { RoomIsRefused }
 {}
 
-/// In a sound book what there is room for, where the repetition divides the count of cycles, is a placement of the
-/// cluster with the repetition.
+/// In a sound book, where the repetition divides the count of cycles, the room for a frame has
+/// placements of the cluster with that repetition alone.
 pub fn room_fits()
     ensures { RoomFits }
 {}
@@ -231,20 +239,19 @@ pub fn told_room_is_place()
     ensures { ToldRoomIsPlace }
 {}
 
-/// What a supplier is told of room for is a placement of the cluster with the repetition that it
-/// asked for.
+/// In a sound book what a supplier is told of room for is a placement of the cluster with the repetition that it asked
+/// for.
 pub fn told_room_fits()
     ensures { ToldRoomFits }
 {}
 
-/// What a supplier is told of room for is in order, by slot, channels and base, and nothing stands
-/// twice.
+/// In a sound book what a supplier is told of room for is in order, by slot, channels and base, and nothing stands twice.
 pub fn told_room_is_in_order()
     ensures { ToldRoomIsInOrder }
 {}
 
-/// Where a supplier is told that the room is refused, each Place of the frame is refused, and by the
-/// same, but for `Limit`.
+/// In a sound book, where a supplier is told that the room is refused, each Place of the frame with this repetition is
+/// refused, on what is of the cluster, and by the same, but for `Limit`.
 pub fn refused_room_refuses()
     ensures { RefusedRoomRefuses }
 {}
@@ -254,14 +261,14 @@ pub fn load_adds_up()
     ensures { LoadAddsUp }
 {}
 
-/// What is told to be gone is what the older variant has and the newer one has not, and what is told to be new is what
-/// the newer one has and the older one has not.
+/// The rows that are told to be gone are those that the older variant alone has. The rows that are
+/// told to be new are those that the newer variant alone has.
 pub fn differences_differ()
     ensures { DifferencesDiffer }
 {}
 
-/// A row is told to be gone exactly where who asks sees it of the older variant and not of the newer
-/// one, and to be new exactly where it is the other way round.
+/// A row is told to be gone exactly where the actor sees it of the older variant alone. A row is
+/// told to be new exactly where the actor sees it of the newer variant alone.
 pub fn told_is_what_differs()
     ensures { ToldIsWhatDiffers }
 {}
@@ -271,12 +278,12 @@ pub fn nothing_is_gone_and_new()
     ensures { NothingIsGoneAndNew }
 {}
 
-/// What else the two variants have is the same, in the same order.
+/// Without the gone and the new rows the two variants have the same rows, in the same order.
 pub fn rest_is_alike()
     ensures { RestIsAlike }
 {}
 
-/// Turned round, what was gone is new, and what was new is gone.
+/// Where the two variants change places, the gone rows are new and the new rows are gone.
 pub fn differences_turn()
     ensures { DifferencesTurn }
 {}
@@ -286,34 +293,35 @@ pub fn nothing_differs_from_itself()
     ensures { NothingDiffersFromItself }
 {}
 
-/// Nor does it from the one from which it was opened a moment ago.
+/// A variant that was just opened does not differ from its parent.
 pub fn opened_differs_nowhere()
     ensures { OpenedDiffersNowhere }
 {}
 
-/// The difference of two released variants stays, from when who asks is known.
+/// The difference of two released variants stays the same for an actor, once the actor is known.
 pub fn released_differences_stay()
     ensures { ReleasedDifferencesStay }
 {}
 
 /// In a sound book each part of an export takes whole frames from where the part before ended, as
-/// many as give at most 512 records; together they have each record once, and behind the last there
-/// is nothing.
+/// many as give at most 512 records. Together the parts have each record once. Behind the last part
+/// there is nothing.
 pub fn export_has_parts()
     ensures { ExportHasParts }
 {}
 
-/// Who is known is told the part that it asks for, of the frames that it sees.
+/// An actor that is known is told the part that it asks for, of the frames that it sees.
 pub fn export_is_told()
     ensures { ExportIsTold }
 {}
 
-/// Of a part at most 512 records are told, whoever asks.
+/// A part tells at most 512 records, whoever asks.
 pub fn few_records_are_told()
     ensures { FewRecordsAreTold }
 {}
 
-/// In a sound book who is known is told, part by part, each record of the frames that it sees, once.
+/// In a sound book an actor that is known is told, part by part, each record of the frames that it
+/// sees, once.
 pub fn all_records_are_told()
     ensures { AllRecordsAreTold }
 {}

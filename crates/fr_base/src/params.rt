@@ -47,7 +47,7 @@ pub enum ParamFault {
     BadPayload,
     /// A slot or the network idle time has no macrotick, or a cycle has more than 16000.
     BadMacroticks,
-    /// The segments' lengths are not together the cycle's.
+    /// The segments' lengths do not add up to the cycle's.
     BadSum,
     /// The count of cycles is odd, or not 8 to 64.
     BadCycleCount,
@@ -215,7 +215,7 @@ impl Params {
 }
 
 impl RawParams {
-    /// The macroticks of a cycle's segments together.
+    /// The sum of the segments' macroticks.
     fn segments(&self) -> u64
         requires { self.now.static_slots ≤ 1023 }
         ensures { result ≡ segments self.now }

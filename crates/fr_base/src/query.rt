@@ -10,7 +10,7 @@ pub enum Query<N, M = u32> {
     Register(Inventory),
     /// A report of a variant.
     Variant { variant: N, report: Report<N, M> },
-    /// What differs between two variants: what the variant has in place of what the other one has.
+    /// What `variant` has in place of what `from` has.
     Difference { variant: N, from: N },
 }
 
@@ -45,7 +45,8 @@ pub trait QueryReader<N, M, A, E> {
 }
 
 impl<N, M> Query<N, M> {
-    /// The same query, with its names and numbers as the reader makes them: the variant's first, and then the report's.
+    /// The same query, with the names and numbers that the reader makes of its own: first the
+    /// variant's, then the report's.
     #[tactic(auto, unfolding(crate::specs::QueryNames::IsQueryRead))]
     pub fn read<A: Drop, E: Drop, R: QueryReader<N, M, A, E>>(
         &self,
@@ -70,7 +71,7 @@ impl<N, M> Query<N, M> {
 }
 
 impl<N, M> Report<N, M> {
-    // The same report, with its names and numbers as the reader makes them.
+    // The same report, with the names and numbers that the reader makes of its own.
     #[tactic(auto, unfolding(crate::specs::QueryNames::IsReportRead))]
     fn read<A: Drop, E: Drop, R: QueryReader<N, M, A, E>>(&self, reader: &R) -> Result<Report<A>, E>
         ensures { IsReportRead (R.reads reader.now) (R.counts reader.now) self.now result }

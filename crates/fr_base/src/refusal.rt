@@ -75,8 +75,9 @@ pub enum Refusal {
         /// The signal that uses it.
         signal: Name,
     },
-    /// The store or memory refused. It changes nothing, and may come at any point, but never in place
-    /// of a refusal by the request itself or of a key that is nobody's, numbers 2 to 8 and 30.
+    /// The store or memory refused. It changes nothing; but where the disk failed at a change, what is opened afterwards
+    /// has that change or has it not. It may come at any point, but never in place of a refusal by the request itself or of
+    /// a key that is nobody's, numbers 2 to 8 and 30.
     Unavailable,
     /// The key is not 8 to 64 ASCII letters and digits. This is checked after `BadName`.
     BadKey,
@@ -88,7 +89,7 @@ impl Refusal {
     ghost use Rattle.std.specs.Prelude.{◌≡◌};
     ghost use Rattle.fr_base.specs.Refusals.{number_of, name_of, status_of};
 
-    /// The refusal's number, 1 to 28, 30 or 31: its place in the table of refusals.
+    /// The refusal's number, 1 to 28, 30 or 31.
     pub fn number(&self) -> u8
         ensures { result ≡ number_of self.now }
     {
@@ -174,7 +175,7 @@ impl From<NoMemory> for Refusal {
     }
 }
 
-/// Want of memory for a value, which is given up.
+/// Want of memory for a value refuses a request as `Unavailable`. The value is given up.
 impl<T: Drop> From<AllocFailed<T>> for Refusal {
     ghost use Rattle.std.specs.Prelude.{◌≡◌};
     ghost use Rattle.fr_base.specs.declared.refusal.Refusal.TheVariants.{Unavailable};

@@ -29,7 +29,7 @@ impl<T> Rows<T> {
         }
     }
 
-    /// The empty list, which takes so many rows before it asks for memory again.
+    /// The empty list, made with room for so many rows. No clause says that to push them takes no more memory.
     pub fn with_capacity(alloc: Global, count: usize) -> Result<Rows<T>, NoMemory>
     where
         T: Drop,

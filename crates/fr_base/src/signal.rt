@@ -20,14 +20,14 @@ impl Order {
     ghost use Rattle.std.specs.Prelude.{◌≡◌};
     ghost use Rattle.fr_base.specs.Signals.{order_of_text, text_of_order};
 
-    /// The order of this text, `little` or `big`.
+    /// The order that the text writes, `little` or `big`.
     pub fn read(text: &str) -> Option<Order>
         ensures { result ≡ order_of_text text.now }
     {
         Order::from_bytes(text.as_bytes())
     }
 
-    /// The same of bytes, which need not be a text.
+    /// The order that the bytes write. The bytes need not be a text.
     #[inline(always)]
     pub fn from_bytes(bytes: &[u8]) -> Option<Order>
         ensures { result ≡ order_of_text bytes.now }
@@ -50,7 +50,7 @@ impl Order {
     }
 }
 
-/// The length is no signal's: 0, or above 64 bits.
+/// The length is 0 or above 64 bits, which no signal has.
 #[derive(Clone, Copy, Debug, PartialEq, Eq)]
 pub struct BadSignal;
 

@@ -1,8 +1,8 @@
 -- What is printed of an answer, and what of the register follows of it.
-use Rattle.std.proofs.Common.{◌≡◌, ◌⊎◌, ◌∙◌, List, None, ℕ, Ok, Err, OnOk, Option, Some, Result, inl, inr, refl, subst, sym}
-use Rattle.std.specs.Prelude.{⊤}
+use Rattle.std.proofs.Common.{◌≡◌, ◌∙◌, List, None, ℕ, Ok, Err, OnOk, Option, Some, Result, inl, inr, refl, subst, sym}
+use Rattle.std.specs.Prelude.{IfErr, ⊤}
 use Rattle.fr_base.specs.Book.{Book}
-use Rattle.fr_base.specs.Cluster.{Cluster, ClusterFile}
+use Rattle.fr_base.specs.Cluster.{Cluster}
 use Rattle.fr_base.specs.declared.actor.Actor.{Actor}
 use Rattle.fr_base.specs.declared.answer.Answer.{Answer}
 use Rattle.fr_base.specs.declared.refusal.Refusal.{Refusal}
@@ -14,7 +14,6 @@ use Rattle.fr_base.specs.declared.request.Request.TheVariants as request
 use Rattle.fr_picture.proofs.ReportLaws.{query_stays as query_leaves}
 use Rattle.fr_desks.specs.FileDesk.{FindsHeld, IsLeftWith}
 use Rattle.fr_http.specs.Asking.{Standing}
-use Rattle.fr_text.specs.ClusterFile.{config_of}
 use Rattle.sqlite.specs.Files.{IsCleanLeft}
 use Rattle.sqlite.specs.declared.file.Leftover.{Leftover}
 use Rattle.sqlite_disk.specs.declared.Disk.{Ghosts}
@@ -22,16 +21,16 @@ use Rattle.sqlite_wal.specs.Recovery.{Image}
 use Rattle.fr_cli.specs.Asked.{asked_by}
 use Rattle.fr_cli.specs.Asking.{IsAnswer, IsForReader, IsRefusedBy, IsToldBy, Leads, Prints, asked_with, query_of}
 use Rattle.fr_cli.specs.Outcomes.{outcome_of}
-use Rattle.fr_cli.specs.Faults.{IsNotDelivered, IsNotReported}
+use Rattle.fr_cli.specs.Faults.{IsNotGiven, IsNotReported}
 use Rattle.fr_cli.specs.Keys.{IsKeyGiven}
 use Rattle.fr_cli.specs.Performing.{Says}
 use Rattle.fr_cli.specs.Queries.{reader_of}
 use Rattle.fr_cli.specs.Reading.{Stays}
 use Rattle.fr_cli.specs.ScriptRun.{Replied}
 use Rattle.fr_cli.specs.declared.query.Inquiry.{Inquiry}
-use Rattle.fr_cli.specs.RegisterFiles.{IsAnswerOfFile, IsAnswerToGiven, IsLeftNew, IsMade}
+use Rattle.fr_cli.specs.RegisterFiles.{IsAnswerOfFile, IsAnswerToGiven}
 use Rattle.fr_cli.specs.declared.fault.Fault.{Fault}
-use Rattle.fr_cli.specs.declared.fault.Fault.TheVariants.{CannotOpen, NoMemory}
+use Rattle.fr_cli.specs.declared.fault.Fault.TheVariants.{NoMemory}
 use Rattle.std.specs.Global.{Vec}
 use Rattle.fr_cli.specs.declared.failure.Failure.{Failure}
 use Rattle.fr_cli.specs.declared.failure.Failure.TheVariants as failure
@@ -57,6 +56,24 @@ prints_says May Is Was (Ok text) follows may p = (p.0, follows p.0 p.1, p.2, p.3
 prints_says May Is Was (Err (failure.RefusedRows text)) follows may p = (p.0, follows p.0 p.1, p.2, p.3)
 prints_says May Is Was (Err (failure.Refused line)) follows may p = (p.0, follows p.0 p.1, p.2, p.3)
 prints_says May Is Was (Err (failure.Fault fault)) follows may p = subst May (sym p) may
+
+-- what is said of what was done is said of what follows of it
+pub ok_follows : (P Q : Type 0) (done : Result ⊤ Fault) → (P → Q) → OnOk done P → OnOk done Q
+ok_follows P Q (Ok x) follows p = follows p
+ok_follows P Q (Err fault) follows p = tt
+
+-- so of the fault that ended it
+pub err_follows : (P Q : Fault → Type 0) (done : Result ⊤ Fault) → ((fault : Fault) → P fault → Q fault) → IfErr done P → IfErr done Q
+err_follows P Q (Ok x) follows p = tt
+err_follows P Q (Err fault) follows p = follows fault p
+
+-- so of an answer, or of the fault
+pub says_more : (May Might : Fault → Type 0) (Was Is : Answer → Type 0) (done : Result (Vec ℕ) Failure) → ((fault : Fault) → May fault → Might fault)
+    → ((answer : Answer) → Was answer → Is answer) → Says May Was done → Says Might Is done
+says_more May Might Was Is (Ok text) might follows (answer, is, kind, said) = (answer, follows answer is, kind, said)
+says_more May Might Was Is (Err (failure.RefusedRows text)) might follows (answer, is, kind, said) = (answer, follows answer is, kind, said)
+says_more May Might Was Is (Err (failure.Refused line)) might follows (answer, is, kind, said) = (answer, follows answer is, kind, said)
+says_more May Might Was Is (Err (failure.Fault fault)) might follows may = might fault may
 
 module _ {D : Type 0} {g : Ghosts D} where
   -- what was asked of a register that stands for what a file held, and was closed, was asked of the file
@@ -93,22 +110,11 @@ module _ {D : Type 0} {g : Ghosts D} where
   pub given_says : (held : Image) (rest : Option (Leftover D g)) (word : List ℕ) (input left : Option (List ℕ)) (key : List ℕ) (request : Request)
       (done : Result (Vec ℕ) Failure) → IsKeyGiven word input left key
       → Says (IsNotReported held rest) (IsAnswerOfFile held rest (asked_with key request)) done
-      → Says (IsNotDelivered held rest word) (IsAnswerToGiven held rest word request input left) done
+      → Says (IsNotGiven held rest word) (IsAnswerToGiven held rest word request input left) done
   given_says held rest word input left key request (Ok text) given (answer, is, kind, said) = (answer, (key, given, is), kind, said)
   given_says held rest word input left key request (Err (failure.RefusedRows text)) given (answer, is, kind, said) = (answer, (key, given, is), kind, said)
   given_says held rest word input left key request (Err (failure.Refused line)) given (answer, is, kind, said) = (answer, (key, given, is), kind, said)
   given_says held rest word input left key request (Err (failure.Fault fault)) given may = inl may
-
-  -- a register that was made of a cluster file that was read
-  pub is_made : (held : Image) (rest : Option (Leftover D g)) (done : Result ⊤ Fault) (text : List ℕ) (f : ClusterFile) → config_of text ≡ Ok f → OnOk done (IsLeftNew held rest f) → IsMade held rest done
-  is_made held rest (Ok x) text f is made = (text, f, is, made)
-  is_made held rest (Err e) text f is made = tt
-
--- a file that cannot be read is not delivered
-pub not_delivered : (Refused Unread Closed : Type 0) (fault : Fault) → Closed → (fault ≡ CannotOpen) ⊎ (fault ≡ NoMemory)
-    → (Refused ⊎ (fault ≡ NoMemory)) ⊎ (((fault ≡ CannotOpen) ⊎ Unread) × Closed)
-not_delivered Refused Unread Closed fault closed (inl is) = inr (inl is, closed)
-not_delivered Refused Unread Closed fault closed (inr is) = inl (inr is)
 
 -- the same was asked by the same
 pub asks_same : (clean : Type 0) (old new : Standing) (by who : Option Actor) (request asks : Request) (answer : Answer) → by ≡ who → request ≡ asks

@@ -9,12 +9,14 @@ pub mod ScriptRunLaws
 mod ScriptRows
 pub mod AnsweringLaws
 pub mod OutputLaws
+mod OneOutput
 pub mod RunLaws
 pub mod EndingLaws
 pub mod AskingLaws
 pub mod ReadingLaws
 pub mod RefusedFiles
 pub mod PicturingLaws
+pub mod TextLaws
 pub mod ServingLaws
 pub mod VisitLaws
 mod NumberedLaws

@@ -1,5 +1,5 @@
 -- Why a register's file is refused, from what its desk says of it.
-use Rattle.std.proofs.Common.{Option, Some, None, inr, refl}
+use Rattle.std.proofs.Common.{Option, Some, None, refl}
 use Rattle.sqlite.specs.declared.file.Leftover.{Leftover}
 use Rattle.sqlite_disk.specs.declared.Disk.{Ghosts}
 use Rattle.sqlite_wal.specs.Recovery.{Image}
@@ -22,4 +22,4 @@ module _ {D : Type 0} {g : Ghosts D} (held : Image) where
   not_migrated rest fault h = (h.tells, is_caused migrates NeedsNone rest fault h)
 
   pub not_made : (rest : Option (Leftover D g)) (fault : StoreFault) → IsRefusedBy makes IsUnavailable held fault rest → IsNotMade held rest (Register fault)
-  not_made rest fault h = inr (fault, refl, h.tells, is_caused makes IsUnavailable rest fault h)
+  not_made rest fault h = (fault, refl, h.tells, is_caused makes IsUnavailable rest fault h)

@@ -14,10 +14,12 @@ use Rattle.fr_guide.specs.Rows.{AreToldOfRows, numbers_of}
 use Rattle.fr_guide.specs.declared.line_faults.LineFaults.{LineFaults}
 use Rattle.fr_cli.specs.Endings.{word_line}
 use Rattle.fr_cli.specs.Incoming.{max_line}
-use Rattle.fr_cli.specs.Script.{key_and_text, request_lines}
+use Rattle.fr_cli.specs.Script.{key_and_text, max_script, request_lines}
+use Rattle.fr_cli.specs.Texts.{IsUnread, Readings, max_config, max_rows}
 use Rattle.fr_cli.specs.declared.failure.Failure.{Failure}
 use Rattle.fr_cli.specs.declared.failure.Failure.TheVariants as failure
-use Rattle.fr_cli.specs.declared.fault.Fault.TheVariants.{CannotOpen, NoMemory}
+use Rattle.fr_cli.specs.declared.fault.Fault.{Fault}
+use Rattle.fr_cli.specs.declared.fault.Fault.TheVariants.{NoMemory}
 use Rattle.fr_cli.specs.declared.text_file.TextFile.{TextFile}
 use Rattle.fr_cli.specs.declared.text_file.TextFile.TheVariants as of
 
@@ -77,9 +79,19 @@ IsCheckedAs (of.Config path) bytes done = IsChecked bytes done
 IsCheckedAs (of.Requests path) bytes done = AreChecked (AreToldOfRequests bytes) (fine_requests bytes) done
 IsCheckedAs (of.Rows path) bytes done = AreChecked (AreToldOfRows bytes) fine_rows done
 
--- Some bytes were read and checked so; or the file cannot be read, or memory was wanting.
-abbrev pub IsCheckedFile : TextFile → Result (Vec ℕ) Failure → Type 0
-IsCheckedFile file (Ok text) = (bytes : List ℕ) × IsCheckedAs file bytes (Ok text)
-IsCheckedFile file (Err (failure.RefusedRows text)) = ⊥
-IsCheckedFile file (Err (failure.Refused line)) = (bytes : List ℕ) × IsCheckedAs file bytes (Err (failure.Refused line))
-IsCheckedFile file (Err (failure.Fault fault)) = (fault ≡ CannotOpen) ⊎ (fault ≡ NoMemory)
+-- where such a file stands
+abbrev pub path_of : TextFile → List ℕ
+path_of (of.Config path) = path.now
+path_of (of.Requests path) = path.now
+path_of (of.Rows path) = path.now
+
+-- These bytes were read of such a file: all, or of a file of rows a front.
+abbrev pub IsReadOf : Readings → TextFile → List ℕ → Type 0
+IsReadOf read (of.Config path) bytes = read.whole max_config path.now bytes
+IsReadOf read (of.Requests path) bytes = read.whole max_script path.now bytes
+IsReadOf read (of.Rows path) bytes = read.front max_rows path.now bytes
+
+-- The file cannot be read; or bytes were read of it, and checked so.
+abbrev pub IsCheckedFile : Readings → TextFile → Result (Vec ℕ) Failure → Type 0
+IsCheckedFile read file done = ((fault : Fault) × (done ≡ Err (failure.Fault fault)) × IsUnread read (path_of file) fault)
+    ⊎ ((bytes : List ℕ) × IsReadOf read file bytes × IsCheckedAs file bytes done)

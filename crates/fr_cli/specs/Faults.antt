@@ -1,12 +1,14 @@
 -- Job's faults: the word of each fault that ends a job or a connection, which of them may end which job, and for what
 -- cause a register's file is refused.
-use Rattle.std.specs.Prelude.{◌≡◌, ◌≢◌, ◌⊎◌, ℕ, List, Option, Some, None, codes, Err, ⊤}
+use Rattle.std.specs.Prelude.{◌≡◌, ◌≢◌, ◌⊎◌, ℕ, List, Option, Some, None, codes, Err}
 use Rattle.sqlite.specs.Files.{IsCleanLeft}
 use Rattle.sqlite.specs.declared.file.Leftover.{Leftover}
 use Rattle.sqlite_disk.specs.declared.Disk.{Ghosts}
 use Rattle.sqlite_wal.specs.Recovery.{Image}
+use Rattle.fr_base.specs.Cluster.{ClusterFile}
 use Rattle.fr_desks.specs.FileDesk.{BarsMigration, HoldStill}
 use Rattle.fr_cli.specs.ScriptFault.{script_fault_of, script_fault_word}
+use Rattle.fr_cli.specs.Texts.{IsClusterAt, IsUnread, Readings, max_config, max_rows}
 use Rattle.fr_cli.specs.declared.fault.Fault.{Fault}
 use Rattle.fr_cli.specs.declared.input.InputFault.{InputFault}
 use Rattle.fr_cli.specs.declared.fault.Fault.TheVariants.{Script, Config, Register, CannotOpen, CannotListen, NoMemory, WriteFailed}
@@ -49,12 +51,10 @@ abbrev pub IsClusterFault : List ℕ → Fault → Type 0
 IsClusterFault text (Config fault) = (fault ≡ config.NoMemory) ⊎ (config_of text ≡ Err fault)
 IsClusterFault text _ = ⊥
 
--- For this a cluster file is not read: it is none, or cannot be had.
-abbrev pub IsNotRead : Fault → Type 0
-IsNotRead (Config fault) = (text : List ℕ) × IsClusterFault text (Config fault)
-IsNotRead CannotOpen = ⊤
-IsNotRead NoMemory = ⊤
-IsNotRead _ = ⊥
+-- For this no cluster file is had at the path: it cannot be read; or what was read of it is none.
+abbrev pub IsNotRead : Readings → List ℕ → Fault → Type 0
+IsNotRead read path fault = IsUnread read path fault
+    ⊎ ((text : List ℕ) × read.whole max_config path text × IsClusterFault text fault)
 
 -- What holds where nothing is left of files, or of what is left.
 abbrev pub IfLeft : {D : Type 0} {g : Ghosts D} → Option (Leftover D g) → Type 0 → (Leftover D g → Type 0) → Type 0
@@ -68,10 +68,16 @@ module _ {D : Type 0} {g : Ghosts D} (held : Image) (rest : Option (Leftover D g
   abbrev pub IsCaused : (Image → StoreFault → Type 0) → (StoreFault → Type 0) → StoreFault → Type 0
   IsCaused Why Without fault = IfLeft rest (Without fault) (λ left. IsCleanLeft left → Why held fault × (fault ≢ store.Unavailable → HoldStill held left))
 
-  -- For this a register's file is not made: the cluster file is not read, and then nothing is opened; or the file has a table, or making it failed.
+  -- For this a register's file is not made of a cluster file: it has a table, or making it failed.
   abbrev pub IsNotMade : Fault → Type 0
-  IsNotMade fault = (IsNotRead fault × (rest ≡ None)) ⊎ ((of : StoreFault) × (fault ≡ Register of) × ((of ≡ store.NotEmpty) ⊎ (of ≡ store.Unavailable))
-      × IsCaused ForbidsFiles (λ f. f ≡ store.Unavailable) of)
+  IsNotMade fault = (of : StoreFault) × (fault ≡ Register of) × ((of ≡ store.NotEmpty) ⊎ (of ≡ store.Unavailable))
+      × IsCaused ForbidsFiles (λ f. f ≡ store.Unavailable) of
+
+  -- For this no register's file is made of the cluster file at the path: none is had there, and then nothing is opened; or one
+  -- was read, and no register's file is made of it.
+  abbrev pub IsNotCreated : Readings → List ℕ → Fault → Type 0
+  IsNotCreated read path fault = (IsNotRead read path fault × (rest ≡ None))
+      ⊎ ((f : ClusterFile) × IsClusterAt read path f × IsNotMade fault)
 
   -- For this a register's file is not migrated: it is no register, or one of another schema than 1, or migrating it failed.
   abbrev pub IsNotMigrated : Fault → Type 0
@@ -87,7 +93,14 @@ module _ {D : Type 0} {g : Ghosts D} (held : Image) (rest : Option (Leftover D g
   abbrev pub IsNotReported : Fault → Type 0
   IsNotReported fault = IsNotOpened fault ⊎ (fault ≡ NoMemory)
 
-  -- For this a file of rows is not delivered: no report would be given; or the file cannot be read, or the key that stands on standard input, and
-  -- then the register's is not opened.
-  abbrev pub IsNotDelivered : List ℕ → Fault → Type 0
-  IsNotDelivered key fault = IsNotReported fault ⊎ (((fault ≡ CannotOpen) ⊎ ((key ≡ codes "-") × ((of : InputFault) × (fault ≡ Script (script_fault_of of))))) × (rest ≡ None))
+  -- For this nothing is asked as who has the key that is given: no report would be given; or the key that stands on standard input
+  -- cannot be read, and then the register's file is not opened.
+  abbrev pub IsNotGiven : List ℕ → Fault → Type 0
+  IsNotGiven key fault = IsNotReported fault
+      ⊎ ((key ≡ codes "-") × ((of : InputFault) × (fault ≡ Script (script_fault_of of))) × (rest ≡ None))
+
+  -- For this the file of rows at the path is not delivered: it cannot be read, and then the register's file is not opened; or it
+  -- was read, and nothing is asked.
+  abbrev pub IsNotDelivered : Readings → List ℕ → List ℕ → Fault → Type 0
+  IsNotDelivered read path key fault = (IsUnread read path fault × (rest ≡ None))
+      ⊎ ((body : List ℕ) × read.front max_rows path body × IsNotGiven key fault)

@@ -10,15 +10,16 @@ use Rattle.fr_cli.specs.Asking.{IsForReader, query_of}
 use Rattle.fr_cli.specs.Checking.{IsCheckedFile}
 use Rattle.fr_cli.specs.Endings.{IsTold, Tells, status_of}
 use Rattle.fr_cli.specs.Explaining.{IsExplained}
-use Rattle.fr_cli.specs.Faults.{IsNotDelivered, IsNotMade, IsNotMigrated, IsNotReported}
+use Rattle.fr_cli.specs.Faults.{IsNotCreated, IsNotDelivered, IsNotMigrated, IsNotReported}
 use Rattle.fr_cli.specs.Incoming.{IsAsked}
 use Rattle.fr_cli.specs.Performing.{Says, of_script}
 use Rattle.fr_cli.specs.Picturing.{plans_for}
 use Rattle.fr_cli.specs.Queries.{named}
 use Rattle.fr_cli.specs.Reading.{PrintsRead}
-use Rattle.fr_cli.specs.RegisterFiles.{IsAnswerOfFile, IsDeliveryToFile, IsMade, IsMoved, IsReadOfFile}
+use Rattle.fr_cli.specs.RegisterFiles.{IsAnswerOfFile, IsCreated, IsDeliveryToFile, IsMoved, IsReadOfFile}
 use Rattle.fr_cli.specs.Runs.{IsRunOf}
 use Rattle.fr_cli.specs.Serving.{IsAnnounced, IsServed}
+use Rattle.fr_cli.specs.Texts.{Readings}
 use Rattle.fr_cli.specs.Visits.{Comings}
 use Rattle.fr_cli.specs.declared.failure.Failure.{Failure}
 use Rattle.fr_cli.specs.declared.fault.Fault.{Fault}
@@ -45,11 +46,11 @@ Ends done s status = (status ≡ status_of done) × Tells s.err.old s.err.new do
 abbrev pub Shows : Result (Vec ℕ) Failure → Streams → ℕ → Type 0
 Shows done s status = IsTold done s.out.old s.out.new s.err.old s.err.new status
 
--- Of a job's file, what it held and what is left of it; and the connections that came in.
-module _ {D : Type 0} {g : Ghosts D} (held : Image) (rest : Option (Leftover D g)) (comings : Comings) where
-  -- a register file was made
-  abbrev pub Creates : Streams → ℕ → Type 0
-  Creates s status = (done : Result ⊤ Fault) × IfErr done (IsNotMade held rest) × IsMade held rest done
+-- Of a job's register file, what it held and what is left of it; what was read of text files; and the connections that came in.
+module _ {D : Type 0} {g : Ghosts D} (held : Image) (rest : Option (Leftover D g)) (read : Readings) (comings : Comings) where
+  -- a register file was made of the cluster file at this path
+  abbrev pub Creates : List ℕ → Streams → ℕ → Type 0
+  Creates config s status = (done : Result ⊤ Fault) × IfErr done (IsNotCreated held rest read config) × IsCreated held rest read config done
       × Keeps s.out.old s.out.new × Ends done s status
 
   -- a register file was brought to this schema
@@ -67,17 +68,17 @@ module _ {D : Type 0} {g : Ghosts D} (held : Image) (rest : Option (Leftover D g
   -- What the job does.
   abbrev pub IsPerformed : Job → Streams → ℕ → Type 0
   IsPerformed job.Run s status = (done : Result ⊤ ScriptFault) × IsRunOf s.input.old s.input.new s.out.old s.out.new done
-      × Ends (of_script done) s status
-  IsPerformed (job.Create db config) s status = Creates s status
-  IsPerformed (job.Migrate db) s status = Migrates s status
-  IsPerformed (job.Serve db port count seconds) s status = Serves port count s status
+      × Ends (of_script done) s status × read.none
+  IsPerformed (job.Create db config) s status = Creates config.now s status
+  IsPerformed (job.Migrate db) s status = Migrates s status × read.none
+  IsPerformed (job.Serve db port count seconds) s status = Serves port count s status × read.none
   IsPerformed (job.Ask db) s status = (done : Result ⊤ Fault) × IsAsked held rest s.input.old s.input.new s.out.old s.out.new done
-      × Ends done s status
+      × Ends done s status × read.none
   IsPerformed (job.Report db query) s status = (done : Result (Vec ℕ) Failure) × Shows done s status
-      × Says (IsNotReported held rest) (IsForReader (IsAnswerOfFile held rest (query_of query))) done
+      × Says (IsNotReported held rest) (IsForReader (IsAnswerOfFile held rest (query_of query))) done × read.none
   IsPerformed (job.Picture db variant supplier) s status = (done : Result (Vec ℕ) Failure) × Shows done s status
-      × PrintsRead (IsNotReported held rest) (IsReadOfFile held rest (plans_for (named supplier) variant.now)) IsPage done
-  IsPerformed (job.Deliver db delivery) s status = (body : List ℕ) × (done : Result (Vec ℕ) Failure) × Shows done s status
-      × Says (IsNotDelivered held rest delivery.key.now) (IsDeliveryToFile held rest delivery s.input.old s.input.new body) done
-  IsPerformed (job.Check file) s status = (done : Result (Vec ℕ) Failure) × Shows done s status × IsCheckedFile file done
-  IsPerformed (job.Explain word) s status = (done : Result (Vec ℕ) Failure) × Shows done s status × IsExplained word done
+      × PrintsRead (IsNotReported held rest) (IsReadOfFile held rest (plans_for (named supplier) variant.now)) IsPage done × read.none
+  IsPerformed (job.Deliver db delivery) s status = (done : Result (Vec ℕ) Failure) × Shows done s status
+      × Says (IsNotDelivered held rest read delivery.file.now delivery.key.now) (IsDeliveryToFile held rest read delivery s.input.old s.input.new) done
+  IsPerformed (job.Check file) s status = (done : Result (Vec ℕ) Failure) × Shows done s status × IsCheckedFile read file done
+  IsPerformed (job.Explain word) s status = (done : Result (Vec ℕ) Failure) × Shows done s status × IsExplained word done × read.none

@@ -3,10 +3,12 @@ pub mod ScriptFault
 pub mod Asked
 pub mod ScriptRun
 pub mod Output
+pub mod OutputLaws
 pub mod Answering
 pub mod Laws
 pub mod Commands
 pub mod Words
+pub mod Texts
 pub mod Faults
 pub mod Queries
 pub mod Deliveries

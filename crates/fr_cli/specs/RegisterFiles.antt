@@ -1,7 +1,7 @@
 -- Register files: what a job says of a register's file. Its answer is a step from the book that the file held, and what
 -- is left holds the book after it; what is read of it is that book's. Or what is left holds the book of a new register,
 -- or the book that the file held in schema 1.
-use Rattle.std.specs.Prelude.{◌≡◌, ℕ, List, Option, Some, Result, Ok, OnOk, ⊤}
+use Rattle.std.specs.Prelude.{◌≡◌, ℕ, List, Option, Some, Result, OnOk, ⊤}
 use Rattle.sqlite.specs.Files.{IsCleanLeft}
 use Rattle.sqlite.specs.declared.file.Leftover.{Leftover}
 use Rattle.sqlite.specs.declared.file.Leftover.TheVariants as left
@@ -18,11 +18,11 @@ use Rattle.fr_desks.specs.FileDesk.{Held, IsLeftWith, LeavesBook}
 use Rattle.fr_store.specs.Before.{HoldsBookBefore}
 use Rattle.fr_store.specs.Opening.{AllowsCreation, AllowsMigration}
 use Rattle.fr_store.specs.StoreFiles.{HoldsBook, image_left}
-use Rattle.fr_text.specs.ClusterFile.{config_of}
 use Rattle.fr_cli.specs.Asking.{IsAnswer, asked_with}
 use Rattle.fr_cli.specs.Deliveries.{request_with}
 use Rattle.fr_cli.specs.Keys.{IsKeyGiven}
 use Rattle.fr_cli.specs.Reading.{IsRead, Reading}
+use Rattle.fr_cli.specs.Texts.{IsClusterAt, Readings, max_rows}
 use Rattle.fr_cli.specs.declared.delivery.Delivery.{Delivery}
 use Rattle.fr_cli.specs.declared.fault.Fault.{Fault}
 
@@ -38,9 +38,10 @@ module _ {D : Type 0} {g : Ghosts D} where
   IsAnswerToGiven held rest word request input left answer =
       (key : List ℕ) × IsKeyGiven word input left key × IsAnswerOfFile held rest (asked_with key request) answer
 
-  -- So it is with a file of rows with these bytes that is delivered.
-  abbrev pub IsDeliveryToFile : Image → Option (Leftover D g) → Delivery → Option (List ℕ) → Option (List ℕ) → List ℕ → Answer → Type 0
-  IsDeliveryToFile held rest delivery input left body answer = IsAnswerToGiven held rest delivery.key.now (request_with delivery body) input left answer
+  -- So it is with what was read of a file of rows, and is delivered.
+  abbrev pub IsDeliveryToFile : Image → Option (Leftover D g) → Readings → Delivery → Option (List ℕ) → Option (List ℕ) → Answer → Type 0
+  IsDeliveryToFile held rest read delivery input left answer = (body : List ℕ) × read.front max_rows delivery.file.now body
+      × IsAnswerToGiven held rest delivery.key.now (request_with delivery body) input left answer
 
   -- So it is with what is read of the book; and what is left holds the same book.
   abbrev pub IsReadOfFile : {X : Type 0} → Image → Option (Leftover D g) → Reading X → Result X Refusal → Type 0
@@ -51,9 +52,9 @@ module _ {D : Type 0} {g : Ghosts D} where
   IsLeftNew held rest f = (files : Files D) × (rest ≡ Some (left.Files files)) × LeavesBook g files f.cluster (opening f)
       × (IsCleanLeft {g = g} (left.Files files) → AllowsCreation held)
 
-  -- Where it was done, a cluster file was read that says this, and such a register was made of it.
-  abbrev pub IsMade : Image → Option (Leftover D g) → Result ⊤ Fault → Type 0
-  IsMade held rest done = OnOk done ((text : List ℕ) × (f : ClusterFile) × (config_of text ≡ Ok f) × IsLeftNew held rest f)
+  -- Where it was done, the cluster file at the path was read, and such a register was made of it.
+  abbrev pub IsCreated : Image → Option (Leftover D g) → Readings → List ℕ → Result ⊤ Fault → Type 0
+  IsCreated held rest read path done = OnOk done ((f : ClusterFile) × IsClusterAt read path f × IsLeftNew held rest f)
 
   -- Where it was done, the file held a register of schema 1, and what is left holds its book.
   abbrev pub IsMoved : Image → Option (Leftover D g) → Result ⊤ Fault → Type 0

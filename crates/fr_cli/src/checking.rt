@@ -1,8 +1,9 @@
 //! Checks the text of a file: of a cluster, of requests, or of an import's rows.
-ghost use Rattle.std.specs.Prelude.{◌≡◌, ◌⊎◌, ◌++◌, IfOk, IfErr, codes};
+ghost use Rattle.std.specs.Prelude.{◌≡◌, ◌++◌, IfOk, IfErr, codes};
 ghost use Rattle.fr_guide.specs.Rows.{AreToldOfRows};
-ghost use Rattle.fr_cli.specs.Checking.{AreChecked, AreToldOfRequests, IsChecked, IsCheckedAs, IsCheckedFile, fine_line, fine_requests, fine_rows};
+ghost use Rattle.fr_cli.specs.Checking.{AreChecked, AreToldOfRequests, IsChecked, IsCheckedAs, IsCheckedFile, IsReadOf, fine_line, fine_requests, fine_rows, path_of};
 ghost use Rattle.fr_cli.specs.Endings.{word_line};
+ghost use Rattle.fr_cli.specs.Texts.{IsUnread, readings};
 
 use crate::creating::CONFIG_BYTES;
 use crate::delivered_file::FILE_BYTES;
@@ -13,27 +14,36 @@ use crate::input::SCRIPT_BYTES;
 use crate::lines::RequestLines;
 use crate::request_file::request_faults;
 use crate::text_file::TextFile;
+use crate::text_files::TextFiles;
 use fr_base::NoMemory;
 use fr_guide::{Finding, LineFaults, are_fine, examine, fault_lines, row_faults};
 use std::alloc::Global;
 
 /// A line of what the file says, if it is what it is to be. Otherwise it is refused: with the line of a cluster file's fault, or with a
 /// line for each fault of requests or rows.
-pub fn check(rt: &HostRuntime, file: TextFile<'_>) -> Result<Vec<u8>, Failure>
-    ensures { IsCheckedFile file.entry result }
+pub fn check<F: TextFiles>(
+    alloc: Global,
+    files: &mut F,
+    file: TextFile<'_>,
+) -> Result<Vec<u8>, Failure>
+    ensures { let read = readings F.TextFiles F.Reader.Read files.old files.new in
+        IsCheckedFile read file.entry result }
 {
-    let text = read(rt, file)?;
-    check_as(rt.alloc(), file, &text)
+    let text = read(alloc, files, file)?;
+    check_as(alloc, file, &text)
 }
 
 // The file's bytes, as many as are looked at.
-fn read(rt: &HostRuntime, file: TextFile<'_>) -> Result<Vec<u8>, Fault>
-    ensures fault { IfErr result (λ fault. (fault ≡ Fault.CannotOpen) ⊎ (fault ≡ Fault.NoMemory)) }
+fn read<F: TextFiles>(alloc: Global, files: &mut F, file: TextFile<'_>) -> Result<Vec<u8>, Fault>
+    ensures read { let read = readings F.TextFiles F.Reader.Read files.old files.new in
+        IfOk result (λ text. IsReadOf read file.entry text.items) }
+    ensures fault { let read = readings F.TextFiles F.Reader.Read files.old files.new in
+        IfErr result (IsUnread read (path_of file.entry)) }
 {
     match file {
-        TextFile::Config { path } => read_file(rt, path, CONFIG_BYTES),
-        TextFile::Requests { path } => read_file(rt, path, SCRIPT_BYTES),
-        TextFile::Rows { path } => read_front(rt, path, FILE_BYTES),
+        TextFile::Config { path } => read_file(alloc, files, path, CONFIG_BYTES),
+        TextFile::Requests { path } => read_file(alloc, files, path, SCRIPT_BYTES),
+        TextFile::Rows { path } => read_front(alloc, files, path, FILE_BYTES),
     }
 }
 

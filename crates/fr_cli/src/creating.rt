@@ -1,12 +1,14 @@
 //! Makes a register file.
-ghost use Rattle.std.specs.Prelude.{◌≡◌, ℕ, List, IfErr, IfOk, Ok, OnOk};
+ghost use Rattle.std.specs.Prelude.{◌≡◌, IfErr, IfOk, Ok, OnOk};
 ghost use Rattle.sqlite_wal.specs.Files.{image_at};
 ghost use Rattle.fr_text.specs.ClusterFile.{config_of};
-ghost use Rattle.fr_cli.specs.Faults.{IsClusterFault, IsNotMade, IsNotRead};
-ghost use Rattle.fr_cli.specs.RegisterFiles.{IsLeftNew, IsMade};
+ghost use Rattle.fr_cli.specs.Faults.{IsClusterFault, IsNotCreated, IsNotMade, IsNotRead};
+ghost use Rattle.fr_cli.specs.RegisterFiles.{IsCreated, IsLeftNew};
+ghost use Rattle.fr_cli.specs.Texts.{IsClusterAt, readings};
 
 use crate::fault::Fault;
 use crate::files::read_file;
+use crate::text_files::TextFiles;
 use fr_base::Config;
 use fr_desks::{Left, file_desk};
 use fr_text::read_config;
@@ -22,17 +24,20 @@ pub const CONFIG_BYTES: usize = 1_048_576;
 const OWNER_ALONE: u32 = 0o600;
 
 /// Makes the register of the cluster file at `config` in the file at `db`, and gives what is left of that.
-/// `start` says what is supposed of it.
-pub fn create<S: Start>(
+/// The cluster file is one of `files`. `start` says what is supposed of the register's.
+pub fn create<S: Start, F: TextFiles>(
     rt: &HostRuntime,
     db: &str,
     config: &str,
     start: S,
+    files: &mut F,
 ) -> (Result<(), Fault>, Left<S>)
-    ensures fault { IfErr result.0 (IsNotMade (image_at S.Start) result.1) }
-    ensures made { IsMade (image_at S.Start) result.1 result.0 }
+    ensures fault { let read = readings F.TextFiles F.Reader.Read files.old files.new in
+        IfErr result.0 (IsNotCreated (image_at S.Start) result.1 read config.now) }
+    ensures made { let read = readings F.TextFiles F.Reader.Read files.old files.new in
+        IsCreated (image_at S.Start) result.1 read config.now result.0 }
 {
-    match read_cluster(rt, config) {
+    match read_cluster(rt.alloc(), files, config) {
         Ok(config) => make(rt, db, &config, start),
         Err(fault) => (Err(fault), None),
     }
@@ -66,12 +71,14 @@ fn make_private(rt: &HostRuntime, path: &str) {
 }
 
 // What the cluster file at a path says.
-fn read_cluster(rt: &HostRuntime, path: &str) -> Result<Config, Fault>
-    ensures read { IfOk result (λ config. (text : List ℕ) × (config_of text ≡ Ok config)) }
-    ensures fault { IfErr result IsNotRead }
+fn read_cluster<F: TextFiles>(alloc: Global, files: &mut F, path: &str) -> Result<Config, Fault>
+    ensures read { let read = readings F.TextFiles F.Reader.Read files.old files.new in
+        IfOk result (IsClusterAt read path.now) }
+    ensures fault { let read = readings F.TextFiles F.Reader.Read files.old files.new in
+        IfErr result (IsNotRead read path.now) }
 {
-    let text = read_file(rt, path, CONFIG_BYTES)?;
-    cluster_in(rt.alloc(), &text)
+    let text = read_file(alloc, files, path, CONFIG_BYTES)?;
+    cluster_in(alloc, &text)
 }
 
 // What the bytes of a cluster file say.

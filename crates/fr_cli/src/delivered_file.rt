@@ -1,12 +1,14 @@
 //! The delivery of a file of rows to the register in another, as the command line gives it.
-ghost use Rattle.std.specs.Prelude.{◌≡◌, List, ℕ};
+ghost use Rattle.std.specs.Prelude.{◌≡◌};
 ghost use Rattle.std.specs.Str.Lines.{lines};
 ghost use Rattle.sqlite_wal.specs.Files.{image_at};
 ghost use Rattle.fr_cli.specs.Asking.{asked_with};
-ghost use Rattle.fr_cli.specs.Faults.{IsNotDelivered, IsNotReported};
+ghost use Rattle.fr_cli.specs.Deliveries.{request_with};
+ghost use Rattle.fr_cli.specs.Faults.{IsNotDelivered, IsNotGiven, IsNotReported};
 ghost use Rattle.fr_cli.specs.Keys.{first_of};
 ghost use Rattle.fr_cli.specs.Performing.{Says};
 ghost use Rattle.fr_cli.specs.RegisterFiles.{IsAnswerOfFile, IsAnswerToGiven, IsDeliveryToFile};
+ghost use Rattle.fr_cli.specs.Texts.{readings};
 
 use crate::asking::change;
 use crate::delivery::Delivery;
@@ -16,6 +18,7 @@ use crate::files::read_front;
 use crate::input::{ReadBounds, read_line};
 use crate::lines::next_line;
 use crate::script_fault::ScriptFault;
+use crate::text_files::TextFiles;
 use fr_base::{NoMemory, Request};
 use fr_desks::{Left, file_desk};
 use sqlite::Start;
@@ -34,18 +37,21 @@ const KEY_BOUNDS: ReadBounds = ReadBounds {
 };
 
 /// Delivers a file of rows to the register in the file at `db`, and gives what is left of that, closed. The file of rows is
-/// read first, then the key, if it stands on standard input. `start` says what is supposed of the register's file.
-pub fn deliver_file<S: Start, R: Read>(
+/// one of `files`, and read first, then the key, if it stands on standard input. `start` says what is supposed of the register's
+/// file.
+pub fn deliver_file<S: Start, F: TextFiles, R: Read>(
     rt: &HostRuntime,
     db: &str,
     start: S,
     delivery: Delivery<'_>,
+    files: &mut F,
     input: &mut R,
 ) -> (Result<Vec<u8>, Failure>, Left<S>)
-    ensures { (body : List ℕ) × Says (IsNotDelivered (image_at S.Start) result.1 delivery.entry.key.now)
-        (IsDeliveryToFile (image_at S.Start) result.1 delivery.entry (R.remaining input.old) (R.remaining input.new) body) result.0 }
+    ensures { let read = readings F.TextFiles F.Reader.Read files.old files.new in
+        Says (IsNotDelivered (image_at S.Start) result.1 read delivery.entry.file.now delivery.entry.key.now)
+        (IsDeliveryToFile (image_at S.Start) result.1 read delivery.entry (R.remaining input.old) (R.remaining input.new)) result.0 }
 {
-    match read_front(rt, delivery.file, FILE_BYTES) {
+    match read_front(rt.alloc(), files, delivery.file, FILE_BYTES) {
         Ok(body) => deliver(rt, db, start, delivery, &body, input),
         Err(fault) => (Err(Failure::Fault(fault)), None),
     }
@@ -60,8 +66,9 @@ fn deliver<S: Start, R: Read>(
     body: &[u8],
     input: &mut R,
 ) -> (Result<Vec<u8>, Failure>, Left<S>)
-    ensures { Says (IsNotDelivered (image_at S.Start) result.1 delivery.entry.key.now)
-        (IsDeliveryToFile (image_at S.Start) result.1 delivery.entry (R.remaining input.old) (R.remaining input.new) body.now) result.0 }
+    ensures { Says (IsNotGiven (image_at S.Start) result.1 delivery.entry.key.now)
+        (IsAnswerToGiven (image_at S.Start) result.1 delivery.entry.key.now (request_with delivery.entry body.now)
+        (R.remaining input.old) (R.remaining input.new)) result.0 }
 {
     match delivery.request(rt.alloc(), body) {
         Ok(request) => change_given(rt, db, start, delivery.key, request, input),
@@ -78,7 +85,7 @@ fn change_given<S: Start, R: Read>(
     request: Request,
     input: &mut R,
 ) -> (Result<Vec<u8>, Failure>, Left<S>)
-    ensures { Says (IsNotDelivered (image_at S.Start) result.1 key.now)
+    ensures { Says (IsNotGiven (image_at S.Start) result.1 key.now)
         (IsAnswerToGiven (image_at S.Start) result.1 key.now request (R.remaining input.old) (R.remaining input.new)) result.0 }
 {
     if key != KEY_ON_INPUT {

@@ -70,7 +70,7 @@ impl<R: Records> Desk for Guarded<'_, R> {
             return self.office.decline(ask);
         }
         let answer = self.office.ask(alloc, ask);
-        self.watch.renew();
+        self.watch.note_own_writes();
         self.has_failed = matches!(&answer, Answer::Refused(Refusal::Unavailable));
         answer
     }

@@ -15,14 +15,16 @@ use fr_text::Output;
 use std::alloc::Global;
 use std::io::{Read, Write};
 
-/// How many bytes a line has at most, without its line feed. Its JSON takes some hundred times as much memory.
+/// How many bytes a line has at most, without its line feed.
 pub const LINE_BYTES: usize = 1_048_576;
 
-/// Answers requests that come in, a line each, in order: the answer to a line is written before more than
-/// what came with it is read. All lines are answered; or a fault ends it, and what was answered stays. It ends
-/// with `Unavailable` behind the answer after which the register has come to an end. The bounds are those of a script,
-/// [`SCRIPT_BYTES`] bytes and [`SCRIPT_READS`] reads, and [`LINE_BYTES`] for each line. A line that has no end
+/// Answers requests that come in, a line each, in order. All lines are answered; or a fault ends it, and what was answered
+/// stays. It ends with `Unavailable` behind the answer after which the register has come to an end. The bounds are those of a
+/// script, [`SCRIPT_BYTES`] bytes and [`SCRIPT_READS`] reads, and [`LINE_BYTES`] for each line. A line that has no end
 /// when the bounds are met or a read fails is not answered.
+///
+/// The answer to a line is written before more than what came with it is read. No clause speaks of that order, nor says when
+/// a read fails or the reads are too many.
 pub fn answer_input<D: Lasting, R: Read, W: Write>(
     alloc: Global,
     desk: &mut D,

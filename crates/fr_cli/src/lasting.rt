@@ -8,7 +8,7 @@ pub trait Lasting: Desk {
     ghost use Rattle.fr_base.specs.Book.{Book};
     ghost use Rattle.fr_base.specs.Cluster.{Cluster};
 
-    /// Whether the register can still be asked. One that comes to an end has told all that it will tell. Its rows stay.
+    /// Whether the register can still be asked. Its rows stay. When it comes to an end, no clause says.
     fn lasts(&mut self, alloc: Global) -> bool
         ensures falls { Self.clean self.new → Self.clean self.old }
         ensures stays { Self.clean self.new → (c : Cluster) (b : Book) → Self.stands self.old c b → Self.stands self.new c b };

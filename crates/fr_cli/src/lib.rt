@@ -22,6 +22,7 @@ mod laws;
 mod lines;
 mod lines_out;
 mod listener;
+mod local_files;
 mod local_listener;
 mod numbers;
 mod outcome;
@@ -34,6 +35,7 @@ mod script;
 mod script_fault;
 mod serving;
 mod text_file;
+mod text_files;
 mod timed_stream;
 mod watch;
 mod words;
@@ -43,14 +45,16 @@ pub use delivery::{Delivery, DeliveryKind};
 pub use incoming::answer_input;
 pub use lasting::Lasting;
 pub use laws::{
-    answered_lines_are_a_run, available_answers_are_steps, each_fault_is_explained,
-    each_number_is_named,
+    answered_lines_are_a_run, answered_lines_are_one, available_answers_are_steps,
+    each_fault_is_explained, each_number_is_named, output_is_one,
 };
 pub use listener::Listener;
+pub use local_files::LocalFiles;
 pub use local_listener::LocalListener;
 pub use query::Inquiry;
 pub use script::run_script;
 pub use script_fault::ScriptFault;
 pub use serving::serve_next;
 pub use text_file::TextFile;
+pub use text_files::TextFiles;
 pub use words::{Job, WordFault, read_words};

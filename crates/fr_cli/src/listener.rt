@@ -27,7 +27,7 @@ pub trait Listener {
         ensures ok { OnOk result (listens self.old port self.new) }
         ensures err { OnErr result (self.new ≡ self.old) };
 
-    /// The next connection, which lasts so many seconds at most.
+    /// The next connection, which is to last so many seconds at most. No clause speaks of time.
     fn accept(&mut self, seconds: u32) -> io::Result<(Self::Reader, Self::Writer)>
         ensures ok { IfOk result (λ ends. accepts self.old ends.0 ends.1 self.new) }
         ensures err { OnErr result (self.new ≡ self.old) };

@@ -15,6 +15,7 @@ ghost use Rattle.fr_cli.specs.Queries.{named};
 ghost use Rattle.fr_cli.specs.Reading.{PrintsRead};
 ghost use Rattle.fr_cli.specs.RegisterFiles.{IsAnswerOfFile, IsMoved, IsReadOfFile};
 ghost use Rattle.fr_cli.specs.Runs.{IsRunOf};
+ghost use Rattle.fr_cli.specs.Texts.{readings};
 ghost use Rattle.fr_cli.specs.Visits.{comings};
 ghost use Rattle.fr_cli.specs.declared.failure.Failure.{Failure as Ended};
 ghost use Rattle.fr_cli.specs.declared.fault.Fault.{Fault as Word};
@@ -35,6 +36,7 @@ use crate::printing::{end, print, print_all, tell};
 use crate::query::Inquiry;
 use crate::script::run_script;
 use crate::serving::{Service, serve};
+use crate::text_files::TextFiles;
 use crate::words::{Job, WordFault};
 use fr_desks::{Left, file_desk};
 use fr_text::Output;
@@ -42,20 +44,23 @@ use sqlite::Start;
 use std::alloc::Global;
 use std::io::{Read, Write};
 
-/// Does the job, and gives the status that the process ends with: 0 where it was done; 1 where the
-/// register refused it, or would refuse rows of a file that was tried, or a fault ended it. What cannot be
-/// written to `err` is lost. Beside the status it gives what is left of the job's register file, closed.
-/// A server's connections come in at the listener. `start` says what is supposed of the job's file.
-pub fn perform<S: Start, R: Read, O: Write, E: Write, L: Listener>(
+/// Does the job, and gives its status: 0 where it was done; 1 where the register refused it, or would refuse rows of a
+/// file that was tried, or a fault ended it. What cannot be written to `err` is lost. Beside the status it gives what is
+/// left of the job's register file, of which [`end_closed`](crate::end_closed) makes the status that the process ends with.
+/// The texts that it reads by their paths stand in `files`; a server's connections come in at the listener. `start` says
+/// what the job's register file held as it was opened.
+pub fn perform<S: Start, F: TextFiles, R: Read, O: Write, E: Write, L: Listener>(
     rt: &HostRuntime,
     job: &Job<'_>,
     start: S,
+    files: &mut F,
     input: &mut R,
     out: &mut O,
     err: &mut E,
     listener: &mut L,
 ) -> (u8, Left<S>)
     ensures { IsPerformed (image_at S.Start) result.1
+        (readings F.TextFiles F.Reader.Read files.old files.new)
         (comings L.Listener L.Reader.Read L.Writer.Write listener.old listener.new) job.now record {
           input = record { old = R.remaining input.old; new = R.remaining input.new };
           out = record { old = O.contents out.old; new = O.contents out.new };
@@ -66,7 +71,7 @@ pub fn perform<S: Start, R: Read, O: Write, E: Write, L: Listener>(
     match *job {
         Job::Run => (end_script(rt.alloc(), input, out, &mut err), None),
         Job::Create { db, config } => {
-            let (done, left) = create(rt, db, config, start);
+            let (done, left) = create(rt, db, config, start, files);
             (end(done, &mut err), left)
         }
         Job::Migrate { db } => {
@@ -104,10 +109,13 @@ pub fn perform<S: Start, R: Read, O: Write, E: Write, L: Listener>(
             (tell(done, out, &mut err), left)
         }
         Job::Deliver { db, delivery } => {
-            let (done, left) = deliver_file(rt, db, start, delivery, input);
+            let (done, left) = deliver_file(rt, db, start, delivery, files, input);
             (tell(done, out, &mut err), left)
         }
-        Job::Check { file } => (tell(check(rt, file), out, &mut err), None),
+        Job::Check { file } => {
+            let done = check(rt.alloc(), files, file);
+            (tell(done, out, &mut err), None)
+        }
         Job::Explain { word } => (tell(explain_word(rt.alloc(), word), out, &mut err), None),
     }
 }

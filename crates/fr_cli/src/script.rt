@@ -20,7 +20,7 @@ use std::io::{Read, Write};
 /// answer short.
 ///
 /// Each supplier is answered as if it were alone. A register that the cluster file makes with this
-/// supplier alone, given the supplier's lines, those whose key is nobody's, as its own is before it
+/// supplier alone, given the supplier's lines, those without a key or with nobody's, as its own is before it
 /// joins, and those of the integrator's that were done and are common or name the supplier, answers
 /// them alike, line by line; a line that was answered `Unavailable` is left out. And after each line
 /// at most one frame is sent in a cycle, slot and channel of a variant, by the node that holds the

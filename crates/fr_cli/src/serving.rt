@@ -198,9 +198,9 @@ fn tell_end<E: Write>(done: Result<Served, LinkFault>, err: &mut Output<'_, E>)
     }
 }
 
-/// Serves the next connection, for so many seconds at most: one exchange with the register, which then stands for the book after
-/// it. The exchange has exactly the bytes that were read of the connection and those that were written to it. It is an error
-/// where no connection could be accepted; then all is as it was.
+/// Serves the next connection: one exchange with the register, which then stands for the book after it. The exchange has
+/// exactly the bytes that were read of the connection and those that were written to it. It is an error where no connection
+/// could be accepted; then all is as it was. The connection is to last so many seconds at most: no clause speaks of time.
 pub fn serve_next<D: Desk, L: Listener>(
     alloc: Global,
     listener: &mut L,

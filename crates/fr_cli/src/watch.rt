@@ -60,7 +60,7 @@ impl<'a> Watch<'a> {
 
     /// Takes the files' lengths and times as they are now: what was written to them is the register's own. Which files
     /// they are stays as it was seen first, so that one that was put in another's place stays another.
-    pub fn renew(&mut self) {
+    pub fn note_own_writes(&mut self) {
         if let Ok(now) = look(self.rt, self.db) {
             self.seen = self.seen.written_as(now);
         }

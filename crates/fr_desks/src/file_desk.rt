@@ -20,7 +20,7 @@ use sqlite::{FileFrom, FileStore, Files, Leftover, Start};
 use sqlite_disk::Disk;
 use std::fs;
 
-/// The desk of the register in a file. `S` says what is supposed of the file and its log as they were opened.
+/// The desk of the register in a file. `S` says what the file and its log held as they were opened.
 pub type FileDesk<S> = Office<Store<FileStore<FileFrom<S>>>>;
 
 /// What is left of the file and its log: nothing where they were not opened, or were given up.
@@ -30,7 +30,7 @@ pub type Left<S> = Option<Leftover<FileFrom<S>>>;
 pub type FileFault<S> = (StoreFault, Left<S>);
 
 /// Makes the register of this cluster in the file at a path, which has none, and closes it: the files that are
-/// left hold the book of a new register. `start` says what is supposed of the file.
+/// left hold the book of a new register. `start` says what the file held as it was opened. No clause reaches the path.
 pub fn create<S: Start>(
     rt: &HostRuntime,
     path: &str,
@@ -73,8 +73,8 @@ fn new_desk<S: Start>(
     }
 }
 
-/// Migrates the register in the file at a path from schema 1 to schema 2, with all that it holds. Where
-/// there is no file there is no register, and none is made. `start` says what is supposed of the file.
+/// Migrates the register in the file at a path from schema 1 to schema 2, with all that it holds. `start` says what the
+/// file held as it was opened. No clause reaches the path: where there is no file there is no register, and none is made.
 pub fn migrate<S: Start>(
     rt: &HostRuntime,
     path: &str,
@@ -94,7 +94,8 @@ pub fn migrate<S: Start>(
 }
 
 /// The desk of the register in the file at a path, which stands for the book that the file holds, or that a crash left in
-/// it. Where there is no file there is no register, and none is made. `start` says what is supposed of the file.
+/// it. `start` says what the file held as it was opened. No clause reaches the path: where there is no file there is no
+/// register, and none is made.
 pub fn open<S: Start>(rt: &HostRuntime, path: &str, start: S) -> Result<FileDesk<S>, FileFault<S>>
     ensures found { let it = ⟦<FileDesk<S> as Desk>⟧ in IfOk result (λ desk.
         FindsHeld (image_at S.Start) (it.clean desk) (it.stands desk)) }

@@ -43,7 +43,7 @@ impl Desk for MemoryDesk {
 }
 
 impl MemoryDesk {
-    /// The desk of a new register of this cluster. It is `Unavailable` where memory is refused.
+    /// The desk of a new register of this cluster. The only refusal is `Unavailable`.
     pub fn new(alloc: Global, config: &Config) -> Result<MemoryDesk, StoreFault>
         ensures stands { IfOk result (λ it. ⟦<MemoryDesk as Desk>⟧.stands it config.now.cluster (opening config.now)) }
         ensures told { IfErr result (λ e. e ≡ Unavailable) }

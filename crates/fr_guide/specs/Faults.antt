@@ -1,9 +1,10 @@
--- Told line: a line's faults are printed a line each, behind the line's number; where there are none, nothing is.
+-- Told line: each fault of a line is printed on a line of its own, behind the line's number. A line
+-- without faults is not printed.
 use Rattle.std.specs.Prelude.{ℕ, Bool, true, false, List, [], ◌∷◌, ◌++◌, codes, decimal, string_bytes}
 use Rattle.std.specs.List.{flat_map, list_all}
 use Rattle.fr_guide.specs.declared.line_faults.LineFaults.{LineFaults}
 
--- whether there is none
+-- whether the list is empty
 abbrev pub are_none : {A : Type 0} → List A → Bool
 are_none [] = true
 are_none (_ ∷ _) = false
@@ -12,7 +13,7 @@ are_none (_ ∷ _) = false
 abbrev pub is_fine : LineFaults → Bool
 is_fine told = are_none told.faults.items
 
--- whether no line has one
+-- whether no line has a fault
 abbrev pub all_fine : List LineFaults → Bool
 all_fine told = list_all is_fine told
 
@@ -20,10 +21,10 @@ all_fine told = list_all is_fine told
 abbrev pub fault_line : ℕ → List ℕ → List ℕ
 fault_line line fault = codes "line " ++ decimal line ++ codes ": " ++ fault ++ codes "\n"
 
--- those of a line
+-- the printed lines of a line's faults
 abbrev pub lines_of : LineFaults → List ℕ
 lines_of told = flat_map (λ fault. fault_line told.line (string_bytes fault)) told.faults.items
 
--- those of several
+-- the printed lines of several lines' faults
 abbrev pub all_lines : List LineFaults → List ℕ
 all_lines told = flat_map lines_of told

@@ -1,4 +1,5 @@
--- Request's fields: which fields each request has, and of which kind each is; and whether the fields of an object are those of a request.
+-- Request's fields: the fields of each request, and the kind of each. Whether the fields of an
+-- object are those of a request.
 use Rattle.std.specs.Prelude.{ℕ, ◌^◌, Bool, true, false, ◌&&◌, ◌||◌, nat_lt, if◌then◌else◌, List, [], ◌∷◌, codes, Option, Some, None, is_some, option_and_then}
 use Rattle.std.specs.List.{list_all}
 use Rattle.std.specs.Map.{lookup}
@@ -52,7 +53,7 @@ fields_of request = lookup (bytes_eq request) requests
 unfoldable pub numbers : List (List ℕ)
 numbers = codes "slot" ∷ codes "base" ∷ codes "repetition" ∷ codes "start" ∷ codes "length" ∷ codes "part" ∷ []
 
--- what the field of this name has to be, in the request of this name
+-- the kind of the field of this name, in the request of this name
 unfoldable pub kind_of : List ℕ → List ℕ → Kind
 kind_of request name =
     if is_among numbers name then kind.Number
@@ -60,7 +61,7 @@ kind_of request name =
     else if bytes_eq name (codes "replace") then kind.Flag
     else kind.Text
 
--- whether there is a number, of at most 4,294,967,295
+-- whether there is a number, and it is at most 4,294,967,295
 abbrev pub is_whole : Option ℕ → Bool
 is_whole None = false
 is_whole (Some n) = nat_lt n (2 ^ 32)
@@ -72,7 +73,7 @@ is_of_kind kind.TextOrNull value = is_some (as_null value) || is_some (as_str va
 is_of_kind kind.Flag value = is_some (as_bool value)
 is_of_kind kind.Number value = is_whole (option_and_then as_u64 (as_number value))
 
--- whether a field may have this value, or may lack one
+-- whether the value, or its absence, is allowed for a field of this kind
 abbrev pub has_kind : Kind → Option Data → Bool
 has_kind kind.Text None = false
 has_kind kind.TextOrNull None = true
@@ -80,29 +81,29 @@ has_kind kind.Flag None = true
 has_kind kind.Number None = false
 has_kind k (Some value) = is_of_kind k value
 
--- whether the field of this name is of its kind, in the request of this name
+-- whether the field of this name has its kind, in the request of this name
 abbrev pub has_field : List ℕ → Members → List ℕ → Bool
 has_field request fields name = has_kind (kind_of request name) (get_member name fields)
 
--- whether these are the request's fields, besides `do`, each of its kind
+-- whether the object's fields are exactly these and `do`, each of its kind
 abbrev pub has_just : List ℕ → List (List ℕ) → Members → Bool
 has_just request names fields = only (codes "do" ∷ names) fields && list_all (has_field request fields) names
 
--- whether the fields are those of the request, if it has any
+-- whether the object's fields are those of a request that has these fields; no request has none
 abbrev pub has_fields : List ℕ → Option (List (List ℕ)) → Members → Bool
 has_fields request None fields = false
 has_fields request (Some names) fields = has_just request names fields
 
--- whether they are those of the request of this name, if there is a name
+-- whether the object's fields are those of the request of this name, if there is a name
 abbrev pub has_fields_of : Option (List ℕ) → Members → Bool
 has_fields_of None fields = false
 has_fields_of (Some request) fields = has_fields request (fields_of request) fields
 
--- whether they are those of the request that `do` names
+-- whether the object's fields are those of the request that `do` names
 unfoldable pub are_of_request : Members → Bool
 are_of_request fields = has_fields_of (text (codes "do") fields) fields
 
--- whether an object's fields are, if there is an object
+-- whether there is an object, and its fields are those of the request that `do` names
 abbrev pub is_request : Option Members → Bool
 is_request None = false
 is_request (Some fields) = are_of_request fields

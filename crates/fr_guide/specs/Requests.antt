@@ -1,4 +1,4 @@
--- Fine request: a text that is a request, of which each name is a name, and the key a key.
+-- Fine request: a text that is a request, in which each name is a name and each key is a key.
 use Rattle.std.specs.Prelude.{ℕ, Bool, false, List, [], ◌∷◌, Option, Some, None}
 use Rattle.std.specs.List.{list_all}
 use Rattle.fr_base.specs.Names.{is_key, is_name}
@@ -17,7 +17,7 @@ abbrev pub has_form : Form → List ℕ → Bool
 has_form form.Name text = is_name text
 has_form form.Key text = is_key text
 
--- a text that has to be a name
+-- a text that must be a name
 abbrev pub name : List ℕ → Form × List ℕ
 name text = (form.Name, text)
 
@@ -26,7 +26,7 @@ abbrev pub parent_in : Option (List ℕ) → List (Form × List ℕ)
 parent_in None = []
 parent_in (Some parent) = name parent ∷ []
 
--- the name of a report's frame, if it is of one
+-- the name of a report's frame, if the report is of one
 abbrev pub frame_in : Report (List ℕ) ℕ → List (Form × List ℕ)
 frame_in Grants = []
 frame_in Frames = []
@@ -43,7 +43,7 @@ names_in (OfRegister inventory) = []
 names_in (OfVariant variant report) = name variant ∷ frame_in report
 names_in (OfTwo variant from) = name variant ∷ name from ∷ []
 
--- the texts of a request that have to have a form
+-- the texts of a request that must have a form
 unfoldable pub formed_in : Request → List (Form × List ℕ)
 formed_in (request.OpenVariant variant parent) = name variant ∷ parent_in parent
 formed_in (request.Release variant) = name variant ∷ []
@@ -72,6 +72,6 @@ abbrev pub is_fine : Option Request → Bool
 is_fine None = false
 is_fine (Some request) = have_forms (formed_in request)
 
--- whether the bytes are such a request
+-- whether the bytes are a fine request
 unfoldable pub is_fine_request : List ℕ → Bool
 is_fine_request bytes = is_fine (request_of bytes)

@@ -1,6 +1,6 @@
--- Fine row: a record below a header is a row's text, whatever the cluster: it has as many fields as the header, its names are names,
--- its numbers are numbers, and each other field is a text. Which records of a file are fine, of which an import takes so many; which lines
--- the file has.
+-- Fine row: a record below a header that can be a row, whatever the cluster. It has as many fields
+-- as the header, its names are names, its numbers are numbers, and each other field is a text.
+-- Which records of a file are fine, of as many as an import takes. Which lines the file has.
 use Rattle.std.specs.Prelude.{ℕ, zero, suc, ◌+◌, ◌≡◌, ◌≤◌, ◌==◌, nat_lt, Bool, true, false, not, ◌&&◌, ◌||◌, if◌then◌else◌, List, [], ◌∷◌, length, map, Option, Some, None, Result}
 use Rattle.std.specs.Result.{is_ok}
 use Rattle.fr_base.specs.Checks.{name}
@@ -14,7 +14,7 @@ use Rattle.fr_base.specs.declared.refusal.Refusal.{Refusal}
 use Rattle.fr_guide.specs.Faults.{is_fine}
 use Rattle.fr_guide.specs.declared.line_faults.LineFaults.{LineFaults}
 
--- the field at a place, a name
+-- the name that is the field at a place
 unfoldable pub name_at : List (List ℕ) → ℕ → Result Name Refusal
 name_at fields place = text_at fields place >>= name
 
@@ -22,17 +22,17 @@ name_at fields place = text_at fields place >>= name
 unfoldable pub is_fine_frame : List (List ℕ) → Bool
 is_fine_frame fields = is_ok (name_at fields 0) && is_ok (name_at fields 1)
 
--- whether they are those of a row of placements
+-- whether the fields are those of a row of placements
 unfoldable pub is_fine_placement : List (List ℕ) → Bool
 is_fine_placement fields = is_ok (name_at fields 0) && is_ok (name_at fields 1) && is_ok (number_at fields 2) && is_ok (text_at fields 3)
     && is_ok (number_at fields 4) && is_ok (number_at fields 5)
 
--- whether they are those of a row of signals
+-- whether the fields are those of a row of signals
 unfoldable pub is_fine_signal : List (List ℕ) → Bool
 is_fine_signal fields = is_ok (name_at fields 0) && is_ok (name_at fields 1) && is_ok (number_at fields 2) && is_ok (number_at fields 3)
     && is_ok (text_at fields 4)
 
--- whether they are, below this header
+-- whether the fields are those of a row below this header
 abbrev pub has_fine_fields : Header → List (List ℕ) → Bool
 has_fine_fields Frames fields = is_fine_frame fields
 has_fine_fields Placements fields = is_fine_placement fields
@@ -42,14 +42,14 @@ has_fine_fields Signals fields = is_fine_signal fields
 unfoldable pub is_fine_row : Header → List (List ℕ) → Bool
 is_fine_row header fields = (length fields == length (spelled header)) && has_fine_fields header fields
 
--- The records below a header, where so many more rows may stand. What comes behind these is one too many, whatever it holds, and what
--- comes behind that is not read.
+-- Which records below a header are fine, where so many more rows may stand. The record behind these
+-- is one too many, whatever it holds. What comes behind that is not read.
 unfoldable pub fine_rows : Header → ℕ → List (List (List ℕ)) → List Bool
 fine_rows header room [] = []
 fine_rows header zero (fields ∷ records) = false ∷ []
 fine_rows header (suc room) (fields ∷ records) = is_fine_row header fields ∷ fine_rows header room records
 
--- the records below a header; where there is none, they are not read
+-- which records below a header are fine; where there is no header, none is read
 abbrev pub fine_below : Option Header → List (List (List ℕ)) → List Bool
 fine_below None records = false ∷ []
 fine_below (Some header) records = true ∷ fine_rows header MAX_ROWS records
@@ -59,7 +59,7 @@ unfoldable pub fine_records : List (List (List ℕ)) → List Bool
 fine_records [] = false ∷ []
 fine_records (first ∷ records) = fine_below (header_of first) records
 
--- which records of a file are fine; of one that is too long for an import none is read
+-- which records of a file are fine; a file that is too long for an import is not read
 unfoldable pub fine_file : List ℕ → List Bool
 fine_file bytes = if nat_lt MAX_IMPORT_BYTES (length bytes) then false ∷ [] else fine_records (records_of bytes)
 
@@ -70,7 +70,8 @@ abbrev pub begins_with_feed : List ℕ → Bool
 begins_with_feed [] = false
 begins_with_feed (b ∷ bytes) = b == 10
 
--- Whether a byte before these ends a line, as an editor counts them: it is a line feed, or a carriage return without one behind.
+-- Whether the byte ends a line, where these follow it, as an editor counts lines: it is a line
+-- feed, or a carriage return with no line feed behind it.
 abbrev pub ends_line : ℕ → List ℕ → Bool
 ends_line byte after = (byte == 10) || ((byte == 13) && not (begins_with_feed after))
 
@@ -79,11 +80,11 @@ unfoldable pub line_ends : List ℕ → ℕ
 line_ends [] = 0
 line_ends (b ∷ bytes) = (if ends_line b bytes then 1 else 0) + line_ends bytes
 
--- how many lines a file has; behind the last end of a line is one more
+-- how many lines a file has: one more than ends of lines
 abbrev pub line_count : List ℕ → ℕ
 line_count bytes = 1 + line_ends bytes
 
--- The numbers do not fall, from the least to the most.
+-- The numbers do not fall, and lie between the least and the most.
 unfoldable pub AreInOrder : ℕ → ℕ → List ℕ → Type 0
 AreInOrder least most [] = least ≤ most
 AreInOrder least most (n ∷ numbers) = (least ≤ n) × AreInOrder n most numbers
@@ -92,6 +93,7 @@ AreInOrder least most (n ∷ numbers) = (least ≤ n) × AreInOrder n most numbe
 abbrev pub numbers_of : List LineFaults → List ℕ
 numbers_of told = map (λ t. t.line) told
 
--- Of each record something is told exactly where it is not fine. Each line is one of the file's, and they are in order.
+-- A fault of a record is told exactly where the record is not fine. Each line that is told is one
+-- of the file's, and they are in order.
 abbrev pub AreToldOfRows : List ℕ → List LineFaults → Type 0
 AreToldOfRows bytes told = (map is_fine told ≡ fine_file bytes) × AreInOrder 1 (line_count bytes) (numbers_of told)

@@ -1,4 +1,4 @@
-//! What is said of a word, or of all, or of those that begin alike.
+//! The explanation of one word, of all words, or of the words that begin alike.
 ghost use Rattle.std.specs.Prelude.{◌≡◌, ◌++◌, IfOk, OnOk, option_copied};
 ghost use Rattle.std.specs.List.{find};
 ghost use Rattle.std.specs.Str.{bytes_eq};
@@ -10,11 +10,11 @@ use crate::topics::topics;
 use fr_base::NoMemory;
 use std::alloc::Global;
 
-/// How many letters two words have in common at their front that begin alike.
+/// How many letters two words that begin alike have in common at their front.
 const ALIKE_LETTERS: usize = 3;
 
-/// What the word means, when it comes and what to do: three to six lines, of which the first begins with the
-/// word. There is none where the word is neither a refusal's name nor a fault's word.
+/// What is said of the word, in lines, of which the first begins with the word: what it means, when it comes and what to do,
+/// in words that no clause fixes. There is none where the word is neither a refusal's name nor a fault's word.
 pub fn explanation(alloc: Global, word: &str) -> Result<Option<Vec<u8>>, NoMemory>
     ensures { IfOk result (Explains word.now) }
 {
@@ -24,15 +24,15 @@ pub fn explanation(alloc: Global, word: &str) -> Result<Option<Vec<u8>>, NoMemor
     }
 }
 
-/// Each word that is explained, with what it means, a line each.
+/// A line for each word that is explained, with its meaning.
 pub fn overview(alloc: Global) -> Result<Vec<u8>, NoMemory>
     ensures { IfOk result (λ text. ListsAll text.items) }
 {
     lines(alloc, &topics(alloc)?)
 }
 
-/// The lines of those words that begin like this one: the first three letters are the same, or all where one
-/// of the two has fewer. Small and capital letters are alike.
+/// The lines of the words that begin like this one: the first three letters are the same, or, where
+/// one of the two has fewer, all of its letters. Small and capital letters count as the same.
 pub fn alike(alloc: Global, word: &str) -> Result<Vec<u8>, NoMemory>
     ensures { IfOk result (λ text. ListsAlike word.now text.items) }
 {
@@ -48,7 +48,7 @@ fn find<'a>(topics: &'a [Topic], word: &str) -> Option<&'a Topic>
     topics.iter().find(|topic| topic.word == word)
 }
 
-// All that is said of a topic.
+// All lines of a topic.
 fn page(alloc: Global, topic: &Topic) -> Result<Vec<u8>, NoMemory>
     ensures { IfOk result (λ text. text.items ≡ page_of topic.now) }
 {
@@ -80,7 +80,7 @@ fn append_line(text: &mut Vec<u8>, topic: &Topic) -> Result<(), NoMemory>
     Ok(())
 }
 
-// Whether two words begin alike.
+// Whether the two words begin alike.
 fn begin_alike(one: &str, other: &str) -> bool
     ensures { result ≡ begin_alike one.now other.now }
 {

@@ -1,4 +1,4 @@
-//! What is said of a cluster file: its figures, or its fault and where.
+//! What a planner is told of a cluster file: its figures, or its fault and where that is.
 ghost use Rattle.std.specs.Prelude.{◌≡◌, ◌++◌, IfOk, List, ℕ, codes};
 ghost use Rattle.fr_guide.specs.Examining.{IsFinding};
 ghost use Rattle.fr_text.specs.ClusterFile.{config_fault_word};
@@ -8,16 +8,17 @@ use fr_base::{Config, NoMemory};
 use fr_text::{ConfigFault, read_config};
 use std::alloc::{AllocError, Global};
 
-/// What is said of a cluster file: a text for a line.
+/// What is told of a cluster file: a text for a line.
 #[derive(Debug, Drop)]
 pub enum Finding {
-    /// It is one: the cluster's figures.
+    /// The bytes are a cluster file. The text has the cluster's figures.
     Good { text: Vec<u8> },
-    /// It is none: the fault's word, and where the fault is.
+    /// The bytes are not a cluster file. The text has the fault's word, and where the fault is.
     Bad { text: Vec<u8> },
 }
 
-/// Reads a cluster file, and says what is wrong and where, or what its figures are.
+/// Reads a cluster file, and says which fault it has, by its word, and where; or what its figures are. Behind the word, and
+/// of the figures, the text is fixed by no clause.
 pub fn examine(alloc: Global, bytes: &[u8]) -> Result<Finding, NoMemory>
     ensures { IfOk result (IsFinding bytes.now) }
 {
@@ -32,7 +33,7 @@ pub fn examine(alloc: Global, bytes: &[u8]) -> Result<Finding, NoMemory>
     }
 }
 
-// What is said of a fault.
+// The text of a fault.
 fn bad_text(alloc: Global, fault: ConfigFault, bytes: &[u8]) -> Result<Vec<u8>, NoMemory>
     ensures { IfOk result (λ text. (place : List ℕ) × (text.items ≡ config_fault_word fault ++ codes ": " ++ place)) }
 {
@@ -44,7 +45,7 @@ fn bad_text(alloc: Global, fault: ConfigFault, bytes: &[u8]) -> Result<Vec<u8>, 
     Ok(text)
 }
 
-// What is said of a cluster.
+// The text of a cluster's figures.
 fn figures(alloc: Global, config: &Config) -> Result<Vec<u8>, NoMemory> {
     let params = config.params();
     let (channels, slots) = (params.channels().as_str(), params.static_slots());

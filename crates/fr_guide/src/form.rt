@@ -1,10 +1,10 @@
-//! The forms that texts have to have.
+//! The forms of a request's texts.
 
-/// The form that a text has to have.
+/// The form that a text must have.
 #[derive(Clone, Copy, PartialEq, Eq)]
 pub enum Form {
-    /// That of a name.
+    /// The form of a name.
     Name,
-    /// That of a key.
+    /// The form of a key.
     Key,
 }

@@ -1,4 +1,5 @@
-//! What a planner is told of the program's words, and of what is wrong with a cluster file, a request or an import's file.
+//! What a planner is told of the program's words, and of the faults of a cluster file, a request or
+//! an import's file.
 #![tactic(auto)]
 
 mod explain;

@@ -1,20 +1,20 @@
-//! What is wrong with the lines of a file, and how it is printed.
+//! The faults of a file's lines, and how they are printed.
 ghost use Rattle.std.specs.Prelude.{◌≡◌, ◌++◌, IfOk, OnOk, false};
 ghost use Rattle.fr_guide.specs.Faults.{all_fine, all_lines, are_none, fault_line, lines_of};
 
 use fr_base::NoMemory;
 use std::alloc::Global;
 
-/// A line of a file, and what is wrong with its text.
+/// A line of a file, with the faults of its text.
 #[derive(Debug, Drop)]
 pub struct LineFaults {
     /// The line's number, as an editor counts lines: the first is 1.
     pub line: usize,
-    /// What is wrong, each fault in words; nothing where the line is as it may be.
+    /// The faults, in words; none where the line is as it may be.
     pub faults: Vec<String>,
 }
 
-/// What is wrong, where that is one fault.
+/// A list of one fault.
 pub fn one_fault(alloc: Global, fault: String) -> Result<Vec<String>, NoMemory>
     ensures { IfOk result (λ faults. are_none faults.items ≡ false) }
 {
@@ -23,14 +23,14 @@ pub fn one_fault(alloc: Global, fault: String) -> Result<Vec<String>, NoMemory>
     Ok(faults)
 }
 
-/// Whether nothing is wrong with any of the lines.
+/// Whether none of the lines has a fault.
 pub fn are_fine(told: &[LineFaults]) -> bool
     ensures { result ≡ all_fine told.now }
 {
     told.iter().all(|line| line.faults.is_empty())
 }
 
-/// Each fault on a line of its own, behind the number of its line in the file.
+/// The faults, each on a line of its own, which begins with the number of its line in the file.
 pub fn fault_lines(alloc: Global, told: &[LineFaults]) -> Result<Vec<u8>, NoMemory>
     ensures { IfOk result (λ text. text.items ≡ all_lines told.now) }
 {

@@ -13,7 +13,7 @@ use std::alloc::{AllocError, Global};
 use toml::de::Error;
 use toml::table_from_slice;
 
-/// Where the fault of a cluster file of these bytes is, and what may stand there, in words.
+/// Where the fault of a cluster file with these bytes is, and what may stand there, in words.
 pub fn place(alloc: Global, fault: ConfigFault, bytes: &[u8]) -> Result<String, NoMemory> {
     let file = match table_from_slice(alloc, bytes) {
         Ok(file) => file,
@@ -31,7 +31,7 @@ pub fn place(alloc: Global, fault: ConfigFault, bytes: &[u8]) -> Result<String, 
     }
 }
 
-// Where the bytes are no TOML.
+// Where the bytes stop being TOML.
 fn no_document(alloc: Global, bytes: &[u8], error: &Error) -> Result<String, NoMemory> {
     let Some(span) = error.span() else {
         return Err(AllocError);

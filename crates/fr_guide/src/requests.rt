@@ -1,4 +1,4 @@
-//! What is wrong with the text of a request.
+//! The faults of a request's text.
 ghost use Rattle.std.specs.Prelude.{◌≡◌, IfOk};
 ghost use Rattle.fr_guide.specs.Faults.{are_none};
 ghost use Rattle.fr_guide.specs.Requests.{is_fine_request};
@@ -15,7 +15,8 @@ use fr_text::read_command;
 use std::alloc::{AllocError, Global};
 
 /// What is wrong with the text of a request, which begins behind so many bytes of its line: why it is none, or
-/// which of its names are no names. The register is not asked, so a name may be that of nothing.
+/// which of its names are no names. The register is not asked, so a name may be that of nothing. Whether something is told
+/// is said by a clause; what is, and in which words, by none.
 #[tactic(auto, unfolding(crate::specs::Requests::is_fine_request))]
 pub fn request_faults(alloc: Global, text: &[u8], before: usize) -> Result<Vec<String>, NoMemory>
     ensures { IfOk result (λ faults. are_none faults.items ≡ is_fine_request text.now) }

@@ -1,4 +1,4 @@
-//! What is wrong with the rows of an import's file.
+//! The faults of the rows of an import's file.
 ghost use Rattle.std.specs.Prelude.{◌≡◌, ◌∷◌, ◌++◌, ◌≤◌, ◌<◌, ◌+◌, ◌^◌, [], IfOk, OnOk, false, if◌then◌else◌, map};
 ghost use Rattle.csv.specs.Records.{fields_of};
 ghost use Rattle.fr_base.specs.ImportRows.{records_of};
@@ -19,8 +19,9 @@ use fr_base::{Header, MAX_IMPORT_BYTES, MAX_ROWS, NoMemory};
 use fr_text::{Records, header_of};
 use std::alloc::{AllocError, Global};
 
-/// What is wrong with each record of an import's file, the header first: why it is no row, whatever the cluster. A file that is too long is
-/// not read, nor is what stands below what is no header, or behind one row too many.
+/// What is wrong with each record of an import's file, the header first: why it is no row, whatever the cluster. A file that
+/// is too long is not read, nor is what stands below what is no header, or behind one row too many. Whether something is told
+/// of a record is said by clauses; in which words, and of which of the file's lines, is not, but that the lines are in order.
 #[tactic(auto, unfolding(crate::specs::Rows::fine_file))]
 pub fn row_faults(alloc: Global, body: &[u8]) -> Result<Vec<LineFaults>, NoMemory>
     ensures { IfOk result (λ told. AreToldOfRows body.now told.items) }
@@ -32,7 +33,7 @@ pub fn row_faults(alloc: Global, body: &[u8]) -> Result<Vec<LineFaults>, NoMemor
     record_faults(alloc, body)
 }
 
-// What is wrong with each record of a file that is not too long.
+// The faults of each record of a file that is not too long.
 #[tactic(auto, unfolding(crate::specs::Rows::fine_records))]
 fn record_faults(alloc: Global, body: &[u8]) -> Result<Vec<LineFaults>, NoMemory>
     ensures rows { IfOk result (λ told. map is_fine told.items ≡ fine_records (records_of body.now)) }
@@ -72,7 +73,7 @@ fn one_line(alloc: Global, line: usize, faults: Vec<String>) -> Result<Vec<LineF
     Ok(told)
 }
 
-// Adds what is wrong with each record that is left, a row below this header, up to one row too many.
+// Adds the faults of each record that is left, as a row below this header, up to one row too many.
 fn tell_rows(
     alloc: Global,
     header: Header,
@@ -111,12 +112,12 @@ fn read(records: &mut Records<'_>, fields: &mut ByteRecord) -> Result<bool, NoMe
     }
 }
 
-// Behind how many bytes of the file the record was read. Ends of lines may still come before it.
+// How many bytes of the file come before the record. Ends of lines may still follow them.
 fn bytes_before(fields: &ByteRecord) -> u64 {
     fields.position().map_or(0, |position| position.byte())
 }
 
-// What is wrong with a file that is too long.
+// The fault of a file that is too long.
 fn too_long(alloc: Global) -> Result<Vec<String>, NoMemory>
     ensures { IfOk result (λ faults. are_none faults.items ≡ false) }
 {
@@ -126,7 +127,7 @@ fn too_long(alloc: Global) -> Result<Vec<String>, NoMemory>
     one_fault(alloc, fault)
 }
 
-// What is wrong with the row behind the last that a file may have.
+// The fault of the row behind the last that a file may have.
 fn too_many(alloc: Global) -> Result<Vec<String>, NoMemory>
     ensures { IfOk result (λ faults. are_none faults.items ≡ false) }
 {
@@ -134,7 +135,7 @@ fn too_many(alloc: Global) -> Result<Vec<String>, NoMemory>
     one_fault(alloc, fault)
 }
 
-// What is wrong with a file without a record.
+// The fault of a file without a record.
 fn no_header(alloc: Global) -> Result<Vec<String>, NoMemory>
     ensures { IfOk result (λ faults. are_none faults.items ≡ false) }
 {

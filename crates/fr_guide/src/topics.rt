@@ -22,7 +22,7 @@ use crate::topic::Topic;
 use fr_base::NoMemory;
 use std::alloc::Global;
 
-/// All of them.
+/// All topics.
 pub fn topics(alloc: Global) -> Result<Vec<Topic>, NoMemory>
     ensures { IfOk result (λ all. words_of all.items ≡ explained) }
 {

@@ -19,10 +19,10 @@ use Rattle.fr_http.specs.Exchanges.{AreExchanged, Answered, Asks, Deals, Dealing
 use Rattle.fr_http.specs.Head.{HeadData, key_of, said}
 use Rattle.fr_http.specs.Outcome.{IsOutcome, asked_by, by_engine, front, holder, outcome_of, plan_of}
 use Rattle.fr_http.specs.Routes.{matter_by, method_of, path_of}
-use Rattle.fr_http.specs.declared.asked.Asked.{Asked}
-use Rattle.fr_http.specs.declared.asked.Asked.TheVariants as asked
-use Rattle.fr_http.specs.declared.asked.Matter.{Matter}
-use Rattle.fr_http.specs.declared.asked.Matter.TheVariants as matter
+use Rattle.fr_http.specs.declared.asking.Demand.{Demand}
+use Rattle.fr_http.specs.declared.asking.Demand.TheVariants as demand
+use Rattle.fr_http.specs.declared.asking.Matter.{Matter}
+use Rattle.fr_http.specs.declared.asking.Matter.TheVariants as matter
 use Rattle.fr_http.specs.declared.fault.Unasked.{Unasked}
 use Rattle.fr_http.specs.declared.fault.Unasked.TheVariants.{Refused, Fault}
 use Rattle.fr_http.specs.declared.fault.LinkFault.{LinkFault}
@@ -41,40 +41,40 @@ bind_alike (Ok x) f g v same is = same x is
 bind_alike (Err e) f g v same is = absurd cc
 
 -- who asks
-abbrev sender : Asked → Actor
-sender (asked.Request ask method) = ask.actor
-sender (asked.Picture reader variant) = reader
+abbrev sender : Demand → Actor
+sender (demand.Request ask method) = ask.actor
+sender (demand.Picture reader variant) = reader
 
-actor_in : Actor → Result Asked Unasked → Actor
-actor_in other (Ok asked) = sender asked
+actor_in : Actor → Result Demand Unasked → Actor
+actor_in other (Ok demand) = sender demand
 actor_in other (Err unasked) = other
 
 -- the last line: who asks, if there is someone
-abbrev asks_found : Option Actor → Matter → Method → Result Asked Unasked
+abbrev asks_found : Option Actor → Matter → Method → Result Demand Unasked
 asks_found found what method = (found or Refused UnknownKey) >>= λ actor. Ok (asked_by actor method what)
 
-module _ (who alone : List ℕ → Option Actor) (asked : Asked) (heard : (key : List ℕ) → who key ≡ Some (sender asked) → alone key ≡ Some (sender asked)) where
-  is_found : (found : Option Actor) (what : Matter) (method : Method) → asks_found found what method ≡ Ok asked → found ≡ Some (sender asked)
+module _ (who alone : List ℕ → Option Actor) (demand : Demand) (heard : (key : List ℕ) → who key ≡ Some (sender demand) → alone key ≡ Some (sender demand)) where
+  is_found : (found : Option Actor) (what : Matter) (method : Method) → asks_found found what method ≡ Ok demand → found ≡ Some (sender demand)
   unfolding ◌>>=◌ ◌or◌ actor_in
   is_found None what method is = absurd cc
   is_found (Some actor) (matter.Request request) method is = ap Some (ap (actor_in actor) is)
   is_found (Some actor) (matter.Picture variant) method is = ap Some (ap (actor_in actor) is)
 
-  held_alike : (key : Option (List ℕ)) (what : Matter) (method : Method) → asks_found (holder who key) what method ≡ Ok asked → asks_found (holder alone key) what method ≡ Ok asked
+  held_alike : (key : Option (List ℕ)) (what : Matter) (method : Method) → asks_found (holder who key) what method ≡ Ok demand → asks_found (holder alone key) what method ≡ Ok demand
   held_alike None what method is = is
   held_alike (Some key) what method is =
       let found = is_found (who key) what method is in
       ap (λ o. asks_found o what method) (heard key found ∙ sym found) ∙ is
 
-  asks_alike : (head : HeadData) (rest : List ℕ) → outcome_of who head rest ≡ Ok asked → outcome_of alone head rest ≡ Ok asked
+  asks_alike : (head : HeadData) (rest : List ℕ) → outcome_of who head rest ≡ Ok demand → outcome_of alone head rest ≡ Ok demand
   unfolding outcome_of
   asks_alike head rest =
-      bind_alike (by_engine (plan_of head)) _ _ asked (λ plan.
-      bind_alike (front plan.length rest or Fault Truncated) _ _ asked (λ body.
-      bind_alike (matter_by plan.route (path_of head.target) body or Refused BadText) _ _ asked (λ what.
+      bind_alike (by_engine (plan_of head)) _ _ demand (λ plan.
+      bind_alike (front plan.length rest or Fault Truncated) _ _ demand (λ body.
+      bind_alike (matter_by plan.route (path_of head.target) body or Refused BadText) _ _ demand (λ what.
       held_alike (key_of head) what (method_of plan.route))))
 
-  outcome_alike : (bytes before : List ℕ) → IsOutcome who bytes before (Ok asked) → IsOutcome alone bytes before (Ok asked)
+  outcome_alike : (bytes before : List ℕ) → IsOutcome who bytes before (Ok demand) → IsOutcome alone bytes before (Ok demand)
   outcome_alike bytes before (inl by_head) = inl (record {
     head = by_head.head;
     rest = by_head.rest;
@@ -82,7 +82,7 @@ module _ (who alone : List ℕ → Option Actor) (asked : Asked) (heard : (key :
     asks = sym (asks_alike (said by_head.head) by_head.rest (sym by_head.asks));
     interim = by_head.interim;
   })
-  outcome_alike bytes before (inr without) = let none : Ok asked ≡ Err without.unasked = without.asks in absurd cc
+  outcome_alike bytes before (inr without) = let none : Ok demand ≡ Err without.unasked = without.asks in absurd cc
 
 -- ---- what bytes do not ask
 
@@ -92,8 +92,8 @@ unfolding ◌>>=◌
 bind_refused_alike (Ok x) f g e same is = same x is
 bind_refused_alike (Err d) f g e same is = is
 
-cause_in : Unasked → Result Asked Unasked → Unasked
-cause_in other (Ok asked) = other
+cause_in : Unasked → Result Demand Unasked → Unasked
+cause_in other (Ok demand) = other
 cause_in other (Err unasked) = unasked
 
 -- a key that is nobody's for the one is nobody's for the other, where that is why nothing is asked
@@ -197,12 +197,12 @@ module _ (s : Name) (c : Cluster) (b last : Book) where
   asks-own : (x : Exchange) (a : Option Dealing) → IsSound c b → is_own s a ≡ true → Asks c b x a last → Asks c (rows_of s b) x a (rows_of s last)
   asks-own x None sound own so = (ap (rows_of s) so.0, unasked-alone x x.done so.1)
   asks-own x (Some dealing) sound own so =
-      let asked = asked_in dealing in
-      let heard : (key : List ℕ) → actor_of c b key ≡ Some (sender asked) → actor_of c (rows_of s b) key ≡ Some (sender asked) =
+      let demand = asked_in dealing in
+      let heard : (key : List ℕ) → actor_of c b key ≡ Some (sender demand) → actor_of c (rows_of s b) key ≡ Some (sender demand) =
       λ key has. actor-alone s c b key (ap (is_heard s) has ∙ own-heard dealing own) ∙ has in
       record {
         before = so.before;
-        outcome = outcome_alike (actor_of c b) (actor_of c (rows_of s b)) asked heard x.read so.before so.outcome;
+        outcome = outcome_alike (actor_of c b) (actor_of c (rows_of s b)) demand heard x.read so.before so.outcome;
         deals = deals-own sound dealing own so.deals;
         reply = so.reply;
         is_reply = so.is_reply;

@@ -10,3 +10,4 @@ pub mod AloneActors
 pub mod AlonePictures
 pub mod DealingLaws
 pub mod ExchangeLaws
+pub mod OutcomeLaws

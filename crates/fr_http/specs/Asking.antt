@@ -1,4 +1,4 @@
--- What is known of a request and of who asks it, on the way to an outcome.
+-- On the way to an outcome: what is known of a request and of its sender.
 use Rattle.std.specs.Prelude.{ℕ, ◌≡◌, ◌⊎◌, false, List, Option, None, Some, Result, Ok, Err, MatchResult}
 use Rattle.fr_base.specs.Actors.{actor_of}
 use Rattle.fr_base.specs.Book.{Book}
@@ -12,7 +12,7 @@ use Rattle.fr_text.specs.RequestText.{request_of}
 use Rattle.fr_http.specs.Head.{HeadData, key_of}
 use Rattle.fr_http.specs.Outcome.{holder}
 use Rattle.fr_http.specs.Routes.{matter_by, number_in, part}
-use Rattle.fr_http.specs.declared.asked.Matter.{Matter}
+use Rattle.fr_http.specs.declared.asking.Matter.{Matter}
 use Rattle.fr_http.specs.declared.fault.LinkFault.TheVariants.{NoMemory}
 use Rattle.fr_http.specs.declared.fault.Unasked.{Unasked}
 use Rattle.fr_http.specs.declared.fault.Unasked.TheVariants.{Fault, Refused}
@@ -22,32 +22,34 @@ use Rattle.fr_http.specs.declared.routes.Route.{Route}
 abbrev pub Standing : Type 1
 Standing = Cluster → Book → Type 0
 
--- The request is what the body's text is; or it is none; or memory was wanting.
+-- The request is the one that the body's text is; or the text is not a request; or memory was
+-- wanting.
 abbrev pub MakesCommand : List ℕ → Result Request Unasked → Type 0
 MakesCommand body (Ok request) = request_of body ≡ Some request
 MakesCommand body (Err unasked) = (unasked ≡ Fault (NoMemory false)) ⊎ ((unasked ≡ Refused BadText) × (request_of body ≡ None))
 
--- The name is what stands after so many slashes of the path; or memory was wanting.
+-- The name is the part of the path behind so many slashes; or memory was wanting.
 abbrev pub NamesPart : List ℕ → ℕ → Result (List ℕ) Unasked → Type 0
 NamesPart path slashes result = MatchResult result (λ name. name ≡ part slashes path) (λ unasked. unasked ≡ Fault (NoMemory false))
 
--- The number is what stands there; or that is no number.
+-- The number is the part of the path behind so many slashes; or that part is not a number.
 abbrev pub CountsPart : List ℕ → ℕ → Result ℕ Unasked → Type 0
 CountsPart path slashes result = MatchResult result
     (λ number. number_in slashes path ≡ Some number)
     (λ unasked. (unasked ≡ Refused BadText) × (number_in slashes path ≡ None))
 
--- The matter is the route's; or a request's text is none, or a number's; or memory was wanting.
+-- The matter is the route's; or a text is not a request, or a part of the path is not a number; or
+-- memory was wanting.
 abbrev pub MakesMatter : Route → List ℕ → List ℕ → Result Matter Unasked → Type 0
 MakesMatter route path body (Ok matter) = matter_by route path body ≡ Some matter
 MakesMatter route path body (Err unasked) =
     (unasked ≡ Fault (NoMemory false)) ⊎ ((unasked ≡ Refused BadText) × (matter_by route path body ≡ None))
 
--- In a sound book this is who has the head's key.
+-- In a sound book this actor has the head's key, or nobody has it.
 abbrev pub FindsActor : Standing → HeadData → Option Actor → Type 0
 FindsActor stands head found = (c : Cluster) (b : Book) → stands c b → IsSound c b → found ≡ holder (actor_of c b) (key_of head)
 
--- why nothing is asked where a request is refused: want of memory is a fault
+-- why nothing is asked where a request is refused; want of memory is a fault
 abbrev pub unasked_by : Refusal → Unasked
 unasked_by Unavailable = Fault (NoMemory false)
 unasked_by refusal = Refused refusal

@@ -17,7 +17,7 @@ use Rattle.fr_http.specs.Exchanges.{Deals, Dealing, IsExchange, IsFront, IsInter
 use Rattle.fr_http.specs.Head.{BeginsWith, max_head, said}
 use Rattle.fr_http.specs.Outcome.{IsOutcome, Wanted, asked_before, plan_of}
 use Rattle.fr_http.specs.Reply.{Reply, print}
-use Rattle.fr_http.specs.declared.asked.Asked.{Asked}
+use Rattle.fr_http.specs.declared.asking.Demand.{Demand}
 use Rattle.fr_http.specs.declared.fault.LinkFault.{LinkFault}
 use Rattle.fr_http.specs.declared.fault.LinkFault.TheVariants.{Truncated, WriteFailed, NoMemory}
 use Rattle.fr_http.specs.declared.fault.Unasked.{Unasked}
@@ -34,13 +34,15 @@ is_silent _ = true
 abbrev pub InSound : Standing → (Cluster → Book → Type 0) → Type 0
 InSound old P = (c : Cluster) (b : Book) → old c b → IsSound c b → P c b
 
--- No more was read than a head may have, or than a head and the body that is read for it.
+-- No more was read than a head may have; or, where a head came, no more than it and the body that
+-- is read for it.
 abbrev pub ReadsNoMore : List ℕ → Type 0
 ReadsNoMore bytes = (length bytes ≤ max_head)
     ⊎ ((h : RequestHead) × (rest : List ℕ) × (wanted : Wanted) × BeginsWith bytes h rest × (plan_of (said h) ≡ Ok wanted) × (length rest ≤ wanted.length))
 
--- The connection ended so: the reader had this input and has this left, the writer had the held bytes and has these now. In each sound
--- book for which the register stood, as long as it is clean, that was such an exchange, and the register stands for the book after it.
+-- A connection ended so. The reader had this input and has this left; the writer held these bytes
+-- and holds those now. In each sound book for which the register stood, and as long as it is clean,
+-- this was such an exchange, and the register stands for the book after it.
 pub record IsConnection (clean : Type 0) (old new : Standing) (input left held now : Option (List ℕ)) (done : Result Served LinkFault) : Type 0 where
   pub bytes : List ℕ
   pub written : List ℕ
@@ -54,10 +56,10 @@ pub record IsConnection (clean : Type 0) (old new : Standing) (input left held n
 
 -- ---- on the way
 
--- The bytes that were read ask this, or ask nothing for this cause. This was written: an interim reply that is due, or a front of it where a
--- write failed.
-abbrev pub Takes : Standing → List ℕ → List ℕ → Option (List ℕ) → Result Asked Unasked → Type 0
-Takes stands bytes written left (Ok asked) = IsInterim bytes written × InSound stands (λ c b. IsOutcome (actor_of c b) bytes written (Ok asked))
+-- The bytes that were read demand this, or demand nothing for this cause. This was written: the
+-- interim reply that is due, or a front of it where a write failed.
+abbrev pub Takes : Standing → List ℕ → List ℕ → Option (List ℕ) → Result Demand Unasked → Type 0
+Takes stands bytes written left (Ok demand) = IsInterim bytes written × InSound stands (λ c b. IsOutcome (actor_of c b) bytes written (Ok demand))
 Takes stands bytes written left (Err (Engine rejection)) =
     IsInterim bytes written × InSound stands (λ c b. IsOutcome (actor_of c b) bytes written (Err (Engine rejection)))
 Takes stands bytes written left (Err (Refused refusal)) =
@@ -67,7 +69,7 @@ Takes stands bytes written left (Err (Fault Truncated)) =
 Takes stands bytes written left (Err (Fault (WriteFailed asked))) = (asked ≡ false) × IsInterimFront bytes written
 Takes stands bytes written left (Err (Fault fault)) = (asked_before fault ≡ false) × IsInterim bytes written
 
-pub record HasTaken (stands : Standing) (input left held now : Option (List ℕ)) (taken : Result Asked Unasked) : Type 0 where
+pub record HasTaken (stands : Standing) (input left held now : Option (List ℕ)) (taken : Result Demand Unasked) : Type 0 where
   pub bytes : List ℕ
   pub written : List ℕ
   pub consumed : Consumes input left bytes
@@ -90,10 +92,10 @@ HasReplied reply asked held now (Ok served) = Appends held now (print reply) × 
 HasReplied reply asked held now (Err fault) =
     ((fault ≡ NoMemory asked) × Keeps held now) ⊎ ((fault ≡ WriteFailed asked) × AppendsFront held now (print reply))
 
--- The register dealt with what is asked, and it stands for the book after it. This is the reply to that.
-pub record HasDealt (clean : Type 0) (old new : Standing) (asked : Asked) (reply : Reply) : Type 0 where
+-- The register dealt with the demand, and stands for the book after it. This is the reply.
+pub record HasDealt (clean : Type 0) (old new : Standing) (demand : Demand) (reply : Reply) : Type 0 where
   pub dealing : Dealing
-  pub is_asked : asked_in dealing ≡ asked
+  pub is_asked : asked_in dealing ≡ demand
   pub deals : clean → InSound old (λ c b. (last : Book) × Deals c b dealing last × new c last)
   pub is_reply : IsReplyTo dealing reply
 
@@ -103,13 +105,15 @@ IsPageOf (Ok plan) (Ok page) = IsPage plan page.items
 IsPageOf (Ok plan) (Err _) = ⊥
 IsPageOf (Err refusal) page = page ≡ Err refusal
 
--- The page is that of a plan that may be drawn, or there is none for a cause that may be; and the register stands for the same book as before.
+-- This is the page of a plan that may be drawn, or there is none for a cause that may be. The
+-- register stands for the same book as before.
 abbrev pub HasDrawn : Type 0 → Standing → Standing → Actor → List ℕ → Result (Vec ℕ) Refusal → Type 0
 HasDrawn clean old new reader variant page =
     (drawn : Result Plan Refusal) × IsPageOf drawn page × (clean → InSound old (λ c b. new c b × MayDraw c b reader variant drawn))
 
--- The register dealt with what is asked. The reply was written, or nothing of it for want of memory, or a front of it where a write failed.
-pub record HasAnswered (clean : Type 0) (old new : Standing) (asked : Asked) (held now : Option (List ℕ)) (done : Result Served LinkFault) : Type 0 where
+-- The register dealt with the demand. The reply was written, or nothing of it for want of memory,
+-- or a front of it where a write failed.
+pub record HasAnswered (clean : Type 0) (old new : Standing) (demand : Demand) (held now : Option (List ℕ)) (done : Result Served LinkFault) : Type 0 where
   pub reply : Reply
-  pub dealt : HasDealt clean old new asked reply
+  pub dealt : HasDealt clean old new demand reply
   pub replied : HasReplied reply true held now done

@@ -1,6 +1,7 @@
--- Exchange: what happened on a connection: the bytes read and written, and what the register was asked, with what it
--- gave, which is a request's answer or a picture's plan. When that is an exchange with a register from a book, and when a
--- list of them is one after another. Which of them are one supplier's: also each that asks nothing.
+-- Exchange: what happened on a connection: the bytes that were read and written, and what the
+-- register was asked, with what it gave: a request's answer, or a picture's plan. When that is an
+-- exchange with a register from a book, and when several are, one after another. Which of them are
+-- one supplier's; those that ask nothing are among them.
 use Rattle.std.specs.Prelude.{◌≡◌, ◌⊎◌, ⊤, ℕ, Bool, true, false, not, ◌&&◌, List, [], ◌∷◌, ◌++◌, filter, Option, Some, None, is_some, Result, Ok, Err, MatchResult}
 use Rattle.httparse.specs.Grammar.{RequestHead}
 use Rattle.fr_base.specs.Actors.{actor_of}
@@ -23,8 +24,8 @@ use Rattle.fr_picture.specs.declared.plan.Plan.{Plan}
 use Rattle.fr_http.specs.Head.{BeginsWith, said}
 use Rattle.fr_http.specs.Outcome.{IsOutcome, asked_before, continue_reply, interim}
 use Rattle.fr_http.specs.Reply.{Reply, answer_reply, engine_reply, page_reply, print}
-use Rattle.fr_http.specs.declared.asked.Asked.{Asked}
-use Rattle.fr_http.specs.declared.asked.Asked.TheVariants as asked
+use Rattle.fr_http.specs.declared.asking.Demand.{Demand}
+use Rattle.fr_http.specs.declared.asking.Demand.TheVariants as demand
 use Rattle.fr_http.specs.declared.fault.LinkFault.{LinkFault}
 use Rattle.fr_http.specs.declared.fault.LinkFault.TheVariants.{WriteFailed}
 use Rattle.fr_http.specs.declared.fault.Unasked.{Unasked}
@@ -35,19 +36,19 @@ use Rattle.fr_http.specs.declared.serve.Served.{Served}
 
 -- ---- one connection
 
--- What the register was asked, and what it gave: a request with its method, and its answer; or the picture of a variant, and the plan, as the
--- reader sees it, or why there is none.
+-- What the register was asked, and what it gave: a request with its method, and the answer; or the
+-- picture of a variant, and the plan as the reader sees it, or why there is none.
 pub data Dealing : Type 0 where
   Answered : Ask → Method → Answer → Dealing
   Drawn : Actor → List ℕ → Result Plan Refusal → Dealing
 
--- what was asked
-abbrev pub asked_in : Dealing → Asked
-asked_in (Answered ask method answer) = asked.Request ask method
-asked_in (Drawn reader variant drawn) = asked.Picture reader variant
+-- the demand that the register dealt with
+abbrev pub asked_in : Dealing → Demand
+asked_in (Answered ask method answer) = demand.Request ask method
+asked_in (Drawn reader variant drawn) = demand.Picture reader variant
 
--- What happened on a connection: the bytes that were read of it, and those that were written to it; how it ended; and what the register
--- was asked, with what it gave, if it was asked.
+-- What happened on a connection: the bytes that were read and those that were written; how it
+-- ended; and what the register was asked, with what it gave, if it was asked.
 pub record Exchange : Type 0 where
   pub read : List ℕ
   pub written : List ℕ
@@ -69,34 +70,39 @@ unasked_reply (Fault fault) = None
 abbrev pub IsFront : List ℕ → List ℕ → Type 0
 IsFront front text = (missing : List ℕ) × (text ≡ front ++ missing)
 
--- A fault came. Where a write failed, a front of the interim reply and the reply was written. Else the interim reply alone was.
+-- A fault came. Where a write failed, a front of the interim reply and the reply was written. Else
+-- the interim reply alone was written.
 abbrev pub IsBrokenOff : LinkFault → List ℕ → List ℕ → Reply → Type 0
 IsBrokenOff (WriteFailed _) written before reply = IsFront written (before ++ print reply)
 IsBrokenOff _ written before reply = written ≡ before
 
--- Where the connection was served, this interim reply was written and then the reply, whose status was told. Else they were broken off.
+-- Where the connection was served, this interim reply was written and then the reply, whose status
+-- was told. Else the replies were broken off.
 abbrev pub IsTold : Exchange → List ℕ → Reply → Type 0
 IsTold x before reply = MatchResult x.done
     (λ served. (x.written ≡ before ++ print reply) × (served.status ≡ reply.status))
     (λ fault. IsBrokenOff fault x.written before reply)
 
--- From this book this may be drawn: the variant's plan, as the reader sees it, or why there is none.
+-- From this book the variant's plan may be drawn as the reader sees it, or there is no plan for
+-- this cause.
 abbrev pub MayDraw : Cluster → Book → Actor → List ℕ → Result Plan Refusal → Type 0
 MayDraw c b reader variant drawn = MatchResult drawn (IsPlan c b reader variant) (MayRefusePlan c b reader variant)
 
--- From this book the register deals with what is asked so, and then the book is the last. A request is answered by one step. A picture leaves
--- the book as it is.
+-- From this book the register deals with the demand, and the last book is the one after that. A
+-- request is answered by one step. A picture leaves the book as it is.
 abbrev pub Deals : Cluster → Book → Dealing → Book → Type 0
 Deals c b (Answered ask method answer) last = IsRun c b (ask ∷ []) (answer ∷ []) last
 Deals c b (Drawn reader variant drawn) last = (last ≡ b) × MayDraw c b reader variant drawn
 
--- The reply is the answer's, by the request's method; or it has the page of the plan; or it is the refusal of a GET.
+-- The reply is that of the answer, by the request's method; or it has the page of the plan; or it
+-- is the refusal of a GET.
 abbrev pub IsReplyTo : Dealing → Reply → Type 0
 IsReplyTo (Answered ask method answer) reply = reply ≡ answer_reply method answer
 IsReplyTo (Drawn reader variant (Ok plan)) reply = (page : List ℕ) × IsPage plan page × (reply ≡ page_reply page)
 IsReplyTo (Drawn reader variant (Err refusal)) reply = reply ≡ answer_reply Get (answer.Refused refusal)
 
--- From this book the bytes read ask this. The register dealt with it so, to the last book, and that was the reply.
+-- From this book the bytes that were read demand this. The register dealt with it, and the last
+-- book is the one after that. This was the reply.
 pub record IsAnswered (c : Cluster) (b : Book) (x : Exchange) (dealing : Dealing) (last : Book) : Type 0 where
   pub before : List ℕ
   pub outcome : IsOutcome (actor_of c b) x.read before (Ok (asked_in dealing))
@@ -105,7 +111,8 @@ pub record IsAnswered (c : Cluster) (b : Book) (x : Exchange) (dealing : Dealing
   pub is_reply : IsReplyTo dealing reply
   pub told : IsTold x before reply
 
--- From this book the bytes read ask nothing, for this cause, to which there is a reply.
+-- From this book the bytes that were read demand nothing, for this cause, to which there is a
+-- reply.
 pub record IsReplied (c : Cluster) (b : Book) (x : Exchange) : Type 0 where
   pub before : List ℕ
   pub unasked : Unasked
@@ -124,25 +131,27 @@ abbrev pub IsInterimFront : List ℕ → List ℕ → Type 0
 IsInterimFront bytes written =
     (h : RequestHead) × (rest : List ℕ) × BeginsWith bytes h rest × (interim (said h) ≡ continue_reply) × IsFront written continue_reply
 
--- Nothing was asked, by how the connection ended. Where it was served, there was a reply. Where a write failed, that was a write of the reply,
--- or of the interim reply. Where another fault came, no more than the interim reply was written.
+-- Nothing was asked, as the end of the connection says. Where it was served, there was a reply.
+-- Where a write failed, it was a write of the reply or of the interim reply. Where another fault
+-- came, no more than the interim reply was written.
 abbrev pub IsUnasked : Cluster → Book → Exchange → Result Served LinkFault → Type 0
 IsUnasked c b x (Ok _) = IsReplied c b x
 IsUnasked c b x (Err (WriteFailed _)) = IsReplied c b x ⊎ IsInterimFront x.read x.written
 IsUnasked c b x (Err _) = IsInterim x.read x.written
 
--- The register was asked, and answered; or it was not, and the book stays.
+-- The register was asked and answered; or it was not asked, and the book stays.
 abbrev pub Asks : Cluster → Book → Exchange → Option Dealing → Book → Type 0
 Asks c b x (Some dealing) last = IsAnswered c b x dealing last
 Asks c b x None last = (last ≡ b) × IsUnasked c b x x.done
 
--- From this book a connection may be served so, and then the book is the last.
+-- From this book a connection may be served so, and the last book is the one after that.
 abbrev pub IsExchange : Cluster → Book → Exchange → Book → Type 0
 IsExchange c b x last = (was_asked x.done ≡ is_some x.asked) × Asks c b x x.asked last
 
 -- ---- connections one after another
 
--- From this book connections may be served so, one after another, and then the book is the last.
+-- From this book connections may be served so, one after another, and the last book is the one
+-- after them.
 abbrev pub AreExchanged : Cluster → Book → List Exchange → Book → Type 0
 AreExchanged c b [] last = last ≡ b
 AreExchanged c b (x ∷ xs) last = (next : Book) × IsExchange c b x next × AreExchanged c next xs last
@@ -157,9 +166,10 @@ abbrev pub is_own_picture : Name → Actor → Result Plan Refusal → Bool
 is_own_picture s (Supplier t) drawn = same_text t s && not (lacks_plan drawn)
 is_own_picture s Integrator drawn = false
 
--- Whether what was asked, and answered so, is among the supplier's: its own, unless it was answered Unavailable; or the integrator's, and
--- it was done and is common or names the supplier. What asks nothing is among them, whoever sent it: so is what the supplier sends before
--- it joins, when its key is nobody's.
+-- Whether an exchange is among the supplier's, by what was asked and answered: its own, unless it
+-- was answered Unavailable; or the integrator's, if it was done and is common or names the
+-- supplier. An exchange that asks nothing is among them, whoever sent it. So is what the supplier
+-- sends before it joins, when its key is nobody's.
 abbrev pub is_own : Name → Option Dealing → Bool
 is_own s None = true
 is_own s (Some (Answered ask method answer)) = is_mine s ask.actor ask.request answer

@@ -12,7 +12,7 @@ max_head = 8192
 abbrev pub max_fields : ℕ
 max_fields = 64
 
--- what a head says; of each field its name, and its value without the spaces and tabs round it
+-- what a head says; for each field its name, and its value without the spaces and tabs round it
 pub record HeadData : Type 0 where
   pub method : List ℕ
   pub target : List ℕ
@@ -22,13 +22,13 @@ pub record HeadData : Type 0 where
 abbrev pub said : RequestHead → HeadData
 said h = record { method = h.method; target = h.target; minor = h.minor; fields = map name_and_value h.fields }
 
--- The bytes begin with this head, which keeps the bounds, and the rest follows it.
+-- The bytes begin with this head, which keeps the bounds, and the rest follows the head.
 pub record BeginsWith (bytes : List ℕ) (h : RequestHead) (rest : List ℕ) : Type 0 where
   pub reads : ReadsRequest bytes h rest
   pub size : length (print_request h) ≤ max_head
   pub lines : length h.fields ≤ max_fields
 
--- The bytes begin with no head that keeps the bounds.
+-- The bytes do not begin with a head that keeps the bounds.
 abbrev pub HasNoHead : List ℕ → Type 0
 HasNoHead bytes = (h : RequestHead) (rest : List ℕ) → ¬ (BeginsWith bytes h rest)
 
@@ -42,7 +42,7 @@ same_but_case a b = str_eq_ignore_ascii_case a b
 unfoldable pub values : List ℕ → List (List ℕ × List ℕ) → List (List ℕ)
 values name fields = map (λ f. f.1) (filter (λ f. same_but_case f.0 name) fields)
 
--- the one that there is; none where there are more
+-- the only text of the list; none where there are more or fewer
 abbrev pub only_one : List (List ℕ) → Option (List ℕ)
 only_one (value ∷ []) = Some value
 only_one [] = None

@@ -10,3 +10,4 @@ pub mod Replying
 pub mod Exchanges
 pub mod Connection
 pub mod Laws
+pub mod OutcomeLaws

@@ -1,5 +1,5 @@
--- Outcome: what the bytes of a connection ask, or why they ask nothing, step by step; whether `100 Continue` is due;
--- what may be answered where there is no head.
+-- Outcome: what the bytes of a connection demand, or why they demand nothing, step by step. Whether
+-- `100 Continue` is due. What may be answered where there is no head.
 use Rattle.std.specs.Prelude.{ℕ, ◌≡◌, ◌⊎◌, ◌≤◌, ◌<◌, Bool, false, not, ◌&&◌, ◌==◌, nat_lt, nat_le, List, [], ◌∷◌, length, take, codes, Option, Some, None, Result, Ok, Err, if◌then◌else◌}
 use Rattle.std.specs.Char.{is_ascii_digit}
 use Rattle.std.specs.List.{list_all, list_any}
@@ -13,10 +13,10 @@ use Rattle.fr_base.specs.declared.actor.Actor.{Actor}
 use Rattle.fr_base.specs.declared.refusal.Refusal.TheVariants.{BadText, UnknownKey}
 use Rattle.fr_http.specs.Head.{BeginsWith, HasNoHead, HeadData, key_of, max_fields, max_head, said, same_but_case, values}
 use Rattle.fr_http.specs.Routes.{allowed, chosen, matter_by, method_of, path_of, route_of, text_of_method}
-use Rattle.fr_http.specs.declared.asked.Asked.{Asked}
-use Rattle.fr_http.specs.declared.asked.Asked.TheVariants as asked
-use Rattle.fr_http.specs.declared.asked.Matter.{Matter}
-use Rattle.fr_http.specs.declared.asked.Matter.TheVariants as matter
+use Rattle.fr_http.specs.declared.asking.Demand.{Demand}
+use Rattle.fr_http.specs.declared.asking.Demand.TheVariants as demand
+use Rattle.fr_http.specs.declared.asking.Matter.{Matter}
+use Rattle.fr_http.specs.declared.asking.Matter.TheVariants as matter
 use Rattle.fr_http.specs.declared.fault.LinkFault.{LinkFault}
 use Rattle.fr_http.specs.declared.fault.LinkFault.TheVariants.{Truncated, ReadFailed, TooManyReads, WriteFailed, NoMemory}
 use Rattle.fr_http.specs.declared.fault.Rejection.{Rejection}
@@ -31,11 +31,11 @@ use Rattle.fr_http.specs.declared.routes.Route.{Route}
 abbrev pub max_body : ℕ
 max_body = 65536
 
--- one or more ASCII digits
+-- whether the text is one or more ASCII digits
 abbrev pub is_decimal : List ℕ → Bool
 is_decimal text = nat_lt 0 (length text) && list_all is_ascii_digit text
 
--- how long a body is, by the values of its `content-length`
+-- the length of a body, by the values of its `content-length`
 unfoldable pub length_in : List (List ℕ) → Result ℕ Rejection
 length_in [] = Err LengthRequired
 length_in (value ∷ []) = do
@@ -44,13 +44,13 @@ length_in (value ∷ []) = do
   Ok (digits_value 10 value)
 length_in (_ ∷ _ ∷ _) = Err BadRequest
 
--- the body of a request by GET is not read
+-- the length of the body that is read; the body of a GET is not read
 abbrev pub body_length : Method → HeadData → Result ℕ Rejection
 body_length Get head = Ok 0
 body_length Post head = length_in (values (codes "content-length") head.fields)
 body_length Put head = length_in (values (codes "content-length") head.fields)
 
--- what a head asks for: the route of its path, and how long its body is
+-- what a head asks for: the route of its path, and the length of the body
 pub record Wanted : Type 0 where
   pub route : Route
   pub length : ℕ
@@ -82,7 +82,7 @@ continue_reply = codes "HTTP/1.1 100 Continue\r\n\r\n"
 abbrev pub continue_if : Bool → List ℕ
 continue_if due = if due then continue_reply else []
 
--- the interim reply that is due, by what a head asks for
+-- the interim reply that is due, by what the head asks for
 abbrev pub interim_to : Result Wanted Rejection → HeadData → List ℕ
 interim_to (Ok wanted) head = continue_if (due wanted.length head)
 interim_to (Err _) head = []
@@ -112,13 +112,14 @@ abbrev pub holder : (List ℕ → Option Actor) → Option (List ℕ) → Option
 holder who None = None
 holder who (Some key) = who key
 
--- what this actor asks by this method: a request; or a picture, which is the reader's
-abbrev pub asked_by : Actor → Method → Matter → Asked
-asked_by actor method (matter.Request request) = asked.Request (record { actor = actor; request = request }) method
-asked_by actor method (matter.Picture variant) = asked.Picture actor variant
+-- the demand of this actor by this method: a request's answer; or a picture, as the actor sees it
+abbrev pub asked_by : Actor → Method → Matter → Demand
+asked_by actor method (matter.Request request) = demand.Request (record { actor = actor; request = request }) method
+asked_by actor method (matter.Picture variant) = demand.Picture actor variant
 
--- What is asked, or why nothing is, by the head and by what came after it. The input ended there, if a body is cut short.
-unfoldable pub outcome_of : (List ℕ → Option Actor) → HeadData → List ℕ → Result Asked Unasked
+-- What is demanded, or why nothing is, by the head and by the bytes behind it. If a body is cut
+-- short, the input ended there.
+unfoldable pub outcome_of : (List ℕ → Option Actor) → HeadData → List ℕ → Result Demand Unasked
 outcome_of who head rest = do
   plan ← by_engine (plan_of head)
   body ← front plan.length rest or Fault Truncated
@@ -126,30 +127,31 @@ outcome_of who head rest = do
   actor ← holder who (key_of head) or Refused UnknownKey
   Ok (asked_by actor (method_of plan.route) matter)
 
--- Why nothing is asked by bytes that begin with no head: no head can come of them; or they are too many, or some of their
--- lines and an empty line would be a head with too many fields; or the input ended before they were too many.
+-- Why bytes that do not begin with a head demand nothing. No head can come of them. Or they are too
+-- many, or some of their lines and an empty line would be a head with too many fields. Or the input
+-- ended before they were too many.
 abbrev pub HeadFails : List ℕ → Unasked → Type 0
 HeadFails bytes (Engine BadRequest) = NeverHasRequest bytes
 HeadFails bytes (Engine HeadTooLarge) = (max_head ≤ length bytes) ⊎ RequestExceeds max_fields bytes
 HeadFails bytes (Fault Truncated) = length bytes < max_head
 HeadFails bytes _ = ⊥
 
--- The bytes have this outcome by the head with which they begin, and this interim reply.
-pub record HeadOutcome (who : List ℕ → Option Actor) (bytes written : List ℕ) (outcome : Result Asked Unasked) : Type 0 where
+-- The bytes begin with a head, and this is their outcome and their interim reply.
+pub record HeadOutcome (who : List ℕ → Option Actor) (bytes written : List ℕ) (outcome : Result Demand Unasked) : Type 0 where
   pub head : RequestHead
   pub rest : List ℕ
   pub begins : BeginsWith bytes head rest
   pub asks : outcome ≡ outcome_of who (said head) rest
   pub interim : written ≡ interim (said head)
 
--- The bytes have this outcome without a head, and no interim reply.
-pub record NoHeadOutcome (bytes written : List ℕ) (outcome : Result Asked Unasked) : Type 0 where
+-- The bytes do not begin with a head. This is their outcome, and there is no interim reply.
+pub record NoHeadOutcome (bytes written : List ℕ) (outcome : Result Demand Unasked) : Type 0 where
   pub none : HasNoHead bytes
   pub unasked : Unasked
   pub fails : HeadFails bytes unasked
   pub asks : outcome ≡ Err unasked
   pub interim : written ≡ []
 
--- The bytes of a connection have this outcome, and this interim reply.
-abbrev pub IsOutcome : (List ℕ → Option Actor) → List ℕ → List ℕ → Result Asked Unasked → Type 0
+-- The bytes of a connection have this outcome and this interim reply.
+abbrev pub IsOutcome : (List ℕ → Option Actor) → List ℕ → List ℕ → Result Demand Unasked → Type 0
 IsOutcome who bytes written outcome = HeadOutcome who bytes written outcome ⊎ NoHeadOutcome bytes written outcome

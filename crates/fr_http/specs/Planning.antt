@@ -1,4 +1,4 @@
--- What is known of a plan, on the way to an outcome: it is what the head asks for.
+-- On the way to an outcome: the plan is what the head asks for.
 use Rattle.std.specs.Prelude.{◌≡◌, ◌⊎◌, false, Result, Ok, Err}
 use Rattle.fr_http.specs.Head.{HeadData}
 use Rattle.fr_http.specs.Outcome.{plan_of}
@@ -9,7 +9,8 @@ use Rattle.fr_http.specs.declared.fault.Unasked.{Unasked}
 use Rattle.fr_http.specs.declared.fault.Unasked.TheVariants.{Engine, Fault}
 use Rattle.fr_http.specs.declared.plan.Plan.{Plan}
 
--- The plan is what the head asks for, with its path; or the engine's own answer is given; or memory was wanting.
+-- The plan is what the head asks for, with its path; or the engine gives its own answer; or memory
+-- was wanting.
 abbrev pub Plans : HeadData → Result Plan Unasked → Type 0
 Plans head (Ok plan) = (plan_of head ≡ Ok (record { route = plan.route; length = plan.length })) × (plan.path.now ≡ path_of head.target)
 Plans head (Err unasked) = (unasked ≡ Fault (NoMemory false)) ⊎ ((rejection : Rejection) × (unasked ≡ Engine rejection) × (plan_of head ≡ Err rejection))

@@ -1,4 +1,5 @@
--- What is known of the bytes that were read, on the way to an outcome: whether a head came, and a whole body.
+-- On the way to an outcome: what is known of the bytes that were read, whether a head came, and
+-- whether a whole body did.
 use Rattle.std.specs.Global.{Vec}
 use Rattle.std.specs.Prelude.{ℕ, ◌≡◌, ◌≤◌, ◌-◌, false, List, ◌++◌, length, Option, Some, None, Result, MatchResult}
 use Rattle.std.specs.Io.KnownBytes.{Consumes, IsAtEnd}
@@ -14,13 +15,13 @@ use Rattle.fr_http.specs.declared.fault.Unasked.TheVariants.{Engine, Refused, Fa
 abbrev pub Receives : List ℕ → HeadData × List ℕ → Type 0
 Receives bytes received = (h : RequestHead) × BeginsWith bytes h received.1 × (received.0 ≡ said h)
 
--- Without a head the bytes have this outcome.
+-- The bytes have this outcome without a head.
 pub record Fails (bytes : List ℕ) (unasked : Unasked) : Type 0 where
   pub none : HasNoHead bytes
   pub fails : HeadFails bytes unasked
 
--- There was no head to the bytes: that is their outcome, and where they were cut short the input ended; or a fault came that says
--- nothing of them.
+-- No head came: that is the outcome of the bytes, and where they were cut short the input ended; or
+-- a fault came that says nothing of the bytes.
 abbrev pub FailsToReceive : List ℕ → Option (List ℕ) → Unasked → Type 0
 FailsToReceive bytes left (Engine rejection) = Fails bytes (Engine rejection)
 FailsToReceive bytes left (Refused _) = ⊥
@@ -28,18 +29,19 @@ FailsToReceive bytes left (Fault Truncated) = Fails bytes (Fault Truncated) × I
 FailsToReceive bytes left (Fault (WriteFailed _)) = ⊥
 FailsToReceive bytes left (Fault fault) = asked_before fault ≡ false
 
--- What was read of the input, by whether a head was received: no more than a head may have.
+-- What was read of the input: where a head came, no more than a head may have.
 abbrev pub HasReceived : Option (List ℕ) → Option (List ℕ) → Result (HeadData × List ℕ) Unasked → Type 0
 HasReceived input left result = (bytes : List ℕ) × Consumes input left bytes × MatchResult result (Receives bytes) (FailsToReceive bytes left)
     × (length bytes ≤ max_head)
 
--- There is no whole body: the bytes are cut short, and the input ended; or a fault came that says nothing of them.
+-- No whole body came: the bytes are cut short, and the input ended; or a fault came that says
+-- nothing of the bytes.
 abbrev pub LacksBody : ℕ → List ℕ → Option (List ℕ) → LinkFault → Type 0
 LacksBody n bytes left Truncated = (front n bytes ≡ None) × IsAtEnd left
 LacksBody n bytes left (WriteFailed _) = ⊥
 LacksBody n bytes left fault = asked_before fault ≡ false
 
--- What was read of the input behind these bytes, by whether the body was whole: no more than the body still wants.
+-- What was read of the input behind these bytes: no more than the body still wants.
 abbrev pub HasBody : ℕ → List ℕ → Option (List ℕ) → Option (List ℕ) → Result (Vec ℕ) LinkFault → Type 0
 HasBody n begun input left result = (bytes : List ℕ) × Consumes input left bytes
     × MatchResult result (λ body. front n (begun ++ bytes) ≡ Some body.items) (LacksBody n (begun ++ bytes) left)

@@ -1,11 +1,11 @@
--- What the bytes that came say, by the places of a head's parts.
+-- What the bytes say whose head has its parts at these places.
 use Rattle.std.specs.Prelude.{ℕ, ◌≡◌, List, drop, length, map, take}
 use Rattle.httparse.specs.Spans.{IsRequestWithin, header_bytes, span_bytes}
 use Rattle.httparse.specs.declared.spans.HeaderSpan.{HeaderSpan}
 use Rattle.httparse.specs.declared.spans.RequestSpans.{RequestSpans}
 use Rattle.fr_http.specs.Head.{HeadData, max_fields}
 
--- what the head says that has its parts there, and what follows it
+-- what the head says whose parts are at these places, and the bytes behind it
 abbrev pub shown : List ℕ → List HeaderSpan → RequestSpans → HeadData × List ℕ
 shown bytes fields spans = (
   record {
@@ -17,7 +17,7 @@ shown bytes fields spans = (
   drop spans.len bytes,
 )
 
--- The places lie within the bytes, and there is room for as many fields as a head has.
+-- The places lie within the bytes. There is room for as many fields as a head has.
 pub record IsPlaced (bytes : List ℕ) (fields : List HeaderSpan) (spans : RequestSpans) : Type 0 where
   pub within : IsRequestWithin bytes fields spans
   pub room : length fields ≡ max_fields

@@ -1,4 +1,5 @@
--- Reply: the bytes of a reply, the engine's own, with a page, or to an answer of the register.
+-- Reply: the bytes of a reply: one that the engine gives itself, one with a page, or one to an
+-- answer of the register.
 use Rattle.std.specs.Prelude.{ℕ, Bool, true, false, ◌==◌, List, [], ◌++◌, length, codes, decimal, unwrap_or, if◌then◌else◌}
 use Rattle.http.specs.StatusCode.{reason_phrase}
 use Rattle.fr_base.specs.Refusals.{status_of}
@@ -51,12 +52,12 @@ status_of_rejection PayloadTooLarge = 413
 status_of_rejection HeadTooLarge = 431
 status_of_rejection NotImplemented = 501
 
--- which methods are allowed, where another was used
+-- the line of the methods that are allowed, where another was used
 abbrev pub allow : Rejection → List ℕ
 allow (MethodNotAllowed methods) = field_line (codes "allow") (text_of_allowed methods)
 allow _ = []
 
--- the reply of the engine itself has no body
+-- the reply that the engine gives itself; it has no body
 unfoldable pub engine_reply : Rejection → Reply
 engine_reply rejection = record {
   status = status_of_rejection rejection;
@@ -71,7 +72,7 @@ status_of_answer (Refused refusal) = status_of refusal
 status_of_answer (RefusedRow _ _) = 422
 status_of_answer _ = 200
 
--- whether the answer is a report's lines: that to a GET, unless it is refused
+-- whether the body is a report's lines: the answer to a GET, unless it is a refusal
 abbrev pub is_report : Method → Answer → Bool
 is_report Get (Refused _) = false
 is_report Get (RefusedRow _ _) = false
@@ -91,7 +92,7 @@ abbrev pub type_of : Bool → Answer → List ℕ
 type_of true answer = if is_file answer then codes "text/csv; charset=utf-8" else codes "text/plain; charset=us-ascii"
 type_of false answer = codes "application/json"
 
--- how a client that has no known key shows who it is
+-- the line by which a client learns how to show who it is, where it has no known key
 abbrev pub authenticate : ℕ → List ℕ
 authenticate status = if status == 401 then field_line (codes "www-authenticate") (codes "Office-Key") else []
 
@@ -103,7 +104,7 @@ body_fields status type n = field_line (codes "content-type") type ++ field_line
 abbrev pub reply_with : ℕ → List ℕ → List ℕ → Reply
 reply_with status type body = record { status = status; fields = body_fields status type (length body); body = body }
 
--- what an answer to a request by this method is written as
+-- the body of a reply with an answer: a report's lines, or the answer's text
 unfoldable pub body_of : Bool → Answer → List ℕ
 body_of true answer = report_of answer
 body_of false answer = text_of answer
@@ -112,6 +113,6 @@ body_of false answer = text_of answer
 unfoldable pub page_reply : List ℕ → Reply
 page_reply page = reply_with 200 (codes "text/html; charset=utf-8") page
 
--- the reply to a request by this method
+-- the reply to a request by this method, with its answer
 unfoldable pub answer_reply : Method → Answer → Reply
 answer_reply method answer = reply_with (status_of_answer answer) (type_of (is_report method answer) answer) (body_of (is_report method answer) answer)

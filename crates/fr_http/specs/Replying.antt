@@ -1,9 +1,9 @@
--- What is known of a reply's parts, on the way to its bytes.
+-- On the way to the bytes of a reply: what is known of its parts.
 use Rattle.std.specs.Prelude.{ℕ, ◌≡◌, List, ◌++◌}
 use Rattle.fr_http.specs.Reply.{Reply, body_fields, closing, print, status_line}
 use Rattle.fr_http.specs.declared.reply.ReplyText.{ReplyText}
 
--- The text is the reply's, and so is the status.
+-- The text and the status are those of the reply.
 pub record IsReply (reply : Reply) (text : ReplyText) : Type 0 where
   pub status : text.status ≡ reply.status
   pub bytes : text.bytes.items ≡ print reply

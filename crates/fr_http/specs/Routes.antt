@@ -1,4 +1,4 @@
--- Route: what a path asks for, by `matchit`, and its names and numbers.
+-- Route: what a path asks for, by `matchit`, with its names and numbers.
 use Rattle.std.specs.Prelude.{ℕ, ◌==◌, true, false, List, [], ◌∷◌, codes, Option, Some, None, Result, Ok, Err, if◌then◌else◌, unwrap_or}
 use Rattle.std.specs.List.{before_first, fold, list_all, slice_get, slice_split}
 use Rattle.std.specs.Option.{option_map}
@@ -22,8 +22,8 @@ use Rattle.fr_base.specs.declared.report.Report.{Report}
 use Rattle.fr_base.specs.declared.report.Report.TheVariants.{Grants, Frames, Schedule, Gaps, Layout, Load, Room, Export}
 use Rattle.fr_base.specs.declared.request.Request.TheVariants as request
 use Rattle.fr_text.specs.RequestText.{request_of}
-use Rattle.fr_http.specs.declared.asked.Matter.{Matter}
-use Rattle.fr_http.specs.declared.asked.Matter.TheVariants as matter
+use Rattle.fr_http.specs.declared.asking.Matter.{Matter}
+use Rattle.fr_http.specs.declared.asking.Matter.TheVariants as matter
 use Rattle.fr_http.specs.declared.method.Allowed.{Allowed}
 use Rattle.fr_http.specs.declared.method.Allowed.TheVariants.{Only, PostAndPut}
 use Rattle.fr_http.specs.declared.method.Method.{Method}
@@ -57,28 +57,31 @@ abbrev pub allowed : Route → Allowed
 allowed (Try replaces) = PostAndPut
 allowed route = Only (method_of route)
 
--- the route by the method of the request: a file to be tried is a replacement's where it is put
+-- the route by the method of the request: a file that is tried by PUT is tried as a replacement
 abbrev pub chosen : List ℕ → Route → Route
 chosen method (Try replaces) = Try (same_text method (text_of_method Put))
 chosen method route = route
 
--- what the register holds
+-- the route for what the register holds
 abbrev pub of_register : Inventory → Route
 of_register inventory = Query (OfRegister inventory)
 
--- a report of a variant, whose name is the part of the path after three slashes
+-- the route for a report of a variant, whose name is the part of the path behind three slashes
 abbrev pub of_variant : Report ℕ ℕ → Route
 of_variant report = Query (OfVariant 3 report)
 
--- in what two variants differ: the older one's name is the part of the path after five slashes
+-- the route for the difference of two variants, whose names are the parts of the path behind three
+-- and behind five slashes
 abbrev pub of_two : Route
 of_two = Query (OfTwo 3 5)
 
--- the records below a header; the number of their part is the part of the path after six slashes
+-- the route for the records below a header; the number of their part is the part of the path behind
+-- six slashes
 abbrev pub export : Header → Route
 export header = of_variant (Export header 6)
 
--- the routes; a frame's name is the part of the path after five slashes, and a cycle repetition that after seven
+-- the routes; a frame's name is the part of the path behind five slashes, and a cycle repetition
+-- the part behind seven
 unfoldable pub table : List (List ℕ × Route)
 table =
     (codes "/v1/commands", Commands)
@@ -102,7 +105,7 @@ table =
     ∷ (codes "/v1/variants/{variant}/picture", Picture)
     ∷ []
 
--- one more route, as `matchit` reads its text and keeps it
+-- the router with one more route, as `matchit` reads its text and keeps it
 abbrev pub with_read : RowsOf (RouteOf Route) → Route → Result Scan InsertError → RowsOf (RouteOf Route)
 with_read rows route (Ok s) = placed (s.pattern, route_from s route) rows
 with_read rows route (Err _) = rows
@@ -122,20 +125,21 @@ path_of target = before_first (λ b. b == 63) target
 abbrev pub matched : List ℕ → Option Route
 matched path = option_map (λ r. r.value) (first router path)
 
--- a path that is not ASCII matches none
+-- the route of a path; a path that is not ASCII has none
 unfoldable pub route_of : List ℕ → Option Route
 route_of path = if list_all is_ascii path then matched path else None
 
--- what stands after so many slashes of the path, up to the next
+-- the part of the path behind so many slashes, up to the next slash
 unfoldable pub part : ℕ → List ℕ → List ℕ
 part n path = unwrap_or (slice_get (slice_split (λ b. b == 47) path) n) []
 
--- the number that stands after so many slashes of the path, as a field of an import's file is one, if it is one
+-- the number that is the part of the path behind so many slashes, if it has the form of a number in
+-- an import's file
 abbrev pub number_in : ℕ → List ℕ → Option ℕ
 number_in n path = result_ok (number (part n path))
 
--- What a route asks for: its names and numbers are parts of the path, and a command's text or a file is the body. Where a number is none, there
--- is nothing that it asks for.
+-- What a route asks for. Its names and numbers are parts of the path, and the body is a command's
+-- text or a file. Where a part is not a number, the route asks for nothing.
 unfoldable pub matter_by : Route → List ℕ → List ℕ → Option Matter
 matter_by Commands path body = option_map matter.Request (request_of body)
 matter_by Import path body = Some (matter.Request (request.Import (part 3 path) (part 5 path) body))

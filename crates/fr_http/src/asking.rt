@@ -1,21 +1,58 @@
-//! Makes what is asked of a head and a body, and finds who asks it.
+//! What a connection demands, by a request's head and body, and who demands it.
 ghost use Rattle.std.specs.Prelude.{◌≡◌, IfOk};
 ghost use Rattle.fr_http.specs.Asking.{FindsActor, MakesCommand, MakesMatter, unasked_by};
+ghost use Rattle.fr_http.specs.Outcome.{asked_by};
 ghost use Rattle.fr_http.specs.Routes.{part};
 
-use crate::asked::Matter;
 use crate::fault::{LinkFault, Unasked};
 use crate::head::Received;
+use crate::method::Method;
 use crate::plan::Plan;
 use crate::routes::{Route, part};
-use fr_base::{Actor, Body, Desk, NoMemory, QueryReader, Refusal, Request, Text};
+use fr_base::{Actor, Ask, Body, Desk, NoMemory, QueryReader, Refusal, Request, Text};
 use fr_text::{read_command, read_number};
 use std::alloc::Global;
 use std::str;
 
-/// What a route asks for, with the body that came for it.
+/// What a connection demands of the register, and who demands it.
+#[derive(Drop)]
+pub enum Demand {
+    /// The answer to a request. The form of the reply depends on the method.
+    Request { ask: Ask, method: Method },
+    /// The page of a variant's plan, as the reader sees it.
+    Picture { reader: Actor, variant: Text },
+}
+
+/// What is demanded, whoever demands it.
+#[derive(Drop)]
+pub(crate) enum Matter {
+    /// The answer to a request.
+    Request(Request),
+    /// The page of a variant's plan.
+    Picture { variant: Text },
+}
+
+impl Matter {
+    /// The demand of this actor, by this method.
+    pub(crate) fn asked_by(self, actor: Actor, method: Method) -> Demand
+        ensures { result ≡ asked_by actor method self }
+    {
+        match self {
+            Matter::Request(request) => Demand::Request {
+                ask: Ask { actor, request },
+                method,
+            },
+            Matter::Picture { variant } => Demand::Picture {
+                reader: actor,
+                variant,
+            },
+        }
+    }
+}
+
+/// What a route asks for, with the body that came with the request.
 #[tactic(auto, unfolding(crate::specs::Routes::matter_by))]
-pub(crate) fn matter(alloc: Global, plan: &Plan<'_>, body: &[u8]) -> Result<Matter, Unasked>
+pub(crate) fn asked_matter(alloc: Global, plan: &Plan<'_>, body: &[u8]) -> Result<Matter, Unasked>
     ensures { MakesMatter plan.now.route plan.now.path.now body.now result }
 {
     match plan.route {
@@ -57,14 +94,14 @@ fn command(alloc: Global, body: &[u8]) -> Result<Request, Unasked>
     }
 }
 
-// The names and numbers in a path.
+// The names and numbers of a path.
 #[derive(Drop)]
 struct PathWords<'a> {
     alloc: Global,
     path: &'a str,
 }
 
-// A name or a number is told by how many slashes of the path stand before it.
+// A query of a route tells a name or a number by how many slashes of the path stand before it.
 impl QueryReader<usize, usize, Text, Unasked> for PathWords<'_> {
     ghost use Rattle.fr_http.specs.Asking.{CountsPart, NamesPart};
 
@@ -82,14 +119,15 @@ impl QueryReader<usize, usize, Text, Unasked> for PathWords<'_> {
     }
 }
 
-// The name that stands after so many slashes of the path.
+// The name behind so many slashes of the path.
 fn name(alloc: Global, path: &str, slashes: usize) -> Result<Text, NoMemory>
     ensures { IfOk result (λ text. text ≡ part slashes path.now) }
 {
     Text::copy(alloc, part(path, slashes))
 }
 
-// Why nothing is asked where a command's text is refused: for want of memory, or because it is none.
+// Why nothing is asked where a command's text is refused: for want of memory, or because it is not a
+// command.
 fn refused(refusal: Refusal) -> Unasked
     ensures { result ≡ unasked_by refusal }
 {
@@ -99,7 +137,7 @@ fn refused(refusal: Refusal) -> Unasked
     }
 }
 
-/// Who asks by the head's key: one field has it. A key that is no text is nobody's.
+/// The actor that has the head's key, which stands in one field. A key that is not a text is nobody's.
 pub(crate) fn actor<D: Desk>(desk: &D, received: &Received) -> Option<Actor>
     ensures { FindsActor (D.stands desk.now) received.now.0 result }
 {

@@ -1,33 +1,33 @@
-//! Deals with what is asked: the register answers a request, and a picture is drawn of what its reports say. What comes of
-//! it is a reply.
+//! Deals with a demand: the register answers a request, or a picture is drawn of what the
+//! register's reports say. Then comes a reply.
 ghost use Rattle.std.specs.Prelude.{IfOk};
 ghost use Rattle.fr_http.specs.Connection.{HasDealt, HasDrawn};
 ghost use Rattle.fr_http.specs.Reply.{Reply};
 ghost use Rattle.fr_http.specs.Replying.{IsReply};
 
-use crate::asked::Asked;
+use crate::asking::Demand;
 use crate::method::Method;
 use crate::reply::{ReplyText, answer_reply, page_reply};
 use fr_base::{Actor, Answer, Desk, NoMemory, Refusal};
 use fr_picture::{View, read_plan, write_page};
 use std::alloc::Global;
 
-/// The reply to what is asked.
+/// The reply to a demand.
 pub(crate) fn deal<D: Desk>(
     alloc: Global,
-    asked: &Asked,
+    demand: &Demand,
     desk: &mut D,
 ) -> Result<ReplyText, NoMemory>
     ensures falls { D.clean desk.new → D.clean desk.old }
-    ensures dealt { (reply : Reply) × HasDealt (D.clean desk.new) (D.stands desk.old) (D.stands desk.new) asked.now reply
+    ensures dealt { (reply : Reply) × HasDealt (D.clean desk.new) (D.stands desk.old) (D.stands desk.new) demand.now reply
         × IfOk result (IsReply reply) }
 {
-    match asked {
-        Asked::Request { ask, method } => {
+    match demand {
+        Demand::Request { ask, method } => {
             let answer = desk.ask(alloc, ask);
             answer_reply(alloc, *method, &answer)
         }
-        Asked::Picture { reader, variant } => {
+        Demand::Picture { reader, variant } => {
             match picture(alloc, *reader, variant.as_str(), desk) {
                 Ok(page) => page_reply(page),
                 Err(refusal) => answer_reply(alloc, Method::Get, &Answer::Refused(refusal)),
@@ -36,7 +36,8 @@ pub(crate) fn deal<D: Desk>(
     }
 }
 
-// The page of the variant's plan, as the reader sees it, or why there is none. Want of memory is `Unavailable`.
+// The page of the variant's plan, as the reader sees it, or why there is none. Want of memory is
+// `Unavailable`.
 fn picture<D: Desk>(
     alloc: Global,
     reader: Actor,

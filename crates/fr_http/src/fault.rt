@@ -1,15 +1,17 @@
-//! A connection that asks nothing: the engine answers itself, the request is refused, or a fault ends it.
+//! Why a connection asks nothing: the engine answers itself, the request is refused, or a fault
+//! ends the connection.
 use crate::method::Allowed;
 use fr_base::{NoMemory, Refusal};
 
-/// What the engine answers itself.
+/// The answers that the engine gives itself.
 #[derive(Clone, Copy, PartialEq, Eq)]
 pub enum Rejection {
-    /// The bytes are no head and can't become one; or the body's length is no number, or two fields have it.
+    /// The bytes are not a head and cannot become one; or the body's length is not a number, or two
+    /// fields give it.
     BadRequest,
     /// The path has no route.
     NotFound,
-    /// The path's route has another method: one of these.
+    /// The path's route has other methods: these.
     MethodNotAllowed(Allowed),
     /// The body has no length.
     LengthRequired,
@@ -21,17 +23,18 @@ pub enum Rejection {
     NotImplemented,
 }
 
-/// Why a connection had no final reply, or may not have a whole one. `asked` says whether the register was asked.
+/// Why a connection had no final reply, or may not have a whole one. `asked` says whether the register was asked. When a
+/// read or a write fails, or the reads are too many, no clause says.
 #[derive(Clone, Copy, Debug, PartialEq, Eq)]
 pub enum LinkFault {
     /// The input ended before a whole request had come.
     Truncated,
     /// A read failed, other than by an interruption.
     ReadFailed,
-    /// The request did not come in as many reads as the bound.
+    /// The request did not come within the bound of reads.
     TooManyReads,
-    /// A write failed, took nothing of a piece that is not empty, or was interrupted too often; or a flush
-    /// failed, after all was written.
+    /// A write failed, took nothing of a piece that is not empty, or was interrupted too often; or
+    /// a flush failed after all was written.
     WriteFailed { asked: bool },
     /// There was no memory for the request, or for the final reply.
     NoMemory { asked: bool },
@@ -42,7 +45,7 @@ pub enum LinkFault {
 pub enum Unasked {
     /// The engine answers itself.
     Engine(Rejection),
-    /// The request is refused: its text is none, or its key is nobody's.
+    /// The request is refused: its text is not a request, or its key is nobody's.
     Refused(Refusal),
     /// A fault ends the connection.
     Fault(LinkFault),

@@ -1,4 +1,4 @@
-//! The head of a request and its fields, and what came behind it.
+//! The head of a request, its fields, and the bytes behind it.
 ghost use Rattle.std.specs.Prelude.{◌≡◌};
 ghost use Rattle.std.specs.Iterator.{YieldsFirstRef, item_count};
 ghost use Rattle.httparse.specs.Spans.{IsRequestWithin};
@@ -14,7 +14,8 @@ pub const MAX_HEAD: usize = 8192;
 /// How many field lines a head has at most.
 pub const MAX_FIELDS: usize = 64;
 
-/// The bytes of a connection that begin with a head: what the head says, and the bytes behind it.
+/// The bytes of a connection that begin with a head: what the head says, and the bytes behind the
+/// head.
 #[derive(Drop)]
 pub(crate) struct Received {
     bytes: Vec<u8>,
@@ -35,7 +36,7 @@ impl Model for Received {
 }
 
 impl Received {
-    /// The bytes, where these are the spans of the head with which they begin.
+    /// The bytes, where they begin with a head that has its parts at these spans.
     pub(crate) fn new(
         bytes: Vec<u8>,
         spans: RequestSpans,
@@ -91,7 +92,7 @@ impl Received {
     }
 }
 
-/// The values of the fields of a name that are left.
+/// The values of the fields of one name that are still to come.
 #[derive(Drop)]
 pub(crate) struct Values<'a> {
     bytes: &'a [u8],

@@ -1,12 +1,13 @@
-//! Laws of connections. On connections one after another each supplier has the exchanges of a register that holds it
-//! alone, among them each that asks nothing; and the register is sound after each.
-//!
-//! What asks nothing has the same reply from every register, unless its key is nobody's.
+//! Laws of connections that are served one after another: each supplier has the exchanges of a
+//! register that holds it alone, the register is sound after each, and what asks nothing has the same
+//! reply from every register, unless its key is nobody's. Bytes that begin with a head have one
+//! outcome, and from one book one reply.
 ghost use Rattle.fr_http.specs.Laws.{ExchangesAreAlone, ExchangesAreSoundThroughout, UnaskedIsAlike};
+ghost use Rattle.fr_http.specs.OutcomeLaws.{ExchangeIsOne, OutcomeIsOne};
 
-/// On connections that are served one after another each supplier has the same exchanges as with a
-/// register that holds it alone. Those that ask nothing are among them, so also what it sends before it
-/// joins, when its key is nobody's.
+/// On connections that are served one after another, each supplier has the same exchanges as with a
+/// register that holds it alone. Those that ask nothing are among them. So are those that the
+/// supplier sends before it joins, when its key is nobody's.
 pub fn exchanges_are_alone()
     ensures { ExchangesAreAlone }
 {}
@@ -17,7 +18,19 @@ pub fn exchanges_are_sound_throughout()
     ensures { ExchangesAreSoundThroughout }
 {}
 
-/// What asks nothing has the same reply from every register, unless its key is nobody's.
+/// A connection that asks nothing has the same reply from every register, unless its key is
+/// nobody's.
 pub fn unasked_is_alike()
     ensures { UnaskedIsAlike }
+{}
+
+/// Bytes that begin with a head have one outcome and one interim reply.
+pub fn outcome_is_one()
+    ensures { OutcomeIsOne }
+{}
+
+/// Two connections that are served from one book, with the same bytes, which begin with a head, have the same reply and lead
+/// to the same book, but for pictures, and for where `Unavailable` comes.
+pub fn exchange_is_one()
+    ensures { ExchangeIsOne }
 {}

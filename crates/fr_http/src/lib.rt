@@ -2,7 +2,6 @@
 //! asked, and its answer is written as the reply.
 #![tactic(auto)]
 
-mod asked;
 mod asking;
 mod body;
 mod dealing;
@@ -20,7 +19,10 @@ mod serve;
 pub use fault::{LinkFault, Rejection};
 pub use head::{MAX_FIELDS, MAX_HEAD};
 pub use input::MAX_READS;
-pub use laws::{exchanges_are_alone, exchanges_are_sound_throughout, unasked_is_alike};
+pub use laws::{
+    exchange_is_one, exchanges_are_alone, exchanges_are_sound_throughout, outcome_is_one,
+    unasked_is_alike,
+};
 pub use method::{Allowed, Method};
 pub use plan::MAX_BODY;
 pub use serve::{Served, serve_one};

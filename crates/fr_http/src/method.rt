@@ -9,7 +9,7 @@ pub enum Method {
     Get,
     /// The request has a body.
     Post,
-    /// The request has a body, which is put in the place of what was there.
+    /// The request has a body, which takes the place of what was there.
     Put,
 }
 

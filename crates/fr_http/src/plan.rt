@@ -58,7 +58,7 @@ fn is_by(received: &Received, method: Method) -> bool
     received.method() == method.as_str().as_bytes()
 }
 
-// How long the body is that a request by this method has.
+// The length of the body that a request by this method has.
 fn body_length(received: &Received, method: Method) -> Result<usize, Rejection>
     ensures { result ≡ body_length method received.now.0 }
 {
@@ -68,7 +68,7 @@ fn body_length(received: &Received, method: Method) -> Result<usize, Rejection>
     }
 }
 
-// How long a body is, by the values of its length's fields.
+// The length of a body, by the values of the fields that give it.
 fn length_in(mut values: Values<'_>) -> Result<usize, Rejection>
     ensures { result ≡ length_in values.entry }
 {
@@ -81,7 +81,7 @@ fn length_in(mut values: Values<'_>) -> Result<usize, Rejection>
     decimal(value)
 }
 
-// The number, if it is a length that a body may have.
+// The number, if a body may have this length.
 fn decimal(text: &[u8]) -> Result<usize, Rejection>
     ensures { result ≡ length_in (text.now ∷ []) }
 {

@@ -35,7 +35,7 @@ pub(crate) fn engine_reply(alloc: Global, rejection: Rejection) -> Result<ReplyT
     })
 }
 
-// Appends which methods are allowed, where another was used.
+// Appends the methods that are allowed, where another was used.
 fn push_allow(rejection: Rejection, out: &mut Vec<u8>) -> Result<(), NoMemory>
     ensures { OnOk result (out.new.items ≡ out.old.items ++ allow rejection) }
 {
@@ -50,7 +50,7 @@ fn push_allow(rejection: Rejection, out: &mut Vec<u8>) -> Result<(), NoMemory>
     }
 }
 
-// The status of the engine's own answer.
+// The status of an answer that the engine gives itself.
 fn status_of_rejection(rejection: Rejection) -> StatusCode
     ensures { result ≡ status_of_rejection rejection }
 {
@@ -73,7 +73,7 @@ pub(crate) fn page_reply(page: Vec<u8>) -> Result<ReplyText, NoMemory>
     reply_with(StatusCode::OK, "text/html; charset=utf-8", page)
 }
 
-/// The reply that gives a request by this method its answer.
+/// The reply to a request by this method, with its answer.
 #[tactic(auto, unfolding(crate::specs::Reply::answer_reply))]
 pub(crate) fn answer_reply(
     alloc: Global,
@@ -87,8 +87,8 @@ pub(crate) fn answer_reply(
     reply_with(status_of_answer(answer), type_of(report, answer), body)
 }
 
-// The reply that has this body. Its head is written behind the body, and then turned to the front, so that no more memory is
-// taken than the reply has bytes.
+// The reply with this body. Its head is written behind the body and then turned to the front. So it
+// takes no more memory than the reply has bytes.
 fn reply_with(status: StatusCode, body_type: &str, mut body: Vec<u8>) -> Result<ReplyText, NoMemory>
     ensures { IfOk result (λ reply. IsReply (reply_with status body_type.now body.items) reply) }
 {
@@ -184,7 +184,7 @@ fn push_head(
     push_close(out)
 }
 
-// Appends how a client that has no known key shows who it is.
+// Appends how a client shows who it is, where it has no known key.
 fn push_authenticate(status: StatusCode, out: &mut Vec<u8>) -> Result<(), NoMemory>
     ensures { OnOk result (out.new.items ≡ out.old.items ++ authenticate status) }
 {

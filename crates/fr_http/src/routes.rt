@@ -11,25 +11,26 @@ use matchit::Router;
 use std::alloc::{AllocError, Global};
 use std::str;
 
-/// What a path asks for.
+/// A route: what a path asks for.
 #[derive(Clone, Copy, PartialEq, Eq)]
 pub enum Route {
     /// The body is a request.
     Commands,
     /// The body is an import's file.
     Import,
-    /// The body is a file that is put in the place of earlier rows.
+    /// The body is a file whose rows take the place of earlier ones.
     Replace,
-    /// The body is a file, and it is told what would become of each row: as a replacement, or else as an import.
+    /// The body is a file, and the fate of each of its rows is told: as a replacement's, or else as
+    /// an import's.
     Try { replaces: bool },
-    /// A query. Each name and each number in it is said by how many slashes of the path stand before it.
+    /// A query. Each name and number in it is told by how many slashes of the path stand before it.
     Query(Query<usize, usize>),
     /// The page of a variant's plan.
     Picture,
 }
 
 impl Route {
-    /// The method by which it is asked.
+    /// The method of its requests.
     pub fn method(self) -> Method
         ensures { result ≡ method_of self }
     {
@@ -50,7 +51,8 @@ impl Route {
         }
     }
 
-    /// The route, by the method of the request: a file to be tried is a replacement's where it is put.
+    /// The route by the method of the request. A file that is tried by PUT is tried as a
+    /// replacement.
     pub(crate) fn by(self, method: &[u8]) -> Route
         ensures { result ≡ chosen method.now self }
     {
@@ -109,21 +111,22 @@ fn is_ascii(bytes: &[u8]) -> bool
     bytes.iter().all(|byte| byte.is_ascii())
 }
 
-// What the register holds.
+// The route for what the register holds.
 fn of_register(inventory: Inventory) -> Route
     ensures { result ≡ of_register inventory }
 {
     Route::Query(Query::Register(inventory))
 }
 
-// A report of a variant, whose name stands behind three slashes of the path.
+// The route for a report of a variant. The variant's name stands behind three slashes of the path.
 fn of_variant(report: Report<usize, usize>) -> Route
     ensures { result ≡ of_variant report }
 {
     Route::Query(Query::Variant { variant: 3, report })
 }
 
-// In what two variants differ. Their names stand behind three slashes of the path and behind five.
+// The route for the difference of two variants. Their names stand behind three and behind five
+// slashes of the path.
 fn of_two() -> Route
     ensures { result ≡ of_two }
 {
@@ -133,14 +136,15 @@ fn of_two() -> Route
     })
 }
 
-// The records of a variant below this header. The number of their part stands behind six slashes of the path.
+// The route for the records of a variant below this header. The number of their part stands behind
+// six slashes of the path.
 fn export(header: Header) -> Route
     ensures { result ≡ export header }
 {
     of_variant(Report::Export { header, part: 6 })
 }
 
-// The routes, each behind the text of the paths that match it.
+// The routes, each with the text of the paths that match it.
 #[tactic(auto, unfolding(crate::specs::Routes::table))]
 fn routes() -> [(&'static str, Route); 19]
     ensures { map (λ entry. (entry.0.now, entry.1)) result ≡ table }
@@ -203,7 +207,7 @@ fn router(alloc: Global) -> Result<Router<Route>, NoMemory>
     Ok(router)
 }
 
-// Adds a route. The routes are well formed and apart, so there is no other error than want of memory.
+// Adds a route. The routes are well formed and differ, so the only error is want of memory.
 fn add(router: &mut Router<Route>, text: &str, route: Route) -> Result<(), NoMemory>
     ensures { OnOk result (router.new ≡ with_route router.old (text.now, route)) }
 {
@@ -213,7 +217,7 @@ fn add(router: &mut Router<Route>, text: &str, route: Route) -> Result<(), NoMem
     Ok(())
 }
 
-/// What stands after so many slashes of the path, up to the next.
+/// The part of the path behind so many slashes, up to the next slash.
 pub(crate) fn part(path: &str, slashes: usize) -> &str
     ensures { result.now ≡ part slashes path.now }
 {

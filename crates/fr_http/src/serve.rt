@@ -1,4 +1,4 @@
-//! Serves one connection: what it asks is taken, the register asked, the reply written.
+//! Serves one connection: takes its demand, asks the register, and writes the reply.
 ghost use Rattle.std.specs.Prelude.{◌≡◌, ◌≤◌, Err, IfOk, IfErr, OnOk, OnErr, true, false};
 ghost use Rattle.std.specs.List.{list_any};
 ghost use Rattle.std.specs.Io.KnownBytes.{Appends};
@@ -6,8 +6,7 @@ ghost use Rattle.fr_http.specs.Connection.{AppendsFront, HasAnswered, HasSent, H
 ghost use Rattle.fr_http.specs.Exchanges.{was_asked};
 ghost use Rattle.fr_http.specs.Outcome.{continue_if, continue_reply, due, is_continue};
 
-use crate::asked::Asked;
-use crate::asking::{actor, matter};
+use crate::asking::{Demand, actor, asked_matter};
 use crate::body::read_body;
 use crate::dealing::deal;
 use crate::fault::{LinkFault, Unasked};
@@ -29,9 +28,9 @@ pub struct Served {
     pub asked: bool,
 }
 
-/// Serves one connection: reads a request, asks the register or draws a picture of what the key's owner sees, and
-/// writes the reply. It gives the reply's status, or the fault that ended the connection, and whether the register
-/// was asked. Where it was not, the desk is as it was.
+/// Serves one connection: reads a request, asks the register or draws a picture of what the key's
+/// owner sees, and writes the reply. It gives the reply's status, or the fault that ended the
+/// connection; and whether the register was asked. Where it was not, the desk is as it was.
 pub fn serve_one<R: Read, W: Write, D: Desk>(
     alloc: Global,
     reader: &mut R,
@@ -42,7 +41,7 @@ pub fn serve_one<R: Read, W: Write, D: Desk>(
     ensures served { IsConnection (D.clean desk.new) (D.stands desk.old) (D.stands desk.new) (R.remaining reader.old) (R.remaining reader.new)
         (W.contents writer.old) (W.contents writer.new) result }
 
-    // Where the register was not asked it is as it was.
+    // Where the register was not asked, the desk is as it was.
     ensures stays { was_asked result ≡ false → desk.new ≡ desk.old }
 {
     let mut input = Input::new(reader);
@@ -66,7 +65,7 @@ fn serve<R: Read, W: Write, D: Desk>(
     ensures same_output { output.new.writer.ghost_name ≡ output.old.writer.ghost_name }
 {
     match take(alloc, input, output, desk) {
-        Ok(asked) => answer(alloc, &asked, output, desk),
+        Ok(demand) => answer(alloc, &demand, output, desk),
         Err(Unasked::Engine(rejection)) => send(engine_reply(alloc, rejection), output, false),
         Err(Unasked::Refused(refusal)) => send(
             answer_reply(alloc, Method::Post, &Answer::Refused(refusal)),
@@ -77,13 +76,13 @@ fn serve<R: Read, W: Write, D: Desk>(
     }
 }
 
-// Reads a request, as far as what it asks of the register, or why it asks nothing.
+// Reads a request, and gives its demand, or why it asks nothing.
 fn take<R: Read, W: Write, D: Desk>(
     alloc: Global,
     input: &mut Input<'_, R>,
     output: &mut Output<'_, W>,
     desk: &D,
-) -> Result<Asked, Unasked>
+) -> Result<Demand, Unasked>
     ensures taken { HasTaken (D.stands desk.now) (R.remaining input.old.reader.now) (R.remaining input.new.reader.now)
         (W.contents output.old.writer.now) (W.contents output.new.writer.now) result }
     ensures same_input { input.new.reader.ghost_name ≡ input.old.reader.ghost_name }
@@ -94,7 +93,7 @@ fn take<R: Read, W: Write, D: Desk>(
     let plan = make_plan(alloc, &received)?;
     invite(&received, &plan, output)?;
     let body = read_body(alloc, input, received.rest(), plan.length)?;
-    let matter = matter(alloc, &plan, &body)?;
+    let matter = asked_matter(alloc, &plan, &body)?;
     let actor = actor(desk, &received).ok_or(Unasked::Refused(Refusal::UnknownKey))?;
     Ok(matter.asked_by(actor, plan.route.method()))
 }
@@ -140,20 +139,20 @@ fn expects_continue(mut values: Values<'_>) -> bool
     false
 }
 
-// Deals with what is asked, and writes the reply.
+// Deals with the demand, and writes the reply.
 fn answer<W: Write, D: Desk>(
     alloc: Global,
-    asked: &Asked,
+    demand: &Demand,
     output: &mut Output<'_, W>,
     desk: &mut D,
 ) -> Result<Served, LinkFault>
     ensures falls { D.clean desk.new → D.clean desk.old }
-    ensures answered { HasAnswered (D.clean desk.new) (D.stands desk.old) (D.stands desk.new) asked.now
+    ensures answered { HasAnswered (D.clean desk.new) (D.stands desk.old) (D.stands desk.new) demand.now
         (W.contents output.old.writer.now) (W.contents output.new.writer.now) result }
     ensures retries { output.new.retries ≤ output.old.retries }
     ensures same { output.new.writer.ghost_name ≡ output.old.writer.ghost_name }
 {
-    send(deal(alloc, asked, desk), output, true)
+    send(deal(alloc, demand, desk), output, true)
 }
 
 // Writes a reply, if there was memory for it.
@@ -175,7 +174,7 @@ fn send<W: Write>(
     })
 }
 
-// Writes all the bytes, and hands them on.
+// Writes all the bytes and flushes the writer, or gives the fault.
 fn write<W: Write>(bytes: &[u8], output: &mut Output<'_, W>, asked: bool) -> Result<(), LinkFault>
     ensures ok { OnOk result (Appends (W.contents output.old.writer.now) (W.contents output.new.writer.now) bytes.now) }
     ensures err { IfErr result (λ fault. (fault ≡ LinkFault.WriteFailed asked)
@@ -189,7 +188,7 @@ fn write<W: Write>(bytes: &[u8], output: &mut Output<'_, W>, asked: bool) -> Res
     }
 }
 
-// Writes all the bytes, and hands them on.
+// Writes all the bytes and flushes the writer.
 fn write_out<W: Write>(bytes: &[u8], output: &mut Output<'_, W>) -> Result<(), WriteFailed>
     ensures ok { OnOk result (Appends (W.contents output.old.writer.now) (W.contents output.new.writer.now) bytes.now) }
     ensures err { OnErr result (AppendsFront (W.contents output.old.writer.now) (W.contents output.new.writer.now) bytes.now) }

@@ -41,7 +41,7 @@ use Rattle.fr_office.proofs.SplitLaws.{flat-flat_map, frames-split, supplier_nam
 use Rattle.fr_world.specs.Held.{Standing}
 use Rattle.fr_world.specs.KeyedRows.{by_key, frame_entry, gap_entry, grant_entry, placement_entry, same_at, signal_entry}
 use Rattle.fr_world.proofs.AmongLaws.{In}
-use Rattle.fr_world.proofs.MergeSplit.{merge-between}
+use Rattle.fr_world.proofs.MergedRows.{merge-between}
 
 -- ---- the grants of both
 

@@ -1,5 +1,6 @@
--- Carried out: a change, a command or a query was carried out in a sound book as the definition has it, and the records
--- stand for the book after it; or nothing was done. What a crash leaves of a change or a command.
+-- Carried out: a change, a command or a query was carried out in a sound book as the definition
+-- says, and the records stand for the book after it; or nothing was done. What a crash leaves of a
+-- change or a command.
 use Rattle.std.specs.Prelude.{◌≡◌, ◌⊎◌, List, ◌∷◌, Result, Ok, Err, MatchResult, ⊤}
 use Rattle.fr_base.specs.Book.{Book}
 use Rattle.fr_base.specs.Cluster.{Cluster}
@@ -11,40 +12,44 @@ use Rattle.fr_base.specs.declared.refusal.Refusal.{Refusal}
 use Rattle.fr_base.specs.declared.refusal.Refusal.TheVariants.{Unavailable}
 use Rattle.fr_world.specs.Held.{Leaving, Standing}
 
--- Nothing was done: for the reason that the definition has, or the answer is Unavailable; and the records stand for the same book as before.
+-- Nothing was done: for the reason that the definition gives, or the answer is Unavailable. The
+-- records stand for the same book as before.
 abbrev pub IsRefused : {A : Type 0} → Standing → Cluster → Book → Refusal → Result A Refusal → Type 0
 IsRefused new c b e said = new c b × ((e ≡ Unavailable) ⊎ (said ≡ Err e))
 
--- In a sound book a change was carried out as the definition has it, and the records stand for the book after it; or nothing was done.
+-- In a sound book a change was carried out as the definition says, and the records stand for the
+-- book after it; or nothing was done.
 abbrev pub Does : Standing → Standing → Result ⊤ Refusal → (Cluster → Book → Result Book Refusal) → Type 0
 Does old new r does = (c : Cluster) (b : Book) → old c b → IsSound c b → MatchResult r
     (λ _. (after : Book) × (does c b ≡ Ok after) × new c after)
     (λ e. IsRefused new c b e (does c b))
 
--- Of what was to be done in a sound book, a crash leaves no more than it did before, or the book after it.
+-- After a change in a sound book a crash leaves what it left before, or the book after the change.
 abbrev pub MayLeave : Standing → Leaving → Leaving → (Cluster → Book → Result Book Refusal) → Type 0
 MayLeave stands old new does = (c : Cluster) (b : Book) (books : List Book) → stands c b → IsSound c b → old c books
     → new c books ⊎ ((after : Book) × (does c b ≡ Ok after) × new c (after ∷ books))
 
--- So with a command.
+-- After a command a crash leaves what it left before, or the book after the command.
 abbrev pub LeavesDone : Standing → Leaving → Leaving → (Cluster → Book → Result Outcome Refusal) → Type 0
 LeavesDone stands old new does = (c : Cluster) (b : Book) (books : List Book) → stands c b → IsSound c b → old c books
     → new c books ⊎ ((after : Outcome) × (does c b ≡ Ok after) × new c (after.book ∷ books))
 
--- So with a command, which is answered Done where it was carried out.
+-- In a sound book a command was carried out as the definition says, and is answered Done; or
+-- nothing was done.
 abbrev pub Performs : Standing → Standing → Result ⊤ Refusal → (Cluster → Book → Result Outcome Refusal) → Type 0
 Performs old new r does = (c : Cluster) (b : Book) → old c b → IsSound c b → MatchResult r
     (λ _. (after : Book) × (does c b ≡ Ok (record { book = after; answer = Done })) × new c after)
     (λ e. IsRefused new c b e (does c b))
 
--- So with what has an answer of its own.
+-- In a sound book a request that has an answer of its own was carried out as the definition says;
+-- or nothing was done.
 abbrev pub Gives : Standing → Standing → Result Answer Refusal → (Cluster → Book → Result Outcome Refusal) → Type 0
 Gives old new r does = (c : Cluster) (b : Book) → old c b → IsSound c b → MatchResult r
     (λ answer. (after : Book) × (does c b ≡ Ok (record { book = after; answer = answer })) × new c after)
     (λ e. IsRefused new c b e (does c b))
 
--- What is asked of the book, as a query, is answered as the definition has it, or Unavailable; and the records stand for the same book
--- as before.
+-- A query of the book is answered as the definition says, or Unavailable. The records stand for the
+-- same book as before.
 abbrev pub Replies : {A : Type 0} → Standing → Standing → Result A Refusal → (Cluster → Book → Result A Refusal) → Type 0
 Replies old new r reply = (c : Cluster) (b : Book) → old c b → IsSound c b → new c b × MatchResult r
     (λ answer. reply c b ≡ Ok answer)

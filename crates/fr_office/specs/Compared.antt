@@ -23,21 +23,21 @@ use Rattle.fr_office.specs.Shared.{grants_among}
 use Rattle.fr_world.specs.Held.{Standing}
 use Rattle.fr_world.specs.KeyedRows.{by_key, frame_entry, gap_entry, placement_entry, same_at, signal_entry}
 
--- What was gathered of two variants, if they are there, is this; or one is not there, or the answer is Unavailable. The records stand
--- for the same book as before.
+-- This was gathered of two variants that are there; or one is not there, or the answer is
+-- Unavailable. The records stand for the same book as before.
 abbrev pub Compares : {X : Type 0} → Standing → Standing → Result X Refusal → Name → Name → (Params → Variant → Variant → X → Type 0) → Type 0
 Compares old now r v w says = (c : Cluster) (b : Book) → old c b → now c b × MatchResult r
     (λ found. (new before : Variant) → get b.variants v ≡ Some new → get b.variants w ≡ Some before → says c.params new before found)
     (λ e. (e ≡ Unavailable) ⊎ ((e ≡ NoVariant) × ((get b.variants v ≡ None) ⊎ (get b.variants w ≡ None))))
 
--- In a sound book what was gathered of two variants, if they are there, is in what they differ as the actor sees them; or the answer is
--- Unavailable. The records stand for the same book as before.
+-- In a sound book, where both variants are there, their difference was gathered as the actor sees
+-- it, or the answer is Unavailable. The records stand for the same book as before.
 abbrev pub SeesDifferences : Standing → Standing → Result (List DifferenceRow) Refusal → Actor → Name → Name → Type 0
 SeesDifferences old now r actor v w = (c : Cluster) (b : Book) → old c b → IsSound c b → now c b × ((new before : Variant) → get b.variants v ≡ Some new → get b.variants w ≡ Some before → MatchResult r
     (λ rows. rows ≡ differences c.params actor before new)
     (λ e. e ≡ Unavailable))
 
--- the rows of these suppliers' frames in the variant, one supplier's after another's
+-- the rows of these suppliers' frames in the variant, supplier after supplier
 abbrev pub frames_rows : {X : Type 0} → ((Name × Name) × Frame → List X) → List Name → Variant → List X
 frames_rows rows ss x = flat_map (λ s. flat_map rows (own s x.frames).rows) ss
 
@@ -49,7 +49,7 @@ grants_told ss before new = grants_differ (grants_among ss before.grants) (grant
 abbrev pub frames_told : {X : Type 0} → (X → X → Ordering) → (X → X → Bool) → (X → SeenRow) → ((Name × Name) × Frame → List X) → List Name → Variant → Variant → List DifferenceRow
 frames_told compare same told rows ss before new = merge compare same told (frames_rows rows ss before) (frames_rows rows ss new)
 
--- so of rows by their keys
+-- what a merge tells of the rows of a kind, by their keys, of these suppliers' frames
 abbrev pub kind_told : {X K V : Type 0} → Order K → (V → V → Bool) → (K × V → SeenRow) → (X → K × V) → ((Name × Name) × Frame → List X) → List Name → Variant → Variant → List DifferenceRow
 kind_told o same told entry rows ss before new = frames_told (by_key o entry) (same_at same entry) (λ r. told (entry r)) rows ss before new
 

@@ -1,6 +1,7 @@
--- Crashed: when records were asked requests one after another. What a crash leaves then: the book after all that was
--- answered, or after one request more, which had been answered `Unavailable`. When a register that is found afterwards
--- is as promised. When records stand for a book that a crash leaves, or leaves with one request more.
+-- Crashed: when records answered requests one after another. What a crash leaves then: the book
+-- after all that was answered, or after one more request, which was answered `Unavailable`. When a
+-- register that is found afterwards is as promised. When records stand for a book that a crash
+-- leaves, or leaves after one more request.
 use Rattle.std.specs.Global.{Vec}
 use Rattle.std.specs.Prelude.{◌≡◌, ◌≢◌, ◌⊎◌, List, [], ◌∷◌, ◌++◌, length, take, Result, MatchResult, ⊤}
 use Rattle.fr_base.specs.Book.{Book}
@@ -18,21 +19,22 @@ use Rattle.fr_office.specs.KeptPages.{StandsWarm, WarmData}
 use Rattle.fr_office.specs.declared.running.Stopped.{Stopped}
 use Rattle.fr_world.specs.Held.{Leaving, Standing}
 
--- The request was answered by one step, or Unavailable; until it was answered a crash left no more than before, or the register after the
--- step; and a change that was answered is kept.
+-- The request was answered by one step, or Unavailable. Until the answer a crash left what it left
+-- before, or the register after the step. A change that was answered is kept.
 pub record IsTurn {R : Type 0} (stands : R → Standing) (leaves : R → Leaving) (old : R) (ask : Ask) (answer : Answer) (new : R) : Type 0 where
   pub answers : Answers (stands old) (stands new) ask answer
   pub left : LeavesStep (stands old) (leaves old) (leaves new) ask
   pub keeps : KeepsChange (stands old) (leaves new) ask answer
 
--- From the first records to the last the requests were answered so, one after another.
+-- From the first records to the last these requests had these answers, one after another.
 abbrev pub WereAsked : {R : Type 0} → (R → Standing) → (R → Leaving) → R → List Ask → List Answer → R → Type 0
 WereAsked stands leaves first [] [] last = last ≡ first
 WereAsked {R} stands leaves first (ask ∷ asks) (answer ∷ answers) last = (after : R) × IsTurn stands leaves first ask answer after × WereAsked stands leaves after asks answers last
 WereAsked stands leaves first [] (_ ∷ _) last = ⊥
 WereAsked stands leaves first (_ ∷ _) [] last = ⊥
 
--- From the first records to the last all the requests were answered so, or where memory ended, those before were.
+-- From the first records to the last all the requests had these answers; or, where memory ended,
+-- those before had.
 abbrev pub AsksEach : {R : Type 0} → (R → Standing) → (R → Leaving) → R → R → List Ask → Result (Vec Answer) Stopped → Type 0
 AsksEach stands leaves first last asks result = MatchResult result
     (λ answers. WereAsked stands leaves first asks answers.items last)
@@ -43,13 +45,13 @@ abbrev pub NoneDone : List Answer → Type 0
 NoneDone [] = ⊤
 NoneDone (answer ∷ answers) = (answer ≢ Done) × NoneDone answers
 
--- This was asked and answered Unavailable, and no request behind it was answered Done.
+-- This request was answered Unavailable, and no request behind it was answered Done.
 abbrev pub WasLacking : List Ask → List Answer → Ask → Type 0
 WasLacking (first ∷ asks) (answer ∷ answers) ask = ((ask ≡ first) × (answer ≡ Refused Unavailable) × NoneDone answers) ⊎ WasLacking asks answers ask
 WasLacking [] answers ask = ⊥
 WasLacking asks [] ask = ⊥
 
--- It is the book, or the one after one of these requests more.
+-- The book is this one, or the one after one more of these requests.
 abbrev pub IsOrNext : Cluster → (Ask → Type 0) → Book → Book → Type 0
 IsOrNext c Of book x = (x ≡ book) ⊎ ((ask : Ask) × Of ask × (x ≡ (step c book ask.actor ask.request).book))
 
@@ -57,8 +59,8 @@ abbrev pub EachBook : (Book → Type 0) → List Book → Type 0
 EachBook P [] = ⊤
 EachBook P (book ∷ books) = P book × EachBook P books
 
--- The requests were answered so, and the register now stands for the book to which that led. What a crash leaves is this book, or the one
--- after one request more, which had been answered Unavailable.
+-- The requests had these answers, and the register now stands for the book to which they led. A
+-- crash leaves this book, or the one after one more request, which was answered Unavailable.
 pub record WereKept (now : Book → Type 0) (leaves : List Book → Type 0) (c : Cluster) (b : Book) (asks : List Ask) (answers : List Answer) : Type 0 where
   pub last : Book
   pub stands : now last
@@ -67,37 +69,39 @@ pub record WereKept (now : Book → Type 0) (leaves : List Book → Type 0) (c :
   pub left : leaves books
   pub each : EachBook (IsOrNext c (WasLacking asks answers) last) books
 
--- Of a sound book for which the records stood, and which alone a crash left: so it is of all the requests, or where memory ended, of those before.
+-- Where the records stood for a sound book, and a crash left that book alone, this holds of all the
+-- requests; or, where memory ended, of those before.
 abbrev pub KeepsEach : {R : Type 0} → (R → Standing) → (R → Leaving) → R → R → List Ask → Result (Vec Answer) Stopped → Type 0
 KeepsEach stands leaves first last asks result = (c : Cluster) (b : Book) → stands first c b → IsSound c b → leaves first c (b ∷ []) → MatchResult result
     (λ answers. WereKept (stands last c) (leaves last c) c b asks answers.items)
     (λ stopped. WereKept (stands last c) (leaves last c) c b (take (length stopped.answers.items) asks) stopped.answers.items)
 
--- So it is whatever is asked of records of which a crash leaves their book, from a sound book on.
+-- This holds of whatever is asked of records of which a crash leaves their book, from a sound book
+-- on.
 abbrev pub KeepsAnswered : {R : Type 0} → (R → Standing) → (R → Leaving) → Type 0
 KeepsAnswered {R} stands leaves = (c : Cluster) (b : Book) (first last : R) (asks : List Ask) (answers : List Answer) → WereAsked stands leaves first asks answers last → stands first c b → IsSound c b
     → leaves first c (b ∷ []) → WereKept (stands last c) (leaves last c) c b asks answers
 
--- A register that is found afterwards is as promised: of the requests as they were answered, or of these and one more, which had been
--- answered Unavailable.
+-- A register that is found afterwards is as promised: for the requests as they were answered, or
+-- for these and one more, which was answered Unavailable.
 abbrev pub IsFound : (Book → Type 0) → Cluster → Book → List Ask → List Answer → Type 0
 IsFound now c b asks answers =
     WereAnswered now c b asks answers
     ⊎ ((ask : Ask) × (answer : Answer) × WasLacking asks answers ask × WereAnswered now c b (asks ++ ask ∷ []) (answers ++ answer ∷ []))
 
--- It is the book, or the one after one request more, whichever.
+-- The book is the first one, or the one after one more request, whichever it was.
 abbrev pub IsNear : Cluster → Book → Book → Type 0
 IsNear c = IsOrNext c (λ _. ⊤)
 
--- A crash leaves the book, with all that was answered, or the one after one request more: each book that it may leave
--- is one of these.
+-- A crash leaves the book, with all that was answered, or the one after one more request. Each book
+-- that it may leave is one of these.
 pub record IsKept (leaves : List Book → Type 0) (c : Cluster) (b : Book) : Type 0 where
   pub books : List Book
   pub left : leaves books
   pub each : EachBook (IsNear c b) books
 
--- The records stand for the book, with no page beside them that is stale; and a crash leaves it, or the book after one
--- request more.
+-- The records stand for the book, and no page beside them is stale. A crash leaves the book, or the
+-- one after one more request.
 abbrev pub StandsKept : {R : Type 0} → (R → Standing) → (R → Leaving) → WarmData R → Standing
 StandsKept stands leaves warm c b = StandsWarm stands warm c b × IsKept (leaves warm.records c) c b
 

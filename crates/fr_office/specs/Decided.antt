@@ -1,6 +1,7 @@
--- Decided: what is asked of all rows beside a supplier's page. Before the page decides the variant is open, and a
--- supplier whom the integrator names is there. After it a slot and channel that are to be granted are not held. Who
--- changes a frame asks for itself. Which edits a page takes.
+-- Decided: what is asked of all rows beside a supplier's page. Before the page decides, the variant
+-- is open, and a supplier that the integrator names is there. After it, nobody holds a slot and
+-- channel that are to be granted. A supplier that changes a frame asks for itself. Which edits a
+-- page takes.
 use Rattle.std.specs.Prelude.{◌≡◌, ◌⊎◌, Bool, false, List, [], ◌∷◌, Option, Result, Ok, Err, IfSome, IsTrue, MatchResult, ⊤}
 use Rattle.std.specs.List.{list_any}
 use Rattle.fr_base.specs.Refusing.{◌>>=◌, ◌>>◌, ◌or◌, refuse◌when◌}
@@ -34,7 +35,7 @@ open_page p b s v = do
   refuse Released when page.released
   Ok page
 
--- whether what is to be granted in the variant is held
+-- whether somebody holds what is to be granted in the variant
 abbrev pub is_taken : Book → Name → Change → Bool
 is_taken b v (Grant slot channel node) = held_in b v (slot, channel)
 is_taken b v (Revoke slot channel) = false
@@ -44,8 +45,8 @@ is_taken b v (Frame f change) = false
 abbrev pub IsBeside : Book → Name → Name → Change → BesidePage → Type 0
 IsBeside b s v change beside = (beside.is_there ≡ contains b.suppliers s) × (beside.is_taken ≡ is_taken b v change)
 
--- The supplier's page of the variant, where the variant is open, is the one that is lent; else it is refused as the
--- definition has it, or the answer is Unavailable. The records stand for the same book as before.
+-- The supplier's page of the variant is the one that is lent, and the variant is open; else the
+-- refusal is the definition's, or Unavailable. The records stand for the same book as before.
 abbrev pub Opens : Standing → Standing → Option PageData → Result ⊤ Refusal → Name → Name → Type 0
 Opens old new lent r s v = (c : Cluster) (b : Book) → old c b → IsSound c b → new c b × MatchResult r
     (λ _. IfSome lent (λ page. open_page c.params b s v ≡ Ok page))
@@ -56,7 +57,7 @@ abbrev pub MayTake : Name → OwnRows → Edit → Type 0
 MayTake v rows (KeepImport s label w body count) = ⊤
 MayTake v rows edit = Takes v rows edit
 
--- The page takes the edits, one after another, but for those that keep an import.
+-- The page takes the edits, one after another, except those that keep an import.
 abbrev pub TakesEach : Name → OwnRows → List Edit → Type 0
 TakesEach v rows [] = ⊤
 TakesEach v rows (edit ∷ edits) = MayTake v rows edit × TakesEach v (edited rows edit) edits
@@ -78,12 +79,13 @@ abbrev pub IsOfKnown : Book → Name → Change → Type 0
 IsOfKnown b s (Frame f change) = IsTrue (contains b.suppliers s)
 IsOfKnown b s _ = ⊤
 
--- So it is with a command, in each book for which the records stand.
+-- In each book for which the records stand, a supplier that changes a frame by the command is
+-- there.
 abbrev pub FromKnown : Standing → Command → Type 0
 FromKnown stands (Rows s v change) = (c : Cluster) (b : Book) → stands c b → IsOfKnown b s change
 FromKnown stands _ = ⊤
 
--- Who changes a frame is the supplier that asks.
+-- The supplier that changes a frame is the sender.
 abbrev pub IsOwnChange : Actor → Name → Change → Type 0
 IsOwnChange actor s (Frame f change) = actor ≡ Supplier s
 IsOwnChange actor s _ = ⊤

@@ -19,7 +19,7 @@ use Rattle.fr_base.specs.declared.request.Ask.{Ask}
 use Rattle.fr_office.specs.declared.running.Stopped.{Stopped}
 use Rattle.fr_world.specs.Held.{Standing}
 
--- what the integrator asked was done; a supplier's requests may have any answer
+-- what the integrator asked was done; what a supplier asked may have any answer
 abbrev pub IsDoneFor : Actor → Answer → Type 0
 IsDoneFor Integrator answer = answer ≡ Done
 IsDoneFor (Supplier s) answer = ⊤
@@ -30,11 +30,13 @@ AreDone [] [] = ⊤
 AreDone (ask ∷ asks) (answer ∷ answers) = IsDoneFor ask.actor answer × AreDone asks answers
 AreDone _ _ = ⊥
 
--- Requests were answered so, from this book to the last. What of them is the supplier's are its own requests, but those that
--- were Unavailable, and the integrator's commands that were done and are common to all or name it. A register that holds this
--- supplier alone begins with the supplier's rows of the book and is asked these, one after another: it gives the same answers one by one, Done
--- to each of the integrator's commands, and ends with the supplier's rows of the last book. Which suppliers a register holds stands in
--- its book alone, so both registers are of the same cluster.
+-- The requests had these answers, from this book to the last. Some of them are the supplier's: its
+-- own, except those that were Unavailable, and the integrator's commands that were done and are
+-- common to all or name it. A register that holds this supplier alone begins with the supplier's
+-- rows of the book and is asked these, one after another. It gives the same answers one by one,
+-- Done to each of the integrator's commands, and ends with the supplier's rows of the last book.
+-- Which suppliers a register holds stands in its book alone, so both registers are of the same
+-- cluster.
 pub record IsAsIfAlone (c : Cluster) (s : Name) (b : Book) (asks : List Ask) (answers : List Answer) (last : Book) : Type 0 where
   pub same : answers_to c (rows_of s b) (asks_of s asks answers) ≡ answers_of s asks answers
   pub done : AreDone (asks_of s asks answers) (answers_to c (rows_of s b) (asks_of s asks answers))
@@ -55,14 +57,14 @@ pub record IsCollisionFreeAfter (c : Cluster) (b : Book) (asks : List Ask) (answ
   pub free : IsCollisionFree book
   pub after : IsRun c book (drop n asks) (drop n answers) last
 
--- The requests were answered so, from this book to the last: to each supplier as if it were alone; and after each of them the book was
--- free of collisions.
+-- The requests had these answers, from this book to the last: to each supplier as if it were alone.
+-- After each of them the book was free of collisions.
 pub record IsAsPromised (c : Cluster) (b : Book) (asks : List Ask) (answers : List Answer) (last : Book) : Type 0 where
   pub alone : (s : Name) → IsAsIfAlone c s b asks answers last
   pub collision_free : (n : ℕ) → IsCollisionFreeAfter c b asks answers last n
 
--- The requests were answered so, one after another, and the register now stands for the book to which that led. It is sound, and all
--- is as promised.
+-- The requests had these answers, one after another, and the register now stands for the book to
+-- which they led. It is sound, and all is as promised.
 pub record WereAnswered (now : Book → Type 0) (c : Cluster) (b : Book) (asks : List Ask) (answers : List Answer) : Type 0 where
   pub last : Book
   pub stands : now last
@@ -70,7 +72,8 @@ pub record WereAnswered (now : Book → Type 0) (c : Cluster) (b : Book) (asks :
   pub sound : IsSound c last
   pub promised : IsAsPromised c b asks answers last
 
--- Of each sound book for which the register stood: all the requests were answered so, or where memory ended, those before were.
+-- For each sound book for which the register stood, all the requests had these answers; or, where
+-- memory ended, those before had.
 abbrev pub AnswersEach : Standing → Standing → List Ask → Result (Vec Answer) Stopped → Type 0
 AnswersEach old new asks result = (c : Cluster) (b : Book) → old c b → IsSound c b → MatchResult result
     (λ answers. WereAnswered (new c) c b asks answers.items)

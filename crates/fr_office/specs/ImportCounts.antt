@@ -6,7 +6,7 @@ use Rattle.fr_base.specs.Tables.{len}
 use Rattle.fr_base.specs.declared.name.Name.{Name}
 use Rattle.fr_office.specs.declared.import_counts.ImportCount.{ImportCount}
 
--- The count is of as many imports as its supplier keeps.
+-- The count is that of the imports that its supplier keeps.
 abbrev pub IsCounted : Book → ImportCount → Type 0
 IsCounted b count = count.imports ≡ len (own count.supplier b.imports)
 

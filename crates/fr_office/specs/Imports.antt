@@ -1,5 +1,5 @@
--- Import: an import is carried out as the definition has it, its rows as they are decided on the supplier's page; or
--- nothing is done. What a crash leaves of it.
+-- Import: an import is carried out as the definition says, and its rows as they are decided on the
+-- supplier's page; or nothing is done. What a crash leaves of it.
 use Rattle.std.specs.Prelude.{◌≡◌, ◌⊎◌, ℕ, List, [], ◌∷◌, ◌++◌, length, Result, Ok, None, IfOk, IsTrue, MatchResult, ⊤}
 use Rattle.fr_base.specs.Book.{Book}
 use Rattle.fr_base.specs.Cluster.{Cluster}
@@ -23,8 +23,8 @@ use Rattle.fr_office.specs.Carried.{IsRefused}
 use Rattle.fr_office.specs.Decided.{open_page}
 use Rattle.fr_world.specs.Held.{Leaving, Standing}
 
--- In a sound book the import of a supplier that is there is carried out as the definition has it, and the records stand for the book
--- after it; or nothing was done.
+-- In a sound book the import of a supplier that is there was carried out as the definition says,
+-- and the records stand for the book after it; or nothing was done.
 abbrev pub GivesImport : Standing → Standing → Result Answer Refusal → Import → Type 0
 GivesImport old new r i = (c : Cluster) (b : Book) → old c b → IsSound c b → IsTrue (contains b.suppliers i.supplier) → MatchResult r
     (λ answer. (after : Book) × (import c.params b i (get b.imports (i.supplier, i.label)) ≡ Ok (record { book = after; answer = answer })) × new c after)
@@ -34,25 +34,27 @@ GivesImport old new r i = (c : Cluster) (b : Book) → old c b → IsSound c b �
 abbrev pub kept_edits : List Edit → Import → ℕ → List Edit
 kept_edits edits i rows = edits ++ KeepImport i.supplier i.label i.variant i.body rows ∷ []
 
--- what comes of the import's rows, as they are decided on this page
+-- the outcome of the import's rows, as they are decided on this page
 abbrev pub rows_outcome : Params → Book → Import → PageData → Outcome
 rows_outcome p b i page =
     imported b i (length (rows_of_body p i.body)) (rows_decision page (rows_of_body p i.body) >>= λ edits. Ok (all_applied b edits))
 
--- In a sound book the rows of a new import were carried out, as they are decided on its supplier's page, or the first refused one is told;
--- and the records stand for the book after it. Or it is Unavailable, and they stand for the same book as before.
+-- In a sound book the rows of a new import were carried out, as they are decided on its supplier's
+-- page, or the first refused row is told. The records stand for the book after that. Or the answer
+-- is Unavailable, and they stand for the same book as before.
 abbrev pub GivesRows : Standing → Standing → Result Answer Refusal → Import → PageData → Type 0
 GivesRows old new r i page = (c : Cluster) (b : Book) → old c b → IsSound c b → IsTrue (contains b.suppliers i.supplier) →
     get b.imports (i.supplier, i.label) ≡ None → open_page c.params b i.supplier i.variant ≡ Ok page → MatchResult r
     (λ answer. (answer ≡ (rows_outcome c.params b i page).answer) × new c (rows_outcome c.params b i page).book)
     (λ e. (e ≡ Unavailable) × new c b)
 
--- Of the import of a supplier that is there, a crash leaves no more than it did before, or the book after it.
+-- After the import of a supplier that is there a crash leaves what it left before, or the book
+-- after the import.
 abbrev pub LeavesImport : Standing → Leaving → Leaving → Import → Type 0
 LeavesImport stands old new i = (c : Cluster) (b : Book) (books : List Book) → stands c b → IsSound c b → IsTrue (contains b.suppliers i.supplier) → old c books
     → new c books ⊎ ((after : Outcome) × (import c.params b i (get b.imports (i.supplier, i.label)) ≡ Ok after) × new c (after.book ∷ books))
 
--- So with the rows of a new one.
+-- After the rows of a new import a crash leaves what it left before, or the book after the import.
 abbrev pub LeavesRows : Standing → Leaving → Leaving → Import → PageData → Type 0
 LeavesRows stands old new i page = (c : Cluster) (b : Book) (books : List Book) → stands c b → IsSound c b → IsTrue (contains b.suppliers i.supplier)
     → get b.imports (i.supplier, i.label) ≡ None → open_page c.params b i.supplier i.variant ≡ Ok page → old c books
@@ -67,6 +69,6 @@ WhereImported _ P = ⊤
 abbrev pub OnImported : Result Answer Refusal → Type 0 → Type 0
 OnImported r P = IfOk r (λ answer. WhereImported answer P)
 
--- So where no import was kept under the label before.
+-- This holds after an import that was carried out, if none was kept under the label before.
 abbrev pub AfterNew : Standing → Import → Result Answer Refusal → Type 0 → Type 0
 AfterNew stands i r P = IfOk r (λ answer. (c : Cluster) (b : Book) → stands c b → IsSound c b → get b.imports (i.supplier, i.label) ≡ None → WhereImported answer P)

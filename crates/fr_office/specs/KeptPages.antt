@@ -1,6 +1,6 @@
--- Kept pages: when no page that is kept is stale; when records stand for a book with pages and counts kept beside them;
--- which page is found; how many bytes a page takes at most; which pages are let go where one that was lent has no room
--- among the others; what an edit may change.
+-- Kept pages: when no page that is kept is stale. When records stand for a book, with pages and
+-- counts kept beside them. Which page is found. How many bytes a page takes at most. Which pages
+-- are let go where one that was lent has no room among the others. What an edit may change.
 use Rattle.std.specs.Prelude.{◌≡◌, ◌⊎◌, ℕ, ◌+◌, ◌*◌, Bool, true, false, ◌&&◌, ◌||◌, not, if◌then◌else◌, nat_le, min, List, [], ◌∷◌, length, find, filter, sum_by, All, Option, Some, None, IfSome, ⊤}
 use Rattle.std.specs.Option.{option_or}
 use Rattle.std.specs.Ordering.{match_ordering}
@@ -20,17 +20,18 @@ use Rattle.fr_office.specs.declared.shelf.TheConstants.{FRAME_BYTES, GRANT_BYTES
 use Rattle.fr_world.specs.declared.edit.Edit.{Edit}
 use Rattle.fr_world.specs.declared.edit.Edit.TheVariants.{NewVariant, SetReleased, NewSupplier, SetKey, NewNode, Rows, KeepImport}
 
--- the page that is lent, which was used last; those that were used last before it, and those that were used last before them
+-- the page that is lent, which was used last; the pages that were used before it; and the pages
+-- that were used before those
 pub record KeptData : Type 0 where
   pub lent : Option PageData
   pub recent : List PageData
   pub earlier : List PageData
 
--- each page that is kept is such a one
+-- This holds of each page that is kept.
 abbrev pub EachKept : (PageData → Type 0) → KeptData → Type 0
 EachKept P kept = IfSome kept.lent P × All P kept.recent × All P kept.earlier
 
--- Each page has these parameters.
+-- Each page that is kept has these parameters.
 abbrev pub AreOf : Params → KeptData → Type 0
 AreOf p kept = EachKept (λ page. page.params ≡ p) kept
 
@@ -48,7 +49,7 @@ pub record WarmData (R : Type 0) : Type 0 where
 abbrev pub StandsWarm : {R : Type 0} → (R → Standing) → WarmData R → Standing
 StandsWarm stands warm c b = stands warm.records c b × AreFresh c.params b warm.pages × AreCounted b warm.counts
 
--- ---- pages by whose they are
+-- ---- pages by supplier and variant
 
 -- whether it is the supplier's page of the variant
 abbrev pub is_page_of : Name → Name → PageData → Bool
@@ -62,16 +63,17 @@ page_at s v pages = find (is_page_of s v) pages
 abbrev pub others_than : Name → Name → List PageData → List PageData
 others_than s v pages = filter (λ page. not (is_page_of s v page)) pages
 
--- whose page it is
+-- whose page it is: the supplier and the variant
 abbrev pub whose : PageData → Name × Name
 whose page = (page.supplier, page.variant)
 
--- the pages with this one among them, by whose they are, in place of its supplier's in its variant
+-- the pages with this one among them, by supplier and variant, in place of the one of the same
+-- supplier and variant
 abbrev pub with_page : PageData → List PageData → List PageData
 with_page page [] = page ∷ []
 with_page page (other ∷ pages) = match_ordering (owned.compare (whose page) (whose other)) (page ∷ other ∷ pages) (page ∷ pages) (other ∷ with_page page pages)
 
--- how many bytes a page takes at most; none has more frames and grants than are counted
+-- how many bytes a page takes at most; it has no more frames and grants than are counted
 abbrev pub bytes_of : PageData → ℕ
 bytes_of page = PAGE_BYTES + min (length page.frames) MOST_FRAMES * FRAME_BYTES + min (length page.grants) MOST_GRANTS * GRANT_BYTES
 
@@ -94,7 +96,8 @@ kept_at s v kept = option_or (lent_at s v kept.lent) (shelved_at s v kept)
 abbrev pub kept_without : Name → Name → KeptData → KeptData
 kept_without s v kept = record kept { recent = others_than s v kept.recent; earlier = others_than s v kept.earlier }
 
--- Where so many bytes more are too many for the pages that were used last, these are those that were used before, and the others are let go.
+-- Where so many bytes more are too many for the pages that were used last, these become the pages
+-- that were used before, and the others are let go.
 abbrev pub with_room : ℕ → KeptData → KeptData
 with_room bytes kept = if nat_le (sum_by bytes_of kept.recent + bytes) MAX_BYTES then kept else record kept { recent = []; earlier = kept.recent }
 
@@ -102,7 +105,8 @@ with_room bytes kept = if nat_le (sum_by bytes_of kept.recent + bytes) MAX_BYTES
 abbrev pub none_lent : KeptData → KeptData
 none_lent kept = record kept { lent = None }
 
--- the pages once the one that was lent is among those that were used before it, in place of its supplier's in its variant
+-- the pages once the one that was lent is among those that were used before it, in place of the one
+-- of the same supplier and variant
 abbrev pub put_back : Option PageData → KeptData → KeptData
 put_back None kept = kept
 put_back (Some page) kept = let others = with_room (bytes_of page) kept in record others { recent = with_page page others.recent }
@@ -110,7 +114,7 @@ put_back (Some page) kept = let others = with_room (bytes_of page) kept in recor
 abbrev pub put_away : KeptData → KeptData
 put_away kept = put_back kept.lent (none_lent kept)
 
--- the pages once the one that was lent is given up where it has room
+-- the pages once room is made for the one that was lent, and it is given up
 abbrev pub given_back : Option PageData → KeptData → KeptData
 given_back None kept = kept
 given_back (Some page) kept = with_room (bytes_of page) kept
@@ -118,8 +122,9 @@ given_back (Some page) kept = with_room (bytes_of page) kept
 abbrev pub given_up : KeptData → KeptData
 given_up kept = given_back kept.lent (none_lent kept)
 
--- The pages once the supplier's page of the variant is lent: as they were, where it was lent before. Else it is no more among those that
--- are not lent, and the one that was lent before is, or it is given up.
+-- The pages once the supplier's page of the variant is lent. They are as they were if it was lent
+-- before. Else it is no longer among those that are not lent. The one that was lent before is among
+-- them, or is given up.
 abbrev pub TurnsFrom : Option PageData → KeptData → KeptData → KeptData → Type 0
 TurnsFrom (Some page) old others new = new ≡ old
 TurnsFrom None old others new = (none_lent new ≡ none_lent (put_away others)) ⊎ (none_lent new ≡ none_lent (given_up others))
@@ -147,7 +152,7 @@ lent_where test (Some page) = if test page then Some page else None
 abbrev pub kept_where : (PageData → Bool) → KeptData → KeptData
 kept_where test kept = record { lent = lent_where test kept.lent; recent = filter test kept.recent; earlier = filter test kept.earlier }
 
--- the pages that edits leave as they are, one after another
+-- the pages that the edits, one after another, leave as they are
 abbrev pub untouched_by : List Edit → KeptData → KeptData
 untouched_by [] kept = kept
 untouched_by (edit ∷ edits) kept = untouched_by edits (kept_where (λ page. not (touches edit page)) kept)
@@ -161,20 +166,20 @@ pub record IsAmended (page : PageData) (edit : Edit) (new : PageData) : Type 0 w
   pub released : new.released ≡ (releases edit || page.released)
   pub kept : IsKept new
 
--- The page that is lent is the one before: with the edit made in it, or as it was where the edit leaves it so. None is where none was, or
--- where the edit may change it.
+-- The page that is lent is the one before, after the edit, or as it was where the edit leaves it.
+-- No page is lent where none was, or where the edit may change the one that was.
 abbrev pub Amends : Edit → Option PageData → Option PageData → Type 0
 Amends edit None None = ⊤
 Amends edit (Some page) None = touches edit page ≡ true
 Amends edit None (Some new) = ⊥
 Amends edit (Some page) (Some new) = IsAmended page edit new ⊎ ((touches edit page ≡ false) × (new ≡ page))
 
--- So it is with the page that is lent, and the others are those that the edit leaves as they are.
+-- The page that is lent followed the edit. The others are those that the edit leaves as they are.
 pub record AreFollowed (edit : Edit) (old new : KeptData) : Type 0 where
   pub lent : Amends edit old.lent new.lent
   pub others : none_lent new ≡ untouched_by (edit ∷ []) (none_lent old)
 
--- The edit grants or ends nothing that a supplier other than its own holds.
+-- No other supplier than its own holds what the edit grants or ends.
 abbrev pub Spares : Book → Edit → Type 0
 Spares b (Rows s v what) = (x : Variant) → get b.variants v ≡ Some x → SparesOthers s x (Rows s v what)
 Spares b _ = ⊤

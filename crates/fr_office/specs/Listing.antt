@@ -1,5 +1,5 @@
--- Listing: which variants who asks is told of. All, where who asks is there; else it is `UnknownKey`. When
--- `Unavailable` may come in place.
+-- Listing: the variants that a sender is told. It is told all, if it is there; else it is
+-- `UnknownKey`. When `Unavailable` may come in place.
 use Rattle.std.specs.Prelude.{◌≡◌, ◌⊎◌, not, List, Vec, Result, Ok, Err, IsTrue, MatchResult}
 use Rattle.std.specs.declared.alloc.Global.{Global}
 use Rattle.fr_base.specs.Book.{Book}
@@ -13,13 +13,13 @@ use Rattle.fr_world.specs.BookEdits.{variants_in}
 use Rattle.fr_base.specs.declared.answer.VariantRow.{VariantRow}
 use Rattle.fr_world.specs.Held.{Standing}
 
--- the variants, which are common to all suppliers: who is there is told of all of them
+-- the variants, which all suppliers have in common; a sender that is there is told all of them
 unfoldable pub variants_told : Book → Actor → Result (List VariantRow) Refusal
 variants_told b actor = do
   refuse UnknownKey when not (knows b actor)
   Ok (variants_in b)
 
--- This may be told: what the definition has; or Unavailable, to who is there.
+-- This may be told: what the definition says; or Unavailable, to a sender that is there.
 abbrev pub MayTell : Book → Actor → Result (List VariantRow) Refusal → Type 0
 MayTell b actor told = (variants_told b actor ≡ told) ⊎ (IsTrue (knows b actor) × (told ≡ Err Unavailable))
 

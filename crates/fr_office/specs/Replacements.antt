@@ -1,5 +1,5 @@
--- Replacement: a replacement is carried out as the definition has it, its rows as they are decided on the supplier's
--- page; or nothing is done. What a crash leaves of it.
+-- Replacement: a replacement is carried out as the definition says, and its rows as they are
+-- decided on the supplier's page; or nothing is done. What a crash leaves of it.
 use Rattle.std.specs.Prelude.{◌≡◌, ◌⊎◌, List, ◌∷◌, length, nat_lt, Result, Ok, IfOk, IsTrue, MatchResult, ⊤}
 use Rattle.fr_base.specs.Book.{Book}
 use Rattle.fr_base.specs.Cluster.{Cluster}
@@ -26,32 +26,35 @@ use Rattle.fr_office.specs.Decided.{open_page}
 unfoldable pub replacement_room : Replacement → Result ⊤ Refusal
 replacement_room r = refuse Limit when nat_lt MAX_IMPORT_BYTES (length r.body)
 
--- what comes of the replacement's rows, as they are decided on this page
+-- the outcome of the replacement's rows, as they are decided on this page
 abbrev pub replaced_outcome : Params → Book → Replacement → PageData → Outcome
 replaced_outcome p b r page =
     replaced b (length (rows_of_body p r.body)) (replacement_decision page (rows_of_body p r.body) >>= λ edits. Ok (all_applied b edits))
 
--- In a sound book the replacement of a supplier that is there is carried out as the definition has it, and the records stand for the
--- book after it; or nothing was done.
+-- In a sound book the replacement of a supplier that is there was carried out as the definition
+-- says, and the records stand for the book after it; or nothing was done.
 abbrev pub GivesReplacement : Standing → Standing → Result Answer Refusal → Replacement → Type 0
 GivesReplacement old new result r = (c : Cluster) (b : Book) → old c b → IsSound c b → IsTrue (contains b.suppliers r.supplier) → MatchResult result
     (λ answer. (after : Book) × (replace c.params b r ≡ Ok (record { book = after; answer = answer })) × new c after)
     (λ e. IsRefused new c b e (replace c.params b r))
 
--- In a sound book the rows of a replacement were carried out, as they are decided on its supplier's page, or the first refused one is
--- told; and the records stand for the book after it. Or it is Unavailable, and they stand for the same book as before.
+-- In a sound book the rows of a replacement were carried out, as they are decided on its supplier's
+-- page, or the first refused row is told. The records stand for the book after that. Or the answer
+-- is Unavailable, and they stand for the same book as before.
 abbrev pub GivesReplaced : Standing → Standing → Result Answer Refusal → Replacement → PageData → Type 0
 GivesReplaced old new result r page = (c : Cluster) (b : Book) → old c b → IsSound c b → IsTrue (contains b.suppliers r.supplier) →
     open_page c.params b r.supplier r.variant ≡ Ok page → MatchResult result
     (λ answer. (answer ≡ (replaced_outcome c.params b r page).answer) × new c (replaced_outcome c.params b r page).book)
     (λ e. (e ≡ Unavailable) × new c b)
 
--- Of the replacement of a supplier that is there, a crash leaves no more than it did before, or the book after it.
+-- After the replacement of a supplier that is there a crash leaves what it left before, or the book
+-- after the replacement.
 abbrev pub LeavesReplacement : Standing → Leaving → Leaving → Replacement → Type 0
 LeavesReplacement stands old new r = (c : Cluster) (b : Book) (books : List Book) → stands c b → IsSound c b → IsTrue (contains b.suppliers r.supplier) → old c books
     → new c books ⊎ ((after : Outcome) × (replace c.params b r ≡ Ok after) × new c (after.book ∷ books))
 
--- So with its rows.
+-- After the rows of a replacement a crash leaves what it left before, or the book after the
+-- replacement.
 abbrev pub LeavesReplaced : Standing → Leaving → Leaving → Replacement → PageData → Type 0
 LeavesReplaced stands old new r page = (c : Cluster) (b : Book) (books : List Book) → stands c b → IsSound c b → IsTrue (contains b.suppliers r.supplier)
     → open_page c.params b r.supplier r.variant ≡ Ok page → old c books

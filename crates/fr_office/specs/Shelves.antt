@@ -1,4 +1,4 @@
--- Shelf: when pages stand by whose they are, and take no more bytes than they may.
+-- Shelf: when pages stand by supplier and variant, and take no more bytes than they may.
 use Rattle.std.specs.Prelude.{◌≡◌, ℕ, ◌≤◌, List, All, sum_by}
 use Rattle.std.specs.Map.{values_of}
 use Rattle.fr_world.specs.Pages.{PageData}
@@ -6,15 +6,16 @@ use Rattle.fr_office.specs.KeptPages.{bytes_of}
 use Rattle.fr_office.specs.declared.shelf.PageKey.{PageKey}
 use Rattle.fr_office.specs.declared.shelf.TheConstants.{MAX_BYTES}
 
--- whose page it is
+-- whose page it is: the supplier and the variant
 abbrev pub key_of : PageData → PageKey
 key_of page = record { supplier = page.supplier; variant = page.variant }
 
--- the page stands by whose it is
+-- the page stands under its supplier and variant
 abbrev pub IsKeyed : PageKey × PageData → Type 0
 IsKeyed e = e.0 ≡ key_of e.1
 
--- each page stands by whose it is, and all together take so many bytes at most, which are not too many
+-- each page stands under its supplier and variant; all together take so many bytes at most, and no
+-- more than they may
 pub record IsShelf (entries : List (PageKey × PageData)) (bytes : ℕ) : Type 0 where
   pub keyed : All IsKeyed entries
   pub counted : bytes ≡ sum_by bytes_of (values_of entries)

@@ -1,5 +1,5 @@
--- Shown: what is read to answer a query, of one supplier's page or of all, and that the report shows what the
--- definition has.
+-- Shown: what is read to answer a query, of one supplier's page or of all, and that the report
+-- shows what the definition says.
 use Rattle.std.specs.List.{flat_map}
 use Rattle.std.specs.Prelude.{◌≡◌, ℕ, ◌<◌, ◌⊎◌, Bool, true, List, [], ◌∷◌, ◌++◌, if◌then◌else◌, length, Option, Some, None, Result, Ok, Err, MatchResult, ⊤}
 use Rattle.fr_base.specs.Book.{Book, Frame, Variant, own}
@@ -25,16 +25,16 @@ use Rattle.fr_base.specs.declared.report.Report.{Report}
 use Rattle.fr_world.specs.Held.{Standing}
 use Rattle.fr_world.specs.Pages.{PageData, own_rows_of, page_in}
 
--- whether the actor is told of a supplier: a supplier of itself, the integrator of all
+-- whether the actor is told of a supplier: a supplier is told of itself, the integrator of all
 abbrev pub sees : Actor → Name → Bool
 sees Integrator supplier = true
 sees (Supplier asking) supplier = same_text supplier asking
 
--- a supplier that is told of
+-- the row of a supplier that the actor is told of, if it is
 abbrev pub supplier_told : Actor → Listed → List ClusterRow
 supplier_told actor supplier = if sees actor supplier.name then cluster.Supplier supplier.name ∷ [] else []
 
--- what is told of the cluster by what its file says
+-- what the actor is told of the cluster, by what its file says
 abbrev pub cluster_told : ClusterFile → Actor → List ClusterRow
 cluster_told file actor = figures file.cluster.params ++ flat_map (supplier_told actor) file.suppliers
 
@@ -42,7 +42,8 @@ cluster_told file actor = figures file.cluster.params ++ flat_map (supplier_told
 abbrev pub node_of : Name → Name → NodeRow
 node_of supplier node = record { node = node; supplier = supplier }
 
--- What was read of a sound book says this of it, or the answer is Unavailable; and the records stand for the same book as before.
+-- What was read of a sound book tells this of it, or the answer is Unavailable. The records stand
+-- for the same book as before.
 abbrev pub Sees : {X : Type 0} → Standing → Standing → Result X Refusal → (Cluster → Book → X → Type 0) → Type 0
 Sees old new r says = (c : Cluster) (b : Book) → old c b → IsSound c b → new c b × MatchResult r (says c b) (λ e. e ≡ Unavailable)
 
@@ -53,32 +54,32 @@ FindsPage old new lent r s v = (c : Cluster) (b : Book) → old c b → new c b 
     (λ _. (x : Variant) × (get b.variants v ≡ Some x) × (lent ≡ Some (page_in c.params b s v x)))
     (λ e. (e ≡ Unavailable) ⊎ ((e ≡ NoVariant) × (get b.variants v ≡ None)))
 
--- The report shows the page's supplier what it shows it of any variant of which the page is its rows, released as it is or open; or the
--- answer is Unavailable.
+-- The report shows the page's supplier what it shows it of a variant in which the page has the
+-- supplier's rows, released or open as the page says; or the answer is Unavailable.
 abbrev pub ShowsOwn : PageData → Report Name ℕ → Result ReportRows Refusal → Type 0
 ShowsOwn page report r = (b : Book) (x : Variant) → own_rows_of page ≡ own_rows page.params b page.supplier x → page.released ≡ x.released → MatchResult r
     (λ answer. shown page.params (Supplier page.supplier) x report ≡ Ok answer)
     (λ e. (e ≡ Unavailable) ⊎ (shown page.params (Supplier page.supplier) x report ≡ Err e))
 
--- What was gathered of the variant, if it is there, is this; or it is not there, or the answer is Unavailable. The records stand for
--- the same book as before.
+-- This was gathered of the variant, if it is there; or it is not there, or the answer is
+-- Unavailable. The records stand for the same book as before.
 abbrev pub Gathers : {X : Type 0} → Standing → Standing → Result X Refusal → Name → (Params → Variant → X → Type 0) → Type 0
 Gathers old new r v says = (c : Cluster) (b : Book) → old c b → new c b × MatchResult r
     (λ found. (x : Variant) → get b.variants v ≡ Some x → says c.params x found)
     (λ e. (e ≡ Unavailable) ⊎ ((e ≡ NoVariant) × (get b.variants v ≡ None)))
 
--- The report shows the integrator, of the variant if it is there, what the definition has; or the answer is Unavailable. The records
--- stand for the same book as before.
+-- The report shows the integrator what the definition says of the variant, if it is there; or the
+-- answer is Unavailable. The records stand for the same book as before.
 abbrev pub ShowsAll : Standing → Standing → Name → Report Name ℕ → Result ReportRows Refusal → Type 0
 ShowsAll old new v report r = (c : Cluster) (b : Book) → old c b → IsSound c b → new c b × ((x : Variant) → get b.variants v ≡ Some x → MatchResult r
     (λ answer. shown c.params Integrator x report ≡ Ok answer)
     (λ e. (e ≡ Unavailable) ⊎ (shown c.params Integrator x report ≡ Err e)))
 
--- the frames of this name of these suppliers in the variant, one supplier's after another's
+-- the frames of this name of these suppliers in the variant, supplier after supplier
 abbrev pub frames_named : Name → List Name → Variant → List ((Name × Name) × Frame)
 frames_named f ss x = flat_map (λ s. (named f (own s x.frames)).rows) ss
 
--- the signals in their payloads, and None where there is no such frame
+-- The signals in the payloads of these frames. None, where there is no such frame.
 abbrev pub AreSignals : Name → List Name → Variant → Option (List SignalRow) → Type 0
 AreSignals f ss x None = frames_named f ss x ≡ []
 AreSignals f ss x (Some rows) = (0 < length (frames_named f ss x)) × (rows ≡ flat_map signal_rows (frames_named f ss x))

@@ -1,4 +1,5 @@
--- Trial: what a trial tells is told on the supplier's page, and the records stand for the same book as before.
+-- Trial: a trial is answered by the supplier's page, and the records stand for the same book as
+-- before.
 use Rattle.std.specs.Prelude.{◌≡◌, ◌⊎◌, false, List, length, nat_lt, Result, Ok, Err, IsTrue, MatchResult}
 use Rattle.fr_base.specs.Book.{Book}
 use Rattle.fr_base.specs.Cluster.{Cluster}
@@ -19,18 +20,18 @@ use Rattle.fr_world.specs.Held.{Standing}
 use Rattle.fr_world.specs.Pages.{PageData}
 use Rattle.fr_world.specs.Trials.{trial}
 
--- what becomes of each row of the file on this page
+-- the fate of each row of the file on this page
 abbrev pub fates_on : PageData → Trial → List FateRow
 fates_on page t = trial t.replaces page (all_rows_of_body page.params t.body)
 
--- what is told on this page, where the file is within the limit
+-- the answer to the trial on this page, where the file is within the limit
 unfoldable pub told_on : PageData → Trial → Result Answer Refusal
 told_on page t = do
   refuse Limit when nat_lt MAX_IMPORT_BYTES (length t.body)
   Ok (Report false (Fates (fates_on page t)))
 
--- In a sound book the trial of a supplier that is there is answered as the definition has it, or Unavailable; and the records stand for
--- the same book as before.
+-- In a sound book the trial of a supplier that is there is answered as the definition says, or
+-- Unavailable. The records stand for the same book as before.
 abbrev pub TellsTrial : Standing → Standing → Result Answer Refusal → Trial → Type 0
 TellsTrial old new r t = (c : Cluster) (b : Book) → old c b → IsSound c b → IsTrue (contains b.suppliers t.supplier) → new c b × MatchResult r
     (λ answer. try c.params b t ≡ Ok (record { book = b; answer = answer }))

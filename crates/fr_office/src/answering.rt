@@ -1,4 +1,4 @@
-//! How one request is answered: who asks, its check, and what is made of it.
+//! How one request is answered: who asks, its check, and its effect.
 ghost use Rattle.std.specs.Prelude.{◌≡◌, IsTrue};
 ghost use Rattle.std.specs.List.{list_any};
 ghost use Rattle.fr_base.specs.Names.{same_text};
@@ -15,8 +15,8 @@ use fr_base::{Actor, Answer, Ask, Checked, Config, Name, Refusal, Supplier, chec
 use fr_world::Records;
 use std::alloc::Global;
 
-/// Answers a request: `UnknownKey` where who asks is not there; then what the request's own text refuses;
-/// then it is carried out, or `Unavailable`.
+/// Answers a request of a sound register by one step: `UnknownKey` where who asks is not there; then what the request's own
+/// text refuses; then it is carried out, or `Unavailable`.
 pub fn answer<R: Lender>(alloc: Global, records: &mut R, ask: &Ask) -> Answer
     ensures falls { R.clean records.new → R.clean records.old }
     ensures open { R.clean records.new → AfterChange (R.stands records.old) ask.now result (R.serves records.new) }
@@ -37,8 +37,8 @@ pub fn answer<R: Lender>(alloc: Global, records: &mut R, ask: &Ask) -> Answer
     }
 }
 
-/// What a request is answered while the records are not to be had: `UnknownKey` where who asks is not there; then what
-/// the request's own text refuses it for; else `Unavailable`.
+/// What a request is answered while the records are not to be had: it is refused, as a step may refuse it, or as
+/// `Unavailable`, only where who asks is there and nothing in the request itself refuses it.
 pub fn decline<R: Records>(records: &R, ask: &Ask) -> Answer
     ensures refused { (refusal : Refusal) × (result ≡ Answer.Refused refusal) }
     ensures answers { Answers (R.stands records.now) (R.stands records.now) ask.now result }
@@ -53,7 +53,7 @@ pub fn decline<R: Records>(records: &R, ask: &Ask) -> Answer
     }
 }
 
-/// Whether who asks is there.
+/// Whether the sender is there.
 pub(crate) fn is_known(config: &Config, actor: &Actor) -> bool
     ensures { result ≡ is_known config.now actor.now }
 {
@@ -77,7 +77,7 @@ fn is_named(suppliers: &[Supplier], name: Name) -> bool
     suppliers.iter().any(|supplier| name == supplier.name)
 }
 
-// Carries out a request that was checked under the cluster's parameters, of an actor that is there.
+// Carries out a request that was checked under the cluster's parameters. Its sender is there.
 fn act<R: Lender>(
     alloc: Global,
     records: &mut R,

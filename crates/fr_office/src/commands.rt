@@ -1,4 +1,4 @@
-//! Carries commands out, each by its kind.
+//! Carries commands out, by their kinds.
 ghost use Rattle.fr_base.specs.Step.{perform};
 ghost use Rattle.fr_office.specs.Carried.{LeavesDone, Performs};
 ghost use Rattle.fr_office.specs.Decided.{FromKnown, IsCheckedCommand};
@@ -17,8 +17,9 @@ use crate::lender::Lender;
 use fr_base::{Command, Refusal};
 use std::alloc::Global;
 
-/// Carries out a command whose values were checked under the cluster's parameters. Who changes a frame is
-/// there. It is refused as the register refuses it, or with `Unavailable`, and then nothing was done.
+/// Carries out a command whose values were checked under the cluster's parameters. A supplier that
+/// changes a frame is there. The command is refused as the register refuses it, or by
+/// `Unavailable`. Then nothing was done.
 pub(crate) fn carry_out<R: Lender>(
     alloc: Global,
     records: &mut R,

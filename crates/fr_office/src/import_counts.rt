@@ -1,4 +1,4 @@
-//! How many imports suppliers keep, known so that they need not be counted for each import.
+//! How many imports suppliers keep. A count that is known need not be read for each import.
 ghost use Rattle.std.specs.Prelude.{◌≡◌, ℕ, List, [], not};
 ghost use Rattle.fr_base.specs.Book.{Book, own};
 ghost use Rattle.fr_base.specs.Tables.{len};
@@ -36,7 +36,7 @@ impl Model for ImportCounts {
 }
 
 impl ImportCounts {
-    /// Of no supplier is it known.
+    /// Counts of which none is known.
     pub(crate) fn new(alloc: Global) -> ImportCounts
         ensures { result ≡ [] }
     {
@@ -53,14 +53,14 @@ impl ImportCounts {
         Some(count.imports)
     }
 
-    /// Notes how many the supplier keeps. Where memory is refused it is not known.
+    /// Notes how many imports the supplier keeps. Where memory is refused the count is not known.
     pub(crate) fn note(&mut self, supplier: Name, imports: usize)
         ensures { (b : Book) → AreCounted b self.old → imports ≡ len (own supplier b.imports) → AreCounted b self.new }
     {
         let _ = self.counts.push(ImportCount { supplier, imports });
     }
 
-    /// Counts one import of the supplier more.
+    /// Counts one more import of the supplier.
     pub(crate) fn add_one(&mut self, supplier: Name)
         ensures { (p : Params) (b : Book) (label variant : NameText) (body : List ℕ) (rows : ℕ) → Fits p b (KeepImport supplier label variant body rows) → AreCounted b self.old → AreCounted (applied b (KeepImport supplier label variant body rows)) self.new }
     {
@@ -72,7 +72,7 @@ impl ImportCounts {
         }
     }
 
-    // Takes the supplier's count out.
+    // Takes the supplier's count out, if it is known.
     fn take(&mut self, supplier: Name) -> Option<usize>
         ensures value { result ≡ count_of supplier self.old }
         ensures others { self.new ≡ counts_without supplier self.old }

@@ -1,4 +1,4 @@
-//! Carries an import out, or answers it again.
+//! Carries an import out, or answers it once more.
 #![tactic(auto, using(fr_world::proofs::ReadLaws::reads_none, fr_world::proofs::ReadLaws::reads_then))]
 
 ghost use Rattle.std.specs.Prelude.{◌≡◌, IfSome, IsSome, OnOk, false};
@@ -17,9 +17,9 @@ use fr_world::{
 };
 use std::alloc::Global;
 
-/// Carries out an import with checked names, of a supplier that is there. One that is kept under its
-/// label is answered as before. Of a new one the variant, the room for it and its rows are decided in
-/// turn, and it is kept with what its rows change.
+/// Carries out an import with checked names, of a supplier that is there. An import that is kept
+/// under its label is answered as before. For a new one the variant, the room for it and its rows
+/// are decided in turn. It is kept together with what its rows change.
 pub(crate) fn import<R: Lender>(
     alloc: Global,
     records: &mut R,
@@ -39,7 +39,7 @@ pub(crate) fn import<R: Lender>(
     import_rows(alloc, records, import)
 }
 
-// How many rows the import has, where it is kept under its label.
+// How many rows the import has, if it is kept under its label.
 fn rows_kept<R: Records>(
     alloc: Global,
     records: &mut R,
@@ -53,8 +53,8 @@ fn rows_kept<R: Records>(
     decide_label(kept.as_ref(), import)
 }
 
-// Carries out the rows of the import's file, as they are decided on a copy of the page that is lent, and keeps it; or
-// tells the first row that is refused.
+// Carries out the rows of the import's file and keeps the import, or tells the first row that is
+// refused. The rows are decided on a copy of the page that is lent.
 fn import_rows<R: Lender>(
     alloc: Global,
     records: &mut R,
@@ -82,8 +82,8 @@ fn import_rows<R: Lender>(
     }
 }
 
-// Carries out the edits that led from the page that is lent to the draft's, and one more that keeps the import with this
-// count of rows. The draft's page is lent then.
+// Carries out the edits that led from the page that is lent to the draft's, and one more, which
+// keeps the import with this count of rows. Then the draft's page is the one that is lent.
 fn keep<R: Lender>(
     alloc: Global,
     records: &mut R,

@@ -1,4 +1,4 @@
-//! What is kept of a register in memory, and how it follows the register's edits.
+//! What is kept in memory of a register, and how it follows the register's edits.
 ghost use Rattle.std.specs.Prelude.{◌≡◌, [], None, Some, IfSome, IsSome};
 ghost use Rattle.fr_base.specs.Book.{Book};
 ghost use Rattle.fr_base.specs.Cluster.{Cluster};
@@ -15,7 +15,7 @@ use crate::pages::Pages;
 use fr_world::{Edit, Page};
 use std::alloc::Global;
 
-/// Pages of a register, and how many imports suppliers keep, as far as that is known.
+/// Pages of a register, and how many imports suppliers keep, as far as they are known.
 #[derive(Drop)]
 pub(crate) struct Kept {
     pub(crate) pages: Pages,
@@ -23,7 +23,7 @@ pub(crate) struct Kept {
 }
 
 impl Kept {
-    /// No page, and of no supplier is the number known.
+    /// No page and no count.
     pub(crate) fn new(alloc: Global) -> Kept
         ensures { result ≡ record { pages = record { lent = None; recent = []; earlier = [] }; counts = [] } }
     {
@@ -33,8 +33,9 @@ impl Kept {
         }
     }
 
-    /// Goes on to the register after edits. The page that is lent takes those of its rows, one after another; where memory
-    /// is refused it is let go, as other pages are that they may change.
+    /// Follows the register's edits. The page that is lent takes those of its rows, one after
+    /// another. Where memory is refused it is let go. Other pages that the edits may change are let
+    /// go too.
     pub(crate) fn follow(&mut self, alloc: Global, edits: &[Edit])
         requires takes { IfSome self.old.pages.lent (λ page. TakesAll page edits.now) }
         ensures others { none_lent self.new.pages ≡ untouched_by edits.now (none_lent self.old.pages) }
@@ -47,8 +48,8 @@ impl Kept {
         }
     }
 
-    /// Goes on to the register after edits that lead from the page that is lent to this one. It is lent then, and other
-    /// pages that they may change are let go.
+    /// Follows the register's edits, which lead from the page that is lent to this one. Then this
+    /// one is lent, and other pages that the edits may change are let go.
     pub(crate) fn follow_to(&mut self, alloc: Global, edits: &[Edit], page: Page)
         requires lent { IsSome self.old.pages.lent }
         requires leads { IfSome self.old.pages.lent (λ before. LeadsTo before edits.now page) }
@@ -58,14 +59,14 @@ impl Kept {
         ensures fresh { (c : Cluster) (b : Book) → AllFit c.params b edits.now → AreFresh c.params b self.old.pages → AreFresh c.params (all_applied b edits.now) self.new.pages }
         ensures counted { (p : Params) (b : Book) → AllFit p b edits.now → AreCounted b self.old.counts → AreCounted (all_applied b edits.now) self.new.counts }
     {
-        // Gives the proof that the rows are a page's.
+        // Gives the proof that a page may have the rows.
         let _frames = page.frames();
         self.pages.lend_read(None);
         self.follow(alloc, edits);
         self.pages.lend_read(Some(page));
     }
 
-    // Goes on to the register after the edit.
+    // Follows one edit of the register.
     fn follow_one(&mut self, alloc: Global, edit: &Edit)
         requires takes { IfSome self.old.pages.lent (λ page. MayTake page.variant (own_rows_of page) edit.now) }
         ensures pages { AreFollowed edit.now self.old.pages self.new.pages }

@@ -10,7 +10,8 @@ use fr_base::{Name, Refusal};
 use fr_world::{Edit, Page, Records};
 use std::alloc::Global;
 
-/// Records that lend one page at a time. It stays with them, so that none is lost, whatever comes of the request.
+/// Records that lend one page at a time. The page stays with them, so it is not lost, whatever
+/// comes of the request.
 pub trait Lender: Records {
     ghost use Rattle.fr_office.specs.Decided.{LeadsTo, TakesAll};
     ghost use Rattle.fr_world.specs.Held.{Applies, LeavesEdited, Reads, Tells, page_of};
@@ -19,8 +20,9 @@ pub trait Lender: Records {
     /// The page that is lent, if one is.
     ghost lent: { Self → Option PageData };
 
-    /// Lends the supplier's page of the variant in place of the one that was lent before, and says whether the variant
-    /// is there. Where it is not, no page is lent. A page has the cluster's parameters.
+    /// Lends the supplier's page of the variant, and says whether the variant is there. The page
+    /// that was lent before is lent no more. Where the variant is not there, no page is lent. A
+    /// page has the cluster's parameters.
     fn lend(&mut self, alloc: Global, supplier: Name, variant: Name) -> Result<bool, Refusal>
         ensures reads { Reads Self.clean Self.params Self.leaves self.old self.new }
         ensures there { IfOk result (λ there. there ≡ is_some (lent self.new)) }
@@ -32,8 +34,8 @@ pub trait Lender: Records {
         requires { IsSome (lent self.now) }
         ensures { lent self.now ≡ Some result.now };
 
-    /// Carries out the edits as `apply` does. The page that is lent takes them, one after another, but for those that
-    /// keep an import.
+    /// Carries out the edits as `apply` does. They are such as the page that is lent takes, one after another, but for those
+    /// that keep an import. Which page is lent then, no clause says.
     fn change(&mut self, alloc: Global, edits: &[Edit]) -> Result<(), Refusal>
         requires takes { IfSome (lent self.old) (λ page. TakesAll page edits.now) }
         ensures falls { Self.clean self.new → Self.clean self.old }
@@ -42,8 +44,8 @@ pub trait Lender: Records {
         ensures leaves { Self.clean self.new → LeavesEdited (Self.stands self.old) (Self.leaves self.old) (Self.leaves self.new) edits.now }
         ensures applies { Self.clean self.new → Applies (Self.stands self.old) (Self.stands self.new) result edits.now };
 
-    /// Carries out the edits as `apply` does. They lead from the page that is lent to this one, which is lent then: no
-    /// edit is made in a page once more.
+    /// Carries out the edits as `apply` does. They lead from the page that is lent to this one, so that no edit has to be made
+    /// in a page once more. Which page is lent then, no clause says.
     fn change_to(&mut self, alloc: Global, edits: &[Edit], page: Page) -> Result<(), Refusal>
         requires lent { IsSome (lent self.old) }
         requires leads { IfSome (lent self.old) (λ before. LeadsTo before edits.now page) }
@@ -54,7 +56,8 @@ pub trait Lender: Records {
         ensures applies { Self.clean self.new → Applies (Self.stands self.old) (Self.stands self.new) result edits.now };
 }
 
-/// Lends the supplier's page of the variant, where the variant is open. Else `NoVariant`, `Released`.
+/// Lends the supplier's page of the variant, where the variant is open. Refusals: `NoVariant`,
+/// `Released`.
 pub(crate) fn open_page<R: Lender>(
     alloc: Global,
     records: &mut R,

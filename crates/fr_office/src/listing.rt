@@ -1,4 +1,4 @@
-//! The variants of the register, listed for who asks.
+//! The variants of the register, listed for a sender.
 ghost use Rattle.fr_office.specs.Listing.{Lists};
 ghost use Rattle.fr_world.specs.Held.{Reads};
 
@@ -8,7 +8,7 @@ use fr_world::Records;
 use std::alloc::Global;
 
 /// The variants, by name. They are common to all suppliers, so each of them is told of all. `UnknownKey` where who
-/// asks is not there; `Unavailable` where who asks is there, and memory is refused or the records are.
+/// asks is not there; `Unavailable` comes only where who asks is there.
 pub fn list_variants<R: Records>(
     alloc: Global,
     records: &mut R,

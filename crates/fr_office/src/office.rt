@@ -1,4 +1,4 @@
-//! The office of a register, which answers one request, or a list of them.
+//! The office of a register. It answers one request, or a list of them.
 ghost use Rattle.std.specs.Prelude.{◌≡◌, ◌<◌, [], None, length, IfOk, IfErr};
 ghost use Rattle.fr_base.specs.Actors.{actor_of};
 ghost use Rattle.fr_base.specs.Book.{Book, file_of};
@@ -21,7 +21,7 @@ use std::alloc::Global;
 use std::marker::Model;
 
 /// The office of a register, which answers requests from its records. It keeps pages of them in memory, the one that
-/// was used last and others of at most twice [`MAX_BYTES`](crate::MAX_BYTES), and none that is stale.
+/// was used last and others of at most twice [`MAX_BYTES`](crate::MAX_BYTES) by its own count, and none that is stale.
 pub struct Office<R: Records> {
     warm: Warm<R>,
 }
@@ -60,7 +60,7 @@ impl<R: Records> Desk for Office<R> {
 }
 
 impl<R: Records> Office<R> {
-    /// The office of the register that has these records. No page is kept yet.
+    /// The office of the register that has these records, with no page kept yet.
     pub fn new(alloc: Global, records: R) -> Office<R>
         ensures value { result ≡ record { records = records; pages = record { lent = None; recent = []; earlier = [] }; counts = [] } }
         ensures stands { (c : Cluster) (b : Book) → R.stands records c b → StandsWarm R.stands result c b }
@@ -85,14 +85,13 @@ impl<R: Records> Office<R> {
         self.warm.config().actor_of(key.as_bytes())
     }
 
-    /// Answers a request of a sound register by one step of it; or the answer is `Unavailable`, only
-    /// where who asks is known and nothing in the request itself refuses it, and the rows stay. Who is
-    /// not there is answered `UnknownKey`.
+    /// Answers a request of a sound register by one step of it. Or the answer is `Unavailable`, and
+    /// the rows stay: that comes only where the sender is known and the request itself gives no
+    /// cause for a refusal. A sender that is not there is answered `UnknownKey`.
     ///
-    /// Until it answers, a crash leaves what it would have left before, or the register after the step. Where it
-    /// answers `Done`, `Replaced`, or `Imported` to an import that is new, a crash leaves the register after the step,
-    /// and no other.
-    /// So where a crash left the register with all that was answered, or after one request more, it still does.
+    /// A crash then leaves what it would have left before, or the register after the step. Where the answer is `Done`,
+    /// `Replaced`, or `Imported` to an import that is new, a crash leaves the register after the step, and no other. So where
+    /// a crash left the register with all that was answered, or after one request more, it still does.
     pub fn ask(&mut self, alloc: Global, ask: &Ask) -> Answer
         ensures falls { R.clean self.new.records → R.clean self.old.records }
         ensures answers { R.clean self.new.records → Answers (StandsWarm R.stands self.old) (StandsWarm R.stands self.new) ask.now result }
@@ -104,8 +103,8 @@ impl<R: Records> Office<R> {
         answer(alloc, &mut self.warm, ask)
     }
 
-    /// What a request is answered while the register's rows are not to be had: it is refused, as a step may
-    /// refuse it, or as `Unavailable`.
+    /// The answer to a request while the register's rows cannot be had: the refusal that a step
+    /// gives, or `Unavailable`.
     pub fn decline(&self, ask: &Ask) -> Answer
         ensures refused { (refusal : Refusal) × (result ≡ Answer.Refused refusal) }
         ensures answers { Answers (StandsWarm R.stands self.now) (StandsWarm R.stands self.now) ask.now result }
@@ -114,7 +113,7 @@ impl<R: Records> Office<R> {
         decline(&self.warm, ask)
     }
 
-    /// What a cluster file says of the register's cluster now: the suppliers are those that are there.
+    /// What a cluster file says of the register's cluster now, with the suppliers that are there.
     pub fn config(&self) -> &Config
         ensures { (c : Cluster) (b : Book) → StandsWarm R.stands self.now c b → result.now ≡ file_of c b }
     {
@@ -122,8 +121,7 @@ impl<R: Records> Office<R> {
     }
 
     /// The variants of the register, by name, as who asks is told: all of them, since they are common to all suppliers.
-    /// `UnknownKey` where who asks is not there; `Unavailable` where who asks is there, and memory is refused or the
-    /// records are.
+    /// `UnknownKey` where who asks is not there; `Unavailable` comes only where who asks is there.
     pub fn variants(&mut self, alloc: Global, actor: &Actor) -> Result<Vec<VariantRow>, Refusal>
         ensures reads { Reads R.clean R.params R.leaves self.old.records self.new.records }
         ensures lists { R.clean self.new.records → Lists (StandsWarm R.stands self.old) (StandsWarm R.stands self.new) actor.now result }
@@ -133,15 +131,16 @@ impl<R: Records> Office<R> {
         list_variants(alloc, &mut self.warm, actor)
     }
 
-    /// Answers requests one after another. The room for an answer is got before its request is asked;
-    /// where there is none, `Stopped` has the answers to those before.
+    /// Answers requests one after another. Before it asks a request it makes room for the answer.
+    /// Where there is no room, `Stopped` has the answers to the requests before.
     ///
-    /// Whatever is asked of a sound register, and by whom: each supplier is answered as by a register
-    /// that holds it alone, and after each request at most one frame is sent in a cycle, slot and channel
-    /// of a variant, by the node that holds the grant.
+    /// Whatever is asked of a sound register, and by whomever, each supplier is answered as by a
+    /// register that holds it alone. After each request at most one frame is sent in a cycle, slot
+    /// and channel of a variant, by the node that holds the grant.
     ///
-    /// Of a register that a crash would have left as it stood, a crash then leaves it as it stands now, with all
-    /// that was answered; or after one request more, which was answered `Unavailable`.
+    /// If a crash would have left the register as it stood, a crash then leaves it as it stands
+    /// now, with all that was answered, or after one more request, which was answered
+    /// `Unavailable`.
     pub fn run(&mut self, alloc: Global, asks: &[Ask]) -> Result<Vec<Answer>, Stopped>
         ensures falls { R.clean self.new.records → R.clean self.old.records }
         ensures each { IfOk result (λ answers. length answers.items ≡ length asks.now) }

@@ -1,5 +1,5 @@
-//! Pages of the register that are kept in memory, so that they need not be read for each request. Which of them are let
-//! go.
+//! Pages of the register that are kept in memory, so that they need not be read for each request;
+//! and which of them are let go.
 ghost use Rattle.std.specs.Prelude.{◌≡◌, ◌+◌, ◌≤◌, [], None, Some, IfSome, IsSome, OnErr, OnOk, is_some, not, sum_by};
 ghost use Rattle.fr_base.specs.Book.{Book};
 ghost use Rattle.fr_base.specs.Names.{same_text};
@@ -16,8 +16,9 @@ use std::alloc::Global;
 use std::marker::Model;
 use std::mem::swap;
 
-/// The page that is lent, which was used last; the pages that were used before it, on one shelf; and on another those
-/// that were used before them. Once the one is full the other is emptied, and they change places.
+/// The page that is lent, which was used last. The pages that were used before it lie on one shelf,
+/// those that were used before these on another. When the first shelf is full, the second is
+/// emptied and they change places.
 #[derive(Drop)]
 pub(crate) struct Pages {
     lent: Option<Page>,
@@ -56,7 +57,8 @@ impl Pages {
         }
     }
 
-    /// Lends the supplier's page of the variant where it is kept, and says whether it is. Else no page is lent.
+    /// Lends the supplier's page of the variant, if it is kept, and says whether it is. Else no
+    /// page is lent.
     pub(crate) fn lend(&mut self, supplier: Name, variant: Name) -> bool
         ensures told { result ≡ is_some self.new.lent }
         ensures page { self.new.lent ≡ kept_at supplier variant self.old }
@@ -73,7 +75,7 @@ impl Pages {
         self.lent.is_some()
     }
 
-    // Whether it is the supplier's page of the variant that is lent.
+    // Whether the page that is lent is the supplier's page of the variant.
     fn lends(&self, supplier: Name, variant: Name) -> bool
         ensures { result ≡ is_some (lent_at supplier variant self.now.lent) }
     {
@@ -83,14 +85,15 @@ impl Pages {
         }
     }
 
-    /// Lends this page, which was read; or none.
+    /// Lends this page, which was just read, or no page.
     pub(crate) fn lend_read(&mut self, page: Option<Page>)
         ensures { self.new ≡ record self.old { lent = page } }
     {
         self.lent = page;
     }
 
-    // Takes the supplier's page of the variant from the shelves, where it is there. None is there then.
+    // Takes the supplier's page of the variant from the shelves, if it is there. Then they have
+    // none.
     fn take(&mut self, supplier: Name, variant: Name) -> Option<Page>
         ensures value { result ≡ shelved_at supplier variant self.old }
         ensures others { self.new ≡ kept_without supplier variant self.old }
@@ -100,8 +103,9 @@ impl Pages {
         recent.or(earlier)
     }
 
-    /// Puts the page that was lent among those that were used before it. Where these take too much then, those that were
-    /// used before them are let go. The page is given up where memory is refused.
+    /// Puts the page that was lent among the pages that were used before it. Where these take too
+    /// much then, those that were used before them are let go. Where memory is refused, the page is
+    /// given up.
     pub(crate) fn put_away(&mut self) -> Result<(), NoMemory>
         ensures ok { OnOk result (self.new ≡ put_away self.old) }
         ensures err { OnErr result (self.new ≡ given_up self.old) }
@@ -115,8 +119,8 @@ impl Pages {
         }
     }
 
-    // Empties the shelf of the pages that were used last where so many bytes have no room on it: these are
-    // those that were used before then.
+    // Empties the shelf of the pages that were used last, if so many bytes have no room on it. Its
+    // pages are then those that were used before.
     fn make_room(&mut self, bytes: usize)
         requires { bytes ≤ MAX_BYTES }
         ensures value { self.new ≡ with_room bytes self.old }
@@ -154,8 +158,9 @@ impl Pages {
         self.earlier.let_go_of_supplier(supplier);
     }
 
-    /// Makes the edit, which is of the supplier's rows in the variant, in the page that is lent. Where memory is refused it
-    /// is let go, as is theirs that lies on a shelf.
+    /// Makes the edit of the supplier's rows in the variant in the page that is lent. Where memory
+    /// is refused, that page is let go. The supplier's page of the variant on a shelf is let go
+    /// too.
     pub(crate) fn amend(&mut self, alloc: Global, supplier: Name, variant: Name, edit: &Edit)
         requires takes { IfSome self.old.lent (λ page. Takes page.variant (own_rows_of page) edit.now) }
         ensures lent { Amends edit.now self.old.lent self.new.lent }
@@ -166,7 +171,7 @@ impl Pages {
     }
 }
 
-// The page, if there is one, with the edit made in it. Where memory is refused the page is given up.
+// The page, if there is one, after the edit. Where memory is refused, the page is given up.
 fn amended(page: Option<Page>, alloc: Global, edit: &Edit) -> Option<Page>
     requires takes { IfSome page (λ page. Takes page.variant (own_rows_of page) edit.now) }
     ensures { Amends edit.now page result }
@@ -175,7 +180,7 @@ fn amended(page: Option<Page>, alloc: Global, edit: &Edit) -> Option<Page>
     if page.amend(alloc, edit).is_err() {
         return None;
     }
-    // Gives the proof that the rows are a page's.
+    // Gives the proof that a page may have the rows.
     let _frames = page.frames();
     Some(page)
 }

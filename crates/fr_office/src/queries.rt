@@ -1,4 +1,4 @@
-//! Answers queries: by what the register holds, from one supplier's page, or gathered from all.
+//! Answers queries: by what the register holds, by one supplier's page, or by the pages of all.
 #![tactic(auto, using(fr_world::proofs::ReadLaws::reads_none, fr_world::proofs::ReadLaws::reads_then))]
 
 ghost use Rattle.std.specs.Prelude.{◌≡◌, IfSome, IsSome, IsTrue, Ok, OnOk};
@@ -39,9 +39,9 @@ use fr_base::{Actor, Answer, Inventory, Name, Query, Refusal, Report, ReportRows
 use fr_world::{Page, page_load, room};
 use std::alloc::Global;
 
-/// The answer to a query with checked values: to a supplier of its own rows, to the integrator of those
-/// of all. `NoVariant`, for a layout then `NoFrame`, and `Unavailable` where memory is refused or the
-/// records are.
+/// The answer to a query with checked values: to a supplier by its own rows, to the integrator by
+/// those of all suppliers. Refusals: `NoVariant`; for a layout then `NoFrame`; `Unavailable` where
+/// memory or the records are refused.
 pub(crate) fn reply<R: Lender>(
     alloc: Global,
     records: &mut R,
@@ -145,7 +145,7 @@ fn of_all<R: Lender>(
     }
 }
 
-// What the report shows the integrator of the variant, which is there.
+// What the report shows the integrator of a variant that is there.
 fn show_all<R: Lender>(
     alloc: Global,
     records: &mut R,
@@ -207,7 +207,7 @@ fn of_supplier<R: Lender>(
     show(alloc, records.lent(), report)
 }
 
-/// Lends the supplier's page of the variant; `NoVariant` where it is not there.
+/// Lends the supplier's page of the variant. `NoVariant` where the variant is not there.
 pub(crate) fn find_page<R: Lender>(
     alloc: Global,
     records: &mut R,
@@ -226,7 +226,7 @@ pub(crate) fn find_page<R: Lender>(
     }
 }
 
-// What the report shows the page's supplier.
+// What the report shows the supplier of this page.
 fn show(alloc: Global, page: &Page, report: &Report<Name>) -> Result<ReportRows, Refusal>
     requires { IsTrue (divides page.now.params report.now) }
     ensures { ShowsOwn page.now report.now result }

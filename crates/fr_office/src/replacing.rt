@@ -12,8 +12,8 @@ use fr_text::read_import;
 use fr_world::{Draft, Records, RowFault, decide_replacement, rows_are_checked};
 use std::alloc::Global;
 
-/// Carries out a replacement with checked names, of a supplier that is there. Its variant, its file's length and its rows
-/// are decided in turn. It is kept under no label.
+/// Carries out a replacement with checked names, of a supplier that is there. Its variant, its
+/// file's length and its rows are decided in turn. It is not kept.
 pub(crate) fn replace<R: Lender>(
     alloc: Global,
     records: &mut R,
@@ -40,8 +40,9 @@ fn admit_file(replacement: &Replacement<'_>) -> Result<(), Refusal>
     Ok(())
 }
 
-// Carries out the rows of the replacement's file, as they are decided on a copy of the page that is lent; or tells the
-// first row that is refused. Where they were carried out, the page that they left is lent then.
+// Carries out the rows of the replacement's file, or tells the first row that is refused. The rows
+// are decided on a copy of the page that is lent. Once they are carried out, the page that they
+// left is the one that is lent.
 fn replace_rows<R: Lender>(
     alloc: Global,
     records: &mut R,
@@ -69,7 +70,8 @@ fn replace_rows<R: Lender>(
     }
 }
 
-// Carries out the edits that led from the page that is lent to the draft's, which is lent then.
+// Carries out the edits that led from the page that is lent to the draft's. Then the draft's page
+// is the one that is lent.
 fn change_to_draft<R: Lender>(alloc: Global, records: &mut R, draft: Draft) -> Result<(), Refusal>
     requires lent { IsSome (R.lent records.old) }
     requires leads { IfSome (R.lent records.old) (λ page. LeadsTo page draft.edits.items draft.page) }

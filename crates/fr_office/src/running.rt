@@ -8,16 +8,16 @@ use crate::lender::Lender;
 use fr_base::{Answer, Ask};
 use std::alloc::Global;
 
-/// There was no memory for one more answer. The requests that were answered were carried out, and of
-/// the others none was asked.
+/// There was no memory for one more answer. The requests that were answered were carried out. No
+/// other request was asked.
 #[derive(Drop)]
 pub struct Stopped {
-    /// The answers to the requests before that.
+    /// The answers to the requests before.
     pub answers: Vec<Answer>,
 }
 
-/// Answers requests one after another. The room for an answer is got before its request is asked; where
-/// there is none, `Stopped` has the answers to those before.
+/// Answers requests one after another. Before it asks a request it makes room for the answer. Where
+/// there is no room, `Stopped` has the answers to the requests before.
 pub fn run<R: Lender>(alloc: Global, records: &mut R, asks: &[Ask]) -> Result<Vec<Answer>, Stopped>
     ensures falls { R.clean records.new → R.clean records.old }
     ensures each { IfOk result (λ answers. length answers.items ≡ length asks.now) }

@@ -1,4 +1,4 @@
-//! Pages by whose they are, and how many bytes they take.
+//! Pages by supplier and variant, and how many bytes they take.
 ghost use Rattle.std.specs.Prelude.{◌≡◌, ◌+◌, ◌≤◌, [], filter, not, sum_by, OnErr, OnOk};
 ghost use Rattle.fr_office.specs.KeptPages.{bytes_of, others_than, page_at, with_page};
 ghost use Rattle.std.specs.Map.{values_of};
@@ -10,7 +10,8 @@ use std::alloc::Global;
 use std::collections::BTreeMap;
 use std::marker::Model;
 
-/// The most bytes that the pages of a shelf take, 64 MiB, reckoned page by page.
+/// The most bytes that the pages of a shelf take, 64 MiB, reckoned page by page. No clause ties what is reckoned to what
+/// memory they have.
 pub const MAX_BYTES: usize = 67_108_864;
 
 /// The bytes that a page takes at most beside its frames and grants: its names, its nodes, and its place on the shelf.
@@ -28,7 +29,7 @@ const MOST_FRAMES: usize = 256;
 /// The most grants of a page: of 1,023 slots on two channels.
 const MOST_GRANTS: usize = 2_046;
 
-/// Whose page it is.
+/// Whose page it is: a supplier's, in a variant.
 #[derive(Clone, Copy, PartialEq, Eq, PartialOrd, Ord)]
 struct PageKey {
     supplier: Name,
@@ -75,7 +76,7 @@ impl Shelf {
         self.bytes
     }
 
-    /// Takes the supplier's page of the variant out, where it is there. None is there then.
+    /// Takes the supplier's page of the variant out, if it is there. Then the shelf has none.
     pub(crate) fn take(&mut self, supplier: Name, variant: Name) -> Option<Page>
         ensures value { result ≡ page_at supplier variant self.old }
         ensures others { self.new ≡ others_than supplier variant self.old }
@@ -87,8 +88,8 @@ impl Shelf {
         Some(page)
     }
 
-    /// Puts a page in its place, and lets go of its supplier's in its variant that was there. The page is
-    /// given up where memory is refused.
+    /// Puts a page in its place, and lets go of the page that lay there. Where memory is refused,
+    /// the page is given up.
     pub(crate) fn put(&mut self, page: Page) -> Result<(), NoMemory>
         requires fits { sum_by bytes_of self.old + bytes_of page ≤ MAX_BYTES }
         ensures ok { OnOk result (self.new ≡ with_page page self.old) }

@@ -1,4 +1,4 @@
-//! Tells what would become of each row of a file.
+//! Tells the fate of each row of a file.
 #![tactic(auto, using(fr_world::proofs::ReadLaws::reads_none, fr_world::proofs::ReadLaws::reads_then))]
 
 ghost use Rattle.std.specs.Prelude.{◌≡◌, ◌⊎◌, Ok, Err, MatchResult};
@@ -12,8 +12,8 @@ use fr_text::read_rows;
 use fr_world::{Page, all_rows_are_checked, try_rows};
 use std::alloc::Global;
 
-/// What would become of each row of the file, on the rows of a supplier that is there. Its variant and its file's length
-/// are decided first. The records are only read.
+/// The fate of each row of the file, on the rows of a supplier that is there. First its variant and
+/// its file's length are decided. The records are only read.
 pub(crate) fn try_file<R: Lender>(
     alloc: Global,
     records: &mut R,
@@ -26,7 +26,7 @@ pub(crate) fn try_file<R: Lender>(
     tell_rows(alloc, records.lent(), trial)
 }
 
-// What is told on this page; `Limit`, where the file has more than 65,536 bytes.
+// The answer to the trial on this page. `Limit`, where the file has more than 65,536 bytes.
 #[tactic(auto, unfolding(crate::proofs::TrialLaws::told_open))]
 fn tell_rows(alloc: Global, page: &Page, trial: &Trial<'_>) -> Result<Answer, Refusal>
     ensures { MatchResult result (λ answer. told_on page.now trial.now ≡ Ok answer) (λ e. (e ≡ Unavailable) ⊎ (told_on page.now trial.now ≡ Err e)) }
@@ -41,7 +41,7 @@ fn tell_rows(alloc: Global, page: &Page, trial: &Trial<'_>) -> Result<Answer, Re
     })
 }
 
-// What becomes of each row of the file, on a copy of the page.
+// The fate of each row of the file, on a copy of the page.
 fn fates(alloc: Global, page: &Page, trial: &Trial<'_>) -> Result<Rows<FateRow>, Refusal>
     ensures { MatchResult result (λ fates. fates ≡ fates_on page.now trial.now) (λ e. e ≡ Unavailable) }
 {

@@ -1,5 +1,5 @@
-//! Records of which some pages are kept in memory, and how many imports suppliers keep: lent from there, changed with the
-//! records, let go.
+//! Records of which some pages are kept in memory, with counts of the imports that suppliers keep.
+//! Pages are lent from there, changed with the records, and let go.
 ghost use Rattle.std.specs.Prelude.{◌≡◌, [], None, IfOk};
 ghost use Rattle.fr_office.specs.KeptPages.{StandsWarm};
 
@@ -10,8 +10,8 @@ use fr_world::{Edit, KeptImport, Page, Records};
 use std::alloc::Global;
 use std::marker::Model;
 
-/// A register's records, and in memory pages of them and how many imports suppliers keep. None of that is
-/// stale: they stand for a book only where each kept page is the book's, and each count.
+/// A register's records, and in memory pages of them and counts of imports. None of these is stale:
+/// together they stand for a book only where each kept page is the book's, and each count is right.
 pub struct Warm<R: Records> {
     records: R,
     kept: Kept,
@@ -38,7 +38,7 @@ impl<R: Records + Drop> Drop for Warm<R> {
 }
 
 impl<R: Records> Warm<R> {
-    /// These records, without a page or a count.
+    /// These records, with no page and no count kept.
     pub fn new(alloc: Global, records: R) -> Warm<R>
         ensures { result ≡ record { records = records; pages = record { lent = None; recent = []; earlier = [] }; counts = [] } }
     {
@@ -108,7 +108,7 @@ impl<R: Records> Records for Warm<R> {
         self.records.import(alloc, supplier, label)
     }
 
-    // What is known is not counted again.
+    // A count that is known is not read again.
     fn imports(&mut self, alloc: Global, supplier: Name) -> Result<usize, Refusal> {
         if let Some(count) = self.kept.counts.of(supplier) {
             return Ok(count);
@@ -118,7 +118,7 @@ impl<R: Records> Records for Warm<R> {
         Ok(count)
     }
 
-    // No page is lent then, and those that the edits may change are let go.
+    // Then no page is lent, and the pages that the edits may change are let go.
     fn apply(&mut self, alloc: Global, edits: &[Edit]) -> Result<(), Refusal> {
         self.records.apply(alloc, edits)?;
         let _ = self.kept.pages.put_away();

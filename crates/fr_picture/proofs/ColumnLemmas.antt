@@ -1,51 +1,46 @@
 -- Columns in order, and one more.
-use Rattle.std.proofs.Common.{◌≡◌, ℕ, suc, length, ◌+◌, ◌≤◌, List, None, [], ◌∷◌, ◌++◌, refl, sym, ap, ◌∙◌, subst, arith}
+use Rattle.std.proofs.Common.{◌≡◌, ℕ, ◌+◌, ◌<◌, List, None, [], ◌∷◌, ◌++◌, length, get_or, take, map, refl, sym, ap, ◌∙◌, subst}
 use Rattle.std.specs.List.{All}
+use Rattle.std.proofs.lemmas.List.{map-append, take_more}
 use Rattle.std.proofs.lemmas.List.Elements.{All-push}
-use Rattle.fr_picture.specs.Places.{AreInOrder, AreNumbered, IsNumbered, OpensFirst}
+use Rattle.fr_picture.specs.Places.{AreInOrder, IsBehind, OpensFirst}
 use Rattle.fr_picture.specs.declared.drawing.columns.Place.{Place}
+use Rattle.fr_picture.specs.declared.drawing.marks.Shows.{Shows}
 use Rattle.fr_picture.specs.declared.drawing.marks.Shows.TheVariants.{Nothing}
 
--- where the last column ends
-unfoldable pub end_of : List Place → ℕ
-end_of [] = 0
-end_of (p ∷ []) = p.x + p.width
-end_of (p ∷ q ∷ columns) = end_of (q ∷ columns)
+-- where the last column ends, or what is before the columns
+unfoldable pub end_of : ℕ → List Place → ℕ
+end_of at [] = at
+end_of at (p ∷ columns) = end_of (p.x + p.width) columns
 
-pub end_of-none : end_of [] ≡ 0
+pub end_of-none : (at : ℕ) → end_of at [] ≡ at
 unfolding end_of
-end_of-none = refl
+end_of-none at = refl
 
-pub end_of-push : (columns : List Place) (q : Place) → end_of (columns ++ q ∷ []) ≡ q.x + q.width
+end_of-push : (at : ℕ) (columns : List Place) (q : Place) → end_of at (columns ++ q ∷ []) ≡ q.x + q.width
 unfolding end_of
-end_of-push [] q = refl
-end_of-push (p ∷ []) q = refl
-end_of-push (p ∷ r ∷ columns) q = end_of-push (r ∷ columns) q
+end_of-push at [] q = refl
+end_of-push at (p ∷ columns) q = end_of-push (p.x + p.width) columns q
 
-pub in_order-push : (columns : List Place) (q : Place) → AreInOrder columns → (q.opens ≡ None → end_of columns ≤ q.x) → AreInOrder (columns ++ q ∷ [])
+in_order-push : (end at : ℕ) (columns : List Place) (q : Place) → AreInOrder end at columns → IsBehind end (end_of at columns) q → AreInOrder end at (columns ++ q ∷ [])
 unfolding end_of
-in_order-push [] q h f = tt
-in_order-push (p ∷ []) q h f = (f, tt)
-in_order-push (p ∷ r ∷ columns) q h f = (h.0, in_order-push (r ∷ columns) q h.1 f)
-
-pub ruleset in_order = (end_of-none, end_of-push, in_order-push)
+in_order-push end at [] q h behind = (behind, tt)
+in_order-push end at (p ∷ columns) q h behind = (h.0, in_order-push end (p.x + p.width) columns q h.1 behind)
 
 -- a loop's step: the columns so far, and one more
-pub last_more : (columns new : List Place) (q : Place) → new ≡ columns ++ q ∷ [] → end_of new ≤ q.x + q.width
-last_more columns new q after = omega (arith, ap end_of after ∙ end_of-push columns q)
+pub last_more : (at : ℕ) (columns new : List Place) (q : Place) → new ≡ columns ++ q ∷ [] → end_of at new ≡ q.x + q.width
+last_more at columns new q after = ap (end_of at) after ∙ end_of-push at columns q
 
-pub order_more : (columns new : List Place) (q : Place) (end : ℕ) → new ≡ columns ++ q ∷ [] → end_of columns ≤ end → (q.opens ≡ None → q.x ≡ end) → AreInOrder columns
-    → AreInOrder new
-order_more columns new q end after last behind h =
-    subst AreInOrder (sym after) (in_order-push columns q h (λ shut. omega (arith, last, behind shut)))
+pub order_more : (end at : ℕ) (columns new : List Place) (q : Place) (last : ℕ) → new ≡ columns ++ q ∷ [] → end_of at columns ≡ last → IsBehind end last q → AreInOrder end at columns
+    → AreInOrder end at new
+order_more end at columns new q last after ends behind h =
+    subst (AreInOrder end at) (sym after) (in_order-push end at columns q h (subst (λ n. IsBehind end n q) (sym ends) behind))
 
-numbered-push : (columns : List Place) (s slot : ℕ) (q : Place) → s + length columns ≡ slot → IsNumbered slot q → AreNumbered s columns → AreNumbered s (columns ++ q ∷ [])
-numbered-push [] s slot q at here h = (subst (λ k. IsNumbered k q) (omega (arith, at)) here, tt)
-numbered-push (p ∷ columns) s slot q at here h = (h.0, numbered-push columns (suc s) slot q (omega (arith, at)) here h.1)
-
-pub numbered_more : (columns new : List Place) (q : Place) (slot : ℕ) → new ≡ columns ++ q ∷ [] → length columns + 1 ≡ slot → IsNumbered slot q → AreNumbered 1 columns → AreNumbered 1 new
-numbered_more columns new q slot after size here h =
-    subst (AreNumbered 1) (sym after) (numbered-push columns 1 slot q (omega (arith, size)) here h)
+pub shown_more : (shown : List Shows) (i : ℕ) (d : Shows) (columns new : List Place) (q : Place) → i < length shown → new ≡ columns ++ q ∷ [] → q.shows ≡ get_or shown i d
+    → map (λ p. p.shows) columns ≡ take i shown → map (λ p. p.shows) new ≡ take (i + 1) shown
+shown_more shown i d columns new q small after this before =
+    ap (map (λ p. p.shows)) after ∙ map-append (λ p. p.shows) columns (q ∷ []) ∙ ap (λ ss. ss ++ q.shows ∷ []) before
+    ∙ ap (λ s. take i shown ++ s ∷ []) this ∙ sym (take_more shown i d small)
 
 -- before the first column that opens a part each shows nothing; where none opens one, this is so
 abbrev pub Until : Type 0 → List Place → Type 0

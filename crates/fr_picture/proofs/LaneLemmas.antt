@@ -1,5 +1,5 @@
 -- Lanes of which one is changed.
-use Rattle.std.proofs.Common.{◌≡◌, ◌≢◌, ◌⊎◌, inl, inr, cond, Bool, true, false, ℕ, ◌+◌, ◌<◌, ◌≤◌, zero, suc, List, [], ◌∷◌, ◌++◌, length, get_or, take, refl, sym, ap, ◌∙◌, append_assoc, append-nil, arith, subst, zero-add}
+use Rattle.std.proofs.Common.{◌≡◌, ◌≢◌, ◌⊎◌, inl, inr, cond, Bool, true, false, ℕ, ◌+◌, ◌-◌, ◌<◌, ◌≤◌, filter, map, zero, suc, List, [], ◌∷◌, ◌++◌, length, get_or, take, refl, sym, ap, ◌∙◌, append_assoc, append-nil, arith, subst, zero-add}
 use Rattle.std.proofs.Math.ListN.{set}
 use Rattle.std.specs.List.{flat_map, All}
 use Rattle.std.specs.Vec.{vec_len}
@@ -9,9 +9,9 @@ use Rattle.std.proofs.lemmas.Bool.Decides.{eqb_tells}
 use Rattle.std.proofs.lemmas.List.Elements.{filter-append}
 use Rattle.std.proofs.Math.Dec.{eqb}
 use Rattle.std.proofs.lemmas.List.Elements.{All-nil, All-push}
-use Rattle.fr_picture.specs.Shown.{IsMarked, IsShown}
-use Rattle.fr_picture.proofs.MarkLemmas.{all_shown}
-use Rattle.fr_picture.specs.Places.{AreAt, AreHome, AreInOrder, AreNumbered, IsHome, IsNamed, IsWide, OpensFirst, shift_of, lane_of, place_on_a, place_on_b}
+use Rattle.fr_picture.specs.Places.{AreAt, AreHome, AreInOrder, IsHome, IsNamed, IsWide, OpensFirst, lane_width, shift_of, lane_of, place_on_a, place_on_b}
+use Rattle.fr_picture.specs.Shown.{is_used, shown_of}
+use Rattle.fr_picture.specs.declared.drawing.marks.Shows.{Shows}
 use Rattle.fr_picture.specs.declared.drawing.columns.Place.{Place}
 use Rattle.fr_picture.specs.declared.drawing.rectangle.Rectangle.{Rectangle}
 use Rattle.std.proofs.lemmas.Grind.{flat_map-append}
@@ -25,7 +25,7 @@ use Rattle.fr_base.specs.declared.channel.Channels.TheVariants.{AB}
 use Rattle.fr_base.specs.declared.params.Params.{Params}
 use Rattle.fr_picture.specs.declared.drawing.Drawing.{Drawing}
 use Rattle.fr_picture.specs.declared.drawing.lane.Lane.{Lane}
-use Rattle.fr_picture.specs.Lanes.{HaveMore, HaveStill, IsApart, IsDrawing, IsFilled, sent_in, lane_cells, drawn_cells, drawn_grants}
+use Rattle.fr_picture.specs.Lanes.{HaveMore, HaveStill, HoldMore, HoldStill, IsApart, IsDrawing, IsFilled, held_in, sent_in, lane_cells, lane_grants, drawn_cells, drawn_grants}
 
 same : {X : Type 0} (xs ys : List X) → xs ≡ ys → IsPermutation xs ys
 same xs ys e = subst (λ zs. IsPermutation xs zs) e (IsPermutation-refl xs)
@@ -64,7 +64,7 @@ cell_more ls k l d x small e = one_more lane_cells ls k l d x small e
 pub grants_stay : (ls : List Lane) (k : ℕ) (l d : Lane) → k < length ls → l.grants ≡ (get_or ls k d).grants
     → drawn_grants (set ls k l) ≡ drawn_grants ls
 unfolding drawn_grants
-grants_stay ls k l d small e = none_more (λ m. m.grants.items) ls k l d small (ap (λ g. g.items) e)
+grants_stay ls k l d small e = none_more lane_grants ls k l d small (ap (λ g. g.items) e)
 
 pub drawn_grants-none : drawn_grants [] ≡ []
 unfolding drawn_grants
@@ -78,8 +78,8 @@ drawn_cells-none = refl
 pub drawn_grants-more : (ls new : List Lane) (l : Lane) → new ≡ ls ++ l ∷ [] → l.grants.items ≡ [] → drawn_grants new ≡ drawn_grants ls
 unfolding drawn_grants
 drawn_grants-more ls new l after empty =
-    ap (λ ms. flat_map (λ m. m.grants.items) ms) after ∙ flat_map-append (λ m. m.grants.items) ls (l ∷ [])
-    ∙ ap (λ t. flat_map (λ m. m.grants.items) ls ++ t) (append-nil l.grants.items ∙ empty) ∙ append-nil (flat_map (λ m. m.grants.items) ls)
+    ap (λ ms. flat_map lane_grants ms) after ∙ flat_map-append lane_grants ls (l ∷ [])
+    ∙ ap (λ t. flat_map lane_grants ls ++ t) (append-nil l.grants.items ∙ empty) ∙ append-nil (flat_map lane_grants ls)
 
 nothing : (rs : List Rectangle) → rs ≡ [] → cells_in rs ≡ []
 unfolding cells_in
@@ -155,44 +155,71 @@ perm_more xs ys zs rows i x small read before now =
 pub grant_more : (ls : List Lane) (k : ℕ) (l d : Lane) (x : GrantRow) → k < length ls → l.grants.items ≡ (get_or ls k d).grants.items ++ x ∷ []
     → IsPermutation (drawn_grants (set ls k l)) (drawn_grants ls ++ x ∷ [])
 unfolding drawn_grants
-grant_more ls k l d x small e = one_more (λ m. m.grants.items) ls k l d x small e
+grant_more ls k l d x small e = one_more lane_grants ls k l d x small e
 
 pub cells_stay : (ls : List Lane) (k : ℕ) (l d : Lane) → k < length ls → l.rectangles ≡ (get_or ls k d).rectangles
     → drawn_cells (set ls k l) ≡ drawn_cells ls
 unfolding drawn_cells
 cells_stay ls k l d small e = none_more lane_cells ls k l d small (ap (λ g. cells_in g.items) e)
 
--- ---- the cells of each lane, in order
+-- ---- what each lane has, in order
 
-still_case : (ls : List Lane) (i k : ℕ) (l d e : Lane) → i < length ls → l.rectangles ≡ (get_or ls i d).rectangles → (k ≡ i) ⊎ (k ≡ i → ⊥)
-    → lane_cells (get_or (set ls i l) k e) ≡ lane_cells (get_or ls k e)
-still_case ls i k l d e small same (inl here) =
-    ap (λ j. lane_cells (get_or (set ls i l) j e)) here ∙ ap lane_cells (get_or-set_same ls i l e small) ∙ ap (λ rs. cells_in rs.items) same
-    ∙ ap lane_cells (get_or_default ls i d e small) ∙ ap (λ j. lane_cells (get_or ls j e)) (sym here)
-still_case ls i k l d e small same (inr other) = ap lane_cells (get_or-set_other ls i k l e other)
+module _ {X : Type 0} (has : Lane → List X) where
+  stays_case : (ls : List Lane) (i k : ℕ) (l d e : Lane) → i < length ls → has l ≡ has (get_or ls i d) → (k ≡ i) ⊎ (k ≡ i → ⊥) → has (get_or (set ls i l) k e) ≡ has (get_or ls k e)
+  stays_case ls i k l d e small same (inl here) =
+      ap (λ j. has (get_or (set ls i l) j e)) here ∙ ap has (get_or-set_same ls i l e small) ∙ same ∙ ap has (get_or_default ls i d e small) ∙ ap (λ j. has (get_or ls j e)) (sym here)
+  stays_case ls i k l d e small same (inr other) = ap has (get_or-set_other ls i k l e other)
+
+  stays_one : (ls : List Lane) (i k : ℕ) (l d e : Lane) → i < length ls → has l ≡ has (get_or ls i d) → has (get_or (set ls i l) k e) ≡ has (get_or ls k e)
+  stays_one ls i k l d e small same = stays_case ls i k l d e small same (cases_eq k i)
+
+  module _ (at : X → ℕ) where
+    -- of these rows those of lane k
+    abbrev OfLane : ℕ → List X → List X
+    OfLane k rows = filter (λ x. eqb (at x) k) rows
+
+    more_case : (ls : List Lane) (i k : ℕ) (l d e : Lane) (x : X) → i < length ls → i ≡ at x → has l ≡ has (get_or ls i d) ++ x ∷ []
+        → ((eqb (at x) k ≡ true) × (at x ≡ k)) ⊎ ((eqb (at x) k ≡ false) × (at x ≢ k)) → has (get_or (set ls i l) k e) ≡ has (get_or ls k e) ++ OfLane k (x ∷ [])
+    more_case ls i k l d e x small here more (inl own) =
+        let there : k ≡ i = sym (here ∙ own.1) in
+        ap (λ j. has (get_or (set ls i l) j e)) there ∙ ap has (get_or-set_same ls i l e small) ∙ more
+        ∙ ap (λ m. has m ++ x ∷ []) (get_or_default ls i d e small ∙ ap (λ j. get_or ls j e) (sym there))
+        ∙ ap (λ b. has (get_or ls k e) ++ cond b (x ∷ []) []) (sym own.0)
+    more_case ls i k l d e x small here more (inr other) =
+        ap has (get_or-set_other ls i k l e (λ there. other.1 (sym (there ∙ here)))) ∙ sym (append-nil (has (get_or ls k e)))
+        ∙ ap (λ b. has (get_or ls k e) ++ cond b (x ∷ []) []) (sym other.0)
+
+    more_one : (ls : List Lane) (i k : ℕ) (l d e : Lane) (x : X) → i < length ls → i ≡ at x → has l ≡ has (get_or ls i d) ++ x ∷ []
+        → has (get_or (set ls i l) k e) ≡ has (get_or ls k e) ++ OfLane k (x ∷ [])
+    more_one ls i k l d e x small here more = more_case ls i k l d e x small here more (eqb_tells (at x) k)
+
+    -- of the rows so far, and of one more
+    more_rows : (rows : List X) (i k : ℕ) (x : X) (old mid new : List X) → i < length rows → x ≡ get_or rows i x → mid ≡ old ++ OfLane k (take i rows) → new ≡ mid ++ OfLane k (x ∷ [])
+        → new ≡ old ++ OfLane k (take (i + 1) rows)
+    more_rows rows i k x old mid new small read before now =
+        now ∙ ap (λ t. t ++ OfLane k (x ∷ [])) before ∙ append_assoc old (OfLane k (take i rows)) (OfLane k (x ∷ []))
+        ∙ ap (λ t. old ++ t) (sym (filter-append (λ y. eqb (at y) k) (take i rows) (x ∷ [])))
+        ∙ ap (λ t. old ++ OfLane k t) (sym (take_more rows i x small ∙ ap (λ y. take i rows ++ y ∷ []) (sym read)))
 
 pub still_one : (ls : List Lane) (i k : ℕ) (l d e : Lane) → i < length ls → l.rectangles ≡ (get_or ls i d).rectangles
     → lane_cells (get_or (set ls i l) k e) ≡ lane_cells (get_or ls k e)
-still_one ls i k l d e small same = still_case ls i k l d e small same (cases_eq k i)
+still_one ls i k l d e small same = stays_one lane_cells ls i k l d e small (ap (λ rs. cells_in rs.items) same)
 
-turn_case : (ls : List Lane) (i k : ℕ) (l d e : Lane) (x : Sending) → i < length ls → i ≡ lane_of x.slot x.channel → lane_cells l ≡ lane_cells (get_or ls i d) ++ x ∷ []
-    → ((eqb (lane_of x.slot x.channel) k ≡ true) × (lane_of x.slot x.channel ≡ k)) ⊎ ((eqb (lane_of x.slot x.channel) k ≡ false) × (lane_of x.slot x.channel ≢ k))
-    → lane_cells (get_or (set ls i l) k e) ≡ lane_cells (get_or ls k e) ++ sent_in k (x ∷ [])
-unfolding sent_in
-turn_case ls i k l d e x small here more (inl own) =
-    let at : k ≡ i = sym (here ∙ own.1) in
-    ap (λ j. lane_cells (get_or (set ls i l) j e)) at ∙ ap lane_cells (get_or-set_same ls i l e small) ∙ more
-    ∙ ap (λ m. lane_cells m ++ x ∷ []) (get_or_default ls i d e small ∙ ap (λ j. get_or ls j e) (sym at))
-    ∙ ap (λ b. lane_cells (get_or ls k e) ++ cond b (x ∷ []) []) (sym own.0)
-turn_case ls i k l d e x small here more (inr other) =
-    ap lane_cells (get_or-set_other ls i k l e (λ at. other.1 (sym (at ∙ here)))) ∙ sym (append-nil (lane_cells (get_or ls k e)))
-    ∙ ap (λ b. lane_cells (get_or ls k e) ++ cond b (x ∷ []) []) (sym other.0)
+pub held_still_one : (ls : List Lane) (i k : ℕ) (l d e : Lane) → i < length ls → l.grants ≡ (get_or ls i d).grants
+    → lane_grants (get_or (set ls i l) k e) ≡ lane_grants (get_or ls k e)
+held_still_one ls i k l d e small same = stays_one lane_grants ls i k l d e small (ap (λ gs. gs.items) same)
 
 pub turn_one : (ls : List Lane) (i k : ℕ) (l d e : Lane) (x : Sending) → i < length ls → i ≡ lane_of x.slot x.channel → lane_cells l ≡ lane_cells (get_or ls i d) ++ x ∷ []
     → lane_cells (get_or (set ls i l) k e) ≡ lane_cells (get_or ls k e) ++ sent_in k (x ∷ [])
-turn_one ls i k l d e x small here more = turn_case ls i k l d e x small here more (eqb_tells (lane_of x.slot x.channel) k)
+unfolding sent_in
+turn_one ls i k l d e x small here more = more_one lane_cells (λ s. lane_of s.slot s.channel) ls i k l d e x small here more
 
--- a loop's step: the cells so far, and one more
+pub held_one : (ls : List Lane) (i k : ℕ) (l d e : Lane) (x : GrantRow) → i < length ls → i ≡ lane_of x.slot x.channel → l.grants.items ≡ (get_or ls i d).grants.items ++ x ∷ []
+    → lane_grants (get_or (set ls i l) k e) ≡ lane_grants (get_or ls k e) ++ held_in k (x ∷ [])
+unfolding held_in
+held_one ls i k l d e x small here more = more_one lane_grants (λ g. lane_of g.slot g.channel) ls i k l d e x small here more
+
+-- a loop's step: the rows so far, and one more
 pub turn_none : (ls : List Lane) (rows : List Sending) → HaveMore ls (take 0 rows) ls
 unfolding sent_in
 turn_none ls rows = λ k l small. sym (append-nil (lane_cells (get_or ls k l)))
@@ -201,12 +228,19 @@ pub turn_more : (old ls new : List Lane) (rows : List Sending) (i : ℕ) (x : Se
     → HaveMore old (take (i + 1) rows) new
 unfolding sent_in
 turn_more old ls new rows i x small read before now = λ k l within.
-    let had = lane_cells (get_or old k l) in
-    now k l within ∙ ap (λ t. t ++ sent_in k (x ∷ [])) (before k l within) ∙ append_assoc had (sent_in k (take i rows)) (sent_in k (x ∷ []))
-    ∙ ap (λ t. had ++ t) (sym (filter-append (λ s. eqb (lane_of s.slot s.channel) k) (take i rows) (x ∷ [])))
-    ∙ ap (λ t. had ++ sent_in k t) (sym (take_more rows i x small ∙ ap (λ y. take i rows ++ y ∷ []) (sym read)))
+    more_rows lane_cells (λ s. lane_of s.slot s.channel) rows i k x _ _ _ small read (before k l within) (now k l within)
 
-pub ruleset perms = (perm_none, perm_more, turn_none, turn_more)
+pub held_none : (ls : List Lane) (rows : List GrantRow) → HoldMore ls (take 0 rows) ls
+unfolding held_in
+held_none ls rows = λ k l small. sym (append-nil (lane_grants (get_or ls k l)))
+
+pub held_more : (old ls new : List Lane) (rows : List GrantRow) (i : ℕ) (x : GrantRow) → i < length rows → x ≡ get_or rows i x → HoldMore old (take i rows) ls → HoldMore ls (x ∷ []) new
+    → HoldMore old (take (i + 1) rows) new
+unfolding held_in
+held_more old ls new rows i x small read before now = λ k l within.
+    more_rows lane_grants (λ g. lane_of g.slot g.channel) rows i k x _ _ _ small read (before k l within) (now k l within)
+
+pub ruleset perms = (perm_none, perm_more, turn_none, turn_more, held_none, held_more)
 
 -- what all have none of, each has none of
 left_none : {X : Type 0} (xs ys : List X) → xs ++ ys ≡ [] → xs ≡ []
@@ -227,6 +261,12 @@ in_turn_of : (empty held full : List Lane) (sendings : List Sending) → length 
 unfolding drawn_cells
 in_turn_of empty held full sendings len0 len2 none still more k l small =
     more k l (omega (arith, small, len2)) ∙ ap (λ t. t ++ sent_in k sendings) (still k l ∙ each_none lane_cells empty k l (omega (arith, small, len0, len2)) none)
+
+held_in_turn_of : (empty held full : List Lane) (holds : List GrantRow) → length empty ≡ 2046 → length full ≡ 2046 → drawn_grants empty ≡ [] → HoldMore empty holds held → HoldStill held full
+    → (k : ℕ) (l : Lane) → k < length full → lane_grants (get_or full k l) ≡ held_in k holds
+unfolding drawn_grants
+held_in_turn_of empty held full holds len0 len2 none more still k l small =
+    still k l ∙ more k l (omega (arith, small, len2)) ∙ ap (λ t. t ++ held_in k holds) (each_none lane_grants empty k l (omega (arith, small, len0, len2)) none)
 
 -- ---- each in the lane of its slot and channel
 
@@ -273,37 +313,40 @@ home-more ls new l after no_grants no_rectangles h =
     ) in
     subst (AreHome 0) (sym after) (home-push ls 0 l alone h)
 
-pub drawing_of : (p : Params) (d : Drawing) (columns listed : List Place) (channels : Channels) (shift end width : ℕ) (marks : List Bool) (holds : List GrantRow) (cells : List Sending) (empty held : List Lane)
-    → channels ≡ p.channels → shift ≡ shift_of p.channels → end + shift ≡ 136 → (p.channels ≡ AB → shift ≡ end) → 2 ≤ width → d.scale ≡ record { cycles = p.cycles; height = p.cycles + 5; width = width }
-    → All (λ q. 4 ≤ q.x) columns → All (λ q. q.x + q.width ≤ end) columns → All (IsWide width) columns
-    → drawn_grants empty ≡ [] → drawn_cells empty ≡ [] → All IsApart empty → All IsFilled empty → AreHome 0 empty → length empty ≡ 2046 → vec_len d.lanes ≡ 2046 → HaveStill empty held → HaveMore held cells d.lanes.items → AreInOrder columns → AreNumbered 1 columns → OpensFirst columns → All IsNamed columns → listed ≡ columns → AreAt channels shift listed empty
-    → ((n : ℕ) → IsMarked marks n → IsShown columns n) → All (λ g. IsMarked marks g.slot) holds → All (λ s. IsMarked marks s.slot) cells
-    → IsPermutation (drawn_grants held) (drawn_grants empty ++ holds) → drawn_cells held ≡ drawn_cells empty → (All IsApart empty → All IsApart held) → (All IsFilled empty → All IsFilled held) → (AreHome 0 empty → AreHome 0 held)
-    → ((cs : Channels) (n : ℕ) (ps : List Place) → AreAt cs n ps empty → AreAt cs n ps held)
-    → IsPermutation (drawn_cells d.lanes.items) (drawn_cells held ++ cells) → drawn_grants d.lanes.items ≡ drawn_grants held → (All IsApart held → All IsApart d.lanes.items) → (All IsFilled held → All IsFilled d.lanes.items)
-    → (AreHome 0 held → AreHome 0 d.lanes.items) → ((cs : Channels) (n : ℕ) (ps : List Place) → AreAt cs n ps held → AreAt cs n ps d.lanes.items)
-    → IsDrawing p holds cells d
-drawing_of p d columns listed channels shift end width marks holds cells empty held own by whole both least scaled from ends wide g0 c0 a0 f0 h0 n0 n2 t1 t2 o0 b0 s0 l0 e0 p0 shown m1 m2 g1 c1 a1 f1 h1 p1 c2 g2 a2 f2 h2 p2 = record {
-  grants = subst (λ xs. IsPermutation xs holds) (sym g2) (subst (λ xs. IsPermutation (drawn_grants held) (xs ++ holds)) g0 g1);
-  cells = subst (λ xs. IsPermutation (drawn_cells d.lanes.items) (xs ++ cells)) (c1 ∙ c0) c2;
-  in_turn = in_turn_of empty held d.lanes.items cells n0 (omega (arith, d.lanes.ok, n2)) c0 t1 t2;
-  apart = a2 (a1 a0);
-  filled = f2 (f1 f0);
-  home = h2 (h1 h0);
-  columns = columns;
-  shift = shift;
-  shifted = by;
-  from = from;
-  within = λ k q small. omega (arith, ends k q small, whole);
-  order = o0;
-  numbered = b0;
-  opened = s0;
-  named = l0;
-  at = subst (λ cs. AreAt cs shift columns d.lanes.items) own (subst (λ ps. AreAt channels shift ps d.lanes.items) e0 (p2 channels shift listed (p1 channels shift listed p0)));
-  beside = λ ab. subst (λ n. All (λ q. q.x + q.width ≤ n) columns) (sym (both ab)) ends;
-  wide = subst (λ n. All (IsWide n) columns) (sym (ap (λ s. s.width) scaled)) wide;
-  room = subst (λ n. 2 ≤ n) (sym (ap (λ s. s.width) scaled)) least;
-  high = (ap (λ s. s.cycles) scaled, ap (λ s. s.height) scaled);
-  shown_grants = all_shown (λ g. g.slot) holds marks columns m1 shown;
-  shown_cells = all_shown (λ s. s.slot) cells marks columns m2 shown;
-}
+pub drawing_of : (p : Params) (d : Drawing) (columns listed : List Place) (channels : Channels) (shift end width : ℕ) (shown : List Shows) (holds : List GrantRow) (cells : List Sending) (empty held : List Lane)
+    → channels ≡ p.channels → shift ≡ shift_of p.channels → end + shift ≡ 136 → (p.channels ≡ AB → shift ≡ end) → d.scale ≡ record { cycles = p.cycles; height = p.cycles + 5; width = width }
+    → shown ≡ shown_of (is_used holds cells) p.static_slots → width ≡ lane_width (end - 4) shown
+    → map (λ q. q.shows) columns ≡ shown → AreInOrder end end columns → OpensFirst columns → All IsNamed columns → All (IsWide width) columns → All (λ q. 4 ≤ q.x) columns → All (λ q. q.x + q.width ≤ end) columns
+    → listed ≡ columns → length empty ≡ 2046 → drawn_grants empty ≡ [] → drawn_cells empty ≡ [] → All IsApart empty → All IsFilled empty → AreHome 0 empty → AreAt channels shift listed empty
+    → IsPermutation (drawn_grants held) (drawn_grants empty ++ holds) → drawn_cells held ≡ drawn_cells empty → HoldMore empty holds held → HaveStill empty held → (All IsApart empty → All IsApart held)
+    → (All IsFilled empty → All IsFilled held) → (AreHome 0 empty → AreHome 0 held) → ((cs : Channels) (n : ℕ) (ps : List Place) → AreAt cs n ps empty → AreAt cs n ps held)
+    → vec_len d.lanes ≡ 2046 → IsPermutation (drawn_cells d.lanes.items) (drawn_cells held ++ cells) → drawn_grants d.lanes.items ≡ drawn_grants held → HaveMore held cells d.lanes.items
+    → HoldStill held d.lanes.items → (All IsApart held → All IsApart d.lanes.items) → (All IsFilled held → All IsFilled d.lanes.items) → (AreHome 0 held → AreHome 0 d.lanes.items)
+    → ((cs : Channels) (n : ℕ) (ps : List Place) → AreAt cs n ps held → AreAt cs n ps d.lanes.items) → IsDrawing p holds cells d
+drawing_of p d columns listed channels shift end width shown holds cells empty held own by whole both scaled used least this o0 s0 l0 wide from ends e0 n0 g0 c0 a0 f0 h0 p0 g1 c1 t1 k1 a1 f1 h1 p1 n2 c2 g2 t2 k2 a2 f2 h2 p2 =
+    let last : end ≡ 136 - shift = omega (arith, whole) in
+    let space : end - 4 ≡ 132 - shift = omega (arith, whole) in
+    let size : length d.lanes.items ≡ 2046 = omega (arith, d.lanes.ok, n2) in
+    record {
+      grants = subst (λ xs. IsPermutation xs holds) (sym g2) (subst (λ xs. IsPermutation (drawn_grants held) (xs ++ holds)) g0 g1);
+      cells = subst (λ xs. IsPermutation (drawn_cells d.lanes.items) (xs ++ cells)) (c1 ∙ c0) c2;
+      held_in_turn = held_in_turn_of empty held d.lanes.items holds n0 size g0 t1 k2;
+      in_turn = in_turn_of empty held d.lanes.items cells n0 size c0 k1 t2;
+      apart = a2 (a1 a0);
+      filled = f2 (f1 f0);
+      home = h2 (h1 h0);
+      columns = columns;
+      shift = shift;
+      shifted = by;
+      shown = this ∙ used;
+      order = subst (λ n. AreInOrder n n columns) last o0;
+      opened = s0;
+      named = l0;
+      at = subst (λ cs. AreAt cs shift columns d.lanes.items) own (subst (λ ps. AreAt channels shift ps d.lanes.items) e0 (p2 channels shift listed (p1 channels shift listed p0)));
+      beside = λ ab. subst (λ n. All (λ q. q.x + q.width ≤ n) columns) (sym (both ab)) ends;
+      from = from;
+      within = λ k q small. omega (arith, ends k q small, whole);
+      wide = subst (λ n. All (IsWide n) columns) (sym (ap (λ s. s.width) scaled)) wide;
+      room = ap (λ s. s.width) scaled ∙ least ∙ ap (λ n. lane_width n shown) space ∙ ap (lane_width (132 - shift)) used;
+      high = (ap (λ s. s.cycles) scaled, ap (λ s. s.height) scaled);
+    }

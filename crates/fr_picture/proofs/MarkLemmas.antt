@@ -1,73 +1,128 @@
--- Slots that are marked, and columns that show them.
-use Rattle.std.proofs.Common.{◌≡◌, ℕ, zero, suc, ◌+◌, ◌-◌, ◌<◌, ◌≤◌, Bool, true, false, List, [], ◌∷◌, ◌++◌, length, get_or, take, refl, sym, ap, ◌∙◌, subst, arith, ◌⊎◌, inl, inr}
+-- Slots that are marked, and what is shown at their places.
+use Rattle.std.proofs.Common.{◌≡◌, ◌≢◌, ◌⊎◌, inl, inr, ℕ, suc, ◌+◌, ◌-◌, ◌<◌, ◌≤◌, Bool, true, false, not, ◌&&◌, ◌||◌, cond, List, [], ◌∷◌, ◌++◌, length, get_or, take, map, replicate, refl, sym, ap, ◌∙◌, arith}
+use Rattle.std.proofs.Math.Bool.{and-false, or_assoc, or-false, or-true}
+use Rattle.std.proofs.Math.Dec.{eqb, ltb}
 use Rattle.std.proofs.Math.ListN.{set}
-use Rattle.std.proofs.Math.Nat.{eq-or-lt_of_le}
-use Rattle.std.specs.List.{All}
-use Rattle.std.proofs.lemmas.List.{take_more, get_or-set_same, get_or_append_left, get_or-append_right}
-use Rattle.std.proofs.lemmas.List.Elements.{All-push}
-use Rattle.fr_picture.specs.Shown.{IsMarked, IsShown}
-use Rattle.fr_picture.specs.declared.drawing.columns.Place.{Place}
-use Rattle.fr_picture.specs.declared.drawing.marks.Shows.TheVariants.{Slot}
+use Rattle.std.specs.List.{list_any, range_with_len}
+use Rattle.std.proofs.lemmas.Bool.{cases_lt, le-ltb}
+use Rattle.std.proofs.lemmas.Bool.Decides.{eqb_tells}
+use Rattle.std.proofs.lemmas.List.{get_or_past, get_or-replicate, get_or-set_same, get_or-set_other, length-replicate}
+use Rattle.std.proofs.lemmas.List.Folds.{list_any_more}
+use Rattle.std.proofs.lemmas.List.FromFn.{map-range_with_len_more}
+use Rattle.fr_base.specs.declared.answer.GrantRow.{GrantRow}
+use Rattle.fr_base.specs.declared.answer.Sending.{Sending}
+use Rattle.fr_picture.specs.Places.{is_slot}
+use Rattle.fr_picture.specs.Shown.{first_free, is_used, shown_of, shows_at}
+use Rattle.fr_picture.specs.declared.drawing.marks.Shows.{Shows}
+use Rattle.fr_picture.specs.declared.drawing.marks.Shows.TheVariants.{Nothing, Slot, Gap}
 
-stays_true : (marks : List Bool) (n m : ℕ) → get_or marks m false ≡ true → get_or (set marks n true) m false ≡ true
-stays_true [] n m h = h
-stays_true (b ∷ bs) zero zero h = refl
-stays_true (b ∷ bs) zero (suc m) h = h
-stays_true (b ∷ bs) (suc n) zero h = h
-stays_true (b ∷ bs) (suc n) (suc m) h = stays_true bs n m h
+marked_case : (marks : List Bool) (k n : ℕ) → k < length marks → ((eqb k n ≡ true) × (k ≡ n)) ⊎ ((eqb k n ≡ false) × (k ≢ n))
+    → get_or (set marks k true) n false ≡ (get_or marks n false || eqb k n)
+marked_case marks k n small (inl own) =
+    ap (λ j. get_or (set marks k true) j false) (sym own.1) ∙ get_or-set_same marks k true false small
+    ∙ sym (ap (λ b. get_or marks n false || b) own.0 ∙ or-true (get_or marks n false))
+marked_case marks k n small (inr other) =
+    get_or-set_other marks k n true false (λ same. other.1 (sym same)) ∙ sym (ap (λ b. get_or marks n false || b) other.0 ∙ or-false (get_or marks n false))
 
-pub marked_others : (marks : List Bool) (n m : ℕ) → IsMarked marks m → IsMarked (set marks n true) m
-unfolding IsMarked
-marked_others marks n m h = (h.0, h.1, stays_true marks n m h.2)
+pub marked : (marks : List Bool) (k n : ℕ) → k < length marks → get_or (set marks k true) n false ≡ (get_or marks n false || eqb k n)
+marked marks k n small = marked_case marks k n small (eqb_tells k n)
 
-pub marked_here : (marks : List Bool) (n : ℕ) → 1 ≤ n → n < 1024 → n < length marks → IsMarked (set marks n true) n
-unfolding IsMarked
-marked_here marks n least most small = (least, most, get_or-set_same marks n true false small)
-
-pub ruleset marking = (marked_others, marked_here)
+pub ruleset marking = (marked)
 
 -- a loop's step: the rows so far are marked, and one more
-pub marked_none : {X : Type 0} (slot_of : X → ℕ) (rows : List X) (marks : List Bool) → All (λ x. IsMarked marks (slot_of x)) (take 0 rows)
-marked_none slot_of rows marks = λ k d small. absurd (omega (arith, small))
+pub marked_none : (old : Bool) → old ≡ (old || false)
+marked_none old = sym (or-false old)
 
-pub marked_more : {X : Type 0} (slot_of : X → ℕ) (rows : List X) (i : ℕ) (x : X) (old new : List Bool) → i < length rows → x ≡ get_or rows i x
-    → ((n : ℕ) → IsMarked old n → IsMarked new n) → IsMarked new (slot_of x) → All (λ x. IsMarked old (slot_of x)) (take i rows)
-    → All (λ x. IsMarked new (slot_of x)) (take (i + 1) rows)
-marked_more slot_of rows i x old new small read stay here before =
-    subst (All (λ y. IsMarked new (slot_of y))) (sym (take_more rows i x small ∙ ap (λ y. take i rows ++ y ∷ []) (sym read)))
-    (All-push (λ y. IsMarked new (slot_of y)) (take i rows) x (λ k e within. stay _ (before k e within)) here)
+pub marked_more : {X : Type 0} (marks : X → Bool) (rows : List X) (i : ℕ) (x : X) (old mid new : Bool) → i < length rows → x ≡ get_or rows i x → mid ≡ (old || list_any marks (take i rows))
+    → new ≡ (mid || marks x) → new ≡ (old || list_any marks (take (i + 1) rows))
+marked_more marks rows i x old mid new small read before now =
+    now ∙ ap (λ b. b || marks x) before ∙ or_assoc old (list_any marks (take i rows)) (marks x)
+    ∙ ap (λ b. old || b) (sym (list_any_more marks rows i x small ∙ ap (λ y. list_any marks (take i rows) || marks y) (sym read)))
 
-pub marked_small : (marks : List Bool) (n : ℕ) → IsMarked marks n → n < 1024
-unfolding IsMarked
-marked_small marks n h = h.1
+-- ---- what is shown
 
--- ---- columns
+none_marked_case : (n i : ℕ) → (i < n) ⊎ (n ≤ i) → get_or (replicate n false) i false ≡ false
+none_marked_case n i (inl small) = get_or-replicate n i false false small
+none_marked_case n i (inr large) = get_or_past (replicate n false) i false (omega (arith, large, length-replicate n false))
 
-shown_case : (columns : List Place) (q : Place) (slot n : ℕ) (marks : List Bool) (d : Place) → length columns + 1 ≡ slot → (IsMarked marks slot → q.shows ≡ Slot slot)
-    → ((m : ℕ) → IsMarked marks m → m < slot → IsShown columns m) → IsMarked marks n → (n ≡ slot) ⊎ (n < slot) → (get_or (columns ++ q ∷ []) (n - 1) d).shows ≡ Slot n
-unfolding IsMarked IsShown
-shown_case columns q slot n marks d size own before marked (inl same) =
-    let last : length columns ≡ n - 1 = omega (arith, size, same) in
-    let none : n - 1 - (n - 1) ≡ 0 = omega arith in
-    let mine : q.shows ≡ Slot n = subst (λ k. q.shows ≡ Slot k) (sym same) (own (subst (λ k. IsMarked marks k) same marked)) in
-    ap (λ p. p.shows) (get_or-append_right columns (q ∷ []) (n - 1) (n - 1) d last (omega arith)) ∙ ap (λ k. (get_or (q ∷ []) k d).shows) none ∙ mine
-shown_case columns q slot n marks d size own before marked (inr lower) =
-    ap (λ p. p.shows) (get_or_append_left columns (q ∷ []) d (n - 1) (omega (arith, size, lower, marked.0))) ∙ before n marked lower d
+-- no slot is marked at first
+pub none_marked : (n i : ℕ) → get_or (replicate n false) i false ≡ false
+none_marked n i = none_marked_case n i (cases_lt i n)
 
-pub shown_more : (columns new : List Place) (q : Place) (slot n : ℕ) (marks : List Bool) → new ≡ columns ++ q ∷ [] → length columns + 1 ≡ slot → (IsMarked marks slot → q.shows ≡ Slot slot)
-    → ((m : ℕ) → IsMarked marks m → m < slot → IsShown columns m) → IsMarked marks n → n < slot + 1 → IsShown new n
-unfolding IsShown
-shown_more columns new q slot n marks after size own before marked less = λ d.
-    ap (λ c. (get_or c (n - 1) d).shows) after ∙ shown_case columns q slot n marks d size own before marked (eq-or-lt_of_le (omega (arith, less)))
+pub used_of : (holds : List GrantRow) (cells : List Sending) (n : ℕ) (none held sent : Bool) → none ≡ false → held ≡ (none || list_any (λ g. eqb g.slot n) holds)
+    → sent ≡ (held || list_any (λ s. eqb s.slot n) cells) → sent ≡ is_used holds cells n
+unfolding is_used
+used_of holds cells n none held sent free grants rest =
+    rest ∙ ap (λ b. b || list_any (λ s. eqb s.slot n) cells) (grants ∙ ap (λ b. b || list_any (λ g. eqb g.slot n) holds) free)
 
--- no slot below 1 is marked
-pub none_shown : (columns : List Place) (marks : List Bool) (n : ℕ) → IsMarked marks n → n < 1 → IsShown columns n
-unfolding IsMarked
-none_shown columns marks n marked less = absurd (omega (arith, marked.0, less))
+pub unset : (mark : Bool) → not mark ≡ false → mark ≡ true
+unset true e = refl
+unset false e = sym e
 
-pub ruleset showing = (marked_small, none_shown, shown_more)
+module _ (used : ℕ → Bool) where
+  -- where a slot is not used, the same are free up to it
+  free_on : (n : ℕ) → used (suc n) ≡ false → first_free used (suc n) ≡ first_free used n
+  unfolding first_free
+  free_on n free = ap (λ b. cond b (suc (suc n)) (first_free used n)) free
 
--- all rows that are marked are shown
-pub all_shown : {X : Type 0} (slot_of : X → ℕ) (rows : List X) (marks : List Bool) (columns : List Place) → All (λ x. IsMarked marks (slot_of x)) rows
-    → ((n : ℕ) → IsMarked marks n → IsShown columns n) → All (λ x. IsShown columns (slot_of x)) rows
-all_shown slot_of rows marks columns marked shown = λ k d small. shown _ (marked k d small)
+  free_behind : (n : ℕ) → used (suc n) ≡ true → first_free used (suc n) ≡ suc (suc n)
+  unfolding first_free
+  free_behind n here = ap (λ b. cond b (suc (suc n)) (first_free used n)) here
+
+  pub first_is_free : 1 ≡ first_free used 0
+  unfolding first_free
+  first_is_free = refl
+
+  goes_on : (last slot : ℕ) → slot ≤ last → (last ≤ slot) ⊎ (used (suc slot) ≡ true) → (ltb last slot || (ltb slot last && not (used (suc slot)))) ≡ false
+  goes_on last slot small (inl end) = ap (λ b. b || (ltb slot last && not (used (suc slot)))) (le-ltb last slot small) ∙ ap (λ b. b && not (used (suc slot))) (le-ltb slot last end)
+  goes_on last slot small (inr next) =
+      ap (λ b. b || (ltb slot last && not (used (suc slot)))) (le-ltb last slot small) ∙ ap (λ b. ltb slot last && not b) next ∙ and-false (ltb slot last)
+
+  -- a gap ends at the cluster's last slot, or before one that is used
+  pub gap_here : (last slot free n : ℕ) → slot ≡ suc n → used slot ≡ false → slot ≤ last → (last ≤ slot) ⊎ (used (suc slot) ≡ true) → free ≡ first_free used n
+      → Gap free slot ≡ shows_at used last slot
+  unfolding shows_at
+  gap_here last slot free n at here small ends first =
+      let same : first_free used slot ≡ free = ap (first_free used) at ∙ free_on n (ap used (sym at) ∙ here) ∙ sym first in
+      sym (ap (λ b. cond b (Slot slot) (cond (ltb last slot || (ltb slot last && not (used (suc slot)))) Nothing (Gap (first_free used slot) slot))) here
+      ∙ ap (λ b. cond b Nothing (Gap (first_free used slot) slot)) (goes_on last slot small ends) ∙ ap (λ f. Gap f slot) same)
+
+  slot_case : (last slot : ℕ) (here on : Bool) → is_slot (cond here (Slot slot) (cond on Nothing (Gap (first_free used slot) slot))) ≡ here
+  unfolding is_slot
+  slot_case last slot true on = refl
+  slot_case last slot false true = refl
+  slot_case last slot false false = refl
+
+  is_used_slot : (last slot : ℕ) → is_slot (shows_at used last slot) ≡ used slot
+  unfolding shows_at
+  is_used_slot last slot = slot_case last slot (used slot) (ltb last slot || (ltb slot last && not (used (suc slot))))
+
+  -- a loop's step: the places so far, and one more
+  pub shown_more : (last slot : ℕ) (next : Shows) (old new : List Shows) → 1 ≤ slot → next ≡ shows_at used last slot → old ≡ map (shows_at used last) (range_with_len 1 (slot - 1))
+      → new ≡ old ++ next ∷ [] → new ≡ map (shows_at used last) (range_with_len 1 (slot + 1 - 1))
+  shown_more last slot next old new least is before after =
+      let at : 1 + (slot - 1) ≡ slot = omega (arith, least) in
+      let more : slot - 1 + 1 ≡ slot + 1 - 1 = omega (arith, least) in
+      after ∙ ap (λ xs. xs ++ next ∷ []) before ∙ ap (λ x. map (shows_at used last) (range_with_len 1 (slot - 1)) ++ x ∷ []) is
+      ∙ sym (map-range_with_len_more (shows_at used last) 1 (slot - 1) slot at) ∙ ap (λ k. map (shows_at used last) (range_with_len 1 k)) more
+
+  free_more_at : (last n free now : ℕ) (next : Shows) → next ≡ shows_at used last (suc n) → ((is_slot next ≡ true) × (now ≡ suc (suc n))) ⊎ ((is_slot next ≡ false) × (now ≡ free))
+      → free ≡ first_free used n → now ≡ first_free used (suc n)
+  free_more_at last n free now next is (inl shown) before = shown.1 ∙ sym (free_behind n (sym (is_used_slot last (suc n)) ∙ ap is_slot (sym is) ∙ shown.0))
+  free_more_at last n free now next is (inr other) before = other.1 ∙ before ∙ sym (free_on n (sym (is_used_slot last (suc n)) ∙ ap is_slot (sym is) ∙ other.0))
+
+  pub free_more : (last slot free now : ℕ) (next : Shows) → 1 ≤ slot → next ≡ shows_at used last slot → ((is_slot next ≡ true) × (now ≡ slot + 1)) ⊎ ((is_slot next ≡ false) × (now ≡ free))
+      → free ≡ first_free used (slot - 1) → now ≡ first_free used (slot + 1 - 1)
+  free_more last slot free now next least is which before =
+      let at : slot ≡ suc (slot - 1) = omega (arith, least) in
+      let more : suc (slot - 1) ≡ slot + 1 - 1 = omega (arith, least) in
+      let behind : slot + 1 ≡ suc (suc (slot - 1)) = omega (arith, least) in
+      let shifted : ((is_slot next ≡ true) × (now ≡ suc (suc (slot - 1)))) ⊎ ((is_slot next ≡ false) × (now ≡ free)) =
+      elim which [ inl shown ↦ inl (shown.0, shown.1 ∙ behind) | inr other ↦ inr other ] in
+      free_more_at last (slot - 1) free now next (is ∙ ap (shows_at used last) at) shifted before ∙ ap (first_free used) more
+
+  pub all_shown : (last slot : ℕ) (shown : List Shows) → 1024 ≤ slot → slot ≤ 1024 → shown ≡ map (shows_at used last) (range_with_len 1 (slot - 1)) → shown ≡ shown_of used last
+  unfolding shown_of
+  all_shown last slot shown least most is =
+      let end : slot - 1 ≡ 1023 = omega (arith, least, most) in
+      is ∙ ap (λ k. map (shows_at used last) (range_with_len 1 k)) end

@@ -18,7 +18,8 @@ entry_of number f = record { frame = f.row.frame; supplier = f.row.supplier; num
 unfoldable pub entries_of : List DrawnFrame → List Entry
 entries_of frames = map (λ p. entry_of p.0 p.1) (enumerate_from 1 frames)
 
--- These are the frames of the table, each once, in byte order of their names; frames of one name stay in the order of the table.
+-- The index has each frame of the table once, in byte order of the names. Frames of one name stay
+-- in the order of the table.
 pub record IsIndex (frames : List DrawnFrame) (index : List Entry) : Type 0 where
   pub same : IsPermutation (entries_of frames) index
   pub sorted : IsSortedByKey (λ e. e.frame) (slice_cmp nat_cmp) index

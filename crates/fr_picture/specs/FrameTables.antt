@@ -1,5 +1,5 @@
--- Table of frames: when frames are in order, the worst first. The text of a frame's row: its number in this order, its
--- names, placements, greatest gap, and its payload.
+-- Table of frames: when frames stand in order, the worst first. The text of a frame's row: its
+-- number in this order, its names, placements and greatest gap, and its payload.
 use Rattle.std.specs.Prelude.{ℕ, ◌-◌, ◌^◌, List, [], ◌∷◌, ◌++◌, codes, decimal, Option, Some, None}
 use Rattle.std.specs.List.{enumerate_from, flat_map}
 use Rattle.std.specs.List.Sorted.{IsNonDecreasingBy, IsStableByKey}
@@ -12,16 +12,17 @@ use Rattle.fr_picture.specs.declared.texts.Fixed.TheVariants.{Never}
 use Rattle.fr_picture.specs.Strips.{strip_text}
 use Rattle.fr_picture.specs.Texts.{together, fixed_text}
 
--- how soon a frame comes in the table: at once where it is never sent, and the sooner, the greater its gap
+-- a frame's place in the order of the table, by its gap: a frame that is never sent comes first,
+-- then a greater gap before a smaller one
 abbrev pub urgency : Option ℕ → ℕ
 urgency None = 0
 urgency (Some gap) = 2 ^ 32 - gap
 
--- the frames that are never sent come first, and then those of greater gaps
+-- the frames that are never sent come first; then a greater gap comes before a smaller one
 abbrev pub AreWorstFirst : List DrawnFrame → Type 0
 AreWorstFirst frames = IsNonDecreasingBy (λ f. urgency f.gap) frames
 
--- Frames that are as bad stay in the order in which they were.
+-- Frames with the same gap stay in the order in which they were.
 abbrev pub KeepTies : List DrawnFrame → List DrawnFrame → Type 0
 KeepTies old new = IsStableByKey (λ f. urgency f.gap) nat_cmp old new
 
@@ -49,7 +50,7 @@ placements_text placements = flat_map placement_text placements
 unfoldable pub number_text : ℕ → List ℕ
 number_text n = together (codes "<td>" ∷ decimal n ∷ [])
 
--- a greatest gap, or that the frame is never sent
+-- a greatest gap, or the word for a frame that is never sent
 unfoldable pub gap_word : Option ℕ → List ℕ
 gap_word None = fixed_text Never
 gap_word (Some gap) = number_text gap

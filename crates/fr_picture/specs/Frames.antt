@@ -1,4 +1,5 @@
--- Frames: when frames are drawn with the rows, gaps and signals that the reports have. Why a plan may be refused.
+-- Frames: when frames are drawn with the rows, gaps and signals of the reports. Why a plan may be
+-- refused.
 use Rattle.std.specs.Prelude.{◌≡◌, ◌⊎◌, ℕ, Bool, List, [], ◌∷◌, map, Option, IsPermutation, ⊤}
 use Rattle.std.specs.List.{All}
 use Rattle.fr_base.specs.Book.{Book}
@@ -30,14 +31,14 @@ AreSignals c b variant row signals = (all : Bool) × (rows : List SignalRow)
 abbrev pub IsDrawn : Cluster → Book → List ℕ → FrameRow → Option ℕ → DrawnFrame → Type 0
 IsDrawn c b variant row gap frame = (frame.row ≡ row) × (frame.gap ≡ gap) × AreSignals c b variant row frame.signals
 
--- Each row is drawn so, with the gap at its place.
+-- Each row is drawn as a frame, with the gap at its place.
 abbrev pub AreDrawn : Cluster → Book → List ℕ → List FrameRow → List GapRow → List DrawnFrame → Type 0
 AreDrawn c b variant [] gaps [] = ⊤
 AreDrawn c b variant (row ∷ rows) (gap ∷ gaps) (frame ∷ frames) = IsDrawn c b variant row gap.gap frame × AreDrawn c b variant rows gaps frames
 AreDrawn c b variant _ _ _ = ⊥
 
--- The rows are drawn with their gaps, of which the reader is told, and their signals, in the order of the page. Those that are as bad stand as
--- they are listed.
+-- The rows are drawn as frames, with the gaps that the reader is told and their signals, in the
+-- order of the page. Frames with the same gap stay in the order of the rows.
 abbrev pub AreDrawnOf : Cluster → Book → Actor → List ℕ → List FrameRow → List DrawnFrame → Type 0
 AreDrawnOf c b reader variant rows frames = (listed : List DrawnFrame) × (gaps : List GapRow) × IsPermutation listed frames × AreWorstFirst frames
     × KeepTies listed frames
@@ -48,13 +49,13 @@ abbrev pub AreFrames : Cluster → Book → Actor → List ℕ → List DrawnFra
 AreFrames c b reader variant frames = (rows : List FrameRow)
     × ((all : Bool) × (answer_to c b reader (asks variant Frames) ≡ with_frames all rows)) × AreDrawnOf c b reader variant rows frames
 
--- a report from which a plan is drawn
+-- the request is one for a report from which a plan is drawn
 abbrev pub IsOfPlan : List ℕ → Request → Type 0
 IsOfPlan variant asked =
     (asked ≡ asks variant Grants) ⊎ (asked ≡ asks variant Schedule) ⊎ (asked ≡ asks variant Frames) ⊎ (asked ≡ asks variant Gaps)
     ⊎ (asked ≡ asks_variants)
 
--- The reader is refused one of these reports so; or it is Unavailable.
+-- The reader is refused one of these reports by this refusal, or the refusal is Unavailable.
 abbrev pub MayRefusePlan : Cluster → Book → Actor → List ℕ → Refusal → Type 0
 MayRefusePlan c b reader variant e =
     (e ≡ Unavailable) ⊎ ((asked : Request) × IsOfPlan variant asked × (answer_to c b reader asked ≡ answer.Refused e))

@@ -1,5 +1,6 @@
--- Kind: the rectangles of one frame in a lane. Whether they are just the cells of a base and a repetition. Their text:
--- one shape, with frame, node, supplier, slot, channel and cycles as its title.
+-- Kind: the rectangles of one frame in a lane. Whether they are exactly the cells of a base and a
+-- repetition. Their text: one shape, with frame, node, supplier, slot, channel and cycles as its
+-- title.
 use Rattle.std.specs.Prelude.{ℕ, ◌+◌, ◌-◌, ◌*◌, ◌/◌, ◌==◌, ◌&&◌, nat_lt, max, length, Bool, true, List, [], ◌∷◌, ◌++◌, filter, codes, decimal, Option, Some, None, if◌then◌else◌}
 use Rattle.std.specs.List.{flat_map, list_any}
 use Rattle.fr_base.specs.Channels.{text_of_channel}
@@ -11,29 +12,30 @@ use Rattle.fr_picture.specs.declared.drawing.rectangle.Rectangle.{Rectangle}
 use Rattle.fr_picture.specs.declared.texts.Fixed.TheVariants.{CyclesStart, PathStart, QuoteEnd, PathEnd, UseEnd}
 use Rattle.fr_picture.specs.Texts.{together, fixed_text}
 
--- of the same frame
+-- whether two rectangles are of the same frame
 unfoldable pub is_of_same_frame : Rectangle → Rectangle → Bool
 is_of_same_frame other r = same_text other.first.frame r.first.frame && same_text other.first.node r.first.node && same_text other.first.supplier r.first.supplier
 
--- one of the same frame stands in an earlier cycle
+-- whether one of the rectangles is of the same frame and in an earlier cycle
 unfoldable pub was_drawn : List Rectangle → Rectangle → Bool
 was_drawn all r = list_any (λ other. nat_lt other.first.cycle r.first.cycle && is_of_same_frame other r) all
 
--- they are this high, the first stands in cycle `from`, and each next one so many cycles later
+-- whether each rectangle has `height` cycles, the first begins in cycle `from`, and each next one
+-- begins `step` cycles later
 unfoldable pub follows : ℕ → ℕ → ℕ → List Rectangle → Bool
 follows from step height [] = true
 follows from step height (r ∷ rs) = (r.first.cycle == from) && (r.cycles == height) && follows (from + step) step height rs
 
--- one rectangle of all cycles
+-- whether there is one rectangle, of all cycles
 unfoldable pub is_whole : ℕ → List Rectangle → Bool
 is_whole cycles kind = (length kind == 1) && follows 0 1 cycles kind
 
--- the cells of a base and a repetition, in all cycles
+-- whether they are the cells of a base and a repetition in all cycles
 unfoldable pub is_set : ℕ → ℕ → ℕ → List Rectangle → Bool
 is_set cycles base repetition kind =
     nat_lt 1 repetition && (repetition * length kind == cycles) && nat_lt base repetition && follows base repetition 1 kind
 
--- the repetition, if the rectangles are just the cells of a base and this repetition
+-- the repetition, if the rectangles are exactly the cells of this base and a repetition
 unfoldable pub set_of : ℕ → ℕ → List Rectangle → Option ℕ
 set_of cycles base kind =
     if is_whole cycles kind then Some 1
@@ -50,19 +52,17 @@ box_text y width height =
 unfoldable pub boxes_text : ℕ → List Rectangle → List ℕ
 boxes_text width kind = flat_map (λ r. box_text r.first.cycle width r.cycles) kind
 
--- a title begins: frame; node and supplier; slot and channel
-unfoldable pub names_text_of : Name → Name → Name → ℕ → List ℕ → List ℕ
-names_text_of frame node supplier slot channel =
-    together (codes "<title>" ∷ frame ∷ codes "\n" ∷ node ∷ codes " of " ∷ supplier ∷ codes "\n" ∷ decimal slot ∷ codes " " ∷ channel ∷ [])
-
+-- the beginning of a title: frame; node and supplier; slot and channel
 unfoldable pub names_text : Sending → List ℕ
-names_text s = names_text_of s.frame s.node s.supplier s.slot (text_of_channel s.channel)
+names_text s =
+    together (codes "<title>" ∷ s.frame ∷ codes "\n" ∷ s.node ∷ codes " of " ∷ s.supplier ∷ codes "\n" ∷ decimal s.slot ∷ codes " "
+    ∷ text_of_channel s.channel ∷ [])
 
 -- a base and a repetition
 unfoldable pub within_text : ℕ → ℕ → List ℕ
 within_text base repetition = together (codes " " ∷ decimal base ∷ codes "/" ∷ decimal repetition ∷ [])
 
--- a cycle, or the first and the last one
+-- a cycle, or a first and a last cycle
 unfoldable pub span_text : ℕ → ℕ → List ℕ
 span_text cycle count =
     if nat_lt count 2 then together (codes " " ∷ decimal cycle ∷ [])
@@ -84,7 +84,7 @@ unfoldable pub path_text : ℕ → List Rectangle → Rectangle → List ℕ
 path_text width kind r =
     fixed_text PathStart ++ boxes_text width kind ++ fixed_text QuoteEnd ++ names_text r.first ++ fixed_text CyclesStart ++ spans_text kind ++ fixed_text PathEnd
 
--- the frame's name, across or down, where there is room for it
+-- the frame's name, across or down, where it has room
 unfoldable pub label_text : ℕ → Rectangle → List ℕ
 label_text width r =
     if nat_lt (length r.first.frame) (2 * width)

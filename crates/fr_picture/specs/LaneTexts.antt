@@ -30,7 +30,7 @@ box_start first =
 unfoldable pub view_text : ℕ → ℕ → List ℕ
 view_text height first = together (codes " viewBox=\"0 -4 138 " ∷ decimal height ∷ codes "\"><use href=#cycles /><g id=g" ∷ decimal first ∷ codes ">\n" ∷ [])
 
--- a part of the drawing begins, and the one before it ends
+-- the beginning of a part of the drawing, and the end of the part before
 unfoldable pub part_text : Name → ℕ → ℕ → List ℕ
 part_text variant height first = heading_text variant first ++ box_start first ++ view_text height first
 
@@ -38,18 +38,18 @@ unfoldable pub opens_text : Name → ℕ → Option ℕ → List ℕ
 opens_text variant height None = []
 opens_text variant height (Some first) = part_text variant height first
 
--- a gap: nobody holds its slots, or the supplier whose page it is does not
+-- a gap: nobody holds its slots, or, on the page of one supplier, that supplier does not
 unfoldable pub gap_text : Option Name → List ℕ
 gap_text None = fixed_text GapOfNobody
 gap_text (Some supplier) = fixed_text GapOfOthers
 
--- one slot or more
+-- one slot, or the first and the last of several
 unfoldable pub slots_text : ℕ → ℕ → List ℕ
 slots_text first last =
     if first == last then together (decimal first ∷ codes "</text>" ∷ [])
     else together (decimal first ∷ codes " to " ∷ decimal last ∷ codes "</text>" ∷ [])
 
--- the slot's number, or a gap
+-- the slot's number, or a gap, or nothing
 unfoldable pub shows_text : Option Name → Shows → List ℕ
 shows_text viewer Nothing = []
 shows_text viewer (Slot n) = together (codes "<text y=-2>" ∷ decimal n ∷ codes "</text>" ∷ [])
@@ -60,18 +60,19 @@ free_text Nothing = []
 free_text (Slot n) = fixed_text Free
 free_text (Gap first last) = []
 
--- a lane that is shown, and of which no grant is
+-- a lane that is shown and that nobody is granted
 unfoldable pub ungranted_text : Shows → List GrantRow → List ℕ
 ungranted_text shows [] = free_text shows
 ungranted_text shows (g ∷ grants) = []
 
--- a granted lane, with its node, supplier, slot and channel as its title; what is sent there is drawn over it
+-- a granted lane, with its node, supplier, slot and channel as its title; its rectangles are drawn
+-- over it
 unfoldable pub holder_text : Name → Name → ℕ → List ℕ → List ℕ
 holder_text node supplier slot channel =
     together (codes "<title>" ∷ node ∷ codes " of " ∷ supplier ∷ codes "\n" ∷ decimal slot ∷ codes " " ∷ channel
     ∷ codes "</title><use href=#held /><text y=-1>" ∷ [])
 
--- below the last cycle
+-- the beginning of the mark below the last cycle
 unfoldable pub foot_text : ℕ → List ℕ
 foot_text cycles = together (codes "</text><text y=" ∷ decimal cycles ∷ codes ">" ∷ [])
 
@@ -82,13 +83,13 @@ grant_text cycles number g =
 unfoldable pub grants_text : List Name → ℕ → List GrantRow → List ℕ
 grants_text names cycles grants = flat_map (λ g. grant_text cycles (number_of names g.supplier) g) grants
 
--- nothing is drawn at a place inside a gap
+-- whether nothing is drawn at a place, since it is inside a gap
 unfoldable pub is_bare : Shows → List GrantRow → List Rectangle → Bool
 is_bare Nothing grants rectangles = (length grants == 0) && (length rectangles == 0)
 is_bare (Slot n) grants rectangles = false
 is_bare (Gap first last) grants rectangles = false
 
--- the colour of who holds the lane
+-- the colour of the lane's holder
 unfoldable pub colour_of : List Name → List GrantRow → ℕ
 colour_of names [] = 0
 colour_of names (g ∷ grants) = number_of names g.supplier % 8
@@ -96,17 +97,18 @@ colour_of names (g ∷ grants) = number_of names g.supplier % 8
 unfoldable pub start_text : ℕ → ℕ → List ℕ
 start_text colour x = together (codes "<svg class=c" ∷ decimal colour ∷ codes " x=" ∷ decimal x ∷ codes ">" ∷ [])
 
--- what is drawn at a place, in its colour: its grant, and over it its rectangles
-unfoldable pub drawn_text : Plan → Scale → Place → List GrantRow → List Rectangle → List ℕ
-drawn_text plan scale place grants rectangles =
-    start_text (colour_of plan.suppliers.items grants) place.x ++ grants_text plan.suppliers.items scale.cycles grants ++ shows_text plan.supplier place.shows
-    ++ ungranted_text place.shows grants ++ rectangles_text scale rectangles ++ fixed_text LaneEnd
+-- what is drawn of a lane, in its colour: its grant, and over it its rectangles
+unfoldable pub drawn_text : Plan → Scale → Lane → List ℕ
+drawn_text plan scale l =
+    start_text (colour_of plan.suppliers.items l.grants.items) l.place.x ++ grants_text plan.suppliers.items scale.cycles l.grants.items
+    ++ shows_text plan.supplier l.place.shows ++ ungranted_text l.place.shows l.grants.items ++ rectangles_text scale l.rectangles.items
+    ++ fixed_text LaneEnd
 
 -- a lane, where there is something to draw
 unfoldable pub lane_text : Plan → Scale → Lane → List ℕ
 lane_text plan scale l =
     opens_text plan.variant scale.height l.place.opens ++ (if is_bare l.place.shows l.grants.items l.rectangles.items then []
-    else drawn_text plan scale l.place l.grants.items l.rectangles.items)
+    else drawn_text plan scale l)
 
 unfoldable pub lanes_text : Plan → Scale → List Lane → List ℕ
 lanes_text plan scale lanes = flat_map (lane_text plan scale) lanes

@@ -1,12 +1,12 @@
--- Overview: a small picture of each part of the drawing, with the part's first slot, leads to the part. A drawing of one
--- part has none.
+-- Overview: for each part of the drawing a small picture, with the part's first slot, which leads
+-- to the part. A drawing of one part has none.
 use Rattle.std.specs.Prelude.{ℕ, nat_lt, List, [], ◌∷◌, ◌++◌, codes, decimal, length, Option, Some, None, if◌then◌else◌}
 use Rattle.std.specs.List.{flat_map}
 use Rattle.fr_picture.specs.declared.drawing.lane.Lane.{Lane}
 use Rattle.fr_picture.specs.declared.texts.Fixed.TheVariants.{OverviewStart, OverviewEnd}
 use Rattle.fr_picture.specs.Texts.{together, fixed_text}
 
--- the first slot of the part that begins, if one does
+-- the first slot of the part that begins here, if one does
 abbrev pub start_of : Option ℕ → List ℕ
 start_of None = []
 start_of (Some first) = first ∷ []

@@ -63,12 +63,13 @@ segment_figures p =
 unfoldable pub cluster_text : Params → List ℕ
 cluster_text p = cycle_figures (text_of_channels p.channels) p ++ segment_figures p
 
--- the variant's name, parent and state, whose rows the page shows, and the cluster's figures
+-- the variant's name, parent and state, the supplier whose rows the page shows, and the cluster's
+-- figures
 unfoldable pub figures_text : Plan → List ℕ
 figures_text plan =
     heading_text plan.variant ++ parent_text plan.parent ++ state_text plan.released ++ viewer_text plan.supplier ++ cluster_text plan.params
 
--- the style of payloads of so many bits
+-- the style of the strips of payloads with so many bits
 unfoldable pub strips_text : ℕ → List ℕ
 strips_text bits = together (codes "td path{transform:scale(calc(400/" ∷ decimal bits ∷ codes "),1)}\n" ∷ [])
 
@@ -88,7 +89,8 @@ bands_text channels.A = fixed_text fixed.BandA
 bands_text channels.B = fixed_text fixed.BandB
 bands_text channels.AB = fixed_text fixed.BandsAB
 
--- what a gap and a crossed lane mean: nobody holds them, or the supplier whose page it is does not
+-- what a gap and a crossed lane mean: nobody holds them, or, on the page of one supplier, that
+-- supplier does not
 unfoldable pub legend_end : Option Name → List ℕ
 legend_end None = fixed_text fixed.LegendEnd
 legend_end (Some supplier) = fixed_text fixed.LegendEndOfOne
@@ -101,7 +103,7 @@ drawing_text plan scale lanes =
     fixed_text fixed.ShapesStart ++ shapes_text scale ++ fixed_text fixed.NumbersStart ++ cycles_text scale.cycles ++ bands_text plan.params.channels
     ++ lanes_text plan scale lanes
 
--- the end of the index, and the head of the table, which each printed page repeats
+-- the end of the index, and the head of the table of frames, which each printed page repeats
 unfoldable pub frames_head : Name → List ℕ
 frames_head variant =
     together (codes "</ul>\n<p>Frames that are never sent come first, then those with the largest gap. A placement has its slot, its channels, and its base and repetition. A gap is in macroticks. A payload has its bits from 0 on, from left to right. A signal has the bit at which it starts, and its length in bits; big order is said.</p>\n<table class=frames>\n<thead><tr><th colspan=7>Variant "

@@ -1,5 +1,5 @@
--- Plan: the plan of a variant as a reader sees it in the book, which is its parent and state, the suppliers, and the rows
--- of the reader's reports.
+-- Plan: the plan of a variant as a reader sees it in the book: its parent and state, the suppliers,
+-- and the rows of the reader's reports.
 use Rattle.std.specs.Prelude.{◌≡◌, ℕ, Bool, List, [], ◌∷◌, map, Option, Some, None, Contains}
 use Rattle.fr_base.specs.Book.{Book, file_of}
 use Rattle.fr_base.specs.Cluster.{Cluster}
@@ -13,7 +13,7 @@ use Rattle.fr_picture.specs.declared.plan.Plan.{Plan}
 use Rattle.fr_picture.specs.Frames.{AreFrames}
 use Rattle.fr_picture.specs.Reports.{answer_to, asks, asks_variants, with_cells, with_grants, with_variants}
 
--- whose rows alone the reader sees
+-- the supplier whose rows alone the reader sees; none for the integrator
 abbrev pub supplier_of : Actor → Option Name
 supplier_of Integrator = None
 supplier_of (Supplier s) = Some s
@@ -23,13 +23,14 @@ abbrev pub suppliers_seen : Actor → List config.Supplier → List Name
 suppliers_seen Integrator suppliers = map (λ s. s.name) suppliers
 suppliers_seen (Supplier s) suppliers = s ∷ []
 
--- The row is one of those that the reader is told of variants.
+-- The row is one of the report of variants that the reader is told.
 abbrev pub IsListed : Cluster → Book → Actor → VariantRow → Type 0
 IsListed c b reader row =
     (rows : List VariantRow) × ((all : Bool) × (answer_to c b reader asks_variants ≡ with_variants all rows)) × Contains rows row
 
--- The plan is the variant's, as the reader sees it in the book: its parent and its state are those of the row of this name in the report of
--- variants, its suppliers those of the register or the reader alone, its grants, cells and frames the rows of the reader's reports.
+-- The plan is the variant's, as the reader sees it in the book. Its parent and its state are those
+-- of the row of this name in the report of variants. Its suppliers are those of the register, or
+-- the reader alone. Its grants, cells and frames are the rows of the reader's reports.
 pub record IsPlan (c : Cluster) (b : Book) (reader : Actor) (variant : List ℕ) (plan : Plan) : Type 0 where
   pub params : plan.params ≡ c.params
   pub name : plan.variant ≡ variant

@@ -1,5 +1,5 @@
--- Rectangle: it has a first cell, and the same frame's cells in the next cycles, so many. Two rectangles could be one
--- where the second begins in the cell behind the first's last.
+-- Rectangle: it has a first cell, and the cells of the same frame in so many next cycles. Two
+-- rectangles could be one where the second begins in the cell behind the first one's last.
 use Rattle.std.specs.Prelude.{◌≡◌, ℕ, ◌+◌, ◌≤◌, List, [], ◌∷◌, map}
 use Rattle.std.specs.List.{flat_map, range_with_len, All}
 use Rattle.fr_base.specs.declared.answer.Sending.{Sending}
@@ -17,16 +17,16 @@ cells_of r = map (later r.first) (range_with_len 0 r.cycles)
 unfoldable pub cells_in : List Rectangle → List Sending
 cells_in rs = flat_map cells_of rs
 
--- the cell goes on where the rectangle ends: the two would be one rectangle
+-- the cell follows the rectangle, so that the two would be one rectangle
 abbrev pub Meets : Rectangle → Sending → Type 0
 Meets r s = s ≡ later r.first r.cycles
 
--- no rectangle could be joined with the one behind it
+-- no rectangle could be one with the rectangle behind it
 abbrev pub AreApart : List Rectangle → Type 0
 AreApart [] = Unit {0}
 AreApart (r ∷ []) = Unit {0}
 AreApart (r ∷ s ∷ rs) = ¬ Meets r s.first × AreApart (s ∷ rs)
 
--- each rectangle has one cycle at least
+-- each rectangle has at least one cycle
 abbrev pub AreFilled : List Rectangle → Type 0
 AreFilled rs = All (λ r. 1 ≤ r.cycles) rs

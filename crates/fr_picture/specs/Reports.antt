@@ -1,5 +1,5 @@
--- Reports: what a request for a report is answered; that the rows that were read are those of the answer, and why they
--- may be refused. The register stands for the same book as before.
+-- Reports: the answer to a request for a report. The rows that were read are those of the answer;
+-- or why they may be refused. The register stands for the same book as before.
 use Rattle.std.specs.Prelude.{◌≡◌, ◌⊎◌, ℕ, Bool, List, [], ◌∷◌, Result, MatchResult}
 use Rattle.fr_base.specs.Book.{Book}
 use Rattle.fr_base.specs.Cluster.{Cluster}
@@ -25,11 +25,11 @@ use Rattle.fr_base.specs.declared.report.Report.{Report}
 use Rattle.fr_base.specs.declared.request.Request.{Request}
 use Rattle.fr_base.specs.declared.request.Request.TheVariants.{Query}
 
--- for which books a register stands, each in a cluster
+-- the books for which a register stands, each in a cluster
 abbrev pub Standing : Type 1
 Standing = Cluster → Book → Type 0
 
--- what a request is answered
+-- the answer to a request
 abbrev pub answer_to : Cluster → Book → Actor → Request → Answer
 answer_to c b actor request = (step c b actor request).answer
 
@@ -41,7 +41,7 @@ asks variant report = Query (Variant variant report)
 abbrev pub asks_variants : Request
 asks_variants = Query (Register Variants)
 
--- the answers that have these rows
+-- the answer that has these rows, for each report
 abbrev pub with_variants : Bool → List VariantRow → Answer
 with_variants all variants = Told all (rows.Variants variants)
 
@@ -60,20 +60,23 @@ with_gaps all gaps = Told all (rows.Gaps gaps)
 abbrev pub with_signals : Bool → List SignalRow → Answer
 with_signals all signals = Told all (rows.Layout signals)
 
--- An answer without rows is this refusal; or it is Unavailable.
+-- An answer without rows is this refusal, or the refusal is Unavailable.
 abbrev pub MayRefuse : Answer → Refusal → Type 0
 MayRefuse answer refusal = (refusal ≡ Unavailable) ⊎ (answer ≡ Refused refusal)
 
--- In each sound book for which the register stood this was read of it, or why it is refused; and it stands for the same book as before.
+-- In each sound book for which the register stood, this was read of it, or it is refused for this.
+-- The register stands for the same book as before.
 abbrev pub Reads : {X : Type 0} → Standing → Standing → Result X Refusal → (Cluster → Book → X → Type 0) → (Cluster → Book → Refusal → Type 0) → Type 0
 Reads old new r Is May = (c : Cluster) (b : Book) → old c b → IsSound c b → new c b × MatchResult r (Is c b) (May c b)
 
--- What was read are the rows that a request of this kind is answered; or its refusal; or it is Unavailable.
+-- What was read are the rows of the answer to a request of this kind; or it is the refusal of the
+-- request, or Unavailable.
 abbrev pub Reports : {X : Type 0} → Standing → Standing → Actor → Request → (Bool → X → Answer) → Result X Refusal → Type 0
 Reports old new actor request kind r =
     Reads old new r (λ c b rows. (all : Bool) × (answer_to c b actor request ≡ kind all rows)) (λ c b e. MayRefuse (answer_to c b actor request) e)
 
--- In a sound book the request was answered by one step, or it is Unavailable where it may be; and the register stands for the book after it.
+-- In a sound book the request was answered by one step, or it is Unavailable where it may be. The
+-- register stands for the book after it.
 abbrev pub Answered : Standing → Standing → Actor → Request → Answer → Type 0
 Answered old new actor request answer = (c : Cluster) (b : Book) → old c b → IsSound c b
     → (last : Book) × new c last × IsRun c b (record { actor = actor; request = request } ∷ []) (answer ∷ []) last

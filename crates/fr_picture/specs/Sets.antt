@@ -1,5 +1,5 @@
--- Shapes: the text of the shapes that a page has once. They are the cells of each repetition, a hatched lane, and a
--- lane and a gap that nobody holds.
+-- Shapes: the text of the shapes that a page has once: the cells of each repetition, a hatched
+-- lane, and a lane and a gap that nobody holds.
 use Rattle.std.specs.Prelude.{ℕ, ◌+◌, ◌*◌, ◌/◌, ◌%◌, ◌==◌, List, [], ◌∷◌, ◌++◌, codes, decimal, if◌then◌else◌}
 use Rattle.std.specs.List.{flat_map, range_with_len}
 use Rattle.fr_picture.specs.declared.drawing.columns.Scale.{Scale}
@@ -7,7 +7,7 @@ use Rattle.fr_picture.specs.declared.texts.Fixed.TheVariants.{FreeStart, HeldEnd
 use Rattle.fr_picture.specs.Kinds.{box_text}
 use Rattle.fr_picture.specs.Texts.{together, fixed_text}
 
--- from corner to corner
+-- two lines from corner to corner
 unfoldable pub cross_text : ℕ → ℕ → List ℕ
 cross_text width cycles =
     together (codes "l" ∷ decimal width ∷ codes " " ∷ decimal cycles ∷ codes "M" ∷ decimal width ∷ codes " 0l-" ∷ decimal width ∷ codes " " ∷ decimal cycles ∷ codes "\"/>" ∷ [])
@@ -36,7 +36,7 @@ held_text scale = hatches_text scale.width scale.cycles ++ fixed_text HeldEnd
 unfoldable pub set_start : ℕ → List ℕ
 set_start repetition = together (codes "<path id=" ∷ decimal repetition ∷ codes " d=\"" ∷ [])
 
--- so many cells, one each repetition
+-- so many cells, one in each repetition
 unfoldable pub repeated_text : ℕ → ℕ → ℕ → List ℕ
 repeated_text width repetition count = flat_map (λ k. box_text (k * repetition) width 1) (range_with_len 0 count)
 
@@ -45,13 +45,13 @@ unfoldable pub rows_text : Scale → ℕ → List ℕ
 rows_text scale repetition =
     if repetition == 1 then box_text 0 scale.width scale.cycles else repeated_text scale.width repetition (scale.cycles / repetition)
 
--- the shape of the repetition that is one greater, if it divides the count of cycles
+-- the shape of this repetition, if it divides the count of cycles
 unfoldable pub set_path : Scale → ℕ → List ℕ
-set_path scale less =
-    if scale.cycles % (less + 1) == 0 then set_start (less + 1) ++ rows_text scale (less + 1) ++ fixed_text ShapeEnd else []
+set_path scale repetition =
+    if scale.cycles % repetition == 0 then set_start repetition ++ rows_text scale repetition ++ fixed_text ShapeEnd else []
 
 unfoldable pub sets_text : Scale → List ℕ
-sets_text scale = flat_map (set_path scale) (range_with_len 0 scale.cycles)
+sets_text scale = flat_map (λ index. set_path scale (index + 1)) (range_with_len 0 scale.cycles)
 
 unfoldable pub shapes_text : Scale → List ℕ
 shapes_text scale = empties_text scale.width scale.cycles ++ held_text scale ++ sets_text scale

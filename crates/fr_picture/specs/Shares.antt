@@ -11,7 +11,7 @@ use Rattle.fr_picture.specs.declared.shares.Share.{Share}
 use Rattle.fr_picture.specs.Styles.{letter_of}
 use Rattle.fr_picture.specs.Texts.{together}
 
--- how many in a hundred, rounded down; of nothing none
+-- the part in a hundred of the whole, rounded down; 0 of nothing
 abbrev pub percent : ℕ → ℕ → ℕ
 percent part whole = if whole == 0 then 0 else min (part * 100) (2 ^ 64 - 1) / whole
 
@@ -19,7 +19,8 @@ percent part whole = if whole == 0 then 0 else min (part * 100) (2 ^ 64 - 1) / w
 abbrev pub number_of : List Name → Name → ℕ
 number_of names supplier = unwrap_or (position (λ name. same_text name supplier) names) 0
 
--- a supplier's number, the lanes that it holds, the cells in which it sends, and those that its lanes have
+-- a supplier's number, the lanes that it holds, the cells in which it sends, and the cells that its
+-- lanes have
 unfoldable pub share_of : List Name → ℕ → List GrantRow → List Sending → Name → Share
 share_of names cycles grants cells supplier = record {
   number = number_of names supplier;
@@ -34,7 +35,7 @@ share_of names cycles grants cells supplier = record {
 unfoldable pub round_text : ℕ → List ℕ
 round_text round = if round == 0 then [] else decimal round
 
--- a supplier's mark: the letter of its colour, and how often the colours were used before it
+-- a supplier's mark: the letter of its colour, and how often the colours came before it
 unfoldable pub mark_text : ℕ → List ℕ
 mark_text number = letter_of (number % 8) ++ round_text (number / 8)
 

@@ -1,5 +1,5 @@
--- Table of slots: a row for each grant, with slot and channel, the node and supplier that hold it, what is sent there and
--- in which cycles, and in how many of them something is.
+-- Table of slots: a row for each grant, with slot and channel, the node and supplier that hold it,
+-- the frames that are sent there and their cycles, and in how many cycles something is sent.
 use Rattle.std.specs.Prelude.{ℕ, ◌+◌, ◌-◌, ◌^◌, nat_lt, min, Bool, List, [], ◌∷◌, ◌++◌, filter, codes, decimal, Option, Some, None, if◌then◌else◌}
 use Rattle.std.specs.List.{flat_map, fold, list_any}
 use Rattle.fr_base.specs.Channels.{text_of_channel}
@@ -13,11 +13,11 @@ use Rattle.fr_picture.specs.Kinds.{was_drawn, is_of_same_frame, set_of, spans_te
 use Rattle.fr_picture.specs.Shares.{mark_text, number_of}
 use Rattle.fr_picture.specs.Texts.{together, fixed_text}
 
--- in how many cycles something is sent
+-- in how many cycles of the lane something is sent
 unfoldable pub load_of : List Rectangle → ℕ
 load_of rectangles = fold (λ n r. min (n + r.cycles) (2 ^ 64 - 1)) 0 rectangles
 
--- something is sent in an earlier cycle
+-- whether something is sent in an earlier cycle of the lane
 unfoldable pub is_later : List Rectangle → Rectangle → Bool
 is_later all r = list_any (λ other. nat_lt other.first.cycle r.first.cycle) all
 
@@ -26,7 +26,7 @@ is_later all r = list_any (λ other. nat_lt other.first.cycle r.first.cycle) all
 unfoldable pub comma_text : List Rectangle → Rectangle → List ℕ
 comma_text all r = if is_later all r then fixed_text Comma else []
 
--- in which cycles a frame is sent: base and repetition, or the cycles
+-- the cycles in which a frame is sent: base and repetition, or the cycles themselves
 unfoldable pub when_text : List Rectangle → Rectangle → Option ℕ → List ℕ
 when_text kind r (Some repetition) = within_text r.first.cycle repetition
 when_text kind r None = fixed_text CyclesStart ++ spans_text kind
@@ -34,7 +34,7 @@ when_text kind r None = fixed_text CyclesStart ++ spans_text kind
 unfoldable pub frame_text : Name → List ℕ
 frame_text frame = together (codes " " ∷ frame ∷ [])
 
--- a frame, where r is its first rectangle
+-- the text of a frame, where r is its first rectangle
 unfoldable pub turn_text : ℕ → List Rectangle → Rectangle → List ℕ
 turn_text cycles kind r = when_text kind r (set_of cycles r.first.cycle kind) ++ frame_text r.first.frame
 
@@ -59,11 +59,11 @@ row_text names cycles rectangles g =
     fixed_text SlotRow ++ lane_name_text g.slot (text_of_channel g.channel) ++ mark_text (number_of names g.supplier) ++ owner_text g.node g.supplier
     ++ all_sent_text cycles rectangles ++ load_text (load_of rectangles) cycles
 
-unfoldable pub lane_rows_text : List Name → ℕ → List Rectangle → List GrantRow → List ℕ
-lane_rows_text names cycles rectangles grants = flat_map (row_text names cycles rectangles) grants
+unfoldable pub lane_rows_text : List Name → ℕ → Lane → List ℕ
+lane_rows_text names cycles l = flat_map (row_text names cycles l.rectangles.items) l.grants.items
 
 unfoldable pub rows_text : List Name → ℕ → List Lane → List ℕ
-rows_text names cycles lanes = flat_map (λ l. lane_rows_text names cycles l.rectangles.items l.grants.items) lanes
+rows_text names cycles lanes = flat_map (lane_rows_text names cycles) lanes
 
 -- the head of the table, which each printed page repeats
 unfoldable pub head_text : Name → List ℕ

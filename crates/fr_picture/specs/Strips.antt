@@ -15,13 +15,13 @@ use Rattle.fr_picture.specs.Texts.{together, fixed_text}
 unfoldable pub bits_in : List Run → List ℕ
 bits_in runs = flat_map (λ r. range_with_len r.start r.length) runs
 
--- What is drawn of a signal are its bits, each once.
+-- The drawn bits of a signal are the signal's bits, each once.
 abbrev pub HasItsBits : DrawnSignal → Type 0
 HasItsBits s = IsPermutation (bits_in s.runs.items) (bits_of s.signal)
 
 -- ---- its text
 
--- where the middle of the upper row or of the lower one stands
+-- the middle of the upper or the lower row
 abbrev pub row_of : Bool → ℕ
 row_of upper = if upper then 3 else 9
 
@@ -31,7 +31,7 @@ run_text row start count = together (codes "M" ∷ decimal start ∷ codes "," �
 unfoldable pub runs_text : ℕ → List Run → List ℕ
 runs_text row runs = flat_map (λ r. run_text row r.start r.length) runs
 
--- the bits of signals, each next one in the other row
+-- the bits of signals; two that follow one another stand in different rows
 unfoldable pub bars_text : Bool → List DrawnSignal → List ℕ
 bars_text upper [] = []
 bars_text upper (s ∷ signals) = runs_text (row_of upper) s.runs.items ++ bars_text (not upper) signals

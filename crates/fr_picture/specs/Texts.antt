@@ -8,11 +8,11 @@ use Rattle.std.specs.String.{string_bytes}
 use Rattle.fr_picture.specs.declared.texts.Fixed.{Fixed}
 use Rattle.fr_picture.specs.declared.texts.Fixed.TheVariants.{OpenedEmpty, Never, StripStart, StripEnd, NoStrip, PathStart, QuoteEnd, CyclesStart, PathEnd, UseEnd, TextEnd, ShapeEnd, FreeStart, Free, GapOfNobody, GapOfOthers, LaneEnd, HeldEnd, LegendStart, LegendEnd, LegendEndOfOne, OverviewStart, OverviewEnd, ShapesStart, NumbersStart, BandA, BandB, BandsAB, SlotRow, Comma, SlotTableEnd, IndexStart, PageEnd}
 
--- the text was put behind what stood there
+-- the text was appended to what stood there
 abbrev pub Appends : {Z : Type 0} → String Z → String Z → List ℕ → Type 0
 Appends old new text = string_bytes new ≡ string_bytes old ++ text
 
--- the texts, one behind the other
+-- the texts, one after another
 abbrev pub together : List (List ℕ) → List ℕ
 together texts = flat_map (λ text. text) texts
 

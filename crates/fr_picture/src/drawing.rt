@@ -1,8 +1,9 @@
-//! What is drawn of a variant's plan, and where: the lane of each slot and channel, and in it the grant and the rectangles of what is sent.
+//! What is drawn of a variant's plan, and where: the lane of each slot and channel, and in it the
+//! grant and the rectangles of the frames that are sent.
 ghost use Rattle.std.specs.Prelude.{◌≡◌, ℕ, List, ◌++◌, ◌∷◌, [], OnOk, IfOk, IsPermutation};
 ghost use Rattle.std.specs.List.{All};
 ghost use Rattle.std.specs.Vec.{vec_len};
-ghost use Rattle.fr_picture.specs.Lanes.{HaveMore, HaveStill, IsApart, IsDrawing, IsFilled, drawn_cells, drawn_grants};
+ghost use Rattle.fr_picture.specs.Lanes.{HaveMore, HaveStill, HoldMore, HoldStill, IsApart, IsDrawing, IsFilled, drawn_cells, drawn_grants};
 ghost use Rattle.fr_picture.specs.Places.{AreAt, AreHome};
 
 mod columns;
@@ -23,7 +24,7 @@ use std::alloc::Global;
 /// The lanes of a plan, and how large they are.
 #[derive(Drop)]
 pub struct Drawing {
-    /// How large the drawing is.
+    /// The size of the drawing.
     pub scale: Scale,
     /// The lanes, by slot, A before B.
     pub lanes: Vec<Lane>,
@@ -38,10 +39,10 @@ pub fn draw(
 ) -> Result<Drawing, NoMemory>
     ensures { IfOk result (λ drawing. IsDrawing params.now grants.now cells.now drawing) }
 {
-    let marks = Marks::of(grants, cells);
-    let bands = Bands::of(params, &marks);
+    let shown = Marks::of(grants, cells).shown(alloc, params.static_slots())?;
+    let bands = Bands::of(params, shown.as_slice());
     let scale = bands.scale(params);
-    let columns = columns::columns(alloc, params, &marks, &bands)?;
+    let columns = columns::columns(alloc, &bands, shown.as_slice())?;
     let mut lanes = empty_lanes(alloc, bands.channels, bands.shift, columns.as_slice())?;
     add_grants(&mut lanes, grants)?;
     add_cells(&mut lanes, cells)?;
@@ -55,6 +56,7 @@ fn add_grants(lanes: &mut Vec<Lane>, grants: &[GrantRow]) -> Result<(), NoMemory
     ensures len { vec_len lanes.new ≡ 2046 }
     ensures grants { OnOk result (IsPermutation (drawn_grants lanes.new.items) (drawn_grants lanes.old.items ++ grants.now)) }
     ensures cells { OnOk result (drawn_cells lanes.new.items ≡ drawn_cells lanes.old.items) }
+    ensures held_in_turn { OnOk result (HoldMore lanes.old.items grants.now lanes.new.items) }
     ensures still { OnOk result (HaveStill lanes.old.items lanes.new.items) }
     ensures apart { OnOk result (All IsApart lanes.old.items → All IsApart lanes.new.items) }
     ensures filled { OnOk result (All IsFilled lanes.old.items → All IsFilled lanes.new.items) }
@@ -68,12 +70,13 @@ fn add_grants(lanes: &mut Vec<Lane>, grants: &[GrantRow]) -> Result<(), NoMemory
 }
 
 // Draws one grant.
-#[tactic(auto, using(crate::proofs::LaneLemmas::grant_more, crate::proofs::LaneLemmas::cells_stay, crate::proofs::LaneLemmas::still_one, crate::proofs::LaneLemmas::grant_home, crate::proofs::LaneLemmas::at_stays))]
+#[tactic(auto, using(crate::proofs::LaneLemmas::grant_more, crate::proofs::LaneLemmas::held_one, crate::proofs::LaneLemmas::cells_stay, crate::proofs::LaneLemmas::still_one, crate::proofs::LaneLemmas::grant_home, crate::proofs::LaneLemmas::at_stays))]
 fn add_grant(lanes: &mut Vec<Lane>, grant: &GrantRow) -> Result<(), NoMemory>
     requires { vec_len lanes.old ≡ 2046 }
     ensures len { vec_len lanes.new ≡ 2046 }
     ensures grants { OnOk result (IsPermutation (drawn_grants lanes.new.items) (drawn_grants lanes.old.items ++ grant.now ∷ [])) }
     ensures cells { OnOk result (drawn_cells lanes.new.items ≡ drawn_cells lanes.old.items) }
+    ensures held_in_turn { OnOk result (HoldMore lanes.old.items (grant.now ∷ []) lanes.new.items) }
     ensures still { OnOk result (HaveStill lanes.old.items lanes.new.items) }
     ensures apart { OnOk result (All IsApart lanes.old.items → All IsApart lanes.new.items) }
     ensures filled { OnOk result (All IsFilled lanes.old.items → All IsFilled lanes.new.items) }
@@ -83,7 +86,8 @@ fn add_grant(lanes: &mut Vec<Lane>, grant: &GrantRow) -> Result<(), NoMemory>
     lanes[lane_number(grant.slot, grant.channel)].hold(grant)
 }
 
-// Draws the cells, by cycle: a cell that goes on where the last rectangle of its lane ends makes it longer.
+// Draws the cells, in the order of cycles. A cell that follows the last rectangle of its lane, and
+// is of the same frame, makes the rectangle longer.
 #[tactic(auto, using(crate::proofs::LaneLemmas::perms))]
 fn add_cells(lanes: &mut Vec<Lane>, cells: &[Sending]) -> Result<(), NoMemory>
     requires { vec_len lanes.old ≡ 2046 }
@@ -91,6 +95,7 @@ fn add_cells(lanes: &mut Vec<Lane>, cells: &[Sending]) -> Result<(), NoMemory>
     ensures cells { OnOk result (IsPermutation (drawn_cells lanes.new.items) (drawn_cells lanes.old.items ++ cells.now)) }
     ensures in_turn { OnOk result (HaveMore lanes.old.items cells.now lanes.new.items) }
     ensures grants { OnOk result (drawn_grants lanes.new.items ≡ drawn_grants lanes.old.items) }
+    ensures still { OnOk result (HoldStill lanes.old.items lanes.new.items) }
     ensures apart { OnOk result (All IsApart lanes.old.items → All IsApart lanes.new.items) }
     ensures filled { OnOk result (All IsFilled lanes.old.items → All IsFilled lanes.new.items) }
     ensures at { OnOk result ((channels : Channels) (shift : ℕ) (columns : List Place) → AreAt channels shift columns lanes.old.items → AreAt channels shift columns lanes.new.items) }
@@ -103,13 +108,14 @@ fn add_cells(lanes: &mut Vec<Lane>, cells: &[Sending]) -> Result<(), NoMemory>
 }
 
 // Draws one cell.
-#[tactic(auto, using(crate::proofs::LaneLemmas::cell_more, crate::proofs::LaneLemmas::turn_one, crate::proofs::LaneLemmas::grants_stay, crate::proofs::LaneLemmas::cell_home, crate::proofs::LaneLemmas::at_stays))]
+#[tactic(auto, using(crate::proofs::LaneLemmas::cell_more, crate::proofs::LaneLemmas::turn_one, crate::proofs::LaneLemmas::held_still_one, crate::proofs::LaneLemmas::grants_stay, crate::proofs::LaneLemmas::cell_home, crate::proofs::LaneLemmas::at_stays))]
 fn add_cell(lanes: &mut Vec<Lane>, cell: &Sending) -> Result<(), NoMemory>
     requires { vec_len lanes.old ≡ 2046 }
     ensures len { vec_len lanes.new ≡ 2046 }
     ensures cells { OnOk result (IsPermutation (drawn_cells lanes.new.items) (drawn_cells lanes.old.items ++ cell.now ∷ [])) }
     ensures in_turn { OnOk result (HaveMore lanes.old.items (cell.now ∷ []) lanes.new.items) }
     ensures grants { OnOk result (drawn_grants lanes.new.items ≡ drawn_grants lanes.old.items) }
+    ensures still { OnOk result (HoldStill lanes.old.items lanes.new.items) }
     ensures apart { OnOk result (All IsApart lanes.old.items → All IsApart lanes.new.items) }
     ensures filled { OnOk result (All IsFilled lanes.old.items → All IsFilled lanes.new.items) }
     ensures at { OnOk result ((channels : Channels) (shift : ℕ) (columns : List Place) → AreAt channels shift columns lanes.old.items → AreAt channels shift columns lanes.new.items) }

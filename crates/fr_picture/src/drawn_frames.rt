@@ -12,8 +12,8 @@ use crate::signals::DrawnSignal;
 use fr_base::{Desk, FrameRow, GapRow, NoMemory, Refusal, Rows, SignalRow, Text};
 use std::alloc::Global;
 
-/// The frames as the reader sees them, each with its greatest gap and its signals: those first that are never sent, and
-/// then the greater gap first.
+/// The frames as the reader sees them, each with its greatest gap and its signals. First come those
+/// that are never sent, then those with a greater gap before those with a smaller one.
 pub(crate) fn frames<D: Desk>(
     alloc: Global,
     desk: &mut D,
@@ -46,7 +46,7 @@ fn frames_of<D: Desk>(
     Ok(frames)
 }
 
-// The frames of these rows, each with the gap at its place.
+// The frames of these rows, each with the gap at the row's place.
 fn draw_frames<D: Desk>(
     alloc: Global,
     desk: &mut D,
@@ -92,7 +92,8 @@ fn draw_frame<D: Desk>(
     Ok(DrawnFrame { row, gap, signals })
 }
 
-// The signals of this frame. It was listed, so all that may come in place is want of memory.
+// The signals of this frame. The frame was listed, so only want of memory can be told in their
+// place.
 fn draw_signals<D: Desk>(
     alloc: Global,
     desk: &mut D,
@@ -110,7 +111,7 @@ fn draw_signals<D: Desk>(
     }
 }
 
-// The signals of these rows.
+// The drawn signals of these rows.
 fn drawn(alloc: Global, rows: &[SignalRow]) -> Result<Rows<DrawnSignal>, NoMemory>
     ensures signals { IfOk result (λ signals. map (λ s. s.signal) signals ≡ map (λ r. r.signal) rows.now) }
     ensures bits { IfOk result (λ signals. All HasItsBits signals) }
@@ -122,7 +123,7 @@ fn drawn(alloc: Global, rows: &[SignalRow]) -> Result<Rows<DrawnSignal>, NoMemor
     Ok(signals)
 }
 
-// A row of its own that says the same.
+// A copy of the row.
 fn copy_row(alloc: Global, row: &FrameRow) -> Result<FrameRow, NoMemory>
     ensures { IfOk result (λ copied. copied ≡ row.now) }
 {

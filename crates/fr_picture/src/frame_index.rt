@@ -8,7 +8,7 @@ use crate::shares::{number_of, push_mark};
 use fr_base::{Name, NoMemory};
 use std::alloc::Global;
 
-/// A frame, and where it stands in the table.
+/// A frame, and its place in the table.
 #[derive(Clone, Copy)]
 pub struct Entry {
     /// The frame.
@@ -50,7 +50,7 @@ fn entry_of(number: u64, frame: &DrawnFrame) -> Entry
     }
 }
 
-/// Appends the index. A supplier has its mark by its place among these names.
+/// Appends the index. The place of a supplier among these names gives the supplier's mark.
 #[tactic(auto, unfolding(crate::specs::FrameIndexes::index_text))]
 pub(crate) fn push_index(names: &[Name], index: &[Entry], out: &mut String) -> Result<(), NoMemory>
     ensures { OnOk result (Appends out.old out.new (index_text names.now index.now)) }

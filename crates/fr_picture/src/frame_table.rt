@@ -1,4 +1,4 @@
-//! The table of frames: their numbers, where they are sent, their greatest gaps, and their payloads.
+//! The table of frames: their numbers, placements, greatest gaps and payloads.
 ghost use Rattle.std.specs.Prelude.{◌≡◌, OnErr, OnOk, IfOk, IsPermutation};
 ghost use Rattle.fr_picture.specs.FrameTables.{AreWorstFirst, KeepTies, frame_text, frames_text, gap_word, names_text, number_text, placement_text, row_start, placement_text_of, placements_text, urgency};
 ghost use Rattle.fr_picture.specs.Texts.{Appends};
@@ -18,8 +18,9 @@ pub struct DrawnFrame {
     pub signals: Rows<DrawnSignal>,
 }
 
-/// Puts the frames in the order of the table: those that are never sent, and then the greater gap first. Frames that are as bad stay
-/// in the order in which they were. An error leaves the frames as they were.
+/// Puts the frames in the order of the table: first those that are never sent, then those with a
+/// greater gap before those with a smaller one. Frames with the same gap stay in their order. An
+/// error leaves the frames as they were.
 pub fn worst_first(frames: &mut Vec<DrawnFrame>) -> Result<(), NoMemory>
     ensures same { IsPermutation frames.old.items frames.new.items }
     ensures sorted { OnOk result (AreWorstFirst frames.new.items) }
@@ -30,7 +31,7 @@ pub fn worst_first(frames: &mut Vec<DrawnFrame>) -> Result<(), NoMemory>
     Ok(())
 }
 
-// The less, the worse.
+// The place of a frame with this gap in the order of the table: a smaller number comes earlier.
 fn urgency(gap: Option<u32>) -> u64
     ensures { result ≡ urgency gap }
 {

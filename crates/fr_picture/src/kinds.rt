@@ -1,15 +1,15 @@
 //! The rectangles of one frame in a lane, drawn as one shape with one title.
 ghost use Rattle.std.specs.Prelude.{◌≡◌, ◌+◌, ◌*◌, ◌/◌, ◌<◌, ◌&&◌, nat_lt, filter, max, length, OnOk, IfOk};
 ghost use Rattle.std.specs.List.{list_any};
-ghost use Rattle.fr_picture.specs.Kinds.{box_text, boxes_text, follows, was_drawn, is_of_same_frame, is_set, is_whole, kind_shape, kind_text, label_text, names_text, names_text_of, path_text, rectangle_text, rectangles_text, set_of, set_start, set_text, span_text, spans_text, within_text};
+ghost use Rattle.fr_picture.specs.Kinds.{box_text, boxes_text, follows, was_drawn, is_of_same_frame, is_set, is_whole, kind_shape, kind_text, label_text, names_text, path_text, rectangle_text, rectangles_text, set_of, set_start, set_text, span_text, spans_text, within_text};
 ghost use Rattle.fr_picture.specs.Texts.{Appends};
 
 use crate::drawing::{Rectangle, Scale};
 use crate::texts::{Fixed, push_fixed};
-use fr_base::{Name, NoMemory, Sending};
+use fr_base::{NoMemory, Sending};
 use std::alloc::Global;
 
-// Whether the other rectangle of the lane is of the same frame.
+// Whether the two rectangles of the lane are of the same frame.
 #[tactic(auto, unfolding(crate::specs::Kinds::is_of_same_frame))]
 fn is_of_same_frame(other: &Rectangle, one: &Rectangle) -> bool
     ensures { result ≡ is_of_same_frame other.now one.now }
@@ -19,7 +19,7 @@ fn is_of_same_frame(other: &Rectangle, one: &Rectangle) -> bool
         && other.first.supplier == one.first.supplier
 }
 
-/// The rectangles of a lane that are of the same frame as this one.
+/// The rectangles of a lane that are of the same frame as `one`.
 pub(crate) fn of_same_frame(
     alloc: Global,
     all: &[Rectangle],
@@ -36,7 +36,7 @@ pub(crate) fn of_same_frame(
     Ok(kind)
 }
 
-/// Whether a rectangle of the same frame stands in an earlier cycle of the lane.
+/// Whether a rectangle of the same frame as `one` stands in an earlier cycle of the lane.
 #[tactic(auto, unfolding(crate::specs::Kinds::was_drawn))]
 pub(crate) fn was_drawn(all: &[Rectangle], one: &Rectangle) -> bool
     ensures { result ≡ was_drawn all.now one.now }
@@ -44,7 +44,8 @@ pub(crate) fn was_drawn(all: &[Rectangle], one: &Rectangle) -> bool
     all.iter().any(|other| other.first.cycle < one.first.cycle && is_of_same_frame(other, one))
 }
 
-// Whether the rectangles are this high and stand behind one another, the first in this cycle and each next so many cycles later.
+// Whether each rectangle has `height` cycles, the first begins in cycle `from`, and each next one
+// begins `step` cycles later.
 #[tactic(auto, unfolding(crate::specs::Kinds::follows))]
 fn follows(from: u32, step: u32, height: u32, kind: &[Rectangle]) -> bool
     ensures { result ≡ follows from step height kind.now }
@@ -59,7 +60,8 @@ fn follows(from: u32, step: u32, height: u32, kind: &[Rectangle]) -> bool
     true
 }
 
-/// The repetition, if the rectangles of one frame are just the cells of a base and this repetition.
+/// The repetition, if the rectangles of one frame are exactly the cells of this base and a
+/// repetition.
 #[tactic(auto, unfolding(crate::specs::Kinds::set_of, crate::specs::Kinds::is_set, crate::specs::Kinds::is_whole))]
 pub(crate) fn set_of(cycles: u32, base: u8, kind: &[Rectangle]) -> Option<u32>
     ensures { result ≡ set_of cycles base kind.now }
@@ -79,7 +81,7 @@ pub(crate) fn set_of(cycles: u32, base: u8, kind: &[Rectangle]) -> Option<u32>
     None
 }
 
-/// Appends the rectangles of a lane, those of one frame together.
+/// Appends the rectangles of a lane. Those of one frame make one shape.
 #[tactic(auto, unfolding(crate::specs::Kinds::rectangles_text))]
 pub(crate) fn push_rectangles(
     alloc: Global,
@@ -95,7 +97,7 @@ pub(crate) fn push_rectangles(
     Ok(())
 }
 
-// Appends all rectangles of this one's frame, if it is the first of them.
+// Appends all rectangles of the frame of `one`, if `one` is the first of them.
 #[tactic(auto, unfolding(crate::specs::Kinds::rectangle_text))]
 fn push_rectangle(
     alloc: Global,
@@ -113,7 +115,7 @@ fn push_rectangle(
     push_kind(scale, kind.as_slice(), one, out)
 }
 
-// Appends the rectangles of one frame, of which this is the first.
+// Appends the rectangles of one frame, of which `one` is the first.
 #[tactic(auto, unfolding(crate::specs::Kinds::kind_text))]
 fn push_kind(
     scale: Scale,
@@ -144,7 +146,7 @@ fn push_shape(
     }
 }
 
-// Appends the cells of a base and a repetition, which are drawn elsewhere in the page.
+// Appends the cells of a base and a repetition: they use a shape that the page has elsewhere.
 #[tactic(auto, unfolding(crate::specs::Kinds::set_text))]
 fn push_set(repetition: u32, one: &Rectangle, out: &mut String) -> Result<(), NoMemory>
     ensures { OnOk result (Appends out.old out.new (set_text repetition one.now)) }
@@ -175,32 +177,13 @@ pub(crate) fn push_within(base: u8, repetition: u32, out: &mut String) -> Result
     write!(out, " {base}/{repetition}")
 }
 
-// Appends a frame with its node, supplier, slot and channel: the beginning of a title.
+// Appends the beginning of a title: frame, node, supplier, slot and channel.
 #[tactic(auto, unfolding(crate::specs::Kinds::names_text))]
 fn push_names(cell: &Sending, out: &mut String) -> Result<(), NoMemory>
     ensures { OnOk result (Appends out.old out.new (names_text cell.now)) }
 {
-    push_names_of(
-        cell.frame,
-        cell.node,
-        cell.supplier,
-        cell.slot.get(),
-        cell.channel.as_str(),
-        out,
-    )
-}
-
-#[tactic(auto, unfolding(crate::specs::Kinds::names_text_of))]
-fn push_names_of(
-    frame: Name,
-    node: Name,
-    supplier: Name,
-    slot: u32,
-    channel: &str,
-    out: &mut String,
-) -> Result<(), NoMemory>
-    ensures { OnOk result (Appends out.old out.new (names_text_of frame node supplier slot channel.now)) }
-{
+    let (frame, node, supplier) = (cell.frame, cell.node, cell.supplier);
+    let (slot, channel) = (cell.slot.get(), cell.channel.as_str());
     write!(
         out,
         "<title>{frame}\n{node} of {supplier}\n{slot} {channel}"
@@ -236,7 +219,7 @@ fn push_boxes(width: u32, kind: &[Rectangle], out: &mut String) -> Result<(), No
     Ok(())
 }
 
-/// Appends a rectangle as part of a path: in which cycle it begins, how wide and how high it is.
+/// Appends a rectangle as part of a path: the cycle in which it begins, its width and its height.
 #[tactic(auto, unfolding(crate::specs::Kinds::box_text))]
 pub(crate) fn push_box(y: u32, width: u32, height: u32, out: &mut String) -> Result<(), NoMemory>
     ensures { OnOk result (Appends out.old out.new (box_text y width height)) }
@@ -244,7 +227,7 @@ pub(crate) fn push_box(y: u32, width: u32, height: u32, out: &mut String) -> Res
     write!(out, "M0 {y}h{width}v{height}h-{width}z")
 }
 
-/// Appends the cycles of rectangles: the first ones, and the last ones where there are more.
+/// Appends the cycles of each rectangle: its cycle, or its first and its last one where it has more.
 #[tactic(auto, unfolding(crate::specs::Kinds::spans_text))]
 pub(crate) fn push_spans(kind: &[Rectangle], out: &mut String) -> Result<(), NoMemory>
     ensures { OnOk result (Appends out.old out.new (spans_text kind.now)) }
@@ -269,7 +252,7 @@ fn push_span(cycle: u64, cycles: u64, out: &mut String) -> Result<(), NoMemory>
     }
 }
 
-// Appends the frame's name in its first rectangle, across where there is room for it, else down.
+// Appends the frame's name in its first rectangle: across where it has room, else down.
 #[tactic(auto, unfolding(crate::specs::Kinds::label_text))]
 fn push_label(width: u32, one: &Rectangle, out: &mut String) -> Result<(), NoMemory>
     ensures { OnOk result (Appends out.old out.new (label_text width one.now)) }

@@ -3,7 +3,7 @@ ghost use Rattle.std.specs.Prelude.{◌≡◌, OnOk};
 ghost use Rattle.fr_picture.specs.LaneTexts.{box_start, colour_of, drawn_text, foot_text, free_text, gap_text, grant_text, grants_text, heading_text, holder_text, is_bare, lane_text, lanes_text, opens_text, part_text, shows_text, slots_text, start_text, ungranted_text, view_text};
 ghost use Rattle.fr_picture.specs.Texts.{Appends};
 
-use crate::drawing::{Lane, Place, Rectangle, Scale, Shows};
+use crate::drawing::{Lane, Rectangle, Scale, Shows};
 use crate::kinds::push_rectangles;
 use crate::plan::Plan;
 use crate::shares::{number_of, push_mark};
@@ -11,7 +11,7 @@ use crate::texts::{Fixed, push_fixed};
 use fr_base::{GrantRow, Name, NoMemory};
 use std::alloc::Global;
 
-/// Appends the plan's lanes, one after the other.
+/// Appends the plan's lanes, one after another.
 #[tactic(auto, unfolding(crate::specs::LaneTexts::lanes_text))]
 pub(crate) fn push_lanes(
     alloc: Global,
@@ -39,12 +39,14 @@ fn push_lane(
     ensures { OnOk result (Appends out.old out.new (lane_text plan.now scale lane.now)) }
 {
     push_opens(plan.variant, scale.height, lane.place.opens, out)?;
-    let grants = lane.grants.as_slice();
-    let rectangles = lane.rectangles.as_slice();
-    if is_bare(lane.place.shows, grants, rectangles) {
+    if is_bare(
+        lane.place.shows,
+        lane.grants.as_slice(),
+        lane.rectangles.as_slice(),
+    ) {
         return Ok(());
     }
-    push_drawn(alloc, plan, scale, lane.place, grants, rectangles, out)
+    push_drawn(alloc, plan, scale, lane, out)
 }
 
 // Whether there is nothing to draw: the place is inside a gap.
@@ -58,29 +60,28 @@ fn is_bare(shows: Shows, grants: &[GrantRow], rectangles: &[Rectangle]) -> bool
     }
 }
 
-// Appends what is drawn at a place, in the colour of who holds it.
+// Appends what is drawn at a place, in the colour of the lane's holder.
 #[tactic(auto, unfolding(crate::specs::LaneTexts::drawn_text))]
 fn push_drawn(
     alloc: Global,
     plan: &Plan,
     scale: Scale,
-    place: Place,
-    grants: &[GrantRow],
-    rectangles: &[Rectangle],
+    lane: &Lane,
     out: &mut String,
 ) -> Result<(), NoMemory>
-    ensures { OnOk result (Appends out.old out.new (drawn_text plan.now scale place grants.now rectangles.now)) }
+    ensures { OnOk result (Appends out.old out.new (drawn_text plan.now scale lane.now)) }
 {
     let names = plan.suppliers.as_slice();
-    push_start(colour_of(names, grants), place.x, out)?;
+    let grants = lane.grants.as_slice();
+    push_start(colour_of(names, grants), lane.place.x, out)?;
     push_grants(names, scale.cycles, grants, out)?;
-    push_shows(plan.supplier, place.shows, out)?;
-    push_ungranted(place.shows, grants, out)?;
-    push_rectangles(alloc, scale, rectangles, out)?;
+    push_shows(plan.supplier, lane.place.shows, out)?;
+    push_ungranted(lane.place.shows, grants, out)?;
+    push_rectangles(alloc, scale, lane.rectangles.as_slice(), out)?;
     push_fixed(Fixed::LaneEnd, out)
 }
 
-// The colour of the first supplier that holds a lane. Only who holds it sends there.
+// The colour of the first supplier that holds a lane. Nobody else sends there.
 #[tactic(auto, unfolding(crate::specs::LaneTexts::colour_of))]
 fn colour_of(names: &[Name], grants: &[GrantRow]) -> usize
     ensures { result ≡ colour_of names.now grants.now }
@@ -91,7 +92,7 @@ fn colour_of(names: &[Name], grants: &[GrantRow]) -> usize
     }
 }
 
-// Appends the beginning of a lane: its colour, and where it stands.
+// Appends the beginning of a lane: its colour, and its left edge.
 #[tactic(auto, unfolding(crate::specs::LaneTexts::start_text))]
 fn push_start(colour: usize, x: u32, out: &mut String) -> Result<(), NoMemory>
     ensures { OnOk result (Appends out.old out.new (start_text colour x)) }
@@ -99,7 +100,7 @@ fn push_start(colour: usize, x: u32, out: &mut String) -> Result<(), NoMemory>
     write!(out, "<svg class=c{colour} x={x}>")
 }
 
-// Appends the end of a part and the beginning of the next, where one begins.
+// Appends the end of a part and the beginning of the next, where a part begins.
 #[tactic(auto, unfolding(crate::specs::LaneTexts::opens_text))]
 fn push_opens(
     variant: Name,
@@ -134,7 +135,7 @@ fn push_heading(variant: Name, first: u32, out: &mut String) -> Result<(), NoMem
     )
 }
 
-// Appends a box that scrolls, and the drawing in it, both named by the heading.
+// Appends a box that scrolls, and the drawing in it. The heading names both.
 #[tactic(auto, unfolding(crate::specs::LaneTexts::box_start))]
 fn push_box_start(first: u32, out: &mut String) -> Result<(), NoMemory>
     ensures { OnOk result (Appends out.old out.new (box_start first)) }
@@ -155,7 +156,7 @@ fn push_view(height: u32, first: u32, out: &mut String) -> Result<(), NoMemory>
     )
 }
 
-// Appends the number of a slot, or a gap.
+// Appends the number of a slot, or a gap, or nothing.
 #[tactic(auto, unfolding(crate::specs::LaneTexts::shows_text))]
 fn push_shows(viewer: Option<Name>, shows: Shows, out: &mut String) -> Result<(), NoMemory>
     ensures { OnOk result (Appends out.old out.new (shows_text viewer shows)) }
@@ -170,7 +171,7 @@ fn push_shows(viewer: Option<Name>, shows: Shows, out: &mut String) -> Result<()
     }
 }
 
-// Appends a gap. On the page of one supplier its slots may be another's.
+// Appends a gap. On the page of one supplier, other suppliers may hold its slots.
 #[tactic(auto, unfolding(crate::specs::LaneTexts::gap_text))]
 fn push_gap(viewer: Option<Name>, out: &mut String) -> Result<(), NoMemory>
     ensures { OnOk result (Appends out.old out.new (gap_text viewer)) }
@@ -192,7 +193,7 @@ fn push_slots(first: u32, last: u32, out: &mut String) -> Result<(), NoMemory>
     }
 }
 
-// Appends a lane of a slot that is shown, if there is no grant of it on this channel.
+// Appends the lane of a slot that is shown, if nobody is granted it on this channel.
 #[tactic(auto, unfolding(crate::specs::LaneTexts::ungranted_text))]
 fn push_ungranted(shows: Shows, grants: &[GrantRow], out: &mut String) -> Result<(), NoMemory>
     ensures { OnOk result (Appends out.old out.new (ungranted_text shows grants.now)) }
@@ -229,7 +230,8 @@ fn push_grants(
     Ok(())
 }
 
-// Appends who holds a lane, the lane, hatched, and above and below it the mark of the supplier of this number.
+// Appends the holder of a lane and the hatched lane, with the mark of the supplier of this number
+// above and below it.
 #[tactic(auto, unfolding(crate::specs::LaneTexts::grant_text))]
 fn push_grant(
     cycles: u32,

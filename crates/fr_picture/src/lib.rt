@@ -1,4 +1,5 @@
-//! A picture of a variant's plan, whose rows are asked of a register's desk: one page of HTML, with the static segment as inline SVG.
+//! A picture of a variant's plan. Its rows are asked of a register's desk. It is one page of HTML,
+//! with the static segment as inline SVG.
 #![tactic(auto)]
 
 mod drawing;

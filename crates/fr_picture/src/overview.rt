@@ -1,4 +1,4 @@
-//! The overview: small pictures of the drawing's parts, which lead to them.
+//! The overview: a small picture of each part of the drawing, which leads to the part.
 ghost use Rattle.std.specs.Prelude.{◌≡◌, OnOk, IfOk};
 ghost use Rattle.fr_picture.specs.Overviews.{overview_text, thumbnail_text, thumbnails_text, starts_of};
 ghost use Rattle.fr_picture.specs.Texts.{Appends};

@@ -33,7 +33,7 @@ pub fn write_page(alloc: Global, plan: &Plan) -> Result<String, NoMemory>
     Ok(text)
 }
 
-// The parts of a page, one behind the other.
+// The parts of a page, one after another.
 #[tactic(auto, unfolding(crate::specs::Pages::page_text))]
 fn write_parts(
     alloc: Global,
@@ -68,7 +68,7 @@ fn push_top(plan: &Plan, out: &mut String) -> Result<(), NoMemory>
     push_figures(plan, out)
 }
 
-// Appends the style of payloads of so many bits.
+// Appends the style of the strips of payloads with so many bits.
 #[tactic(auto, unfolding(crate::specs::Pages::strips_text))]
 fn push_strips(bits: u32, out: &mut String) -> Result<(), NoMemory>
     ensures { OnOk result (Appends out.old out.new (strips_text bits)) }
@@ -151,7 +151,7 @@ fn push_cluster(params: &Params, out: &mut String) -> Result<(), NoMemory>
     push_segments(params.raw(), out)
 }
 
-// Appends the channels, and what a cycle has.
+// Appends the channels and the figures of a cycle.
 #[tactic(auto, unfolding(crate::specs::Pages::cycle_figures))]
 fn push_cycle_figures(channels: &str, raw: RawParams, out: &mut String) -> Result<(), NoMemory>
     ensures { OnOk result (Appends out.old out.new (cycle_figures channels.now raw)) }

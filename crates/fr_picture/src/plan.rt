@@ -13,9 +13,10 @@ pub struct Plan {
     pub parent: Option<Name>,
     /// Whether it is released.
     pub released: bool,
-    /// The supplier whose rows alone are shown; or those of all are.
+    /// The supplier whose rows alone are shown; none where those of all are.
     pub supplier: Option<Name>,
-    /// The suppliers that may have rows, by name. By its place here each has its colour and its mark.
+    /// The suppliers that may have rows, by name. By its place here each has its mark, and the number to which the style
+    /// gives a colour.
     pub suppliers: Vec<Name>,
     /// Who holds which slot and channel.
     pub grants: Rows<GrantRow>,

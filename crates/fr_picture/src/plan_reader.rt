@@ -1,5 +1,5 @@
-//! Reads the plan of a variant of a register's desk: who holds which slot, what is sent in which cell, the frames, and the
-//! variant's state.
+//! Reads the plan of a variant from a register's desk: who holds which slot, what is sent in which
+//! cell, the frames, and the variant's state.
 ghost use Rattle.std.specs.Prelude.{◌≡◌, [], ◌∷◌, IfOk, IfSome, Contains, map};
 ghost use Rattle.fr_picture.specs.Frames.{MayRefusePlan};
 ghost use Rattle.fr_picture.specs.Plans.{IsListed, IsPlan, supplier_of, suppliers_seen};
@@ -37,7 +37,7 @@ pub fn read_plan<D: Desk>(alloc: Global, desk: &mut D, view: &View<'_>) -> Resul
     })
 }
 
-// The variant among those of the register. Where there are reports of it, it is one of them.
+// The variant's row in the report of variants. A variant that has reports has such a row.
 fn variant_row<D: Desk>(alloc: Global, desk: &mut D, view: &View<'_>) -> Result<VariantRow, Refusal>
     ensures falls { D.clean desk.new → D.clean desk.old }
     ensures reads { D.clean desk.new → Reads (D.stands desk.old) (D.stands desk.new) result
@@ -58,7 +58,7 @@ fn find<'a>(rows: &'a [VariantRow], variant: &str) -> Option<&'a VariantRow>
     rows.iter().find(|row| row.variant.as_str() == variant)
 }
 
-// Whose rows alone the reader sees.
+// The supplier whose rows alone the reader sees; none for the integrator.
 fn supplier_of(reader: Actor) -> Option<Name>
     ensures { result ≡ supplier_of reader }
 {

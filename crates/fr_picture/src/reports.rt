@@ -12,12 +12,12 @@ use fr_base::{
 };
 use std::alloc::Global;
 
-/// Who reads the plan of a variant.
+/// The reader of a variant's plan.
 #[derive(Clone, Copy)]
 pub struct View<'a> {
-    /// Who asks for its rows.
+    /// The reader, who asks for the rows.
     pub reader: Actor,
-    /// The variant's name, as it was given.
+    /// The variant's name, as the reader gave it.
     pub variant: &'a str,
 }
 
@@ -119,7 +119,7 @@ pub(crate) fn signal_rows<D: Desk>(
     }
 }
 
-// The rows of a report of the variant, as who asks sees them.
+// The rows of a report of the variant, as the reader sees them.
 fn report<D: Desk>(
     alloc: Global,
     desk: &mut D,
@@ -134,7 +134,7 @@ fn report<D: Desk>(
     found(alloc, desk, actor, Query::Variant { variant, report })
 }
 
-// The rows of the answer to a query, as who asks sees them.
+// The rows of the answer to a query, as the reader sees them.
 fn found<D: Desk>(
     alloc: Global,
     desk: &mut D,
@@ -148,7 +148,7 @@ fn found<D: Desk>(
     desk.ask(alloc, &Ask { actor, request }).into_rows()
 }
 
-/// The same rows, as a list of its own.
+/// A copy of the rows.
 pub(crate) fn copy<T: Copy + Drop>(alloc: Global, rows: &[T]) -> Result<Rows<T>, NoMemory>
     ensures { IfOk result (λ copied. copied ≡ rows.now) }
 {

@@ -1,4 +1,5 @@
-//! Shapes that the page has once: the cells of each repetition, a granted lane, and lanes and gaps that nobody holds.
+//! Shapes that the page has once: the cells of each repetition, a granted lane, and a lane and a
+//! gap that nobody holds.
 ghost use Rattle.std.specs.Prelude.{◌+◌, ◌*◌, ◌/◌, ◌<◌, ◌≤◌, OnOk};
 ghost use Rattle.fr_picture.specs.Sets.{cross_text, crossed_text, empties_text, hatch_text, hatches_text, held_text, repeated_text, rows_text, set_path, set_start, sets_text, shapes_text};
 ghost use Rattle.fr_picture.specs.Texts.{Appends};
@@ -48,7 +49,7 @@ fn push_cross(width: u32, cycles: u32, out: &mut String) -> Result<(), NoMemory>
     write!(out, "l{width} {cycles}M{width} 0l-{width} {cycles}\"/>")
 }
 
-// Appends the rest of a granted lane: each of its cells is hatched.
+// Appends the rest of a granted lane: the hatch of each of its cells.
 #[tactic(auto, unfolding(crate::specs::Sets::held_text))]
 fn push_held(scale: Scale, out: &mut String) -> Result<(), NoMemory>
     ensures { OnOk result (Appends out.old out.new (held_text scale)) }
@@ -75,24 +76,23 @@ fn push_hatch(width: u32, cycle: u32, out: &mut String) -> Result<(), NoMemory>
     write!(out, "M0 {y}l{width}-1")
 }
 
-// Appends the cells of each repetition that divides the count of cycles, with base 0.
+// Appends the cells of base 0 and each repetition that divides the count of cycles.
 #[tactic(auto, unfolding(crate::specs::Sets::sets_text))]
 fn push_sets(scale: Scale, out: &mut String) -> Result<(), NoMemory>
     ensures { OnOk result (Appends out.old out.new (sets_text scale)) }
 {
-    for less in 0..scale.cycles {
-        push_set(scale, less, out)?;
+    for index in 0..scale.cycles {
+        push_set(scale, index + 1, out)?;
     }
     Ok(())
 }
 
-// Appends the cells of the repetition that is by one greater than `less`, if it divides the count of cycles.
+// Appends the cells of base 0 and this repetition, if it divides the count of cycles.
 #[tactic(auto, unfolding(crate::specs::Sets::set_path))]
-fn push_set(scale: Scale, less: u32, out: &mut String) -> Result<(), NoMemory>
-    requires { less < scale.cycles }
-    ensures { OnOk result (Appends out.old out.new (set_path scale less)) }
+fn push_set(scale: Scale, repetition: u32, out: &mut String) -> Result<(), NoMemory>
+    requires { 1 ≤ repetition }
+    ensures { OnOk result (Appends out.old out.new (set_path scale repetition)) }
 {
-    let repetition = less + 1;
     if scale.cycles % repetition != 0 {
         return Ok(());
     }
@@ -108,7 +108,8 @@ fn push_set_start(repetition: u32, out: &mut String) -> Result<(), NoMemory>
     write!(out, "<path id={repetition} d=\"")
 }
 
-// Appends one rectangle where each cycle is repeated, and else one for each.
+// Appends the cells of base 0 and this repetition: one rectangle of all cycles for repetition 1,
+// else a rectangle for each cell.
 #[tactic(auto, unfolding(crate::specs::Sets::rows_text))]
 fn push_rows(scale: Scale, repetition: u32, out: &mut String) -> Result<(), NoMemory>
     requires { 1 ≤ repetition }

@@ -13,7 +13,7 @@ use std::alloc::Global;
 /// A supplier, and how full its grants are.
 #[derive(Clone, Copy)]
 pub struct Share {
-    /// Its number, from 0 on, by which it has its colour and mark.
+    /// Its number, from 0 on, which gives its colour and its mark.
     pub number: usize,
     /// Its name.
     pub supplier: Name,
@@ -70,7 +70,7 @@ fn measure(
     }
 }
 
-/// The number of the supplier of this name, by which it has its colour and mark.
+/// The number of the supplier of this name, which gives its colour and its mark.
 pub(crate) fn number_of(names: &[Name], supplier: Name) -> usize
     ensures { result ≡ number_of names.now supplier }
 {
@@ -80,14 +80,15 @@ pub(crate) fn number_of(names: &[Name], supplier: Name) -> usize
     }
 }
 
-// Where the name stands among them.
+// The place of the name among the names.
 fn place_of(names: &[Name], supplier: Name) -> Option<usize>
     ensures { result ≡ position (λ name. same_text name supplier) names.now }
 {
     names.iter().position(|name| *name == supplier)
 }
 
-/// Appends the mark of the supplier of this number: the letter of its colour, and how often the colours were used before it.
+/// Appends the mark of the supplier of this number: the letter of its colour, and how often the
+/// colours came before it.
 #[tactic(auto, unfolding(crate::specs::Shares::mark_text))]
 pub(crate) fn push_mark(number: usize, out: &mut String) -> Result<(), NoMemory>
     ensures { OnOk result (Appends out.old out.new (mark_text number)) }

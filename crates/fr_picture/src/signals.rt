@@ -14,11 +14,11 @@ use std::alloc::Global;
 pub struct DrawnSignal {
     /// The signal.
     pub signal: Signal,
-    /// The payload bits that it has.
+    /// Its payload bits.
     pub runs: Vec<Run>,
 }
 
-/// Payload bits, one beside the other.
+/// Payload bits that follow one another.
 #[derive(Clone, Copy)]
 pub struct Run {
     /// The least bit.
@@ -28,7 +28,8 @@ pub struct Run {
 }
 
 impl DrawnSignal {
-    /// The signal with its bits: each bit of the signal is in just one of the runs, and no other bit is.
+    /// The signal with its bits. Each bit of the signal is in exactly one of the runs, and no other
+    /// bit is in one.
     #[tactic(auto, using(crate::proofs::RunLemmas::signal_bits))]
     pub fn of(alloc: Global, signal: Signal) -> Result<DrawnSignal, NoMemory>
         ensures signal { IfOk result (λ drawn. drawn.signal ≡ signal) }
@@ -50,7 +51,7 @@ fn runs_of(alloc: Global, order: Order, start: u32, length: u32) -> Result<Vec<R
     }
 }
 
-// The bits of a signal in little order: all from its first one on.
+// The bits of a signal in little order: all of them from its first bit on.
 #[tactic(auto, unfolding(crate::specs::Strips::bits_in))]
 fn little_runs(alloc: Global, start: u64, length: u64) -> Result<Vec<Run>, NoMemory>
     ensures { IfOk result (λ runs. bits_in runs.items ≡ range_with_len start length) }
@@ -60,7 +61,8 @@ fn little_runs(alloc: Global, start: u64, length: u64) -> Result<Vec<Run>, NoMem
     Ok(runs)
 }
 
-// The bits of a signal in big order: down to its byte's lowest bit, and then from the highest bit of the next byte.
+// The bits of a signal in big order: down to the lowest bit of its byte, and then from the highest
+// bit of the next byte.
 #[tactic(auto, using(crate::proofs::RunLemmas::bits_in_none))]
 fn big_runs(alloc: Global, start: u64, length: u64) -> Result<Vec<Run>, NoMemory>
     requires small { start + 15 * length < 2 ^ 40 }
@@ -81,7 +83,7 @@ fn big_runs(alloc: Global, start: u64, length: u64) -> Result<Vec<Run>, NoMemory
     Ok(runs)
 }
 
-// The last bits, if any are left; they lie in one byte.
+// Appends the last bits, if any are left. They lie in one byte.
 #[tactic(auto, using(crate::proofs::RunLemmas::last))]
 fn push_last(runs: &mut Vec<Run>, high: u64, left: u64) -> Result<(), NoMemory>
     requires byte { left ≤ high % 8 }
@@ -97,7 +99,8 @@ fn push_last(runs: &mut Vec<Run>, high: u64, left: u64) -> Result<(), NoMemory>
     Ok(())
 }
 
-/// Appends a payload as a strip of bits, with its signals. Each next signal stands in the other one of two rows.
+/// Appends a payload as a strip of bits, with its signals. Two signals that follow one another
+/// stand in different rows, of which there are two.
 #[tactic(auto, unfolding(crate::specs::Strips::strip_text))]
 pub(crate) fn push_strip(signals: &[DrawnSignal], out: &mut String) -> Result<(), NoMemory>
     ensures { OnOk result (Appends out.old out.new (strip_text signals.now)) }
@@ -123,7 +126,7 @@ fn push_bars(signals: &[DrawnSignal], out: &mut String) -> Result<(), NoMemory>
     Ok(())
 }
 
-// Where the middle of the row stands in the strip.
+// The middle of the row in the strip.
 fn row_of(upper: bool) -> u32
     ensures { result ≡ row_of upper }
 {
@@ -147,7 +150,7 @@ fn push_run(row: u32, start: u64, length: u64, out: &mut String) -> Result<(), N
     write!(out, "M{start},{row}h{length}")
 }
 
-// Appends the signals' names, with where they start, their lengths and orders.
+// Appends the signals' names, with their starts, lengths and orders.
 #[tactic(auto, unfolding(crate::specs::Strips::signals_text))]
 fn push_signals(signals: &[DrawnSignal], out: &mut String) -> Result<(), NoMemory>
     ensures { OnOk result (Appends out.old out.new (signals_text signals.now)) }

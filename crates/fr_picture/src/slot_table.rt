@@ -1,4 +1,5 @@
-//! The table of slots: who holds each lane, what is sent in it and in which cycles, and how full it is.
+//! The table of slots: who holds each lane, what is sent there and in which cycles, and how full
+//! the lane is.
 ghost use Rattle.std.specs.Prelude.{◌≡◌, nat_lt, OnOk};
 ghost use Rattle.std.specs.List.{list_any};
 ghost use Rattle.fr_picture.specs.SlotTables.{all_sent_text, comma_text, frame_text, head_text, is_later, lane_name_text, lane_rows_text, load_of, load_text, owner_text, row_text, rows_text, sent_text, slot_table_text, turn_text, when_text};
@@ -50,15 +51,7 @@ fn push_rows(
     ensures { OnOk result (Appends out.old out.new (rows_text names.now cycles lanes.now)) }
 {
     for lane in lanes {
-        let rectangles = lane.rectangles.as_slice();
-        push_lane(
-            alloc,
-            names,
-            cycles,
-            rectangles,
-            lane.grants.as_slice(),
-            out,
-        )?;
+        push_lane(alloc, names, cycles, lane, out)?;
     }
     Ok(())
 }
@@ -69,13 +62,13 @@ fn push_lane(
     alloc: Global,
     names: &[Name],
     cycles: u32,
-    rectangles: &[Rectangle],
-    grants: &[GrantRow],
+    lane: &Lane,
     out: &mut String,
 ) -> Result<(), NoMemory>
-    ensures { OnOk result (Appends out.old out.new (lane_rows_text names.now cycles rectangles.now grants.now)) }
+    ensures { OnOk result (Appends out.old out.new (lane_rows_text names.now cycles lane.now)) }
 {
-    for grant in grants {
+    let rectangles = lane.rectangles.as_slice();
+    for grant in lane.grants.as_slice() {
         push_row(alloc, names, cycles, rectangles, grant, out)?;
     }
     Ok(())
@@ -121,7 +114,7 @@ fn push_load(load: u64, cycles: u32, out: &mut String) -> Result<(), NoMemory>
     write!(out, "<td>{load} of {cycles}\n")
 }
 
-// In how many cycles something is sent.
+// In how many cycles of the lane something is sent.
 #[tactic(auto, unfolding(crate::specs::SlotTables::load_of))]
 fn load_of(rectangles: &[Rectangle]) -> u64
     ensures { result ≡ load_of rectangles.now }
@@ -168,7 +161,7 @@ fn push_sent(
     push_turn(cycles, kind.as_slice(), one, out)
 }
 
-// Appends a comma, if a frame stands before this one.
+// Appends a comma, where a frame stands before this one.
 #[tactic(auto, unfolding(crate::specs::SlotTables::comma_text))]
 fn push_comma(all: &[Rectangle], one: &Rectangle, out: &mut String) -> Result<(), NoMemory>
     ensures { OnOk result (Appends out.old out.new (comma_text all.now one.now)) }
@@ -188,7 +181,7 @@ fn is_later(all: &[Rectangle], one: &Rectangle) -> bool
     all.iter().any(|other| other.first.cycle < one.first.cycle)
 }
 
-// Appends in which cycles a frame is sent, and its name.
+// Appends the cycles in which a frame is sent, and the frame's name.
 #[tactic(auto, unfolding(crate::specs::SlotTables::turn_text))]
 fn push_turn(
     cycles: u32,

@@ -63,7 +63,8 @@ pub(crate) fn style() -> &'static str
     STYLE
 }
 
-/// The letter of a supplier's colour by its number. Eight colours, which colour-blind readers can tell apart, come round again.
+/// The letter of a supplier's colour, by the supplier's number. There are eight colours, which
+/// colour-blind readers can tell apart; then they come again.
 #[tactic(auto, unfolding(crate::specs::Styles::letter_of))]
 pub(crate) fn letter(number: usize) -> &'static str
     ensures { result.now ≡ letter_of (number % 8) }

@@ -1,4 +1,4 @@
-//! Texts that are put behind others.
+//! Texts that are appended to others.
 ghost use Rattle.std.specs.Prelude.{◌≡◌, OnOk};
 ghost use Rattle.fr_picture.specs.Texts.{Appends, fixed_text};
 
@@ -20,7 +20,7 @@ pub(crate) enum Fixed {
     Never,
     /// The beginning of a payload's bits.
     StripStart,
-    /// The end of them.
+    /// The end of a payload's bits.
     StripEnd,
     /// A payload without signals.
     NoStrip,
@@ -38,13 +38,13 @@ pub(crate) enum Fixed {
     TextEnd,
     /// The end of a shape without a title.
     ShapeEnd,
-    /// The beginning of the shape of a lane of which no grant is.
+    /// The beginning of the shape of a lane that nobody is granted.
     FreeStart,
-    /// Such a lane.
+    /// A lane that nobody is granted.
     Free,
-    /// The beginning of slots that nobody holds.
+    /// The beginning of a gap that nobody holds.
     GapOfNobody,
-    /// The beginning of slots that are another supplier's or nobody's.
+    /// The beginning of a gap that other suppliers may hold.
     GapOfOthers,
     /// The end of a lane.
     LaneEnd,
@@ -54,7 +54,7 @@ pub(crate) enum Fixed {
     LegendStart,
     /// The end of the legend, with what the drawing's marks mean.
     LegendEnd,
-    /// The same on the page of one supplier.
+    /// The end of the legend on the page of one supplier.
     LegendEndOfOne,
     /// The beginning of the overview.
     OverviewStart,
@@ -66,9 +66,9 @@ pub(crate) enum Fixed {
     NumbersStart,
     /// What stands beside and above the lanes of channel A alone.
     BandA,
-    /// Of channel B alone.
+    /// What stands beside and above the lanes of channel B alone.
     BandB,
-    /// Of both.
+    /// What stands beside and above the lanes of both channels.
     BandsAB,
     /// The beginning of a grant's row.
     SlotRow,

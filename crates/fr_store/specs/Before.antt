@@ -1,6 +1,6 @@
--- Before: when tables of the schema before stand for a cluster of 64 cycles and a book. All rows but the number's and
--- the cluster's are those of this schema. When files hold such a register. What a migration makes of it, and what a
--- crash leaves of that.
+-- Before: when tables of the schema before stand for a cluster of 64 cycles and a book. All rows
+-- but those of the number and the cluster are as in this schema. When files hold such a register.
+-- What a migration makes of it, and what a crash leaves of that.
 use Rattle.std.specs.Prelude.{◌≡◌, ◌++◌, List, [], ◌∷◌, Result, OnOk, IsTrue}
 use Rattle.sqlite.specs.Effect.{Database}
 use Rattle.sqlite.specs.State.{State, HasCleanDisk, KeepsCommit}
@@ -23,13 +23,14 @@ use Rattle.fr_store.specs.StoreFiles.{IsHeld, database_of}
 
 -- ---- what tables of the schema before stand for
 
--- the one row of the register and the one of the cluster, which has 64 cycles
+-- the register has one row, and the cluster has one row, with 64 cycles
 pub record HadHeads (register : List RegisterRow) (cluster : List ClusterRow) (c : Cluster) : Type 0 where
   pub number : register ≡ numbered old_schema_number ∷ []
   pub params : cluster ≡ cluster_row c.params c.integrator ∷ []
   pub cycles : c.params.cycles ≡ 64
 
--- the tables stand for the cluster and the book; all rows but those of the heads are the ones of this schema
+-- the tables stand for the cluster and the book; all rows but those of the heads are as in this
+-- schema
 pub record StoodFor (t : Tables) (c : Cluster) (b : Book) : Type 0 where
   pub heads : HadHeads t.register t.cluster c
   pub rows : HoldsRows t c.params.cycles b
@@ -51,40 +52,43 @@ pub record HoldsBookBefore (c : Cluster) (b : Book) (image : Image) : Type 0 whe
 
 -- ---- the migration
 
--- the cluster's row is in its new table
+-- the tables after the cluster's row was moved into its new table
 abbrev pub moved : RawParams → Key → Tables → Tables
 moved p integrator t = record t { cluster = []; cluster2 = t.cluster2 ++ cluster2_row p integrator ∷ [] }
 
--- Statements inside a transaction move the row of a cluster with 64 cycles, or one fails.
+-- Statements inside a transaction move the row of a cluster with 64 cycles, or one of them fails.
 abbrev pub MovesCluster : {X E : Type 0} → State → State → Result X E → Type 0
 MovesCluster old new r =
     HasCleanDisk new → IsTrue old.in_transaction → HasTables old.now → (p : RawParams) (integrator : Key) → (tables_of old).cluster ≡ cluster_row p integrator ∷ [] → p.cycles ≡ 64
     → OnOk r (tables_of new ≡ moved p integrator (tables_of old))
 
--- Statements inside a transaction make tables of the schema before those of this one, for the same cluster and book, or one fails.
+-- Statements inside a transaction make tables of the schema before those of this schema, for the
+-- same cluster and book, or one of them fails.
 abbrev pub Migrates : {X E : Type 0} → State → State → Result X E → Type 0
 Migrates old new r = HasCleanDisk new → IsTrue old.in_transaction → (c : Cluster) (b : Book) → StandsBefore old c b → OnOk r (Stands new c b)
 
--- what a crash may leave of it, if not the register of before
+-- what a crash may leave of a migration, beside the register that was there before
 abbrev pub LeavesMigrated : State → Trees → Type 0
 LeavesMigrated old db = (c : Cluster) (b : Book) → StandsBefore old c b → IsRegisterFor c b (database_of db)
 
--- where the database has the schema before, its tables are such as that schema's version writes
+-- where the database has the schema before, its tables are as that version writes them
 abbrev pub HasOldIfBefore : Database → Type 0
 HasOldIfBefore db = IsOld db.schema → HasOldTables db
 
--- Statements inside a transaction over tables of the schema before commit nothing, and where none fails the transaction goes on.
+-- Statements inside a transaction over tables of the schema before commit nothing. Where none fails
+-- the transaction is not over.
 abbrev pub KeepsBefore : {X E : Type 0} → State → State → Result X E → Type 0
 KeepsBefore old new r = HasCleanDisk new → IsTrue old.in_transaction → HasOldTables old.now → KeepsCommit old new × OnOk r (IsTrue new.in_transaction)
 
--- ---- what is opened then
+-- ---- what an open takes
 
--- Statements inside a transaction make tables that say the number of the schema before such as an open wants, or one fails.
+-- Statements inside a transaction take tables that say the number of the schema before, and make
+-- tables that an open wants, or one of them fails.
 abbrev pub MakesOpenable : {X E : Type 0} → State → State → Result X E → Type 0
 MakesOpenable old new r =
     HasCleanDisk new → IsTrue old.in_transaction → HasOldTables old.now → HasNumber old.now old_schema_number
     → OnOk r (IsOpenable new.now)
 
--- the files hold a register that an open wants
+-- the files hold a register that an open takes
 abbrev pub HoldsOpenable : Image → Type 0
 HoldsOpenable image = (db : Database) × IsHeld image db × IsOpenable db

@@ -13,7 +13,8 @@ use Rattle.fr_world.specs.Fits.{IsOpen, IsCounted}
 use Rattle.fr_world.specs.declared.edit.Edit.TheVariants.{Rows}
 use Rattle.fr_store.specs.Reading.{Stands}
 
--- a frame and a placement that are added are new, and a frame that is changed or dropped is there, and a placement that ends; `there` is what stands at the frame's name
+-- a frame or a placement that is added is new; a frame that is changed or dropped is there, and so
+-- is a placement that ends; `there` is what stands at the frame's name
 abbrev pub FitsAt : Option Frame → FrameChange → Type 0
 FitsAt there (Add node) = is_some there ≡ false
 FitsAt (Some frame) (Place q) = contains frame.placements q ≡ false

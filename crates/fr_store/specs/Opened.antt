@@ -1,5 +1,5 @@
--- Opened: what a connection says that has opened files; what a register is that was opened in them, or made; what files
--- are that were migrated; and what those hold that were closed.
+-- Opened: what a connection says that has opened files. What a register is that was opened or made
+-- in them. What files are that were migrated. What files hold that were closed.
 use Rattle.std.specs.Prelude.{◌≡◌, [], ◌∷◌, IsTrue}
 use Rattle.sqlite.specs.Files.{HoldsDatabase, image_of}
 use Rattle.sqlite.specs.State.{State, HasCleanDisk, IsLive, Opens}
@@ -21,8 +21,8 @@ use Rattle.fr_store.specs.Reading.{Stands, TellsOpened}
 use Rattle.fr_store.specs.Store.{IsNewOf, IsRegisterOf}
 use Rattle.fr_store.specs.StoreFiles.{FindsBook, FindsLeft, HoldsBook, HoldsRegister, IsFound, IsHeld, database_of, image_left, outcomes_left}
 
--- A connection has opened files that held this: it has the database that they held, or an empty one. Tables of this schema, or of the one
--- before, are in the order of their keys.
+-- A connection has opened files that held this. It has the database that they held, or an empty
+-- one. The rows of tables of this schema, or of the one before, are in the order of their numbers.
 pub record IsConnected (held : Image) (s : State) : Type 0 where
   pub opens : Opens s × IsLive s
   pub ordered : IsOurs s.now.schema → AreOrdered s.now.trees
@@ -30,7 +30,7 @@ pub record IsConnected (held : Image) (s : State) : Type 0 where
   pub found : (db : Trees) → HoldsDatabase held db → s.now.trees ≡ db
   pub reads : IsFound held s.now
 
--- A register of this cluster is opened in files that held this, all of it committed.
+-- A register of this cluster was opened in files that held this. All of it is committed.
 pub record IsOpenedIn (held : Image) (found : ClusterFile) (s : State) : Type 0 where
   pub is_open : IsTrue s.is_open
   pub stands : IsRegisterOf found s.now
@@ -42,7 +42,8 @@ pub record IsOpenedIn (held : Image) (found : ClusterFile) (s : State) : Type 0 
   pub again : FindsBook held s found
   pub left : FindsLeft held s found
 
--- A new register of this cluster is made in files that held this, all of it committed, and a crash leaves no other.
+-- A new register of this cluster was made in files that held this. All of it is committed, and a
+-- crash leaves no other.
 pub record IsMadeIn (held : Image) (f : ClusterFile) (s : State) : Type 0 where
   pub made : IsNewOf f s.now
   pub stands : Stands s f.cluster (opening f)
@@ -52,8 +53,8 @@ pub record IsMadeIn (held : Image) (f : ClusterFile) (s : State) : Type 0 where
   pub bare : AllowsCreation held
 
 module _ {D : Type 0} {g : Ghosts D} where
-  -- Files that held this are migrated: where they held a register of the schema before they hold its book, in a register that an open wants,
-  -- and so does whatever a crash leaves of them.
+  -- Files that held this were migrated. Where they held a register of the schema before, they hold
+  -- its book, in a register that an open takes; and so does whatever a crash leaves of them.
   pub record IsMigrated (held : Image) (left : Leftover D g) : Type 0 where
     pub migrated : (c : Cluster) (b : Book) → HoldsBookBefore c b held → HoldsBook c b (image_left left)
     pub survives : (image : Image) → outcomes_left left image → (c : Cluster) (b : Book) → HoldsBookBefore c b held → HoldsBook c b image
@@ -61,7 +62,8 @@ module _ {D : Type 0} {g : Ghosts D} where
     pub opens : HoldsOpenable (image_left left)
     pub opens_still : (image : Image) → outcomes_left left image → HoldsOpenable image
 
--- Files that were closed by a connection hold what it had committed, and so does whatever a crash leaves of them.
+-- Files that a connection closed hold what it had committed, and so does whatever a crash leaves of
+-- them.
 pub record HoldCommitted {D : Type 0} (g : Ghosts D) (files : Files D) (s : State) : Type 0 where
   pub clean : HasCleanDisk s
   pub is_open : IsTrue s.is_open

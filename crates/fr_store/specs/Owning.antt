@@ -1,6 +1,6 @@
--- Own frames: how a variant is stored, over its parent or not. Which frames are its own, and for each frame that it
--- shows, which variant has it as its own. A frame that is only a parent's becomes its own, with copies of all its rows,
--- and what each variant shows stays.
+-- Own frames: how a variant is stored, laid over its parent or not. Which frames are its own, and
+-- which variant has each frame that it shows as its own. A frame that is only a parent's becomes
+-- its own, with copies of all its rows, and what each variant shows stays.
 use Rattle.std.specs.Prelude.{◌≡◌, ◌++◌, ◌&&◌, ℕ, Bool, List, Some, Result, MatchResult, OnOk, IfOk, IsTrue, IsPermutation}
 use Rattle.std.specs.List.{list_any}
 use Rattle.std.specs.Ordering.{int_eq}
@@ -20,26 +20,27 @@ use Rattle.fr_store.specs.declared.applying.level.Level.{Level}
 
 -- ---- how a variant is stored
 
--- the row is the variant's, and says whether it is stored over its parent
+-- the row is the variant's, and says whether it is laid over its parent
 abbrev pub says_over : Name → Bool → VariantRow → Bool
 says_over v over r = is_variant v r && int_eq r.overlay (flag over)
 
--- the variant is there, and stored over its parent, or else not
+-- the variant is there, and whether it is laid over its parent
 abbrev pub IsStoredSo : Name → Bool → Tables → Type 0
 IsStoredSo v over t = IsTrue (list_any (says_over v over) t.variants)
 
--- this is how the variant is stored, and its parent
+-- this is the variant's parent, and this is how the variant is stored
 pub record TellsLevel (v : Name) (t : Tables) (level : Level) : Type 0 where
   pub overlay : IsStoredSo v level.overlay t
   pub parent : (count : ℕ) (b : Book) → HoldsRows t count b → (x : Variant) → get b.variants v ≡ Some x → x.parent ≡ level.parent
 
 -- ---- a variant's own frames
 
--- whether the frame has a row in the variant, and is not only its parent's
+-- whether the frame has a row of its own in the variant, and is not only shown from its parent
 abbrev pub is_own : Name → Name → Name → Tables → Bool
 is_own v s f t = list_any (is_frame v s f) t.frames
 
--- the frame that a variant shows is the owner's own; one that is the variant's own has no other owner
+-- the frame that a variant shows is the owner's own; where it is the variant's own, the variant is
+-- its owner
 pub record IsOfOwner (b : Book) (t : Tables) (v s f : Name) (frame : Frame) (owner : Name) : Type 0 where
   pub variant : Variant
   pub there : get b.variants owner ≡ Some variant
@@ -53,7 +54,8 @@ pub record IsOwner (v s f owner : Name) (old new : State) : Type 0 where
   pub inside : IsTrue new.in_transaction
   pub of : (c : Cluster) (b : Book) → Stands old c b → (x : Variant) (frame : Frame) → get b.variants v ≡ Some x → get x.frames (s, f) ≡ Some frame → IsOfOwner b (tables_of old) v s f frame owner
 
--- Queries inside a transaction find the owner of the frame that the variant shows, or one fails.
+-- Queries inside a transaction find the owner of the frame that the variant shows, or one of them
+-- fails.
 abbrev pub FindsOwner : {E : Type 0} → Name → Name → Name → State → State → Result Name E → Type 0
 FindsOwner v s f old new r = HasCleanDisk new → IsTrue old.in_transaction → HasTables old.now → KeepsCommit old new × IfOk r (λ owner. IsOwner v s f owner old new)
 
@@ -63,7 +65,7 @@ abbrev pub with_frame_rows : List FrameRow → List PlacementRow → List Signal
 with_frame_rows frames placements signals t =
     record t { frames = t.frames ++ frames; placements = t.placements ++ placements; signals = t.signals ++ signals }
 
--- copies of all rows of the one variant's frame are put in for the other, in some order
+-- copies of all rows of one variant's frame are put in for the other variant, in some order
 pub record CopiesFrame (from to s f : Name) (old new : State) : Type 0 where
   pub frames : List FrameRow
   pub placements : List PlacementRow
@@ -73,12 +75,13 @@ pub record CopiesFrame (from to s f : Name) (old new : State) : Type 0 where
   pub same_signals : IsPermutation (signal_copies from to s f (tables_of old)) signals
   pub added : Changes (with_frame_rows frames placements signals) old new
 
--- Statements inside a transaction make those copies, or fail and commit nothing.
+-- Statements inside a transaction make such copies, or fail and commit nothing.
 abbrev pub MakesFrameCopies : {X E : Type 0} → Name → Name → Name → Name → State → State → Result X E → Type 0
 MakesFrameCopies from to s f old new r =
     HasCleanDisk new → IsTrue old.in_transaction → HasTables old.now → MatchResult r (λ _. CopiesFrame from to s f old new) (λ _. KeepsCommit old new)
 
--- Statements inside a transaction make the frame that an open variant shows its own, and what each variant shows stays; or they fail.
+-- Statements inside a transaction make the frame that an open variant shows its own, and what each
+-- variant shows stays; or one of them fails.
 abbrev pub MakesOwn : {X E : Type 0} → Name → Name → Name → State → State → Result X E → Type 0
 MakesOwn v s f old new r =
     HasCleanDisk new → IsTrue old.in_transaction → (c : Cluster) (b : Book) → Stands old c b → (x : Variant) (frame : Frame) → IsOpen b v x → get x.frames (s, f) ≡ Some frame

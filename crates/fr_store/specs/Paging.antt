@@ -1,5 +1,5 @@
--- Paging: what a call reads of a supplier's rows in a variant, which are its nodes, its grants, the frames that are the
--- variant's own, those that the variant shows, and its page.
+-- Paging: what a call reads of a supplier's rows in a variant: its nodes, its grants, the frames
+-- that are the variant's own, the frames that the variant shows, and its page.
 use Rattle.std.specs.Prelude.{◌≡◌, ℕ, pos, List, option_map, Option, Some, None, Result, MatchResult, MatchOption, nat_abs, unwrap_or, if◌then◌else◌}
 use Rattle.std.specs.Ordering.{int_eq}
 use Rattle.sqlite.specs.Order.{Row, column}
@@ -28,20 +28,21 @@ use Rattle.fr_store.specs.declared.page.frames.FrameRows.{FrameRows}
 use Rattle.fr_store.specs.declared.page.view.Level.{Level}
 use Rattle.fr_store.specs.declared.page.view.View.{View}
 
--- A call that reads says this of the tables and leaves them, or it fails.
+-- A call that reads says this of the tables and leaves them as they are, or it fails.
 abbrev pub Reads : {X E : Type 0} → (Tables → X → Type 0) → State → State → Result X E → Type 0
 Reads says old new r = HasCleanDisk new → HasTables old.now → MatchResult r (λ x. says (tables_of old) x × IsUnchanged old new) (λ _. Stays old new)
 
 -- ---- a variant's row
 
--- the parent over which the variant is laid, if it is over one: whose frames it shows too
+-- the parent over which the variant is laid, if it is laid over one; it shows that parent's frames
+-- too
 abbrev pub laid_over : Stored → Variant → Option Name
 laid_over stored x = if stored.overlay then x.parent else None
 
 abbrev pub level_shown : Row → Level
 level_shown r = record { released = int_eq (number (column r 3)) (pos 1); parent = if int_eq (number (column r 4)) (pos 1) then maybe_words (column r 1) else None }
 
--- whether the variant is released, and over which parent it is laid, if it is there
+-- whether the variant is released, and over which parent it is laid, if the variant is there
 abbrev pub TellsLevel : Name → Tables → Option Level → Type 0
 TellsLevel v t found =
     (count : ℕ) (b : Book) (stands : HoldsRows t count b)
@@ -64,7 +65,7 @@ TellsGrants v s t grants =
 
 -- ---- a frame's placements
 
--- of so many cycles
+-- the placement that a row says, with this count of cycles
 abbrev pub placement_shown : ℕ → Row → Placement
 placement_shown count r = record {
   slot = nat_abs (number (column r 1));
@@ -90,7 +91,8 @@ TellsFrame p v s f n t rows =
 
 -- ---- the variant's own frames
 
--- the rows are those of the supplier's frames among the variant's own, of their placements and of their signals
+-- the rows are those of the supplier's frames that are the variant's own, of their placements and
+-- of their signals
 pub record AreFrameRows (v s : Name) (t : Tables) (rows : FrameRows) : Type 0 where
   pub frames : AreListed shows_frame (is_frame_of v s) frames_cmp t.frames rows.frames.items
   pub placements : AreListed shows_placement (is_placed_by v s) placements_cmp t.placements rows.placements.items
@@ -99,7 +101,8 @@ pub record AreFrameRows (v s : Name) (t : Tables) (rows : FrameRows) : Type 0 wh
 abbrev pub node_shown : Row → Name
 node_shown r = words (column r 1)
 
--- these are the supplier's among the variant's own frames, with placements of so many cycles
+-- these are the supplier's frames that are the variant's own, with placements of this count of
+-- cycles
 abbrev pub TellsFrames : ℕ → Name → Name → Tables → List (Name × FrameData) → Type 0
 TellsFrames count v s t frames =
     (b : Book) (stands : HoldsRows t count b) (x : Variant) → get b.variants v ≡ Some x → table_of owned (λ f. (s, f)) frame_of frames ≡ own s (stands.stored v).own
@@ -110,13 +113,14 @@ TellsFrames count v s t frames =
 abbrev pub AreFramesIn : Name → Variant → List (Name × FrameData) → Type 0
 AreFramesIn s x frames = table_of owned (λ f. (s, f)) frame_of frames ≡ own s x.frames
 
--- where the first are the supplier's frames in the parent over which the variant is laid, the others are those in the variant
+-- If the first frames are the supplier's in the parent over which the variant is laid, the others
+-- are the supplier's in the variant.
 abbrev pub TellsOver : ℕ → Name → Name → Name → List (Name × FrameData) → Tables → List (Name × FrameData) → Type 0
 TellsOver count v s parent inherited t frames =
     (b : Book) (stands : HoldsRows t count b) (x y : Variant) → get b.variants v ≡ Some x → laid_over (stands.stored v) x ≡ Some parent → get b.variants parent ≡ Some y
     → AreFramesIn s y inherited → AreFramesIn s x frames
 
--- whether the variant is released, and these are the supplier's frames in it, if it is there
+-- whether the variant is released, and the supplier's frames in it, if the variant is there
 abbrev pub TellsView : ℕ → Name → Name → Tables → Option View → Type 0
 TellsView count v s t found =
     (b : Book) → HoldsRows t count b

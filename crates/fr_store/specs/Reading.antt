@@ -1,5 +1,6 @@
--- Reading: what a call reads of the book for which the tables stand, as the variants, a supplier's nodes, the holder of
--- a slot, and an import that is kept. Which variants a register can have, whoever wrote its rows.
+-- Reading: what a call reads of the book for which the tables stand: the variants, a supplier's
+-- nodes, the holder of a slot, and an import that is kept. Which variants a register can have,
+-- whoever wrote its rows.
 use Rattle.std.specs.Prelude.{◌≡◌, ◌≤◌, ℕ, pos, List, length, map, All, Option, Some, None, Result, Ok, IfOk, nat_abs}
 use Rattle.std.specs.Ordering.{int_eq}
 use Rattle.sqlite.specs.Order.{Row, column}
@@ -25,15 +26,15 @@ pub record Stands (s : State) (c : Cluster) (b : Book) : Type 0 where
   pub has : HasTables s.now
   pub for : StandsFor (tables_of s) c b
 
--- A call answers so of the book for which the tables stand, or fails.
+-- A call answers this of the book for which the tables stand, or it fails.
 abbrev pub Tells : {X E : Type 0} → State → State → Result X E → (Cluster → Book → X → Type 0) → Type 0
 Tells old new r says = HasCleanDisk new → (c : Cluster) (b : Book) → Stands old c b → IfOk r (says c b)
 
--- A call that reads leaves the tables, or the transaction is undone.
+-- A call that reads leaves the tables as they are, or the transaction is undone.
 abbrev pub Leaves : State → State → Type 0
 Leaves old new = HasCleanDisk new → HasTables old.now → Stays old new
 
--- ---- what a row says that is shown
+-- ---- what a row says
 
 abbrev pub name_shown : Row → Name
 name_shown r = words (column r 0)
@@ -57,7 +58,7 @@ import_shown r = record { variant = words (column r 0); body = bytes (column r 1
 abbrev pub as_holder : Holder → book.Holder
 as_holder h = record { supplier = h.supplier; node = h.node }
 
--- who holds the slot and channel in the variant, if it is there
+-- who holds the slot and channel in the variant, if the variant is there
 abbrev pub held_in : Option Variant → ℕ × Channel → Option book.Holder
 held_in None at = None
 held_in (Some x) at = get x.grants at
@@ -67,15 +68,16 @@ holder_in b v at = held_in (get b.variants v) at
 
 -- ---- which variants a register can have, whoever wrote its rows
 
--- the variant is as deep as one that is opened from its parent, or from none
+-- the variant is as deep as one that is opened from its parent, or from no parent
 abbrev pub WasOpened : List VariantRow → VariantRow → Type 0
 WasOpened variants row = depth_after variants row.parent ≡ Ok row.depth
 
--- no more than may be, each opened empty or from one of them
+-- there are no more variants than a register may have, and each was opened empty or from another of
+-- them
 pub record AreOpened (variants : List VariantRow) : Type 0 where
   pub limit : length variants ≤ MAX_VARIANTS
   pub each : All (WasOpened variants) variants
 
--- the variants of which the tables tell are such
+-- a register can have the variants that the tables tell
 abbrev pub TellsOpened : Tables → Type 0
 TellsOpened t = (rows : List Row) × AreListed shows_variant every variants_cmp t.variants rows × AreOpened (map variant_shown rows)

@@ -1,5 +1,6 @@
--- Refused: what a call says that refuses files, in which it was to open, to migrate or to make a register: which faults
--- it tells, for what cause, and that it leaves what the files held. The same of files in which no database was opened.
+-- Refused: what a call says that refuses files in which it was to open, to migrate or to make a
+-- register. Which faults it tells, for what cause, and that it leaves what the files held. The same
+-- of files in which no database was opened.
 use Rattle.std.specs.Prelude.{◌≡◌, ◌≢◌, ◌⊎◌, ℤ, Option, Some, None, IfSome, false}
 use Rattle.sqlite.specs.Effect.{Database, IsDatabase}
 use Rattle.sqlite.specs.Files.{HoldsDatabase, IsCleanLeft}
@@ -21,8 +22,9 @@ use Rattle.fr_store.specs.declared.fault.StoreFault.TheVariants.{NotEmpty, NotAR
 
 -- ---- why files are refused
 
--- What a call says of files that it refuses: which faults it tells of any; why it refuses a database that they hold; why it refuses them,
--- whatever they hold; and which files it refuses as Unavailable alone.
+-- What a call says of files that it refuses: which faults it tells of any files; why it refuses a
+-- database that they hold; why it refuses them, whatever they hold; and which files it refuses by
+-- Unavailable alone.
 pub record Refusing : Type 1 where
   pub tells : StoreFault → Type 0
   pub database : Database → StoreFault → Type 0
@@ -33,15 +35,15 @@ pub record Refusing : Type 1 where
 abbrev pub wanting : ℤ → (Image → Type 0) → Refusing
 wanting number takes = record { tells = λ fault. fault ≢ NotEmpty; database = Refuses number; files = RefusesFiles number; takes = takes }
 
--- one that opens a register
+-- the call that opens a register
 abbrev pub opens : Refusing
 opens = wanting our_schema_number (λ held. (c : ClusterFile) × (db : Trees) × HoldsRegister c held db)
 
--- one that migrates a register of the schema before
+-- the call that migrates a register of the schema before
 abbrev pub migrates : Refusing
 migrates = wanting old_schema_number (λ held. (c : Cluster) × (b : Book) × HoldsBookBefore c b held)
 
--- one that makes a register, where none of its tables is
+-- the call that makes a register, where none of its tables is
 abbrev pub makes : Refusing
 makes = record {
   tells = λ fault. (fault ≡ NotEmpty) ⊎ (fault ≡ Unavailable);
@@ -52,11 +54,11 @@ makes = record {
 
 -- ---- what is left of the files
 
--- files that are given back are all that is left
+-- what is left where these files are given back: the files
 abbrev pub files_alone : {D : Type 0} (g : Ghosts D) → Files D → Leftover D g
 files_alone g files = left.Files files
 
--- and nothing is left of such as are not
+-- what is left where the files may be given back: the files, or nothing
 abbrev pub given_back : {D : Type 0} (g : Ghosts D) → Option (Files D) → Option (Leftover D g)
 given_back g None = None
 given_back g (Some files) = Some (files_alone g files)
@@ -72,8 +74,9 @@ NeedsNone fault = IsUnavailable fault ⊎ (fault ≡ NotARegister)
 -- ---- a refusal
 
 module _ {D : Type 0} {g : Ghosts D} where
-  -- What a fault says of files that held this, where nobody else wrote to those that are left. But for Unavailable they still hold the
-  -- database that they held, and so does whatever a crash leaves of them.
+  -- What a fault says of files that held this, where nobody else wrote to those that are left. They
+  -- still hold the database that they held, unless the fault is Unavailable; and so does whatever a
+  -- crash leaves of them.
   pub record IsToldBy (call : Refusing) (held : Image) (fault : StoreFault) (left : Leftover D g) : Type 0 where
     pub told : (d : Database) → IsDatabase d → HoldsDatabase held d.trees → call.database d fault
     pub cause : call.files held fault
@@ -81,13 +84,15 @@ module _ {D : Type 0} {g : Ghosts D} where
     pub untouched : fault ≢ Unavailable → (d : Database) → IsDatabase d → HoldsDatabase held d.trees → IsHeld (image_left left) d
     pub survives : fault ≢ Unavailable → (image : Image) → outcomes_left left image → (d : Database) → IsDatabase d → HoldsDatabase held d.trees → IsHeld image d
 
-  -- A call refuses files that held this, for a fault that it tells. Where nothing is left of them the fault is such a one.
+  -- A call refuses files that held this, for a fault that it tells. Where nothing is left of them
+  -- the fault is one for which files are not given back.
   pub record IsRefusedBy (call : Refusing) (Without : StoreFault → Type 0) (held : Image) (fault : StoreFault) (rest : Option (Leftover D g)) : Type 0 where
     pub tells : call.tells fault
     pub left : IfSome rest (λ left. IsCleanLeft left → IsToldBy call held fault left)
     pub lost : rest ≡ None → Without fault
 
-  -- No database is opened in files that held this. Where they held one it is for want of memory or a fault.
+  -- No database was opened in files that held this. Where they held one, memory was refused or
+  -- there was a fault.
   pub record IsUnopened (held : Image) (fault : StoreFault) (rest : Option (Leftover D g)) : Type 0 where
     pub told : IfSome rest (λ left. IsCleanLeft left → (db : Trees) → HoldsDatabase held db → fault ≡ Unavailable)
     pub not_made : fault ≢ NotEmpty

@@ -1,9 +1,10 @@
--- Stands for, view: the tables stand for a cluster and a book where they have one row for each entry of the book, in
--- any order, and no other; but of a variant's frames only its own have rows. A variant shows its own frames alone; or,
--- where it is laid over its parent, also those that the parent shows, that it has not itself and that were not dropped
--- in it. They are its frames in the book. Of the count of cycles no row of a placement tells: it is the cluster's
--- (`IsAsStored`). What the rows of the book say (`HoldsRows`) is parted from the heads, which are the number and the
--- cluster (`HasHeads`).
+-- Stands for, view: the tables stand for a cluster and a book where they have one row for each
+-- entry of the book, in any order, and no other. Only those of a variant's frames that are its own
+-- have rows. A variant shows its own frames. Where it is laid over its parent, it also shows those
+-- that the parent shows, that it has not itself and that were not dropped in it. These are its
+-- frames in the book. No row of a placement tells the count of cycles: it is the cluster's
+-- (`IsAsStored`). The rows of the book's entries (`HoldsRows`) are kept apart from the heads, which
+-- are the number and the cluster (`HasHeads`).
 use Rattle.std.specs.Prelude.{◌≡◌, ℕ, suc, pos, Bool, not, ◌||◌, List, [], ◌∷◌, map, Option, Some, None, IsTrue, IsPermutation, IsSorted, All, ⊤, if◌then◌else◌}
 use Rattle.std.specs.List.{flat_map, list_any}
 use Rattle.std.specs.Ordering.{on, nat_cmp}
@@ -23,7 +24,8 @@ use Rattle.fr_tables.specs.Asking.{numbered, our_schema_number}
 
 -- ---- how variants are stored
 
--- whether over its parent, whose frames it then shows too; and the frames that are its own
+-- how a variant is stored: whether it is laid over its parent, whose frames it then shows too; and
+-- the frames that are its own
 pub record Stored : Type 0 where
   pub overlay : Bool
   pub own : Table owned Frame
@@ -56,7 +58,7 @@ placement_rows v f = map (placement_row v f.0.0 f.0.1) (placements_in f.1)
 abbrev pub signal_rows : Name → Entry → List SignalRow
 signal_rows v f = map (signal_row v f.0.0 f.0.1) f.1.signals
 
--- what each of the variants' own frames says
+-- what is said of each of the variants' own frames
 unfoldable pub of_frames : {X : Type 0} → (Name → Entry → List X) → (Name → Stored) → Table names Variant → List X
 of_frames rows stored variants = flat_map (λ e. flat_map (rows e.0) (stored e.0).own.rows) variants.rows
 
@@ -71,12 +73,13 @@ of_parent variants (Some parent) k = frame_in (get variants parent) k
     frame_in None k = None
     frame_in (Some x) k = get x.frames k
 
--- its own frame; else the parent's, unless that is hidden
+-- the variant's own frame; else the parent's, unless it is hidden
 abbrev pub own_or : Option Frame → Bool → Option Frame → Option Frame
 own_or (Some own) hidden inherited = Some own
 own_or None hidden inherited = if hidden then None else inherited
 
--- whether the parent's frame is not the variant's: this one was dropped, or none is shown
+-- whether the parent's frame is hidden: it was dropped in the variant, or the variant is not laid
+-- over its parent
 abbrev pub is_hidden : List DroppedRow → Name → Stored → Name × Name → Bool
 is_hidden dropped v stored k = not stored.overlay || list_any (is_dropped v k.0 k.1) dropped
 
@@ -103,8 +106,9 @@ pub record IsAsStored (count : ℕ) (dropped : List DroppedRow) (variants : Tabl
   pub frames : (k : Name × Name) → get x.frames k ≡ seen dropped variants v x.parent stored k
   pub fine : (k : Name × Name) (f : Frame) → get x.frames k ≡ Some f → IsFine count f
 
--- The tables have one row for each entry of the book, in any order, and no other. Only the frames' rows are those of the frames that are
--- a variant's own. A placement's row does not say of how many cycles it is: of so many as the register counts.
+-- The tables have one row for each entry of the book, in any order, and no other. Frames have rows
+-- only where they are a variant's own. The row of a placement does not say its count of cycles: it
+-- is this one.
 pub record HoldsRows (t : Tables) (count : ℕ) (b : Book) : Type 0 where
   pub suppliers : IsPermutation (map supplier_row (map listed b.suppliers.rows)) t.suppliers
   pub nodes : IsPermutation (map node_row b.nodes.rows) t.nodes

@@ -1,5 +1,6 @@
--- Register: when a database is a register of a cluster, or of a cluster and a book, and when a new one; when it is
--- found again, and what an open wants of it; whether one of its tables is there, and why none is made.
+-- Register: when a database is a register of a cluster, or of a cluster and a book; when it is a
+-- new one. When it is found again, and what an open wants of it. Whether one of its tables is
+-- there, and why no register is made.
 use Rattle.std.specs.Prelude.{◌≡◌, ℕ, [], ◌∷◌, List, Bool, false, map, IsTrue, IsPermutation, Result, MatchResult, ⊤}
 use Rattle.std.specs.List.{list_any}
 use Rattle.sqlite.specs.Table.{Table}
@@ -20,9 +21,9 @@ use Rattle.fr_store.specs.Reading.{Stands, TellsOpened}
 use Rattle.fr_store.specs.declared.fault.StoreFault.{StoreFault}
 use Rattle.fr_store.specs.declared.fault.StoreFault.TheVariants.{NotEmpty, NotARegister, WrongSchema, Unavailable}
 
--- ---- of which cluster the tables tell
+-- ---- the cluster that the tables tell
 
--- the tables tell the number of this schema, and of this cluster and its suppliers
+-- the tables tell the number of this schema, this cluster and its suppliers
 pub record TellsOf (f : ClusterFile) (t : Tables) : Type 0 where
   pub register : t.register ≡ numbered our_schema_number ∷ []
   pub cluster2 : t.cluster2 ≡ cluster2_row f.cluster.params f.cluster.integrator ∷ []
@@ -38,12 +39,13 @@ pub record IsRegisterFor (c : Cluster) (b : Book) (db : Database) : Type 0 where
   pub has : HasTables db
   pub for : StandsFor (tables_in db.trees) c b
 
--- What was found is the cluster for which the tables stood, with the book's suppliers, and they stand as they did.
+-- What was found is the cluster for which the tables stood, with the book's suppliers. The tables
+-- stand as they did.
 abbrev pub FindsAgain : State → State → ClusterFile → Type 0
 FindsAgain old new found = (c : Cluster) (b : Book) → Stands old c b → (found ≡ file_of c b) × Stands new c b
 
--- What an open wants of tables: that they are a register of some cluster, whose keys and names have their form, and that a
--- register can have its variants.
+-- What an open wants of tables. They are a register of some cluster, whose keys and names have
+-- their form, and a register can have its variants.
 pub record IsOpenable (db : Database) : Type 0 where
   pub file : ClusterFile
   pub formed : IsWellFormed file
@@ -52,13 +54,15 @@ pub record IsOpenable (db : Database) : Type 0 where
 
 -- ---- a new register
 
--- the database is a new register of this cluster, with all its tables and the index where they are made
+-- the database is a new register of this cluster: it has all tables and the index, where they are
+-- made
 pub record IsNewOf (f : ClusterFile) (db : Database) : Type 0 where
   pub has : HasTables db
   pub schema : db.schema ≡ register_schema layout_made
   pub rows : tables_in db.trees ≡ with_config f no_rows
 
--- Statements inside a transaction make a new register where no table is, or fail and commit nothing.
+-- Statements inside a transaction make a new register where no table is, or fail and commit
+-- nothing.
 abbrev pub MakesNew : {X E : Type 0} → ClusterFile → State → State → Result X E → Type 0
 MakesNew f old new r =
     HasCleanDisk new → IsTrue old.in_transaction → IsFresh 0 0 old.now → MatchResult r (λ _. IsNewOf f new.now × Shows old new new.now old.committed old.in_transaction) (λ _. KeepsCommit old new)
@@ -71,14 +75,14 @@ is_ours name = list_any (λ (t : Table). same_name t.name name) all_tables
 abbrev pub has_table : Schema → Bool
 has_table schema = list_any (λ (t : Table). is_ours t.name) schema.tables
 
--- why no register is made where this schema is
+-- why no register is made in a database of this schema
 abbrev pub Forbids : Schema → StoreFault → Type 0
 Forbids schema NotEmpty = IsTrue (has_table schema)
 Forbids schema NotARegister = ⊥
 Forbids schema WrongSchema = ⊥
 Forbids schema Unavailable = has_table schema ≡ false
 
--- the same of files, which may also not be read
+-- why no register is made in files; they may also not be read
 abbrev pub MayForbid : Schema → StoreFault → Type 0
 MayForbid schema NotEmpty = IsTrue (has_table schema)
 MayForbid schema NotARegister = ⊥

@@ -1,6 +1,6 @@
--- Files: when a database file and its log hold a database, a register, or one whose tables stand for a book; which
--- database an open finds in them; what survives since they were opened, and what a crash may leave of files that were
--- not.
+-- Files: when a database file and its log hold a database, a register, or a register for a book.
+-- Which database an open finds in them. What survives since they were opened, and what a crash may
+-- leave of files that were not opened.
 use Rattle.std.specs.Prelude.{◌≡◌}
 use Rattle.sqlite.specs.Effect.{Database, IsDatabase}
 use Rattle.sqlite.specs.Closing.{files_left}
@@ -26,13 +26,15 @@ pub record IsHeld (image : Image) (db : Database) : Type 0 where
   pub holds : ∥ HoldsDatabase image db.trees ∥₁
   pub sound : IsDatabase db
 
--- An open finds this database in the files: they recover to it, or nothing was there and it is empty. If they hold one, it is this.
+-- An open finds this database in the files: they recover to it, or nothing was there and it is
+-- empty. If the files hold a database, it is this one.
 pub record IsFound (image : Image) (db : Database) : Type 0 where
   pub recovered : AreFoundIn image db.trees
   pub sound : IsDatabase db
   pub only : (trees : Trees) → HoldsDatabase image trees → db.trees ≡ trees
 
--- the tables of this schema, with the last one and the index where the trees list them
+-- the database in these trees, with the tables of this schema, the last one and the index where the
+-- trees list them
 abbrev pub database_of : Trees → Database
 database_of db = record { schema = register_schema (layout_of db); trees = db }
 
@@ -51,20 +53,20 @@ pub record HoldsBook (c : Cluster) (b : Book) (image : Image) : Type 0 where
 abbrev pub KeepsBook : Database → Image → Type 0
 KeepsBook db image = (c : Cluster) (b : Book) → IsRegisterFor c b db → HoldsBook c b image
 
--- What was found is the cluster of the register that the files held, and the tables stand for its book.
+-- What was found is the cluster of the register that the files held. The tables stand for its book.
 abbrev pub FindsBook : Image → State → ClusterFile → Type 0
 FindsBook image s found = (c : Cluster) (b : Book) → HoldsBook c b image → (found ≡ file_of c b) × Stands s c b
 
--- so where all that is known of what they held is that its tables stood for the book
+-- The same of a database that the files hold, whose tables stand for the book.
 abbrev pub FindsLeft : Image → State → ClusterFile → Type 0
 FindsLeft image s found = (c : Cluster) (b : Book) (db : Trees) → HoldsDatabase image db → IsRegisterFor c b (database_of db) → (found ≡ file_of c b) × Stands s c b
 
 module _ {D : Type 0} {g : Ghosts D} where
-  -- what is left of two files
+  -- the image of what is left of two files
   abbrev pub image_left : Leftover D g → Image
   image_left left = let both = files_left left in seen_image g both.0 both.1
 
-  -- what a crash may leave of them
+  -- what a crash may leave of what is left of two files
   abbrev pub outcomes_left : Leftover D g → Image → Type 0
   outcomes_left left = let both = files_left left in outcomes g both.0 both.1
 
@@ -73,6 +75,7 @@ module _ {D : Type 0} {g : Ghosts D} where
     pub opens : HasCleanDisk (file_state c) → Opens (file_state c) × IsLive (file_state c)
     pub found : HasCleanDisk (file_state c) → (db : Trees) → HoldsDatabase image db → (file_state c).now.trees ≡ db
 
-  -- Since the files were opened no fault was forgotten, and a crash leaves what it would have left then, or what is committed since.
+  -- Since the files were opened no fault was forgotten. A crash leaves what it would have left
+  -- then, or what was committed since.
   abbrev pub SurvivesSince : Image → Held (FileStore D g) → (Trees → Type 0) → Type 0
   SurvivesSince image new commits = (first : Held (FileStore D g)) × HasOpened image first × Survives (file_state first) (file_state new) commits

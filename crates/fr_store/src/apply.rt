@@ -23,8 +23,8 @@ use fr_world::Edit;
 use sqlite::{Alter, Connection, Transaction};
 use std::alloc::Global;
 
-/// Carries the edits out, one after the other.
-fn all<S: Alter>(tx: &mut Transaction<'_, S>, edits: &[Edit]) -> Result<(), StoreFault>
+/// Carries the edits out, one after another.
+fn carry_out_all<S: Alter>(tx: &mut Transaction<'_, S>, edits: &[Edit]) -> Result<(), StoreFault>
     ensures same_reference { tx.new.conn.ghost_name ≡ tx.old.conn.ghost_name }
     ensures carried { CarriesOutAll edits.now
         (state S.Store tx.old.conn.now) (state S.Store tx.new.conn.now) result }
@@ -41,7 +41,7 @@ fn all<S: Alter>(tx: &mut Transaction<'_, S>, edits: &[Edit]) -> Result<(), Stor
 }
 
 /// Carries all edits out in one transaction.
-fn in_one<S: Alter>(conn: &mut Connection<S>, edits: &[Edit]) -> Result<(), StoreFault>
+fn in_one_transaction<S: Alter>(conn: &mut Connection<S>, edits: &[Edit]) -> Result<(), StoreFault>
     requires { conn.old.in_transaction ≡ false }
     ensures stands { let old = state S.Store conn.old in let new = state S.Store conn.new in
         HasCleanDisk new → (c : _) (b : _) → Stands old c b → AllFit c.params b edits.now
@@ -62,18 +62,18 @@ fn in_one<S: Alter>(conn: &mut Connection<S>, edits: &[Edit]) -> Result<(), Stor
 {
     let _settled = conn.is_autocommit();
     let mut tx = conn.transaction();
-    all(&mut tx, edits)?;
+    carry_out_all(&mut tx, edits)?;
     tx.commit()?;
     Ok(())
 }
 
 impl<S: Alter> Store<S> {
-    /// Carries the edits out, one after the other, in one transaction: all of them, or none. Each has to
-    /// fit the rows that those before it left: what it adds is not there, what it names or takes out is
-    /// there, a variant that changes is open, and a parent is released. The config then lists the
-    /// suppliers that joined, and the keys that were changed. The only refusal is `Unavailable`, also where the
-    /// config does not admit a supplier or a key; then the rows and the config are as they were, but a crash may leave the rows after the
-    /// edits. Where they were carried out, a crash leaves no others.
+    /// Carries the edits out, one after the other: all of them, or none. Each has to fit the rows that those before it
+    /// left: what it adds is not there, what it names or takes out is there, a variant that changes is open, and a parent
+    /// is released. The config then lists the suppliers that joined, and the keys that were changed. The only refusal is
+    /// `Unavailable`, also where the config does not admit a supplier or a key. Then the config is as it was, and so are
+    /// the rows while the connection is open; but a crash may leave the rows after the edits. Where they were carried out,
+    /// a crash leaves no others.
     pub fn apply(&mut self, alloc: Global, edits: &[Edit]) -> Result<(), StoreFault>
         ensures stands { let old = state S.Store self.old.conn in
             let new = state S.Store self.new.conn in
@@ -111,7 +111,7 @@ impl<S: Alter> Store<S> {
         }
         // Memory for the suppliers that join is taken before anything is written.
         let after = config_after(alloc, &self.config, edits)?;
-        in_one(&mut self.conn, edits)?;
+        in_one_transaction(&mut self.conn, edits)?;
         if let Some(config) = after {
             self.config = config;
         }

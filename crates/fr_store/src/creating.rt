@@ -25,12 +25,12 @@ use sqlite_schema::schema::Schema;
 use std::alloc::Global;
 
 /// Makes the tables and the rows of a new register.
-fn all<S: Alter>(tx: &mut Transaction<'_, S>, config: &Config) -> Result<(), Error>
+fn make_and_fill<S: Alter>(tx: &mut Transaction<'_, S>, config: &Config) -> Result<(), Error>
     ensures same_reference { tx.new.conn.ghost_name ≡ tx.old.conn.ghost_name }
     ensures made { MakesNew config.now (state S.Store tx.old.conn.now) (state S.Store tx.new.conn.now) result }
     ensures survives { Survives (state S.Store tx.old.conn.now) (state S.Store tx.new.conn.now) (λ _. ⊥) }
 {
-    making::all(tx)?;
+    making::every_table(tx)?;
     filling::config(tx, config)
 }
 
@@ -46,7 +46,7 @@ fn create<S: Alter>(conn: &mut Connection<S>, config: &Config) -> Result<(), Err
 {
     let _settled = conn.is_autocommit();
     let mut tx = conn.transaction();
-    all(&mut tx, config)?;
+    make_and_fill(&mut tx, config)?;
     tx.commit()
 }
 
@@ -96,8 +96,8 @@ fn is_bare(schema: &Schema) -> bool
 impl<S: Alter + Drop> Store<S> {
     /// Makes a register of this cluster, where no table is. What a crash then leaves is this register. It is
     /// NotEmpty where one of a register's tables is there already, whatever the case of its name and whatever its columns.
-    /// Within a transaction, or where another table, index or view is there, it is Unavailable. A refusal hands the
-    /// connection back, its tables as they were.
+    /// Else a refusal is Unavailable, as where another table, index or view is there, or within a transaction. It hands the
+    /// connection back, its tables as they were while it is open.
     pub fn create_on(
         alloc: Global,
         mut conn: Connection<S>,

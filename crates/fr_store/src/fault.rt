@@ -3,16 +3,17 @@
 use sqlite::Error;
 use std::alloc::AllocError;
 
-/// Why a register cannot be made or opened, or what was asked of it cannot be carried out.
+/// Why a register cannot be made or opened, or why it cannot do what was asked of it.
 #[derive(Clone, Copy, Debug, PartialEq, Eq, Drop)]
 pub enum StoreFault {
-    /// A register was to be made where one of its tables is.
+    /// A register was to be made where one of its tables is already.
     NotEmpty,
-    /// There is no table `register` with one number.
+    /// There is no database, or no table `register` with one number.
     NotARegister,
-    /// Its number is another version's.
+    /// The number of the schema is another version's.
     WrongSchema,
-    /// There was no memory, the disk failed, or the rows are no register's.
+    /// All else: there was no memory, the disk failed, or the rows are no register's. Which it was, no clause says. A change
+    /// that was refused so is not seen; where the disk failed, what is opened afterwards has it or has it not.
     Unavailable,
 }
 

@@ -1,4 +1,4 @@
-//! A register made, and one opened, in a database file and its log, and these closed.
+//! Makes and opens a register in a database file and its log, and closes both.
 
 ghost use Rattle.std.specs.Prelude.{◌≡◌, IsTrue, IfOk, IfErr, IfSome, Some, false};
 ghost use Rattle.sqlite_wal.specs.Files.{outcomes};
@@ -20,7 +20,7 @@ use sqlite::{Connection, Error, ErrorCode, FileStore, Files, Options};
 use sqlite_disk::Disk;
 use std::alloc::Global;
 
-/// Gives the files back, with each commit in the database file.
+/// Closes the connection and gives the files back. The database file has each commit.
 pub(crate) fn closed<D: Disk + Drop>(conn: Connection<FileStore<D>>) -> Option<Files<D>>
     ensures usable { IfSome result (λ files.
         IsTrue (D.Disk.is_usable files.log) × IsTrue (D.Disk.is_usable files.db)) }
@@ -37,11 +37,12 @@ pub(crate) fn closed<D: Disk + Drop>(conn: Connection<FileStore<D>>) -> Option<F
     }
 }
 
-/// The database that the files hold, or an empty one where they are empty.
-// What a crash leaves of files that are refused here is not proved. Three steps are missing in what the kit says of a refused
-// open. Pages are taken to have sums only where the first page says so, but the converse is not said, so the size of a page
-// that the files held may be another than the one that was taken. The store is not said to be numbered, as `opens_again`
-// needs it. And that an image is nothing, and that it holds a database, are not shown to exclude each other.
+/// The database that the files hold, or an empty one where they hold nothing.
+// What a crash leaves of files that are refused here is not proved. What the kit says of a refused
+// open lacks three facts. First: pages are taken to have sums only where the first page says so, but
+// the converse is not said. So the size of a page that the files held may be another than the one
+// that was taken. Second: the store is not said to be numbered, as `opens_again` needs it. Third:
+// that an image is nothing, and that it holds a database, are not shown to exclude each other.
 pub(crate) fn connected<D: Disk + Drop>(
     alloc: Global,
     files: Files<D>,
@@ -70,7 +71,7 @@ pub(crate) fn connected<D: Disk + Drop>(
 }
 
 impl<D: Disk + Drop> Store<FileStore<D>> {
-    /// Gives the files back, with each commit in the database file.
+    /// Gives the files back. The database file has each commit.
     pub fn close(self) -> Result<Files<D>, StoreFault>
         ensures usable { IfOk result (λ files.
             IsTrue (D.Disk.is_usable files.log) × IsTrue (D.Disk.is_usable files.db)) }
@@ -96,7 +97,8 @@ impl<D: Disk + Drop> Store<FileStore<D>> {
         }
     }
 
-    /// Gives the files back as they are. What a crash leaves of them holds a register that it might have left before.
+    /// Gives the files back as they are. What a crash leaves of them holds a register that it might
+    /// have left before.
     pub fn give_up(self) -> Files<D>
         ensures left { AreClean D.Disk result.log result.db
             → (image : _) → outcomes D.Disk result.log result.db image
@@ -106,10 +108,10 @@ impl<D: Disk + Drop> Store<FileStore<D>> {
         self.into_connection().into_store().close()
     }
 
-    /// Makes a register of this cluster in files that hold no table: all of it, or nothing. It is NotEmpty
+    /// Makes a register of this cluster in files that hold no table: all of it, or nothing. It is NotEmpty only
     /// where one of a register's tables is found in them already; then they hold what they held, and so does what a
-    /// crash leaves. Else a refusal is Unavailable. It gives the files back, unless they fail to close, so that the caller
-    /// can try again. The log's salts need a seed, which `options` give, since files alone give none.
+    /// crash leaves. Else a refusal is Unavailable. It may give the files back, so that the caller can try again. The log's
+    /// salts need a seed, which `options` give, since files alone give none.
     pub fn create(
         alloc: Global,
         files: Files<D>,
@@ -142,9 +144,9 @@ impl<D: Disk + Drop> Store<FileStore<D>> {
         }
     }
 
-    /// The register that the files hold. It is NotARegister where they hold no database, or one that does not say one
-    /// number of its schema, and WrongSchema where that is another than this version's; then they hold what they held,
-    /// and so does what a crash leaves. Else a refusal is Unavailable. It gives the files back, unless they fail to close.
+    /// The register that the files hold. It is NotARegister only where they hold no database, or one that does not say one
+    /// number of its schema, and WrongSchema only where that is another than this version's; then they hold what they held,
+    /// and so does what a crash leaves. Else a refusal is Unavailable. It may give the files back.
     pub fn open(
         alloc: Global,
         files: Files<D>,

@@ -1,4 +1,4 @@
-//! A register in memory: in files of which only the bytes are kept.
+//! A register in memory: a database file of which only the bytes are kept.
 
 ghost use Rattle.std.specs.Prelude.{◌≡◌, true, false, refl, length, is_ok, IfOk, IfErr, OnOk, []};
 ghost use Rattle.sqlite_disk.specs.Disk.{Holds, Torn, Cut, CountsFault};
@@ -17,8 +17,7 @@ use sqlite_disk::{Disk, Tally};
 use std::alloc::{AllocError, Global};
 use std::io;
 
-/// A database's file in memory. It fails only where memory is refused, or a read goes past its end. A commit is
-/// there at once, so a sync has nothing to do.
+/// A database's file in memory. A commit is there at once, so a sync has nothing to do.
 #[derive(Drop)]
 pub struct MemoryFile {
     bytes: Vec<u8>,
@@ -90,7 +89,7 @@ impl Disk for MemoryFile {
         Ok(())
     }
 
-    // What is there has the digest that it had.
+    // The bytes have not changed since they were written, so their digest is right.
     fn read_checked(&mut self, _key: u64, _want: u64, at: usize, buf: &mut [u8]) -> io::Result<()> {
         self.read_at(at, buf)
     }
@@ -108,15 +107,15 @@ impl Disk for MemoryFile {
     }
 }
 
-/// With what the log is salted. Nobody else has it.
+/// The salt of the log. Nobody else sees the log.
 const SALT: u64 = 1;
 
-/// How many bytes a page of a register in memory has. A change copies each page that it touches; over smaller ones there
-/// are more levels of pages.
+/// How many bytes a page of a register in memory has. A change copies each page that it touches.
+/// Smaller pages would have more levels.
 const PAGE_BYTES: usize = 1_024;
 
-/// With what a database begins that has no table and one page of so many bytes: its header, and the head of an empty
-/// leaf. What comes behind it is zero.
+/// The first bytes of a database that has no table and one page of so many bytes: its header, and
+/// the head of an empty leaf. All behind them is zero.
 const FRONT: &[u8; 108] = b"SQLite format 3\0\x04\0\x02\x02\0@  \0\0\0\x01\0\0\0\x01\
 \0\0\0\0\0\0\0\0\0\0\0\0\0\0\0\x04\0\0\0\0\0\0\0\0\0\0\0\x01\0\0\0\0\0\0\0\0\0\0\0\0\
 \0\0\0\0\0\0\0\0\0\0\0\0\0\0\0\0\0\0\0\0\0\0\0\x01\0\x2e\x63\x01\x0d\0\0\0\0\x04\0\0";
@@ -156,7 +155,7 @@ impl Store<FileStore<MemoryFile>> {
     }
 }
 
-/// The outcome of a call, which is counted where it failed.
+/// The outcome of a call. A failure is counted among the faults.
 fn counted(outcome: Result<(), AllocError>, faults: &mut u64) -> io::Result<()>
     ensures variant { is_ok result ≡ is_ok outcome }
     ensures kind { finds_no_room result ≡ false }
@@ -169,7 +168,7 @@ fn counted(outcome: Result<(), AllocError>, faults: &mut u64) -> io::Result<()>
     Ok(())
 }
 
-/// Gives the file this length. What is new is zero.
+/// Gives the file this length. New bytes are zero.
 fn resize(file: &mut Vec<u8>, len: usize) -> Result<(), AllocError>
     ensures len { OnOk result (length file.new.items ≡ len) }
     ensures others { Cut len file.old.items file.new.items }
@@ -177,7 +176,7 @@ fn resize(file: &mut Vec<u8>, len: usize) -> Result<(), AllocError>
     file.resize(len, 0)
 }
 
-/// Writes the bytes at this place, past the end too.
+/// Writes the bytes at this place, also past the end.
 fn overwrite(file: &mut Vec<u8>, at: usize, bytes: &[u8]) -> Result<(), AllocError>
     ensures written { OnOk result (Holds file.new.items at bytes.now) }
     ensures others { Torn at (length bytes.now) file.old.items file.new.items }

@@ -35,7 +35,7 @@ fn move_cluster<S: Alter>(tx: &mut Transaction<'_, S>) -> Result<(), StoreFault>
     ensures refused { IfErr result (λ e. e ≡ fault.Unavailable) }
     ensures survives { Survives (state S.Store tx.old.conn.now) (state S.Store tx.new.conn.now) (λ _. ⊥) }
 {
-    let rows = tables::cluster::all_inside(tx)?;
+    let rows = tables::cluster::row_inside(tx)?;
     let Some((params, integrator)) = read_before(rows.as_slice()) else {
         return Err(StoreFault::Unavailable);
     };
@@ -44,7 +44,7 @@ fn move_cluster<S: Alter>(tx: &mut Transaction<'_, S>) -> Result<(), StoreFault>
     Ok(())
 }
 
-/// Sees that the tables are such as an open wants, and leaves them as they are.
+/// Makes sure that the tables are such as an open wants. It leaves them as they are.
 fn expect_config<S: Alter>(alloc: Global, tx: &mut Transaction<'_, S>) -> Result<(), StoreFault>
     ensures same_reference { tx.new.conn.ghost_name ≡ tx.old.conn.ghost_name }
     ensures opens { let old = state S.Store tx.old.conn.now in let new = state S.Store tx.new.conn.now in
@@ -54,9 +54,9 @@ fn expect_config<S: Alter>(alloc: Global, tx: &mut Transaction<'_, S>) -> Result
     ensures refused { IfErr result (λ e. e ≡ fault.Unavailable) }
     ensures survives { Survives (state S.Store tx.old.conn.now) (state S.Store tx.new.conn.now) (λ _. ⊥) }
 {
-    let cluster = tables::cluster2::all_inside(tx)?;
-    let suppliers = tables::suppliers::all_inside(tx)?;
-    let variants = tables::variants::all_inside(tx)?;
+    let cluster = tables::cluster2::row_inside(tx)?;
+    let suppliers = tables::suppliers::by_name_inside(tx)?;
+    let variants = tables::variants::by_name_inside(tx)?;
     let found = config_of(
         alloc,
         cluster.as_slice(),
@@ -71,9 +71,9 @@ fn expect_config<S: Alter>(alloc: Global, tx: &mut Transaction<'_, S>) -> Result
 
 const NUMBER: u32 = 2;
 
-/// Makes the cluster's new table, moves its row, and then gives the register its new number. It fails where the
-/// tables are then no register that is opened.
-fn renew<S: Alter>(alloc: Global, tx: &mut Transaction<'_, S>) -> Result<(), StoreFault>
+/// Makes the cluster's new table, moves its row, and then gives the register its new number. It
+/// fails where no open would take the tables then.
+fn change_schema<S: Alter>(alloc: Global, tx: &mut Transaction<'_, S>) -> Result<(), StoreFault>
     ensures same_reference { tx.new.conn.ghost_name ≡ tx.old.conn.ghost_name }
     ensures migrated { Migrates (state S.Store tx.old.conn.now) (state S.Store tx.new.conn.now) result }
     ensures opens { MakesOpenable (state S.Store tx.old.conn.now) (state S.Store tx.new.conn.now) result }
@@ -88,8 +88,8 @@ fn renew<S: Alter>(alloc: Global, tx: &mut Transaction<'_, S>) -> Result<(), Sto
     Ok(())
 }
 
-/// All of that in one transaction, or nothing.
-fn in_one<S: Alter>(alloc: Global, conn: &mut Connection<S>) -> Result<(), StoreFault>
+/// Changes the schema in one transaction: all of it, or nothing.
+fn in_one_transaction<S: Alter>(alloc: Global, conn: &mut Connection<S>) -> Result<(), StoreFault>
     requires { conn.old.in_transaction ≡ false }
     ensures migrated { HasCleanDisk (state S.Store conn.new) → (c : _) (b : _) → StandsBefore (state S.Store conn.old) c b → OnOk result (Stands (state S.Store conn.new) c b) }
     ensures opens { let old = state S.Store conn.old in let new = state S.Store conn.new in
@@ -102,13 +102,13 @@ fn in_one<S: Alter>(alloc: Global, conn: &mut Connection<S>) -> Result<(), Store
 {
     let _settled = conn.is_autocommit();
     let mut tx = conn.transaction();
-    renew(alloc, &mut tx)?;
+    change_schema(alloc, &mut tx)?;
     tx.commit()?;
     Ok(())
 }
 
-/// That the connection is open, with its tables as they are.
-pub(crate) fn see_open<S: Alter>(conn: &mut Connection<S>) -> Result<(), StoreFault>
+/// Makes sure that the connection is open. It leaves the tables as they are.
+pub(crate) fn require_open<S: Alter>(conn: &mut Connection<S>) -> Result<(), StoreFault>
     requires { conn.old.in_transaction ≡ false }
     ensures open { HasCleanDisk (state S.Store conn.new) → OnOk result (IsUnchanged (state S.Store conn.old) (state S.Store conn.new)) }
     ensures same { HasCleanDisk (state S.Store conn.new) → AreAsBefore (state S.Store conn.old) (state S.Store conn.new) }
@@ -126,9 +126,9 @@ pub(crate) fn see_open<S: Alter>(conn: &mut Connection<S>) -> Result<(), StoreFa
 const NUMBER_BEFORE: i64 = 1;
 
 /// Makes a register of the schema before one of this schema: all of it, or nothing. Its clusters had 64 cycles, and
-/// so has this one then; all else stays, and it is a register that is opened. It is NotARegister where the tables say no
-/// number, WrongSchema where they say another one, this schema's too, and else Unavailable, also where no register has
-/// such rows; then the tables are as they were.
+/// so has this one then; all else stays, and its tables are such as an open wants. It is NotARegister only where the tables
+/// say no number, WrongSchema only where they say another one, this schema's too, and else Unavailable, also where no
+/// register has such rows; then the tables are as they were, while the connection is open.
 pub fn migrate_on<S: Alter>(alloc: Global, conn: &mut Connection<S>) -> Result<(), StoreFault>
     ensures migrated { HasCleanDisk (state S.Store conn.new) → (c : _) (b : _) → StandsBefore (state S.Store conn.old) c b → OnOk result (Stands (state S.Store conn.new) c b) }
     ensures committed { HasCleanDisk (state S.Store conn.new) → OnOk result ((state S.Store conn.new).committed ≡ (state S.Store conn.new).now) }
@@ -150,6 +150,6 @@ pub fn migrate_on<S: Alter>(alloc: Global, conn: &mut Connection<S>) -> Result<(
     if !is_known {
         return Err(StoreFault::Unavailable);
     }
-    see_open(conn)?;
-    in_one(alloc, conn)
+    require_open(conn)?;
+    in_one_transaction(alloc, conn)
 }

@@ -18,7 +18,7 @@ ghost use Rattle.fr_store.specs.Opening.{Explains};
 ghost use Rattle.fr_store.specs.declared.fault.StoreFault.TheVariants as fault;
 
 use crate::fault::StoreFault;
-use crate::migrating::see_open;
+use crate::migrating::require_open;
 use crate::reading::opened_variants;
 use crate::schemas::{expect_number, is_ours};
 use crate::store::Store;
@@ -28,8 +28,8 @@ use fr_tables::cluster;
 use sqlite::{Alter, Connection, Row};
 use std::alloc::Global;
 
-/// Whether the variants of which the tables tell are such as were opened one from the other. Want of memory is
-/// told as false.
+/// Whether a register can have the variants that the tables tell: each was opened empty, or from
+/// another of them. Want of memory counts as no.
 fn has_opened_variants<S: Alter>(alloc: Global, conn: &mut Connection<S>) -> bool
     requires { conn.old.in_transaction ≡ false }
     ensures opened { HasCleanDisk (state S.Store conn.new) → IsTrue (state S.Store conn.new).is_open → HasTables (state S.Store conn.new).now → IsTrue result → TellsOpened (tables_of (state S.Store conn.new)) }
@@ -46,8 +46,8 @@ fn has_opened_variants<S: Alter>(alloc: Global, conn: &mut Connection<S>) -> boo
     }
 }
 
-/// The cluster of which the tables tell. None, if their rows make none, if no register has their variants, or for want
-/// of memory.
+/// The config that the tables tell. None, if their rows tell none, if no register has their
+/// variants, or for want of memory.
 fn config<S: Alter>(alloc: Global, conn: &mut Connection<S>) -> Option<Config>
     requires { conn.old.in_transaction ≡ false }
     ensures cluster { HasCleanDisk (state S.Store conn.new) → IsTrue (state S.Store conn.new).is_open → HasTables (state S.Store conn.old).now → IfSome result (λ c. (tables_of (state S.Store conn.old)).cluster2 ≡ cluster2_row c.cluster.params c.cluster.integrator ∷ []) }
@@ -73,8 +73,8 @@ fn config<S: Alter>(alloc: Global, conn: &mut Connection<S>) -> Option<Config>
     cluster::read(alloc, cluster.as_slice(), suppliers.as_slice())
 }
 
-/// The cluster of which these rows tell. None, if they make none, if no register has their variants, or for want of
-/// memory.
+/// The config that these rows tell. None, if they tell none, if no register has their variants, or
+/// for want of memory.
 pub(crate) fn config_of(
     alloc: Global,
     cluster: &[Row],
@@ -92,7 +92,7 @@ pub(crate) fn config_of(
 
 const NUMBER: i64 = 2;
 
-/// The cluster of the register that the tables are, or why they are not opened.
+/// The config of the register that the tables are, or why they are not opened.
 fn read_config<S: Alter>(alloc: Global, conn: &mut Connection<S>) -> Result<Config, StoreFault>
     requires { conn.old.in_transaction ≡ false }
     ensures formed { IfOk result IsWellFormed }
@@ -110,7 +110,7 @@ fn read_config<S: Alter>(alloc: Global, conn: &mut Connection<S>) -> Result<Conf
     let Some(config) = config(alloc, conn) else {
         return Err(StoreFault::Unavailable);
     };
-    see_open(conn)?;
+    require_open(conn)?;
     if is_ours(alloc, conn.schema()) {
         Ok(config)
     } else {
@@ -119,8 +119,8 @@ fn read_config<S: Alter>(alloc: Global, conn: &mut Connection<S>) -> Result<Conf
 }
 
 impl<S: Alter + Drop> Store<S> {
-    /// The register that the tables are; its connection is open. A refusal hands the connection back, its
-    /// tables as they were.
+    /// The register that the tables are, with its connection open. A refusal hands the connection
+    /// back, with its tables as they were.
     pub fn open_on(
         alloc: Global,
         mut conn: Connection<S>,

@@ -1,4 +1,4 @@
-//! A supplier's rows in a variant, of which its page is made, read from the tables.
+//! Reads a supplier's rows in a variant from the tables. Its page is made of them.
 
 ghost use Rattle.std.specs.Prelude.{◌≡◌, map, option_map, reverse, IfErr, IfOk, IfSome};
 ghost use Rattle.sqlite.specs.Held.{state};
@@ -67,7 +67,7 @@ fn own_nodes<S: Alter>(
     nodes_of(alloc, rows.as_slice()).ok_or(StoreFault::Unavailable)
 }
 
-// The names in the rows' first columns. None where one is no name, or memory is refused.
+// The names in the rows' first columns. None where one is not a name, or memory is refused.
 fn nodes_of(alloc: Global, rows: &[Row]) -> Option<BTreeSet<Name>>
     ensures { IfSome result (λ nodes. (s : _) → set_of owned (λ n. (s, n)) nodes.keys ≡ set_of owned (λ n. (s, n)) (map name_shown (reverse rows.now))) }
 {
@@ -95,7 +95,7 @@ fn own_grants<S: Alter>(
     grants_of(alloc, rows.as_slice()).ok_or(StoreFault::Unavailable)
 }
 
-// The grants in the rows. None where a row has not its form, or memory is refused.
+// The grants in the rows. None where a row has not the form, or memory is refused.
 fn grants_of(alloc: Global, rows: &[Row]) -> Option<BTreeMap<ChannelSlot, Name>>
     ensures { IfSome result (λ grants. (s : _) → table_of channel_slots (λ k. (k.slot, k.channel)) (holder_of s) grants.entries ≡ table_of channel_slots (λ k. (k.slot, k.channel)) (holder_of s) (map grant_shown (reverse rows.now))) }
 {

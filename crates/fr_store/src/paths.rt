@@ -1,4 +1,4 @@
-//! A register made, and one opened, in the database file at a path.
+//! Makes and opens a register in the database file at a path.
 
 ghost use Rattle.std.specs.Prelude.{◌≡◌, IfOk, IfErr, false};
 ghost use Rattle.sqlite_wal.specs.Files.{image_at};
@@ -42,10 +42,11 @@ pub(crate) fn connected_at<S: Start>(
 }
 
 impl<S: Start> Store<FileStore<FileFrom<S>>> {
-    /// Makes a register of this cluster in the file at a path, or in a new one: all of it, or nothing. It is NotEmpty
-    /// where the file holds one of a register's tables already, and then it holds what it held. `start` says what is
-    /// supposed of the file. A refusal gives back what is left of the files, unless they were not opened or fail to close.
-    /// Other paths than those of files, `:memory:` and `file:..`, are Unavailable.
+    /// Makes a register of this cluster in the file at a path, or in a new one: all of it, or nothing. It is NotEmpty only
+    /// where the file holds one of a register's tables already, and then it holds what it held. `start` says what the file
+    /// held as it was opened. A refusal may give back what is left of the files.
+    ///
+    /// No clause reaches the path. Other paths than those of files, `:memory:` and `file:..`, are Unavailable.
     pub fn create_at(
         rt: &HostRuntime,
         path: &str,
@@ -74,10 +75,11 @@ impl<S: Start> Store<FileStore<FileFrom<S>>> {
         }
     }
 
-    /// The register in the file at a path. `start` says what is supposed of the file. Where there is no file it is
-    /// NotARegister, and a database with no table is then there. Else the faults are those of `open`. A refusal gives back
-    /// what is left of the files, unless they were not opened or fail to close. Other paths than those of files are
-    /// Unavailable.
+    /// The register in the file at a path. `start` says what the file held as it was opened. The faults are those of
+    /// `open`. A refusal may give back what is left of the files.
+    ///
+    /// No clause reaches the path. Where there is no file it is NotARegister, and a database with no table is then there.
+    /// Other paths than those of files are Unavailable.
     pub fn open_at(
         rt: &HostRuntime,
         path: &str,

@@ -37,8 +37,9 @@ impl<S: Alter> Store<S> {
         Ok(!rows.is_empty())
     }
 
-    /// The supplier's page of the variant, if the variant is there, where the config has as many cycles as the cluster
-    /// for which the tables stand. The only refusal is `Unavailable`.
+    /// The supplier's page of the variant, if the variant is there. It is the supplier's where the
+    /// config has as many cycles as the cluster for which the tables stand. The only refusal is
+    /// `Unavailable`.
     pub fn page(
         &mut self,
         alloc: Global,
@@ -79,7 +80,8 @@ impl<S: Alter> Store<S> {
         first_holder(rows.as_slice())
     }
 
-    /// The variants, by name, each opened empty or from one of them. The only refusal is `Unavailable`.
+    /// The variants, by name. Each was opened empty or from one of them. The only refusal is
+    /// `Unavailable`.
     pub fn variants(&mut self, alloc: Global) -> Result<Vec<VariantRow>, StoreFault>
         ensures variants { Tells (state S.Store self.old.conn) (state S.Store self.new.conn) result (λ c b rows. rows.items ≡ variants_in b) }
         ensures opened { IfOk result (λ rows. AreOpened rows.items) }
@@ -88,7 +90,7 @@ impl<S: Alter> Store<S> {
         ensures stays { Leaves (state S.Store self.old.conn) (state S.Store self.new.conn) }
         ensures spares { Spares (state S.Store self.old.conn) (state S.Store self.new.conn) }
     {
-        let rows = tables::variants::all(&mut self.conn)?;
+        let rows = tables::variants::by_name(&mut self.conn)?;
         opened_variants(alloc, rows.as_slice()).ok_or(StoreFault::Unavailable)
     }
 
@@ -104,7 +106,8 @@ impl<S: Alter> Store<S> {
         names_of(alloc, rows.as_slice()).ok_or(StoreFault::Unavailable)
     }
 
-    /// The import that the supplier has under the label, if it is kept. The only refusal is `Unavailable`.
+    /// The import that the supplier keeps under the label, if there is one. The only refusal is
+    /// `Unavailable`.
     pub fn import(
         &mut self,
         alloc: Global,

@@ -1,4 +1,5 @@
-//! What rows say of the register: who holds a slot, its variants, a supplier's nodes, and its imports.
+//! What rows say of the register: the holder of a slot, the variants, a supplier's nodes, and its
+//! imports.
 
 ghost use Rattle.std.specs.Prelude.{◌≡◌, map, All, IfErr, IfOk, IfSome, IsTrue, option_map, slice_get};
 ghost use Rattle.fr_world.specs.Common.{row_of};
@@ -14,7 +15,7 @@ use fr_world::KeptImport;
 use sqlite::Row;
 use std::alloc::Global;
 
-/// The names in the rows' first columns. None where one is no name, or memory is refused.
+/// The names in the rows' first columns. None where one is not a name, or memory is refused.
 pub(crate) fn names_of(alloc: Global, rows: &[Row]) -> Option<Vec<Name>>
     ensures { IfSome result (λ names. names.items ≡ map name_shown rows.now) }
 {
@@ -25,7 +26,8 @@ pub(crate) fn names_of(alloc: Global, rows: &[Row]) -> Option<Vec<Name>>
     Some(names)
 }
 
-/// The variants in the rows. None where a row has not its form, a variant was not opened so, or memory is refused.
+/// The variants in the rows. None where a row has not the form, where a register cannot have opened
+/// a variant so, or where memory is refused.
 pub(crate) fn opened_variants(alloc: Global, rows: &[Row]) -> Option<Vec<VariantRow>>
     ensures shown { IfSome result (λ found. found.items ≡ map variant_shown rows.now) }
     ensures opened { IfSome result (λ found. AreOpened found.items) }
@@ -73,7 +75,7 @@ fn find(variants: &[VariantRow], name: Name) -> Option<&VariantRow>
     variants.iter().find(|row| row.variant == name)
 }
 
-// The variants in the rows. None where a row has not its form, or memory is refused.
+// The variants in the rows. None where a row has not the form, or memory is refused.
 fn variants_of(alloc: Global, rows: &[Row]) -> Option<Vec<VariantRow>>
     ensures { IfSome result (λ found. found.items ≡ map variant_shown rows.now) }
 {
@@ -91,7 +93,7 @@ fn variants_of(alloc: Global, rows: &[Row]) -> Option<Vec<VariantRow>>
     Some(found)
 }
 
-/// The holder in the first row, if there is one. `Unavailable` where it has not its form.
+/// The holder in the first row, if there is one. `Unavailable` where the row has not the form.
 pub(crate) fn first_holder(rows: &[Row]) -> Result<Option<Holder>, StoreFault>
     ensures holder { IfOk result (λ found. found ≡ option_map holder_shown (slice_get rows.now 0)) }
     ensures refused { IfErr result (λ fault. fault ≡ Unavailable) }
@@ -112,8 +114,8 @@ fn holder_of(row: &Row) -> Option<Holder>
     })
 }
 
-/// The import in the first row, if there is one. `Unavailable` where it has not its form, or memory is
-/// refused.
+/// The import in the first row, if there is one. `Unavailable` where the row has not the form, or
+/// memory is refused.
 pub(crate) fn first_import(alloc: Global, rows: &[Row]) -> Result<Option<KeptImport>, StoreFault>
     ensures import { IfOk result (λ found. option_map kept_of found ≡ option_map import_shown (slice_get rows.now 0)) }
     ensures refused { IfErr result (λ fault. fault ≡ Unavailable) }

@@ -26,7 +26,7 @@ fn make<S: Alter>(conn: &mut Connection<S>) -> Result<(), Error>
     ensures clean { doubt (state S.Store conn.old).is_clean ≤ doubt (state S.Store conn.new).is_clean }
 {
     let mut tx = conn.transaction();
-    making::all(&mut tx)?;
+    making::every_table(&mut tx)?;
     tx.commit()
 }
 
@@ -41,8 +41,8 @@ fn make_before<S: Alter>(conn: &mut Connection<S>) -> Result<(), Error>
     tx.commit()
 }
 
-/// Where `cluster2` stands; and the index, and the table that ANALYZE makes, before `cluster2` or behind it, if they are
-/// there.
+/// Where the objects stand that were made last: `cluster2`; the index, if it is there; and the
+/// table of ANALYZE, before `cluster2` or behind it, if it is there.
 #[derive(Clone, Copy)]
 struct Layout {
     cluster2: u32,
@@ -51,7 +51,7 @@ struct Layout {
     behind: Option<u32>,
 }
 
-/// The schema that this version makes, but with these in these trees.
+/// The schema that this version makes, with those objects in these trees.
 fn our_schema(
     alloc: Global,
     cluster2: u32,
@@ -69,8 +69,8 @@ fn our_schema(
     Ok(schema)
 }
 
-/// The schema that the version before made, but with the index and the table that ANALYZE makes in these trees, if they
-/// are there.
+/// The schema that the version before made, with the index and the table of ANALYZE in these trees,
+/// if they are there.
 fn schema_before(alloc: Global, index: Option<u32>, stats: Option<u32>) -> Result<Schema, Error>
     ensures { IfOk result (λ schema. schema ≡ old_schema index stats) }
 {
@@ -102,7 +102,7 @@ fn index_of(schema: &Schema) -> Option<u32> {
     }
 }
 
-/// Whether the first table behind the eleven is the one that ANALYZE makes, by its name.
+/// Whether the first table behind the eleven has the name of the table of ANALYZE.
 fn has_stats_first(schema: &Schema) -> bool {
     match schema.tables.as_slice().get(TABLES) {
         Some(table) => table.name.as_slice() == b"sqlite_stat1".as_slice(),
@@ -110,7 +110,7 @@ fn has_stats_first(schema: &Schema) -> bool {
     }
 }
 
-/// Where these stand, if this is the schema of this version.
+/// Where the objects stand that were made last, if this is the schema of this version.
 fn layout_of(schema: &Schema) -> Option<Layout> {
     let index = index_of(schema);
     let first = table_at(schema, TABLES);
@@ -134,7 +134,8 @@ fn layout_of(schema: &Schema) -> Option<Layout> {
     })
 }
 
-/// Whether the tree, if there is one, stands behind those of the eleven tables and before the other.
+/// Whether the tree, if there is one, stands behind those of the eleven tables and before the other
+/// tree.
 fn is_between(place: Option<u32>, other: u32) -> bool
     ensures { IsTrue result → IfSome place (λ tree. (20 < tree) × (tree < other)) }
 {
@@ -144,8 +145,8 @@ fn is_between(place: Option<u32>, other: u32) -> bool
     }
 }
 
-/// Whether the schema is that of this version, wherever `cluster2`, the index and the table that ANALYZE makes stand
-/// behind the other tables. Want of memory is told as false.
+/// Whether the schema is that of this version, wherever the objects stand that were made last. Want
+/// of memory counts as no.
 pub(crate) fn is_ours(alloc: Global, schema: &Schema) -> bool
     ensures { IsTrue result → IsOurs schema.now }
 {
@@ -162,8 +163,8 @@ pub(crate) fn is_ours(alloc: Global, schema: &Schema) -> bool
     }
 }
 
-/// Whether the schema is that of the version before, wherever the index and the table that ANALYZE makes stand, if they
-/// are there. Want of memory is told as false.
+/// Whether the schema is that of the version before, wherever the index and the table of ANALYZE
+/// stand, if they are there. Want of memory counts as no.
 pub(crate) fn is_before(alloc: Global, schema: &Schema) -> bool
     ensures { IsTrue result → IsOld schema.now }
 {
@@ -178,7 +179,7 @@ pub(crate) fn is_before(alloc: Global, schema: &Schema) -> bool
     }
 }
 
-/// That the tables say this number of their schema, or why not.
+/// Makes sure that the tables say this number of their schema, or says why they do not.
 pub(crate) fn expect_number<S: Alter>(
     conn: &mut Connection<S>,
     wanted: i64,

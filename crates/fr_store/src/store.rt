@@ -22,7 +22,7 @@ impl<S: Alter + Drop> Drop for Store<S> {
 }
 
 impl<S: Alter> Store<S> {
-    /// The connection, its tables as they are.
+    /// The connection, with its tables as they are.
     pub fn into_connection(self) -> Connection<S>
         ensures { result ≡ self.conn }
     {
@@ -30,16 +30,16 @@ impl<S: Alter> Store<S> {
         conn
     }
 
-    /// What a cluster file says of the register now: the cluster, as the register was made of it, and the
-    /// suppliers that are there.
+    /// What a cluster file says of the register now: the cluster of which the register was made,
+    /// and the suppliers that are there.
     pub fn config(&self) -> &Config
         ensures { result.now ≡ self.now.config }
     {
         &self.config
     }
 
-    /// Whether the register can be asked: its connection is open, and memory serves. A fault of the disk
-    /// may have shut the connection, and then nothing is known of what the disk has.
+    /// Whether the register can be asked. Where it says so the connection is open. Else a fault of the disk may have shut
+    /// it, or memory was wanting: no clause says which.
     pub fn is_ready(&mut self) -> bool
         ensures open { HasCleanDisk (state S.Store self.new.conn) → IsTrue result → IsUnchanged (state S.Store self.old.conn) (state S.Store self.new.conn) }
         ensures stays { HasCleanDisk (state S.Store self.new.conn) → Stays (state S.Store self.old.conn) (state S.Store self.new.conn) }

@@ -84,7 +84,8 @@ impl<S: Alter> Records for Store<S> {
     }
 }
 
-// Makes sure that the register can be asked. Of one that a fault has shut nothing is told and nothing is changed.
+// Makes sure that the register can answer. Once a fault has shut it, nothing is read and nothing is
+// changed.
 fn require_open<S: Alter>(store: &mut Store<S>) -> Result<(), Refusal>
     ensures reads { Reads (λ s. HasCleanDisk (state S.Store s.conn)) (λ s. s.config.cluster.params) (λ s. StoredLeaves (state S.Store s.conn)) store.old store.new }
     ensures config { store.new.config ≡ store.old.config }
@@ -99,7 +100,7 @@ fn require_open<S: Alter>(store: &mut Store<S>) -> Result<(), Refusal>
     }
 }
 
-// What the store tells. Its faults are the register's `Unavailable`.
+// What the store answered. A fault of it is the register's `Unavailable`.
 fn or_unavailable<T>(told: Result<T, StoreFault>) -> Result<T, Refusal>
     ensures { MatchResult told (λ x. result ≡ Ok x) (λ _. result ≡ Err Unavailable) }
 {

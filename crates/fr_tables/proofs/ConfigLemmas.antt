@@ -1,11 +1,9 @@
 -- The rows of a cluster, and the tests of its names and keys.
-use Rattle.std.proofs.lemmas.Grind.{common_steps}
-use Rattle.std.proofs.Common.{◌≡◌, ℕ, ◌-◌, ◌≤◌, List, [], ◌∷◌, map, take, drop, length, get_or, not, ◌&&◌, arith, pos, true, false, Bool, IsTrue, Ok, refl, sym, ap, ◌∙◌}
-use Rattle.std.specs.List.{list_any, list_all}
-use Rattle.std.specs.Str.{bytes_eq}
+use Rattle.std.proofs.Common.{◌≡◌, ℕ, List, [], ◌∷◌, map, length, ◌&&◌, arith, pos, true, false, Bool, IsTrue, Ok, refl, sym, ap, ◌∙◌}
+use Rattle.std.specs.List.{list_all}
 use Rattle.sqlite.specs.declared.types.Value.TheVariants.{Int, Text}
 use Rattle.fr_base.specs.declared.params.RawParams.{RawParams}
-use Rattle.fr_base.specs.Names.{same_text, is_key}
+use Rattle.fr_base.specs.Names.{is_key}
 use Rattle.fr_base.specs.Parameters.{check_params}
 use Rattle.fr_base.specs.Refusing.{◌>>◌, refuse◌when◌}
 use Rattle.fr_tables.specs.Statements.{cluster_row, cluster2_row, shows_cluster, shows_cluster2}
@@ -13,7 +11,7 @@ use Rattle.std.specs.Prelude.{⊤}
 use Rattle.std.proofs.lemmas.Bool.{and_from}
 use Rattle.sqlite.specs.Order.{Row, column}
 use Rattle.fr_base.specs.declared.config.Supplier.{Supplier}
-use Rattle.fr_base.specs.Cluster.{ClusterFile, IsWellFormed, keys_of, keys_differ, is_cluster}
+use Rattle.fr_base.specs.Cluster.{ClusterFile, IsWellFormed, keys_of, is_cluster}
 use Rattle.fr_tables.specs.ClusterRows.{AreFormed, TellsParams}
 
 -- a row of nine columns is these
@@ -50,25 +48,6 @@ row_before r raw p integrator size checked t key =
 
 pub same_cycles : (raw p : RawParams) → check_params raw ≡ Ok p → p.cycles ≡ raw.cycles
 same_cycles raw p checked = ap (λ (q : RawParams). q.cycles) (kept_params raw p checked)
-
-has_key-keys : (key : List ℕ) (suppliers : List Supplier) → list_any (λ s. bytes_eq key s.key) suppliers ≡ list_any (same_text key) (map (λ s. s.key) suppliers)
-has_key-keys key [] = refl
-has_key-keys key (s ∷ suppliers) = rw (has_key-keys key suppliers) refl
-
--- one more key
-keys_differ-step : (key : List ℕ) (s : Supplier) (suppliers : List Supplier) → keys_differ (keys_of key (s ∷ suppliers)) ≡ (not (list_any (λ t. bytes_eq key t.key) (s ∷ suppliers)) && keys_differ (keys_of s.key suppliers))
-keys_differ-step key s suppliers = rw (has_key-keys key (s ∷ suppliers))
-
--- all but the first, as a pattern takes the list apart
-rest_of : (s : Supplier) (suppliers : List Supplier) → take (length (s ∷ suppliers) - 1) (drop 1 (s ∷ suppliers)) ≡ suppliers
-rest_of s suppliers = grind (arith, common_steps)
-
--- the keys differ where the first is no other's, and those of the rest differ
-pub keys_differ-split : (key : List ℕ) (suppliers : List Supplier) (next : Supplier) → next ≡ get_or suppliers 0 next → 1 ≤ length suppliers
-    → keys_differ (keys_of key suppliers)
-    ≡ (not (list_any (λ t. bytes_eq key t.key) suppliers) && keys_differ (keys_of next.key (take (length suppliers - 1) (drop 1 suppliers))))
-keys_differ-split key [] next is some = absurd (omega arith)
-keys_differ-split key (s ∷ suppliers) next is some = rw (is, rest_of s suppliers) (keys_differ-step key s suppliers)
 
 unfoldable pub is_cluster_open : ⊤
 unfolding is_cluster

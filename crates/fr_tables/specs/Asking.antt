@@ -1,6 +1,7 @@
--- Asking: the numbers of this version's schema and of the one before, and when tables of either tell a number; what is
--- asked of tables before they are known. Of a database with any schema: when a text is a query of it, which answer it
--- has, and whether the database says a number when it is asked for that of its schema.
+-- Asking: the schema numbers of this version and of the one before, and when tables of either say a
+-- number. What is asked of tables before they are known. For a database of any schema: when a text
+-- is a query of it, which answer the query has, and whether the database says a number when it is
+-- asked for that of its schema.
 use Rattle.std.specs.Prelude.{◌≡◌, ◌≢◌, ◌⊎◌, ℕ, ℤ, pos, List, [], ◌∷◌, codes, None, Ok, IsTrue}
 use Rattle.sqlite.specs.Clock.{timed}
 use Rattle.sqlite.specs.Effect.{Database, Reads}
@@ -13,11 +14,11 @@ use Rattle.fr_tables.specs.Rows.{RegisterRow}
 use Rattle.fr_tables.specs.Statements.{shows_register}
 use Rattle.fr_tables.specs.Tables.{HasSomeTables, tables_in}
 
--- the schema that this version reads and writes
+-- the schema number that this version reads and writes
 abbrev pub our_schema_number : ℤ
 our_schema_number = pos 2
 
--- the one before, from which a register is migrated
+-- the schema number of the version before, from which a register is migrated
 abbrev pub old_schema_number : ℤ
 old_schema_number = pos 1
 
@@ -36,7 +37,7 @@ variants_text = codes "SELECT name, parent, depth, released, overlay FROM varian
 abbrev pub numbered : ℤ → RegisterRow
 numbered n = record { schema = n }
 
--- while the connection is open it was so before, and its tables are as they were
+-- Where the connection is open, it was open before, and its tables are as they were.
 abbrev pub AreAsBefore : State → State → Type 0
 AreAsBefore old new = IsTrue new.is_open → IsTrue old.is_open × (new.now ≡ old.now) × (new.committed ≡ old.committed)
 
@@ -61,10 +62,10 @@ pub record Answers (text : List ℕ) (db : Database) (rows : List Row) : Type 0 
   pub is : understood db.schema text ≡ Ok compiled
   pub shows : compiled.returning ≡ None → IsAnswer text db compiled rows
 
--- asked for the number of its schema, the database answers with this one
+-- The database is asked for the number of its schema, and answers with this number.
 abbrev pub SaysNumber : Database → ℤ → Type 0
 SaysNumber db n = Answers number_text db (shows_register (numbered n) ∷ [])
 
--- it cannot be asked for that, or does not answer with one number
+-- The database cannot be asked for the number of its schema, or does not answer with one number.
 abbrev pub SaysNoNumber : Database → Type 0
 SaysNoNumber db = (¬ IsQuery db.schema number_text) ⊎ ((rows : List Row) × Answers number_text db rows × ((n : ℤ) → rows ≢ shows_register (numbered n) ∷ []))

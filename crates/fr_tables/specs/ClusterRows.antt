@@ -1,5 +1,5 @@
--- Cluster's rows: which parameters a row tells, but for the count of cycles; when names and keys of suppliers have
--- their form.
+-- Cluster's rows: which parameters a row tells, except the count of cycles; when names and keys of
+-- suppliers have their form.
 use Rattle.std.specs.Prelude.{◌≡◌, pos, List, IsTrue}
 use Rattle.std.specs.List.{list_all}
 use Rattle.sqlite.specs.Order.{Row, column}
@@ -11,7 +11,7 @@ use Rattle.fr_base.specs.Names.{is_name, is_key}
 use Rattle.fr_tables.specs.Statements.{shows_supplier}
 use Rattle.fr_tables.specs.Filling.{supplier_row}
 
--- the first eight columns say these parameters, but for the count of cycles
+-- the first eight columns say these parameters, except the count of cycles
 pub record TellsParams (r : Row) (p : RawParams) : Type 0 where
   pub static_slots : column r 0 ≡ Int (pos p.static_slots)
   pub slot_macroticks : column r 1 ≡ Int (pos p.slot_macroticks)

@@ -1,4 +1,4 @@
--- Filling: the rows that a new register has, which are the schema's number, the cluster and its suppliers.
+-- Filling: the rows of a new register: the schema's number, the cluster and its suppliers.
 use Rattle.std.specs.Prelude.{◌++◌, pos, List, [], ◌∷◌, map, Result, MatchResult, IsTrue}
 use Rattle.sqlite.specs.State.{State, HasCleanDisk, KeepsCommit}
 use Rattle.fr_base.specs.declared.config.Supplier.{Supplier}
@@ -14,7 +14,7 @@ supplier_row s = record { name = s.name; key = s.key }
 abbrev pub with_suppliers : List Supplier → Tables → Tables
 with_suppliers list t = record t { suppliers = t.suppliers ++ map supplier_row list }
 
--- the number of the schema, the cluster and its suppliers
+-- the tables with the number of the schema, the cluster and its suppliers
 abbrev pub with_config : ClusterFile → Tables → Tables
 with_config f t = record t {
   register = t.register ++ record { schema = pos 2 } ∷ [];

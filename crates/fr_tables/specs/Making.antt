@@ -1,5 +1,5 @@
--- Making: how far the tables are made. They have no row, and there are so many of them, all of the schema before, or
--- all of this one. How the schema before becomes this one.
+-- Making: how far the tables are made. The database has so many of them and no row; all of the
+-- schema before; or all of this schema. How the schema before becomes this one.
 use Rattle.std.specs.Prelude.{◌≡◌, ℕ, None, [], take, Result, MatchResult, IsTrue}
 use Rattle.std.specs.List.{AllByRecursion}
 use Rattle.sqlite.specs.Effect.{Database}
@@ -18,7 +18,8 @@ pub record Enlarges (count others : ℕ) (old new : State) : Type 0 where
   pub fresh : IsFresh count others new.now
   pub shown : Shows old new new.now old.committed old.in_transaction
 
--- A statement inside a transaction takes the tables from here to there, or fails and leaves them here.
+-- A statement inside a transaction takes the tables from the first two counts to the next two, or
+-- fails and leaves them.
 abbrev pub MakesTable : {X E : Type 0} → ℕ → ℕ → ℕ → ℕ → State → State → Result X E → Type 0
 MakesTable count others next others_next old new r =
     HasCleanDisk new → IsTrue old.in_transaction → IsFresh count others old.now → MatchResult r (λ _. Enlarges next others_next old new) (λ _. Stays old new)
@@ -26,7 +27,7 @@ MakesTable count others next others_next old new r =
 abbrev pub no_rows : Tables
 no_rows = record { register = []; cluster = []; suppliers = []; nodes = []; variants = []; grants = []; frames = []; placements = []; signals = []; imports = []; dropped = []; cluster2 = [] }
 
--- where the tables of the schema before would have `cluster2`
+-- where the trees of the schema before have a place for `cluster2`
 abbrev pub renewed_at : Trees → Layout
 renewed_at db = renewed_layout (layout_of db).index (layout_of db).before
 
@@ -53,7 +54,7 @@ MakesOld old new r = HasCleanDisk new → IsTrue old.in_transaction → IsFresh 
 abbrev pub MakesOldWhole : {X E : Type 0} → State → State → Result X E → Type 0
 MakesOldWhole old new r = HasCleanDisk new → IsTrue old.in_transaction → IsFresh 0 0 old.now → MatchResult r (λ _. IsOldMade old new) (λ _. KeepsCommit old new)
 
--- the tables of the schema before are those of this one, `cluster2` with no row
+-- the tables are those of the schema before and an empty `cluster2`
 pub record IsRenewed (old new : State) : Type 0 where
   pub has : HasTables new.now
   pub schema : new.now.schema ≡ register_schema (renewed_at old.now.trees)
@@ -64,7 +65,8 @@ pub record IsRenewed (old new : State) : Type 0 where
 abbrev pub Renews : {X E : Type 0} → State → State → Result X E → Type 0
 Renews old new r = HasCleanDisk new → IsTrue old.in_transaction → HasOldTables old.now → MatchResult r (λ _. IsRenewed old new) (λ _. Stays old new)
 
--- Several statements inside a transaction take the tables from here to there, or fail and commit nothing.
+-- Several statements inside a transaction take the tables from the first two counts to the next
+-- two, or fail and commit nothing.
 abbrev pub Grows : {X E : Type 0} → ℕ → ℕ → ℕ → ℕ → State → State → Result X E → Type 0
 Grows count others next others_next old new r =
     HasCleanDisk new → IsTrue old.in_transaction → IsFresh count others old.now → MatchResult r (λ _. Enlarges next others_next old new) (λ _. KeepsCommit old new)

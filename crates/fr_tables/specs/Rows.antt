@@ -1,4 +1,4 @@
--- Rows: a row of each table as a value of its own, with its columns, and what a row says.
+-- Rows: a row of each table as a value of its own, with its columns, and what its columns say.
 use Rattle.std.specs.Prelude.{ℕ, ℤ, pos, Bool, List, [], ◌∷◌, Option, Some, None, if◌then◌else◌}
 use Rattle.sqlite.specs.declared.types.Value.{Value}
 use Rattle.sqlite.specs.declared.types.Value.TheVariants.{Null, Int, Text, Blob}
@@ -25,7 +25,7 @@ abbrev pub of_maybe : Option (List ℕ) → Value
 of_maybe (Some t) = Text t
 of_maybe None = Null
 
--- 1 where it is so, else 0
+-- 1 for true, 0 for false
 abbrev pub flag : Bool → ℤ
 flag is = if is then pos 1 else pos 0
 
@@ -45,7 +45,7 @@ pub record ClusterRow : Type 0 where
   pub channels : List ℕ
   pub integrator : List ℕ
 
--- with the count of cycles
+-- a cluster's row with the count of cycles
 pub record Cluster2Row : Type 0 where
   pub static_slots : ℤ
   pub slot_macroticks : ℤ
@@ -116,7 +116,7 @@ pub record DroppedRow : Type 0 where
   pub supplier : List ℕ
   pub frame : List ℕ
 
--- ---- the columns of each, and what a row of the table says
+-- ---- the columns of each row, and what they say
 
 -- the column that is the row's number is kept as NULL
 abbrev pub of_register : RegisterRow → Row

@@ -1,6 +1,6 @@
--- Schema: the tables with their columns, keys and rules, as SQLite reads them from the statements that make them; and
--- so the tables of the schema before, which lack the last one. Where the last one, the index and the table of ANALYZE
--- stand, by the list of objects.
+-- Schema: the tables with their columns, keys and rules, as SQLite reads them from the statements
+-- that make them. The tables of the schema before lack the last one. The list of objects says where
+-- the last table, the index and the table of ANALYZE stand.
 use Rattle.std.specs.Prelude.{◌≡◌, ◌++◌, ◌-◌, ◌<◌, ℕ, zero, suc, IfSome, option_map, filter, Bool, true, false, if◌then◌else◌, unwrap_or, List, [], ◌∷◌, map, take, codes, pos, bytes_eq, Option, Some, None}
 use Rattle.sqlite.specs.Collation.TheVariants.{Binary}
 use Rattle.sqlite.specs.declared.types.Value.{Value}
@@ -38,7 +38,7 @@ integer name = column name Integer
 abbrev pub maybe_text : List ℕ → Column
 maybe_text name = record { name = name; kind = Text; is_strict = true; not_null = false; default = Null; collation = Binary }
 
--- a strict table; places count the columns from 1, and 0 is the number of the row
+-- a strict table; a place counts the columns from 1, and place 0 is the row's number
 abbrev pub table : List ℕ → ℕ → List Column → Option ℕ → List ℕ → List (List ℕ) → List Term → List Reference → Table
 table name tree columns key primary uniques checks references = record {
   name = name;
@@ -55,30 +55,30 @@ table name tree columns key primary uniques checks references = record {
   is_counted = false;
 }
 
--- a table whose only key is its first so many columns
+-- a table whose only key is its first columns, so many of them
 abbrev pub keyed : List ℕ → ℕ → List Column → List ℕ → List Term → List Reference → Table
 keyed name tree columns primary checks references = table name tree columns None primary (primary ∷ []) checks references
 
--- a table of one row, whose number is 1
+-- a table of one row, which has the number 1
 abbrev pub single : List ℕ → ℕ → List Column → Table
 single name tree columns = table name tree (integer (codes "id") ∷ columns) (Some 0) (0 ∷ []) [] (op2 (Compare Eq Binary) (col 1 0) (lit (Int (pos 1))) ∷ []) []
 
--- the column at the place is 0 or 1
+-- a rule: the column at the place is 0 or 1
 abbrev pub zero_or_one : ℕ → Term
 zero_or_one place = op2 Or (op2 (Compare Eq Binary) (col 1 place) (lit (Int (pos 0)))) (op2 (Compare Eq Binary) (col 1 place) (lit (Int (pos 1))))
 
--- the column at the place is in this range
+-- a rule: the column at the place is in this range
 abbrev pub within : ℕ → ℕ → ℕ → Term
 within low high place = op2 And (op2 (Compare Ge Binary) (col 1 place) (lit (Int (pos low)))) (op2 (Compare Le Binary) (col 1 place) (lit (Int (pos high))))
 
 abbrev pub refers : List ℕ → List ℕ → List (List ℕ) → Action → Reference
 refers columns parent parent_columns on_delete = record { columns = columns; parent = parent; parent_columns = parent_columns; on_delete = on_delete; on_update = NoAction; is_deferred = false }
 
--- the supplier and the node at these places are a node's
+-- a reference: the supplier and the node at these places are those of a node
 abbrev pub to_node : List ℕ → Reference
 to_node places = refers places (codes "nodes") (codes "supplier" ∷ codes "name" ∷ []) NoAction
 
--- the first three columns are a frame's key, and the row goes with the frame
+-- a reference: the first three columns are a frame's key, and the row goes with the frame
 abbrev pub by_frame : Reference
 by_frame = refers (1 ∷ 2 ∷ 3 ∷ []) (codes "frames") (codes "variant" ∷ codes "supplier" ∷ codes "name" ∷ []) Cascade
 
@@ -91,7 +91,7 @@ cluster_at tree =
     (integer (codes "static_slots") ∷ integer (codes "slot_macroticks") ∷ integer (codes "dynamic_macroticks") ∷ integer (codes "symbol_macroticks")
     ∷ integer (codes "idle_macroticks") ∷ integer (codes "macroticks_per_cycle") ∷ integer (codes "payload_words") ∷ text (codes "channels") ∷ text (codes "integrator") ∷ [])
 
--- with the count of cycles, 8 to 64
+-- the cluster's table with the count of cycles, which is 8 to 64
 abbrev pub cluster2_at : ℕ → Table
 cluster2_at tree =
     table (codes "cluster2") tree
@@ -139,7 +139,7 @@ imports_at tree =
 abbrev pub dropped_at : ℕ → Table
 dropped_at tree = keyed (codes "dropped") tree (text (codes "variant") ∷ text (codes "supplier") ∷ text (codes "frame") ∷ []) (1 ∷ 2 ∷ 3 ∷ []) [] []
 
--- ---- each table's rows are kept in a tree, and after it the entries of its automatic indexes
+-- ---- a tree has each table's rows, and the trees behind it its automatic indexes
 
 abbrev pub register : Table
 register = register_at 0
@@ -174,7 +174,7 @@ imports = imports_at 17
 abbrev pub dropped : Table
 dropped = dropped_at 19
 
--- the table that ANALYZE makes
+-- a column of the table that ANALYZE makes
 abbrev pub loose : List ℕ → Column
 loose name = record { name = name; kind = Any; is_strict = false; not_null = false; default = Null; collation = Binary }
 
@@ -185,8 +185,9 @@ abbrev pub stats_at : Option ℕ → List Table
 stats_at None = []
 stats_at (Some tree) = stats_table tree ∷ []
 
--- where what was made after these tables stands, since another SQLite may have moved or made it: the tree of `cluster2`;
--- that of the index, if there is one; and that of the table that ANALYZE makes, before `cluster2` or behind it
+-- Where the objects stand that were made after these tables, since another SQLite may have moved or
+-- made them: the tree of `cluster2`; that of the index, if there is one; and that of the table of
+-- ANALYZE, before `cluster2` or behind it.
 pub record Layout : Type 0 where
   pub cluster2 : ℕ
   pub index : Option ℕ
@@ -197,15 +198,18 @@ pub record Layout : Type 0 where
 abbrev pub IsNear : ℕ → Type 0
 IsNear tree = (20 < tree) × (tree < 25)
 
--- `cluster2` stands there, and the table of ANALYZE, if it is before that, between them
+-- `cluster2` stands there; the table of ANALYZE, if it stands before `cluster2`, is between the
+-- other tables and it
 abbrev pub IsBehind : Layout → Type 0
 IsBehind l = IsNear l.cluster2 × IfSome l.before (λ tree. (20 < tree) × (tree < l.cluster2))
 
--- the tree is one of the first three there, if there is one, so that `cluster2` will be one of the four
+-- the tree, if there is one, is one of the first three there, so that `cluster2` will be one of the
+-- four
 abbrev pub HasRoom : Option ℕ → Type 0
 HasRoom place = IfSome place (λ tree. (20 < tree) × (tree < 24))
 
--- as they are made: `cluster2` after the index, as in a register of the schema before
+-- the places as the tables are made: `cluster2` behind the index, as in a register that was of the
+-- schema before
 abbrev pub layout_made : Layout
 layout_made = record { cluster2 = 22; index = Some 21; before = None; behind = None }
 
@@ -215,7 +219,7 @@ cluster2 = cluster2_at layout_made.cluster2
 abbrev pub old_tables : List Table
 old_tables = register ∷ cluster ∷ suppliers ∷ nodes ∷ variants ∷ grants ∷ frames ∷ placements ∷ signals ∷ imports ∷ dropped ∷ []
 
--- with more behind them
+-- the tables of the schema before, with these behind them
 abbrev pub tables_and : List Table → List Table
 tables_and more = register ∷ cluster ∷ suppliers ∷ nodes ∷ variants ∷ grants ∷ frames ∷ placements ∷ signals ∷ imports ∷ dropped ∷ more
 
@@ -239,11 +243,11 @@ key_indexes =
     ∷ unique (codes "sqlite_autoindex_placements_1") 14 13 (1 ∷ 2 ∷ 3 ∷ 4 ∷ 5 ∷ 6 ∷ 7 ∷ []) ∷ unique (codes "sqlite_autoindex_signals_1") 16 15 (1 ∷ 2 ∷ 3 ∷ 4 ∷ [])
     ∷ unique (codes "sqlite_autoindex_imports_1") 18 17 (1 ∷ 2 ∷ []) ∷ unique (codes "sqlite_autoindex_dropped_1") 20 19 (1 ∷ 2 ∷ 3 ∷ []) ∷ []
 
--- by which a variant's grants to a supplier are found
+-- the index by which a variant's grants to a supplier are found
 abbrev pub grants_index : ℕ → Index
 grants_index tree = record { name = codes "grants_by_supplier"; tree = tree; table = 9; columns = 1 ∷ 4 ∷ []; order = plain; is_unique = false }
 
--- no statement needs it
+-- the index in this tree, or no index, since no statement needs it
 abbrev pub index_at : Option ℕ → List Index
 index_at None = []
 index_at (Some tree) = grants_index tree ∷ []
@@ -259,7 +263,7 @@ old_schema index stats = record { tables = tables_and (stats_at stats); indexes 
 abbrev pub register_schema : Layout → Schema
 register_schema l = record { tables = tables_at l; indexes = key_indexes ++ index_at l.index; views = [] }
 
--- the schema is that of this version, wherever these stand
+-- the schema is that of this version, wherever `cluster2`, the index and the table of ANALYZE stand
 pub record IsOurs (schema : Schema) : Type 0 where
   pub layout : Layout
   pub is : schema ≡ register_schema layout
@@ -273,23 +277,27 @@ pub record IsOld (schema : Schema) : Type 0 where
   pub first : HasRoom index
   pub second : HasRoom stats
 
--- where a register of the schema before has them once `cluster2` is made: it stands behind all others
+-- the places in a register of the schema before once `cluster2` is made: it stands behind all
+-- others
 abbrev pub renewed_layout : Option ℕ → Option ℕ → Layout
 renewed_layout index stats = record { cluster2 = next_tree (old_schema index stats); index = index; before = stats; behind = None }
 
--- the last index is in this tree, or none where none is given; the last table is in this tree, with the table of ANALYZE
--- before it and behind it where trees are given for that
+-- the last index in this tree, or none where no tree is given
 abbrev pub moved_index : Option ℕ → Index → List Index
 moved_index None last = []
 moved_index (Some tree) last = record last { tree = tree } ∷ []
 
+-- The last index is put into this tree, or taken out where no tree is given.
 abbrev pub MovesIndex : Option ℕ → Schema → Schema → Type 0
 MovesIndex tree old new = (before : List Index) (last : Index) → old.indexes ≡ before ++ last ∷ [] → new ≡ record old { indexes = before ++ moved_index tree last }
 
+-- The last table is put into this tree, with the table of ANALYZE before it or behind it where a tree
+-- is given for that.
 abbrev pub MovesTable : ℕ → Option ℕ → Option ℕ → Schema → Schema → Type 0
 MovesTable tree before behind old new =
     (front : List Table) (last : Table) → old.tables ≡ front ++ last ∷ [] → new ≡ record old { tables = front ++ (stats_at before ++ record last { tree = tree } ∷ stats_at behind) }
 
+-- The table of ANALYZE is added in this tree, where one is given.
 abbrev pub AddsStats : Option ℕ → Schema → Schema → Type 0
 AddsStats tree old new = new ≡ record old { tables = old.tables ++ stats_at tree }
 
@@ -299,7 +307,7 @@ abbrev pub is_word : List ℕ → Value → Bool
 is_word word (Words said) = bytes_eq said word
 is_word word _ = false
 
--- the row at a place of a list, if it has as many
+-- the row at a place of a list, if the list has it
 abbrev pub row_at : ℕ → List Row → Option Row
 row_at n [] = None
 row_at zero (r ∷ rows) = Some r
@@ -313,7 +321,7 @@ abbrev pub is_stats : Option Row → Bool
 is_stats None = false
 is_stats (Some r) = is_word (codes "sqlite_stat1") (cell r 2)
 
--- by the tables that are listed after the eleven
+-- the places by the rows of the list of objects behind the eleven tables
 abbrev pub layout_by : Option ℕ → Option Row → Option Row → Option Row → Layout
 layout_by index first second third =
     if is_stats first

@@ -1,4 +1,5 @@
--- Text of the schema: the statement that makes each table, and the index. `cluster2` is made last, behind the index.
+-- Text of the schema: the statement that makes each table, and the one that makes the index.
+-- `cluster2` is made last, behind the index.
 use Rattle.std.specs.Prelude.{ℕ, List, codes}
 
 abbrev pub register_text : List ℕ

@@ -1,5 +1,5 @@
--- Statements: what each statement adds to its table, which rows it changes or takes out, and in which order and with
--- which columns it shows them.
+-- Statements: what each statement adds to its table, which rows it changes or deletes, and which
+-- rows a query shows, in which order and with which columns.
 use Rattle.std.specs.Prelude.{◌++◌, ◌&&◌, ℕ, ℤ, pos, Bool, true, not, List, [], ◌∷◌, map, filter, bytes_eq, if◌then◌else◌}
 use Rattle.std.specs.List.{list_any}
 use Rattle.std.specs.declared.cmp.Ordering.{Ordering}
@@ -79,11 +79,11 @@ cluster2_row p integrator = record {
   cycles = pos p.cycles;
 }
 
--- the schema's number is another
+-- the tables with this number of the schema
 abbrev pub with_number : ℤ → Tables → Tables
 with_number n t = record t { register = map (λ r. record { schema = n }) t.register }
 
--- no row says what the cluster is
+-- the tables without the row that says what the cluster is
 abbrev pub without_cluster : Tables → Tables
 without_cluster t = record t { cluster = [] }
 
@@ -98,7 +98,7 @@ is_supplier name s = bytes_eq s.name name
 abbrev pub keyed_row : List ℕ → SupplierRow → SupplierRow
 keyed_row key s = record s { key = key }
 
--- the supplier has this key
+-- the tables where the supplier has this key
 abbrev pub with_key : List ℕ → List ℕ → Tables → Tables
 with_key name key t = record t { suppliers = map (λ s. if is_supplier name s then keyed_row key s else s) t.suppliers }
 
@@ -168,7 +168,7 @@ shows_holder g = Text g.supplier ∷ Text g.node ∷ []
 abbrev pub grant_for : List ℕ → GrantRow → GrantRow
 grant_for variant g = record g { variant = variant }
 
--- the grants of the one variant, for the other
+-- the grants of the first variant, as grants of the second
 abbrev pub grants_for : List ℕ → List ℕ → Tables → List GrantRow
 grants_for parent child t = map (grant_for child) (filter (λ g. bytes_eq g.variant parent) t.grants)
 
@@ -189,7 +189,7 @@ is_placement_of variant supplier frame p = bytes_eq p.variant variant && (bytes_
 abbrev pub is_signal_of : List ℕ → List ℕ → List ℕ → SignalRow → Bool
 is_signal_of variant supplier frame s = bytes_eq s.variant variant && (bytes_eq s.supplier supplier && bytes_eq s.frame frame)
 
--- the frame goes with its placements and signals
+-- the tables without the frame, its placements and its signals
 abbrev pub without_frame : List ℕ → List ℕ → List ℕ → Tables → Tables
 without_frame variant supplier name t = record t {
   frames = filter (λ f. not (is_frame variant supplier name f)) t.frames;
@@ -209,7 +209,7 @@ frames_cmp = on (λ f. f.name) text_cmp
 abbrev pub frame_for : List ℕ → FrameRow → FrameRow
 frame_for variant f = record f { variant = variant }
 
--- the row of one frame of the one variant, for the other
+-- the row of one frame of the first variant, as a row of the second
 abbrev pub frame_copies : List ℕ → List ℕ → List ℕ → List ℕ → Tables → List FrameRow
 frame_copies from to supplier name t = map (frame_for to) (filter (is_frame from supplier name) t.frames)
 
@@ -246,7 +246,7 @@ is_placed_by variant supplier p = bytes_eq p.variant variant && bytes_eq p.suppl
 abbrev pub shows_placement : PlacementRow → Row
 shows_placement p = Text p.frame ∷ Int p.slot ∷ Text p.channels ∷ Int p.base ∷ Int p.repetition ∷ []
 
--- by frame, and then in the order of placements
+-- the order of placements' rows: by frame, then in the order of placements
 abbrev pub placements_cmp : PlacementRow → PlacementRow → Ordering
 placements_cmp =
     then_cmp (on (λ p. p.frame) text_cmp) (then_cmp (on (λ p. p.slot) int_cmp) (then_cmp (on (λ p. p.channels) text_cmp) (then_cmp (on (λ p. p.base) int_cmp) (on (λ p. p.repetition) int_cmp))))
@@ -254,7 +254,7 @@ placements_cmp =
 abbrev pub placement_for : List ℕ → PlacementRow → PlacementRow
 placement_for variant p = record p { variant = variant }
 
--- the placements of one frame of the one variant, for the other
+-- the placements of one frame of the first variant, as placements in the second
 abbrev pub placement_copies : List ℕ → List ℕ → List ℕ → List ℕ → Tables → List PlacementRow
 placement_copies from to supplier frame t = map (placement_for to) (filter (is_placement_of from supplier frame) t.placements)
 
@@ -293,14 +293,14 @@ is_signalled_by variant supplier s = bytes_eq s.variant variant && bytes_eq s.su
 abbrev pub shows_signal : SignalRow → Row
 shows_signal s = Text s.frame ∷ Text s.name ∷ Int s.start ∷ Int s.length ∷ Int s.big ∷ []
 
--- by frame, and then by name
+-- the order of signals' rows: by frame, then by name
 abbrev pub signals_cmp : SignalRow → SignalRow → Ordering
 signals_cmp = then_cmp (on (λ s. s.frame) text_cmp) (on (λ s. s.name) text_cmp)
 
 abbrev pub signal_for : List ℕ → SignalRow → SignalRow
 signal_for variant s = record s { variant = variant }
 
--- the signals of one frame of the one variant, for the other
+-- the signals of one frame of the first variant, as signals in the second
 abbrev pub signal_copies : List ℕ → List ℕ → List ℕ → List ℕ → Tables → List SignalRow
 signal_copies from to supplier frame t = map (signal_for to) (filter (is_signal_of from supplier frame) t.signals)
 
@@ -329,7 +329,7 @@ labels_cmp = on (λ i. i.label) text_cmp
 abbrev pub is_dropped : List ℕ → List ℕ → List ℕ → DroppedRow → Bool
 is_dropped variant supplier frame d = bytes_eq d.variant variant && (bytes_eq d.supplier supplier && bytes_eq d.frame frame)
 
--- the row is added, unless it is there
+-- the tables with the row, which is added unless it is there
 abbrev pub with_dropped : DroppedRow → Tables → Tables
 with_dropped d t = record t { dropped = if list_any (is_dropped d.variant d.supplier d.frame) t.dropped then t.dropped else t.dropped ++ d ∷ [] }
 

@@ -77,17 +77,17 @@ tables_in db = record {
   cluster2 = map cluster2_in (db (layout_of db).cluster2);
 }
 
--- those of the schema before, which had no `cluster2`
+-- the tables of the schema before, which has no `cluster2`
 abbrev pub old_tables_in : Trees → Tables
 old_tables_in db = record (tables_in db) { cluster2 = [] }
 
--- each row has a number above the last one's, and says no more than its value
+-- each row has a higher number than the row before it, and its columns are those of its value
 pub record AreKept {X : Type 0} (columns : X → Row) (read : Row → X) (rows : List Row) : Type 0 where
   pub rise : IsTable rows
   pub numbered : AllByRecursion (λ r. IsTrue (is_int (rowid r))) rows
   pub typed : AllByRecursion (λ r. r ≡ rowid r ∷ columns (read r)) rows
 
--- the database has the tables, and each row its table's columns
+-- the database has the tables, and the rows of each have its columns
 pub record HasTables (db : Database) : Type 0 where
   pub schema : db.schema ≡ register_schema (layout_of db.trees)
   pub behind : IsBehind (layout_of db.trees)
@@ -129,10 +129,10 @@ HasSomeTables db = HasTables db ⊎ HasOldTables db
 abbrev pub AreRising : List Table → Trees → Type 0
 AreRising ts db = AllByRecursion (λ t. IsTable (db t.tree) × AllByRecursion (λ r. IsTrue (is_int (rowid r))) (db t.tree)) ts
 
--- so in each table of this schema
+-- the rows of each table of this schema have numbers that rise
 abbrev pub AreOrdered : Trees → Type 0
 AreOrdered db = AreRising (tables_and (cluster2_at (layout_of db).cluster2 ∷ [])) db
 
--- and in each of the one before
+-- the rows of each table of the schema before have numbers that rise
 abbrev pub AreOrderedBefore : Trees → Type 0
 AreOrderedBefore = AreRising old_tables

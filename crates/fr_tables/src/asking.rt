@@ -1,4 +1,4 @@
-//! Asks tables of which nothing is known yet, and leaves them as they are.
+//! Asks tables of which nothing is known yet. It leaves them as they are.
 
 ghost use Rattle.std.specs.Prelude.{◌≡◌, ◌≢◌, ℤ, IsTrue, IfOk, IfErr, IfSome, IsPermutation, map, [], ◌∷◌, false, Some, None};
 ghost use Rattle.sqlite.specs.declared.error.Error.TheVariants.{SqlInputError};
@@ -12,7 +12,7 @@ ghost use Rattle.fr_tables.specs.Asking.{AreAsBefore, Answers, HasNumber, IsQuer
 use sqlite::{Alter, Connection, Error, Row};
 use sqlite_value::value::ValueRef;
 
-/// Asks in a transaction that is undone, so that whatever the text means there, the tables stay.
+/// Asks in a transaction that it undoes. So the tables stay, whatever the text means there.
 pub fn ask_and_undo<S: Alter>(conn: &mut Connection<S>, sql: &str) -> Result<Vec<Row>, Error>
     requires { conn.old.in_transaction ≡ false }
     ensures number { HasCleanDisk (state S.Store conn.new) → sql.now ≡ number_text → HasSomeTables (state S.Store conn.old).now → IfOk result (λ rows. IsPermutation (map shows_register (tables_of (state S.Store conn.old)).register) rows.items) }
@@ -44,7 +44,7 @@ fn number_of(rows: &[Row]) -> Option<i64>
     }
 }
 
-/// The number of the schema, if there is just one.
+/// The number of the schema, if the tables say one number and no other.
 pub fn number<S: Alter>(conn: &mut Connection<S>) -> Result<Option<i64>, Error>
     requires { conn.old.in_transaction ≡ false }
     ensures some { HasCleanDisk (state S.Store conn.new) → IfOk result (λ found. IfSome found (λ n. HasSomeTables (state S.Store conn.old).now → HasNumber (state S.Store conn.old).now n)) }

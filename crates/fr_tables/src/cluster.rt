@@ -1,26 +1,25 @@
-//! The cluster that the rows of a register tell of.
+//! The cluster that the rows of a register tell.
 
 ghost use Rattle.std.specs.Prelude.{◌≡◌, [], ◌∷◌, pos, map, IfOk, IfSome, IsTrue, Ok};
-ghost use Rattle.std.specs.List.{list_any};
-ghost use Rattle.std.specs.Str.{bytes_eq};
 ghost use Rattle.sqlite.specs.Order.{column};
 ghost use Rattle.sqlite.specs.declared.types.Value.TheVariants.{Int, Text};
 ghost use Rattle.fr_base.specs.Names.{is_name, is_key};
 ghost use Rattle.fr_base.specs.Parameters.{check_params};
 ghost use Rattle.fr_base.specs.Channels.{text_of_channels};
-ghost use Rattle.fr_base.specs.Cluster.{IsWellFormed, names_rise, keys_of, keys_differ, is_cluster};
+ghost use Rattle.fr_base.specs.Cluster.{IsWellFormed, names_rise, is_cluster};
 ghost use Rattle.fr_tables.specs.Statements.{cluster_row, cluster2_row, shows_cluster, shows_cluster2, shows_supplier};
 ghost use Rattle.fr_tables.specs.Filling.{supplier_row};
 ghost use Rattle.fr_tables.specs.ClusterRows.{AreFormed, TellsParams, shown_supplier};
 
 use fr_base::{
     Channels, Config, Key, MAX_SUPPLIERS, Name, NoMemory, Params, RawParams, Supplier, Suppliers,
+    keys_differ,
 };
 use sqlite::Row;
 use sqlite_value::value::ValueRef;
 use std::alloc::Global;
 
-/// A copy of a cluster.
+/// A copy of a config.
 pub fn copied(alloc: Global, config: &Config) -> Result<Config, NoMemory>
     ensures { IfOk result (λ copy. copy ≡ config.now) }
 {
@@ -70,7 +69,7 @@ fn name(row: &Row, at: usize) -> Option<Name>
     Name::read(text(row, at)?)
 }
 
-// The parameters that the row's first columns say, with so many cycles.
+// The parameters that the row's first columns say, with this count of cycles.
 fn raw_params(row: &Row, cycles: u32) -> Option<RawParams>
     ensures told { IfSome result (λ raw. TellsParams row.now raw) }
     ensures cycles { IfSome result (λ raw. raw.cycles ≡ cycles) }
@@ -102,10 +101,11 @@ fn params_of(row: &Row) -> Option<(Params, Key)>
     Some((params, key(row, 8)?))
 }
 
-// How many cycles a cluster of the schema before has.
+// How many cycles a cluster has in a register of the schema before.
 const CYCLES_BEFORE: u32 = 64;
 
-// The same of a row of the schema before, which does not say the count of cycles.
+// The parameters and the integrator's key, if the row has the form of the schema before. Such a row
+// does not say the count of cycles.
 fn params_before(row: &Row) -> Option<(Params, Key)>
     ensures row { IfSome result (λ read. row.now ≡ shows_cluster (cluster_row read.0 read.1)) }
     ensures cycles { IfSome result (λ read. read.0.cycles ≡ 64) }
@@ -118,8 +118,8 @@ fn params_before(row: &Row) -> Option<(Params, Key)>
     Some((params, key(row, 8)?))
 }
 
-/// The parameters and the integrator's key of these rows of the schema before, in which each cluster has 64 cycles.
-/// None, if they make none.
+/// The parameters and the integrator's key that these rows of the schema before tell, with 64
+/// cycles. None, if they tell none.
 pub fn read_before(cluster: &[Row]) -> Option<(Params, Key)>
     ensures cluster { IfSome result (λ read. cluster.now ≡ shows_cluster (cluster_row read.0 read.1) ∷ []) }
     ensures cycles { IfSome result (λ read. read.0.cycles ≡ 64) }
@@ -156,21 +156,6 @@ fn suppliers_of(alloc: Global, rows: &[Row]) -> Option<Suppliers>
     Some(suppliers)
 }
 
-fn has_key(suppliers: &[Supplier], key: Key) -> bool
-    ensures { result ≡ list_any (λ supplier. bytes_eq key supplier.key) suppliers.now }
-{
-    suppliers.iter().any(|supplier| key == supplier.key)
-}
-
-fn keys_differ(key: Key, suppliers: &[Supplier]) -> bool
-    ensures { result ≡ keys_differ (keys_of key suppliers.now) }
-{
-    match suppliers {
-        [] => true,
-        [next, rest @ ..] => !has_key(suppliers, key) && keys_differ(next.key, rest),
-    }
-}
-
 fn names_rise(suppliers: &[Supplier]) -> bool
     ensures { result ≡ names_rise suppliers.now }
 {
@@ -196,7 +181,7 @@ fn is_cluster(integrator: Key, suppliers: &[Supplier]) -> bool
     keys_differ(integrator, suppliers)
 }
 
-/// The cluster of these rows. None, if they make none, or for want of memory.
+/// The config that these rows tell. None, if they tell none, or for want of memory.
 pub fn read(alloc: Global, cluster: &[Row], suppliers: &[Row]) -> Option<Config>
     ensures cluster { IfSome result (λ c. cluster.now ≡ shows_cluster2 (cluster2_row c.cluster.params c.cluster.integrator) ∷ []) }
     ensures suppliers { IfSome result (λ c. suppliers.now ≡ map shown_supplier c.suppliers) }

@@ -1,4 +1,5 @@
-//! Makes the tables, one statement each, in this order: those of schema 1, and the one that this schema has more.
+//! Makes the tables, by one statement each: first those of the schema before, then the one that
+//! this schema adds.
 
 ghost use Rattle.std.specs.Prelude.{◌≡◌};
 ghost use Rattle.sqlite.specs.State.{Survives};
@@ -152,7 +153,7 @@ pub fn cluster2<S: Alter>(tx: &mut Transaction<'_, S>) -> Result<usize, Error>
     )
 }
 
-/// The tables up to the nodes.
+/// Makes the tables up to the nodes.
 fn up_to_nodes<S: Alter>(tx: &mut Transaction<'_, S>) -> Result<(), Error>
     ensures same_reference { tx.new.conn.ghost_name ≡ tx.old.conn.ghost_name }
     ensures made { Grows 0 0 4 3 (state S.Store tx.old.conn.now) (state S.Store tx.new.conn.now) result }
@@ -165,7 +166,7 @@ fn up_to_nodes<S: Alter>(tx: &mut Transaction<'_, S>) -> Result<(), Error>
     Ok(())
 }
 
-/// The tables after these, up to the placements.
+/// Makes the tables behind the nodes, up to the placements.
 fn up_to_placements<S: Alter>(tx: &mut Transaction<'_, S>) -> Result<(), Error>
     ensures same_reference { tx.new.conn.ghost_name ≡ tx.old.conn.ghost_name }
     ensures made { Grows 4 3 8 7 (state S.Store tx.old.conn.now) (state S.Store tx.new.conn.now) result }
@@ -178,7 +179,7 @@ fn up_to_placements<S: Alter>(tx: &mut Transaction<'_, S>) -> Result<(), Error>
     Ok(())
 }
 
-/// The tables after these.
+/// Makes the tables behind the placements, up to the dropped frames.
 fn up_to_dropped<S: Alter>(tx: &mut Transaction<'_, S>) -> Result<(), Error>
     ensures same_reference { tx.new.conn.ghost_name ≡ tx.old.conn.ghost_name }
     ensures made { Grows 8 7 11 10 (state S.Store tx.old.conn.now) (state S.Store tx.new.conn.now) result }
@@ -190,7 +191,7 @@ fn up_to_dropped<S: Alter>(tx: &mut Transaction<'_, S>) -> Result<(), Error>
     Ok(())
 }
 
-/// Makes the tables and the index of the schema before, in a database with none.
+/// Makes the tables and the index of the schema before, in a database that has none.
 pub fn before<S: Alter>(tx: &mut Transaction<'_, S>) -> Result<(), Error>
     ensures same_reference { tx.new.conn.ghost_name ≡ tx.old.conn.ghost_name }
     ensures made { MakesOldWhole (state S.Store tx.old.conn.now) (state S.Store tx.new.conn.now) result }
@@ -203,8 +204,8 @@ pub fn before<S: Alter>(tx: &mut Transaction<'_, S>) -> Result<(), Error>
     Ok(())
 }
 
-/// Makes all tables and the index, in a database with none.
-pub fn all<S: Alter>(tx: &mut Transaction<'_, S>) -> Result<(), Error>
+/// Makes every table of this schema, and the index, in a database that has none.
+pub fn every_table<S: Alter>(tx: &mut Transaction<'_, S>) -> Result<(), Error>
     ensures same_reference { tx.new.conn.ghost_name ≡ tx.old.conn.ghost_name }
     ensures made { MakesWhole (state S.Store tx.old.conn.now) (state S.Store tx.new.conn.now) result }
     ensures survives { Survives (state S.Store tx.old.conn.now) (state S.Store tx.new.conn.now) (λ _. ⊥) }

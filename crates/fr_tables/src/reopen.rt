@@ -1,4 +1,4 @@
-//! What is known of tables that are found, with no premise on who wrote them.
+//! Opens tables, whoever wrote them, and says what is known of them.
 
 ghost use Rattle.std.specs.Prelude.{◌≡◌, ◌≤◌, IfOk};
 ghost use Rattle.sqlite.specs.State.{HasCleanDisk, Opens, IsLive};
@@ -10,8 +10,8 @@ ghost use Rattle.fr_tables.specs.Tables.{AreOrdered, AreOrderedBefore};
 use sqlite::{Alter, Connection, Error, ErrorCode};
 use std::alloc::Global;
 
-/// Opens the store anew, as the last commit left it. The rows of a register's tables are then in the order of
-/// their numbers, those of the schema before too.
+/// Opens the store anew, as the last commit left it. The rows of a register's tables are then in
+/// the order of their numbers, also where they are of the schema before.
 pub fn reopen<S: Alter + Drop>(
     alloc: Global,
     conn: Connection<S>,

@@ -1,4 +1,5 @@
-//! Whether two schemas are the same; and a schema whose last table or last index is put into another tree.
+//! Whether two schemas are the same. A schema whose last table or last index is put into another
+//! tree.
 
 ghost use Rattle.std.specs.Prelude.{◌≡◌, [], IsTrue, IfOk, OnOk};
 ghost use Rattle.fr_tables.specs.Schema.{AddsStats, MovesIndex, MovesTable, loose, stats_table};
@@ -64,7 +65,7 @@ fn same_names(a: &[Bytes], b: &[Bytes]) -> bool
     true
 }
 
-/// Only NULL is told to be the same default.
+/// Whether the columns are the same. Of defaults only NULL is found to be the same.
 fn same_column(a: &Column, b: &Column) -> bool
     ensures { IsTrue result → a.now ≡ b.now }
 {
@@ -116,7 +117,8 @@ fn same_references(a: &[Reference], b: &[Reference]) -> bool
     true
 }
 
-/// Only NULL and integers are told to be the same literal.
+/// Whether the operations are the same. Of literals only NULL and integers are found to be the
+/// same.
 fn same_op(a: &Op, b: &Op) -> bool
     ensures { IsTrue result → a.now ≡ b.now }
 {
@@ -209,8 +211,8 @@ fn same_indexes(a: &[Index], b: &[Index]) -> bool
     true
 }
 
-/// Whether the schemas are the same. One with a view, or with a default that is not NULL, is told to
-/// be another.
+/// Whether the schemas are the same. A schema with a view, or with a default that is not NULL, is
+/// never found to be the same.
 pub fn same_schema(a: &Schema, b: &Schema) -> bool
     ensures { IsTrue result → a.now ≡ b.now }
 {
@@ -220,7 +222,7 @@ pub fn same_schema(a: &Schema, b: &Schema) -> bool
         && same_tables(a.tables.as_slice(), b.tables.as_slice())
 }
 
-/// A column that holds values of any kind.
+/// A column that holds values of every kind.
 fn loose(alloc: Global, name: &str) -> Result<Column, AllocError>
     ensures { IfOk result (λ column. column ≡ loose name.now) }
 {
@@ -271,7 +273,7 @@ fn stats_table(alloc: Global, tree: u32) -> Result<Table, AllocError>
     })
 }
 
-/// Adds the table that ANALYZE makes in this tree, where one is given.
+/// Adds the table that ANALYZE makes, in this tree, where one is given.
 pub fn add_stats(alloc: Global, schema: &mut Schema, tree: Option<u32>) -> Result<(), AllocError>
     ensures { OnOk result (AddsStats tree schema.old schema.new) }
 {
@@ -281,8 +283,8 @@ pub fn add_stats(alloc: Global, schema: &mut Schema, tree: Option<u32>) -> Resul
     Ok(())
 }
 
-/// Puts the last table into another tree, and the table that ANALYZE makes before it and behind it, where trees are given
-/// for that.
+/// Puts the last table into another tree. The table that ANALYZE makes stands before it or behind
+/// it, where a tree is given for that.
 pub fn move_table(
     alloc: Global,
     schema: &mut Schema,
@@ -301,7 +303,7 @@ pub fn move_table(
     Ok(())
 }
 
-/// Puts the last index into another tree, or takes it out where none is given.
+/// Puts the last index into another tree, or takes it out where no tree is given.
 pub fn move_index(schema: &mut Schema, tree: Option<u32>) -> Result<(), AllocError>
     ensures { OnOk result (MovesIndex tree schema.old schema.new) }
 {

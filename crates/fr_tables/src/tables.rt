@@ -1,5 +1,5 @@
 //! The statements on each table. Each is one fixed text with parameters, and its contract says what
-//! becomes of the tables' rows.
+//! it makes of the tables' rows.
 
 pub mod cluster;
 pub mod cluster2;

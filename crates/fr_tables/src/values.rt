@@ -1,4 +1,4 @@
-//! What stands in the columns of a row, as values of the register. `None` is a value without its form.
+//! Values of the register in the columns of a row. `None` is a value that has not the form.
 
 ghost use Rattle.std.specs.Prelude.{◌≡◌, pos, Some, IfSome};
 ghost use Rattle.sqlite.specs.declared.types.Value.TheVariants.{Blob, Int, Text};
@@ -27,7 +27,7 @@ pub fn name_at(row: &Row, at: usize) -> Option<Name>
     Name::read(text_at(row, at)?)
 }
 
-/// The name, or that there is none.
+/// The name, if there is one. The inner `None` is NULL.
 pub fn maybe_name_at(row: &Row, at: usize) -> Option<Option<Name>>
     ensures { IfSome result (λ name. column row.now at ≡ of_maybe name) }
 {
@@ -47,7 +47,7 @@ pub fn number_at(row: &Row, at: usize) -> Option<u32>
     }
 }
 
-/// Whether it is so.
+/// The flag, which is 0 or 1.
 pub fn flag_at(row: &Row, at: usize) -> Option<bool>
     ensures { IfSome result (λ is. column row.now at ≡ Int (flag is)) }
 {

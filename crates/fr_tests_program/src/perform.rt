@@ -3,7 +3,7 @@
 use crate::fixture::{CLUSTER, PLAN, carried_out};
 use fr_base::{Query, Report};
 use fr_cli::perform::perform;
-use fr_cli::{Delivery, DeliveryKind, Inquiry, Job, LocalListener};
+use fr_cli::{Delivery, DeliveryKind, Inquiry, Job, LocalFiles, LocalListener};
 use fr_desks::file_desk;
 use sqlite::Unknown;
 use std::fs;
@@ -21,6 +21,7 @@ fn ends(rt: &HostRuntime, job: &Job<'_>, out: &str, err: &str, status: u8) -> bo
         rt,
         job,
         Unknown,
+        &mut LocalFiles { rt },
         &mut b"".as_slice(),
         &mut printed,
         &mut told,

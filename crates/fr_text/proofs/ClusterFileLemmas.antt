@@ -1,9 +1,9 @@
 -- Lemmas on what the bytes of a cluster file say.
-use Rattle.std.proofs.Common.{◌≡◌, Less, nat_lt, not, ℕ, ◌≤◌, ◌-◌, length, take, drop, get_or, arith, List, [], ◌∷◌, ◌++◌, Bool, true, false, ◌&&◌, Option, Some, None, option_map, Result, Ok, Err, MatchResult, Bor, sym, ◌∙◌, append_assoc, append-nil, map, string_bytes, IsUtf8, if◌then◌else◌, refl, ap}
+use Rattle.std.proofs.Common.{◌≡◌, Less, nat_lt, not, ℕ, ◌≤◌, ◌-◌, length, arith, List, [], ◌∷◌, ◌++◌, Bool, true, false, ◌&&◌, ◌||◌, Option, Some, None, option_map, Result, Ok, Err, MatchResult, Bor, sym, ◌∙◌, append_assoc, append-nil, map, string_bytes, IsUtf8, if◌then◌else◌, refl, ap}
 use Rattle.std.specs.Prelude.{⊤}
 use Rattle.std.specs.List.{list_all, list_any}
 use Rattle.std.specs.Map.{keys_of as map_keys}
-use Rattle.std.specs.Str.{is_utf8, bytes_eq}
+use Rattle.std.specs.Str.{is_utf8}
 use Rattle.std.proofs.lemmas.Str.{is_utf8-from_IsUtf8, IsUtf8-from_is_utf8}
 use Rattle.std.specs.List.Sorted.{IsStrictlySortedBy}
 use Rattle.std.specs.String.{string_cmp}
@@ -17,10 +17,8 @@ use Rattle.toml.specs.Data.{Data, Members, member, no_members, as_str, get_membe
 use Rattle.toml.specs.View.{view, members_view}
 use Rattle.toml.specs.Parse.{parse_document}
 use Rattle.std.proofs.lemmas.List.{length-map}
-use Rattle.std.proofs.lemmas.Grind.{common_steps}
 use Rattle.toml.proofs.Views.{Entry}
 use Rattle.fr_base.specs.Cluster.{ClusterFile, names_rise, is_cluster, keys_of, keys_differ}
-use Rattle.fr_base.specs.Names.{same_text}
 use Rattle.fr_base.specs.Names.{is_name, is_key}
 use Rattle.fr_base.specs.Parameters.{check_params}
 use Rattle.fr_base.specs.declared.params.RawParams.{RawParams}
@@ -142,23 +140,10 @@ names_rise-sorted (e ∷ f ∷ es) (s ∷ t ∷ suppliers) sorted same =
 -- the keys of a table, and those of suppliers
 pub ruleset table_keys = (has_only_file_keys-view)
 
--- whether one of the suppliers has the key
-pub has_key-keys : (key : List ℕ) (suppliers : List Supplier) → list_any (λ s. bytes_eq key s.key) suppliers ≡ list_any (same_text key) (map (λ s. s.key) suppliers)
-has_key-keys key [] = refl
-has_key-keys key (s ∷ suppliers) = rw (has_key-keys key suppliers) refl
-
--- one more key
-pub keys_differ-step : (key : List ℕ) (s : Supplier) (suppliers : List Supplier) → keys_differ (keys_of key (s ∷ suppliers)) ≡ (not (list_any (λ t. bytes_eq key t.key) (s ∷ suppliers)) && keys_differ (keys_of s.key suppliers))
-keys_differ-step key s suppliers = rw (has_key-keys key (s ∷ suppliers))
-
--- the same, as a pattern takes the list apart
-pub keys_differ-split : (key : List ℕ) (suppliers : List Supplier) (next : Supplier) → next ≡ get_or suppliers 0 next → 1 ≤ length suppliers
-    → keys_differ (keys_of key suppliers)
-    ≡ (not (list_any (λ t. bytes_eq key t.key) suppliers) && keys_differ (keys_of next.key (take (length suppliers - 1) (drop 1 suppliers))))
-keys_differ-split key [] next is some = absurd (omega arith)
-keys_differ-split key (s ∷ suppliers) next is some =
-    let rest : take (length (s ∷ suppliers) - 1) (drop 1 (s ∷ suppliers)) ≡ suppliers = grind (arith, common_steps) in
-    rw (is, rest) (keys_differ-step key s suppliers)
+-- an element is seen as a value that passes exactly where one of the seen values passes
+pub any-seen : {X : Type 0} (passes : List ℕ → Bool) (see : X → List ℕ) (xs : List X) → list_any (λ x. passes (see x)) xs ≡ list_any passes (map see xs)
+any-seen passes see [] = refl
+any-seen passes see (x ∷ xs) = ap (λ b. passes (see x) || b) (any-seen passes see xs)
 
 -- the cluster file that the texts describe
 abbrev pub file : RawParams → List ℕ → List SupplierText → ClusterFile

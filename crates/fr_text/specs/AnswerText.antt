@@ -15,7 +15,7 @@ use Rattle.fr_text.specs.Styles.{quoted, json_lines, plain_lines}
 abbrev pub text_of_plain : ℕ → List ℕ → List ℕ
 text_of_plain number name = codes "{\"no\":" ++ decimal number ++ codes ",\"refused\":" ++ quoted name ++ codes "}"
 
--- a refusal: its number and its name, and of a taken cell or bit what has taken it
+-- a refusal: its number and its name, and for a taken cell or bit what has taken it
 unfoldable pub text_of_refusal : Refusal → List ℕ
 text_of_refusal (CellTaken cycle channel frame) =
     codes "{\"channel\":" ++ quoted (text_of_channel channel) ++ codes ",\"cycle\":" ++ decimal cycle

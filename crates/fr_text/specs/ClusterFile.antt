@@ -1,4 +1,4 @@
--- Cluster file: what its bytes mean, the config or the first fault in order. Each fault's word.
+-- Cluster file: what its bytes say, the config or the first fault in order. Each fault's word.
 use Rattle.std.specs.Prelude.{ℕ, ◌^◌, ℤ, pos, negsuc, Bool, true, not, ◌&&◌, List, [], ◌∷◌, length, codes, nat_lt, Option, Some, None, is_some, option_and_then, Result, Ok, Err, if◌then◌else◌}
 use Rattle.std.specs.List.{list_all, list_any}
 use Rattle.std.specs.Str.{is_utf8, bytes_eq}
@@ -15,14 +15,17 @@ use Rattle.fr_base.specs.declared.config.Supplier.{Supplier}
 use Rattle.fr_text.specs.declared.cluster_file.ConfigFault.{ConfigFault}
 use Rattle.fr_text.specs.declared.cluster_file.ConfigFault.TheVariants.{BadToml, BadField, Params, Limit, BadName, BadKey, KeyTwice, NoMemory}
 
--- the keys that a cluster file has
-abbrev pub is_file_key : List ℕ → Bool
-is_file_key key =
-    list_any (bytes_eq key)
-    (codes "channels" ∷ codes "static_slots" ∷ codes "slot_macroticks" ∷ codes "dynamic_macroticks" ∷ codes "symbol_macroticks"
-    ∷ codes "idle_macroticks" ∷ codes "macroticks_per_cycle" ∷ codes "payload_words" ∷ codes "cycles" ∷ codes "integrator" ∷ codes "suppliers" ∷ [])
+-- the keys of a cluster file, in the order in which they are read
+abbrev pub file_keys : List (List ℕ)
+file_keys =
+    codes "channels" ∷ codes "static_slots" ∷ codes "slot_macroticks" ∷ codes "dynamic_macroticks" ∷ codes "symbol_macroticks"
+    ∷ codes "idle_macroticks" ∷ codes "macroticks_per_cycle" ∷ codes "payload_words" ∷ codes "cycles" ∷ codes "integrator" ∷ codes "suppliers" ∷ []
 
--- whether the table has no other keys
+-- whether the key is one that a cluster file has
+abbrev pub is_file_key : List ℕ → Bool
+is_file_key key = list_any (bytes_eq key) file_keys
+
+-- whether the table has no keys but those of a cluster file
 unfoldable pub has_only_file_keys : Members → Bool
 has_only_file_keys no_members = true
 has_only_file_keys (member key d rest) = is_file_key key && has_only_file_keys rest
@@ -36,7 +39,7 @@ as_u32 (negsuc n) = None
 unfoldable pub number_at : List ℕ → Members → Result ℕ ConfigFault
 number_at key file = option_and_then as_u32 (option_and_then as_integer (get_member key file)) or BadField
 
--- the number at a key, or this one where there is none
+-- the number at a key, or the first number where the key is absent
 unfoldable pub number_or : ℕ → List ℕ → Members → Result ℕ ConfigFault
 number_or other key file = if is_some (get_member key file) then number_at key file else Ok other
 
@@ -48,7 +51,7 @@ text_at key file = option_and_then as_str (get_member key file) or BadField
 unfoldable pub table_at : List ℕ → Members → Result Members ConfigFault
 table_at key file = option_and_then as_table (get_member key file) or BadField
 
--- the parameters, not yet checked
+-- the parameters as they stand in the file, not checked
 unfoldable pub params_in : Members → Result RawParams ConfigFault
 params_in file = do
   text ← text_at (codes "channels") file
@@ -91,7 +94,7 @@ fields_in file = do
   suppliers ← suppliers_in table
   Ok (record { cluster = record { params = params; integrator = integrator }; suppliers = suppliers })
 
--- a fault of the parameters is one of the file
+-- a fault of the parameters is a fault of the file
 abbrev pub in_params : Result RawParams ParamFault → Result RawParams ConfigFault
 in_params (Ok params) = Ok params
 in_params (Err fault) = Err (Params fault)

@@ -1,6 +1,6 @@
--- Export's laws: what a supplier is sent of an export is read as an import's file. Its rows are exactly the records, none
--- is refused, and the file is within the limits of one. So, sent back, it changes nothing; and imported elsewhere, all parts bring the
--- supplier's frames along.
+-- Export's laws: what a supplier is sent of an export is read as an import's file. Its rows are
+-- exactly the records, none is refused, and the file is within the limits of an import. So, sent
+-- back, it changes nothing. All parts, imported elsewhere, bring the supplier's frames along.
 use Rattle.std.specs.Prelude.{◌≡◌, ◌≢◌, ℕ, suc, ◌+◌, ◌≤◌, List, [], ◌∷◌, ◌++◌, map, length, false, Some, None, Ok, IsTrue, IsFalse, All, AllPairs}
 use Rattle.fr_base.specs.Alone.{answers_to, book_after}
 use Rattle.fr_base.specs.Book.{Variant, Book, own, own_grants}
@@ -26,7 +26,7 @@ use Rattle.fr_base.specs.declared.report.Report.TheVariants.{Export}
 use Rattle.fr_base.specs.declared.request.Request.TheVariants.{Replace}
 use Rattle.fr_text.specs.AnswerText.{report_of}
 
--- rows that are read, none refused, the first of them at this line
+-- the rows as they are read, none refused, the first of them at this line
 unfoldable pub read_from : ℕ → List Row → List RowRead
 read_from line [] = []
 read_from line (row ∷ rest) = record { line = line; row = Ok row } ∷ read_from (suc line) rest
@@ -39,18 +39,20 @@ sent rows = report_of (Report false rows)
 abbrev pub IsExport : Cluster → Book → Name → Name → Header → ℕ → ReportRows → Type 0
 IsExport c b s v header part rows = found c.params b (Supplier s) (OfVariant v (Export header part)) ≡ Ok rows
 
--- In a sound book the import reader gives exactly its records, none refused, and at most 512; the header is line 1.
+-- In a sound book the import reader reads exactly the records of what a supplier is sent of an
+-- export. None is refused, and there are at most 512; the header is line 1.
 abbrev pub ExportIsReadBack : Type 0
 ExportIsReadBack = (c : Cluster) (b : Book) (s v : Name) (header : Header) (part : ℕ) (rows : ReportRows) → IsSound c b → IsExport c b s v header part rows
     → (rows_of_body c.params (sent rows) ≡ read_from 2 (exported_rows rows)) × (length (exported_rows rows) ≤ MAX_ROWS)
 
--- It has at most as many bytes as an import.
+-- What a supplier is sent of an export has no more bytes than an import's file may have.
 abbrev pub ExportIsWithinBytes : Type 0
 ExportIsWithinBytes = (c : Cluster) (b : Book) (s v : Name) (header : Header) (part : ℕ) (rows : ReportRows) → IsSound c b → IsExport c b s v header part rows
     → length (sent rows) ≤ MAX_IMPORT_BYTES
 
--- In a sound book, what a supplier is sent of a part of its own export of an open variant, of any kind, and sends back as a replacement there,
--- changes nothing, and is answered Replaced, with the count of its rows.
+-- In a sound book a supplier sends back what it was sent of a part of its own export of an open
+-- variant, of any kind, as a replacement there. It changes nothing, and is answered Replaced, with
+-- the count of its rows.
 abbrev pub SentBackChangesNothing : Type 0
 SentBackChangesNothing = (c : Cluster) (b : Book) (s v : Name) (x : Variant) (header : Header) (part : ℕ) (rows : ReportRows) →
     IsSound c b → IsTrue (knows b (Supplier s)) → get b.variants v ≡ Some x → IsFalse x.released → IsExport c b s v header part rows
@@ -58,24 +60,27 @@ SentBackChangesNothing = (c : Cluster) (b : Book) (s v : Name) (x : Variant) (he
 
 -- ---- elsewhere
 
--- The files are what the supplier is sent of its export of the variant, of this kind, from this part on, each a part, to the last: behind it
--- there are no records.
+-- The files are what the supplier is sent of its export of the variant, of this kind, from this
+-- part on, one part a file. They go to the last part: behind them the export has no records.
 abbrev pub AreSentFrom : Cluster → Book → Name → Name → Header → ℕ → List File → Type 0
 AreSentFrom c b s v header part [] = (rows : ReportRows) × IsExport c b s v header part rows × (exported_rows rows ≡ [])
 AreSentFrom c b s v header part (file ∷ files) =
     ((rows : ReportRows) × IsExport c b s v header part rows × (file.body ≡ sent rows)) × AreSentFrom c b s v header (suc part) files
 
--- The labels of the files are names, no two alike, under which the supplier keeps nothing; and it may keep so many.
+-- The labels of the files are names, no two alike. The supplier keeps nothing under them, and may
+-- keep so many imports more.
 pub record MayBeLabelled (b : Book) (s : Name) (files : List File) : Type 0 where
   pub names : All (λ file. IsTrue (is_name file.label)) files
   pub free : All (λ file. get b.imports (s, file.label) ≡ None) files
   pub apart : AllPairs (λ f g. f.label ≢ g.label) files
   pub room : len (own s b.imports) + length files ≤ MAX_IMPORTS
 
--- In a sound book a variant is open, and in it the supplier has no frames; it has the nodes and grants that it has in another variant,
--- of this or of another sound register with the same parameters. There it is sent all parts of its exports. Imported here, first those of its
--- frames, then those of its placements, then those of its signals, each is answered Imported, with as many rows as it has, and then the
--- supplier's frames are those of the other variant, and all else of this one is as before.
+-- In a sound book a variant is open, and in it the supplier has no frames. It has the nodes and
+-- grants that it has in another variant, of this or of another sound register with the same
+-- parameters. The supplier is sent all parts of its exports of the other variant and imports them
+-- here: first those of the frames, then those of the placements, then those of the signals. Each
+-- import is answered Imported, with as many rows as it has. In the end the supplier's frames are
+-- those of the other variant, and all else of this one is as before.
 abbrev pub SentIsImported : Type 0
 SentIsImported = (c e : Cluster) (b d : Book) (s v w : Name) (x y : Variant) (frames placements signals : List File) →
     IsSound c b → IsSound e d → c.params ≡ e.params → IsTrue (knows b (Supplier s)) →

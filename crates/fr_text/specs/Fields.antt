@@ -13,7 +13,7 @@ use Rattle.serde_json.specs.declared.value.Value.{Value}
 use Rattle.fr_base.specs.declared.refusal.Refusal.{Refusal}
 use Rattle.fr_base.specs.declared.refusal.Refusal.TheVariants.{BadText, Unavailable}
 
--- the lines of a `do` are asked in order; where one has no answer, the whole has none
+-- The lines of a `do` are asked in order. Where one has no answer, the whole has none.
 infixl 10 ◌>>=◌
 abbrev pub ◌>>=◌ : {A B : Type 0} → Option A → (A → Option B) → Option B
 (Some x) >>= f = f x
@@ -39,21 +39,21 @@ abbrev pub names_of : Members → List (List ℕ)
 names_of no_members = []
 names_of (member name value rest) = name ∷ names_of rest
 
--- whether the name is one of these
+-- whether the name is one of the list
 unfoldable pub is_among : List (List ℕ) → List ℕ → Bool
 is_among names name = list_any (λ other. bytes_eq other name) names
 
--- whether no field has a name besides these
+-- whether each field has a name of the list
 unfoldable pub only : List (List ℕ) → Members → Bool
 only names fields = list_all (is_among names) (names_of fields)
 
--- the field of this name, a text
+-- the text of the field of this name
 unfoldable pub text : List ℕ → Members → Option (List ℕ)
 text name fields = do
   value ← get_member name fields
   as_str value
 
--- the field of this name, a text; it may be absent or null, and is no text then
+-- the text of the field of this name; no text where the field is absent or null
 unfoldable pub text_or_null : List ℕ → Members → Option (Option (List ℕ))
 text_or_null name fields = text_in (get_member name fields)
   where
@@ -61,7 +61,7 @@ text_or_null name fields = text_in (get_member name fields)
     text_in None = Some None
     text_in (Some value) = if is_some (as_null value) then Some None else (as_str value >>= λ there. Some (Some there))
 
--- the field of this name, true or false; it may be absent, and is false then
+-- whether the field of this name is true; it may be absent, and is false then
 unfoldable pub flag : List ℕ → Members → Option Bool
 flag name fields = flag_in (get_member name fields)
   where
@@ -69,7 +69,7 @@ flag name fields = flag_in (get_member name fields)
     flag_in None = Some false
     flag_in (Some value) = as_bool value
 
--- the field of this name, a whole number from 0 to 4,294,967,295
+-- the whole number of the field of this name, from 0 to 4,294,967,295
 unfoldable pub whole : List ℕ → Members → Option ℕ
 whole name fields = do
   value ← get_member name fields
@@ -82,7 +82,8 @@ whole name fields = do
 abbrev pub fields_in : BTreeMap (String Global) Value → Members
 fields_in fields = members_view fields.entries
 
--- What was read, seen by view, is what is there. A refusal is for want of memory, or says that nothing is there.
+-- What was read, seen by view, is what the fields have. A refusal comes for want of memory, or
+-- where the fields have nothing there.
 abbrev pub Reads : {A B : Type 0} → (A → B) → Option B → Result A Refusal → Type 0
 Reads view there (Ok x) = there ≡ Some (view x)
 Reads view there (Err refusal) = (refusal ≡ Unavailable) ⊎ ((refusal ≡ BadText) × (there ≡ None))

@@ -1,11 +1,11 @@
--- Which records of an import's file are still to be read.
+-- The records of an import's file that are still to be read.
 use Rattle.std.specs.Prelude.{◌≡◌, ℕ, ◌+◌, List, [], length, Option, Some, None, false, true}
 use Rattle.csv.specs.Reading.{Ready, default_config, has_failed, is_flexible, reader_config, reader_state, reader_trim, records_from, source_of}
 use Rattle.csv.specs.declared.parser.State.{State}
 use Rattle.csv.specs.declared.reader.Reader.{Reader}
 use Rattle.csv.specs.declared.reader.Trim.TheVariants as trim
 
--- the records of the bytes that are left, from a state; a reader that failed has none left
+-- the records of the bytes that a reader in this state has left; a reader that failed has none left
 unfoldable pub records_left : State → Option (List ℕ) → List (List (List ℕ))
 records_left s None = []
 records_left s (Some bytes) = records_from default_config (length bytes + 1) s bytes
@@ -14,7 +14,7 @@ records_left s (Some bytes) = records_from default_config (length bytes + 1) s b
 abbrev pub left_of : {R : Type 0} → (R → Option (List ℕ)) → Reader R → List (List (List ℕ))
 left_of remaining reader = records_left (reader_state reader) (source_of remaining reader)
 
--- as long as it has not failed, the reader gives each record as it stands, of however many fields
+-- The reader gives each record as it stands, of however many fields, as long as it has not failed.
 abbrev pub IsPlain : {R : Type 0} → Reader R → Type 0
 IsPlain reader =
     has_failed reader ≡ false → (reader_config reader ≡ default_config) × (reader_trim reader ≡ trim.None) × Ready reader × (is_flexible reader ≡ true)

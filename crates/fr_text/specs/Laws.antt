@@ -27,7 +27,7 @@ abbrev pub text_or_null : Option (List ℕ) → Data
 text_or_null None = null
 text_or_null (Some text) = string text
 
--- the fields of a report's own: the name of a frame, and a number
+-- the fields that a report has of its own: the name of a frame, and a number
 abbrev pub report_fields : Report (List ℕ) ℕ → List (List ℕ × Data)
 report_fields (Layout f) = (codes "frame", string f) ∷ []
 report_fields (Room f r) = (codes "frame", string f) ∷ (codes "repetition", count r) ∷ []
@@ -76,7 +76,8 @@ numbers_of (AddSignal v f x start length order) = start ∷ length ∷ []
 numbers_of (Query query) = query_numbers query
 numbers_of _ = []
 
--- A text that says in JSON what is written for a request, whose numbers are below 2 ^ 32, is that request.
+-- A text that says in JSON what is written for a request is read as that request, if the request's
+-- numbers are below 2 ^ 32.
 abbrev pub WrittenIsReadBack : Type 0
 WrittenIsReadBack = (bytes : List ℕ) (request : Request) → IsTrue (is_utf8 bytes) → read bytes ≡ Some (object (fields_of request))
     → IsTrue (list_all (λ n. nat_lt n (2 ^ 32)) (numbers_of request)) → request_of bytes ≡ Some request

@@ -1,5 +1,6 @@
--- Report: the lines of each report, with a gap right in seven places. The supplier's name stands at the end of each but
--- the `AT` lines of frames, those of the cluster and of variants, and those of a room and of fates, for the integrator alone.
+-- Report: the lines of each report. A gap stands at the right of seven places. Each line ends with
+-- the supplier's name, for the integrator alone; but the `AT` lines of frames and the lines of the
+-- cluster, of variants, of a room and of fates have none.
 use Rattle.std.specs.Prelude.{ℕ, Bool, List, [], ◌∷◌, ◌++◌, map, codes, decimal, Option, Some, None, if◌then◌else◌}
 use Rattle.std.specs.List.{flat_map}
 use Rattle.fr_base.specs.Channels.{text_of_channel, text_of_channels}
@@ -51,7 +52,7 @@ placement_line q = line (codes "AT" ∷ four_digits q.slot ∷ text_of_channels 
 unfoldable pub schedule_line : Bool → Sending → List ℕ
 schedule_line all s = line (two_digits s.cycle ∷ four_digits s.slot ∷ text_of_channel s.channel ∷ s.frame ∷ s.node ∷ shown_to all s.supplier)
 
--- a frame's greatest gap, in seven places
+-- a frame's greatest gap, at the right of seven places
 unfoldable pub gap_line : Bool → GapRow → List ℕ
 gap_line all g = line (codes "GAP" ∷ right_in 7 (gap_word g.gap) ∷ g.frame ∷ shown_to all g.supplier)
 
@@ -86,7 +87,7 @@ variant_line v = line (v.variant ∷ parent_word v.parent ∷ decimal v.depth �
 unfoldable pub node_line : Bool → NodeRow → List ℕ
 node_line all n = line (n.node ∷ shown_to all n.supplier)
 
--- the node that holds a lane, or a hyphen; for the integrator then the supplier, or a hyphen
+-- the node that holds a lane, or a hyphen; for the integrator also the supplier, or a hyphen
 abbrev pub holder_words : Bool → Option LaneHolder → List (List ℕ)
 holder_words all None = codes "-" ∷ shown_to all (codes "-")
 holder_words all (Some h) = h.node ∷ shown_to all h.supplier
@@ -128,7 +129,7 @@ seen_line all (seen.Signal r) =
     line (codes "SIGNAL" ∷ r.frame ∷ four_digits r.signal.start ∷ two_digits r.signal.length ∷ text_of_order r.signal.order ∷ r.signal.name ∷ shown_to all r.supplier)
 seen_line all (seen.Gap g) = gap_line all g
 
--- the sign of a row that is gone, or new, and the row
+-- the sign of a gone or a new row, and the row
 unfoldable pub difference_line : Bool → DifferenceRow → List ℕ
 difference_line all d = (if d.is_new then codes "+ " else codes "- ") ++ seen_line all d.row
 
@@ -150,7 +151,7 @@ lines_of_rows all (rows.SignalRecords records) = header_line all header.Signals 
 lines_of_rows all (rows.Difference differences) = map (difference_line all) differences
 lines_of_rows all (rows.Fates fates) = map fate_line fates
 
--- the lines of an answer; one that answers no query has none
+-- the lines of an answer; an answer to no query has none
 unfoldable pub lines_of : Answer → List (List ℕ)
 lines_of (Report all rows) = lines_of_rows all rows
 lines_of _ = []

@@ -1,5 +1,6 @@
--- Request's text: which request, an import too, the bytes of a line are. They are one JSON object, whose field `do`
--- names the request, with exactly that request's fields, each of its kind.
+-- Request's text: the request that the bytes of a line are, an import too. They are one JSON
+-- object, whose field `do` names the request. It has exactly that request's fields, each of its
+-- kind.
 use Rattle.std.specs.Prelude.{ℕ, List, [], ◌∷◌, codes, Option, Some}
 use Rattle.std.specs.Map.{lookup}
 use Rattle.std.specs.Str.{bytes_eq}
@@ -192,7 +193,7 @@ export header fields = do
   part ← whole (codes "part") fields
   Some (Query (OfVariant variant (Export header part)))
 
--- in what two variants differ
+-- what differs between two variants
 unfoldable pub difference : Members → Option Request
 difference fields = do
   provided (only (codes "do" ∷ codes "variant" ∷ codes "from" ∷ []) fields)
@@ -202,7 +203,7 @@ difference fields = do
 
 -- ---- the request
 
--- what each name of a request reads
+-- the name of each request, and the reader of its fields
 unfoldable pub readers : List (List ℕ × (Members → Option Request))
 readers =
     (codes "open_variant", open_variant)
@@ -244,7 +245,7 @@ request_in fields = do
   reader ← lookup (bytes_eq name) readers
   reader fields
 
--- the request that the bytes are, if they are one
+-- the request that the bytes are, if they are a request
 unfoldable pub request_of : List ℕ → Option Request
 request_of bytes = do
   value ← value_of bytes

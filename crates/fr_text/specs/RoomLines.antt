@@ -1,15 +1,16 @@
--- Room's lines: the placements of one slot, with the same channels and repetition, make one line, where they stand one
--- behind another.
+-- Room's lines: placements of one slot, with the same channels and repetition, share one line where
+-- they follow one another.
 use Rattle.std.specs.Prelude.{ℕ, ◌==◌, Bool, ◌&&◌, List, [], ◌∷◌, map, if◌then◌else◌}
 use Rattle.fr_base.specs.Channels.{channels_number, text_of_channels}
 use Rattle.fr_base.specs.declared.placement.Placement.{Placement}
 use Rattle.fr_text.specs.Words.{two_digits, four_digits, line}
 
--- whether two placements stand in one line
+-- whether two placements share a line
 abbrev pub share_line : Placement → Placement → Bool
 share_line q r = q.slot == r.slot && channels_number q.channels == channels_number r.channels && q.cycles.repetition == r.cycles.repetition
 
--- a placement joins the first group where it shares that line, else it is a group of its own
+-- the groups with one more placement in front: it joins the first group where it shares that line,
+-- else it is a group of its own
 abbrev pub with_place : Placement → List (List Placement) → List (List Placement)
 with_place q ((r ∷ others) ∷ groups) = if share_line q r then (q ∷ r ∷ others) ∷ groups else (q ∷ []) ∷ (r ∷ others) ∷ groups
 with_place q groups = (q ∷ []) ∷ groups

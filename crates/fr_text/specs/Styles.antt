@@ -4,7 +4,7 @@ use Rattle.std.specs.List.{join_by, flat_map}
 use Rattle.fr_text.specs.declared.style.Style.{Style}
 use Rattle.fr_text.specs.declared.style.Style.TheVariants.{Json, Plain}
 
--- between double quotes
+-- the text between double quotes
 abbrev pub quoted : List ℕ → List ℕ
 quoted text = codes "\"" ++ text ++ codes "\""
 
@@ -41,6 +41,6 @@ joined mark lines = join_by (λ line. line) mark lines
 unfoldable pub marked : List ℕ → List (List ℕ) → List ℕ
 marked mark lines = flat_map (λ line. mark ++ line) lines
 
--- the lines of rows, of which each has a first line and perhaps others
+-- the lines of rows; each row has a first line, and may have others
 abbrev pub lines_in : {R : Type 0} → (Bool → R → List ℕ) → (Bool → R → List (List ℕ)) → Bool → List R → List (List ℕ)
 lines_in first others all rows = flat_map (λ row. first all row ∷ others all row) rows

@@ -1,4 +1,4 @@
--- Which suppliers a list of their texts stands for.
+-- The suppliers that a list of their texts stands for.
 use Rattle.std.specs.Prelude.{List, map}
 use Rattle.fr_base.specs.declared.config.Supplier.{Supplier}
 use Rattle.fr_text.specs.declared.cluster_file.SupplierText.{SupplierText}

@@ -1,6 +1,6 @@
--- Words of a line: they stand with one space between; the fields of a record have commas between. A number has its
--- digits with leading zeros. A text stands right in so many places. A gap is its number, or `never`. The supplier's
--- name is for the integrator alone.
+-- Words of a line: one space stands between them; one comma stands between the fields of a record.
+-- A number has its digits, with leading zeros. A text stands at the right of so many places. A gap
+-- is its number, or `never`. The supplier's name is for the integrator alone.
 use Rattle.std.specs.Prelude.{◌≡◌, ℕ, ◌+◌, ◌-◌, ◌/◌, ◌%◌, Bool, List, [], ◌∷◌, ◌++◌, codes, decimal, length, replicate, if◌then◌else◌, Option, Some, None}
 use Rattle.std.specs.List.{join_by, flat_map}
 
@@ -29,7 +29,7 @@ gap_word (Some gap) = decimal gap
 abbrev pub line : List (List ℕ) → List ℕ
 line words = join_by (λ word. word) (codes " ") words
 
--- words behind others, a space before each
+-- words that follow others: a space before each
 abbrev pub behind : List (List ℕ) → List ℕ
 behind words = flat_map (λ word. codes " " ++ word) words
 
@@ -37,7 +37,7 @@ behind words = flat_map (λ word. codes " " ++ word) words
 abbrev pub comma_line : List (List ℕ) → List ℕ
 comma_line fields = join_by (λ field. field) (codes ",") fields
 
--- fields behind others, a comma before each
+-- fields that follow others: a comma before each
 abbrev pub comma_behind : List (List ℕ) → List ℕ
 comma_behind fields = flat_map (λ field. codes "," ++ field) fields
 
@@ -45,6 +45,6 @@ comma_behind fields = flat_map (λ field. codes "," ++ field) fields
 abbrev pub shown_to : Bool → List ℕ → List (List ℕ)
 shown_to all supplier = if all then supplier ∷ [] else []
 
--- the new bytes are the old ones, with more at their end
+-- the new bytes are the old ones with more behind them
 abbrev pub Extends : List ℕ → List ℕ → Type 0
 Extends old new = (more : List ℕ) × (new ≡ old ++ more)

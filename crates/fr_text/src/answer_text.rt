@@ -37,7 +37,7 @@ fn push_answer(answer: &Answer, out: &mut Vec<u8>) -> Result<(), NoMemory>
     }
 }
 
-// Appends a report: its lines, and its name.
+// Appends a report: the texts of its lines, then its name.
 #[tactic(auto, using(crate::proofs::WordsLemmas::extending))]
 fn push_report(rows: &ReportRows, all: bool, out: &mut Vec<u8>) -> Result<(), NoMemory>
     ensures ok { OnOk result (out.new.items ≡ out.old.items ++ text_of_report (lines_of_rows all rows.now) (name_of_rows rows.now)) }

@@ -1,19 +1,19 @@
 //! Reads a cluster file: a TOML document with the cluster's parameters, the integrator's key, and the suppliers with
 //! theirs.
-ghost use Rattle.std.specs.Prelude.{◌≡◌, ◌⊎◌, false, Ok, Err, Some, None, IfOk, IfErr, MatchResult, IsTrue, string_bytes};
+ghost use Rattle.std.specs.Prelude.{◌≡◌, ◌⊎◌, false, Ok, Err, Some, None, IfOk, IfErr, MatchResult, IsTrue, map, string_bytes};
 ghost use Rattle.std.specs.List.{list_all, list_any};
 ghost use Rattle.std.specs.Str.{bytes_eq};
 ghost use Rattle.std.specs.BTreeMap.{keys};
 ghost use Rattle.toml.specs.View.{view, table_view};
 ghost use Rattle.toml.specs.Data.{get_member};
-ghost use Rattle.fr_base.specs.Cluster.{names_rise, keys_of, keys_differ};
+ghost use Rattle.fr_base.specs.Cluster.{names_rise};
 ghost use Rattle.fr_base.specs.Names.{is_name, is_key};
-ghost use Rattle.fr_text.specs.ClusterFile.{is_file_key, has_only_file_keys, text_at, number_at, number_or, table_at, params_in, suppliers_in, fields_in, check_cluster, document, config_of, config_fault_word};
+ghost use Rattle.fr_text.specs.ClusterFile.{file_keys, is_file_key, has_only_file_keys, text_at, number_at, number_or, table_at, params_in, suppliers_in, fields_in, check_cluster, document, config_of, config_fault_word};
 ghost use Rattle.fr_text.specs.SupplierTexts.{suppliers_of};
 
 use fr_base::{
     Channels, Config, Key, MAX_SUPPLIERS, Name, NoMemory, ParamFault, Params, RawParams, Supplier,
-    Suppliers,
+    Suppliers, keys_differ,
 };
 use std::alloc::{AllocFailed, Global};
 use std::fmt::{self, Display, Formatter};
@@ -140,27 +140,40 @@ fn read_document(alloc: Global, bytes: &[u8]) -> Result<Table, ConfigFault>
     }
 }
 
-/// Whether a cluster file may have the key.
-fn is_file_key(key: &str) -> bool
-    ensures { result ≡ is_file_key key.now }
+/// The keys of a cluster file, in the order in which they are read.
+pub fn file_keys() -> &'static [&'static str]
+    ensures { map (λ key. key.now) result.now ≡ file_keys }
 {
-    matches!(
-        key,
-        "channels"
-            | "static_slots"
-            | "slot_macroticks"
-            | "dynamic_macroticks"
-            | "symbol_macroticks"
-            | "idle_macroticks"
-            | "macroticks_per_cycle"
-            | "payload_words"
-            | "cycles"
-            | "integrator"
-            | "suppliers"
-    )
+    &[
+        "channels",
+        "static_slots",
+        "slot_macroticks",
+        "dynamic_macroticks",
+        "symbol_macroticks",
+        "idle_macroticks",
+        "macroticks_per_cycle",
+        "payload_words",
+        "cycles",
+        "integrator",
+        "suppliers",
+    ]
 }
 
-/// Whether the file has no other keys.
+/// Whether the key is one that a cluster file has.
+pub fn is_file_key(key: &str) -> bool
+    ensures { result ≡ is_file_key key.now }
+{
+    is_among(key, file_keys())
+}
+
+/// Whether the key is one of the list.
+fn is_among(key: &str, keys: &[&str]) -> bool
+    ensures { result ≡ list_any (λ known. bytes_eq key.now known.now) keys.now }
+{
+    keys.iter().any(|known| key == *known)
+}
+
+/// Whether the file has no keys but those of a cluster file.
 fn has_only_file_keys(file: &Table) -> bool
     ensures { result ≡ list_all (λ key. is_file_key (string_bytes key)) (keys file.now) }
 {
@@ -187,7 +200,7 @@ fn number_at(file: &Table, key: &str) -> Result<u32, ConfigFault>
     u32::try_from(number).map_err(|_| ConfigFault::BadField)
 }
 
-/// The number at a key, or this one where there is none.
+/// The number at a key, or `other` where the key is absent.
 #[tactic(auto, unfolding(crate::specs::ClusterFile::number_or))]
 fn number_or(file: &Table, key: &str, other: u32) -> Result<u32, ConfigFault>
     ensures { result ≡ number_or other key.now (table_view file.now) }
@@ -218,7 +231,7 @@ fn table_at<'a>(file: &'a Table, key: &str) -> Result<&'a Table, ConfigFault>
     value_at(file, key)?.as_table().ok_or(ConfigFault::BadField)
 }
 
-/// The parameters, not yet checked.
+/// The parameters as they stand in the file, not checked.
 #[tactic(auto, unfolding(crate::proofs::ClusterFileLemmas::params_in_open))]
 fn params_in(file: &Table) -> Result<RawParams, ConfigFault>
     ensures { result ≡ params_in (table_view file.now) }
@@ -257,7 +270,7 @@ fn suppliers_in<'a>(alloc: Global, table: &'a Table) -> Result<Vec<SupplierText<
 }
 
 impl<'a> Fields<'a> {
-    /// The fields of the file, if all are there, each is of its kind, and no other is there.
+    /// The fields of the file, if all are there, each is of its kind, and no others are there.
     #[tactic(auto, unfolding(crate::proofs::ClusterFileLemmas::fields_in_open), using(crate::proofs::ClusterFileLemmas::table_keys))]
     fn read(alloc: Global, file: &'a Table) -> Result<Fields<'a>, ConfigFault>
         ensures read { IfOk result (λ fields. fields_in (table_view file.now) ≡ Ok fields) }
@@ -303,14 +316,14 @@ impl<'a> Fields<'a> {
     }
 }
 
-/// Whether each supplier's name is one.
+/// Whether the text of each supplier's name is a name.
 fn are_names(texts: &[SupplierText]) -> bool
     ensures { result ≡ list_all (λ text. is_name text.name.now) texts.now }
 {
     texts.iter().all(|text| Name::read(text.name).is_some())
 }
 
-/// The suppliers in their order. A text that is no name, or no key, is a fault.
+/// The suppliers in their order. A text that is not a name, or not a key, is a fault.
 fn read_suppliers(alloc: Global, texts: &[SupplierText]) -> Result<Suppliers, ConfigFault>
     ensures read { IfOk result (λ suppliers. (suppliers ≡ suppliers_of texts.now)
         × IsTrue (list_all (λ text. is_key text.key.now) texts.now)) }
@@ -332,23 +345,6 @@ fn read_suppliers(alloc: Global, texts: &[SupplierText]) -> Result<Suppliers, Co
         suppliers.push(Supplier { name, key })?;
     }
     Ok(suppliers)
-}
-
-/// Whether one of the suppliers has the key.
-fn has_key(suppliers: &[Supplier], key: Key) -> bool
-    ensures { result ≡ list_any (λ supplier. bytes_eq key supplier.key) suppliers.now }
-{
-    suppliers.iter().any(|supplier| key == supplier.key)
-}
-
-/// Whether no two of the key and the suppliers' keys are the same.
-fn keys_differ(key: Key, suppliers: &[Supplier]) -> bool
-    ensures { result ≡ keys_differ (keys_of key suppliers.now) }
-{
-    match suppliers {
-        [] => true,
-        [next, rest @ ..] => !has_key(suppliers, key) && keys_differ(next.key, rest),
-    }
 }
 
 /// What the bytes of a cluster file say, or the first fault.

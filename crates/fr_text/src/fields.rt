@@ -18,7 +18,7 @@ pub(crate) type Fields = Map<String, Value>;
 pub(crate) fn read_json(alloc: Global, bytes: &[u8]) -> Result<Value, Refusal>
     ensures value { Reads view (value_of bytes.now) result }
 
-    // Bytes that are no text are never `Unavailable`.
+    // Bytes that are not UTF-8 are never `Unavailable`.
     ensures plain { is_utf8 bytes.now ≡ false → result ≡ Err Refusal.BadText }
 {
     let Ok(text) = str::from_utf8(bytes) else {
@@ -30,7 +30,8 @@ pub(crate) fn read_json(alloc: Global, bytes: &[u8]) -> Result<Value, Refusal>
     }
 }
 
-// How a text is refused of which no value was read: for want of memory, or else as a text that is none.
+// The refusal of a text of which no value was read: `Unavailable` for want of memory, else
+// `BadText`.
 fn refusal_of(error: &Error) -> Refusal
     ensures { ((result ≡ Refusal.Unavailable) × IsMemory error.now) ⊎ ((result ≡ Refusal.BadText) × ¬ (IsMemory error.now)) }
 {
@@ -98,7 +99,7 @@ pub(crate) fn number_in(fields: &Fields, name: &str) -> Result<u32, Refusal>
         .ok_or(Refusal::BadText)
 }
 
-/// Refuses a field whose name is none of these.
+/// Refuses fields that have a name beside these.
 pub(crate) fn allow_only(fields: &Fields, names: &[&str]) -> Result<(), Refusal>
     ensures there { Reads (λ _. tt) (provided (only (map (λ name. name.now) names.now) (fields_in fields.now))) result }
     ensures plain { IfErr result (λ refusal. refusal ≡ Refusal.BadText) }

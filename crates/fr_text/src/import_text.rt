@@ -1,4 +1,4 @@
-//! Reads an import's file: comma-separated records, of which the first is a header that says what the
+//! Reads an import's file: comma-separated records. The first is a header, which says what the
 //! others are.
 ghost use Rattle.std.specs.Prelude.{◌≡◌, ◌∷◌, ◌&&◌, ◌+◌, [], map, take, MatchResult, Ok, Err, Some, None, if◌then◌else◌, ◌++◌, true, false, IfOk, IfSome, OnOk};
 ghost use Rattle.std.specs.Option.{MatchOption};
@@ -16,7 +16,7 @@ use fr_base::{Header, MAX_ROWS, Name, NoMemory, Params, Refusal, Row, RowRead, R
 use std::alloc::Global;
 use std::marker::Model;
 
-/// Reads the rows of an import's file, up to the first that is refused by its own text. Each row's texts
+/// Reads the rows of an import's file, up to the first that its own text refuses. Each row's texts
 /// and numbers are checked. Want of memory is `Unavailable`.
 pub fn read_import(alloc: Global, params: &Params, body: &[u8]) -> Result<Rows<RowRead>, Refusal>
     ensures { MatchResult result (λ rows. rows ≡ rows_of_body params.now body.now) (λ refusal. refusal ≡ Refusal.Unavailable) }
@@ -34,8 +34,8 @@ pub fn read_import(alloc: Global, params: &Params, body: &[u8]) -> Result<Rows<R
     Ok(rows)
 }
 
-/// Reads all the rows of a file, each checked as one of an import is, or its own refusal. A row behind 512 others is
-/// the last, and refused. Want of memory is `Unavailable`.
+/// Reads all the rows of a file. Each is checked as a row of an import, or is its own refusal. A
+/// row behind 512 others is refused, and is the last. Want of memory is `Unavailable`.
 pub fn read_rows(alloc: Global, params: &Params, body: &[u8]) -> Result<Rows<RowRead>, Refusal>
     ensures { MatchResult result (λ rows. rows ≡ all_rows_of_body params.now body.now) (λ refusal. refusal ≡ Refusal.Unavailable) }
 {
@@ -52,7 +52,7 @@ pub fn read_rows(alloc: Global, params: &Params, body: &[u8]) -> Result<Rows<Row
     Ok(rows)
 }
 
-// Reads the first record, and says which header it is, if it is one.
+// Reads the first record, and gives the header that it is, if it is one.
 #[tactic(auto, unfolding(fr_base::specs::ImportRows::rows_of_records, fr_base::specs::ImportRows::rows_below))]
 fn read_header(
     records: &mut Records<'_>,
@@ -69,7 +69,8 @@ fn read_header(
     }
 }
 
-// Appends the rows that the records behind the header are, up to the first that is refused by its own text.
+// Appends the rows that the records behind the header are, up to the first that its own text
+// refuses.
 fn push_rows(
     rows: &mut Rows<RowRead>,
     params: &Params,
@@ -99,7 +100,8 @@ fn push_rows(
     Ok(())
 }
 
-// Appends the rows that the records behind the header are, each a row or its own refusal, and the one that is too many.
+// Appends all the rows that the records behind the header are, and the one that is too many. Each
+// is a row or its own refusal.
 fn push_all(
     rows: &mut Rows<RowRead>,
     params: &Params,
@@ -198,7 +200,7 @@ pub fn header_of(fields: &ByteRecord) -> Option<Header>
     }
 }
 
-/// Whether the fields are just these.
+/// Whether the fields are these names, in this order.
 fn has_fields(fields: &ByteRecord, names: &[&str]) -> bool
     ensures { result ≡ pointwise same_text (fields_of fields.now) (map (λ name. name.now) names.now) }
 {
@@ -216,8 +218,8 @@ fn has_fields(fields: &ByteRecord, names: &[&str]) -> bool
     true
 }
 
-/// Adds the row that the fields below the header are, or its first refusal, and says which: `true` for a
-/// row.
+/// Appends the row that the fields below the header are, or its first refusal. The answer is `true`
+/// for a row.
 #[inline(always)]
 fn push_row(
     rows: &mut Rows<RowRead>,
@@ -249,7 +251,8 @@ fn push_row(
     Ok(row.is_ok())
 }
 
-/// The row of placements that the fields are, unless one of them refuses it: why is asked of `row_of`.
+/// The row of placements that the fields are, if nothing refuses it. A caller asks `row_of` why
+/// something does.
 #[inline(always)]
 fn plain_placement(params: &Params, fields: &ByteRecord) -> Option<Row>
     ensures { IfSome result (λ row. row_of params.now Header.Placements (fields_of fields.now) ≡ Ok row) }
@@ -266,7 +269,8 @@ fn plain_placement(params: &Params, fields: &ByteRecord) -> Option<Row>
     Row::place(params, frame, node, slot, channels, base, repetition)
 }
 
-/// The row of signals that the fields are, unless one of them refuses it: why is asked of `row_of`.
+/// The row of signals that the fields are, if nothing refuses it. A caller asks `row_of` why
+/// something does.
 #[inline(always)]
 fn plain_signal(fields: &ByteRecord) -> Option<Row>
     ensures { (params : RawParams) → IfSome result (λ row. row_of params Header.Signals (fields_of fields.now) ≡ Ok row) }
@@ -345,7 +349,7 @@ fn field_at(fields: &ByteRecord, place: usize) -> Result<&[u8], Refusal>
     fields.get(place).ok_or(Refusal::BadText)
 }
 
-/// The field at a place, a text.
+/// The text of the field at a place.
 #[tactic(auto, unfolding(crate::proofs::ImportTextLemmas::rows_open), using(crate::proofs::FieldsLemmas::utf8_tests))]
 pub fn text_at(fields: &ByteRecord, place: usize) -> Result<&str, Refusal>
     ensures { MatchResult result
@@ -355,7 +359,7 @@ pub fn text_at(fields: &ByteRecord, place: usize) -> Result<&str, Refusal>
     str::from_utf8(field_at(fields, place)?).map_err(|_| Refusal::BadText)
 }
 
-/// The field at a place, a number.
+/// The number of the field at a place.
 #[tactic(auto, using(crate::proofs::ImportTextLemmas::number_at_bytes, crate::proofs::ImportTextLemmas::number_at_none))]
 pub fn number_at(fields: &ByteRecord, place: usize) -> Result<u32, Refusal>
     ensures { MatchResult result
@@ -365,7 +369,7 @@ pub fn number_at(fields: &ByteRecord, place: usize) -> Result<u32, Refusal>
     read_number(field_at(fields, place)?).ok_or(Refusal::BadText)
 }
 
-/// The number that the bytes are: 1 to 10 digits.
+/// The number that the bytes write in 1 to 10 digits.
 #[inline(always)]
 pub fn read_number(digits: &[u8]) -> Option<u32>
     ensures { MatchOption result (number digits.now ≡ Err Refusal.BadText) (λ value. number digits.now ≡ Ok value) }

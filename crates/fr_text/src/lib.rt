@@ -1,5 +1,5 @@
-//! The texts of the register: the cluster file and the requests, read; the answers and their
-//! reports, written. The output to which a text is written.
+//! The texts of the register. The cluster file and the requests are read; the answers and their
+//! reports are written. The output to which a text is written.
 #![tactic(auto)]
 
 mod answer_text;
@@ -14,7 +14,7 @@ mod style;
 mod words;
 
 pub use answer_text::write_answer;
-pub use cluster_file::{ConfigFault, read_config};
+pub use cluster_file::{ConfigFault, file_keys, is_file_key, read_config};
 pub use import_text::{
     Records, header_of, names, number_at, read_import, read_number, read_rows, text_at,
 };

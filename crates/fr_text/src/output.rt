@@ -9,7 +9,7 @@ use std::io::{Error, ErrorKind, Write};
 pub const WRITE_RETRIES: u32 = 1_000;
 
 /// A text was not written whole: a write failed, took nothing of a piece that is not empty, or was
-/// interrupted when no retry was left. Or a flush failed, after all was written.
+/// interrupted when no retry was left. Or a flush failed, after all was written. Which it was, no clause says.
 #[derive(Clone, Copy, Debug, PartialEq, Eq)]
 pub struct WriteFailed;
 
@@ -42,7 +42,8 @@ impl<'a, W: Write> Output<'a, W> {
         self.retries = WRITE_RETRIES;
     }
 
-    /// Writes all the bytes. A write that is interrupted is tried again, as long as a retry is left.
+    /// Writes all the bytes; or fails, and a front of them was written, but not all. A write that is interrupted is tried
+    /// again, as long as a retry is left; that it is, no clause says.
     pub fn write_all(&mut self, bytes: &[u8]) -> Result<(), WriteFailed>
         ensures ok { OnOk result (Appends (W.contents self.old.writer.now) (W.contents self.new.writer.now) bytes.now) }
 

@@ -26,12 +26,12 @@ use crate::words::push;
 use fr_base::{Answer, Header, NoMemory, ReportRows};
 use std::alloc::Global;
 
-/// A row of a report, which makes a line, or more.
+/// A row of a report, which makes one line or more.
 pub(crate) trait Row {
     /// The first line, by whether the supplier is shown.
     ghost first: { Bool → Self → List ℕ };
 
-    /// The lines behind it.
+    /// The lines behind the first line.
     ghost others: { Bool → Self → List (List ℕ) };
 
     /// Appends the row's lines, with a mark between each two. An error leaves the old bytes in front.
@@ -109,7 +109,7 @@ pub(crate) fn push_lines(
     }
 }
 
-/// The lines of a query's answer, each with a line feed behind it. Another answer has none.
+/// The lines of a query's answer, each with a line feed behind it. Any other answer has no lines.
 #[tactic(auto, using(crate::proofs::ReportLemmas::rows), unfolding(crate::specs::AnswerText::report_of, crate::specs::Report::lines_of, crate::specs::Styles::set_in))]
 pub fn write_lines(alloc: Global, answer: &Answer) -> Result<Vec<u8>, NoMemory>
     ensures { IfOk result (λ text. text.items ≡ report_of answer.now) }

@@ -11,7 +11,7 @@ use crate::fields::{Fields, read_json, text_in};
 use fr_base::{Header, Inventory, Refusal, Report, Request};
 use std::alloc::Global;
 
-/// Reads a request. What is no request is `BadText`; want of memory is `Unavailable`.
+/// Reads a request. Bytes that are no request are `BadText`; want of memory is `Unavailable`.
 #[tactic(auto, unfolding(crate::specs::RequestText::request_of))]
 pub fn read_command(alloc: Global, bytes: &[u8]) -> Result<Request, Refusal>
     ensures { MatchResult result (λ request. request_of bytes.now ≡ Some request)

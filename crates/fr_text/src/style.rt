@@ -2,9 +2,9 @@
 /// How the lines of a report are set.
 #[derive(Clone, Copy)]
 pub(crate) enum Style {
-    /// Each a text of JSON, with commas between.
+    /// Each line is a text of JSON, with commas between them.
     Json,
-    /// Each with a line feed behind it.
+    /// Each line has a line feed behind it.
     Plain,
 }
 

@@ -22,8 +22,8 @@ use Rattle.fr_base.specs.declared.placement.Placement.{Placement}
 use Rattle.fr_base.specs.declared.request.Change.TheVariants as change
 use Rattle.fr_base.specs.declared.request.FrameChange.{FrameChange}
 use Rattle.fr_base.specs.declared.request.FrameChange.TheVariants.{Unplace, DropSignal}
-use Rattle.fr_base.proofs.TableLaws.{get-insert, insert-same, same_rows, same_table}
-use Rattle.fr_base.proofs.SoundTables.{same_key}
+use Rattle.fr_base.proofs.TableLaws.{insert-same, same_rows}
+use Rattle.fr_base.proofs.SoundTables.{get-put, insert-again, same_key}
 use Rattle.fr_base.proofs.SoundRows.{same_text-is}
 use Rattle.fr_base.proofs.AloneCells.{same_text-itself}
 use Rattle.fr_base.proofs.LayoutLaws.{AllPairs-head, AllPairs-tail}
@@ -60,17 +60,6 @@ module _ {K V : Type 0} {o : Order K} where
   first-there : (t : Table o V) (k : K) (v : V) (rest : List (K × V)) → t.rows ≡ (k, v) ∷ rest → get t k ≡ Some v
   unfolding get
   first-there t k v rest is = ap (find o.compare k) is ∙ ap (λ b. cond b (Some v) (find o.compare k rest)) (same_key o k)
-
-  -- what is put in twice stands as it was put in last
-  pub insert-again : (t : Table o V) (k : K) (v w : V) → insert (insert t k v) k w ≡ insert t k w
-  insert-again t k v w = same_table _ _ (λ q. get-insert (insert t k v) k w q ∙ by_test q (eq_by_cmp o.compare q k) refl ∙ sym (get-insert t k w q))
-    where
-      by_test : (q : K) (b : Bool) → eq_by_cmp o.compare q k ≡ b → cond (eq_by_cmp o.compare q k) (Some w) (get (insert t k v) q) ≡ cond (eq_by_cmp o.compare q k) (Some w) (get t q)
-      by_test q true e = rw e refl
-      by_test q false e = rw e (get-insert t k v q ∙ ap (λ b. cond b (Some v) (get t q)) e)
-
-  pub get-put : (t : Table o V) (k : K) (v : V) → get (insert t k v) k ≡ Some v
-  get-put t k v = get-insert t k v k ∙ ap (λ b. cond b (Some v) (get t k)) (same_key o k)
 
 -- ---- changes of a frame, one after the other
 

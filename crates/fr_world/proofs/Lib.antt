@@ -55,4 +55,4 @@ pub mod RecordLaws
 pub mod PartLaws
 pub mod LoadLaws
 pub mod DifferenceSteps
-pub mod MergeSplit
+pub mod MergedRows

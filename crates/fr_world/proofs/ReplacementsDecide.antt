@@ -27,7 +27,7 @@ use Rattle.fr_base.proofs.TableLaws.{insert-same}
 use Rattle.fr_base.proofs.AloneCells.{same_text-itself}
 use Rattle.fr_base.proofs.ImportForms.{IsFormedRow, IsFormedRead, body-form}
 use Rattle.fr_base.proofs.SoundChecks.{IsFormedFrame}
-use Rattle.fr_base.proofs.SoundTables.{same_some, get-passing}
+use Rattle.fr_base.proofs.SoundTables.{get-passing, get-put, insert-again, same_some}
 use Rattle.fr_world.specs.BookEdits.{applied, all_applied, changed_at}
 use Rattle.fr_world.specs.Decisions.{admits_alone}
 use Rattle.fr_world.specs.Pages.{page_in}
@@ -35,7 +35,7 @@ use Rattle.fr_world.specs.ReplacementDecisions.{AreAdmitted, free_row, free_rows
 use Rattle.fr_world.specs.RowDecisions.{DraftData, draft_of, make_frame, with_change, with_frame}
 use Rattle.fr_world.specs.declared.edit.Edit.{Edit}
 use Rattle.fr_world.specs.declared.edit.Edit.TheVariants.{Rows}
-use Rattle.fr_world.proofs.FreeingLaws.{IsNamed, ended, freeing-admitted, freeing-ends, get-put, insert-again}
+use Rattle.fr_world.proofs.FreeingLaws.{IsNamed, ended, freeing-admitted, freeing-ends}
 use Rattle.fr_world.proofs.PageLaws.{rows-registers}
 use Rattle.fr_world.proofs.RowsDecide.{Draws, Like, drawn, frame-like, frame-shown, like-is, like_bind, like_when, line-like, node-shown, row-like}
 

@@ -23,7 +23,7 @@ use Rattle.fr_base.specs.declared.request.Change.TheVariants as change
 use Rattle.fr_base.specs.declared.request.FrameChange.TheVariants.{Add, Drop, AddSignal}
 use Rattle.fr_base.specs.declared.signal.Signal.{Signal}
 use Rattle.fr_base.proofs.TableLaws.{equal, get-insert, kept, same_table}
-use Rattle.fr_base.proofs.SoundTables.{same_key}
+use Rattle.fr_base.proofs.SoundTables.{get-put, same_key}
 use Rattle.fr_base.proofs.AloneTables.{get-remove}
 use Rattle.fr_base.proofs.SoundRefusing.{gives_each}
 use Rattle.fr_world.specs.Decisions.{admits_alone}
@@ -34,7 +34,6 @@ use Rattle.fr_world.specs.RowDecisions.{DraftData, draft_of, make, make_frame, m
 use Rattle.fr_world.specs.Trials.{IsMade, fates_of, read_fate, trial, tried, try_row}
 use Rattle.fr_world.specs.declared.edit.Edit.{Edit}
 use Rattle.fr_world.specs.declared.edit.Edit.TheVariants.{Rows}
-use Rattle.fr_world.proofs.FreeingLaws.{get-put}
 use Rattle.fr_world.proofs.DraftRows.{Keeps, row-keeps}
 use Rattle.fr_world.proofs.ReplacementRows.{all_freed-params, replace_row-keeps}
 

@@ -27,7 +27,7 @@ grants_of s grants = table_of channel_slots (λ k. (k.slot, k.channel)) (holder_
 abbrev pub frames_of : Name → List (Name × PageFrame) → Table owned Frame
 frames_of s frames = table_of owned (λ f. (s, f)) frame_of (frames_data frames)
 
--- what a frame is
+-- the frame of the book that a page's frame stands for
 abbrev pub as_frame : PageFrame → Frame
 as_frame f = frame_of (frame_data f)
 
@@ -35,7 +35,8 @@ as_frame f = frame_of (frame_data f)
 abbrev pub HaveWords : ℕ → List (Name × PageFrame) → Type 0
 HaveWords words frames = All (λ e. e.1.layout.words ≡ words) (frames_data frames)
 
--- the frames after a change of the one of this name: as tables they are whosever they are, and a page keeps them as before
+-- The frames after a change of the one of this name. As tables they change alike, whoever's they
+-- are. A page may have the frames after it if it had those before it.
 pub record AreChanged (payload : ℕ) (f : Name) (what : FrameChange) (old new : List (Name × PageFrame)) : Type 0 where
   pub table : (s : Name) → frames_of s new ≡ settle (frames_of s old) (s, f) (frame_after what (get (frames_of s old) (s, f)))
   pub words : HaveWords payload old → HaveWords payload new

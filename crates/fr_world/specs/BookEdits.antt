@@ -1,5 +1,6 @@
--- Edit of the book: what edits make of all rows of the register, by the step's own words. One keeps an import under its
--- label. The list of variants. Which edits spare the grants of other suppliers.
+-- Edit of the book: what edits make of all rows of the register, by the step's own words. One edit
+-- keeps an import under its label. The list of variants. Which edits spare the grants of other
+-- suppliers.
 use Rattle.std.specs.Prelude.{◌≡◌, true, false, List, [], ◌∷◌, map, Option, Some, None, ⊤}
 use Rattle.fr_base.specs.Alone.{is_another}
 use Rattle.fr_base.specs.Tables.{get, insert}
@@ -11,7 +12,7 @@ use Rattle.fr_world.specs.declared.edit.Edit.{Edit}
 use Rattle.fr_world.specs.declared.edit.Edit.TheVariants.{NewVariant, SetReleased, NewSupplier, SetKey, NewNode, Rows, KeepImport}
 use Rattle.fr_base.specs.declared.answer.VariantRow.{VariantRow}
 
--- the variant, if it is there; else an empty one
+-- the variant, if it is there; else one that was opened empty
 abbrev pub or_empty : Option Variant → Variant
 or_empty None = empty_variant
 or_empty (Some x) = x
@@ -45,7 +46,8 @@ abbrev pub all_applied : Book → List Edit → Book
 all_applied b [] = b
 all_applied b (edit ∷ edits) = all_applied (applied b edit) edits
 
--- The slot and channel that a supplier's edit grants, or whose grant it ends, is not another's in the variant.
+-- Where a supplier's edit grants a slot and channel, or ends such a grant, no other supplier holds
+-- them in the variant.
 abbrev pub SparesOthers : Name → Variant → Edit → Type 0
 SparesOthers s x (Rows t v (Grant slot channel node)) = is_another s (get x.grants (slot, channel)) ≡ false
 SparesOthers s x (Rows t v (Revoke slot channel)) = is_another s (get x.grants (slot, channel)) ≡ false

@@ -1,4 +1,4 @@
--- By which tests rows are found to be a page's.
+-- The tests that rows pass which a page may have.
 use Rattle.std.specs.Prelude.{◌≡◌, ◌==◌, ◌&&◌, Bool, nat_le}
 use Rattle.std.specs.List.{list_all}
 use Rattle.std.specs.List.Sorted.{IsStrictlySortedBy}
@@ -19,10 +19,11 @@ fits p q =
     && (list_all (has_channel p.channels) (channels_in q.channels)
     && ((q.cycles.count == p.cycles) && are_cycles q.cycles)))
 
--- and it lies in grants to the node
+-- whether the placement fits the cluster and lies in grants to the node
 unfoldable pub is_placed : OwnRows → Name → Placement → Bool
 is_placed page n q = fits page.params q && granted page.grants page.supplier n q
 
--- the frame is a page's, its layout is that of the cluster's payload, and its placements stand in order
+-- A page may have the frame, its layout is that of the cluster's payload, and its placements stand
+-- in order.
 abbrev pub IsKeptFrame : OwnRows → FrameData → Type 0
 IsKeptFrame page f = IsPageFrame page (frame_of f) × (f.layout.words ≡ page.params.payload_words) × IsStrictlySortedBy placement_order.compare f.placements

@@ -25,7 +25,7 @@ depth_after variants (Some parent) = do
   refuse TooDeep when nat_le MAX_DEPTH row.depth
   Ok (suc row.depth)
 
--- the edit, or the first refusal
+-- the edit that opens or releases a variant, or the first refusal
 unfoldable pub common_edit : List VariantRow → CommonCommand → Result Edit Refusal
 common_edit variants (OpenVariant v parent) = do
   depth ← depth_after variants parent

@@ -20,12 +20,12 @@ taken_of e = record { at = cycle_channel e.0; frame = e.1 }
 abbrev pub compare_cycle_channels : CycleChannel → CycleChannel → Ordering
 compare_cycle_channels x y = channel_slots.compare (x.cycle, x.channel) (y.cycle, y.channel)
 
--- the one that is there, or the lesser of both; the former at a tie
+-- the first one if it is there and not after the second; else the second
 abbrev pub lesser : {X : Type 0} → (X → X → Ordering) → Option X → Option X → Option X
 lesser cmp None y = y
 lesser cmp (Some x) None = Some x
 lesser cmp (Some x) (Some y) = Some (min_by_ordering (cmp x y) x y)
 
--- the one of the earlier cell
+-- the one whose cell comes first; the former where both are of one cell
 abbrev pub earlier : Option Taken → Option Taken → Option Taken
 earlier = lesser (λ x y. compare_cycle_channels x.at y.at)

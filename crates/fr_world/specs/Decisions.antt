@@ -1,5 +1,5 @@
--- Decision: what refuses a change of a page's rows, by the step's own words where the page's rows are all that there
--- are; and the edit that an accepted change is.
+-- Decision: what refuses a change of a page's rows, by the step's own words, as if no other rows
+-- were there; and the edit that an accepted change is.
 use Rattle.std.specs.Prelude.{not, List, [], ◌∷◌, map, nat_le, Result, Ok, IsTrue, ⊤}
 use Rattle.fr_base.specs.Refusing.{◌>>=◌, ◌>>◌, ◌or◌, refuse◌when◌}
 use Rattle.fr_base.specs.Tables.{get, len}
@@ -31,7 +31,7 @@ filled_by f frame = map (λ q. (f, q)) (placements_in frame)
 abbrev pub taken_by : Cell × Sender → TakenCell
 taken_by e = record { cycle = e.0.cycle; channel = e.0.channel; frame = e.1.frame }
 
--- what refuses a change of a supplier's rows, where they are all that there are
+-- what refuses a change of a supplier's rows, as if no other rows were there
 abbrev pub admits_alone : OwnRows → Change → Result ⊤ Refusal
 admits_alone page what = admits page (shared_by page.grants page.frames) what
 
@@ -48,7 +48,7 @@ IsChecked p (change.Frame f (Place q)) = FitsCluster p q
 IsChecked p (change.Frame f (AddSignal signal)) = IsTrue (is_signal_length signal.length)
 IsChecked p _ = ⊤
 
--- what refuses a placement of the frame before its cells are asked
+-- what refuses a placement of the frame, whatever cells are filled
 unfoldable pub has_room : OwnRows → Name → Placement → Result ⊤ Refusal
 has_room page f q = do
   frame ← get page.frames (page.supplier, f) or NoFrame

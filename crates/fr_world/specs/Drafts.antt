@@ -1,4 +1,4 @@
--- What a page stands for while an import's rows change it, and what stays of it.
+-- What a page stands for while an import's rows change it, and which of its parts stay.
 use Rattle.std.specs.Prelude.{◌≡◌}
 use Rattle.fr_world.specs.Pages.{PageData, own_rows_of}
 use Rattle.fr_world.specs.RowDecisions.{DraftData}

@@ -11,21 +11,21 @@ use Rattle.fr_base.specs.declared.placement.Placement.{Placement}
 use Rattle.fr_world.specs.declared.triggerings.FrameTriggering.{FrameTriggering}
 use Rattle.fr_world.specs.declared.slot_table.FirstPlaces.{FirstPlaces}
 
--- the place that is noted of a channel
+-- the place that stands at a channel
 abbrev pub place_on : Channel → FirstPlaces → Option ℕ
 place_on channel.A f = f.a
 place_on channel.B f = f.b
 
--- the places that are noted of a cycle
+-- the places that stand at a cycle
 abbrev pub places_at : List FirstPlaces → ℕ → FirstPlaces
 places_at cycles k = slice_index_or cycles k (record { a = None; b = None })
 
--- the place that is noted of a cycle and a channel
+-- the place that stands at a cycle and a channel
 abbrev pub place_at : List FirstPlaces → ℕ → Channel → Option ℕ
 place_at cycles k x = place_on x (places_at cycles k)
 
--- The latter notes are the former with a placement at this place: it takes what cells of its cycles and
--- channels no placement has.
+-- The later places are the earlier ones with a placement at this place: it gets those of its cells
+-- that no placement had before.
 abbrev pub IsClaimed : Placement → ℕ → List FirstPlaces → List FirstPlaces → Type 0
 IsClaimed q place old new = (k : ℕ) (x : Channel) → place_at new k x ≡ option_or (place_at old k x) (if has_channel q.channels x && has_cycle q.cycles k then Some place else None)
 
@@ -33,6 +33,7 @@ IsClaimed q place old new = (k : ℕ) (x : Channel) → place_at new k x ≡ opt
 abbrev pub first_place : List FrameTriggering → Cell → Option ℕ
 first_place triggerings c = position (λ p. has_cell p.placement c) triggerings
 
--- Of each cell that place is noted, where the notes of each slot stand by its number.
+-- Each cell has the place of the first placement that has it. The places of each slot stand at its
+-- number.
 abbrev pub AreFirst : List FrameTriggering → List (List FirstPlaces) → Type 0
 AreFirst triggerings tables = (c : Cell) → place_at (slice_index_or tables c.slot []) c.cycle c.channel ≡ first_place triggerings c

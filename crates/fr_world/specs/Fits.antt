@@ -1,6 +1,6 @@
--- Fits: when an edit fits the register's rows under a cluster's parameters. What it adds is new, a placement among it
--- has the cluster's count of cycles, what it names or takes out is there, and a variant that changes is open. Each of a
--- list fits the book that those before it left.
+-- Fits: when an edit fits the register's rows under a cluster's parameters. What it adds is new,
+-- and a placement among it has the cluster's count of cycles. What it names or ends is there, and a
+-- variant that changes is open. Each of a list fits the book that those before it left.
 use Rattle.std.specs.Prelude.{◌≡◌, ◌≤◌, List, [], ◌∷◌, Some, None, IsTrue, IsFalse, ⊤}
 use Rattle.fr_base.specs.Tables.{Table, get, contains}
 use Rattle.fr_base.specs.Keys.{owned}
@@ -32,15 +32,17 @@ abbrev pub IsCounted : Params → Change → Type 0
 IsCounted p (change.Frame f (Place q)) = q.cycles.count ≡ p.cycles
 IsCounted p _ = ⊤
 
--- A change of the supplier's rows fits the variant: a grant is of what nobody holds, to a node that is there; one that ends is the
--- supplier's; and a change of a frame fits what stands at the frame's name.
+-- A change of the supplier's rows fits the variant. What is granted is nobody's, and the node is
+-- there. A grant that ends is the supplier's. A change of a frame fits what stands at the frame's
+-- name.
 abbrev pub FitsVariant : Table owned ⊤ → Name → Variant → Change → Type 0
 FitsVariant nodes s x (change.Grant slot channel node) = IsTrue (contains nodes (s, node)) × (get x.grants (slot, channel) ≡ None)
 FitsVariant nodes s x (change.Revoke slot channel) = IsTrue (held_by s (get x.grants (slot, channel)))
 FitsVariant nodes s x (change.Frame f what) = FitsFrame nodes s (get x.frames (s, f)) what
 
--- The edit fits the book of a cluster: a variant that changes is open, and a new one is opened empty, or from a released one that is
--- one less deep; a placement that is added is of the cluster's cycles.
+-- The edit fits the book of a cluster. A variant that changes is open. A new one is opened empty,
+-- or from a released one that is one less deep. A placement that is added has the cluster's count
+-- of cycles.
 abbrev pub Fits : Params → Book → Edit → Type 0
 Fits p b (NewVariant v parent depth) = (get b.variants v ≡ None) × IsOpenedFrom b.variants parent depth × (depth ≤ MAX_DEPTH)
 Fits p b (SetReleased v) = (x : Variant) × IsOpen b v x

@@ -1,6 +1,6 @@
--- Records: when a register's records stand for a cluster and a book. What is read of them says so of the book, edits
--- that fit lead to the book after them. When a page is the book's. For which books what a crash leaves of them may
--- stand.
+-- Records: when a register's records stand for a cluster and a book. What is read of them tells of
+-- the book, and edits that fit lead to the book after them. When a page is the book's. For which
+-- books what a crash leaves of the records may stand.
 use Rattle.std.specs.Prelude.{◌≡◌, ◌⊎◌, ℕ, Bool, false, Option, Some, None, List, ◌∷◌, Result, MatchResult, option_map}
 use Rattle.fr_base.specs.Tables.{get, contains}
 use Rattle.fr_base.specs.Book.{Book, Variant}
@@ -19,11 +19,13 @@ use Rattle.fr_world.specs.declared.edit.Edit.{Edit}
 abbrev pub Standing : Type 1
 Standing = Cluster → Book → Type 0
 
--- What was read says this of the book, or the answer is Unavailable; and the records stand for the same book as before.
+-- What was read tells this of the book, or the answer is Unavailable. The records stand for the
+-- same book as before.
 abbrev pub Tells : {X : Type 0} → Standing → Standing → Result X Refusal → (Cluster → Book → X → Type 0) → Type 0
 Tells old new r says = (c : Cluster) (b : Book) → old c b → new c b × MatchResult r (says c b) (λ e. e ≡ Unavailable)
 
--- The edits were carried out, one after another; or the answer is Unavailable, and the records stand for the same book as before.
+-- The edits were carried out, one after another; or the answer is Unavailable, and the records
+-- stand for the same book as before.
 abbrev pub Applies : {X : Type 0} → Standing → Standing → Result X Refusal → List Edit → Type 0
 Applies old new r edits = (c : Cluster) (b : Book) → old c b → AllFit c.params b edits →
     MatchResult r (λ _. new c (all_applied b edits)) (λ e. (e ≡ Unavailable) × new c b)
@@ -32,17 +34,18 @@ Applies old new r edits = (c : Cluster) (b : Book) → old c b → AllFit c.para
 abbrev pub Leaving : Type 1
 Leaving = Cluster → List Book → Type 0
 
--- A crash leaves no more than it did before.
+-- A crash leaves nothing now that it did not leave before.
 abbrev pub LeavesNoMore : Leaving → Leaving → Type 0
 LeavesNoMore old new = (c : Cluster) (books : List Book) → old c books → new c books
 
--- Records were only read: they were clean before if they are now, the cluster's parameters stay, and a crash leaves no more than it did.
+-- Records were only read. They were clean before if they are now. The cluster's parameters stay. A
+-- crash leaves nothing that it did not leave before.
 pub record Reads {R : Type 0} (clean : R → Type 0) (params : R → Params) (left : R → Leaving) (old new : R) : Type 0 where
   pub falls : clean new → clean old
   pub same : params new ≡ params old
   pub leaves : clean new → LeavesNoMore (left old) (left new)
 
--- Of edits that fit, a crash leaves no more than it did before, or the book after them.
+-- After edits that fit, a crash leaves what it left before, or the book after them.
 abbrev pub LeavesEdited : Standing → Leaving → Leaving → List Edit → Type 0
 LeavesEdited stands old new edits = (c : Cluster) (b : Book) (books : List Book) → stands c b → AllFit c.params b edits → old c books
     → new c books ⊎ new c (all_applied b edits ∷ books)

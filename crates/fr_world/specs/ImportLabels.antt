@@ -1,5 +1,5 @@
--- Label: by its label an import is new; or it is the one that is kept, and has its answer again; or another is kept,
--- and it is `LabelUsed`.
+-- Label: what the label of an import decides. The import is new; or it is the one that is kept, and
+-- has its answer again; or another is kept, and it is `LabelUsed`.
 use Rattle.std.specs.Prelude.{ℕ, ◌&&◌, not, Option, Some, None, Result, Ok}
 use Rattle.fr_base.specs.Refusing.{◌>>◌, refuse◌when◌}
 use Rattle.fr_base.specs.Names.{same_text}
@@ -16,14 +16,14 @@ use Rattle.fr_world.specs.declared.kept_import.KeptImport.{KeptImport}
 abbrev pub kept_of : KeptImport → Kept
 kept_of k = record { variant = k.variant; body = k.body; rows = k.rows }
 
--- how many rows the import has that is kept under the label, if one is and it is the same, bytes and variant
+-- how many rows the kept import has, if one is kept and it is this one, in bytes and variant
 unfoldable pub label_decision : Option Kept → Import → Result (Option ℕ) Refusal
 label_decision None i = Ok None
 label_decision (Some kept) i = do
   refuse LabelUsed when not (same_text kept.variant i.variant && same_text kept.body i.body)
   Ok (Some kept.rows)
 
--- what comes of the import then: the kept answer again, or it is a new one
+-- the answer to an import after its label: that of the kept one again, or that of a new one
 abbrev pub after_label : Params → Book → Import → Option ℕ → Result Outcome Refusal
 after_label p b i None = import p b i None
 after_label p b i (Some rows) = Ok (record { book = b; answer = Imported rows })

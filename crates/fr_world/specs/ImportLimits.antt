@@ -1,5 +1,5 @@
--- Room: whether there is room for a new import. What comes of it: its variant is there and open, there is room, and
--- then its rows are decided on the supplier's page.
+-- Room: whether there is room for a new import. How it is decided: its variant is there and open,
+-- there is room, and then its rows are decided on the supplier's page.
 use Rattle.std.specs.Prelude.{ℕ, length, nat_le, nat_lt, Result, Ok, ⊤}
 use Rattle.fr_base.specs.Refusing.{◌>>=◌, ◌>>◌, ◌or◌, refuse◌when◌}
 use Rattle.fr_base.specs.Tables.{get, len}
@@ -21,13 +21,14 @@ import_room i kept = do
   refuse Limit when nat_lt MAX_IMPORT_BYTES (length i.body)
   refuse Limit when nat_le MAX_IMPORTS kept
 
--- what comes of the import in this variant, by what its rows are decided to on the supplier's page
+-- the decision on the import in this variant, by the decision on its rows on the supplier's page
 abbrev pub page_import : Params → Book → Import → Variant → Outcome
 page_import p b i x =
     let rows = rows_of_body p i.body in
     imported b i (length rows) (rows_decision (page_in p b i.supplier i.variant x) rows >>= λ edits. Ok (all_applied b edits))
 
--- a new import: its variant is there and open, there is room for it, and then its rows
+-- the decision on a new import: its variant is there and open, there is room for it, and then its
+-- rows
 unfoldable pub new_import : Params → Book → Import → Result Outcome Refusal
 new_import p b i = do
   x ← get b.variants i.variant or NoVariant

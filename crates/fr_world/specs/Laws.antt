@@ -73,15 +73,17 @@ RowsDecide = (c : Cluster) (b : Book) (s v : Name) (x : Variant) (body : List �
     act_rows c.params b s v (rows_of_body c.params body)
     ≡ (rows_decision (page_in c.params b s v x) (rows_of_body c.params body) >>= λ edits. Ok (all_applied b edits))
 
--- So with a replacement: the rows act where the frames that they name were freed.
+-- In a sound book the rows of a replacement are refused as on the supplier's page, the same row for
+-- the same reason, or make of the book what the page's edits make of it. They act where the frames
+-- that they name were freed.
 abbrev pub ReplacementDecides : Type 0
 ReplacementDecides = (c : Cluster) (b : Book) (s v : Name) (x : Variant) (body : List ℕ) →
     IsSound c b → get b.variants v ≡ Some x → IsFalse x.released → IsTrue (contains b.suppliers s) →
     replace_rows c.params (with_freed b s v x (rows_of_body c.params body)) s v (rows_of_body c.params body)
     ≡ (replacement_decision (page_in c.params b s v x) (rows_of_body c.params body) >>= λ edits. Ok (all_applied b edits))
 
--- In a sound book what would become of each row of a supplier's file, in a variant that is there and open, is what would on the
--- supplier's page.
+-- In a sound book the fate of each row of a supplier's file, in a variant that is there and open,
+-- is the same as on the supplier's page.
 abbrev pub TrialDecides : Type 0
 TrialDecides = (c : Cluster) (b : Book) (s v : Name) (x : Variant) (body : List ℕ) (replaces : Bool) →
     IsSound c b → get b.variants v ≡ Some x → IsFalse x.released → IsTrue (contains b.suppliers s) →
@@ -92,7 +94,7 @@ TrialDecides = (c : Cluster) (b : Book) (s v : Name) (x : Variant) (body : List 
 abbrev pub RowsAreChecked : Type 0
 RowsAreChecked = (p : Params) (body : List ℕ) → AreChecked p (rows_of_body p body)
 
--- So are all of them, to the file's end.
+-- All rows of a file, to its end, are checked under the parameters that they are read by.
 abbrev pub AllRowsAreChecked : Type 0
 AllRowsAreChecked = (p : Params) (body : List ℕ) → AreChecked p (all_rows_of_body p body)
 
@@ -102,7 +104,8 @@ RowsLead = (rows : PageData) (reads : List RowRead) (edits : List Edit) → chec
     IsKept rows → AreChecked rows.params reads → rows_decision rows reads ≡ Ok edits →
     Leads rows.variant (own_rows_of rows) edits (all_edited (own_rows_of rows) edits)
 
--- In a sound book the room for a supplier's frame, in a variant that is there, is that on the supplier's page.
+-- In a sound book the room for a supplier's frame, in a variant that is there, is the same as on
+-- the supplier's page.
 abbrev pub RoomDecides : Type 0
 RoomDecides = (c : Cluster) (b : Book) (s v : Name) (x : Variant) (f : Name) (repetition : ℕ) → IsSound c b → get b.variants v ≡ Some x →
     room_in c.params b s v f repetition ≡ page_room (page_in c.params b s v x) f repetition
@@ -127,11 +130,11 @@ RevokeDecides = (c : Cluster) (b : Book) (s v : Name) (x : Variant) (k : ℕ) (c
 abbrev pub JoiningDecides : Type 0
 JoiningDecides = (c : Cluster) (b : Book) (s : Name) (key : Key) → add_supplier c b s key ≡ (new_supplier (file_of c b) s key >>= λ edit. Ok (applied b edit))
 
--- What is decided so fits.
+-- The edit by which a supplier joins fits the book.
 abbrev pub JoiningFits : Type 0
 JoiningFits = (c : Cluster) (b : Book) (s : Name) (key : Key) (edit : Edit) → new_supplier (file_of c b) s key ≡ Ok edit → Fits c.params b edit
 
--- And a supplier of a new name joins the book as it joins the list.
+-- A supplier of a new name joins the book as it joins the list.
 abbrev pub JoiningIsListed : Type 0
 JoiningIsListed = (c : Cluster) (b : Book) (s : Name) (key : Key) → Fits c.params b (NewSupplier s key) → file_of c (applied b (NewSupplier s key)) ≡ joined (file_of c b) s key
 
@@ -139,11 +142,11 @@ JoiningIsListed = (c : Cluster) (b : Book) (s : Name) (key : Key) → Fits c.par
 abbrev pub KeyDecides : Type 0
 KeyDecides = (c : Cluster) (b : Book) (s : Name) (key : Key) → set_key c b s key ≡ (new_key (file_of c b) s key >>= λ edit. Ok (applied b edit))
 
--- What is decided so fits.
+-- The edit by which a supplier has another key fits the book.
 abbrev pub KeyFits : Type 0
 KeyFits = (c : Cluster) (b : Book) (s : Name) (key : Key) (edit : Edit) → new_key (file_of c b) s key ≡ Ok edit → Fits c.params b edit
 
--- And a supplier that is there has another key in the book as it has in the list.
+-- A supplier that is there has another key in the book as it has in the list.
 abbrev pub KeyIsListed : Type 0
 KeyIsListed = (c : Cluster) (b : Book) (s : Name) (key : Key) → Fits c.params b (SetKey s key) → file_of c (applied b (SetKey s key)) ≡ with_key (file_of c b) s key
 
@@ -172,7 +175,8 @@ EditsAgree = (c : Cluster) (b : Book) (s v : Name) (x : Variant) (edit : Edit) �
     × (own_rows c.params (applied b edit) s y ≡ edited (own_rows c.params b s x) edit)
     × (y.released ≡ (releases edit || x.released))
 
--- It leaves another supplier's own rows of any variant as they were, where it grants or ends nothing that another holds.
+-- An edit of a supplier's rows leaves another supplier's own rows of any variant as they were,
+-- where it grants or ends nothing that another holds.
 abbrev pub OthersStay : Type 0
 OthersStay = (c : Cluster) (b : Book) (s t v w : Name) (x y : Variant) (edit : Edit) → get b.variants v ≡ Some x → IsOf s v edit →
     SparesOthers s x edit → same_text s t ≡ false → get b.variants w ≡ Some y →
@@ -187,28 +191,30 @@ DecisionFits = (c : Cluster) (b : Book) (s v : Name) (x : Variant) (what : Chang
     IsSound c b → get b.variants v ≡ Some x → IsChecked c.params what → IsUnheld x what →
     decision (page_in c.params b s v x) what ≡ Ok edits → AllFit c.params b edits
 
--- So do those of the rows of an import into a variant that is open.
+-- In a sound book the edits of an import's rows, which are decided on the supplier's page of an
+-- open variant, fit the book.
 abbrev pub RowsFit : Type 0
 RowsFit = (c : Cluster) (b : Book) (s v : Name) (x : Variant) (reads : List RowRead) (edits : List Edit) →
     IsSound c b → get b.variants v ≡ Some x → IsFalse x.released → AreChecked c.params reads →
     rows_decision (page_in c.params b s v x) reads ≡ Ok edits → AllFit c.params b edits
 
--- And then, where the supplier is there and keeps no import under the label, the edit that keeps the import fits.
+-- After them the edit that keeps the import fits, where the supplier is there and keeps no import
+-- under the label.
 abbrev pub ImportFits : Type 0
 ImportFits = (c : Cluster) (b : Book) (s v label : Name) (x : Variant) (body : List ℕ) (reads : List RowRead) (edits : List Edit) (count : ℕ) →
     IsSound c b → get b.variants v ≡ Some x → IsFalse x.released → IsTrue (contains b.suppliers s) → get b.imports (s, label) ≡ None →
     AreChecked c.params reads → rows_decision (page_in c.params b s v x) reads ≡ Ok edits → AllFit c.params b (edits ++ KeepImport s label v body count ∷ [])
 
--- The edits of a replacement in a variant that is open fit the book too.
+-- In a sound book the edits of a replacement's rows in an open variant fit the book.
 abbrev pub ReplacementFits : Type 0
 ReplacementFits = (c : Cluster) (b : Book) (s v : Name) (x : Variant) (reads : List RowRead) (edits : List Edit) →
     IsSound c b → get b.variants v ≡ Some x → IsFalse x.released → AreChecked c.params reads →
     replacement_decision (page_in c.params b s v x) reads ≡ Ok edits → AllFit c.params b edits
 
--- In any book a new node that is decided by the nodes of a supplier that is there fits,
+-- In any book the edit that is decided by the nodes of a supplier that is there fits the book.
 abbrev pub NodeFits : Type 0
 NodeFits = (p : Params) (b : Book) (s n : Name) (edit : Edit) → IsTrue (contains b.suppliers s) → new_node s (nodes_in b s) n ≡ Ok edit → Fits p b edit
 
--- and so does what the list of variants decides of them.
+-- In any book the edit that is decided by the list of variants fits the book.
 abbrev pub CommonFits : Type 0
 CommonFits = (p : Params) (b : Book) (command : CommonCommand) (edit : Edit) → common_edit (variants_in b) command ≡ Ok edit → Fits p b edit

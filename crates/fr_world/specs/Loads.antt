@@ -21,10 +21,11 @@ lane_of k = (k.slot, k.channel)
 abbrev pub holder_in : LaneHolder → Holder
 holder_in h = record { supplier = h.supplier; node = h.node }
 
--- what the holders in a map stand for
+-- the grants that a map of lanes and holders stands for
 abbrev pub grants_in_lanes : List (ChannelSlot × LaneHolder) → Table channel_slots Holder
 grants_in_lanes es = table_of channel_slots lane_of holder_in es
 
--- how full each lane of the cluster is, where these are the grants, and owners fill cells with these placements
+-- how full each lane of the cluster is, by these grants, where owners fill cells with these
+-- placements
 unfoldable pub filled_load : {O : Type 0} → Params → Table channel_slots Holder → List (O × Placement) → List LoadRow
 filled_load p grants placed = map (load_row p grants (fill placed)) (lanes_of p)

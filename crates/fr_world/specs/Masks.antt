@@ -1,4 +1,5 @@
--- Masks: filled cycles as the bits of words, one for each slot and channel, and when they are those that a list fills.
+-- Masks: filled cycles as the bits of words, one for each slot and channel; and when these are the
+-- cycles that a list of placements fills.
 use Rattle.std.specs.Prelude.{◌≡◌, ℕ, Bool, List, Option, is_none, is_some, unwrap_or}
 use Rattle.std.specs.Ordering.{nat_cmp}
 use Rattle.std.specs.List.{find}
@@ -17,11 +18,11 @@ abbrev pub word_on : Channel → FilledCycles → ℕ
 word_on channel.A f = f.a
 word_on channel.B f = f.b
 
--- the words of a slot, without a bit where none stand there
+-- the words of a slot: without any bit where none stand at its number
 abbrev pub words_at : List (ℕ × FilledCycles) → ℕ → FilledCycles
 words_at words slot = unwrap_or (lookup (is_at (nat_cmp slot)) words) (record { a = 0; b = 0 })
 
--- whether they stand there
+-- whether words stand at the slot's number
 abbrev pub has_words : List (ℕ × FilledCycles) → ℕ → Bool
 has_words words slot = is_some (lookup (is_at (nat_cmp slot)) words)
 
@@ -29,7 +30,7 @@ has_words words slot = is_some (lookup (is_at (nat_cmp slot)) words)
 abbrev pub AreFilled : List (Name × Placement) → ℕ → Channel → ℕ → Type 0
 AreFilled pairs slot x word = (k : ℕ) → is_bit_set word k ≡ is_some (fill pairs (record { cycle = k; slot = slot; channel = x }))
 
--- So with each slot's words.
+-- The bits of each slot's words are the cycles that the pairs fill there.
 abbrev pub ShowFilled : List (Name × Placement) → List (ℕ × FilledCycles) → Type 0
 ShowFilled pairs words = (slot : ℕ) (x : Channel) → AreFilled pairs slot x (word_on x (words_at words slot))
 
@@ -37,6 +38,6 @@ ShowFilled pairs words = (slot : ℕ) (x : Channel) → AreFilled pairs slot x (
 unfoldable pub first_cycle : List (Name × Placement) → Placement → Channel → Option ℕ
 first_cycle pairs q x = find (λ k. is_some (fill pairs (record { cycle = k; slot = q.slot; channel = x }))) (cycles_of q.cycles)
 
--- whether it is filled in none of them
+-- whether the slot is filled on the channel in none of the placement's cycles
 abbrev pub is_free_on : List (Name × Placement) → Placement → Channel → Bool
 is_free_on pairs q x = is_none (first_cycle pairs q x)

@@ -33,7 +33,7 @@ is_pair f q pair = same_text pair.0 f && is_eq (placement_order.compare pair.1 q
 abbrev pub without : List (Name × Placement) → Name → Placement → List (Name × Placement)
 without pairs f q = filter (λ pair. not (is_pair f q pair)) pairs
 
--- In each cell the pairs have the frame that the frames send there.
+-- In each cell the pairs have the frame that is sent there.
 abbrev pub ShowCells : List (Name × Placement) → Table owned Frame → Type 0
 ShowCells pairs frames = (c : Cell) → fill pairs c ≡ option_map (λ o. o.frame) (schedule_of frames c)
 

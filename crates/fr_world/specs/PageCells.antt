@@ -22,7 +22,7 @@ has_placement q (Some f) = contains f.placements q
 abbrev pub is_placed : List (Name × FrameData) → Name → Placement → Bool
 is_placed frames f q = has_placement q (option_map frame_of (lookup (is_at (slice_cmp nat_cmp f)) frames))
 
--- The pairs are the frames with their placements, in whatever order.
+-- The pairs are the frames' names with their placements, in whatever order.
 abbrev pub ArePlaced : List (Name × Placement) → List (Name × FrameData) → Type 0
 ArePlaced pairs frames = (f : Name) (q : Placement) → list_any (is_pair f q) pairs ≡ is_placed frames f q
 

@@ -64,7 +64,7 @@ frame_of f = record { node = f.node; placements = set_of placement_order (λ q. 
 abbrev pub holder_of : Name → Name → book.Holder
 holder_of s n = record { supplier = s; node = n }
 
--- what they stand for
+-- the supplier's own rows that a page's lists stand for
 abbrev pub own_rows_of : PageData → OwnRows
 own_rows_of rows = record {
   params = rows.params;
@@ -78,21 +78,23 @@ own_rows_of rows = record {
 abbrev pub AreApart : Placement → Placement → Type 0
 AreApart q r = (c : Cell) → IsTrue (has_cell q c) → ¬ IsTrue (has_cell r c)
 
--- a frame's placements are few, fit the cluster and lie in grants to its node, and its signals make a layout of the payload
+-- A page may have the frame: its placements are few, fit the cluster and lie in grants to its node,
+-- and its signals make a layout of the payload.
 pub record IsPageFrame (page : OwnRows) (f : book.Frame) : Type 0 where
   pub few : len f.placements ≤ MAX_PLACEMENTS
   pub fits : All (FitsCluster page.params) (placements_in f)
   pub in_grants : All (λ q. IsTrue (granted page.grants page.supplier f.node q)) (placements_in f)
   pub layout : IsLayout (layout_of page.params f)
 
--- the limits are kept, each frame is in order, and no two placements share a cell
+-- A page may have the rows: the limits are kept, it may have each frame, and no two placements
+-- share a cell.
 pub record IsPage (page : OwnRows) : Type 0 where
   pub nodes : len page.nodes ≤ MAX_NODES
   pub frames : len page.frames ≤ MAX_FRAMES
   pub each : (k : Name × Name) (f : book.Frame) → get page.frames k ≡ Some f → IsPageFrame page f
   pub apart : AllPairs (λ x y. AreApart x.1 y.1) (placements_of page.frames)
 
--- slots in their order, and then A before B
+-- the order of slots on channels: by slot, then A before B
 abbrev pub compare_slots : ChannelSlot → ChannelSlot → Ordering
 compare_slots = on (λ k. (k.slot, k.channel)) channel_slots.compare
 
@@ -107,7 +109,8 @@ pub record IsInOrder (rows : PageData) : Type 0 where
   pub grants : IsStrictlySortedBy compare_slots (keys_of rows.grants)
   pub frames : AreInOrder rows.frames
 
--- the rows are a page's, each layout is that of the cluster's payload, and the rows stand in order
+-- A page keeps the rows: it may have them, each layout is that of the cluster's payload, and the
+-- rows stand in order.
 pub record IsKept (rows : PageData) : Type 0 where
   pub page : IsPage (own_rows_of rows)
   pub words : All (λ e. e.1.layout.words ≡ rows.params.payload_words) rows.frames
@@ -119,11 +122,11 @@ pub record IsKept (rows : PageData) : Type 0 where
 unfoldable pub nodes_in : book.Book → Name → List Name
 nodes_in b s = map (λ e. e.0.1) (own s b.nodes).rows
 
--- which of its nodes holds which slot and channel, by slot and channel
+-- which of the supplier's nodes holds which slot and channel, by slot and channel
 unfoldable pub grants_in : Name → book.Variant → List (ChannelSlot × Name)
 grants_in s x = map (λ e. (record { slot = e.0.0; channel = e.0.1 }, e.1.node)) (own_grants s x.grants).rows
 
--- its frames, by their names
+-- the supplier's frames, by their names
 unfoldable pub frames_in : Params → Name → book.Variant → List (Name × FrameData)
 frames_in p s x =
     map (λ e. (e.0.1, record { node = e.1.node; placements = placements_in e.1; layout = layout_of p e.1 })) (own s x.frames).rows

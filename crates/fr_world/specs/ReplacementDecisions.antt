@@ -1,5 +1,5 @@
--- Decision on a replacement: what its rows are decided to on a page, the edits or the first refused row. First each
--- frame that a row names is freed, and then the rows act in turn.
+-- Decision on a replacement: the edits that its rows are decided to on a page, or the first refused
+-- row. First each frame that a row names is freed, and then the rows act in turn.
 use Rattle.std.specs.Prelude.{◌≡◌, List, [], ◌∷◌, map, Option, Some, Result, Ok, Err, ⊤}
 use Rattle.fr_base.specs.Refusing.{◌>>=◌}
 use Rattle.fr_base.specs.Tables.{get}
@@ -26,38 +26,39 @@ freeing (row.Place f n q) (Some frame) = map Unplace (placements_in frame)
 freeing (row.AddSignal f signal) (Some frame) = map (λ s. DropSignal s.name) frame.signals
 freeing _ _ = []
 
--- The page admits the changes of the frame, one after the other.
+-- The page admits the changes of the frame, one after another.
 abbrev pub AreAdmitted : OwnRows → Name → List FrameChange → Type 0
 AreAdmitted page f [] = ⊤
 AreAdmitted page f (what ∷ rest) =
     (admits_alone page (change.Frame f what) ≡ Ok tt) × IsChecked page.params (change.Frame f what) × AreAdmitted (rows_after (change.Frame f what) page) f rest
 
--- with changes of the frame made, one after the other
+-- the draft after changes of the frame, one after another
 abbrev pub with_changes : DraftData → Name → List FrameChange → DraftData
 with_changes d f [] = d
 with_changes d f (what ∷ rest) = with_changes (with_change d (change.Frame f what)) f rest
 
--- with the frame of a row freed; a refused row names none
+-- the draft after the frame of a row was freed; a refused row names none
 abbrev pub free_row : DraftData → Result Row Refusal → DraftData
 free_row d (Ok row) = with_changes d (frame_of_row row) (freeing row (get d.page.frames (d.page.supplier, frame_of_row row)))
 free_row d (Err refusal) = d
 
--- and with those of all rows
+-- the draft after the frames of all rows were freed
 abbrev pub free_rows : DraftData → List RowRead → DraftData
 free_rows d [] = d
 free_rows d (read ∷ rest) = free_rows (free_row d read.row) rest
 
--- a row of frames leaves a frame that is there with this node, and else adds it; the others do what those of an import do
+-- what a row of a replacement does: a row of frames leaves a frame that is there with this node,
+-- and else adds it; the others do what those of an import do
 unfoldable pub replace_row : DraftData → Row → Result DraftData Refusal
 replace_row d (row.AddFrame f n) = make_frame d f n
 replace_row d (row.Place f n q) = make_row d (row.Place f n q)
 replace_row d (row.AddSignal f signal) = make_row d (row.AddSignal f signal)
 
--- a row as it was read, unless its own text refuses it
+-- what a row does as it was read, unless its own text refuses it
 unfoldable pub replace_read : DraftData → RowRead → Result DraftData RefusedAt
 replace_read d read = at_line read.line (read.row >>= replace_row d)
 
--- the rows in turn, up to the first that is refused
+-- what the rows do in turn, up to the first that is refused
 unfoldable pub replace_rows : DraftData → List RowRead → Result DraftData RefusedAt
 replace_rows d [] = Ok d
 replace_rows d (read ∷ rest) = do

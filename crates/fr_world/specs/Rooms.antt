@@ -1,5 +1,5 @@
--- Room: where a frame of a page may still be placed with a repetition, by the register's own words where the page's rows
--- are all that there are.
+-- Room: where a frame of a page may still be placed with a repetition, by the register's own words,
+-- as if no other rows were there.
 use Rattle.std.specs.Prelude.{ℕ, Bool, List, nat_le, is_none, Result, Ok}
 use Rattle.fr_base.specs.Refusing.{◌>>=◌, ◌>>◌, ◌or◌, refuse◌when◌}
 use Rattle.fr_base.specs.Tables.{get, len}
@@ -15,11 +15,11 @@ use Rattle.fr_base.specs.declared.refusal.Refusal.TheVariants.{Released, NoFrame
 use Rattle.fr_base.specs.declared.limits.TheConstants.{MAX_PLACEMENTS}
 use Rattle.fr_world.specs.Pages.{PageData, own_rows_of}
 
--- whether the supplier's node may send in the placement's cells, where its rows are all that there are
+-- whether the supplier's node may send in the placement's cells, as if no other rows were there
 abbrev pub is_vacant_alone : OwnRows → Name → Placement → Bool
 is_vacant_alone page node q = is_vacant page.grants (schedule_of page.frames) page.supplier node q
 
--- whether none of its cells is filled then
+-- whether none of the placement's cells is filled, as if no other rows were there
 abbrev pub is_free_alone : OwnRows → Placement → Bool
 is_free_alone page q = is_none (first_taken (schedule_of page.frames) (cells_of q))
 

@@ -1,5 +1,5 @@
--- Decision on rows: what the rows of an import are decided to on a page, the edits or the first refused row. Each is
--- decided on the rows that those before it left. Which rows are checked.
+-- Decision on rows: the edits that the rows of an import are decided to on a page, or the first
+-- refused row. Each row is decided on the rows that those before it left. Which rows are checked.
 use Rattle.std.specs.Prelude.{◌++◌, Bool, not, List, [], ◌∷◌, Option, Some, None, Result, Ok, IfOk, IsTrue, All, ⊤}
 use Rattle.fr_base.specs.Refusing.{◌>>=◌, ◌>>◌, refuse◌when◌}
 use Rattle.fr_base.specs.Tables.{get, contains}
@@ -31,17 +31,17 @@ pub record DraftData : Type 0 where
   pub page : OwnRows
   pub edits : List Edit
 
--- with a change made
+-- the draft after a change
 abbrev pub with_change : DraftData → Change → DraftData
 with_change d what = record d { page = rows_after what d.page; edits = d.edits ++ Rows d.page.supplier d.variant what ∷ [] }
 
--- a change of the page, if it is admitted
+-- the draft after a change of the page, if it is admitted
 unfoldable pub make : DraftData → Change → Result DraftData Refusal
 make d what = do
   admits_alone d.page what
   Ok (with_change d what)
 
--- with a row's frame: what is there has the row's node, or else it is added
+-- the draft with a row's frame: a frame that is there has the row's node, or else it is added
 unfoldable pub with_frame : DraftData → Name → Name → Option Frame → Result DraftData Refusal
 with_frame d f n None = make d (change.Frame f (Add n))
 with_frame d f n (Some frame) = do
@@ -61,18 +61,18 @@ make_row d (row.Place f n q) = do
   make framed (change.Frame f (Place q))
 make_row d (row.AddSignal f signal) = make d (change.Frame f (AddSignal signal))
 
--- a row as it was read, unless its own text refuses it
+-- what a row does as it was read, unless its own text refuses it
 unfoldable pub make_read : DraftData → RowRead → Result DraftData RefusedAt
 make_read d read = at_line read.line (read.row >>= make_row d)
 
--- the rows in turn, up to the first that is refused
+-- what the rows do in turn, up to the first that is refused
 unfoldable pub make_rows : DraftData → List RowRead → Result DraftData RefusedAt
 make_rows d [] = Ok d
 make_rows d (read ∷ rest) = do
   after ← make_read d read
   make_rows after rest
 
--- a page before any row
+-- the draft of a page before any row
 abbrev pub draft_of : PageData → DraftData
 draft_of rows = record { variant = rows.variant; released = rows.released; page = own_rows_of rows; edits = [] }
 
@@ -88,6 +88,6 @@ IsCheckedRow p (row.AddFrame f n) = ⊤
 IsCheckedRow p (row.Place f n q) = FitsCluster p q
 IsCheckedRow p (row.AddSignal f signal) = IsTrue (is_signal_length signal.length)
 
--- So do those of the rows that are read
+-- The placements of the rows that are read fit the cluster, and their signals have a length.
 abbrev pub AreChecked : Params → List RowRead → Type 0
 AreChecked p reads = All (λ read. IfOk read.row (IsCheckedRow p)) reads

@@ -1,4 +1,4 @@
--- Row's fault: whether a fault is that of the refused row. Want of memory always may be.
+-- Row's fault: whether a fault is the refusal of a row. A fault may always be want of memory.
 use Rattle.std.specs.Prelude.{◌≡◌, Result, Err, ⊤}
 use Rattle.fr_base.specs.Step as step
 use Rattle.fr_world.specs.declared.decision.import_rows.RowFault.{RowFault}

@@ -1,4 +1,4 @@
--- Sendings: what placements send in which cell, and a page in a cycle.
+-- Sendings: what placements send in which cell, and what a page sends in a cycle.
 use Rattle.std.specs.Prelude.{ℕ, ◌==◌, ◌≡◌, ◌++◌, ◌<◌, All, Bool, List, [], ◌∷◌, length, map, slice_index_or}
 use Rattle.std.specs.List.{list_any}
 use Rattle.fr_base.specs.Cells.{Cell, cells_in, slots_of}
@@ -22,11 +22,11 @@ Extends {A} old new = (more : List A) × (new ≡ old ++ more)
 abbrev pub sender_of : FrameSender → Sender
 sender_of s = record { supplier = s.supplier; frame = s.frame; node = s.node }
 
--- what stands past the end of a list of senders: nobody
+-- a sender that is nobody: what stands past the end of a list of senders
 abbrev pub nobody : FrameSender
 nobody = record { supplier = []; frame = []; node = [] }
 
--- who of these senders sends in a placement's cells
+-- the sender of a placement
 abbrev pub sender_in : List FrameSender → FrameTriggering → Sender
 sender_in senders p = sender_of (slice_index_or senders p.sender nobody)
 
@@ -34,11 +34,11 @@ sender_in senders p = sender_of (slice_index_or senders p.sender nobody)
 abbrev pub filled : List FrameSender → List FrameTriggering → List (Sender × Placement)
 filled senders triggerings = map (λ p. (sender_in senders p, p.placement)) triggerings
 
--- each placement's sender is one of these
+-- the sender of each placement stands in the list
 abbrev pub HaveSenders : List FrameSender → List FrameTriggering → Type 0
 HaveSenders senders triggerings = All (λ p. p.sender < length senders) triggerings
 
--- the placement, which the sender at this place sends
+-- the placement, with the sender at this place
 abbrev pub sent_by : ℕ → Placement → FrameTriggering
 sent_by sender q = record { placement = q; sender = sender }
 
@@ -46,7 +46,7 @@ sent_by sender q = record { placement = q; sender = sender }
 abbrev pub filled_by : Name × Name → Frame → List (Sender × Placement)
 filled_by k f = map (λ row. (record { supplier = k.0; frame = k.1; node = f.node }, row.0)) f.placements.rows
 
--- whether one of them is in the slot
+-- whether a placement is in the slot
 abbrev pub is_used : List FrameTriggering → ℕ → Bool
 is_used triggerings slot = list_any (λ p. slot == p.placement.slot) triggerings
 
@@ -54,7 +54,7 @@ is_used triggerings slot = list_any (λ p. slot == p.placement.slot) triggerings
 abbrev pub cycle_cells : Params → ℕ → List Cell
 cycle_cells p cycle = cells_in (cycle ∷ []) (slots_of p) (channels_in p.channels)
 
--- what is sent in these cells, where owners fill them so
+-- what is sent in these cells, where senders fill them with these placements
 unfoldable pub sent_in : List (Sender × Placement) → List Cell → List Sending
 sent_in filled cells = map sending (entries (fill filled) cells)
 

@@ -1,5 +1,5 @@
--- New supplier, new key: which edit adds a supplier, or gives one another key, by the suppliers that are there; or what
--- refuses it.
+-- New supplier, new key: the edit that adds a supplier or gives one another key, decided by the
+-- suppliers that are there; or what refuses it.
 use Rattle.std.specs.Prelude.{Result, Ok}
 use Rattle.fr_base.specs.Refusing.{◌>>◌}
 use Rattle.fr_base.specs.Cluster.{ClusterFile}

@@ -29,9 +29,9 @@ use std::alloc::Global;
 use std::collections::{BTreeMap, BTreeSet};
 
 impl Page {
-    /// Makes the edit, which is of the page's rows and leaves rows that a page has. A row that is put
-    /// takes the place of one with its key; what is not there does not change. `Unavailable` where
-    /// memory is refused, which changes nothing.
+    /// Makes the edit of the page's rows, after which a page has these rows. A row that is put
+    /// takes the place of the row with its key. An edit that ends a row which is not there changes
+    /// nothing. `Unavailable` where memory is refused, which changes nothing.
     pub fn amend(&mut self, alloc: Global, edit: &Edit) -> Result<(), Refusal>
         requires takes { Takes self.old.variant (own_rows_of self.old) edit.now }
         ensures page { OnOk result (own_rows_of self.new ≡ edited (own_rows_of self.old) edit.now) }
@@ -78,7 +78,7 @@ impl Page {
     }
 }
 
-// The node is one of these.
+// Puts the node among these nodes.
 #[tactic(auto, using(crate::proofs::AmendLaws::insert_node, crate::proofs::KeyLaws::names_rise))]
 fn put_node(nodes: &mut BTreeSet<Name>, node: Name) -> Result<(), Refusal>
     ensures table { OnOk result ((s : NameText) → nodes_of s nodes.new.keys ≡ insert (nodes_of s nodes.old.keys) (s, node) tt) }
@@ -89,7 +89,7 @@ fn put_node(nodes: &mut BTreeSet<Name>, node: Name) -> Result<(), Refusal>
     Ok(())
 }
 
-// The node holds slot and channel.
+// Lets the node hold slot and channel.
 #[tactic(auto, using(crate::proofs::AmendLaws::insert_grant, crate::proofs::KeyLaws::slots_rise))]
 fn put_grant(
     grants: &mut BTreeMap<ChannelSlot, Name>,
@@ -104,7 +104,7 @@ fn put_grant(
     Ok(())
 }
 
-// No node holds slot and channel.
+// Lets no node hold slot and channel.
 #[tactic(auto, using(crate::proofs::AmendLaws::remove_grant, crate::proofs::KeyLaws::slots_rise))]
 fn end_grant(grants: &mut BTreeMap<ChannelSlot, Name>, at: ChannelSlot)
     ensures table { (s : NameText) → grants_of s grants.new.entries ≡ remove (grants_of s grants.old.entries) (at.slot, at.channel) }
@@ -115,8 +115,8 @@ fn end_grant(grants: &mut BTreeMap<ChannelSlot, Name>, at: ChannelSlot)
     grants.remove(&at);
 }
 
-// Makes the change of the frame of this name, in a payload of so many words, and keeps the cells that
-// the frames fill.
+// Makes the change of the frame of this name, in a payload of so many words. The filled cells
+// follow the frames' placements.
 fn change_frame(
     frames: &mut BTreeMap<Name, PageFrame>,
     cells: &mut MaskOccupancy,
@@ -176,7 +176,7 @@ fn change_frame(
     }
 }
 
-// The frame that was there fills no cell any more.
+// Clears the cells of the frame that was there.
 fn end_cells(cells: &mut MaskOccupancy, name: Name, former: Option<PageFrame>)
     ensures { (f : NameText) (q : Cells) → list_any (is_pair f q) cells.new ≡ (list_any (is_pair f q) cells.old && not (is_at (slice_cmp nat_cmp f) name && has_placement q (option_map as_frame former))) }
 {
@@ -185,7 +185,7 @@ fn end_cells(cells: &mut MaskOccupancy, name: Name, former: Option<PageFrame>)
     }
 }
 
-// The frame of this name does not fill the cells of this one's placements any more.
+// Clears the cells of this frame's placements, where the frame of this name fills them.
 fn end_each(cells: &mut MaskOccupancy, name: Name, frame: &PageFrame)
     ensures { (f : NameText) (q : Cells) → list_any (is_pair f q) cells.new ≡ (list_any (is_pair f q) cells.old && not (is_at (slice_cmp nat_cmp f) name && contains (as_frame frame.now).placements q)) }
 {
@@ -194,7 +194,7 @@ fn end_each(cells: &mut MaskOccupancy, name: Name, frame: &PageFrame)
     }
 }
 
-// The placement is one of these, and the frame of this name fills its cells.
+// Puts the placement among these, and lets the frame of this name fill its cells.
 #[tactic(auto, using(crate::proofs::AmendLaws::insert_placement, crate::proofs::KeyLaws::placements_rise))]
 fn put_placement(
     placements: &mut BTreeSet<Placement>,
@@ -221,7 +221,7 @@ fn put_placement(
     }
 }
 
-// The placement is none of these.
+// Takes the placement out of these.
 #[tactic(auto, using(crate::proofs::AmendLaws::remove_placement, crate::proofs::KeyLaws::placements_rise))]
 fn end_placement(placements: &mut BTreeSet<Placement>, placement: &Placement)
     ensures table { set_of placement_order (λ q. q) placements.new.keys ≡ remove (set_of placement_order (λ q. q) placements.old.keys) placement.now }
@@ -232,7 +232,7 @@ fn end_placement(placements: &mut BTreeSet<Placement>, placement: &Placement)
     placements.remove(placement);
 }
 
-// The layout has the signal.
+// Puts the signal into the layout.
 #[tactic(auto, using(crate::proofs::AmendSignals::add_takes))]
 fn put_signal(layout: &mut Layout, signal: Signal) -> Result<(), Refusal>
     requires { IsLayout (record layout.old { signals = with_signal signal layout.old.signals }) }
@@ -242,7 +242,7 @@ fn put_signal(layout: &mut Layout, signal: Signal) -> Result<(), Refusal>
     layout.add(signal)
 }
 
-// The layout has no signal of this name.
+// Takes the signal of this name out of the layout.
 #[tactic(auto, using(crate::proofs::AmendSignals::remove_takes, crate::proofs::AmendSignals::remove_keeps))]
 fn end_signal(layout: &mut Layout, name: Name)
     ensures { layout.new ≡ record layout.old { signals = without_signal name layout.old.signals } }

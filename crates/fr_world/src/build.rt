@@ -14,11 +14,11 @@ use frames::are_frames;
 use std::alloc::Global;
 
 impl Page {
-    /// The page of these rows. `None` where they are not a page's: more than 64 nodes or 256 frames, or
-    /// in a frame more than 8 placements, a layout of another payload than the cluster's, a placement
-    /// past the static slots, of another count of cycles than the cluster's, on a channel that it does
-    /// not have, or without a grant to the frame's node; or a cell in two placements. Without a page the
-    /// rows are given up.
+    /// The page of these rows. `None` where a page cannot have them: there are more than 64 nodes
+    /// or 256 frames; a frame has more than 8 placements, or a layout of another payload than the
+    /// cluster's; a placement lies past the static slots, on a channel that the cluster does not
+    /// have, outside grants to the frame's node, or has another count of cycles than the cluster;
+    /// or a cell lies in two placements. Then the rows are given up.
     pub fn build(alloc: Global, rows: PageRows) -> Result<Option<Page>, NoMemory>
         ensures page { IfOk result (λ built. IfSome built (λ page. page ≡ rows_data rows)) }
         ensures kept { IfOk result (λ built. IfSome built (λ page. IsKept (rows_data rows))) }
@@ -31,7 +31,7 @@ impl Page {
     }
 }
 
-// The cells that the rows' frames fill, if the rows are a page's.
+// The cells that the rows' frames fill, if a page may have the rows.
 fn kept_cells(alloc: Global, rows: &PageRows) -> Result<Option<MaskOccupancy>, NoMemory>
     ensures some { IfOk result (λ kept. IfSome kept (λ cells. IsKept (rows_data rows.now) × ArePlaced cells (frames_data rows.now.frames.entries))) }
     ensures none { IfOk result (λ kept. IfNone kept (¬ IsKept (rows_data rows.now))) }

@@ -1,4 +1,5 @@
-//! A cycle and a channel, by which cells of one slot are told apart; the first in which two placements share a cell.
+//! A cycle and a channel, which tell the cells of one slot apart. The first cell that two
+//! placements share.
 ghost use Rattle.std.specs.Prelude.{◌≡◌, option_map};
 ghost use Rattle.std.specs.List.{find};
 ghost use Rattle.fr_base.specs.Cells.{cells_of, has_cell};
@@ -7,8 +8,8 @@ ghost use Rattle.fr_world.specs.CycleChannels.{cycle_channel};
 
 use fr_base::{Channel, Channels, Placement, Slot};
 
-/// A cell's cycle and channel: all that differs in a placement's cells. The cycle comes first in the
-/// order, then A before B.
+/// A cell's cycle and channel, by which the cells of a placement in one slot differ. The cycle
+/// comes first in the order, then A before B.
 #[derive(Clone, Copy, PartialEq, Eq, PartialOrd, Ord)]
 pub(crate) struct CycleChannel {
     pub(crate) cycle: u8,
@@ -23,7 +24,7 @@ pub(crate) fn has_cell(placement: &Placement, cycle: u8, slot: Slot, channel: Ch
     slot == placement.slot && placement.channels.has(channel) && placement.cycles.contains(cycle)
 }
 
-/// The first cell of a placement that another one has too.
+/// The first cell of the placement that the other placement has too.
 pub(crate) fn first_shared(placement: &Placement, other: &Placement) -> Option<CycleChannel>
     ensures { result ≡ option_map cycle_channel (find (has_cell other.now) (cells_of placement.now)) }
 {
@@ -35,7 +36,7 @@ pub(crate) fn first_shared(placement: &Placement, other: &Placement) -> Option<C
     Some(CycleChannel { cycle, channel })
 }
 
-// The first channel that is among both: A before B.
+// The first channel that both have: A before B.
 fn first_shared_channel(channels: Channels, others: Channels) -> Option<Channel>
     ensures { result ≡ find (has_channel others) (channels_in channels) }
 {

@@ -1,4 +1,4 @@
-//! What a change of a supplier's rows is decided to, on the supplier's page.
+//! How a change of a supplier's rows is decided on the supplier's page.
 ghost use Rattle.std.specs.Prelude.{◌≡◌, ◌⊎◌, Ok, Err, IfOk, IfErr};
 ghost use Rattle.fr_base.specs.declared.refusal.Refusal.TheVariants.{Unavailable};
 ghost use Rattle.fr_world.specs.Decisions.{IsChecked, admits_alone, decision};
@@ -19,24 +19,24 @@ mod trial;
 use crate::edit::Edit;
 use crate::page::Page;
 pub use draft::Draft;
-use fr_base::{Change, FrameChange, Name, Refusal};
+use fr_base::{Change, FrameChange, Refusal};
 pub use import_rows::{RowFault, decide_rows};
 pub use replacement::decide_replacement;
 use std::alloc::Global;
 pub use trial::try_rows;
 
-/// The edits that a change of the page's rows makes, or the first refusal that applies. `Released` comes
-/// before all others, and then, of
+/// The edits that a change of the page's rows makes, or the first refusal that applies. `Released`
+/// comes before all others. Then come
 ///
-/// - a grant: `NoNode`, `Exists`, `NodeDiffers`; whether another supplier holds slot and channel is not
-///   asked here;
-/// - the end of a grant: `NotGranted`, `InUse`;
-/// - a new frame: `NoNode`, `Exists`, `Limit`;
-/// - the end of a frame: `NoFrame`;
-/// - a placement: `NoFrame`, `NotGranted`, `Limit`, `CellTaken`;
-/// - the end of a placement: `NoFrame`, `NoPlacement`;
-/// - a new signal: `NoFrame`, `Exists`, `Limit`, `OutOfPayload`, `BitTaken`;
-/// - the end of a signal: `NoFrame`, `NoSignal`.
+/// - for a grant: `NoNode`, `Exists`, `NodeDiffers`; whether another supplier holds slot and
+/// channel is not asked here;
+/// - for the end of a grant: `NotGranted`, `InUse`;
+/// - for a new frame: `NoNode`, `Exists`, `Limit`;
+/// - for the end of a frame: `NoFrame`;
+/// - for a placement: `NoFrame`, `NotGranted`, `Limit`, `CellTaken`;
+/// - for the end of a placement: `NoFrame`, `NoPlacement`;
+/// - for a new signal: `NoFrame`, `Exists`, `Limit`, `OutOfPayload`, `BitTaken`;
+/// - for the end of a signal: `NoFrame`, `NoSignal`.
 ///
 /// `Unavailable` where memory is refused.
 #[tactic(auto, using(crate::proofs::DecideAll::decision_released))]
@@ -71,20 +71,29 @@ fn admit(page: &Page, change: &Change) -> Result<(), Refusal>
             node,
         } => grants::admit_grant(page, *slot, *channel, *node),
         Change::Revoke { slot, channel } => grants::admit_end(page, *slot, *channel),
-        Change::Frame { frame, change } => admit_frame_change(page, *frame, change),
-    }
-}
-
-// So for a change of the frame of this name.
-fn admit_frame_change(page: &Page, frame: Name, change: &FrameChange) -> Result<(), Refusal>
-    ensures { result ≡ admits_alone (own_rows_of page.now) (Change.Frame frame change.now) }
-{
-    match change {
-        FrameChange::Add { node } => frames::admit_frame(page, frame, *node),
-        FrameChange::Drop => frames::admit_drop(page, frame),
-        FrameChange::Place(placement) => placements::admit_placement(page, frame, placement),
-        FrameChange::Unplace(placement) => placements::admit_end(page, frame, placement),
-        FrameChange::AddSignal(signal) => signals::admit_signal(page, frame, signal),
-        FrameChange::DropSignal(signal) => signals::admit_end(page, frame, *signal),
+        Change::Frame {
+            frame,
+            change: FrameChange::Add { node },
+        } => frames::admit_frame(page, *frame, *node),
+        Change::Frame {
+            frame,
+            change: FrameChange::Drop,
+        } => frames::admit_drop(page, *frame),
+        Change::Frame {
+            frame,
+            change: FrameChange::Place(placement),
+        } => placements::admit_placement(page, *frame, placement),
+        Change::Frame {
+            frame,
+            change: FrameChange::Unplace(placement),
+        } => placements::admit_end(page, *frame, placement),
+        Change::Frame {
+            frame,
+            change: FrameChange::AddSignal(signal),
+        } => signals::admit_signal(page, *frame, signal),
+        Change::Frame {
+            frame,
+            change: FrameChange::DropSignal(signal),
+        } => signals::admit_end(page, *frame, *signal),
     }
 }

@@ -1,4 +1,4 @@
-//! In what two lists of rows differ, each of which stands in the order of its rows' keys.
+//! The rows in which two lists of rows differ. Each list stands in the order of its rows' keys.
 ghost use Rattle.std.specs.Prelude.{◌≡◌, [], ◌∷◌, ◌++◌, List, IfOk, OnOk};
 ghost use Rattle.fr_base.specs.Merging.{come, gone, merge, met, put_in};
 ghost use Rattle.fr_base.specs.declared.answer.DifferenceRow.{DifferenceRow as Told};
@@ -18,7 +18,7 @@ pub trait KeyedRow {
     /// Whether rows of one key are the same.
     ghost same: { Self → Self → Bool };
 
-    /// What is told of a row.
+    /// How a difference tells the row.
     ghost told: { Self → Seen };
 
     /// Which of the keys comes first.
@@ -34,7 +34,7 @@ pub trait KeyedRow {
         ensures { result ≡ told self.now };
 }
 
-/// Appends the rows in which the lists differ, by key. Where memory is refused, some of them may have been appended.
+/// Appends the rows in which the lists differ, by key. Where memory is refused, no clause says which of them were.
 pub fn push_differences<T: KeyedRow>(
     old: &[T],
     new: &[T],
@@ -52,7 +52,8 @@ pub fn push_differences<T: KeyedRow>(
     Ok(())
 }
 
-// Appends what is told of the rows of the one list before this row of the other list, and of the row. What is left of the list is behind.
+// Appends what is told of the rows of the list up to this row of the other list, and of this row.
+// The answer is the rest of the list.
 fn push_up_to<'a, T: KeyedRow>(
     row: &T,
     list: &'a [T],
@@ -78,7 +79,7 @@ fn push_up_to<'a, T: KeyedRow>(
     Ok(left)
 }
 
-// Appends what is told of two rows of one key, which is nothing if they are the same.
+// Appends what is told of two rows of one key: nothing where they are the same.
 #[tactic(auto, unfolding(fr_base::specs::Merging::met))]
 fn push_met<T: KeyedRow>(old: &T, new: &T, rows: &mut Rows<DifferenceRow>) -> Result<(), NoMemory>
     ensures { OnOk result (rows.new ≡ rows.old ++ met T.compare T.same T.told old.now new.now) }

@@ -4,7 +4,7 @@ use fr_base::{Body, Change, Key, Name};
 /// A change of the register's rows, with their keys and, where it adds a row, all of it.
 #[derive(Drop, PartialEq, Eq)]
 pub enum Edit {
-    /// A variant, empty or with all rows of its parent. One without a parent has depth 1, another one
+    /// A variant, empty or with all rows of its parent. Without a parent it has depth 1, else one
     /// more than its parent.
     NewVariant {
         variant: Name,

@@ -6,7 +6,7 @@ ghost use Rattle.fr_world.specs.Pages.{frame_data, frame_of};
 use crate::page::PageFrame;
 use fr_base::{FrameRecord, Name, NoMemory, PlacementRecord, Rows, SignalRecord};
 
-/// Records of a kind, of which each frame has some.
+/// A kind of records, of which each frame has some.
 pub trait FileRecord {
     ghost use Rattle.std.specs.Prelude.{◌≡◌, ◌++◌, List, OnOk, length};
     ghost use Rattle.fr_base.specs.Book.{Frame};
@@ -20,8 +20,8 @@ pub trait FileRecord {
     fn count(frame: &PageFrame) -> usize
         ensures { (k : NameText × NameText) → result ≡ length (records (k, frame_of (frame_data frame.now))) };
 
-    /// Appends the records of the supplier's frame of this name. Where memory is refused, some of them may have been
-    /// appended.
+    /// Appends the records of the supplier's frame of this name. Where memory is refused, no clause
+    /// says which of them were.
     fn push(
         supplier: Name,
         name: Name,
@@ -31,7 +31,7 @@ pub trait FileRecord {
         ensures { OnOk result (rows.new ≡ rows.old ++ records ((supplier, name), frame_of (frame_data frame.now))) };
 }
 
-// A frame is one record.
+// A frame has one record.
 impl FileRecord for FrameRecord {
     ghost use Rattle.fr_base.specs.Exports.{frame_records};
 
@@ -55,7 +55,7 @@ impl FileRecord for FrameRecord {
     }
 }
 
-// A record for each of its placements, in order.
+// A frame has a record for each of its placements, in order.
 impl FileRecord for PlacementRecord {
     ghost use Rattle.fr_base.specs.Exports.{placement_records};
 
@@ -83,7 +83,7 @@ impl FileRecord for PlacementRecord {
     }
 }
 
-// A record for each of its signals, by start.
+// A frame has a record for each of its signals, by start.
 impl FileRecord for SignalRecord {
     ghost use Rattle.fr_base.specs.Exports.{signal_records};
 

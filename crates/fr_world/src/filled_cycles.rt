@@ -7,7 +7,8 @@ ghost use Rattle.fr_world.specs.Masks.{word_on};
 
 use fr_base::{Channel, Placement};
 
-/// The filled cycles of a slot, for each channel as bits of a word: that of weight `2^c` is cycle `c`.
+/// The filled cycles of a slot, for each channel as the bits of a word: the bit of weight `2^c` is
+/// cycle `c`.
 #[derive(Clone, Copy)]
 pub(crate) struct FilledCycles {
     a: u64,
@@ -28,7 +29,7 @@ impl FilledCycles {
         }
     }
 
-    /// The placement's cycles are filled too, on its channels.
+    /// Fills the placement's cycles too, on its channels.
     pub(crate) fn mark(&mut self, placement: &Placement)
         ensures { (x : OneChannel) (k : ℕ) → is_bit_set (word_on x self.new) k ≡ (is_bit_set (word_on x self.old) k || (has_channel placement.now.channels x && has_cycle placement.now.cycles k)) }
     {

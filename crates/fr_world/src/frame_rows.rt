@@ -14,7 +14,7 @@ use crate::page::PageFrame;
 use fr_base::{FrameRow, GapRow, MAX_PLACEMENTS, Name, NoMemory, Params, Rows, SignalRow};
 use std::alloc::Global;
 
-/// The row of a supplier's frame of this name: its node and its placements, in order.
+/// The row of the supplier's frame of this name: its node and its placements, in order.
 pub fn frame_row(
     alloc: Global,
     supplier: Name,

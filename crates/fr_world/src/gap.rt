@@ -34,8 +34,8 @@ pub fn greatest_gap(params: &Params, placements: &[Placement]) -> Option<u32>
     Some(moments?.greatest_gap(cycles * cycle_length))
 }
 
-/// The moments so far, in rising order: the first one, the last one, and the greatest step from one to
-/// the next.
+/// Some moments in rising order: the first one, the last one, and the greatest step from one to the
+/// next.
 #[derive(Clone, Copy)]
 struct Moments {
     first: u32,
@@ -44,7 +44,7 @@ struct Moments {
 }
 
 impl Moments {
-    /// With one moment more, which is none before the last one.
+    /// The moments with one more, which does not come before the last one.
     fn next(moments: Option<Moments>, moment: u32) -> Moments
         requires { IfSome moments (λ m. m.last ≤ moment) }
         ensures { result ≡ option_map_or (λ m. record { first = m.first; last = moment; step = max m.step (moment - m.last) }) moments (record { first = moment; last = moment; step = 0 }) }
@@ -63,8 +63,8 @@ impl Moments {
         }
     }
 
-    /// The greatest gap on a ring of this length: a step, or the way from the last moment round to the
-    /// first.
+    /// The greatest gap on a ring of this length: the greatest step, or the way from the last
+    /// moment round to the first.
     fn greatest_gap(self, ring: u32) -> u32
         requires { (self.first ≤ self.last) × (self.last ≤ ring) }
         ensures { result ≡ max self.step ((ring - self.last) + self.first) }

@@ -5,10 +5,10 @@ ghost use Rattle.fr_world.specs.ImportLabels.{kept_of, label_decision};
 use crate::kept_import::KeptImport;
 use fr_base::{Import, Refusal};
 
-/// How many rows the import has, where it is the one that is kept under its label, the same bytes into
-/// the same variant: it is answered so again, and changes nothing. None where the supplier keeps no
-/// import under the label: then it is a new one. `LabelUsed` where another is kept there. It takes no
-/// memory.
+/// How many rows the import has, where it is the one that is kept under its label, with the same
+/// bytes and the same variant: then it is answered again and changes nothing. None where the
+/// supplier keeps no import under the label: then the import is new. `LabelUsed` where the supplier
+/// keeps another import under it. It takes no memory.
 #[tactic(auto, unfolding(crate::proofs::CommonLaws::common_open))]
 pub fn decide_label(kept: Option<&KeptImport>, import: &Import<'_>) -> Result<Option<u32>, Refusal>
     ensures { result ≡ label_decision (option_map (λ k. kept_of k.now) kept.entry) import.now }

@@ -4,9 +4,9 @@ ghost use Rattle.fr_world.specs.ImportLimits.{import_room};
 
 use fr_base::{Import, MAX_IMPORT_BYTES, MAX_IMPORTS, Refusal};
 
-/// `Limit`, where the import's file has more than 65,536 bytes, or where its supplier keeps 1000 imports
-/// already; `kept` is how many it keeps. It is asked of an import whose label is new, once its variant is
-/// there and open. It takes no memory.
+/// `Limit`, where the import's file has more than 65,536 bytes, or where its supplier keeps 1000
+/// imports already; `kept` is how many it keeps. A caller asks it of an import whose label is new,
+/// once the variant is there and open. It takes no memory.
 #[tactic(auto, unfolding(crate::proofs::CommonLaws::common_open))]
 pub fn admit_import(import: &Import<'_>, kept: usize) -> Result<(), Refusal>
     ensures { result ≡ import_room import.now kept }

@@ -1,5 +1,5 @@
-//! The rows that a difference tells, by their keys: grants by slot and channel, all others by supplier and frame, of which a placement is
-//! its own key and a signal has its start.
+//! The rows that a difference tells, by their keys: a grant by slot and channel, any other row by
+//! supplier and frame. The key of a placement also has the placement, that of a signal its start.
 ghost use Rattle.std.specs.Prelude.{◌≡◌};
 ghost use Rattle.fr_base.specs.Differences.{same_gap, same_signal};
 ghost use Rattle.fr_base.specs.Keys.{owned};
@@ -151,7 +151,7 @@ impl KeyedRow for GapRow {
     }
 }
 
-// Which supplier's frame comes first.
+// The order of two frames: by supplier, then name.
 #[tactic(auto, unfolding(fr_base::specs::Keys::owned, fr_base::specs::Keys::names))]
 fn by_frame(supplier: Name, frame: Name, other_supplier: Name, other_frame: Name) -> Ordering
     ensures { result ≡ owned.compare (supplier, frame) (other_supplier, other_frame) }

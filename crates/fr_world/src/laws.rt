@@ -11,9 +11,9 @@ pub fn rows_are_the_registers()
     ensures { RowsAreTheRegisters }
 {}
 
-/// The edits that are decided on a page, whose parameters make a cluster, lead it, one after the
-/// other, to what the command makes of it; each adds what is new, or changes or ends what is there, and
-/// leaves rows that a page has.
+/// The edits that are decided on a page, whose parameters make a cluster, lead it, one after
+/// another, to what the command makes of it. Each adds what is new, or changes or ends what is
+/// there. After each a page has the rows.
 pub fn decision_leads()
     ensures { DecisionLeads }
 {}
@@ -30,17 +30,20 @@ pub fn rows_decide()
     ensures { RowsDecide }
 {}
 
-/// So are the rows of a supplier's replacement, which act where the frames that they name were freed.
+/// In a sound book the rows of a supplier's replacement are refused as on the supplier's page of
+/// the variant, the same row for the same reason, or make of the book what the page's edits make of
+/// it. They act where the frames that they name were freed.
 pub fn replacement_decides()
     ensures { ReplacementDecides }
 {}
 
-/// In a sound book the room for a supplier's frame is that on the supplier's page of the variant.
+/// In a sound book the room for a supplier's frame is the same as on the supplier's page of the
+/// variant.
 pub fn room_decides()
     ensures { RoomDecides }
 {}
 
-/// In a sound book what would become of each row of a supplier's file is what would on the supplier's page.
+/// In a sound book the fate of each row of a supplier's file is the same as on the supplier's page.
 pub fn trial_decides()
     ensures { TrialDecides }
 {}
@@ -50,13 +53,14 @@ pub fn rows_are_checked()
     ensures { RowsAreChecked }
 {}
 
-/// So are all of them, to the file's end.
+/// All rows of an import's file, to its end, are checked under the parameters that they are read
+/// by.
 pub fn all_rows_are_checked()
     ensures { AllRowsAreChecked }
 {}
 
-/// The edits that are decided on a page, whose parameters make a cluster, for the rows of an import lead
-/// it, one after the other; each adds what is new, and leaves rows that a page has.
+/// The edits that are decided on a page, whose parameters make a cluster, for the rows of an import
+/// lead it, one after another. Each adds what is new, and after each a page has the rows.
 pub fn rows_lead()
     ensures { RowsLead }
 {}
@@ -78,12 +82,12 @@ pub fn joining_decides()
     ensures { JoiningDecides }
 {}
 
-/// What is decided so fits the register's rows.
+/// The edit by which a supplier joins fits the register's rows.
 pub fn joining_fits()
     ensures { JoiningFits }
 {}
 
-/// And a supplier of a new name joins the register as it joins the list.
+/// A supplier of a new name joins the register as it joins the list.
 pub fn joining_is_listed()
     ensures { JoiningIsListed }
 {}
@@ -93,12 +97,12 @@ pub fn key_decides()
     ensures { KeyDecides }
 {}
 
-/// What is decided so fits the register's rows.
+/// The edit by which a supplier has another key fits the register's rows.
 pub fn key_fits()
     ensures { KeyFits }
 {}
 
-/// And a supplier that is there has another key in the register as it has in the list.
+/// A supplier that is there has another key in the register as it has in the list.
 pub fn key_is_listed()
     ensures { KeyIsListed }
 {}
@@ -142,27 +146,30 @@ pub fn decision_fits()
     ensures { DecisionFits }
 {}
 
-/// So do those that are decided for the rows of a supplier's import.
+/// The edits that are decided for the rows of a supplier's import fit the register's rows, one
+/// after another.
 pub fn rows_fit()
     ensures { RowsFit }
 {}
 
-/// And then the edit that keeps the import fits, where nothing is kept under the label.
+/// The edit that keeps the import fits the register's rows after them, where nothing is kept under
+/// the label.
 pub fn import_fits()
     ensures { ImportFits }
 {}
 
-/// The edits that are decided for a supplier's replacement fit the register's rows, one after the other.
+/// The edits that are decided for a supplier's replacement fit the register's rows, one after
+/// another.
 pub fn replacement_fits()
     ensures { ReplacementFits }
 {}
 
-/// A node that is decided by its supplier's nodes fits the register's rows.
+/// The edit that is decided by a supplier's nodes fits the register's rows.
 pub fn node_fits()
     ensures { NodeFits }
 {}
 
-/// What is decided by the list of variants fits the register's rows.
+/// The edit that is decided by the list of variants fits the register's rows.
 pub fn common_fits()
     ensures { CommonFits }
 {}

@@ -17,7 +17,7 @@ use fr_base::{LaneHolder, LoadRow, NoMemory, Params, Rows};
 use std::alloc::Global;
 use std::collections::BTreeMap;
 
-/// How full each lane is that the page's supplier holds: by slot, then channel.
+/// How full each lane is that the page's supplier holds, by slot, then channel.
 pub fn page_load(alloc: Global, page: &Page) -> Result<Rows<LoadRow>, NoMemory>
     ensures { IfOk result (λ rows. rows ≡ load_of page.now.params (Supplier page.now.supplier) (own_rows_of page.now).grants (own_rows_of page.now).frames) }
 {
@@ -42,8 +42,8 @@ fn push_held(page: &Page, lane: ChannelSlot, rows: &mut Rows<LoadRow>) -> Result
     Ok(())
 }
 
-/// How full each lane of the cluster is, where these hold lanes and these cells are filled: by slot, then
-/// channel.
+/// How full each lane of the cluster is, by slot, then channel, with these holders of lanes and
+/// these filled cells.
 pub(crate) fn filled_load(
     alloc: Global,
     params: &Params,
@@ -61,7 +61,7 @@ pub(crate) fn filled_load(
     Ok(rows)
 }
 
-// The row of the lane, which this one holds.
+// The row of the lane, with this holder.
 fn lane_row(
     cells: &MaskOccupancy,
     params: &Params,

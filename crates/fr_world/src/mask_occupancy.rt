@@ -1,4 +1,4 @@
-//! Filled cells, kept as words of filled cycles, beside the list of placements that names the frames.
+//! Filled cells, kept as words of filled cycles. A list of placements beside them names the frames.
 ghost use Rattle.std.specs.Prelude.{◌≡◌, ◌≤◌, ◌++◌, ◌∷◌, [], OnOk, OnErr, option_map};
 ghost use Rattle.std.specs.List.{count_by, find};
 ghost use Rattle.fr_base.specs.Cells.{cells_in};
@@ -18,8 +18,9 @@ use fr_base::{Channel, Channels, CycleSet, Name, NoMemory, Params, Placement, Re
 use std::alloc::Global;
 use std::marker::Model;
 
-/// The frames' placements, and for each slot that was ever used a word of each channel with its filled
-/// cycles. Whether a placement is free is told by one or two words, however many placements there are.
+/// The frames' placements, and the filled cycles of each slot that was ever used, as a word for
+/// each channel. One or two words tell whether a placement is free, however many placements there
+/// are.
 #[derive(Drop)]
 pub struct MaskOccupancy {
     rows: RowOccupancy,
@@ -63,7 +64,8 @@ impl MaskOccupancy {
         }
     }
 
-    /// The frame fills the placement's cells too, filled or not. Where memory is refused, nothing changes.
+    /// Lets the frame fill the placement's cells too, whether they are filled or not. Where memory
+    /// is refused, nothing changes.
     pub(crate) fn add(&mut self, frame: Name, placement: &Placement) -> Result<(), NoMemory>
         ensures ok { OnOk result (self.new ≡ self.old ++ (frame, placement.now) ∷ []) }
         ensures err { OnErr result (self.new ≡ self.old) }
@@ -93,14 +95,15 @@ impl MaskOccupancy {
         first_marked(word, &placement.cycles)
     }
 
-    // Whether it is filled in none of them.
+    // Whether the slot is filled on the channel in none of the placement's cycles.
     fn is_free_on(&self, placement: &Placement, channel: Channel) -> bool
         ensures { result ≡ is_free_on self.now placement.now channel }
     {
         self.first_cycle(placement, channel).is_none()
     }
 
-    // The first of them and the channel, with the frame that is sent there.
+    // The first of the placement's cycles in which its slot is filled on the channel, with the
+    // channel and the frame that is sent there.
     fn first_on(&self, placement: &Placement, channel: Channel) -> Option<Taken>
         ensures { result ≡ option_map taken_of (first_taken (fill self.now) (cells_in (cycles_of placement.now.cycles) (placement.now.slot ∷ []) (channel ∷ []))) }
     {

@@ -7,7 +7,7 @@ use fr_base::{NoMemory, Slot};
 use std::alloc::Global;
 use std::collections::BTreeMap;
 
-/// For each slot that was ever used the cycles in which it is filled.
+/// For each slot that was ever used, the cycles in which it is filled.
 #[derive(Drop)]
 pub(crate) struct Masks {
     slots: BTreeMap<Slot, FilledCycles>,
@@ -42,7 +42,7 @@ impl Masks {
         self.slots.get(&slot).copied().unwrap_or(NONE_FILLED)
     }
 
-    /// Makes room for the slot's words, which are as before. Where memory is refused, all are.
+    /// Makes room for the slot's words. It changes no filled cycle, also where memory is refused.
     pub(crate) fn make_room(&mut self, slot: Slot) -> Result<(), NoMemory>
         ensures same { (s : ℕ) → words_at self.new.slots.entries s ≡ words_at self.old.slots.entries s }
         ensures there { OnOk result (IsTrue (has_words self.new.slots.entries slot)) }
@@ -53,7 +53,7 @@ impl Masks {
         Ok(())
     }
 
-    /// The slot is filled in these cycles from now on, if there is room for its words.
+    /// Fills the slot in these cycles and no others, if there is room for its words.
     pub(crate) fn put(&mut self, slot: Slot, filled: FilledCycles)
         ensures { (s : ℕ) → words_at self.new.slots.entries s ≡ (if (slot == s) && has_words self.old.slots.entries slot then filled else words_at self.old.slots.entries s) }
     {

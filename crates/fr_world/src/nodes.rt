@@ -7,8 +7,8 @@ ghost use Rattle.fr_world.specs.Nodes.{new_node};
 use crate::edit::Edit;
 use fr_base::{MAX_NODES, Name, Refusal};
 
-/// The edit that gives the supplier, who has these nodes, the node, or the first refusal: `Exists`,
-/// `Limit`. It takes no memory.
+/// The edit that gives the supplier, who has these nodes, another node, or the first refusal:
+/// `Exists`, `Limit`. It takes no memory.
 #[tactic(auto, unfolding(crate::proofs::CommonLaws::common_open))]
 pub fn decide_node(supplier: Name, nodes: &[Name], node: Name) -> Result<Edit, Refusal>
     ensures { result ≡ new_node supplier nodes.now node }
@@ -22,7 +22,7 @@ pub fn decide_node(supplier: Name, nodes: &[Name], node: Name) -> Result<Edit, R
     Ok(Edit::NewNode { supplier, node })
 }
 
-// Whether the name is one of these.
+// Whether the name is one of these names.
 fn has(names: &[Name], name: Name) -> bool
     ensures { result ≡ list_any (λ other. same_text other name) names.now }
 {

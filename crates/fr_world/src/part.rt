@@ -1,14 +1,15 @@
-//! Which frames a part of an export takes, as they come one after another with their records.
+//! Which frames a part of an export takes. The frames come one after another, with their records.
 ghost use Rattle.std.specs.Prelude.{◌≡◌};
 ghost use Rattle.fr_world.specs.Parts.{after, begun, has_begun, next_part};
 
 use fr_base::MAX_ROWS;
 
-/// How far the frames have come towards a part, and in it. A part takes whole frames, with at most 512 records.
+/// How far the frames have come towards a part, or in it. A part takes whole frames, with at most
+/// 512 records.
 #[derive(Clone, Copy, PartialEq, Eq)]
 pub enum Part {
-    /// So many parts are still to end before this one begins. The one that is being filled has room for so many records
-    /// more.
+    /// So many parts are still to end before this one begins. The part that the frames fill now has
+    /// room for so many records more.
     Filling { ahead: u32, room: usize },
     /// The part has ended.
     Ended,
@@ -36,7 +37,7 @@ impl Part {
         matches!(self, Part::Filling { ahead: 0, room: _ })
     }
 
-    // What is left of the part behind a frame with so many records.
+    // How far the frames have come after one more frame with so many records.
     #[tactic(auto, unfolding(crate::specs::Parts::after))]
     fn after(self, count: usize) -> Part
         ensures { result ≡ after self count }
@@ -52,7 +53,8 @@ impl Part {
     }
 }
 
-// What is left of the part behind a frame with so many records, for which the part before had no room.
+// How far the frames have come after one more frame with so many records, for which the part before
+// had no room.
 #[tactic(auto, unfolding(crate::specs::Parts::next_part))]
 fn next_part(ahead: u32, count: usize) -> Part
     ensures { result ≡ next_part ahead count }

@@ -7,9 +7,9 @@ use crate::page::Page;
 use fr_base::{Channel, Config, Name, Refusal, Slot, VariantRow};
 use std::alloc::Global;
 
-/// The records of a register, wherever they are kept. What is said of them holds as long as they are
-/// clean: once somebody else may have written to them nothing is known, and they are never clean again.
-/// The only refusal is `Unavailable`.
+/// The records of a register, wherever they are kept. What is said of them holds as long as they
+/// are clean. Once somebody else may have written to them nothing is known, and they are never
+/// clean again. The only refusal is `Unavailable`.
 pub trait Records {
     ghost use Rattle.fr_base.specs.Book.{Book, file_of, own};
     ghost use Rattle.fr_base.specs.Cluster.{Cluster};
@@ -23,7 +23,7 @@ pub trait Records {
     /// The book for which they stand, in a cluster.
     ghost stands: { Self → Cluster → Book → Type 0 };
 
-    /// Nobody else has written to them so far.
+    /// Nobody else has written to them so far, and what was read of them was what was written.
     ghost clean: { Self → Type 0 };
 
     /// They can be read and changed, until a fault ends that.
@@ -89,8 +89,8 @@ pub trait Records {
         ensures reads { Reads clean params leaves self.old self.new }
         ensures imports { clean self.new → Tells (stands self.old) (stands self.new) result (λ c b count. count ≡ len (own supplier b.imports)) };
 
-    /// Carries out the edits, all or none. They fit the records, one after another. Until the answer a crash may
-    /// leave either.
+    /// Carries out the edits, all or none. They fit the records, one after another. Until the call
+    /// answers, a crash leaves either all or none.
     fn apply(&mut self, alloc: Global, edits: &[Edit]) -> Result<(), Refusal>
         ensures falls { clean self.new → clean self.old }
         ensures same { params self.new ≡ params self.old }

@@ -31,7 +31,7 @@ pub fn room(
     Ok(places)
 }
 
-// The node of the frame that is to be placed, or the refusal that each placement meets.
+// The node of the frame that is to be placed, or the refusal that each of its placements meets.
 fn open_node(page: &Page, frame: Name) -> Result<Name, Refusal>
     ensures { result ≡ open_node page.now frame }
 {
@@ -45,7 +45,14 @@ fn open_node(page: &Page, frame: Name) -> Result<Name, Refusal>
     Ok(row.node)
 }
 
-// The placements that the node may still fill.
+// Which placements are looked for: those of a frame of this node, with this repetition.
+#[derive(Drop)]
+struct Search {
+    node: Name,
+    repetition: u32,
+}
+
+// The placements in grants to the node whose cells are free.
 fn vacant_places(
     alloc: Global,
     page: &Page,
@@ -55,51 +62,51 @@ fn vacant_places(
     requires { IsTrue (is_repetition page.now.params.cycles repetition) }
     ensures { IfOk result (λ places. places ≡ filter (is_vacant_alone (own_rows_of page.now) node) (places_with page.now.params repetition)) }
 {
+    let search = Search { node, repetition };
     let mut places = Rows::new(alloc);
     for number in 1..page.params().static_slots() + 1 {
         if let Some(slot) = Slot::new(number) {
-            push_slot(page, node, slot, repetition, &mut places)?;
+            push_slot(page, &search, slot, &mut places)?;
         }
     }
     Ok(places)
 }
 
-// Appends those of the slot.
+// Appends the node's free placements in the slot.
 fn push_slot(
     page: &Page,
-    node: Name,
+    search: &Search,
     slot: Slot,
-    repetition: u32,
     places: &mut Rows<Placement>,
 ) -> Result<(), NoMemory>
-    requires { IsTrue (is_repetition page.now.params.cycles repetition) }
-    ensures { OnOk result (places.new ≡ places.old ++ filter (is_vacant_alone (own_rows_of page.now) node) (places_in page.now.params repetition slot)) }
+    requires { IsTrue (is_repetition page.now.params.cycles search.now.repetition) }
+    ensures { OnOk result (places.new ≡ places.old ++ filter (is_vacant_alone (own_rows_of page.now) search.now.node) (places_in page.now.params search.now.repetition slot)) }
 {
     for channels in channels_within(page.params().channels()) {
-        push_channels(page, node, slot, *channels, repetition, places)?;
+        push_channels(page, search, slot, *channels, places)?;
     }
     Ok(())
 }
 
-// Appends those of the slot on these channels, which the node has to hold.
+// Appends the node's free placements in the slot on these channels: none, where the node does not
+// hold them.
 fn push_channels(
     page: &Page,
-    node: Name,
+    search: &Search,
     slot: Slot,
     channels: Channels,
-    repetition: u32,
     places: &mut Rows<Placement>,
 ) -> Result<(), NoMemory>
-    requires { IsTrue (is_repetition page.now.params.cycles repetition) }
-    ensures { OnOk result (places.new ≡ places.old ++ filter (is_vacant_alone (own_rows_of page.now) node) (places_on page.now.params repetition slot channels)) }
+    requires { IsTrue (is_repetition page.now.params.cycles search.now.repetition) }
+    ensures { OnOk result (places.new ≡ places.old ++ filter (is_vacant_alone (own_rows_of page.now) search.now.node) (places_on page.now.params search.now.repetition slot channels)) }
 {
-    if holds_on(page.grants(), node, slot, channels) {
-        push_bases(page, slot, channels, repetition, places)?;
+    if holds_on(page.grants(), search.node, slot, channels) {
+        push_bases(page, slot, channels, search.repetition, places)?;
     }
     Ok(())
 }
 
-// Appends those of which no frame fills a cell.
+// Appends the free placements in the slot on these channels, by base.
 fn push_bases(
     page: &Page,
     slot: Slot,

@@ -1,4 +1,4 @@
-//! Filled cells, kept as a list of placements, which are compared one by one.
+//! Filled cells, kept as a list of placements. They are compared one by one.
 ghost use Rattle.std.specs.Prelude.{◌≡◌, ◌++◌, ◌∷◌, [], map, not, OnOk, OnErr};
 ghost use Rattle.fr_base.specs.Schedule.{fill};
 ghost use Rattle.fr_base.specs.declared.channel.Channel.{Channel as OneChannel};
@@ -54,7 +54,8 @@ impl RowOccupancy {
         }
     }
 
-    /// The frame fills the placement's cells too, filled or not. Where memory is refused, nothing changes.
+    /// Lets the frame fill the placement's cells too, whether they are filled or not. Where memory
+    /// is refused, nothing changes.
     pub(crate) fn push(&mut self, frame: Name, placement: &Placement) -> Result<(), NoMemory>
         ensures ok { OnOk result (⟦<RowOccupancy as Occupancy>⟧.pairs self.new ≡ ⟦<RowOccupancy as Occupancy>⟧.pairs self.old ++ (frame, placement.now) ∷ []) }
         ensures err { OnErr result (⟦<RowOccupancy as Occupancy>⟧.pairs self.new ≡ ⟦<RowOccupancy as Occupancy>⟧.pairs self.old) }
@@ -66,7 +67,7 @@ impl RowOccupancy {
         Ok(())
     }
 
-    /// The frame that is sent in a cell.
+    /// The frame that is sent in the cell, if one is.
     pub(crate) fn frame_in(&self, cycle: u8, slot: Slot, channel: Channel) -> Option<Name>
         ensures { result ≡ fill (⟦<RowOccupancy as Occupancy>⟧.pairs self.now) (record { cycle = cycle; slot = slot; channel = channel }) }
     {
@@ -135,7 +136,7 @@ impl Occupancy for RowOccupancy {
     }
 }
 
-// Whether the row is that of this frame and placement. Most rows are in another slot.
+// Whether the row has this frame and placement. Most rows are in another slot.
 #[tactic(auto, using(crate::proofs::KeyLaws::placements_alike))]
 fn is_row(row: &Row, frame: Name, placement: &Placement) -> bool
     ensures { result ≡ is_pair frame placement.now (row.now.frame, row.now.placement) }
@@ -146,7 +147,7 @@ fn is_row(row: &Row, frame: Name, placement: &Placement) -> bool
     row.frame == frame && row.placement.cmp(placement).is_eq()
 }
 
-// The one of the earlier cell; the former at a tie.
+// The one of the earlier cell. Where both are of one cell, it is the former.
 pub(crate) fn first_of(former: Option<Taken>, latter: Option<Taken>) -> Option<Taken>
     ensures { result ≡ earlier former latter }
 {

@@ -9,7 +9,7 @@ ghost use Rattle.fr_world.specs.FirstPlaces.{AreFirst, first_place, place_on};
 ghost use Rattle.fr_world.specs.Sendings.{HaveSenders, cycle_cells, filled, is_used, sender_of, sent_in};
 
 use crate::slot_table::{FirstPlaces, SlotTable, places_in, slot_tables};
-use crate::triggerings::{FrameSender, FrameTriggering};
+use crate::triggerings::{FrameSender, FrameSendings, FrameTriggering};
 use fr_base::{Channel, Channels, NoMemory, Params, Rows, Sending, Slot};
 use std::alloc::Global;
 
@@ -18,19 +18,17 @@ use std::alloc::Global;
 pub(crate) fn schedule(
     alloc: Global,
     params: &Params,
-    senders: &[FrameSender],
-    triggerings: &[FrameTriggering],
+    sendings: &FrameSendings<'_>,
 ) -> Result<Rows<Sending>, NoMemory>
-    requires { HaveSenders senders.now triggerings.now }
-    ensures { IfOk result (λ rows. rows ≡ sent_in (filled senders.now triggerings.now) (cluster_cells params.now)) }
+    requires { HaveSenders sendings.now.senders.now sendings.now.triggerings.now }
+    ensures { IfOk result (λ rows. rows ≡ sent_in (filled sendings.now.senders.now sendings.now.triggerings.now) (cluster_cells params.now)) }
 {
-    let slots = used_slots(alloc, params, triggerings)?;
-    let tables = slot_tables(alloc, triggerings)?;
-    let mut rows = Rows::with_capacity(alloc, triggerings.len())?;
+    let slots = used_slots(alloc, params, sendings.triggerings)?;
+    let tables = slot_tables(alloc, sendings.triggerings)?;
+    let mut rows = Rows::with_capacity(alloc, sendings.triggerings.len())?;
     for cycle in 0..params.cycles() as u8 {
         push_cycle(
-            senders,
-            triggerings,
+            sendings,
             &tables,
             &slots,
             params.channels(),
@@ -46,28 +44,19 @@ pub(crate) fn schedule(
 pub(crate) fn push_sendings(
     alloc: Global,
     params: &Params,
-    senders: &[FrameSender],
-    triggerings: &[FrameTriggering],
+    sendings: &FrameSendings<'_>,
     cycle: u8,
     rows: &mut Rows<Sending>,
 ) -> Result<(), NoMemory>
-    requires { HaveSenders senders.now triggerings.now }
-    ensures { OnOk result (rows.new ≡ rows.old ++ sent_in (filled senders.now triggerings.now) (cycle_cells params.now cycle)) }
+    requires { HaveSenders sendings.now.senders.now sendings.now.triggerings.now }
+    ensures { OnOk result (rows.new ≡ rows.old ++ sent_in (filled sendings.now.senders.now sendings.now.triggerings.now) (cycle_cells params.now cycle)) }
 {
-    let slots = used_slots(alloc, params, triggerings)?;
-    let tables = slot_tables(alloc, triggerings)?;
-    push_cycle(
-        senders,
-        triggerings,
-        &tables,
-        &slots,
-        params.channels(),
-        cycle,
-        rows,
-    )
+    let slots = used_slots(alloc, params, sendings.triggerings)?;
+    let tables = slot_tables(alloc, sendings.triggerings)?;
+    push_cycle(sendings, &tables, &slots, params.channels(), cycle, rows)
 }
 
-// The static slots that a placement is in, in order.
+// The static slots that have a placement, in order.
 fn used_slots(
     alloc: Global,
     params: &Params,
@@ -79,7 +68,7 @@ fn used_slots(
     used_slots_to(alloc, triggerings, last)
 }
 
-// The number of the last slot that a placement is in, or 1 where there is none.
+// The number of the last slot that has a placement, or 1 where there is none.
 fn last_slot(triggerings: &[FrameTriggering]) -> u32
     ensures some { 1 ≤ result }
     ensures none_past { (slot : ℕ) → result < slot → is_used triggerings.now slot ≡ false }
@@ -91,7 +80,7 @@ fn last_slot(triggerings: &[FrameTriggering]) -> u32
     last
 }
 
-// The slots up to this one that a placement is in, in order.
+// The slots up to this one that have a placement, in order.
 fn used_slots_to(
     alloc: Global,
     triggerings: &[FrameTriggering],
@@ -113,7 +102,7 @@ fn used_slots_to(
     Ok(slots)
 }
 
-// For each slot's number whether a placement is in the slot.
+// For each slot's number whether the slot has a placement.
 fn slot_marks(triggerings: &[FrameTriggering]) -> [bool; 1024]
     ensures { (slot : ℕ) → slot < 1024 → slice_index_or result slot false ≡ is_used triggerings.now slot }
 {
@@ -134,51 +123,49 @@ fn is_marked(marks: &[bool; 1024], slot: Slot) -> bool
 
 // Appends what is sent in the cycle, in these slots.
 fn push_cycle(
-    senders: &[FrameSender],
-    triggerings: &[FrameTriggering],
+    sendings: &FrameSendings<'_>,
     tables: &[SlotTable],
     slots: &[Slot],
     channels: Channels,
     cycle: u8,
     rows: &mut Rows<Sending>,
 ) -> Result<(), NoMemory>
-    requires have { HaveSenders senders.now triggerings.now }
-    requires first { AreFirst triggerings.now tables.now }
-    ensures { OnOk result (rows.new ≡ rows.old ++ sent_in (filled senders.now triggerings.now) (cells_in (cycle ∷ []) slots.now (channels_in channels))) }
+    requires have { HaveSenders sendings.now.senders.now sendings.now.triggerings.now }
+    requires first { AreFirst sendings.now.triggerings.now tables.now }
+    ensures { OnOk result (rows.new ≡ rows.old ++ sent_in (filled sendings.now.senders.now sendings.now.triggerings.now) (cells_in (cycle ∷ []) slots.now (channels_in channels))) }
 {
     for slot in slots {
         let places = places_in(tables, *slot, cycle);
         for channel in channels.as_slice() {
-            let sender = sender_on(senders, triggerings, places, *channel);
+            let sender = sender_on(sendings, places, *channel);
             push_sending(sender, cycle, *slot, *channel, rows)?;
         }
     }
     Ok(())
 }
 
-// Who sends in the cell of this channel, where these are the places of the first placements in its slot
-// and cycle.
+// Who sends in the cell of this channel. `places` has the places of the first placements in the
+// cell's slot and cycle.
 #[inline(always)]
 fn sender_on<'s>(
-    senders: &'s [FrameSender],
-    triggerings: &[FrameTriggering],
+    sendings: &FrameSendings<'s>,
     places: FirstPlaces,
     channel: Channel,
 ) -> Option<&'s FrameSender>
-    requires { HaveSenders senders.now triggerings.now }
-    ensures { (c : Cell) → place_on channel places ≡ first_place triggerings.now c
-        → option_map (λ s. sender_of s.now) result ≡ fill (filled senders.now triggerings.now) c }
+    requires { HaveSenders sendings.now.senders.now sendings.now.triggerings.now }
+    ensures { (c : Cell) → place_on channel places ≡ first_place sendings.now.triggerings.now c
+        → option_map (λ s. sender_of s.now) result ≡ fill (filled sendings.now.senders.now sendings.now.triggerings.now) c }
 {
     let Some(place) = places.on(channel) else {
         return None;
     };
-    let Some(one) = triggerings.get(place) else {
+    let Some(one) = sendings.triggerings.get(place) else {
         return None;
     };
-    Some(&senders[one.sender])
+    Some(&sendings.senders[one.sender])
 }
 
-// Appends that it is sent in the cell, if there is one who sends.
+// Appends the row of the cell, if somebody sends there.
 #[inline(always)]
 fn push_sending(
     sender: Option<&FrameSender>,

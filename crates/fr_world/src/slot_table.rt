@@ -1,4 +1,4 @@
-//! Which placement is the first that has a slot's cells, noted in one pass over the placements.
+//! The first placement that has each cell of a slot, found in one pass over the placements.
 ghost use Rattle.std.specs.Prelude.{◌≡◌, ◌<◌, [], ℕ, IfOk, None, OnOk, Some, if◌then◌else◌, length, slice_index_or};
 ghost use Rattle.std.specs.Option.{option_or};
 ghost use Rattle.fr_base.specs.Channels.{has_channel};
@@ -10,13 +10,14 @@ use fr_base::{Channel, Channels, MAX_CYCLES, NoMemory, Placement, Slot};
 use std::alloc::Global;
 use std::marker::Model;
 
-/// For each cycle and channel of a slot the place in a list of the first placement that has the cell.
+/// For each cycle and channel of a slot, the place of the first placement that has the cell. Places
+/// are those of a list of placements.
 #[derive(Drop)]
 pub(crate) struct SlotTable {
     cycles: Vec<FirstPlaces>,
 }
 
-/// These places in a cycle.
+/// The places of the first placements in one cycle, one for each channel.
 #[derive(Clone, Copy)]
 pub(crate) struct FirstPlaces {
     a: Option<usize>,
@@ -47,7 +48,7 @@ impl SlotTable {
         }
     }
 
-    // The places of the first placements that have the cells of this cycle.
+    // The places of the first placements that have the slot's cells in this cycle.
     fn places(&self, cycle: u8) -> FirstPlaces
         ensures { result ≡ places_at self.now cycle }
     {
@@ -57,7 +58,7 @@ impl SlotTable {
         }
     }
 
-    /// The placement at this place takes those of its cells that no placement has.
+    /// Gives the placement at this place those of its cells that no placement has yet.
     pub(crate) fn claim(&mut self, placement: &Placement, place: usize) -> Result<(), NoMemory>
         ensures { OnOk result (IsClaimed placement.now place self.old self.new) }
     {
@@ -70,7 +71,7 @@ impl SlotTable {
 }
 
 impl FirstPlaces {
-    /// The place of the channel.
+    /// The place of the first placement on the channel, if there is one.
     pub(crate) fn on(self, channel: Channel) -> Option<usize>
         ensures { result ≡ place_on channel self }
     {
@@ -80,7 +81,7 @@ impl FirstPlaces {
         }
     }
 
-    // The place is noted of those of the channels of which none is.
+    // Notes the place for each of the channels that has none yet.
     fn claim(&mut self, channels: Channels, place: usize)
         ensures { (x : OneChannel) → place_on x self.new ≡ option_or (place_on x self.old) (if has_channel channels x then Some place else None) }
     {
@@ -103,7 +104,7 @@ pub(crate) fn places_in(tables: &[SlotTable], slot: Slot, cycle: u8) -> FirstPla
     }
 }
 
-/// The tables of these placements, each at its slot's number.
+/// The tables of these placements. Each stands at its slot's number.
 pub(crate) fn slot_tables(
     alloc: Global,
     triggerings: &[FrameTriggering],
@@ -119,7 +120,7 @@ pub(crate) fn slot_tables(
     Ok(tables)
 }
 
-// Makes room for the table of this number.
+// Lengthens the list until it has a table of this number.
 fn make_room(alloc: Global, tables: &mut Vec<SlotTable>, number: usize) -> Result<(), NoMemory>
     ensures room { OnOk result (number < length tables.new.items) }
     ensures same { (n : ℕ) → slice_index_or tables.new.items n [] ≡ slice_index_or tables.old.items n [] }
@@ -130,7 +131,7 @@ fn make_room(alloc: Global, tables: &mut Vec<SlotTable>, number: usize) -> Resul
     Ok(())
 }
 
-// The placement takes those of its cells that no placement has, cycle by cycle.
+// Gives the placement those of its cells that no placement has yet, cycle by cycle.
 #[inline(always)]
 fn claim_cycles(cycles: &mut [FirstPlaces], placement: &Placement, place: usize)
     requires { length cycles.old ≡ 64 }

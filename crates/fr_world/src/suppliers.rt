@@ -1,12 +1,13 @@
-//! What the integrator's commands by which a supplier joins, or has another key, decide, by the config.
+//! How the integrator's commands on suppliers are decided by the config: one joins a supplier, the
+//! other gives it another key.
 ghost use Rattle.std.specs.Prelude.{◌≡◌};
 ghost use Rattle.fr_world.specs.Suppliers.{new_key, new_supplier};
 
 use crate::edit::Edit;
 use fr_base::{Config, Key, Name, Refusal};
 
-/// The edit by which the supplier joins those of the config, or the first refusal: `Exists`, `KeyTaken`,
-/// `Limit`. It takes no memory.
+/// The edit by which the supplier joins the config's suppliers, or the first refusal: `Exists`,
+/// `KeyTaken`, `Limit`. It takes no memory.
 #[tactic(auto, unfolding(crate::proofs::CommonLaws::common_open))]
 pub fn decide_supplier(config: &Config, supplier: Name, key: Key) -> Result<Edit, Refusal>
     ensures { result ≡ new_supplier config.now supplier key }

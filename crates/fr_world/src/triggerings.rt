@@ -28,13 +28,22 @@ pub(crate) struct FrameSender {
     pub node: Name,
 }
 
-/// A placement, and which of the senders sends in its cells.
+/// A placement, and who sends in its cells.
 #[derive(Clone, Copy)]
 pub(crate) struct FrameTriggering {
     /// The cells.
     pub placement: Placement,
-    /// The place of the sender in the list of the senders.
+    /// The sender's place in the list of senders.
     pub sender: usize,
+}
+
+/// The senders of frames, and the placements that they send.
+#[derive(Clone, Copy)]
+pub(crate) struct FrameSendings<'a> {
+    /// The senders.
+    pub senders: &'a [FrameSender],
+    /// The placements. The sender of each stands among the senders.
+    pub triggerings: &'a [FrameTriggering],
 }
 
 /// Placements, each with its sender, which is kept once for all placements of a frame.
@@ -98,16 +107,27 @@ impl Triggerings {
         Ok(())
     }
 
-    /// Which frame is sent in which cycle, slot and channel, of these placements: by cycle, slot and
-    /// channel. Where several have a cell, the first one is sent.
+    // The senders and the placements.
+    fn sendings(&self) -> FrameSendings<'_>
+        ensures value { filled result.senders.now result.triggerings.now ≡ self.now }
+        ensures have { HaveSenders result.senders.now result.triggerings.now }
+    {
+        FrameSendings {
+            senders: &self.senders,
+            triggerings: &self.triggerings,
+        }
+    }
+
+    /// Which frame is sent in which cycle, slot and channel: by cycle, slot and channel. Where
+    /// several placements have a cell, the first one is sent.
     pub fn schedule(&self, alloc: Global, params: &Params) -> Result<Rows<Sending>, NoMemory>
         ensures { IfOk result (λ rows. rows ≡ sent_in self.now (cluster_cells params.now)) }
     {
-        schedule(alloc, params, &self.senders, &self.triggerings)
+        schedule(alloc, params, &self.sendings())
     }
 
-    /// How full each lane of the cluster is by these placements, where these hold lanes: by slot, then
-    /// channel.
+    /// How full these placements make each lane of the cluster, by slot, then channel. `holders`
+    /// says who holds lanes.
     pub fn load(
         &self,
         alloc: Global,
@@ -120,8 +140,9 @@ impl Triggerings {
         filled_load(alloc, params, holders, &cells)
     }
 
-    /// Appends what is sent in the cycle, 0 to 63, of these placements: by slot and channel. Where several
-    /// have a cell, the first one is sent. Where memory is refused, some of it may have been appended.
+    /// Appends what is sent in the cycle, 0 to 63: by slot and channel. Where several placements
+    /// have a cell, the first one is sent. Where memory is refused, some of it may have been
+    /// appended.
     pub(crate) fn push_sendings(
         &self,
         alloc: Global,
@@ -131,11 +152,12 @@ impl Triggerings {
     ) -> Result<(), NoMemory>
         ensures { OnOk result (rows.new ≡ rows.old ++ sent_in self.now (cycle_cells params.now cycle)) }
     {
-        push_sendings(alloc, params, &self.senders, &self.triggerings, cycle, rows)
+        push_sendings(alloc, params, &self.sendings(), cycle, rows)
     }
 }
 
-// Appends the placements of the frame, which the sender at this place sends. There is room for them.
+// Appends the placements of the frame. The sender at this place sends them, and there is room for
+// them.
 fn push_placements(frame: &PageFrame, sender: usize, triggerings: &mut Vec<FrameTriggering>)
     requires { vec_len triggerings.old + length frame.now.placements.keys ≤ vec_capacity triggerings.old }
     ensures { triggerings.new.items ≡ triggerings.old.items ++ map (sent_by sender) (placements_in (frame_of (frame_data frame.now))) }

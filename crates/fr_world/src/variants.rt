@@ -1,13 +1,13 @@
-//! What the integrator's commands on all suppliers decide, by the list of variants.
+//! How the integrator's commands on all suppliers are decided by the list of variants.
 ghost use Rattle.std.specs.Prelude.{◌≡◌, option_map};
 ghost use Rattle.fr_world.specs.Common.{common_edit, depth_after, row_of};
 
 use crate::edit::Edit;
 use fr_base::{CommonCommand, MAX_DEPTH, MAX_VARIANTS, Name, Refusal, VariantRow};
 
-/// The edit that opens or releases a variant of the register, or the first refusal: for a new one
-/// `NoVariant`, `NotReleased` and `TooDeep` of its parent, then `Exists` and `Limit`; for a release
-/// `NoVariant` and `Released`. It takes no memory.
+/// The edit that opens or releases a variant of the register, or the first refusal. For a new
+/// variant the refusals are `NoVariant`, `NotReleased` and `TooDeep` of its parent, then `Exists`
+/// and `Limit`; for a release `NoVariant` and `Released`. It takes no memory.
 pub fn decide_common(variants: &[VariantRow], command: &CommonCommand) -> Result<Edit, Refusal>
     ensures { result ≡ common_edit variants.now command.now }
 {

@@ -4,7 +4,7 @@
 mod streams;
 
 use fr_cli::perform::{explain, perform};
-use fr_cli::{LocalListener, WordFault, end_closed, read_words};
+use fr_cli::{LocalFiles, LocalListener, WordFault, end_closed, read_words};
 use sqlite::Unknown;
 use std::env;
 use std::io::{self, ErrorKind};
@@ -30,6 +30,7 @@ fn run(rt: &HostRuntime) -> u8 {
                 rt,
                 &job,
                 Unknown,
+                &mut LocalFiles { rt },
                 &mut rt.reader(),
                 &mut out,
                 &mut err,

@@ -2,31 +2,18 @@
 use crate::place::kind::kind;
 use crate::shown::shown;
 use fr_base::{Channels, NoMemory};
+use fr_text::{file_keys, is_file_key};
 use std::alloc::Global;
 use toml::{Table, Value};
 
-/// The keys of a cluster file, in the order in which they are read.
-const KEYS: [&str; 11] = [
-    "channels",
-    "static_slots",
-    "slot_macroticks",
-    "dynamic_macroticks",
-    "symbol_macroticks",
-    "idle_macroticks",
-    "macroticks_per_cycle",
-    "payload_words",
-    "cycles",
-    "integrator",
-    "suppliers",
-];
-
 /// The first key that is unknown, else the first that is missing or has a value that it may not have.
 pub fn bad_field(alloc: Global, file: &Table) -> Result<String, NoMemory> {
-    if let Some(key) = file.keys().find(|key| !KEYS.contains(&key.as_str())) {
+    if let Some(key) = file.keys().find(|key| !is_file_key(key.as_str())) {
         let key = shown(alloc, key.as_str())?;
         return format!(in alloc; "\"{key}\" is no key of a cluster file");
     }
-    for key in KEYS {
+    for key in file_keys() {
+        let key = *key;
         match file.get(key) {
             None if key == "cycles" => {}
             None => return format!(in alloc; "{key} is missing"),
@@ -37,7 +24,7 @@ pub fn bad_field(alloc: Global, file: &Table) -> Result<String, NoMemory> {
     bad_supplier(alloc, file)
 }
 
-// Whether the key may have this value, as far as its kind goes.
+// Whether the key may have a value of this kind.
 fn is_allowed(key: &str, value: &Value) -> bool {
     match key {
         "channels" => value.as_str().and_then(Channels::read).is_some(),
@@ -67,12 +54,12 @@ fn not_allowed(alloc: Global, key: &str, value: &Value) -> Result<String, NoMemo
     }
 }
 
-// Whether the value may be shown: it is no key of the integrator or a supplier.
+// Whether the value may be shown: the keys of the integrator and the suppliers may not.
 fn is_open(key: &str) -> bool {
     !matches!(key, "integrator" | "suppliers")
 }
 
-/// What a key of a cluster file may be.
+/// What the value of a cluster file's key may be.
 pub fn range(key: &str) -> &'static str {
     match key {
         "channels" => "\"A\", \"B\" or \"AB\"",
@@ -87,7 +74,7 @@ pub fn range(key: &str) -> &'static str {
     }
 }
 
-// The first supplier whose key is no text.
+// The first supplier whose key is not a text.
 fn bad_supplier(alloc: Global, file: &Table) -> Result<String, NoMemory> {
     let suppliers = file.get("suppliers").and_then(Value::as_table);
     let bad = suppliers.and_then(|table| table.iter().find(|entry| !entry.1.is_str()));

@@ -21,7 +21,7 @@ pub fn bad_figure(alloc: Global, fault: ParamFault, file: &Table) -> Result<Stri
     format!(in alloc; "{key} is {number}, it may be {range}")
 }
 
-// What the segments take, and the cycle's length.
+// The sum of the segments, and the cycle's length.
 fn bad_sum(alloc: Global, file: &Table) -> Result<String, NoMemory> {
     let sum = (number(file, "static_slots") * number(file, "slot_macroticks"))
         .saturating_add(number(file, "dynamic_macroticks"))
@@ -31,7 +31,7 @@ fn bad_sum(alloc: Global, file: &Table) -> Result<String, NoMemory> {
     format!(in alloc; "the segments take {sum} macroticks, macroticks_per_cycle is {cycle}")
 }
 
-// The number at a key, below 2^32; 0 where none is there.
+// The number at a key, below 2^32; 0 where there is none.
 fn number(file: &Table, key: &str) -> u64
     ensures { result < 2 ^ 32 }
 {

@@ -1,7 +1,7 @@
 //! Kinds of values in words.
 use toml::Value;
 
-/// What kind of value it is.
+/// The kind of a value.
 pub fn kind(value: &Value) -> &'static str {
     match value {
         Value::String(_) => "a text",

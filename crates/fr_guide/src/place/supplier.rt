@@ -1,4 +1,4 @@
-//! Which suppliers or keys of a cluster file make its fault.
+//! The suppliers or keys that make the fault of a cluster file.
 use crate::shown::shown;
 use fr_base::{Key, MAX_SUPPLIERS, Name, NoMemory};
 use std::alloc::Global;
@@ -17,7 +17,7 @@ pub fn too_many(alloc: Global, file: &Table) -> Result<String, NoMemory> {
     format!(in alloc; "there are {count} suppliers, at most {MAX_SUPPLIERS} may be there")
 }
 
-/// The first supplier whose name is none.
+/// The first supplier whose name has not the form of a name.
 pub fn bad_name(alloc: Global, file: &Table) -> Result<String, NoMemory> {
     let owners = owners(alloc, file)?;
     let bad = owners
@@ -30,7 +30,7 @@ pub fn bad_name(alloc: Global, file: &Table) -> Result<String, NoMemory> {
     )
 }
 
-/// The first whose key is none, the integrator before the suppliers.
+/// The first key that has not the form of a key: the integrator's, else a supplier's.
 pub fn bad_key(alloc: Global, file: &Table) -> Result<String, NoMemory> {
     let owners = owners(alloc, file)?;
     let bad = owners.iter().find(|owner| Key::read(owner.key).is_none());
@@ -38,7 +38,7 @@ pub fn bad_key(alloc: Global, file: &Table) -> Result<String, NoMemory> {
     format!(in alloc; "the key of {name} is not 8 to 64 ASCII letters and digits")
 }
 
-/// The first two who have the same key, the integrator before the suppliers.
+/// The first two owners of the same key: the integrator comes before the suppliers.
 pub fn same_keys(alloc: Global, file: &Table) -> Result<String, NoMemory> {
     let owners = owners(alloc, file)?;
     match first_pair(owners.as_slice()) {

@@ -18,7 +18,7 @@ use std::alloc::Global;
 /// The fields of an object.
 type Fields = Map<String, Value>;
 
-/// What is wrong with the fields of a request's object.
+/// The faults of the fields of a request's object.
 #[tactic(auto, unfolding(crate::specs::RequestFields::are_of_request))]
 pub fn field_faults(alloc: Global, fields: &Fields) -> Result<Vec<String>, NoMemory>
     ensures { IfOk result (λ faults. are_none faults.items ≡ are_of_request (fields_in fields.now)) }
@@ -47,7 +47,7 @@ fn field<'v>(fields: &'v Fields, name: &str) -> Option<&'v Value>
     fields.get(name)
 }
 
-// What is said of a field `do` that names no request.
+// The fault of a field `do` that names no request.
 fn no_request(alloc: Global, fields: &Fields) -> Result<String, NoMemory> {
     match field(fields, "do") {
         Some(Value::String(name)) => {
@@ -62,7 +62,7 @@ fn no_request(alloc: Global, fields: &Fields) -> Result<String, NoMemory> {
     }
 }
 
-// What is wrong with the fields of a request that has these.
+// The faults of the fields, where the request has these fields.
 fn known_faults(
     alloc: Global,
     request: &str,
@@ -77,7 +77,7 @@ fn known_faults(
     Ok(faults)
 }
 
-// Adds a fault for each field that is none of these, and not `do`.
+// Adds a fault for each field that is neither `do` nor one of these.
 fn add_unknown(
     alloc: Global,
     faults: &mut Vec<String>,
@@ -103,7 +103,7 @@ fn is_known(names: &[&str], name: &str) -> bool
     name == "do" || names.contains(&name)
 }
 
-// What is said of a field that the request does not have.
+// The fault of a field that the request does not have.
 fn unknown(alloc: Global, request: &str, names: &[&str], name: &str) -> Result<String, NoMemory> {
     let name = shown(alloc, name)?;
     if names.is_empty() {
@@ -133,7 +133,7 @@ fn add_bad(
     Ok(())
 }
 
-// Whether a field may have this value, if it may be of this kind.
+// Whether the value, or its absence, is allowed for a field of this kind.
 fn is_there(kind: Kind, value: Option<&Value>) -> bool
     ensures { result ≡ has_kind kind (option_map (λ value. view value.now) value.entry) }
 {
@@ -157,7 +157,7 @@ fn is_of_kind(kind: Kind, value: &Value) -> bool
     }
 }
 
-// What is said of a field that is missing or of another kind.
+// The fault of a field that is missing or of another kind.
 fn bad(
     alloc: Global,
     request: &str,
@@ -182,7 +182,7 @@ fn listed(alloc: Global, names: &[&str]) -> Result<String, NoMemory> {
     Ok(list)
 }
 
-// What stands in a field, and what may stand there. A key is not shown.
+// What stands in the field, and what may stand there. A key is not shown.
 fn other_kind(alloc: Global, request: &str, name: &str, value: &Value) -> Result<String, NoMemory> {
     let range = range(kind_of(request, name));
     match value {
@@ -200,7 +200,7 @@ fn other_kind(alloc: Global, request: &str, name: &str, value: &Value) -> Result
     }
 }
 
-// What a field of this kind may be.
+// What a field of this kind may have.
 fn range(kind: Kind) -> &'static str {
     match kind {
         Kind::Text => "a text, in double quotes",

@@ -3,7 +3,7 @@ ghost use Rattle.std.specs.Prelude.{◌≡◌, map, option_map};
 ghost use Rattle.fr_text.specs.Fields.{is_among};
 ghost use Rattle.fr_guide.specs.RequestFields.{fields_of, kind_of, numbers};
 
-/// What a field of a request has to be.
+/// The kind of a request's field.
 #[derive(Clone, Copy, PartialEq, Eq)]
 pub enum Kind {
     Text,
@@ -53,7 +53,7 @@ pub fn fields_of(request: &str) -> Option<&'static [&'static str]>
     }
 }
 
-/// What the field of this name has to be, in the request of this name.
+/// The kind of the field of this name, in the request of this name.
 #[tactic(auto, unfolding(crate::specs::RequestFields::kind_of))]
 pub fn kind_of(request: &str, field: &str) -> Kind
     ensures { result ≡ kind_of request.now field.now }

@@ -1,4 +1,4 @@
-//! Why a text is no request: it is no JSON, no object, or an object of other fields.
+//! Why a text is not a request: it is not JSON, or not an object, or an object of other fields.
 ghost use Rattle.std.specs.Prelude.{◌≡◌, IfOk, OnOk, is_some};
 ghost use Rattle.serde_json.specs.Errors.{IsMemory};
 ghost use Rattle.fr_text.specs.RequestText.{request_of};
@@ -10,7 +10,7 @@ use fr_base::NoMemory;
 use serde_json::{Error, Value};
 use std::alloc::{AllocError, Global};
 
-/// Why a text is no request, which begins behind so many bytes of its line.
+/// Why a text is not a request. The text begins behind so many bytes of its line.
 pub fn text_faults(alloc: Global, text: &[u8], before: usize) -> Result<Vec<String>, NoMemory>
     ensures { IfOk result (λ faults. are_none faults.items ≡ is_some (request_of text.now)) }
 {
@@ -27,13 +27,13 @@ pub fn text_faults(alloc: Global, text: &[u8], before: usize) -> Result<Vec<Stri
     }
 }
 
-// What is said of JSON that is no object.
+// The fault of JSON that is not an object.
 fn no_object(alloc: Global, value: &Value) -> Result<String, NoMemory> {
     let kind = kind_name(value);
     format!(in alloc; "the text is {kind}, a request is an object, in braces")
 }
 
-/// What kind of value it is.
+/// The kind of a value.
 pub fn kind_name(value: &Value) -> &'static str {
     match value {
         Value::Null => "null",
@@ -45,7 +45,7 @@ pub fn kind_name(value: &Value) -> &'static str {
     }
 }
 
-// Where a text is no JSON.
+// Where a text stops being JSON.
 fn no_json(alloc: Global, text: &str, before: usize, error: &Error) -> Result<String, NoMemory>
     ensures { OnOk result (¬ (IsMemory error.now)) }
 {

@@ -1,4 +1,4 @@
-//! Which names and keys of a request are none.
+//! The names and keys of a request that have not their form.
 ghost use Rattle.std.specs.Prelude.{◌≡◌, ◌&&◌, IfOk, OnOk, map};
 ghost use Rattle.fr_guide.specs.Faults.{are_none};
 ghost use Rattle.fr_guide.specs.Requests.{formed_in, has_form, have_forms, names_in};
@@ -8,7 +8,7 @@ use crate::shown::shown;
 use fr_base::{Key, Name, NoMemory, Query, Report, Request, Text};
 use std::alloc::Global;
 
-/// A text of a request that has to have a form, and its field.
+/// A text of a request that must have a form, and its field.
 #[derive(Clone, Copy)]
 pub struct Formed<'a> {
     form: Form,
@@ -16,7 +16,7 @@ pub struct Formed<'a> {
     text: &'a str,
 }
 
-/// Which texts of a request do not have their form.
+/// The faults of a request's texts that have not their form.
 #[tactic(auto, unfolding(crate::specs::Requests::formed_in))]
 pub fn name_faults(alloc: Global, request: &Request) -> Result<Vec<String>, NoMemory>
     ensures { IfOk result (λ faults. are_none faults.items ≡ have_forms (formed_in request.now)) }
@@ -132,7 +132,7 @@ pub fn name_faults(alloc: Global, request: &Request) -> Result<Vec<String>, NoMe
     }
 }
 
-// Which names of a query are none.
+// The faults of a query's names that are not names.
 fn query_faults(alloc: Global, query: &Query<Text>) -> Result<Vec<String>, NoMemory>
     ensures { IfOk result (λ faults. are_none faults.items ≡ have_forms (names_in query.now)) }
 {
@@ -155,7 +155,7 @@ fn query_faults(alloc: Global, query: &Query<Text>) -> Result<Vec<String>, NoMem
     }
 }
 
-// A text that has to be a name.
+// A text that must be a name.
 fn name<'a>(field: &'static str, text: &'a Text) -> Formed<'a>
     ensures { (result.form ≡ Form.Name) × (result.text.now ≡ text.now) }
 {
@@ -166,7 +166,7 @@ fn name<'a>(field: &'static str, text: &'a Text) -> Formed<'a>
     }
 }
 
-// A text that has to be a key.
+// A text that must be a key.
 fn key_in<'a>(field: &'static str, text: &'a Text) -> Formed<'a>
     ensures { (result.form ≡ Form.Key) × (result.text.now ≡ text.now) }
 {
@@ -177,7 +177,7 @@ fn key_in<'a>(field: &'static str, text: &'a Text) -> Formed<'a>
     }
 }
 
-// Which of the texts do not have their form.
+// The faults of the texts that have not their form.
 fn faults(alloc: Global, texts: &[Formed<'_>]) -> Result<Vec<String>, NoMemory>
     ensures { IfOk result (λ faults. are_none faults.items ≡ have_forms (map (λ it. (it.form, it.text.now)) texts.now)) }
 {
@@ -190,7 +190,7 @@ fn faults(alloc: Global, texts: &[Formed<'_>]) -> Result<Vec<String>, NoMemory>
     Ok(faults)
 }
 
-// Whether a text has this form.
+// Whether the text has this form.
 fn has_form(form: Form, text: &str) -> bool
     ensures { result ≡ has_form form text.now }
 {
@@ -200,7 +200,7 @@ fn has_form(form: Form, text: &str) -> bool
     }
 }
 
-// What is said of a text that does not have its form. A key is not shown.
+// The fault of a text that has not its form. A key is not shown.
 fn fault(alloc: Global, formed: &Formed<'_>) -> Result<String, NoMemory> {
     let field = formed.field;
     match formed.form {

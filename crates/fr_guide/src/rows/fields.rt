@@ -1,4 +1,4 @@
-//! What is wrong with the fields of a row.
+//! The faults of the fields of a row.
 ghost use Rattle.std.specs.Prelude.{◌≡◌, ◌&&◌, IfOk, OnOk, false};
 ghost use Rattle.std.specs.Result.{is_ok};
 ghost use Rattle.csv.specs.Records.{fields_of};
@@ -13,7 +13,7 @@ use fr_base::{Header, Name, NoMemory};
 use fr_text::{names, number_at, text_at};
 use std::alloc::Global;
 
-/// What is wrong with a record below this header.
+/// The faults of a record below this header.
 #[tactic(auto, unfolding(crate::specs::Rows::is_fine_row))]
 pub fn field_faults(
     alloc: Global,
@@ -36,7 +36,7 @@ pub fn field_faults(
     Ok(faults)
 }
 
-// What is wrong with the fields of a row of frames.
+// The faults of the fields of a row of frames.
 #[tactic(auto, unfolding(crate::specs::Rows::is_fine_frame))]
 fn frame_faults(alloc: Global, fields: &ByteRecord) -> Result<Vec<String>, NoMemory>
     ensures { IfOk result (λ faults. are_none faults.items ≡ is_fine_frame (fields_of fields.now)) }
@@ -47,7 +47,7 @@ fn frame_faults(alloc: Global, fields: &ByteRecord) -> Result<Vec<String>, NoMem
     Ok(faults)
 }
 
-// What is wrong with the fields of a row of placements.
+// The faults of the fields of a row of placements.
 #[tactic(auto, unfolding(crate::specs::Rows::is_fine_placement))]
 fn placement_faults(alloc: Global, fields: &ByteRecord) -> Result<Vec<String>, NoMemory>
     ensures { IfOk result (λ faults. are_none faults.items ≡ is_fine_placement (fields_of fields.now)) }
@@ -62,7 +62,7 @@ fn placement_faults(alloc: Global, fields: &ByteRecord) -> Result<Vec<String>, N
     Ok(faults)
 }
 
-// What is wrong with the fields of a row of signals.
+// The faults of the fields of a row of signals.
 #[tactic(auto, unfolding(crate::specs::Rows::is_fine_signal))]
 fn signal_faults(alloc: Global, fields: &ByteRecord) -> Result<Vec<String>, NoMemory>
     ensures { IfOk result (λ faults. are_none faults.items ≡ is_fine_signal (fields_of fields.now)) }
@@ -76,7 +76,7 @@ fn signal_faults(alloc: Global, fields: &ByteRecord) -> Result<Vec<String>, NoMe
     Ok(faults)
 }
 
-// Adds a fault where the field at a place is no name.
+// Adds a fault where the field at a place is not a name.
 fn add_name(
     alloc: Global,
     faults: &mut Vec<String>,
@@ -92,7 +92,7 @@ fn add_name(
     Ok(())
 }
 
-// Adds a fault where the field at a place is no number.
+// Adds a fault where the field at a place is not a number.
 fn add_number(
     alloc: Global,
     faults: &mut Vec<String>,
@@ -108,7 +108,7 @@ fn add_number(
     Ok(())
 }
 
-// Adds a fault where the field at a place is no text.
+// Adds a fault where the field at a place is not a text.
 fn add_text(
     alloc: Global,
     faults: &mut Vec<String>,
@@ -139,7 +139,7 @@ const NAME: &str = "1 to 32 ASCII letters, digits and underscores, a letter firs
 
 const NUMBER: &str = "1 to 10 digits, at most 4294967295";
 
-// What is said of the field at a place, which may be something else.
+// The fault of the field at a place, with what may stand there.
 fn fault(
     alloc: Global,
     fields: &ByteRecord,
@@ -151,7 +151,7 @@ fn fault(
     format!(in alloc; "field \"{name}\" is \"{found}\", it may be {range}")
 }
 
-// What is wrong with a record that does not have its header's number of fields.
+// The faults of a record that has not as many fields as its header.
 fn count_faults(alloc: Global, header: Header, fields: &ByteRecord) -> Result<Vec<String>, NoMemory>
     ensures { IfOk result (λ faults. are_none faults.items ≡ false) }
 {
@@ -163,7 +163,7 @@ fn count_faults(alloc: Global, header: Header, fields: &ByteRecord) -> Result<Ve
     one_fault(alloc, fault)
 }
 
-// What may have gone wrong.
+// What may be the cause.
 fn hint(fields: &ByteRecord, wanted: usize) -> &'static str {
     if fields.iter().skip(wanted).all(<[u8]>::is_empty) && fields.len() > wanted {
         ": those behind are empty"

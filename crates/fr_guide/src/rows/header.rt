@@ -1,4 +1,4 @@
-//! What is wrong with the header of an import's file.
+//! The faults of the header of an import's file.
 ghost use Rattle.std.specs.Prelude.{◌≡◌, IfOk, false};
 ghost use Rattle.fr_guide.specs.Faults.{are_none};
 
@@ -10,14 +10,14 @@ use fr_base::{Header, NoMemory};
 use fr_text::names;
 use std::alloc::Global;
 
-/// What is wrong with a first record that is no header.
+/// The faults of a first record that is not a header.
 pub fn header_faults(alloc: Global, fields: &ByteRecord) -> Result<Vec<String>, NoMemory>
     ensures { IfOk result (λ faults. are_none faults.items ≡ false) }
 {
     one_fault(alloc, header_fault(alloc, fields)?)
 }
 
-// What a header may be.
+// What a first record may be.
 fn header_fault(alloc: Global, fields: &ByteRecord) -> Result<String, NoMemory> {
     let found = listed(alloc, fields)?;
     let hint = hint(fields);
@@ -39,7 +39,7 @@ fn listed(alloc: Global, fields: &ByteRecord) -> Result<String, NoMemory> {
     Ok(list)
 }
 
-// What may have gone wrong.
+// What may be the cause.
 fn hint(fields: &ByteRecord) -> &'static str {
     let first = fields.get(0).unwrap_or(b"");
     if first.contains(&0) {
@@ -51,7 +51,8 @@ fn hint(fields: &ByteRecord) -> &'static str {
     }
 }
 
-// Whether one of the headers is meant. The names of frames stand in the header of placements too, so nothing else may stand beside them.
+// Whether one of the headers is meant. The header of placements has the names of that of frames
+// too, so a record that means frames has no other fields.
 fn is_any_meant(fields: &ByteRecord) -> bool {
     is_meant(fields, Header::Placements)
         || is_meant(fields, Header::Signals)

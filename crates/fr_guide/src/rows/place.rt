@@ -1,8 +1,8 @@
-//! In which line of a file a byte stands.
+//! The line of a file in which a byte stands.
 ghost use Rattle.std.specs.Prelude.{◌≡◌, ◌≤◌, ◌<◌, ◌+◌, ◌^◌};
 ghost use Rattle.fr_guide.specs.Rows.{begins_with_feed, ends_line, line_count, line_ends};
 
-/// A place in a file, which goes on towards its end.
+/// A place in a file, which moves towards the file's end.
 #[derive(Drop)]
 pub struct Place<'b> {
     /// How many bytes the file has.
@@ -26,8 +26,8 @@ impl<'b> Place<'b> {
         }
     }
 
-    /// Goes on to where a record begins that is read behind so many bytes, and gives its line. The ends of the line before it, and of
-    /// empty lines, come first.
+    /// Moves to the beginning of the record that comes behind so many bytes, and gives its line.
+    /// The ends of the line before it, and of empty lines, come first.
     pub fn line_behind(&mut self, bytes: u64) -> usize
         requires room { self.old.line + line_ends self.old.rest.now < 2 ^ 64 }
         ensures line { result ≡ self.new.line }
@@ -48,7 +48,7 @@ impl<'b> Place<'b> {
     }
 }
 
-// Whether a byte before these ends a line.
+// Whether the byte ends a line, where these follow it.
 fn ends_line(byte: u8, after: &[u8]) -> bool
     ensures { result ≡ ends_line byte after.now }
 {

@@ -15,7 +15,7 @@ const NO_SUPPLIER: Topic = Topic {
     word: "NoSupplier",
     about: "refusal 14. There is no such supplier.",
     help: "\
-It comes for `add_node`, `grant` and `revoke`, and for a report with `--supplier NAME`.
+It comes for `set_key`, `add_node`, `grant` and `revoke`, and for a report with `--supplier NAME`.
 The suppliers are those of the cluster file, and those that were added since.
 Look at the spelling; case matters. Or let the supplier join by `add_supplier`.
 ",

@@ -7,7 +7,7 @@ use fr_base::{CommonCommand, Refusal};
 use fr_world::{Records, decide_common};
 use std::alloc::Global;
 
-/// A variant is opened or released.
+/// Opens or releases a variant.
 pub(crate) fn change_common<R: Records>(
     alloc: Global,
     records: &mut R,

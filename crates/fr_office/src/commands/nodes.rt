@@ -8,7 +8,7 @@ use fr_base::{Name, Refusal};
 use fr_world::{Records, decide_node};
 use std::alloc::Global;
 
-/// The supplier has a node more, in all variants.
+/// Gives the supplier one more node, in all variants.
 pub(crate) fn add_node<R: Records>(
     alloc: Global,
     records: &mut R,

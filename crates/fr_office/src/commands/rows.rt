@@ -19,13 +19,13 @@ use std::alloc::Global;
 pub(crate) struct BesidePage {
     /// Whether the supplier is there.
     pub(crate) is_there: bool,
-    /// Whether what is to be granted is held.
+    /// Whether somebody holds what is to be granted.
     pub(crate) is_taken: bool,
 }
 
-/// A supplier's rows change in a variant, by what the supplier's page decides, unless it is a grant of
-/// what another supplier holds. The change was checked under the cluster's parameters, and who changes a
-/// frame is there.
+/// Changes a supplier's rows in a variant, as the supplier's page decides. A grant of what another
+/// supplier holds is refused. The change was checked under the cluster's parameters, and a supplier
+/// that changes a frame is there.
 pub(crate) fn change_rows<R: Lender>(
     alloc: Global,
     records: &mut R,
@@ -52,8 +52,9 @@ pub(crate) fn change_rows<R: Lender>(
     records.change(alloc, &edits)
 }
 
-// What is known of the change beside the supplier's page. Who changes a frame asks for itself, and is there. It is asked
-// before the page is lent, since the calls do not say that they leave it lent.
+// What is known of the change beside the supplier's page. A supplier that changes a frame asks for
+// itself, and is there. This is read before the page is lent, since the calls do not say that they
+// leave it lent.
 fn look_beside<R: Records>(
     records: &mut R,
     supplier: Name,

@@ -1,4 +1,4 @@
-//! The integrator's commands by which a supplier joins, or has another key.
+//! The integrator's commands on suppliers: one joins, or has another key.
 ghost use Rattle.fr_base.specs.Step.{add_supplier, set_key};
 ghost use Rattle.fr_office.specs.Carried.{Does, MayLeave};
 ghost use Rattle.std.specs.Prelude.{OnOk};
@@ -7,7 +7,7 @@ use fr_base::{Key, Name, Refusal};
 use fr_world::{Records, decide_key, decide_supplier};
 use std::alloc::Global;
 
-/// The supplier is there from now on, with this key and without nodes. Else `Exists`, `KeyTaken`, `Limit`, the
+/// Adds the supplier, with this key and without nodes. Refusals: `Exists`, `KeyTaken`, `Limit`, the
 /// first that applies.
 pub(crate) fn add_supplier<R: Records>(
     alloc: Global,
@@ -24,8 +24,8 @@ pub(crate) fn add_supplier<R: Records>(
     records.apply(alloc, &[edit])
 }
 
-/// The supplier has this key from now on, and its old one is nobody's. Else `NoSupplier`, `KeyTaken`, the first that
-/// applies.
+/// Gives the supplier this key. Its old key is nobody's. Refusals: `NoSupplier`, `KeyTaken`, the
+/// first that applies.
 pub(crate) fn set_key<R: Records>(
     alloc: Global,
     records: &mut R,

@@ -1,4 +1,5 @@
-//! The rows of a variant that a difference compares: a list for each kind of row, by supplier and frame.
+//! The rows of a variant that a difference compares: for each kind of row a list, by supplier and
+//! frame.
 #![tactic(auto, using(fr_world::proofs::ReadLaws::reads_none, fr_world::proofs::ReadLaws::reads_then))]
 
 ghost use Rattle.std.specs.Prelude.{◌≡◌, ◌++◌, OnOk};
@@ -15,7 +16,7 @@ use fr_base::{FrameRecord, GapRow, Name, NoMemory, PlacementRecord, Refusal, Row
 use fr_world::{FileRecord, KeyedRow, Page};
 use std::alloc::Global;
 
-/// A row of a kind, of which each frame has some.
+/// A kind of rows, of which each frame has some.
 pub(crate) trait ComparedRow: KeyedRow {
     ghost use Rattle.std.specs.List.{flat_map};
     ghost use Rattle.std.specs.Prelude.{◌≡◌, ◌++◌, List, OnOk};
@@ -84,7 +85,7 @@ fn push_records<T: FileRecord + Drop>(page: &Page, rows: &mut Rows<T>) -> Result
     Ok(())
 }
 
-/// The rows of a kind of these suppliers' frames in the variant, one supplier's after another's.
+/// The rows of a kind of these suppliers' frames in the variant, supplier after supplier.
 pub(crate) fn gather_rows<T: ComparedRow + Drop, R: Lender>(
     alloc: Global,
     records: &mut R,

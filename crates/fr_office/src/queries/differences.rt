@@ -1,4 +1,4 @@
-//! In what two variants differ, as a query shows it.
+//! The difference of two variants, as a query shows it.
 #![tactic(auto, using(fr_world::proofs::ReadLaws::reads_none, fr_world::proofs::ReadLaws::reads_then))]
 
 ghost use Rattle.std.specs.Prelude.{◌≡◌, ◌++◌};
@@ -19,8 +19,8 @@ use fr_base::{
 use fr_world::push_differences;
 use std::alloc::Global;
 
-/// The rows in which the variant differs from another one, as the actor sees them: a supplier its own, the integrator
-/// those of all. `NoVariant` where one of them is not there.
+/// The rows in which the variant differs from another one, as the actor sees them: a supplier its
+/// own, the integrator those of all. `NoVariant` where one of the variants is not there.
 pub(crate) fn differences<R: Lender>(
     alloc: Global,
     records: &mut R,
@@ -61,7 +61,7 @@ fn gather_seen<R: Lender>(
     }
 }
 
-// The rows of these suppliers in which the variants differ, by what they are and their keys.
+// The rows of these suppliers in which the variants differ, by kind, then key.
 fn gather<R: Lender>(
     alloc: Global,
     records: &mut R,
@@ -98,8 +98,8 @@ fn compare_grants<R: Lender>(
     Ok(rows)
 }
 
-// Appends the rows of a kind, of these suppliers' frames, in which the variants differ. Where memory is refused, or the
-// records are, some of them may have been appended.
+// Appends the rows of a kind, of these suppliers' frames, in which the variants differ. Where
+// memory or the records are refused, some of them may have been appended.
 fn push_compared<T: ComparedRow + Drop, R: Lender>(
     alloc: Global,
     records: &mut R,

@@ -16,7 +16,7 @@ use fr_base::{Header, Name, NoMemory, Refusal, ReportRows, Rows};
 use fr_world::{FileRecord, Page, Part};
 use std::alloc::Global;
 
-/// The part of this number of the page's records below the header.
+/// The page's records below the header: the part of this number.
 pub(crate) fn page_export(
     alloc: Global,
     page: &Page,
@@ -32,8 +32,8 @@ pub(crate) fn page_export(
     }
 }
 
-/// The part of this number of the records below the header of these suppliers' frames in the variant, one supplier's after
-/// another's.
+/// The records below the header of these suppliers' frames in the variant, supplier after supplier:
+/// the part of this number.
 pub(crate) fn gather_export<R: Lender>(
     alloc: Global,
     records: &mut R,
@@ -61,7 +61,7 @@ pub(crate) fn gather_export<R: Lender>(
     }
 }
 
-// The part of this number of the page's records.
+// The page's records of a kind: the part of this number.
 fn page_part<T: FileRecord + Drop>(
     alloc: Global,
     page: &Page,
@@ -75,7 +75,7 @@ fn page_part<T: FileRecord + Drop>(
     Ok(rows)
 }
 
-// The part of this number of the records of these suppliers' frames in the variant.
+// The records of a kind of these suppliers' frames in the variant: the part of this number.
 fn gather_part<T: FileRecord + Drop, R: Lender>(
     alloc: Global,
     records: &mut R,
@@ -95,8 +95,8 @@ fn gather_part<T: FileRecord + Drop, R: Lender>(
     Ok(rows)
 }
 
-// Appends the records of those of the page's frames that the part takes. Where memory is refused, some of them may have
-// been appended.
+// Appends the records of the page's frames that the part takes. Where memory is refused, some of
+// them may have been appended.
 fn push_part<T: FileRecord + Drop>(
     page: &Page,
     part: &mut Part,

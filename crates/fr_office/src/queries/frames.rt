@@ -31,7 +31,7 @@ pub(crate) fn push_frames(
     Ok(())
 }
 
-/// The frames of these suppliers in the variant, one supplier's after another's.
+/// The frames of these suppliers in the variant, supplier after supplier.
 pub(crate) fn gather_frames<R: Lender>(
     alloc: Global,
     records: &mut R,

@@ -28,7 +28,7 @@ pub(crate) fn push_gaps(page: &Page, rows: &mut Rows<GapRow>) -> Result<(), NoMe
     Ok(())
 }
 
-/// The greatest gaps of these suppliers' frames in the variant, one supplier's after another's.
+/// The greatest gaps of these suppliers' frames in the variant, supplier after supplier.
 pub(crate) fn gather_gaps<R: Lender>(
     alloc: Global,
     records: &mut R,

@@ -33,7 +33,7 @@ pub(crate) fn page_grants(alloc: Global, page: &Page) -> Result<Rows<GrantRow>, 
     Ok(rows)
 }
 
-/// Who of these suppliers holds which slot and channel in the variant, by slot and channel.
+/// Which of these suppliers holds which slot and channel in the variant, by slot and channel.
 pub(crate) fn gather_grants<R: Lender>(
     alloc: Global,
     records: &mut R,

@@ -14,8 +14,8 @@ use fr_base::{Name, NoMemory, Refusal, Rows, SignalRow};
 use fr_world::{Page, push_signal_rows};
 use std::alloc::Global;
 
-/// Appends the signals of the page's frame of this name, by start, and says whether there is such a
-/// frame. Where memory is refused, some of them may have been appended.
+/// Appends the signals of the page's frame of this name, by start. The answer says whether there is
+/// such a frame. Where memory is refused, some of them may have been appended.
 pub(crate) fn push_signals(
     page: &Page,
     name: Name,
@@ -33,7 +33,7 @@ pub(crate) fn push_signals(
     }
 }
 
-/// The signals of these suppliers' frames of this name in the variant, one supplier's after another's;
+/// The signals of these suppliers' frames of this name in the variant, supplier after supplier.
 /// `None` where none of them has such a frame.
 pub(crate) fn gather_signals<R: Lender>(
     alloc: Global,

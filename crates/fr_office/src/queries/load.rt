@@ -13,7 +13,8 @@ use crate::queries::schedule::gather_triggerings;
 use fr_base::{LoadRow, Name, Params, Refusal, Rows};
 use std::alloc::Global;
 
-/// How full each lane of the cluster is in the variant by these suppliers' frames, and who of them holds it.
+/// How full each lane of the cluster is in the variant, by the frames of these suppliers, and which
+/// of them holds it.
 pub(crate) fn gather_load<R: Lender>(
     alloc: Global,
     records: &mut R,

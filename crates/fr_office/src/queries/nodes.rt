@@ -32,7 +32,7 @@ pub(crate) fn node_rows<R: Records>(
     }
 }
 
-// The nodes of these suppliers, one supplier's after another's.
+// The nodes of these suppliers, supplier after supplier.
 fn gather_nodes<R: Records>(
     alloc: Global,
     records: &mut R,

@@ -26,7 +26,7 @@ pub(crate) fn page_schedule(alloc: Global, page: &Page) -> Result<Rows<Sending>,
 }
 
 /// Which of these suppliers' frames is sent in which cycle, slot and channel of the cluster in the
-/// variant: by cycle, slot and channel. Where several have a cell, the first one is sent.
+/// variant: by cycle, slot and channel. Where several frames have a cell, the first one is sent.
 pub(crate) fn gather_schedule<R: Lender>(
     alloc: Global,
     records: &mut R,
@@ -41,7 +41,7 @@ pub(crate) fn gather_schedule<R: Lender>(
     Ok(triggerings.schedule(alloc, params)?)
 }
 
-/// The placements of these suppliers' frames, one supplier's after another's.
+/// The placements of these suppliers' frames, supplier after supplier.
 pub(crate) fn gather_triggerings<R: Lender>(
     alloc: Global,
     records: &mut R,

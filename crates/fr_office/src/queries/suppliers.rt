@@ -1,4 +1,4 @@
-//! Which suppliers there are, for queries that show the rows of all.
+//! The names of the suppliers, for queries that show the rows of all.
 ghost use Rattle.std.specs.Prelude.{◌≡◌, IfOk, map};
 
 use fr_base::{Config, Name, NoMemory};

@@ -1,50 +1,49 @@
 //! Where the lanes of a drawing stand.
-ghost use Rattle.std.specs.Prelude.{◌≡◌, ℕ, ◌+◌, ◌≤◌, Some, None, IfOk};
+ghost use Rattle.std.specs.Prelude.{◌≡◌, ◌+◌, ◌-◌, ◌≤◌, Some, None, IfOk, length, map};
 ghost use Rattle.fr_base.specs.declared.channel.Channels.TheVariants.{AB};
-ghost use Rattle.std.specs.List.{All};
+ghost use Rattle.std.specs.List.{All, count_by};
 ghost use Rattle.std.specs.Vec.{vec_len};
-ghost use Rattle.fr_picture.specs.Places.{AreInOrder, AreNumbered, IsNamed, IsWide, OpensFirst, first_of, shift_of, width_of};
-ghost use Rattle.fr_picture.specs.Shown.{IsMarked, IsShown};
+ghost use Rattle.fr_picture.specs.Places.{AreInOrder, IsBehind, IsNamed, IsWide, OpensFirst, first_of, is_gap, is_slot, lane_width, shift_of, width_of};
 
-use crate::drawing::marks::{Marks, Shows};
+use crate::drawing::marks::Shows;
 use fr_base::{Channels, NoMemory, Params};
 use std::alloc::Global;
 
-// Where the first column of a part stands, behind the numbers of the cycles.
+// The left edge of a part's first column, behind the numbers of the cycles.
 const START: u32 = 4;
 
-/// How large a drawing is, in units of a cycle's height.
+/// The size of a drawing, in units of a cycle's height.
 #[derive(Clone, Copy)]
 pub struct Scale {
     /// How many cycles there are: the height of a lane.
     pub cycles: u32,
     /// The height of a part of the drawing, with the slots' numbers.
     pub height: u32,
-    /// How wide a lane is.
+    /// The width of a lane.
     pub width: u32,
 }
 
-/// Where a slot or a gap stands in a drawing, in units of a cycle's height.
+/// The place of a slot or a gap in a drawing, in units of a cycle's height.
 #[derive(Clone, Copy)]
 pub struct Place {
-    /// The first slot of the part of the drawing that begins here, if one does.
+    /// If a part of the drawing begins here, the part's first slot.
     pub opens: Option<u32>,
-    /// From where on.
+    /// The left edge.
     pub x: u32,
-    /// How wide it is.
+    /// The width.
     pub width: u32,
     /// What is shown there.
     pub shows: Shows,
 }
 
-/// The channels of a cluster, side by side, and how wide a lane is.
+/// The channels of a cluster, side by side, and the width of a lane.
 #[derive(Clone, Copy)]
 pub(crate) struct Bands {
     /// The channels.
     pub(crate) channels: Channels,
-    /// By how much channel B stands further right than channel A.
+    /// How much further right channel B stands than channel A.
     pub(crate) shift: u32,
-    // Where the first channel's lanes end.
+    // The right edge of the first channel's lanes.
     end: u32,
     width: u32,
     ghost shift_in_range: { shift ≤ 68 },
@@ -53,13 +52,13 @@ pub(crate) struct Bands {
 }
 
 impl Bands {
-    /// The channels side by side. Lanes are wide where there are few.
-    pub(crate) fn of(params: &Params, marks: &Marks) -> Bands
+    /// The channels side by side, where this is shown on each. Lanes are wide where there are few.
+    pub(crate) fn of(params: &Params, shown: &[Shows]) -> Bands
         ensures channels { result.channels ≡ params.now.channels }
         ensures shift { result.shift ≡ shift_of params.now.channels }
         ensures whole { result.end + result.shift ≡ 136 }
         ensures beside { params.now.channels ≡ AB → result.shift ≡ result.end }
-        ensures room { 2 ≤ result.width }
+        ensures room { result.width ≡ lane_width (result.end - 4) shown.now }
     {
         let channels = params.channels();
         let (end, shift) = match channels {
@@ -70,11 +69,11 @@ impl Bands {
             channels,
             shift,
             end,
-            width: lane_width(end - START, params.static_slots(), marks),
+            width: lane_width(end - START, shown),
         }
     }
 
-    /// How large the drawing is.
+    /// The size of the drawing.
     pub(crate) fn scale(&self, params: &Params) -> Scale
         ensures { result ≡ record { cycles = params.now.cycles; height = params.now.cycles + 5; width = self.now.width } }
     {
@@ -85,7 +84,7 @@ impl Bands {
         }
     }
 
-    // How wide what is shown is.
+    // The width of a column that shows this.
     fn width_of(&self, shows: Shows) -> u32
         ensures small { result ≤ 12 }
         ensures value { result ≡ width_of self.now.width shows }
@@ -99,21 +98,30 @@ impl Bands {
     }
 }
 
-// How wide a lane is, where slots and gaps share this room: 2 to 12.
-fn lane_width(room: u32, last: u32, marks: &Marks) -> u32
+// How wide a lane is, where all that is shown shares this room: as wide as there is room for all, from 2 to 12.
+#[tactic(auto, unfolding(crate::specs::Places::lane_width))]
+fn lane_width(room: u32, shown: &[Shows]) -> u32
+    ensures value { result ≡ lane_width room shown.now }
     ensures least { 2 ≤ result }
     ensures most { result ≤ 12 }
 {
-    let mut slots: u32 = 0;
-    let mut gaps: u32 = 0;
-    for slot in 1..1024u32 {
-        match marks.shows(last, 1, slot) {
-            Shows::Nothing => (),
-            Shows::Slot(_) => slots = slots.saturating_add(1),
-            Shows::Gap(_, _) => gaps = gaps.saturating_add(1),
-        }
-    }
-    (room.saturating_sub(gaps) / slots.max(1)).max(2).min(12)
+    let free = (room as usize).saturating_sub(count_gaps(shown));
+    let width = free / count_slots(shown).max(1);
+    width.max(2).min(12) as u32
+}
+
+// How many slots are shown.
+fn count_slots(shown: &[Shows]) -> usize
+    ensures { result ≡ count_by is_slot shown.now }
+{
+    shown.iter().filter(|shows| shows.is_slot()).count()
+}
+
+// How many gaps are shown.
+fn count_gaps(shown: &[Shows]) -> usize
+    ensures { result ≡ count_by is_gap shown.now }
+{
+    shown.iter().filter(|shows| shows.is_gap()).count()
 }
 
 // The first of the slots that are shown.
@@ -127,7 +135,8 @@ fn first_of(shows: Shows) -> u32
     }
 }
 
-// The next column, which shows this, where the one before it ends here. A new part begins where it has no room in this one.
+// The next column, which shows this. It stands at `end`, where the one before it ends. Where it has
+// no room there, it begins a new part of the drawing.
 fn column(bands: &Bands, end: u32, shows: Shows) -> Place
     requires { end ≤ bands.now.end }
     ensures shows { result.shows ≡ shows }
@@ -136,7 +145,7 @@ fn column(bands: &Bands, end: u32, shows: Shows) -> Place
     ensures beside { result.x + result.width ≤ bands.now.end }
     ensures within { result.x + result.width ≤ 136 }
     ensures named { IsNamed result }
-    ensures behind { result.opens ≡ None → result.x ≡ end }
+    ensures behind { IsBehind bands.now.end end result }
     ensures unopened { end ≡ bands.now.end → result.opens ≡ None → (result.shows ≡ Shows.Nothing) × (result.x + result.width ≡ bands.now.end) }
 {
     let width = bands.width_of(shows);
@@ -156,18 +165,11 @@ fn column(bands: &Bands, end: u32, shows: Shows) -> Place
     }
 }
 
-/// The columns of a drawing, one for each slot number.
-#[tactic(auto, using(crate::proofs::ColumnLemmas::in_order, crate::proofs::MarkLemmas::showing))]
-pub(crate) fn columns(
-    alloc: Global,
-    params: &Params,
-    marks: &Marks,
-    bands: &Bands,
-) -> Result<Vec<Place>, NoMemory>
-    ensures len { IfOk result (λ columns. vec_len columns ≡ 1023) }
-    ensures order { IfOk result (λ columns. AreInOrder columns.items) }
-    ensures shown { IfOk result (λ columns. (n : ℕ) → IsMarked marks.now.0 n → IsShown columns.items n) }
-    ensures numbered { IfOk result (λ columns. AreNumbered 1 columns.items) }
+/// The columns of a drawing, where this is shown in them, one for each slot number.
+pub(crate) fn columns(alloc: Global, bands: &Bands, shown: &[Shows]) -> Result<Vec<Place>, NoMemory>
+    ensures len { IfOk result (λ columns. vec_len columns ≡ length shown.now) }
+    ensures shown { IfOk result (λ columns. map (λ p. p.shows) columns.items ≡ shown.now) }
+    ensures order { IfOk result (λ columns. AreInOrder bands.now.end bands.now.end columns.items) }
     ensures opened { IfOk result (λ columns. OpensFirst columns.items) }
     ensures named { IfOk result (λ columns. All IsNamed columns.items) }
     ensures wide { IfOk result (λ columns. All (IsWide bands.now.width) columns.items) }
@@ -177,13 +179,9 @@ pub(crate) fn columns(
 {
     let mut columns = Vec::new(alloc);
     let mut end = bands.end;
-    let mut free: u32 = 1;
-    for slot in 1..1024u32 {
-        let next = column(bands, end, marks.shows(params.static_slots(), free, slot));
+    for shows in shown {
+        let next = column(bands, end, *shows);
         end = next.x + next.width;
-        if let Shows::Slot(number) = next.shows {
-            free = number.saturating_add(1);
-        }
         columns.push(next)?;
     }
     Ok(columns)

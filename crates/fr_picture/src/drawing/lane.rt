@@ -15,9 +15,9 @@ use std::alloc::Global;
 /// What is drawn of one slot and channel: who holds it, and what is sent there.
 #[derive(Drop)]
 pub struct Lane {
-    /// Where it stands.
+    /// The place of the lane.
     pub place: Place,
-    /// Who holds it, if anyone.
+    /// The grants of the lane: one, if somebody holds it.
     pub grants: Vec<GrantRow>,
     /// What is sent there, by cycle.
     pub rectangles: Vec<Rectangle>,
@@ -49,7 +49,7 @@ impl Lane {
         }
     }
 
-    /// Draws the cell in this lane: it makes the last rectangle longer, or begins another.
+    /// Draws the cell in this lane: it makes the last rectangle longer, or begins a new one.
     pub(crate) fn add(&mut self, cell: &Sending) -> Result<(), NoMemory>
         ensures cells { OnOk result (lane_cells self.new ≡ lane_cells self.old ++ cell.now ∷ []) }
         ensures grants { self.new.grants ≡ self.old.grants }
@@ -71,7 +71,7 @@ impl Lane {
     }
 }
 
-// Adds the cell to the last rectangle, or a rectangle of its own.
+// Adds the cell to the last rectangle, or as a rectangle of its own.
 fn add_cell(rectangles: &mut Vec<Rectangle>, cell: &Sending) -> Result<(), NoMemory>
     ensures cells { OnOk result (cells_in rectangles.new.items ≡ cells_in rectangles.old.items ++ cell.now ∷ []) }
     ensures apart { OnOk result (AreApart rectangles.old.items → AreApart rectangles.new.items) }
@@ -101,7 +101,8 @@ fn shown_on(channels: Channels, channel: Channel, shows: Shows) -> Shows
     }
 }
 
-/// The lanes of these columns, A before B, in which nothing is drawn. Those of B stand so much further right.
+/// The lanes of these columns, A before B, with nothing drawn in them. Those of B stand further
+/// right by `shift`.
 #[tactic(auto, using(crate::proofs::LaneLemmas::empty_lanes))]
 pub(crate) fn empty_lanes(
     alloc: Global,
@@ -126,7 +127,7 @@ pub(crate) fn empty_lanes(
     Ok(lanes)
 }
 
-// The two lanes more of a column, in which nothing is drawn.
+// Appends the two lanes of a column, with nothing drawn in them.
 fn push_column(
     alloc: Global,
     channels: Channels,

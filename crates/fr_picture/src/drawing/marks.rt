@@ -1,19 +1,40 @@
-//! Which slots are shown.
-ghost use Rattle.std.specs.Prelude.{◌≡◌, ℕ, ◌<◌};
-ghost use Rattle.std.specs.List.{All};
-ghost use Rattle.fr_picture.specs.Shown.{IsMarked};
+//! Which slots are held or used, and what is shown at the place of each slot.
+ghost use Rattle.std.specs.Prelude.{◌≡◌, ℕ, ◌+◌, ◌<◌, Bool, false, ◌||◌, nat_eq, slice_index_or, IfOk};
+ghost use Rattle.std.specs.List.{list_any};
+ghost use Rattle.std.specs.Vec.{vec_len};
+ghost use Rattle.fr_picture.specs.Places.{is_gap, is_slot};
+ghost use Rattle.fr_picture.specs.Shown.{first_free, is_used, shown_of, shows_at};
 
-use fr_base::{GrantRow, Sending, Slot};
+use fr_base::{GrantRow, NoMemory, Sending, Slot};
+use std::alloc::Global;
 
 /// What is shown at a slot's place.
 #[derive(Clone, Copy)]
 pub enum Shows {
-    /// Nothing: it is inside a gap.
+    /// Nothing: the place is inside a gap.
     Nothing,
     /// The lane of this slot.
     Slot(u32),
-    /// One gap for the slots from the first to the last, which nobody holds.
+    /// A gap: from its first slot to its last, which nobody holds or uses.
     Gap(u32, u32),
+}
+
+impl Shows {
+    /// Whether it is a slot's lane.
+    #[tactic(auto, unfolding(crate::specs::Places::is_slot))]
+    pub(crate) fn is_slot(&self) -> bool
+        ensures { result ≡ is_slot self.now }
+    {
+        matches!(self, Shows::Slot(_))
+    }
+
+    /// Whether it is a gap.
+    #[tactic(auto, unfolding(crate::specs::Places::is_gap))]
+    pub(crate) fn is_gap(&self) -> bool
+        ensures { result ≡ is_gap self.now }
+    {
+        matches!(self, Shows::Gap(_, _))
+    }
 }
 
 /// For each slot's number whether it is held or used.
@@ -22,9 +43,9 @@ pub(crate) struct Marks([bool; 1025]);
 
 impl Marks {
     /// Which slots are held or used.
+    #[tactic(auto, unfolding(crate::specs::Shown::is_used))]
     pub(crate) fn of(grants: &[GrantRow], cells: &[Sending]) -> Marks
-        ensures grants { All (λ g. IsMarked result.0 g.slot) grants.now }
-        ensures cells { All (λ s. IsMarked result.0 s.slot) cells.now }
+        ensures { (n : ℕ) → slice_index_or result.0 n false ≡ is_used grants.now cells.now n }
     {
         let mut marks = [false; 1025];
         mark_grants(&mut marks, grants);
@@ -32,14 +53,29 @@ impl Marks {
         Marks(marks)
     }
 
-    /// What is shown of the slot, where the slots from `free` on up to it are free unless it is marked. Behind the last slot of the
-    /// cluster there is no gap.
-    #[tactic(auto, unfolding(crate::specs::Shown::IsMarked))]
-    pub(crate) fn shows(&self, last: u32, free: u32, slot: u32) -> Shows
+    /// What is shown at the places of the slots 1 to 1,023, where the cluster has so many.
+    pub(crate) fn shown(&self, alloc: Global, last: u32) -> Result<Vec<Shows>, NoMemory>
+        ensures len { IfOk result (λ shown. vec_len shown ≡ 1023) }
+        ensures value { (used : ℕ → Bool) → ((n : ℕ) → slice_index_or self.now.0 n false ≡ used n) → IfOk result (λ shown. shown.items ≡ shown_of used last) }
+    {
+        let mut shown = Vec::new(alloc);
+        let mut free: u32 = 1;
+        for slot in 1..1024u32 {
+            let next = self.shows(last, free, slot);
+            if next.is_slot() {
+                free = slot + 1;
+            }
+            shown.push(next)?;
+        }
+        Ok(shown)
+    }
+
+    // What is shown at the place of a slot, where the slots from `free` on up to it are free unless it is marked.
+    #[tactic(auto, unfolding(crate::specs::Shown::shows_at))]
+    fn shows(&self, last: u32, free: u32, slot: u32) -> Shows
         requires { slot < 1024 }
-        ensures marked { IsMarked self.now.0 slot → result ≡ Shows.Slot slot }
-        ensures slot { (n : ℕ) → result ≡ Shows.Slot n → n ≡ slot }
-        ensures gap { (first last : ℕ) → result ≡ Shows.Gap first last → (first ≡ free) × (last ≡ slot) }
+        ensures { (used : ℕ → Bool) → ((n : ℕ) → slice_index_or self.now.0 n false ≡ used n) → (n : ℕ) → slot ≡ n + 1 → free ≡ first_free used n
+            → result ≡ shows_at used last slot }
     {
         let here = slot as usize;
         if self.0[here] {
@@ -54,7 +90,7 @@ impl Marks {
 
 // Marks the slots that are held.
 fn mark_grants(marks: &mut [bool; 1025], grants: &[GrantRow])
-    ensures marked { All (λ g. IsMarked marks.new g.slot) grants.now }
+    ensures { (n : ℕ) → slice_index_or marks.new n false ≡ (slice_index_or marks.old n false || list_any (λ g. nat_eq g.slot n) grants.now) }
 {
     for grant in grants {
         mark(marks, grant.slot);
@@ -63,8 +99,7 @@ fn mark_grants(marks: &mut [bool; 1025], grants: &[GrantRow])
 
 // Marks the slots that are used.
 fn mark_cells(marks: &mut [bool; 1025], cells: &[Sending])
-    ensures marked { All (λ s. IsMarked marks.new s.slot) cells.now }
-    ensures others { (n : ℕ) → IsMarked marks.old n → IsMarked marks.new n }
+    ensures { (n : ℕ) → slice_index_or marks.new n false ≡ (slice_index_or marks.old n false || list_any (λ s. nat_eq s.slot n) cells.now) }
 {
     for cell in cells {
         mark(marks, cell.slot);
@@ -74,8 +109,7 @@ fn mark_cells(marks: &mut [bool; 1025], cells: &[Sending])
 // Marks the slot.
 #[tactic(auto, using(crate::proofs::MarkLemmas::marking))]
 fn mark(marks: &mut [bool; 1025], slot: Slot)
-    ensures marked { IsMarked marks.new slot }
-    ensures others { (n : ℕ) → IsMarked marks.old n → IsMarked marks.new n }
+    ensures { (n : ℕ) → slice_index_or marks.new n false ≡ (slice_index_or marks.old n false || nat_eq slot n) }
 {
     marks[slot.get() as usize] = true;
 }

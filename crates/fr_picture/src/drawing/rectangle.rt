@@ -4,7 +4,8 @@ ghost use Rattle.fr_picture.specs.Rectangles.{Meets, cells_of, later};
 
 use fr_base::Sending;
 
-/// Cells of one frame in one slot and channel, in cycles one after the other: one rectangle of the drawing.
+/// Cells of one frame in one slot and channel, in cycles that follow one another. They make one
+/// rectangle of the drawing.
 #[derive(Clone, Copy)]
 pub struct Rectangle {
     /// The cell in the least cycle.
@@ -23,7 +24,7 @@ impl Rectangle {
         Rectangle { first, cycles: 1 }
     }
 
-    /// Whether the cell goes on where the rectangle ends, in the same slot and channel and of the same frame.
+    /// Whether the cell follows the rectangle, in the same slot and channel and of the same frame.
     pub(crate) fn meets(&self, cell: &Sending) -> bool
         ensures value { IsTrue result ↔ Meets self.now cell.now }
         ensures small { IsTrue result → self.now.cycles < 256 }
@@ -36,7 +37,7 @@ impl Rectangle {
         end == u64::from(cell.cycle) && here == *cell
     }
 
-    /// The rectangle with the cell of one more cycle.
+    /// The rectangle with one more cycle.
     #[tactic(auto, using(crate::proofs::RectangleLemmas::longer_cells))]
     pub(crate) fn longer(self) -> Rectangle
         requires { self.cycles < 256 }

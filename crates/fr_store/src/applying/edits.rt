@@ -65,7 +65,8 @@ pub fn carry_out<S: Alter>(tx: &mut Transaction<'_, S>, edit: &Edit) -> Result<(
     }
 }
 
-// Opens the variant: empty, or stored over its parent, with the same grants and no frames of its own.
+// Opens the variant: empty, or laid over its parent, with the parent's grants and no frames of its
+// own.
 fn open_variant<S: Alter>(
     tx: &mut Transaction<'_, S>,
     variant: &Name,

@@ -15,7 +15,8 @@ use fr_base::{FrameChange, Name};
 use fr_tables::tables::{dropped, frames, placements, signals};
 use sqlite::{Alter, Transaction};
 
-/// Changes the frame. Before its placements or signals change it is the variant's own.
+/// Changes the frame. Where the variant only shows its parent's frame, it gets its own copy before
+/// placements or signals change.
 pub fn change_frame<S: Alter>(
     tx: &mut Transaction<'_, S>,
     variant: &Name,
@@ -58,7 +59,8 @@ pub fn change_frame<S: Alter>(
     }
 }
 
-// Drops the frame with its placements and signals. A variant that is stored over its parent then has not the parent's either.
+// Drops the frame with its placements and signals. A variant that is laid over its parent does not
+// show the parent's frame any more.
 fn drop_frame<S: Alter>(
     tx: &mut Transaction<'_, S>,
     variant: &Name,

@@ -1,4 +1,4 @@
-//! The config after edits by which suppliers join or have other keys.
+//! The config after edits. A supplier may have joined, or have another key.
 
 ghost use Rattle.std.specs.Prelude.{◌≡◌, IfErr, IfOk, unwrap_or};
 ghost use Rattle.fr_base.specs.Joining.{joined};
@@ -11,8 +11,9 @@ use fr_base::{Config, Key, Name, Supplier};
 use fr_world::Edit;
 use std::alloc::Global;
 
-/// The config with the suppliers that join by the edits, and the keys that they give; none where no supplier joins
-/// or has another key. `Unavailable` where one may not, or memory is refused.
+/// The config with the suppliers that join by the edits and the keys that they give. None where no
+/// supplier joins or has another key. `Unavailable` where the config refuses one, or memory is
+/// refused.
 pub fn config_after(
     alloc: Global,
     config: &Config,
@@ -31,7 +32,7 @@ pub fn config_after(
     Ok(after)
 }
 
-// The config after the edit; none where it stays as it was.
+// The config after the edit. None where the config stays as it was.
 fn after_one(alloc: Global, config: &Config, edit: &Edit) -> Result<Option<Config>, StoreFault>
     ensures after { IfOk result (λ after. unwrap_or after config.now ≡ after_edit config.now edit.now) }
     ensures refused { IfErr result (λ fault. fault ≡ Unavailable) }
@@ -49,7 +50,7 @@ fn after_one(alloc: Global, config: &Config, edit: &Edit) -> Result<Option<Confi
     }
 }
 
-// The config with one supplier more.
+// The config with one more supplier.
 fn with_one(alloc: Global, config: &Config, name: Name, key: Key) -> Result<Config, StoreFault>
     ensures with { IfOk result (λ new. new ≡ joined config.now name key) }
     ensures refused { IfErr result (λ fault. fault ≡ Unavailable) }

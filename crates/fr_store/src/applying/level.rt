@@ -1,4 +1,4 @@
-//! How a variant is stored, asked inside a transaction.
+//! How a variant is stored, read inside a transaction.
 
 ghost use Rattle.std.specs.Prelude.{◌≡◌, IfErr, IfSome};
 ghost use Rattle.sqlite.specs.Order.{column};
@@ -23,7 +23,7 @@ pub struct Level {
     pub overlay: bool,
 }
 
-// What the row says. None where it has not its form.
+// What the row says. None where it has not the form.
 fn level_of(row: &Row) -> Option<Level>
     ensures parent { IfSome result (λ level. column row.now 1 ≡ of_maybe level.parent) }
     ensures overlay { IfSome result (λ level. column row.now 4 ≡ Int (flag level.overlay)) }
@@ -34,7 +34,7 @@ fn level_of(row: &Row) -> Option<Level>
     })
 }
 
-/// How the variant is stored. One that is not there is `Unavailable`.
+/// How the variant is stored. `Unavailable` where it is not there.
 pub fn read_level<S: Alter>(
     tx: &mut Transaction<'_, S>,
     variant: &Name,

@@ -30,8 +30,8 @@ fn is_own<S: Alter>(
     Ok(!rows.is_empty())
 }
 
-/// The nearest level, from the variant upward, that has the frame as its own. Where there is none within
-/// the depth that a variant may have, it is `Unavailable`.
+/// The first variant that has the frame as its own, from this one on, parent after parent.
+/// `Unavailable` where none has it within the depth that a variant may have.
 fn owner<S: Alter>(
     tx: &mut Transaction<'_, S>,
     variant: &Name,
@@ -55,7 +55,7 @@ fn owner<S: Alter>(
     Err(StoreFault::Unavailable)
 }
 
-/// Adds all rows of the one variant's frame for the other.
+/// Copies all rows of one variant's frame into another variant.
 fn copy_frame<S: Alter>(
     tx: &mut Transaction<'_, S>,
     from: &Name,
@@ -72,7 +72,8 @@ fn copy_frame<S: Alter>(
     tables::signals::copy_one(tx, from, to, supplier, frame)
 }
 
-/// Makes the frame, which the variant shows, its own: where it is only a parent's, it is copied whole.
+/// Makes the frame the variant's own. Where the variant only shows its parent's frame, that is
+/// copied whole.
 pub fn make_own<S: Alter>(
     tx: &mut Transaction<'_, S>,
     variant: &Name,

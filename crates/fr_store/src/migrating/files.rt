@@ -16,8 +16,8 @@ use sqlite_disk::Disk;
 use std::alloc::Global;
 use std::rt::HostRuntime;
 
-/// Makes the register of the schema before that the files hold one of this schema, as `migrate_on` does. A refusal
-/// gives the files back, unless they fail to close.
+/// Makes the register of the schema before that the files hold one of this schema, as `migrate_on` does. A refusal may
+/// give the files back.
 pub fn migrate<D: Disk + Drop>(
     alloc: Global,
     files: Files<D>,
@@ -47,8 +47,9 @@ pub fn migrate<D: Disk + Drop>(
 }
 
 /// Makes the register of the schema before in the file at a path one of this schema, as `migrate_on` does. `start`
-/// says what is supposed of the file. Where there is no file it is NotARegister, and a database with no table is then
-/// there. It gives the files back, and a refusal what is left of them, unless they were not opened or fail to close.
+/// says what the file held as it was opened. It gives the files back, and a refusal may give what is left of them.
+///
+/// No clause reaches the path. Where there is no file it is NotARegister, and a database with no table is then there.
 pub fn migrate_at<S: Start>(
     rt: &HostRuntime,
     path: &str,

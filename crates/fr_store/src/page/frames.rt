@@ -1,4 +1,4 @@
-//! A supplier's frames among a variant's own, from their rows in the tables.
+//! The supplier's frames that are a variant's own, from their rows in the tables.
 
 ghost use Rattle.fr_base.specs.Layouts.{IsLayout};
 ghost use Rattle.std.specs.Prelude.{IsPermutation, IsSorted, IsTrue, ◌≤◌, ◌≡◌, bytes_eq, filter, map, reverse, IfErr, IfSome};
@@ -27,7 +27,7 @@ use std::alloc::Global;
 use std::cmp::Ordering;
 use std::collections::{BTreeMap, BTreeSet};
 
-/// The supplier's frames among the variant's own, by their names.
+/// The supplier's frames that are the variant's own, by their names.
 pub(super) fn own_frames<S: Alter>(
     alloc: Global,
     conn: &mut Connection<S>,
@@ -43,7 +43,8 @@ pub(super) fn own_frames<S: Alter>(
     frames_of(alloc, params, &rows).ok_or(StoreFault::Unavailable)
 }
 
-// What the tables have of a supplier's frames among a variant's own, each list by the frame's name, which is
+// The rows of a supplier's frames that are a variant's own: those of the frames, of their
+// placements and of their signals. Each list is in the order of the frames' names, which stand in
 // the first column.
 #[derive(Drop)]
 struct FrameRows {
@@ -52,7 +53,7 @@ struct FrameRows {
     signals: Vec<Row>,
 }
 
-// One query each.
+// Reads the rows, with one query for each list.
 fn frame_rows<S: Alter>(
     conn: &mut Connection<S>,
     variant: &Name,
@@ -72,8 +73,8 @@ fn frame_rows<S: Alter>(
     })
 }
 
-// The frames in the rows. None where a row of one has not its form, the signals of one make no layout, or
-// memory is refused.
+// The frames in the rows. None where a row has not the form, where the signals of a frame make no
+// layout, or where memory is refused.
 fn frames_of(alloc: Global, params: &Params, rows: &FrameRows) -> Option<BTreeMap<Name, PageFrame>>
     ensures { IfSome result (λ frames. (v s : Name) (t : Tables) → AreFrameRows v s t rows.now → TellsFrames params.now.cycles v s t (frames_data frames.entries)) }
 {
@@ -96,7 +97,8 @@ fn names_in(row: &Row) -> Option<(Name, Name)>
     Some((name_at(row, 0)?, name_at(row, 1)?))
 }
 
-// The placements in the rows, each of so many cycles. None where a row has not its form, or memory is refused.
+// The placements in the rows, each with this count of cycles. None where a row has not the form, or
+// memory is refused.
 fn placements_of(alloc: Global, count: u32, rows: &[Row]) -> Option<BTreeSet<Placement>>
     requires { IsTrue (is_cycle_count count) }
     ensures { IfSome result (λ placements. set_of placement_order (λ q. q) placements.keys ≡ set_of placement_order (λ q. q) (map (placement_shown count) (reverse rows.now))) }
@@ -121,8 +123,8 @@ fn placement_of(count: u32, row: &Row) -> Option<Placement>
     })
 }
 
-// The layout of the signals in the rows. None where a row has not its form, the signals make no layout of
-// such a payload, or memory is refused.
+// The layout of the signals in the rows. None where a row has not the form, where the signals make
+// no layout of such a payload, or where memory is refused.
 fn layout_of(alloc: Global, payload_words: u32, rows: &[Row]) -> Option<Layout>
     requires { payload_words ≤ 127 }
     ensures words { IfSome result (λ layout. layout.words ≡ payload_words) }
@@ -157,7 +159,7 @@ fn signal_of(row: &Row) -> Option<Signal>
     .ok()
 }
 
-// The frame of this name and node.
+// The frame of this name and node, with its placements and signals among the rows.
 fn frame_of(
     alloc: Global,
     params: &Params,
@@ -176,7 +178,7 @@ fn frame_of(
     })
 }
 
-// Those of the rows, which stand by their frames' names, that are this frame's.
+// The rows of this frame. The rows stand in the order of their frames' names.
 fn rows_of<'rows>(rows: &'rows [Row], frame: &Name) -> &'rows [Row]
     ensures { IsSorted (on name_shown text_cmp) rows.now → result.now ≡ filter (λ r. bytes_eq (name_shown r) frame.now) rows.now }
 {
@@ -194,7 +196,7 @@ fn rows_of<'rows>(rows: &'rows [Row], frame: &Name) -> &'rows [Row]
     &others[..to]
 }
 
-// How the name in the row's first column stands to this one.
+// How the name in the row's first column compares with this one.
 fn compare(row: &Row, name: &Name) -> Ordering
     ensures { result ≡ text_cmp (name_shown row.now) name.now }
 {

@@ -1,4 +1,5 @@
-//! The frames that a variant shows: its own, and where it is laid over its parent also those of the parent.
+//! The frames that a variant shows: its own, and where it is laid over its parent also the
+//! parent's.
 
 ghost use Rattle.std.specs.Prelude.{◌≡◌, bytes_eq, option_map, slice_get, None, IfErr, IfOk, IfSome, if◌then◌else◌};
 ghost use Rattle.std.specs.List.{list_any};
@@ -30,8 +31,9 @@ pub(super) struct View {
     pub(super) frames: BTreeMap<Name, PageFrame>,
 }
 
-/// The supplier's view of the variant, if the variant is there. `Unavailable` where more than so many variants
-/// are laid one over the other, as where they are one another's parents. The depths in their rows play no part.
+/// The supplier's view of the variant, if the variant is there. `Unavailable` where more variants
+/// than a depth allows are laid one over another, also where they are one another's parents. The
+/// depths in their rows play no part.
 pub(super) fn view_of<S: Alter>(
     alloc: Global,
     conn: &mut Connection<S>,
@@ -59,14 +61,15 @@ pub(super) fn view_of<S: Alter>(
     Ok(Some(View { released, frames }))
 }
 
-// What a variant's row says of it: whether it is released, and the parent over which it is laid, if it is over one.
+// What a variant's row says: whether the variant is released, and the parent over which it is
+// laid, if it is laid over one.
 #[derive(Drop)]
 struct Level {
     released: bool,
     parent: Option<Name>,
 }
 
-// The variant's row, if the variant is there.
+// What the variant's row says, if the variant is there.
 fn level_of<S: Alter>(conn: &mut Connection<S>, variant: &Name) -> Result<Option<Level>, StoreFault>
     ensures told { Reads (TellsLevel variant.now) (state S.Store conn.old) (state S.Store conn.new) result }
     ensures refused { IfErr result (λ fault. fault ≡ Unavailable) }
@@ -76,7 +79,7 @@ fn level_of<S: Alter>(conn: &mut Connection<S>, variant: &Name) -> Result<Option
     first_level(rows.as_slice())
 }
 
-// What the first row says, if there is one. `Unavailable` where it has not its form.
+// What the first row says, if there is one. `Unavailable` where it has not the form.
 fn first_level(rows: &[Row]) -> Result<Option<Level>, StoreFault>
     ensures level { IfOk result (λ found. found ≡ option_map level_shown (slice_get rows.now 0)) }
     ensures refused { IfErr result (λ fault. fault ≡ Unavailable) }
@@ -97,7 +100,8 @@ fn level_in(row: &Row) -> Option<Level>
     Some(Level { released, parent })
 }
 
-// The variant's own frames, and of those in its parent the others that were not dropped.
+// The variant's own frames, with those that its parent shows and the variant neither has nor
+// dropped.
 fn lay_over<S: Alter>(
     alloc: Global,
     conn: &mut Connection<S>,
@@ -119,7 +123,7 @@ fn lay_over<S: Alter>(
     join(own, kept).ok_or(StoreFault::Unavailable)
 }
 
-// The frames of which no row has the name. None where a row has not its form.
+// The frames whose names no row has. None where a row has not the form.
 fn without(mut frames: BTreeMap<Name, PageFrame>, rows: &[Row]) -> Option<BTreeMap<Name, PageFrame>>
     ensures { IfSome result (λ kept. (n : _) → frame_at n kept.entries ≡ if list_any (λ r. bytes_eq (name_shown r) n) rows.now then None else frame_at n frames.entries) }
 {
@@ -129,7 +133,8 @@ fn without(mut frames: BTreeMap<Name, PageFrame>, rows: &[Row]) -> Option<BTreeM
     Some(frames)
 }
 
-// The variant's own frames, and the others whose names none of these has. None where memory is refused.
+// The variant's own frames, with the others whose names none of them has. None where memory is
+// refused.
 fn join(
     mut own: BTreeMap<Name, PageFrame>,
     mut others: BTreeMap<Name, PageFrame>,

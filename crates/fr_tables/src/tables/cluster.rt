@@ -1,4 +1,4 @@
-//! The one row that said what the cluster is, in the schema before.
+//! The one row that says what the cluster is, in a register of the schema before.
 
 ghost use Rattle.std.specs.Prelude.{◌≡◌};
 ghost use Rattle.sqlite.specs.State.{Survives};
@@ -17,8 +17,8 @@ pub fn delete<S: Alter>(tx: &mut Transaction<'_, S>) -> Result<usize, Error>
     tx.execute("DELETE FROM cluster", &[])
 }
 
-/// The cluster that it says, asked inside a transaction.
-pub fn all_inside<S: Alter>(tx: &mut Transaction<'_, S>) -> Result<Vec<Row>, Error>
+/// The row, read inside a transaction.
+pub fn row_inside<S: Alter>(tx: &mut Transaction<'_, S>) -> Result<Vec<Row>, Error>
     ensures same_reference { tx.new.conn.ghost_name ≡ tx.old.conn.ghost_name }
     ensures listed { Finds shows_cluster every any_order (λ t. t.cluster) (state S.Store tx.old.conn.now) (state S.Store tx.new.conn.now) result }
     ensures survives { Survives (state S.Store tx.old.conn.now) (state S.Store tx.new.conn.now) (λ _. ⊥) }

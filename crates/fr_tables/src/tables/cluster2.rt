@@ -9,7 +9,7 @@ ghost use Rattle.fr_tables.specs.Statements.{with_cluster2, cluster2_row, shows_
 use fr_base::{Key, Params};
 use sqlite::{Alter, Error, Row, Transaction, params};
 
-/// Adds the row of a cluster with none. It gets the number 1.
+/// Adds the row, to a register that has none. It gets the number 1.
 pub fn insert<S: Alter>(
     tx: &mut Transaction<'_, S>,
     of: &Params,
@@ -36,8 +36,8 @@ pub fn insert<S: Alter>(
     )
 }
 
-/// The cluster that it says, asked inside a transaction.
-pub fn all_inside<S: Alter>(tx: &mut Transaction<'_, S>) -> Result<Vec<Row>, Error>
+/// The row, read inside a transaction.
+pub fn row_inside<S: Alter>(tx: &mut Transaction<'_, S>) -> Result<Vec<Row>, Error>
     ensures same_reference { tx.new.conn.ghost_name ≡ tx.old.conn.ghost_name }
     ensures listed { Finds shows_cluster2 every any_order (λ t. t.cluster2) (state S.Store tx.old.conn.now) (state S.Store tx.new.conn.now) result }
     ensures survives { Survives (state S.Store tx.old.conn.now) (state S.Store tx.new.conn.now) (λ _. ⊥) }

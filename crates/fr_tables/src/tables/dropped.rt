@@ -9,7 +9,8 @@ ghost use Rattle.fr_tables.specs.Statements.{with_dropped, is_dropped_by, shows_
 use fr_base::Name;
 use sqlite::{Alter, Connection, Error, Row, Transaction, params};
 
-/// Says that the variant has not its parent's frame of this name. Nothing is done where that is said already.
+/// Notes that the variant has not its parent's frame of this name. Nothing changes where that is
+/// noted already.
 pub fn insert<S: Alter>(
     tx: &mut Transaction<'_, S>,
     variant: &Name,
@@ -26,7 +27,7 @@ pub fn insert<S: Alter>(
     )
 }
 
-/// The names of the dropped frames of the supplier, in byte order.
+/// The names of the supplier's frames that the variant has not, in byte order.
 pub fn of_supplier<S: Alter>(
     conn: &mut Connection<S>,
     variant: &Name,

@@ -49,7 +49,7 @@ pub fn delete<S: Alter>(
     )
 }
 
-/// Adds the frame of the one variant for the other.
+/// Copies the frame of one variant into another.
 pub fn copy_one<S: Alter>(
     tx: &mut Transaction<'_, S>,
     from: &Name,
@@ -82,7 +82,7 @@ pub fn of_supplier<S: Alter>(
     )
 }
 
-/// The frame: name and node, asked inside a transaction.
+/// The frame, read inside a transaction: name and node.
 pub fn one_inside<S: Alter>(
     tx: &mut Transaction<'_, S>,
     variant: &Name,

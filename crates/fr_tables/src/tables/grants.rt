@@ -53,7 +53,7 @@ pub fn delete<S: Alter>(
     )
 }
 
-/// Adds each grant of the one variant for the other.
+/// Copies each grant of one variant into another.
 pub fn copy<S: Alter>(
     tx: &mut Transaction<'_, S>,
     parent: &Name,

@@ -34,7 +34,7 @@ pub fn insert<S: Alter>(
     )
 }
 
-/// The import that the supplier has under the label: variant, body and rows.
+/// The import that the supplier keeps under the label: variant, body and rows.
 pub fn one<S: Alter>(
     conn: &mut Connection<S>,
     supplier: &Name,

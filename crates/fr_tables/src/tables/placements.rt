@@ -61,7 +61,7 @@ pub fn delete<S: Alter>(
     )
 }
 
-/// Adds the placements of the frame of the one variant for the other.
+/// Copies the placements of a frame from one variant into another.
 pub fn copy_one<S: Alter>(
     tx: &mut Transaction<'_, S>,
     from: &Name,

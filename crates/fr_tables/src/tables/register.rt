@@ -1,28 +1,20 @@
-//! The one row that says of which schema the tables are.
+//! The one row that says which schema the tables have.
 
 ghost use Rattle.std.specs.Prelude.{◌≡◌, pos};
 ghost use Rattle.sqlite.specs.State.{Survives};
 ghost use Rattle.sqlite.specs.Held.{state};
-ghost use Rattle.fr_tables.specs.Changes.{Makes, Finds, Spares};
-ghost use Rattle.fr_tables.specs.Statements.{with_number, with_register, shows_register, every, any_order};
+ghost use Rattle.fr_tables.specs.Changes.{Makes};
+ghost use Rattle.fr_tables.specs.Statements.{with_number, with_register};
 
-use sqlite::{Alter, Connection, Error, Row, Transaction, params};
+use sqlite::{Alter, Error, Transaction, params};
 
-/// Adds the row of a register with none. It gets the number 1.
+/// Adds the row, to a register that has none. It gets the number 1.
 pub fn insert<S: Alter>(tx: &mut Transaction<'_, S>, schema: u32) -> Result<usize, Error>
     ensures same_reference { tx.new.conn.ghost_name ≡ tx.old.conn.ghost_name }
     ensures added { Makes (with_register (record { schema = pos schema })) (state S.Store tx.old.conn.now) (state S.Store tx.new.conn.now) result }
     ensures survives { Survives (state S.Store tx.old.conn.now) (state S.Store tx.new.conn.now) (λ _. ⊥) }
 {
     tx.execute("INSERT INTO register (schema) VALUES (?1)", params![schema])
-}
-
-/// The schema's number.
-pub fn all<S: Alter>(conn: &mut Connection<S>) -> Result<Vec<Row>, Error>
-    ensures listed { Finds shows_register every any_order (λ t. t.register) (state S.Store conn.old) (state S.Store conn.new) result }
-    ensures spares { Spares (state S.Store conn.old) (state S.Store conn.new) }
-{
-    conn.query_all("SELECT schema FROM register", &[])
 }
 
 /// Gives the row another number.

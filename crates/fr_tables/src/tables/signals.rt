@@ -9,7 +9,7 @@ ghost use Rattle.fr_tables.specs.Statements.{with_signal, without_signal, with_s
 use fr_base::{Name, Order, Signal};
 use sqlite::{Alter, Connection, Error, Row, Transaction, params};
 
-/// The number that the column `big` has.
+/// The number of the order in the column `big`.
 fn big(order: Order) -> u32
     ensures { pos result ≡ big_number order }
 {
@@ -68,7 +68,7 @@ pub fn delete<S: Alter>(
     )
 }
 
-/// Adds the signals of the frame of the one variant for the other.
+/// Copies the signals of a frame from one variant into another.
 pub fn copy_one<S: Alter>(
     tx: &mut Transaction<'_, S>,
     from: &Name,

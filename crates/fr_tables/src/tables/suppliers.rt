@@ -3,11 +3,11 @@
 ghost use Rattle.std.specs.Prelude.{◌≡◌};
 ghost use Rattle.sqlite.specs.State.{Survives};
 ghost use Rattle.sqlite.specs.Held.{state};
-ghost use Rattle.fr_tables.specs.Changes.{Makes, Finds, Spares};
+ghost use Rattle.fr_tables.specs.Changes.{Makes, Finds};
 ghost use Rattle.fr_tables.specs.Statements.{with_supplier, with_key, shows_supplier, suppliers_cmp, every};
 
 use fr_base::{Key, Name};
-use sqlite::{Alter, Connection, Error, Row, Transaction, params};
+use sqlite::{Alter, Error, Row, Transaction, params};
 
 /// Adds a supplier.
 pub fn insert<S: Alter>(tx: &mut Transaction<'_, S>, name: &Name, key: &Key) -> Result<usize, Error>
@@ -37,16 +37,8 @@ pub fn set_key<S: Alter>(
     )
 }
 
-/// All suppliers, by name.
-pub fn all<S: Alter>(conn: &mut Connection<S>) -> Result<Vec<Row>, Error>
-    ensures listed { Finds shows_supplier every suppliers_cmp (λ t. t.suppliers) (state S.Store conn.old) (state S.Store conn.new) result }
-    ensures spares { Spares (state S.Store conn.old) (state S.Store conn.new) }
-{
-    conn.query_all("SELECT name, key FROM suppliers ORDER BY name", &[])
-}
-
 /// All suppliers, by name, asked inside a transaction.
-pub fn all_inside<S: Alter>(tx: &mut Transaction<'_, S>) -> Result<Vec<Row>, Error>
+pub fn by_name_inside<S: Alter>(tx: &mut Transaction<'_, S>) -> Result<Vec<Row>, Error>
     ensures same_reference { tx.new.conn.ghost_name ≡ tx.old.conn.ghost_name }
     ensures listed { Finds shows_supplier every suppliers_cmp (λ t. t.suppliers) (state S.Store tx.old.conn.now) (state S.Store tx.new.conn.now) result }
     ensures survives { Survives (state S.Store tx.old.conn.now) (state S.Store tx.new.conn.now) (λ _. ⊥) }

@@ -46,7 +46,7 @@ pub fn release<S: Alter>(tx: &mut Transaction<'_, S>, name: &Name) -> Result<usi
 }
 
 /// All variants, by name.
-pub fn all<S: Alter>(conn: &mut Connection<S>) -> Result<Vec<Row>, Error>
+pub fn by_name<S: Alter>(conn: &mut Connection<S>) -> Result<Vec<Row>, Error>
     ensures listed { Finds shows_variant every variants_cmp (λ t. t.variants) (state S.Store conn.old) (state S.Store conn.new) result }
     ensures spares { Spares (state S.Store conn.old) (state S.Store conn.new) }
 {
@@ -56,8 +56,8 @@ pub fn all<S: Alter>(conn: &mut Connection<S>) -> Result<Vec<Row>, Error>
     )
 }
 
-/// All variants, by name, asked inside a transaction.
-pub fn all_inside<S: Alter>(tx: &mut Transaction<'_, S>) -> Result<Vec<Row>, Error>
+/// All variants, by name, read inside a transaction.
+pub fn by_name_inside<S: Alter>(tx: &mut Transaction<'_, S>) -> Result<Vec<Row>, Error>
     ensures same_reference { tx.new.conn.ghost_name ≡ tx.old.conn.ghost_name }
     ensures listed { Finds shows_variant every variants_cmp (λ t. t.variants) (state S.Store tx.old.conn.now) (state S.Store tx.new.conn.now) result }
     ensures survives { Survives (state S.Store tx.old.conn.now) (state S.Store tx.new.conn.now) (λ _. ⊥) }
@@ -79,7 +79,7 @@ pub fn one<S: Alter>(conn: &mut Connection<S>, name: &Name) -> Result<Vec<Row>, 
     )
 }
 
-/// The variant of this name, asked inside a transaction.
+/// The variant of this name, read inside a transaction.
 pub fn one_inside<S: Alter>(tx: &mut Transaction<'_, S>, name: &Name) -> Result<Vec<Row>, Error>
     ensures same_reference { tx.new.conn.ghost_name ≡ tx.old.conn.ghost_name }
     ensures listed { Finds shows_variant (is_variant name.now) any_order (λ t. t.variants) (state S.Store tx.old.conn.now) (state S.Store tx.new.conn.now) result }

@@ -1,4 +1,4 @@
-//! The lines of a trial: what becomes of each row of a file.
+//! The lines of a trial: the fate of each row of a file.
 ghost use Rattle.std.specs.Prelude.{◌≡◌, ◌++◌, [], OnOk, OnErr};
 ghost use Rattle.fr_text.specs.FateLines.{fate_line, fate_words, taken_words};
 ghost use Rattle.fr_text.specs.Words.{behind, Extends};
@@ -19,7 +19,7 @@ impl Row for FateRow {
     }
 }
 
-// Appends what refuses a row, or that it is done.
+// Appends what refuses a row, or the word that it is done.
 #[tactic(auto, using(crate::proofs::WordsLemmas::extending))]
 fn push_fate(refusal: &Option<Refusal>, out: &mut Vec<u8>) -> Result<(), NoMemory>
     ensures ok { OnOk result (out.new.items ≡ out.old.items ++ behind (fate_words refusal.now)) }
@@ -38,7 +38,7 @@ fn push_fate(refusal: &Option<Refusal>, out: &mut Vec<u8>) -> Result<(), NoMemor
     }
 }
 
-// Appends what has taken a cell or a bit. Another refusal has no more words.
+// Appends what has taken the cell or the bit. Other refusals have no more words.
 #[tactic(auto, using(crate::proofs::WordsLemmas::extending))]
 fn push_taken(refusal: &Refusal, out: &mut Vec<u8>) -> Result<(), NoMemory>
     ensures ok { OnOk result (out.new.items ≡ out.old.items ++ behind (taken_words refusal.now)) }

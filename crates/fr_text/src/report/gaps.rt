@@ -21,7 +21,7 @@ impl Row for GapRow {
     }
 }
 
-// Appends the gap right in seven places.
+// Appends the gap at the right of seven places.
 #[tactic(auto, using(crate::proofs::WordsLemmas::extending), unfolding(crate::specs::Words::right_in))]
 fn push_gap(gap: Option<u32>, out: &mut Vec<u8>) -> Result<(), NoMemory>
     ensures ok { OnOk result (out.new.items ≡ out.old.items ++ right_in 7 (gap_word gap)) }

@@ -22,7 +22,8 @@ impl Row for LoadRow {
     }
 }
 
-// Appends the node that holds a lane, and its supplier where all is shown; a hyphen for each where nobody holds it.
+// Appends the node that holds a lane, and its supplier where the rows of all are shown. Where
+// nobody holds the lane, a hyphen stands for each.
 #[tactic(auto, using(crate::proofs::WordsLemmas::extending))]
 fn push_holder(all: bool, holder: &Option<LaneHolder>, out: &mut Vec<u8>) -> Result<(), NoMemory>
     ensures ok { OnOk result (out.new.items ≡ out.old.items ++ behind (holder_words all holder.now)) }

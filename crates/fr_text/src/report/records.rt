@@ -10,7 +10,7 @@ use crate::style::Style;
 use crate::words::{push, push_field, push_number, push_owner};
 use fr_base::{FrameRecord, Header, NoMemory, Placement, PlacementRecord, Signal, SignalRecord};
 
-/// Appends the records below the header, which is the first. An error leaves the old bytes in front.
+/// Appends the header's record and the records below it. An error leaves the old bytes in front.
 #[tactic(auto, using(crate::proofs::WordsLemmas::extending))]
 pub(super) fn push_records<R: Row>(
     header: Header,

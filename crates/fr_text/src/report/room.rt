@@ -1,4 +1,4 @@
-//! The lines of a room: for each slot and channels the bases of the placements that stand there.
+//! The lines of a room: for each slot and its channels, the bases of the placements there.
 ghost use Rattle.std.specs.Prelude.{◌≡◌, [], ◌∷◌, ◌++◌, codes, if◌then◌else◌, OnOk, OnErr};
 ghost use Rattle.fr_text.specs.RoomLines.{base_word, group_line, room_lines, share_line};
 ghost use Rattle.fr_text.specs.Styles.{joined, set_in};
@@ -26,7 +26,7 @@ pub(super) fn push_room(
     push(style.after(), out)
 }
 
-// Appends the lines of a placement and of those behind it, with a mark between each two.
+// Appends the lines of a placement and of those that follow it, with a mark between each two.
 #[tactic(auto, using(crate::proofs::WordsLemmas::extending))]
 fn push_places(
     first: &Placement,
@@ -46,7 +46,8 @@ fn push_places(
     Ok(())
 }
 
-// Appends a placement behind another: its base where they share a line, else the mark and a line of its own.
+// Appends a placement that follows another: its base where they share a line, else the mark and a
+// line of its own.
 #[tactic(auto, using(crate::proofs::WordsLemmas::extending))]
 fn push_next(
     before: &Placement,
@@ -66,7 +67,7 @@ fn push_next(
     }
 }
 
-// Appends the line of a placement that stands alone.
+// Appends the line of a placement that follows none.
 #[tactic(auto, using(crate::proofs::WordsLemmas::extending))]
 fn push_first(place: &Placement, out: &mut Vec<u8>) -> Result<(), NoMemory>
     ensures ok { OnOk result (out.new.items ≡ out.old.items ++ group_line (place.now ∷ [])) }
@@ -78,7 +79,7 @@ fn push_first(place: &Placement, out: &mut Vec<u8>) -> Result<(), NoMemory>
     push_word(&two_digits(u32::from(place.cycles.base())), out)
 }
 
-// Whether two placements stand in one line.
+// Whether two placements share a line.
 fn share_line(before: &Placement, place: &Placement) -> bool
     ensures { result ≡ share_line before.now place.now }
 {

@@ -26,8 +26,8 @@ pub(super) fn cells_of(alloc: Global, rows: &PageRows) -> Result<Option<MaskOccu
     Ok(Some(cells))
 }
 
-// The frame fills the cells of its placements too. Whether they were free; where one was not, the rest
-// is left.
+// Lets the frame fill the cells of its placements. The answer says whether all of them were free;
+// from the first that was not, the rest is left out.
 fn fill(cells: &mut MaskOccupancy, name: Name, frame: &PageFrame) -> Result<bool, NoMemory>
     requires { ShareNone cells.old }
     ensures free { IfOk result (λ free. free ≡ true → (cells.new ≡ cells.old ++ filled_by name (frame_of (frame_data frame.now))) × ShareNone cells.new) }

@@ -10,7 +10,7 @@ use crate::grants::is_granted;
 use crate::page::{PageFrame, PageRows};
 use fr_base::{Channels, MAX_PLACEMENTS, Name, Params, Placement};
 
-/// Whether each of the frames is a page's.
+/// Whether a page may have each of the frames, but for cells that they share.
 pub(super) fn are_frames(rows: &PageRows) -> bool
     ensures { Decides result (All (λ e. IsKeptFrame (own_rows_of (rows_data rows.now)) (frame_data e.1)) rows.now.frames.entries) }
 {
@@ -22,7 +22,7 @@ pub(super) fn are_frames(rows: &PageRows) -> bool
     true
 }
 
-// Whether the frame is a page's of these rows, with a layout of the cluster's payload.
+// Whether a page of these rows may have the frame, with a layout of the cluster's payload.
 fn is_frame(rows: &PageRows, frame: &PageFrame) -> bool
     ensures { Decides result (IsKeptFrame (own_rows_of (rows_data rows.now)) (frame_data frame.now)) }
 {
@@ -50,7 +50,7 @@ fn is_placed(rows: &PageRows, node: Name, placement: &Placement) -> bool
     fits(&rows.params, placement) && is_granted(&rows.grants, node, placement)
 }
 
-// Whether the cluster has the placement's slot and channels, and its cycles are of the cluster's.
+// Whether the cluster has the placement's slot and channels, and the same count of cycles.
 #[tactic(auto, unfolding(crate::specs::Building::fits))]
 fn fits(params: &Params, placement: &Placement) -> bool
     ensures { result ≡ fits params.now placement.now }
@@ -60,7 +60,7 @@ fn fits(params: &Params, placement: &Placement) -> bool
         && u32::from(placement.cycles.cycles()) == params.cycles()
 }
 
-// Whether a cluster of these channels has those.
+// Whether a cluster with the channels `cluster` has all of `channels`.
 fn has_channels(cluster: Channels, channels: Channels) -> bool
     ensures { result ≡ list_all (has_channel cluster) (channels_in channels) }
 {

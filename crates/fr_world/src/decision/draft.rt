@@ -1,4 +1,4 @@
-//! A page that the rows of a file change, one after the other.
+//! A page that the rows of a file change, one after another.
 ghost use Rattle.std.specs.Prelude.{◌≡◌, ◌⊎◌, Ok, Err, IfOk, IfErr, IsTrue, OnOk};
 ghost use Rattle.fr_base.specs.Signals.{is_signal_length};
 ghost use Rattle.fr_base.specs.Sound.{FitsCluster};
@@ -36,8 +36,8 @@ impl Draft {
         }
     }
 
-    /// What the row does, or its first refusal, which leaves no draft; `Unavailable` where memory is
-    /// refused.
+    /// Does what the row asks, or gives its first refusal, after which the draft is of no use.
+    /// `Unavailable` where memory is refused.
     pub(super) fn make_row(&mut self, alloc: Global, row: &Row) -> Result<(), Refusal>
         requires checked { IsCheckedRow self.old.page.params row.now }
         ensures ok { OnOk result (make_row (draft_data self.old) row.now ≡ Ok (draft_data self.new)) }
@@ -57,7 +57,8 @@ impl Draft {
         }
     }
 
-    /// What the row of a replacement does, or its first refusal, so.
+    /// Does what the row of a replacement asks, or gives its first refusal, after which the draft
+    /// is of no use.
     pub(super) fn replace_row(&mut self, alloc: Global, row: &Row) -> Result<(), Refusal>
         requires checked { IsCheckedRow self.old.page.params row.now }
         ensures ok { OnOk result (replace_row (draft_data self.old) row.now ≡ Ok (draft_data self.new)) }
@@ -69,7 +70,7 @@ impl Draft {
         }
     }
 
-    /// Makes changes of the frame, each of which the page admits after those before it.
+    /// Makes changes of the frame, one after another. The page admits each after those before it.
     pub(super) fn make_all(
         &mut self,
         alloc: Global,
@@ -86,8 +87,8 @@ impl Draft {
         Ok(())
     }
 
-    /// The frame is there, with the node: it is added where it is not there yet. A refusal, but `Unavailable`, leaves the
-    /// draft.
+    /// Adds the frame, or leaves it where it is there with the node. A refusal, but `Unavailable`,
+    /// leaves the draft as it was.
     pub(super) fn make_frame(
         &mut self,
         alloc: Global,
@@ -108,7 +109,7 @@ impl Draft {
         }
     }
 
-    /// The frame is added. A refusal leaves the draft so.
+    /// Adds the frame. A refusal, but `Unavailable`, leaves the draft as it was.
     pub(super) fn add_frame(
         &mut self,
         alloc: Global,
@@ -123,7 +124,8 @@ impl Draft {
         self.make(alloc, frame, FrameChange::Add { node })
     }
 
-    /// The frame is sent in the placement's cells too. A refusal leaves the draft so.
+    /// Lets the frame be sent in the placement's cells too. A refusal, but `Unavailable`, leaves
+    /// the draft as it was.
     pub(super) fn place(
         &mut self,
         alloc: Global,
@@ -139,7 +141,8 @@ impl Draft {
         self.make(alloc, frame, FrameChange::Place(placement))
     }
 
-    /// The frame's payload has the signal too. A refusal leaves the draft so.
+    /// Adds the signal to the frame's payload. A refusal, but `Unavailable`, leaves the draft as it
+    /// was.
     pub(super) fn add_signal(
         &mut self,
         alloc: Global,

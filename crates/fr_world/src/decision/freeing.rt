@@ -22,8 +22,8 @@ pub(super) fn named_frame(row: &Row) -> Name
     }
 }
 
-/// The ends of the placements of the row's frame, or of its signals, where the row has one; a frame that is not there has
-/// none.
+/// The changes that end the placements of the row's frame, or its signals, by the kind of row. A
+/// frame that is not there has none.
 pub(super) fn freeing(alloc: Global, page: &Page, row: &Row) -> Result<Vec<FrameChange>, NoMemory>
     ensures { IfOk result (λ ends. ends.items ≡ freeing row.now (get (own_rows_of page.now).frames (page.now.supplier, frame_of_row row.now))) }
 {
@@ -40,7 +40,7 @@ pub(super) fn freeing(alloc: Global, page: &Page, row: &Row) -> Result<Vec<Frame
     }
 }
 
-// The end of each placement of the frame.
+// The change that ends each placement of the frame.
 fn ends_of_placements(alloc: Global, frame: &PageFrame) -> Result<Vec<FrameChange>, NoMemory>
     ensures { IfOk result (λ ends. ends.items ≡ map FrameChange.Unplace (placements_in (frame_of (frame_data frame.now)))) }
 {
@@ -51,7 +51,7 @@ fn ends_of_placements(alloc: Global, frame: &PageFrame) -> Result<Vec<FrameChang
     Ok(ends)
 }
 
-// The end of each signal of the frame.
+// The change that ends each signal of the frame.
 fn ends_of_signals(alloc: Global, frame: &PageFrame) -> Result<Vec<FrameChange>, NoMemory>
     ensures { IfOk result (λ ends. ends.items ≡ map (λ s. FrameChange.DropSignal s.name) frame.now.layout.signals) }
 {

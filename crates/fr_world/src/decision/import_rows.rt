@@ -1,4 +1,4 @@
-//! What the rows of an import are decided to, on the supplier's page.
+//! How the rows of an import are decided on the supplier's page.
 ghost use Rattle.std.specs.Prelude.{◌≡◌, ◌⊎◌, false, Ok, Err, IfOk, IfErr, OnOk};
 ghost use Rattle.std.specs.List.{list_any};
 ghost use Rattle.fr_world.specs.Edits.{Leads, releases};
@@ -26,18 +26,18 @@ pub enum RowFault {
     Unavailable,
 }
 
-/// What the rows of an import make of the page, and the edits that led to it; or the first row that is
-/// refused. Each row is decided on the page that those before it left: a row is refused by its own text,
-/// or, of
+/// What the rows of an import make of the page, and the edits that led to it; or the first row that
+/// is refused. Each row is decided on the page that the rows before it left. It is refused by its
+/// own text, or by
 ///
-/// - frames: `NoNode`, `Exists`, `Limit`;
-/// - placements: `NoNode`; then, where the frame is not there yet, `Limit`, or else `NodeDiffers`; then
-///   the placement's `NotGranted`, `Limit`, `CellTaken`;
-/// - signals: `NoFrame`, `Exists`, `Limit`, `OutOfPayload`, `BitTaken`.
+/// - for frames: `NoNode`, `Exists`, `Limit`;
+/// - for placements: `NoNode`; then, where the frame is not there yet, `Limit`, or else
+/// `NodeDiffers`; then the placement's `NotGranted`, `Limit`, `CellTaken`;
+/// - for signals: `NoFrame`, `Exists`, `Limit`, `OutOfPayload`, `BitTaken`.
 ///
 /// The page, whose variant is open, is given up where a row is refused, and the rows were read under its
-/// parameters. Who wants to keep it gives a copy: to read a page anew takes many times as long. Neither the
-/// label nor the limits of imports are asked for, and no edit keeps the import.
+/// parameters. Who wants to keep it gives a copy. Neither the label nor the limits of imports are asked for, and no edit
+/// keeps the import.
 pub fn decide_rows(alloc: Global, page: Page, rows: &[RowRead]) -> Result<Draft, RowFault>
     requires open { page.released ≡ false }
     requires checked { AreChecked page.params rows.now }
@@ -56,7 +56,7 @@ pub fn decide_rows(alloc: Global, page: Page, rows: &[RowRead]) -> Result<Draft,
     Ok(draft)
 }
 
-// What the row does, as it was read.
+// Does what the row asks, unless its own text refuses it.
 fn make_read(alloc: Global, draft: &mut Draft, read: &RowRead) -> Result<(), RowFault>
     requires checked { IfOk read.now.row (IsCheckedRow draft.old.page.params) }
     ensures ok { OnOk result (make_read (draft_data draft.old) read.now ≡ Ok (draft_data draft.new)) }

@@ -10,8 +10,8 @@ use crate::occupancy::Occupancy;
 use crate::page::Page;
 use fr_base::{Change, FrameChange, MAX_PLACEMENTS, Name, Placement, Refusal};
 
-/// `NoFrame`, `NotGranted`, `Limit` or `CellTaken`, where one refuses the frame a placement. It takes no
-/// memory.
+/// `NoFrame`, `NotGranted`, `Limit` or `CellTaken`, where one refuses to place the frame there. It
+/// takes no memory.
 pub(super) fn admit_placement(
     page: &Page,
     frame: Name,
@@ -23,7 +23,8 @@ pub(super) fn admit_placement(
     is_free(page.cells(), placement)
 }
 
-// `NoFrame`, `NotGranted` or `Limit`, where one refuses the frame a placement, wherever it is.
+// `NoFrame`, `NotGranted` or `Limit`, where one refuses to place the frame there, whatever cells
+// are filled.
 fn has_room(page: &Page, frame: Name, placement: &Placement) -> Result<(), Refusal>
     ensures { result ≡ has_room (own_rows_of page.now) frame placement.now }
 {

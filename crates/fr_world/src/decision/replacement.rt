@@ -1,4 +1,4 @@
-//! What the rows of a replacement are decided to, on the supplier's page.
+//! How the rows of a replacement are decided on the supplier's page.
 ghost use Rattle.std.specs.Prelude.{◌≡◌, false, Ok, IfOk, IfErr, OnOk};
 ghost use Rattle.std.specs.List.{list_any};
 ghost use Rattle.fr_world.specs.Drafts.{IsOfSame, draft_data};
@@ -16,12 +16,14 @@ use crate::page::Page;
 use fr_base::{Refusal, Row, RowRead};
 use std::alloc::Global;
 
-/// What the rows of a replacement make of the page, and the edits that led to it; or the first row that is refused.
-/// First each frame that a row names, and that is there, loses its placements where the rows are placements, and its
-/// signals where they are signals. Then each row is decided on the page that those before it left, as one of an import
-/// is; but a row of frames leaves a frame that is there, or is `NodeDiffers`.
+/// What the rows of a replacement make of the page, and the edits that led to it; or the first row
+/// that is refused. First each frame that a row names, and that is there, loses its placements
+/// where the rows are placements, and its signals where they are signals. Then each row is decided
+/// as an import's is, on the page that the rows before it left. But a row of frames leaves a frame
+/// that is there, or is `NodeDiffers`.
 ///
-/// The page is given up as by an import's rows. Its variant is open, and the rows were read under its parameters.
+/// The page's variant is open, and the rows were read under its parameters. Where a row is refused
+/// the page is given up.
 pub fn decide_replacement(alloc: Global, page: Page, rows: &[RowRead]) -> Result<Draft, RowFault>
     requires open { page.released ≡ false }
     requires checked { AreChecked page.params rows.now }
@@ -40,7 +42,7 @@ pub fn decide_replacement(alloc: Global, page: Page, rows: &[RowRead]) -> Result
     Ok(draft)
 }
 
-// The page where the frame of each row was freed, and the edits that led to it.
+// The page after the frame of each row was freed, and the edits that led to it.
 fn freed(alloc: Global, page: Page, rows: &[RowRead]) -> Result<Draft, RowFault>
     ensures ok { IfOk result (λ draft. draft_data draft ≡ free_rows (draft_of page) rows.now) }
     ensures err { IfErr result (λ e. e ≡ RowFault.Unavailable) }
@@ -65,7 +67,7 @@ pub(super) fn free_row(alloc: Global, draft: &mut Draft, row: &Row) -> Result<()
     draft.make_all(alloc, named_frame(row), ends.as_slice())
 }
 
-// What the row does, as it was read.
+// Does what the row asks, unless its own text refuses it.
 fn replace_read(alloc: Global, draft: &mut Draft, read: &RowRead) -> Result<(), RowFault>
     requires checked { IfOk read.now.row (IsCheckedRow draft.old.page.params) }
     ensures ok { OnOk result (replace_read (draft_data draft.old) read.now ≡ Ok (draft_data draft.new)) }

@@ -13,7 +13,7 @@ pub(super) fn has_node(page: &Page, node: Name) -> bool
     page.nodes().contains(&node)
 }
 
-/// Which of the supplier's nodes holds the slot on the channel.
+/// The supplier's node that holds the slot on the channel, if one does.
 pub(crate) fn holder(page: &Page, slot: Slot, channel: Channel) -> Option<Name>
     ensures { option_map (holder_of page.now.supplier) result ≡ get (own_rows_of page.now).grants (slot, channel) }
 {

@@ -8,7 +8,8 @@ use super::rows::frame_named;
 use crate::page::Page;
 use fr_base::{Change, FrameChange, Name, Refusal, Signal};
 
-/// `NoFrame`, `Exists`, `Limit`, `OutOfPayload` or `BitTaken`, where one refuses the frame a signal.
+/// `NoFrame`, `Exists`, `Limit`, `OutOfPayload` or `BitTaken`, where one refuses to add the signal
+/// to the frame.
 #[tactic(auto, unfolding(crate::proofs::DecideRows::decide_open))]
 pub(super) fn admit_signal(page: &Page, frame: Name, signal: &Signal) -> Result<(), Refusal>
     ensures { result ≡ admits_alone (own_rows_of page.now) (Change.Frame frame (FrameChange.AddSignal signal.now)) }

@@ -18,11 +18,12 @@ use crate::page::Page;
 use fr_base::{FateRow, FrameChange, Name, Placement, Refusal, Row, RowRead, Rows};
 use std::alloc::Global;
 
-/// What would become of each row: what refuses it, or that it is done. Each is decided on the page that those before it
-/// left, as one of an import is, or of a replacement; a refused row leaves the page as it was. A replacement has freed
-/// the frames of the rows before the first that its own text refuses. `Unavailable` where memory is refused.
+/// The fate of each row: what refuses it, or that it is done. Each row is decided as an import's or
+/// a replacement's is, on the page that the rows before it left. A refused row leaves the page as
+/// it was. A replacement first frees the frames of the rows before the first row that its own text
+/// refuses. `Unavailable` where memory is refused.
 ///
-/// The page is given up, and the rows were read under its parameters.
+/// The page is given up. The rows were read under its parameters.
 pub fn try_rows(
     alloc: Global,
     page: Page,
@@ -41,7 +42,7 @@ pub fn try_rows(
     Ok(fates)
 }
 
-// The page on which the first row acts.
+// The page on which the first row is decided.
 fn begun(alloc: Global, page: Page, rows: &[RowRead], replaces: bool) -> Result<Draft, Refusal>
     ensures { MatchResult result (λ draft. draft_data draft ≡ tried replaces (draft_of page) rows.now) (λ e. e ≡ Unavailable) }
 {
@@ -52,7 +53,8 @@ fn begun(alloc: Global, page: Page, rows: &[RowRead], replaces: bool) -> Result<
     }
 }
 
-// The page where the frame of each row before the first that its own text refuses was freed.
+// The page after the frames were freed that the rows name which come before the first row that its
+// own text refuses.
 fn freed(alloc: Global, page: Page, rows: &[RowRead]) -> Result<Draft, Refusal>
     ensures { MatchResult result (λ draft. draft_data draft ≡ free_rows (draft_of page) (up_to_refused rows.now)) (λ e. e ≡ Unavailable) }
 {
@@ -66,7 +68,7 @@ fn freed(alloc: Global, page: Page, rows: &[RowRead]) -> Result<Draft, Refusal>
     Ok(draft)
 }
 
-// What becomes of the row, as it was read.
+// The fate of the row as it was read. The draft is the one that the row leaves.
 fn fate_of(
     alloc: Global,
     draft: &mut Draft,
@@ -86,7 +88,7 @@ fn fate_of(
     Ok(FateRow { line, refusal })
 }
 
-// What refuses the row, if anything does; the row does nothing then.
+// What refuses the row, if anything does. A refused row does nothing.
 fn refusal_of(
     alloc: Global,
     draft: &mut Draft,
@@ -104,7 +106,8 @@ fn refusal_of(
 }
 
 impl Draft {
-    // What the row does, or its first refusal, which leaves the draft; `Unavailable` where memory is refused.
+    // Does what the row asks, or gives its first refusal, which leaves the draft as it was.
+    // `Unavailable` where memory is refused.
     fn try_row(&mut self, alloc: Global, row: &Row, replaces: bool) -> Result<(), Refusal>
         requires checked { IsCheckedRow self.old.page.params row.now }
         ensures ok { OnOk result (try_row replaces (draft_data self.old) row.now ≡ Ok (draft_data self.new)) }
@@ -122,7 +125,7 @@ impl Draft {
         }
     }
 
-    // The frame is added; a replacement leaves one that is there with the node.
+    // Adds the frame. A replacement leaves a frame that is there with the node.
     fn try_frame(
         &mut self,
         alloc: Global,
@@ -141,7 +144,7 @@ impl Draft {
         }
     }
 
-    // The frame is there, with the node, and is sent in the placement's cells too.
+    // Adds the frame where it is not there yet, and lets it be sent in the placement's cells too.
     fn try_place(
         &mut self,
         alloc: Global,
@@ -162,7 +165,8 @@ impl Draft {
         }
     }
 
-    // So for a frame that is not there yet, which is taken back where the placement is refused.
+    // Does the same for a frame that is not there yet. Where the placement is refused the frame is
+    // taken back.
     fn place_new(
         &mut self,
         alloc: Global,

@@ -12,4 +12,4 @@ returns-in-Ok g c =
     given_says _ _ c.args.key.now _ _ _ c.args.request _ (inr (search rules, (c.in-Ok.front.items, c.in-Ok.ensures.line, search rules))) c.change_file-in-Ok.ensures
 
 pub returns-in-Err : goal.returns-in-Err
-returns-in-Err g c = inr (inr (search rules, (c.in-Err.fault, search rules)), refl)
+returns-in-Err g c = inr (search rules, (c.in-Err.fault, search rules), refl)

@@ -2,7 +2,7 @@ use Rattle.std.proofs.Common.{rules, ◌≡◌, Ok, Err, sym, subst}
 use Rattle.fr_http.specs.Connection.{HasDealt, HasDrawn}
 use Rattle.fr_http.specs.Reply.{answer_reply, page_reply}
 use Rattle.fr_base.specs.declared.answer.Answer.TheVariants as answer
-use Rattle.fr_http.specs.declared.asked.Asked.TheVariants as asked
+use Rattle.fr_http.specs.declared.asking.Demand.TheVariants as demand
 use Rattle.fr_http.specs.declared.method.Method.TheVariants.{Get}
 use Rattle.fr_http.proofs.DealingLaws.{page_dealt, refusal_dealt, request_dealt}
 use Rattle.fr_http.proofs.dealing.deal.Goals as goal
@@ -12,7 +12,7 @@ returns-in-Request-clause-dealt g c =
     let ask = c.in-Request.ask in
     let method = c.in-Request.method in
     let reply = answer_reply method c.ask-answer.result in
-    let is : c.args.asked.now ≡ asked.Request ask method = search rules in (
+    let is : c.args.demand.now ≡ demand.Request ask method = search rules in (
       reply,
       subst (λ o. HasDealt (g.D.Desk.clean c.ask-answer.new.self) (g.D.Desk.stands c.args.desk.now) (g.D.Desk.stands c.ask-answer.new.self) o reply) (sym is)
           (request_dealt _ _ _ ask method c.ask-answer.result c.ask-answer.ensures.answered),
@@ -24,7 +24,7 @@ returns-in-Ok-clause-dealt g c =
     let reader = c.in-Picture.reader in
     let variant = c.in-Picture.variant in
     let reply = page_reply c.in-Ok.page.items in
-    let is : c.args.asked.now ≡ asked.Picture reader variant = search rules in (
+    let is : c.args.demand.now ≡ demand.Picture reader variant = search rules in (
       reply,
       subst (λ o. HasDealt (g.D.Desk.clean c.picture.new.desk) (g.D.Desk.stands c.args.desk.now) (g.D.Desk.stands c.picture.new.desk) o reply) (sym is)
           (page_dealt _ _ _ reader variant c.in-Ok.page (subst (λ v. HasDrawn (g.D.Desk.clean c.picture.new.desk) (g.D.Desk.stands c.args.desk.now) (g.D.Desk.stands c.picture.new.desk) reader v (Ok c.in-Ok.page)) c.as_str.ensures c.in-Ok.ensures.drawn)),
@@ -36,7 +36,7 @@ returns-in-Err-clause-dealt g c =
     let reader = c.in-Picture.reader in
     let variant = c.in-Picture.variant in
     let reply = answer_reply Get (answer.Refused c.in-Err.refusal) in
-    let is : c.args.asked.now ≡ asked.Picture reader variant = search rules in (
+    let is : c.args.demand.now ≡ demand.Picture reader variant = search rules in (
       reply,
       subst (λ o. HasDealt (g.D.Desk.clean c.picture.new.desk) (g.D.Desk.stands c.args.desk.now) (g.D.Desk.stands c.picture.new.desk) o reply) (sym is)
           (refusal_dealt _ _ _ reader variant c.in-Err.refusal (subst (λ v. HasDrawn (g.D.Desk.clean c.picture.new.desk) (g.D.Desk.stands c.args.desk.now) (g.D.Desk.stands c.picture.new.desk) reader v (Err c.in-Err.refusal)) c.as_str.ensures c.in-Err.ensures.drawn)),

@@ -8,7 +8,7 @@ use Rattle.fr_http.proofs.ServeLaws.{replied, served_asked, served_fault, served
 use Rattle.fr_http.proofs.serve.serve.Goals as goal
 
 pub returns-in-Ok-clause-served : goal.returns-in-Ok-clause-served
-returns-in-Ok-clause-served g c = served_asked _ _ _ _ _ _ _ _ c.in-Ok.asked c.answer.result c.in-Ok.ensures.taken c.answer.ensures.answered
+returns-in-Ok-clause-served g c = served_asked _ _ _ _ _ _ _ _ c.in-Ok.demand c.answer.result c.in-Ok.ensures.taken c.answer.ensures.answered
 
 pub returns-in-Err-Engine-clause-served : goal.returns-in-Err-Engine-clause-served
 returns-in-Err-Engine-clause-served g c =

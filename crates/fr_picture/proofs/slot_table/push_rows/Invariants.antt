@@ -6,4 +6,4 @@ use Rattle.fr_picture.proofs.slot_table.push_rows.Given as goal
 
 -- the text of those up to here
 abbrev pub invariant-loop-lane : goal.invariant-loop-lane
-invariant-loop-lane l = string_bytes l.out ≡ string_bytes l.initial.out ++ flat_map (λ lane. lane_rows_text l.names l.cycles lane.rectangles.items lane.grants.items) (take l.lane-index l.lanes)
+invariant-loop-lane l = string_bytes l.out ≡ string_bytes l.initial.out ++ flat_map (lane_rows_text l.names l.cycles) (take l.lane-index l.lanes)

@@ -8,11 +8,11 @@ use Rattle.fr_store.proofs.migrating.expect_config.Goals as goal
 pub returns-in-Some-clause-opens : goal.returns-in-Some-clause-opens
 returns-in-Some-clause-opens g c clean has number =
     let old = state g.S.Store c.args.tx.now.conn.now in
-    let a = state g.S.Store c.all_inside.new.tx.conn.now in
-    let b = state g.S.Store c.all_inside-2.new.tx.conn.now in
-    let new = state g.S.Store c.all_inside-3.new.tx.conn.now in
-    let clean_b : HasCleanDisk b = omega (arith, c.all_inside-3.ensures.survives.clean, clean) in
-    let clean_a : HasCleanDisk a = omega (arith, c.all_inside-2.ensures.survives.clean, clean_b) in
+    let a = state g.S.Store c.row_inside.new.tx.conn.now in
+    let b = state g.S.Store c.by_name_inside.new.tx.conn.now in
+    let new = state g.S.Store c.by_name_inside-2.new.tx.conn.now in
+    let clean_b : HasCleanDisk b = omega (arith, c.by_name_inside-2.ensures.survives.clean, clean) in
+    let clean_a : HasCleanDisk a = omega (arith, c.by_name_inside.ensures.survives.clean, clean_b) in
     let first = c.in_ok-cluster.ensures.listed clean_a has in
     let has_a = has_still old a first.1 has in
     let second = c.in_ok-suppliers.ensures.listed clean_b has_a in

@@ -11,41 +11,41 @@ pub returns-clause-survives : goal.returns-clause-survives
 returns-clause-survives g c =
     let old = state g.S.Store c.args.conn.now in
     let mid = state g.S.Store c.expect_number.new.conn in
-    let late = state g.S.Store c.see_open.new.conn in
-    migration_survives old mid late (state g.S.Store c.in_one.new.conn) c.expect_number.ensures.survives c.see_open.ensures.survives
-    (λ clean. let clean_mid : HasCleanDisk mid = omega (arith, c.see_open.ensures.survives.clean, clean) in
-    same_after old mid late (c.expect_number.ensures.same clean_mid) (c.in_ok-see_open.ensures.open clean)) c.in_one.ensures.survives
+    let late = state g.S.Store c.require_open.new.conn in
+    migration_survives old mid late (state g.S.Store c.in_one_transaction.new.conn) c.expect_number.ensures.survives c.require_open.ensures.survives
+    (λ clean. let clean_mid : HasCleanDisk mid = omega (arith, c.require_open.ensures.survives.clean, clean) in
+    same_after old mid late (c.expect_number.ensures.same clean_mid) (c.in_ok-require_open.ensures.open clean)) c.in_one_transaction.ensures.survives
 
 pub returns-clause-migrated : goal.returns-clause-migrated
 returns-clause-migrated g c clean cluster b stands =
     let old = state g.S.Store c.args.conn.now in
     let mid = state g.S.Store c.expect_number.new.conn in
-    let late = state g.S.Store c.see_open.new.conn in
-    let clean_late : HasCleanDisk late = omega (arith, c.in_one.ensures.survives.clean, clean) in
-    let clean_mid : HasCleanDisk mid = omega (arith, c.see_open.ensures.survives.clean, clean_late) in
-    let same = same_after old mid late (c.expect_number.ensures.same clean_mid) (c.in_ok-see_open.ensures.open clean_late) in
-    c.in_one.ensures.migrated clean cluster b (still_before old late cluster b same stands)
+    let late = state g.S.Store c.require_open.new.conn in
+    let clean_late : HasCleanDisk late = omega (arith, c.in_one_transaction.ensures.survives.clean, clean) in
+    let clean_mid : HasCleanDisk mid = omega (arith, c.require_open.ensures.survives.clean, clean_late) in
+    let same = same_after old mid late (c.expect_number.ensures.same clean_mid) (c.in_ok-require_open.ensures.open clean_late) in
+    c.in_one_transaction.ensures.migrated clean cluster b (still_before old late cluster b same stands)
 
 pub returns-clause-unharmed : goal.returns-clause-unharmed
 returns-clause-unharmed g c clean has =
     let old = state g.S.Store c.args.conn.now in
     let mid = state g.S.Store c.expect_number.new.conn in
-    let late = state g.S.Store c.see_open.new.conn in
-    let clean_late : HasCleanDisk late = omega (arith, c.in_one.ensures.survives.clean, clean) in
-    let clean_mid : HasCleanDisk mid = omega (arith, c.see_open.ensures.survives.clean, clean_late) in
+    let late = state g.S.Store c.require_open.new.conn in
+    let clean_late : HasCleanDisk late = omega (arith, c.in_one_transaction.ensures.survives.clean, clean) in
+    let clean_mid : HasCleanDisk mid = omega (arith, c.require_open.ensures.survives.clean, clean_late) in
     let first = c.expect_number.ensures.same clean_mid in
-    let same = same_after old mid late first (c.in_ok-see_open.ensures.open clean_late) in
+    let same = same_after old mid late first (c.in_ok-require_open.ensures.open clean_late) in
     let schema : IsOld old.now.schema = search rules in
-    undone_then old late (state g.S.Store c.in_one.new.conn) c.in_one.result (as_before_then old mid late first (c.see_open.ensures.same clean_late))
-    (c.in_one.ensures.undone clean (subst HasOldTables (sym same) (has schema)))
+    undone_then old late (state g.S.Store c.in_one_transaction.new.conn) c.in_one_transaction.result (as_before_then old mid late first (c.require_open.ensures.same clean_late))
+    (c.in_one_transaction.ensures.undone clean (subst HasOldTables (sym same) (has schema)))
 
-pub returns-in_err-see_open-clause-unharmed : goal.returns-in_err-see_open-clause-unharmed
-returns-in_err-see_open-clause-unharmed g c clean has =
+pub returns-in_err-require_open-clause-unharmed : goal.returns-in_err-require_open-clause-unharmed
+returns-in_err-require_open-clause-unharmed g c clean has =
     let old = state g.S.Store c.args.conn.now in
     let mid = state g.S.Store c.expect_number.new.conn in
-    let late = state g.S.Store c.see_open.new.conn in
-    let clean_mid : HasCleanDisk mid = omega (arith, c.see_open.ensures.survives.clean, clean) in
-    on_error c.from_residual-in_err-see_open.result (as_before_then old mid late (c.expect_number.ensures.same clean_mid) (c.see_open.ensures.same clean))
+    let late = state g.S.Store c.require_open.new.conn in
+    let clean_mid : HasCleanDisk mid = omega (arith, c.require_open.ensures.survives.clean, clean) in
+    on_error c.from_residual-in_err-require_open.result (as_before_then old mid late (c.expect_number.ensures.same clean_mid) (c.require_open.ensures.same clean))
 
 pub returns-in_err-expect_number-clause-known : goal.returns-in_err-expect_number-clause-known
 returns-in_err-expect_number-clause-known g c clean cluster b stands =
@@ -56,18 +56,18 @@ returns-in_err-expect_number-clause-known g c clean cluster b stands =
 pub returns-clause-numbered : goal.returns-clause-numbered
 returns-clause-numbered g c clean =
     let mid = state g.S.Store c.expect_number.new.conn in
-    let late = state g.S.Store c.see_open.new.conn in
-    let clean_late : HasCleanDisk late = omega (arith, c.in_one.ensures.survives.clean, clean) in
-    let clean_mid : HasCleanDisk mid = omega (arith, c.see_open.ensures.survives.clean, clean_late) in
-    on_ok c.in_one.result (c.in_ok-expect_number.ensures.found clean_mid)
+    let late = state g.S.Store c.require_open.new.conn in
+    let clean_late : HasCleanDisk late = omega (arith, c.in_one_transaction.ensures.survives.clean, clean) in
+    let clean_mid : HasCleanDisk mid = omega (arith, c.require_open.ensures.survives.clean, clean_late) in
+    on_ok c.in_one_transaction.result (c.in_ok-expect_number.ensures.found clean_mid)
 
 pub returns-clause-opens : goal.returns-clause-opens
 returns-clause-opens g c clean has =
     let old = state g.S.Store c.args.conn.now in
     let mid = state g.S.Store c.expect_number.new.conn in
-    let late = state g.S.Store c.see_open.new.conn in
-    let clean_late : HasCleanDisk late = omega (arith, c.in_one.ensures.survives.clean, clean) in
-    let clean_mid : HasCleanDisk mid = omega (arith, c.see_open.ensures.survives.clean, clean_late) in
-    let same = same_after old mid late (c.expect_number.ensures.same clean_mid) (c.in_ok-see_open.ensures.open clean_late) in
+    let late = state g.S.Store c.require_open.new.conn in
+    let clean_late : HasCleanDisk late = omega (arith, c.in_one_transaction.ensures.survives.clean, clean) in
+    let clean_mid : HasCleanDisk mid = omega (arith, c.require_open.ensures.survives.clean, clean_late) in
+    let same = same_after old mid late (c.expect_number.ensures.same clean_mid) (c.in_ok-require_open.ensures.open clean_late) in
     let number = c.in_ok-expect_number.ensures.found clean_mid (inr has) in
-    c.in_one.ensures.opens clean (subst HasOldTables (sym same) has) (subst (λ d. HasNumber d old_schema_number) (sym same) number)
+    c.in_one_transaction.ensures.opens clean (subst HasOldTables (sym same) has) (subst (λ d. HasNumber d old_schema_number) (sym same) number)

@@ -11,7 +11,7 @@ use Rattle.fr_store.proofs.migrating.move_cluster.Goals as goal
 pub returns-clause-moved : goal.returns-clause-moved
 returns-clause-moved g c clean inside has p integrator is counted =
     let old = state g.S.Store c.args.tx.now.conn.now in
-    let read = state g.S.Store c.all_inside.new.tx.conn.now in
+    let read = state g.S.Store c.row_inside.new.tx.conn.now in
     let put = state g.S.Store c.insert.new.tx.conn.now in
     let new = state g.S.Store c.delete.new.tx.conn.now in
     let clean_put : HasCleanDisk put = omega (arith, c.delete.ensures.survives.clean, clean) in
@@ -26,7 +26,7 @@ returns-clause-moved g c clean inside has p integrator is counted =
 pub returns-clause-stays : goal.returns-clause-stays
 returns-clause-stays g c clean inside has =
     let old = state g.S.Store c.args.tx.now.conn.now in
-    let read = state g.S.Store c.all_inside.new.tx.conn.now in
+    let read = state g.S.Store c.row_inside.new.tx.conn.now in
     let put = state g.S.Store c.insert.new.tx.conn.now in
     let new = state g.S.Store c.delete.new.tx.conn.now in
     let clean_put : HasCleanDisk put = omega (arith, c.delete.ensures.survives.clean, clean) in
@@ -38,7 +38,7 @@ returns-clause-stays g c clean inside has =
 pub returns-clause-number : goal.returns-clause-number
 returns-clause-number g c clean inside has =
     let old = state g.S.Store c.args.tx.now.conn.now in
-    let read = state g.S.Store c.all_inside.new.tx.conn.now in
+    let read = state g.S.Store c.row_inside.new.tx.conn.now in
     let put = state g.S.Store c.insert.new.tx.conn.now in
     let new = state g.S.Store c.delete.new.tx.conn.now in
     let clean_put : HasCleanDisk put = omega (arith, c.delete.ensures.survives.clean, clean) in

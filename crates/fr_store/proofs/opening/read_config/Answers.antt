@@ -16,10 +16,10 @@ returns-then-is_ours-clause-stands g c clean ordered =
     let old = (state g.S.Store c.args.conn.now).now in
     let mid = (state g.S.Store c.expect_number.new.conn).now in
     let told = (state g.S.Store c.config.new.conn).now in
-    let new = (state g.S.Store c.see_open.new.conn).now in
-    let late : HasCleanDisk (state g.S.Store c.config.new.conn) = omega (arith, c.see_open.ensures.survives.clean, clean) in
+    let new = (state g.S.Store c.require_open.new.conn).now in
+    let late : HasCleanDisk (state g.S.Store c.config.new.conn) = omega (arith, c.require_open.ensures.survives.clean, clean) in
     let before : HasCleanDisk (state g.S.Store c.expect_number.new.conn) = omega (arith, c.config.ensures.survives.clean, late) in
-    let third = (c.in_ok-see_open.ensures.open clean).0 in
+    let third = (c.in_ok-require_open.ensures.open clean).0 in
     let second = c.config.ensures.same late third.was_open in
     let first = c.expect_number.ensures.same before second.0 in
     let ours : IsOurs new.schema = search rules in
@@ -30,6 +30,6 @@ returns-then-is_ours-clause-stands g c clean ordered =
 
 pub returns-then-is_ours-clause-variants : goal.returns-then-is_ours-clause-variants
 returns-then-is_ours-clause-variants g c clean has =
-    let late : HasCleanDisk (state g.S.Store c.config.new.conn) = omega (arith, c.see_open.ensures.survives.clean, clean) in
-    let third = (c.in_ok-see_open.ensures.open clean).0 in
+    let late : HasCleanDisk (state g.S.Store c.config.new.conn) = omega (arith, c.require_open.ensures.survives.clean, clean) in
+    let third = (c.in_ok-require_open.ensures.open clean).0 in
     subst (λ (d : Database). TellsOpened (tables_in d.trees)) (sym third.now_is) (c.in-Some.ensures.variants late third.was_open (subst HasTables third.now_is has))

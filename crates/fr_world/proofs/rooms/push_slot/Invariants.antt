@@ -7,4 +7,4 @@ use Rattle.fr_world.proofs.rooms.push_slot.Given as goal
 
 -- what was there, and those on the channels before
 abbrev pub invariant-loop-channels : goal.invariant-loop-channels
-invariant-loop-channels l = l.places ≡ l.fn.places ++ filter (is_vacant_alone (own_rows_of l.page) l.node) (flat_map (places_on l.page.params l.repetition l.slot) (take l.channels-index l.channels-items))
+invariant-loop-channels l = l.places ≡ l.fn.places ++ filter (is_vacant_alone (own_rows_of l.page) l.search.node) (flat_map (places_on l.page.params l.search.repetition l.slot) (take l.channels-index l.channels-items))

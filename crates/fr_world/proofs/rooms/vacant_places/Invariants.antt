@@ -7,4 +7,4 @@ use Rattle.fr_world.proofs.rooms.vacant_places.Given as goal
 
 -- those of the slots before
 abbrev pub invariant-loop-number : goal.invariant-loop-number
-invariant-loop-number l = l.places ≡ filter (is_vacant_alone (own_rows_of l.page) l.node) (flat_map (places_in l.page.params l.repetition) (range_with_len 1 (l.number - 1)))
+invariant-loop-number l = l.places ≡ filter (is_vacant_alone (own_rows_of l.page) l.fn.node) (flat_map (places_in l.page.params l.fn.repetition) (range_with_len 1 (l.number - 1)))

@@ -6,22 +6,22 @@ use Rattle.fr_world.proofs.ScheduleLaws.{cell, cells-column, column, sent-channe
 use Rattle.fr_world.proofs.sendings.push_cycle.Goals as goal
 
 pub loop-slot-init : goal.loop-slot-init
-loop-slot-init c = sym (append-nil c.args.rows.now) ∙ ap (λ more. c.args.rows.now ++ more) (sym (sent-nothing (filled c.args.senders.now c.args.triggerings.now)))
+loop-slot-init c = sym (append-nil c.args.rows.now) ∙ ap (λ more. c.args.rows.now ++ more) (sym (sent-nothing (filled c.args.sendings.now.senders.now c.args.sendings.now.triggerings.now)))
 
 pub loop-channel-init : goal.loop-channel-init
-loop-channel-init c = sym (append-nil c.loop-slot.rows) ∙ ap (λ more. c.loop-slot.rows ++ more) (sym (sent-nothing (filled c.args.senders.now c.args.triggerings.now)))
+loop-channel-init c = sym (append-nil c.loop-slot.rows) ∙ ap (λ more. c.loop-slot.rows ++ more) (sym (sent-nothing (filled c.args.sendings.now.senders.now c.args.sendings.now.triggerings.now)))
 
 pub loop-channel-preserved : goal.loop-channel-preserved
 loop-channel-preserved c =
     let k = c.args.cycle in
     let slot = c.slot-item.result in
-    sent-channel-by (λ s. sender_of s.now) c.sender_on-sender.result (filled c.args.senders.now c.args.triggerings.now) k slot c.as_slice-channel-items.result.now c.loop-channel.channel-index _ _ c.loop-slot.rows c.loop-channel.rows _ c.loop-channel-test.true refl c.loop-channel.invariant
+    sent-channel-by (λ s. sender_of s.now) c.sender_on-sender.result (filled c.args.sendings.now.senders.now c.args.sendings.now.triggerings.now) k slot c.as_slice-channel-items.result.now c.loop-channel.channel-index _ _ c.loop-slot.rows c.loop-channel.rows _ c.loop-channel-test.true refl c.loop-channel.invariant
     (c.sender_on-sender.ensures (cell k slot _) (ap (place_on _) c.places_in-places.ensures ∙ c.requires.first (cell k slot _)))
     c.in_ok-push_sending.ensures
 
 pub loop-slot-preserved : goal.loop-slot-preserved
 loop-slot-preserved c =
-    let fs = filled c.args.senders.now c.args.triggerings.now in
+    let fs = filled c.args.sendings.now.senders.now c.args.sendings.now.triggerings.now in
     let k = c.args.cycle in
     let slot = c.slot-item.result in
     let chs = channels_in c.args.channels in

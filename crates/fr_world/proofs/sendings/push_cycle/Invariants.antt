@@ -7,8 +7,8 @@ use Rattle.fr_world.proofs.sendings.push_cycle.Given as goal
 
 -- what was there, and what is sent in the slots so far
 abbrev pub invariant-loop-slot : goal.invariant-loop-slot
-invariant-loop-slot l = l.rows ≡ l.fn.rows ++ sent_in (filled l.senders l.triggerings) (cells_in (l.cycle ∷ []) (take l.slot-index l.slots) (channels_in l.channels))
+invariant-loop-slot l = l.rows ≡ l.fn.rows ++ sent_in (filled l.sendings.senders.now l.sendings.triggerings.now) (cells_in (l.cycle ∷ []) (take l.slot-index l.slots) (channels_in l.channels))
 
 -- and on the slot's channels so far
 abbrev pub invariant-loop-channel : goal.invariant-loop-channel
-invariant-loop-channel l = l.rows ≡ l.initial.rows ++ sent_in (filled l.senders l.triggerings) (column l.cycle l.slot (take l.channel-index l.channel-items))
+invariant-loop-channel l = l.rows ≡ l.initial.rows ++ sent_in (filled l.sendings.senders.now l.sendings.triggerings.now) (column l.cycle l.slot (take l.channel-index l.channel-items))

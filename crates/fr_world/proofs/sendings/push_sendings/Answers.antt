@@ -8,8 +8,8 @@ use Rattle.fr_world.proofs.sendings.push_sendings.Goals as goal
 
 pub returns : goal.returns
 returns c =
-    let ss = c.args.senders.now in
-    let ps = c.args.triggerings.now in
+    let ss = c.args.sendings.now.senders.now in
+    let ps = c.args.sendings.now.triggerings.now in
     let k = c.args.cycle in
     on_ok_weaker c.push_cycle.result
     (λ last. last ∙ (λ i. c.args.rows.now ++ sent_in (filled ss ps) (cells_in (k ∷ []) (c.deref-2.ensures.value i) (channels_in (c.channels.ensures i))))

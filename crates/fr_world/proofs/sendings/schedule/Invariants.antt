@@ -7,4 +7,4 @@ use Rattle.fr_world.proofs.sendings.schedule.Given as goal
 
 -- what is sent in the cycles before
 abbrev pub invariant-loop-cycle : goal.invariant-loop-cycle
-invariant-loop-cycle l = l.rows ≡ sent_in (filled l.senders l.triggerings) (cells_in (range_with_len 0 l.cycle) l.slots.items (channels_in l.params.channels))
+invariant-loop-cycle l = l.rows ≡ sent_in (filled l.sendings.senders.now l.sendings.triggerings.now) (cells_in (range_with_len 0 l.cycle) l.slots.items (channels_in l.params.channels))

@@ -1,29 +1,49 @@
-use Rattle.std.proofs.Common.{◌+◌, ◌≤◌, ◌∙◌, arith, sym}
-use Rattle.fr_picture.specs.Places.{IsNamed, IsWide}
-use Rattle.fr_picture.proofs.ColumnLemmas.{all_more, last_more, numbered_more, opened_first, opened_more, order_more}
-use Rattle.fr_picture.proofs.MarkLemmas.{shown_more}
+use Rattle.std.proofs.Common.{◌≡◌, ◌+◌, ◌≤◌, ◌∙◌, ap, arith, map, refl, subst, sym}
+use Rattle.std.specs.List.{All}
+use Rattle.std.proofs.lemmas.List.Elements.{All-nil}
+use Rattle.fr_picture.specs.Places.{AreInOrder, IsNamed, IsWide}
+use Rattle.fr_picture.proofs.ColumnLemmas.{Until, end_of, end_of-none, all_more, last_more, opened_first, opened_more, order_more, shown_more}
 use Rattle.fr_picture.proofs.drawing.columns.columns.Goals as goal
 
-pub loop-slot-preserved : goal.loop-slot-preserved
-loop-slot-preserved c = record {
-  len = omega (arith, c.in_ok-push.ensures.len, c.loop-slot.invariant.len);
-  least = omega (arith, c.column-next.ensures.from c.loop-slot.invariant.least);
-  small = c.column-next.ensures.beside;
-  last = last_more c.loop-slot.columns.items _ c.column-next.result c.in_ok-push.ensures.items;
-  order = order_more c.loop-slot.columns.items _ c.column-next.result c.loop-slot.end c.in_ok-push.ensures.items c.loop-slot.invariant.last c.column-next.ensures.behind c.loop-slot.invariant.order;
-  numbered =
-      numbered_more c.loop-slot.columns.items _ c.column-next.result c.loop-slot.slot c.in_ok-push.ensures.items (omega (arith, c.loop-slot.columns.ok, c.loop-slot.invariant.len))
-      (λ n is. c.shows.ensures.slot n (sym c.column-next.ensures.shows ∙ is), λ first last is. (c.shows.ensures.gap first last (sym c.column-next.ensures.shows ∙ is)).1) c.loop-slot.invariant.numbered;
-  opened = opened_more _ _ c.loop-slot.columns.items _ c.column-next.result c.in_ok-push.ensures.items c.column-next.ensures.unopened c.loop-slot.invariant.opened;
-  named = all_more IsNamed c.loop-slot.columns.items _ c.column-next.result c.in_ok-push.ensures.items c.loop-slot.invariant.named c.column-next.ensures.named;
-  shown = λ n marked less.
-      shown_more c.loop-slot.columns.items _ c.column-next.result c.loop-slot.slot n c.args.marks.now.0 c.in_ok-push.ensures.items (omega (arith, c.loop-slot.columns.ok, c.loop-slot.invariant.len))
-      (λ m. c.column-next.ensures.shows ∙ c.shows.ensures.marked m) c.loop-slot.invariant.shown marked less;
-  wide = all_more (IsWide c.args.bands.now.width) c.loop-slot.columns.items _ c.column-next.result c.in_ok-push.ensures.items c.loop-slot.invariant.wide c.column-next.ensures.wide;
-  from = all_more (λ p. 4 ≤ p.x) c.loop-slot.columns.items _ c.column-next.result c.in_ok-push.ensures.items c.loop-slot.invariant.from (c.column-next.ensures.from c.loop-slot.invariant.least);
-  beside = all_more (λ p. p.x + p.width ≤ c.args.bands.now.end) c.loop-slot.columns.items _ c.column-next.result c.in_ok-push.ensures.items c.loop-slot.invariant.beside c.column-next.ensures.beside;
-  within = all_more (λ p. p.x + p.width ≤ 136) c.loop-slot.columns.items _ c.column-next.result c.in_ok-push.ensures.items c.loop-slot.invariant.within c.column-next.ensures.within;
-}
+pub loop-shows-init : goal.loop-shows-init
+loop-shows-init c =
+    let none = c.new-columns.ensures.items in
+    let end = c.args.bands.now.end in
+    record {
+      len = c.new-columns.ensures.len;
+      shown = ap (map (λ p. p.shows)) none;
+      least = omega (arith, c.args.bands.now.end_in_range.0);
+      small = omega arith;
+      last = ap (end_of end) none ∙ end_of-none end;
+      order = subst (AreInOrder end end) (sym none) tt;
+      opened = subst (Until (end ≡ end)) (sym none) refl;
+      named = subst (All IsNamed) (sym none) (All-nil IsNamed);
+      wide = subst (All (IsWide c.args.bands.now.width)) (sym none) (All-nil (IsWide c.args.bands.now.width));
+      from = subst (All (λ p. 4 ≤ p.x)) (sym none) (All-nil (λ p. 4 ≤ p.x));
+      beside = subst (All (λ p. p.x + p.width ≤ end)) (sym none) (All-nil (λ p. p.x + p.width ≤ end));
+      within = subst (All (λ p. p.x + p.width ≤ 136)) (sym none) (All-nil (λ p. p.x + p.width ≤ 136));
+    }
+
+pub loop-shows-preserved : goal.loop-shows-preserved
+loop-shows-preserved c =
+    let was = c.loop-shows.invariant in
+    let next = c.column-next.result in
+    let made = c.column-next.ensures in
+    let pushed = c.in_ok-push.ensures.items in
+    record {
+      len = omega (arith, c.in_ok-push.ensures.len, was.len);
+      shown = shown_more c.args.shown.now c.loop-shows.shows-index _ c.loop-shows.columns.items _ next c.loop-shows-test.true pushed made.shows was.shown;
+      least = omega (arith, made.from was.least);
+      small = made.beside;
+      last = last_more _ c.loop-shows.columns.items _ next pushed;
+      order = order_more _ _ c.loop-shows.columns.items _ next c.loop-shows.end pushed was.last made.behind was.order;
+      opened = opened_more _ _ c.loop-shows.columns.items _ next pushed made.unopened was.opened;
+      named = all_more IsNamed c.loop-shows.columns.items _ next pushed was.named made.named;
+      wide = all_more (IsWide c.args.bands.now.width) c.loop-shows.columns.items _ next pushed was.wide made.wide;
+      from = all_more (λ p. 4 ≤ p.x) c.loop-shows.columns.items _ next pushed was.from (made.from was.least);
+      beside = all_more (λ p. p.x + p.width ≤ c.args.bands.now.end) c.loop-shows.columns.items _ next pushed was.beside made.beside;
+      within = all_more (λ p. p.x + p.width ≤ 136) c.loop-shows.columns.items _ next pushed was.within made.within;
+    }
 
 pub returns-clause-opened : goal.returns-clause-opened
-returns-clause-opened c = opened_first _ c.loop-slot.columns.items c.loop-slot.invariant.opened
+returns-clause-opened c = opened_first _ c.loop-shows.columns.items c.loop-shows.invariant.opened

@@ -1,11 +1,8 @@
-use Rattle.std.proofs.Common.{ℕ, take}
-use Rattle.std.specs.List.{All}
-use Rattle.fr_picture.specs.Shown.{IsMarked}
+use Rattle.std.proofs.Common.{◌≡◌, ℕ, false, ◌||◌, get_or, take}
+use Rattle.std.proofs.Math.Dec.{eqb}
+use Rattle.std.specs.List.{list_any}
 use Rattle.fr_picture.proofs.drawing.marks.mark_cells.Given as goal
 
--- those up to here are marked, and so is what was before
+-- those up to here are marked
 abbrev pub invariant-loop-cell : goal.invariant-loop-cell
-invariant-loop-cell l = record {
-  marked : All (λ s. IsMarked l.marks s.slot) (take l.cell-index l.cells);
-  others : (n : ℕ) → IsMarked l.initial.marks n → IsMarked l.marks n;
-}
+invariant-loop-cell l = (n : ℕ) → get_or l.marks n false ≡ (get_or l.initial.marks n false || list_any (λ s. eqb s.slot n) (take l.cell-index l.cells))

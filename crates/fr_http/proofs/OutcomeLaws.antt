@@ -1,0 +1,136 @@
+-- Bytes that begin with a head have one outcome; so two exchanges with them, from one book, have one reply.
+use Rattle.std.proofs.Common.{◌≡◌, inl, inr, ℕ, Bool, true, false, true≢false, List, [], ◌∷◌, ◌++◌, Option, Some, None, Result, Ok, Err, MatchResult, refl, sym, ap, ◌∙◌, subst}
+use Rattle.std.specs.Prelude.{unwrap_or}
+use Rattle.httparse.specs.Grammar.{RequestHead}
+use Rattle.httparse.proofs.GrammarLemmas.{request_unique}
+use Rattle.fr_base.specs.Actors.{actor_of}
+use Rattle.fr_base.specs.Alone.{is_unavailable}
+use Rattle.fr_base.specs.Book.{Book}
+use Rattle.fr_base.specs.Cluster.{Cluster}
+use Rattle.fr_base.specs.Run.{IsRun}
+use Rattle.fr_base.specs.declared.actor.Actor.{Actor}
+use Rattle.fr_base.specs.declared.answer.Answer.{Answer}
+use Rattle.fr_base.specs.declared.refusal.Refusal.{Refusal}
+use Rattle.fr_base.specs.declared.request.Ask.{Ask}
+use Rattle.fr_base.proofs.RunLaws.{runs-one}
+use Rattle.fr_picture.specs.declared.plan.Plan.{Plan}
+use Rattle.fr_http.specs.Exchanges.{Answered, Asks, Dealing, Drawn, Exchange, IsBrokenOff, IsExchange, IsReplied, IsTold, IsUnasked, asked_in, unasked_reply}
+use Rattle.fr_http.specs.Head.{BeginsWith, said}
+use Rattle.fr_http.specs.Outcome.{IsOutcome, interim, outcome_of}
+use Rattle.fr_http.specs.OutcomeLaws.{is_drawn, was_lacking}
+use Rattle.fr_http.specs.Reply.{Reply, answer_reply, print}
+use Rattle.fr_http.specs.declared.asking.Demand.{Demand}
+use Rattle.fr_http.specs.declared.asking.Demand.TheVariants as asked
+use Rattle.fr_http.specs.declared.fault.LinkFault.{LinkFault}
+use Rattle.fr_http.specs.declared.fault.Unasked.{Unasked}
+use Rattle.fr_http.specs.declared.method.Method.{Method}
+use Rattle.fr_http.specs.declared.serve.Served.{Served}
+
+pub outcome-one : (who : List ℕ → Option Actor) (bytes one other : List ℕ) (outcome another : Result Demand Unasked)
+    (head : RequestHead) (rest : List ℕ) → BeginsWith bytes head rest →
+    IsOutcome who bytes one outcome → IsOutcome who bytes other another → (outcome ≡ another) × (one ≡ other)
+outcome-one who bytes one other outcome another head rest begins (inl a) (inl b) =
+    let same = request_unique bytes a.head b.head a.rest b.rest a.begins.reads b.begins.reads in (
+      a.asks ∙ ap (λ (z : RequestHead × List ℕ). outcome_of who (said z.0) z.1) (λ i. (same.0 i, same.1 i)) ∙ sym b.asks,
+      a.interim ∙ ap (λ h. interim (said h)) same.0 ∙ sym b.interim,
+    )
+outcome-one who bytes one other outcome another head rest begins (inl a) (inr b) = absurd (b.none head rest begins)
+outcome-one who bytes one other outcome another head rest begins (inr a) second = absurd (a.none head rest begins)
+
+-- ---- what outcomes have that are the same
+
+unasked_in : Unasked → Result Demand Unasked → Unasked
+unasked_in other (Ok asked) = other
+unasked_in other (Err unasked) = unasked
+
+was_asked : Result Demand Unasked → Bool
+was_asked (Ok asked) = true
+was_asked (Err unasked) = false
+
+is_picture : Result Demand Unasked → Bool
+is_picture (Ok (asked.Picture reader variant)) = true
+is_picture _ = false
+
+ask_in : Ask → Result Demand Unasked → Ask
+ask_in other (Ok (asked.Request ask method)) = ask
+ask_in other _ = other
+
+method_in : Method → Result Demand Unasked → Method
+method_in other (Ok (asked.Request ask method)) = method
+method_in other _ = other
+
+first_of : Answer → List Answer → Answer
+first_of other [] = other
+first_of other (answer ∷ answers) = answer
+
+-- ---- a reply that was told
+
+told_whole : (x : Exchange) (before : List ℕ) (reply : Reply) (served : Served) → x.done ≡ Ok served → IsTold x before reply →
+    (x.written ≡ before ++ print reply) × (served.status ≡ reply.status)
+told_whole x before reply served is told =
+    subst (λ d. MatchResult d (λ (s : Served). (x.written ≡ before ++ print reply) × (s.status ≡ reply.status)) (λ fault. IsBrokenOff fault x.written before reply)) is told
+
+-- replies that are the same, behind the same interim reply, were written alike
+told_alike : (x y : Exchange) (before early : List ℕ) (reply answer : Reply) (served other : Served) →
+    x.done ≡ Ok served → y.done ≡ Ok other → IsTold x before reply → IsTold y early answer → before ≡ early → reply ≡ answer →
+    (x.written ≡ y.written) × (served.status ≡ other.status)
+told_alike x y before early reply answer served other x_done y_done x_told y_told same_before same_reply =
+    let one = told_whole x before reply served x_done x_told in
+    let two = told_whole y early answer other y_done y_told in (
+      one.0 ∙ ap (λ (z : List ℕ × Reply). z.0 ++ print z.1) (λ i. (same_before i, same_reply i)) ∙ sym two.0,
+      one.1 ∙ ap (λ (r : Reply). r.status) same_reply ∙ sym two.1,
+    )
+
+module _ (c : Cluster) (b last end : Book) (x y : Exchange) (head : RequestHead) (rest : List ℕ) (served other : Served)
+    (same : x.read ≡ y.read) (begins : BeginsWith x.read head rest) (x_done : x.done ≡ Ok served) (y_done : y.done ≡ Ok other) where
+  -- the outcomes of both
+  alike : (before early : List ℕ) (outcome another : Result Demand Unasked) →
+      IsOutcome (actor_of c b) x.read before outcome → IsOutcome (actor_of c b) y.read early another → (outcome ≡ another) × (before ≡ early)
+  alike before early outcome another one two =
+      outcome-one (actor_of c b) x.read before early outcome another head rest begins one
+      (subst (λ r. IsOutcome (actor_of c b) r early another) (sym same) two)
+
+  replied : IsUnasked c b x x.done → IsReplied c b x
+  replied unasked = subst (IsUnasked c b x) x_done unasked
+
+  replied_too : IsUnasked c b y y.done → IsReplied c b y
+  replied_too unasked = subst (IsUnasked c b y) y_done unasked
+
+  asks-one : (mine theirs : Option Dealing) → Asks c b x mine last → Asks c b y theirs end →
+      is_drawn mine ≡ false → was_lacking mine ≡ was_lacking theirs →
+      (x.written ≡ y.written) × (served.status ≡ other.status) × (last ≡ end)
+  unfolding unasked_in was_asked is_picture ask_in method_in first_of
+  asks-one None None one two drawn lacking =
+      let a = replied one.1 in
+      let d = replied_too two.1 in
+      let is = alike a.before d.before (Err a.unasked) (Err d.unasked) a.outcome d.outcome in
+      let cause : a.unasked ≡ d.unasked = ap (unasked_in a.unasked) is.0 in
+      let reply : a.reply ≡ d.reply = ap (λ o. unwrap_or o a.reply) (sym a.is_reply ∙ ap unasked_reply cause ∙ d.is_reply) in
+      let told = told_alike x y a.before d.before a.reply d.reply served other x_done y_done a.told d.told is.1 reply in
+      (told.0, told.1, one.0 ∙ sym two.0)
+  asks-one None (Some theirs) one two drawn lacking =
+      let a = replied one.1 in
+      absurd (true≢false (sym (ap was_asked (alike a.before two.before (Err a.unasked) (Ok (asked_in theirs)) a.outcome two.outcome).0)))
+  asks-one (Some mine) None one two drawn lacking =
+      let d = replied_too two.1 in
+      absurd (true≢false (ap was_asked (alike one.before d.before (Ok (asked_in mine)) (Err d.unasked) one.outcome d.outcome).0))
+  asks-one (Some (Drawn reader variant plan)) (Some theirs) one two drawn lacking = absurd (true≢false drawn)
+  asks-one (Some (Answered ask method answer)) (Some (Drawn reader variant plan)) one two drawn lacking =
+      absurd (true≢false (sym (ap is_picture (alike one.before two.before (Ok (asked.Request ask method)) (Ok (asked.Picture reader variant)) one.outcome two.outcome).0)))
+  asks-one (Some (Answered ask method answer)) (Some (Answered ask' method' answer')) one two drawn lacking =
+      let is = alike one.before two.before (Ok (asked.Request ask method)) (Ok (asked.Request ask' method')) one.outcome two.outcome in
+      let asks : ask ≡ ask' = ap (ask_in ask) is.0 in
+      let by : method ≡ method' = ap (method_in method) is.0 in
+      let run = runs-one c b last end (ask ∷ []) (answer ∷ []) (answer' ∷ []) one.deals
+      (subst (λ (a : Ask). IsRun c b (a ∷ []) (answer' ∷ []) end) (sym asks) two.deals) (ap (λ (t : Bool). t ∷ []) lacking) in
+      let answers : answer ≡ answer' = ap (first_of answer) run.0 in
+      let reply : one.reply ≡ two.reply = one.is_reply ∙ ap (λ (z : Method × Answer). answer_reply z.0 z.1) (λ i. (by i, answers i)) ∙ sym two.is_reply in
+      let told = told_alike x y one.before two.before one.reply two.reply served other x_done y_done one.told two.told is.1 reply in
+      (told.0, told.1, run.1)
+
+pub exchange-one : (c : Cluster) (b last end : Book) (x y : Exchange) (head : RequestHead) (rest : List ℕ) (told other : Served) →
+    IsExchange c b x last → IsExchange c b y end → x.read ≡ y.read → BeginsWith x.read head rest →
+    x.done ≡ Ok told → y.done ≡ Ok other → is_drawn x.asked ≡ false → was_lacking x.asked ≡ was_lacking y.asked →
+    (x.written ≡ y.written) × (told.status ≡ other.status) × (last ≡ end)
+exchange-one c b last end x y head rest told other one two same begins x_done y_done drawn lacking =
+    asks-one c b last end x y head rest told other same begins x_done y_done x.asked y.asked one.1 two.1 drawn lacking
