@@ -4,6 +4,10 @@ pub mod IncomingLaws
 mod CommandLaws
 mod NumberLaws
 mod WordLaws
+mod TakenRows
+mod TakenThere
+mod TakenSubs
+mod TakenJobs
 mod WordRows
 pub mod ScriptRunLaws
 mod ScriptRows

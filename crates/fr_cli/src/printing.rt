@@ -71,7 +71,7 @@ pub fn print_word<W: Write>(word: &str, output: &mut Output<'_, W>) -> Result<()
     ensures retries { output.new.retries ≤ WRITE_RETRIES }
     ensures same { output.new.writer.ghost_name ≡ output.old.writer.ghost_name }
 {
-    output.renew();
+    output.restore_retries();
     output.write_all(b"slotplan: ")?;
     output.write_all(word.as_bytes())?;
     output.write_all(b"\n")

@@ -41,7 +41,7 @@ session_leads g warm stands leaves serves clean held settled parts whole first l
     let stood = parts first c b (finds is_clean c b there) in
     let kept = were_kept warm leaves c b first last session.asks session.answers asked stood sound (settled first c b up stood) in
     ∥∥₁_map (given are next crash c kept.books kept.left) (λ one.
-    let x = one_of c (IsOrNext c (WasLacking session.asks session.answers) kept.last) kept.books one.0 kept.each one.2 in
+    let x = one_of c (IsOrNext c (WasLacking c b session.asks session.answers) kept.last) kept.books one.0 kept.each one.2 in
     is_found (Held next c) c b kept.last x.0 session.asks session.answers sound kept.run x.1 (inr (one.0, one.1, x.2)))
 
 -- requests of a run, and those of one from where it led

@@ -55,7 +55,7 @@ abbrev pub AreAllOf : List Session → List Ask → List Answer → Type 0
 AreAllOf [] asks answers = (asks ≡ []) × (answers ≡ [])
 AreAllOf (session ∷ more) asks answers = (rest : Session) × AreAllOf more rest.asks rest.answers
     × (((asks ≡ session.asks ++ rest.asks) × (answers ≡ session.answers ++ rest.answers))
-    ⊎ ((ask : Ask) × (answer : Answer) × WasLacking session.asks session.answers ask
+    ⊎ ((ask : Ask) × (answer : Answer) × WasLacking c b session.asks session.answers ask
     × (asks ≡ (session.asks ++ ask ∷ []) ++ rest.asks) × (answers ≡ (session.answers ++ answer ∷ []) ++ rest.answers)))
 
 -- From a sound book that the files held at first, they hold at last the one after all requests of the sessions, which were

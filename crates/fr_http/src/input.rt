@@ -2,9 +2,11 @@
 ghost use Rattle.std.specs.Prelude.{◌≡◌, ◌⊎◌, ◌↔◌, ◌<◌, ◌≤◌, length, take, IfOk, IfErr, IsErrOf, IsOk, OnErr};
 ghost use Rattle.std.specs.Io.KnownBytes.{Consumes, IsAtEnd, Keeps};
 ghost use Rattle.std.specs.IoError.{error_kind};
+ghost use Rattle.fr_http.specs.Reads.{IsRead, MayEnd, Spends};
 
 use crate::fault::LinkFault;
-use std::io::{Error, ErrorKind, Read};
+use crate::source::Source;
+use std::io::{Error, ErrorKind};
 
 /// In how many reads a request is read at most, interrupted ones included.
 pub const MAX_READS: u32 = 100_000;
@@ -16,7 +18,7 @@ pub(crate) struct Input<'a, R> {
     reads: u32,
 }
 
-impl<'a, R: Read> Input<'a, R> {
+impl<'a, R: Source> Input<'a, R> {
     /// The input of a reader, which is read at most [`MAX_READS`] times.
     pub(crate) fn new(reader: &'a mut R) -> Input<'a, R>
         ensures same { result.reader.ghost_name ≡ reader.entry.ghost_name }
@@ -37,6 +39,11 @@ impl<'a, R: Read> Input<'a, R> {
         ensures end { IfOk result (λ n. n ≡ 0 → 0 < length piece.new → IsAtEnd (R.remaining self.new.reader.now)) }
         ensures kept { OnErr result (Keeps (R.remaining self.old.reader.now) (R.remaining self.new.reader.now)) }
         ensures fault { IfErr result (λ fault. (fault ≡ LinkFault.ReadFailed) ⊎ (fault ≡ LinkFault.TooManyReads)) }
+
+        // An interrupted read is tried again as long as a read is left, and no other failed one is. Each counts.
+        ensures made { IsRead R.reads self.old.reader.now self.old.reads piece.new result self.new.reader.now self.new.reads }
+        ensures spends { Spends R.reads self.old.reader.now self.old.reads self.new.reader.now self.new.reads }
+        ensures ended { IfErr result (λ fault. MayEnd R.reads fault self.new.reader.now self.new.reads) }
         ensures spent { IsErrOf result LinkFault.TooManyReads → self.new.reads ≡ 0 }
         ensures reads { self.new.reads ≤ self.old.reads }
 
@@ -46,7 +53,7 @@ impl<'a, R: Read> Input<'a, R> {
     {
         while self.reads > 0 {
             self.reads -= 1;
-            match self.reader.read(piece) {
+            match self.reader.read_once(piece) {
                 Ok(n) => return Ok(n),
                 Err(error) => try_again(&error)?,
             }

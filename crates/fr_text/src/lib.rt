@@ -10,6 +10,7 @@ mod laws;
 mod output;
 mod report;
 mod request_text;
+mod sink;
 mod style;
 mod words;
 
@@ -25,3 +26,4 @@ pub use laws::{
 pub use output::{Output, WRITE_RETRIES, WriteFailed};
 pub use report::write_lines;
 pub use request_text::read_command;
+pub use sink::Sink;
