@@ -59,10 +59,10 @@ module _ {D : Type 0} {g : Ghosts D} (held : Image) (rest : Option (Leftover D g
       × Keeps s.out.old s.out.new × Ends done s status
 
   -- connections were served
-  abbrev pub Serves : ℕ → ℕ → Streams → ℕ → Type 0
-  Serves port count s status = (done : Result ⊤ Fault) × (told : Option (List ℕ)) × (status ≡ status_of done)
-      × IsAnnounced port s.out.old s.out.new done
-      × IsServed held rest port count comings.none (comings.at port) s.out.old s.out.new s.err.old told done
+  abbrev pub Serves : ℕ → ℕ → ℕ → Streams → ℕ → Type 0
+  Serves port count seconds s status = (done : Result ⊤ Fault) × (told : Option (List ℕ)) × (status ≡ status_of done)
+      × IsAnnounced (comings.heard port) port s.out.old s.out.new done
+      × IsServed held rest port count comings.none (comings.at port seconds) s.out.old s.out.new s.err.old told done
       × Tells told s.err.new done
 
   -- What the job does.
@@ -71,7 +71,7 @@ module _ {D : Type 0} {g : Ghosts D} (held : Image) (rest : Option (Leftover D g
       × Ends (of_script done) s status × read.none
   IsPerformed (job.Create db config) s status = Creates config.now s status
   IsPerformed (job.Migrate db) s status = Migrates s status × read.none
-  IsPerformed (job.Serve db port count seconds) s status = Serves port count s status × read.none
+  IsPerformed (job.Serve db port count seconds) s status = Serves port count seconds s status × read.none
   IsPerformed (job.Ask db) s status = (done : Result ⊤ Fault) × IsAsked held rest s.input.old s.input.new s.out.old s.out.new done
       × Ends done s status × read.none
   IsPerformed (job.Report db query) s status = (done : Result (Vec ℕ) Failure) × Shows done s status

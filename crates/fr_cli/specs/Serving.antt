@@ -59,9 +59,11 @@ pub record HasServed (clean : Type 0) (old new : Standing) (count : ℕ) (said :
   pub fault : IfErr done (StopsServing visits)
   pub first : (visits ≡ []) ⊎ said
 
--- The line that says where the server listens was printed, or where a fault ended it a front of it.
-abbrev pub IsAnnounced : ℕ → Option (List ℕ) → Option (List ℕ) → Result ⊤ Fault → Type 0
-IsAnnounced port a b done = AppendsFront a b (listening port) × OnOk done (Appends a b (listening port))
+-- The line that says where the server listens was printed, or where a fault ended it a front of it. Nothing was printed unless it
+-- listens.
+abbrev pub IsAnnounced : Type 0 → ℕ → Option (List ℕ) → Option (List ℕ) → Result ⊤ Fault → Type 0
+IsAnnounced listens port a b done =
+    AppendsFront a b (listening port) × OnOk done (Appends a b (listening port)) × (Keeps a b ⊎ listens)
 
 -- The register was not opened, nothing was printed or told, and this stayed as it was; or its file was opened, and connections that came in so were
 -- served: as long as nobody else wrote to the file, from the book that it held, and what is left holds the book after them. The line that says where

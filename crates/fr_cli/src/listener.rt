@@ -5,7 +5,9 @@ use std::io::{self, Read, Write};
 /// Connections come in at it, one after another. Each has two ends: one gives what comes in, the other takes what goes out.
 /// What a server is proved to do, it is proved to do at each listener, whatever may come in at it.
 pub trait Listener {
-    ghost use Rattle.std.specs.Prelude.{◌≡◌, ℕ, IfOk, OnOk, OnErr};
+    ghost use Rattle.std.specs.Prelude.{◌≡◌, ℕ, Result, IfOk, OnOk, OnErr};
+    ghost use Rattle.fr_http.specs.declared.fault.LinkFault.{LinkFault as Fault};
+    ghost use Rattle.fr_http.specs.declared.serve.Served.{Served as Reply};
 
     /// Gives the bytes that come in.
     type Reader: Read + Drop;
@@ -16,11 +18,11 @@ pub trait Listener {
     /// So it may come to listen at a port.
     ghost listens: { Self → ℕ → Self → Type 0 };
 
-    /// So a connection with these ends may come in.
-    ghost accepts: { Self → Self.Reader → Self.Writer → Self → Type 0 };
+    /// So a connection with these ends may come in, which lasts so many seconds at most.
+    ghost accepts: { Self → ℕ → Self.Reader → Self.Writer → Self → Type 0 };
 
-    /// So the connection may end whose ends these are now.
-    ghost closes: { Self → Self.Reader → Self.Writer → Self → Type 0 };
+    /// So the connection may end whose ends these are now, and that was served so.
+    ghost closes: { Self → Self.Reader → Self.Writer → Result Reply Fault → Self → Type 0 };
 
     /// Listens at the port.
     fn listen(&mut self, port: u16) -> io::Result<()>
@@ -29,7 +31,7 @@ pub trait Listener {
 
     /// The next connection, which is to last so many seconds at most. No clause speaks of time.
     fn accept(&mut self, seconds: u32) -> io::Result<(Self::Reader, Self::Writer)>
-        ensures ok { IfOk result (λ ends. accepts self.old ends.0 ends.1 self.new) }
+        ensures ok { IfOk result (λ ends. accepts self.old seconds ends.0 ends.1 self.new) }
         ensures err { OnErr result (self.new ≡ self.old) };
 
     /// Ends the connection that was served so. What its client sent behind its request may be read before.
@@ -39,5 +41,5 @@ pub trait Listener {
         writer: Self::Writer,
         done: &Result<Served, LinkFault>,
     )
-        ensures { closes self.old reader writer self.new };
+        ensures { closes self.old reader writer done.now self.new };
 }

@@ -4,7 +4,7 @@ ghost use Rattle.std.specs.Io.KnownBytes.{Appends};
 ghost use Rattle.sqlite_wal.specs.Files.{image_at};
 ghost use Rattle.fr_cli.specs.Performing.{listening};
 ghost use Rattle.fr_cli.specs.Serving.{HasServed, IsAnnounced, IsServed, ServesOne, StopsServing, TellsEach, TellsEnd};
-ghost use Rattle.fr_cli.specs.Visits.{AreVisited, AreVisitedAt, IsVisited, Visit};
+ghost use Rattle.fr_cli.specs.Visits.{AreVisited, AreVisitedAt, IsVisited, MayListen, Visit};
 ghost use Rattle.fr_http.specs.Exchanges.{was_asked};
 
 use crate::fault::{Fault, link_word};
@@ -49,9 +49,12 @@ pub fn serve<S: Start, L: Listener, O: Write, E: Write>(
     out: &mut O,
     err: &mut Output<'_, E>,
 ) -> (Result<(), Fault>, Left<S>)
-    ensures announced { IsAnnounced service.port (O.contents out.old) (O.contents out.new) result.0 }
+    ensures announced { IsAnnounced (MayListen L.Listener service.port listener.old) service.port
+        (O.contents out.old) (O.contents out.new) result.0 }
     ensures served { IsServed (image_at S.Start) result.1 service.port service.count (listener.new ≡ listener.old)
-        (λ visits. AreVisitedAt L.Listener L.Reader.Read L.Writer.Write listener.old service.port visits listener.new) (O.contents out.old) (O.contents out.new)
+        (λ visits. AreVisitedAt L.Listener L.Reader.Read L.Writer.Write
+        service.port service.seconds listener.old visits listener.new)
+        (O.contents out.old) (O.contents out.new)
         (E.contents err.old.writer.now) (E.contents err.new.writer.now) result.0 }
     ensures same { err.new.writer.ghost_name ≡ err.old.writer.ghost_name }
 {
@@ -75,10 +78,14 @@ fn serve_office<R: Records, L: Listener, O: Write, E: Write>(
     err: &mut Output<'_, E>,
 ) -> (Result<(), Fault>, Office<R>)
     ensures falls { ⟦<Office<R> as Desk>⟧.clean result.1 → ⟦<Office<R> as Desk>⟧.clean office }
-    ensures announced { IsAnnounced service.port (O.contents out.old) (O.contents out.new) result.0 }
-    ensures served { HasServed (⟦<Office<R> as Desk>⟧.clean result.1) (⟦<Office<R> as Desk>⟧.stands office) (⟦<Office<R> as Desk>⟧.stands result.1) service.count
+    ensures announced { IsAnnounced (MayListen L.Listener service.port listener.old) service.port
+        (O.contents out.old) (O.contents out.new) result.0 }
+    ensures served { let it = ⟦<Office<R> as Desk>⟧ in
+        HasServed (it.clean result.1) (it.stands office) (it.stands result.1) service.count
         (Appends (O.contents out.old) (O.contents out.new) (listening service.port))
-        (λ visits. AreVisitedAt L.Listener L.Reader.Read L.Writer.Write listener.old service.port visits listener.new) (E.contents err.old.writer.now) (E.contents err.new.writer.now) result.0 }
+        (λ visits. AreVisitedAt L.Listener L.Reader.Read L.Writer.Write
+        service.port service.seconds listener.old visits listener.new)
+        (E.contents err.old.writer.now) (E.contents err.new.writer.now) result.0 }
     ensures same { err.new.writer.ghost_name ≡ err.old.writer.ghost_name }
 {
     let watch = match Watch::new(rt, db) {
@@ -110,10 +117,12 @@ fn listen<D: Lasting, L: Listener, O: Write, E: Write>(
     err: &mut Output<'_, E>,
 ) -> Result<(), Fault>
     ensures falls { D.clean desk.new → D.clean desk.old }
-    ensures announced { IsAnnounced service.port (O.contents out.old) (O.contents out.new) result }
+    ensures announced { IsAnnounced (MayListen L.Listener service.port listener.old) service.port
+        (O.contents out.old) (O.contents out.new) result }
     ensures served { HasServed (D.clean desk.new) (D.stands desk.old) (D.stands desk.new)
         service.count (Appends (O.contents out.old) (O.contents out.new) (listening service.port))
-        (λ visits. AreVisitedAt L.Listener L.Reader.Read L.Writer.Write listener.old service.port visits listener.new)
+        (λ visits. AreVisitedAt L.Listener L.Reader.Read L.Writer.Write
+        service.port service.seconds listener.old visits listener.new)
         (E.contents err.old.writer.now) (E.contents err.new.writer.now) result }
     ensures same { err.new.writer.ghost_name ≡ err.old.writer.ghost_name }
 {
@@ -132,7 +141,7 @@ fn begin<L: Listener>(listener: &mut L, port: u16) -> Result<(), Fault>
 
 // Prints where it listens.
 fn announce<O: Write>(alloc: Global, port: u16, out: &mut O) -> Result<(), Fault>
-    ensures announced { IsAnnounced port (O.contents out.old) (O.contents out.new) result }
+    ensures announced { IsAnnounced ⊤ port (O.contents out.old) (O.contents out.new) result }
     ensures fault { IfErr result (λ fault. (fault ≡ Fault.NoMemory) ⊎ (fault ≡ Fault.WriteFailed)) }
 {
     let line = format!(in alloc; "listening on 127.0.0.1:{port}\n").map_err(|_| Fault::NoMemory)?;
@@ -149,7 +158,8 @@ fn answer_all<D: Lasting, L: Listener, E: Write>(
 ) -> Result<(), Fault>
     ensures falls { D.clean desk.new → D.clean desk.old }
     ensures served { HasServed (D.clean desk.new) (D.stands desk.old) (D.stands desk.new) service.now.count ⊤
-        (λ visits. AreVisited L.Listener L.Reader.Read L.Writer.Write listener.old visits listener.new)
+        (λ visits. AreVisited L.Listener L.Reader.Read L.Writer.Write
+        service.now.seconds listener.old visits listener.new)
         (E.contents err.old.writer.now) (E.contents err.new.writer.now) result }
     ensures fault { IfErr result (λ fault. (fault ≡ Fault.CannotListen) ⊎ (fault ≡ Fault.Register StoreFault.Unavailable)) }
     ensures same { err.new.writer.ghost_name ≡ err.old.writer.ghost_name }
@@ -172,7 +182,8 @@ fn answer_next<D: Lasting, L: Listener, E: Write>(
     err: &mut Output<'_, E>,
 ) -> Result<bool, Fault>
     ensures falls { D.clean desk.new → D.clean desk.old }
-    ensures served { OnOk result ((visit : Visit) × IsVisited L.Listener L.Reader.Read L.Writer.Write listener.old visit listener.new
+    ensures served { OnOk result ((visit : Visit)
+        × IsVisited L.Listener L.Reader.Read L.Writer.Write seconds listener.old visit listener.new
         × ServesOne (D.clean desk.new) (D.stands desk.old) (D.stands desk.new) visit
         × TellsEach (E.contents err.old.writer.now) (E.contents err.new.writer.now) (visit ∷ [])) }
     ensures fault { IfErr result (λ fault. (fault ≡ Fault.CannotListen) × (listener.new ≡ listener.old) × (desk.new ≡ desk.old)
@@ -209,7 +220,7 @@ pub fn serve_next<D: Desk, L: Listener>(
 ) -> io::Result<Result<Served, LinkFault>>
     ensures falls { D.clean desk.new → D.clean desk.old }
     ensures served { IfOk result (λ done. (visit : Visit) × (visit.done ≡ done)
-        × IsVisited L.Listener L.Reader.Read L.Writer.Write listener.old visit listener.new
+        × IsVisited L.Listener L.Reader.Read L.Writer.Write seconds listener.old visit listener.new
         × ServesOne (D.clean desk.new) (D.stands desk.old) (D.stands desk.new) visit) }
 
     // Where the register was not asked it is as it was.
