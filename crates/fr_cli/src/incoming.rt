@@ -32,7 +32,9 @@ pub fn answer_input<D: Lasting, R: Read, W: Write>(
     writer: &mut W,
 ) -> Result<(), ScriptFault>
     ensures falls { D.clean desk.new → D.clean desk.old }
-    ensures answered { HasAnswered (D.clean desk.new) (D.stands desk.old) (D.stands desk.new) (R.remaining reader.old) (R.remaining reader.new) (W.contents writer.old) (W.contents writer.new) result }
+    ensures answered { HasAnswered (D.clean desk.new) (D.stands desk.old) (D.stands desk.new)
+        (R.remaining reader.old) (R.remaining reader.new) (W.contents writer.old)
+        (W.contents writer.new) result }
     ensures end { OnOk result (IsAtEnd (R.remaining reader.new)) }
 {
     let mut output = Output::new(writer);
@@ -47,8 +49,9 @@ fn answer_pieces<D: Lasting, R: Read, W: Write>(
     output: &mut Output<'_, W>,
 ) -> Result<(), ScriptFault>
     ensures falls { D.clean desk.new → D.clean desk.old }
-    ensures answered { HasAnswered (D.clean desk.new) (D.stands desk.old) (D.stands desk.new) (R.remaining reader.old) (R.remaining reader.new)
-        (W.contents output.old.writer.now) (W.contents output.new.writer.now) result }
+    ensures answered { HasAnswered (D.clean desk.new) (D.stands desk.old) (D.stands desk.new)
+        (R.remaining reader.old) (R.remaining reader.new) (W.contents output.old.writer.now)
+        (W.contents output.new.writer.now) result }
     ensures end { OnOk result (IsAtEnd (R.remaining reader.new)) }
     ensures same { output.new.writer.ghost_name ≡ output.old.writer.ghost_name }
 {
@@ -81,8 +84,9 @@ fn answer_piece<D: Lasting, W: Write>(
     requires short { vec_len begun.old ≤ LINE_BYTES }
     ensures short { OnOk result (vec_len begun.new ≤ LINE_BYTES) }
     ensures falls { D.clean desk.new → D.clean desk.old }
-    ensures heard { HasHeard (D.clean desk.new) (D.stands desk.old) (D.stands desk.new) (begun.old.items ++ piece.now) begun.new.items
-        (W.contents output.old.writer.now) (W.contents output.new.writer.now) result }
+    ensures heard { HasHeard (D.clean desk.new) (D.stands desk.old) (D.stands desk.new)
+        (begun.old.items ++ piece.now) begun.new.items (W.contents output.old.writer.now)
+        (W.contents output.new.writer.now) result }
     ensures faults { IfErr result (λ fault. (fault ≡ ScriptFault.TooLong) ⊎ EndsAsking fault) }
     ensures same { output.new.writer.ghost_name ≡ output.old.writer.ghost_name }
 {
@@ -105,8 +109,9 @@ fn answer_requests<D: Lasting, W: Write>(
     output: &mut Output<'_, W>,
 ) -> Result<(), ScriptFault>
     ensures falls { D.clean desk.new → D.clean desk.old }
-    ensures asked { HasAsked (D.clean desk.new) (D.stands desk.old) (D.stands desk.new) (request_lines requests.now)
-        (W.contents output.old.writer.now) (W.contents output.new.writer.now) result }
+    ensures asked { HasAsked (D.clean desk.new) (D.stands desk.old) (D.stands desk.new)
+        (request_lines requests.now) (W.contents output.old.writer.now)
+        (W.contents output.new.writer.now) result }
     ensures same { output.new.writer.ghost_name ≡ output.old.writer.ghost_name }
 {
     write_answers(alloc, desk, requests, output)?;

@@ -49,9 +49,12 @@ pub fn serve<S: Start, L: Listener, O: Write, E: Write>(
     out: &mut O,
     err: &mut Output<'_, E>,
 ) -> (Result<(), Fault>, Left<S>)
-    ensures announced { IsAnnounced service.port (O.contents out.old) (O.contents out.new) result.0 }
-    ensures served { IsServed (image_at S.Start) result.1 service.port service.count (listener.new ≡ listener.old)
-        (λ visits. AreVisitedAt L.Listener L.Reader.Read L.Writer.Write listener.old service.port visits listener.new) (O.contents out.old) (O.contents out.new)
+    ensures announced { IsAnnounced service.port (O.contents out.old) (O.contents out.new)
+        result.0 }
+    ensures served { IsServed (image_at S.Start) result.1 service.port service.count
+        (listener.new ≡ listener.old)
+        (λ visits. AreVisitedAt L.Listener L.Reader.Read L.Writer.Write listener.old service.port
+        visits listener.new) (O.contents out.old) (O.contents out.new)
         (E.contents err.old.writer.now) (E.contents err.new.writer.now) result.0 }
     ensures same { err.new.writer.ghost_name ≡ err.old.writer.ghost_name }
 {
@@ -75,10 +78,14 @@ fn serve_office<R: Records, L: Listener, O: Write, E: Write>(
     err: &mut Output<'_, E>,
 ) -> (Result<(), Fault>, Office<R>)
     ensures falls { ⟦<Office<R> as Desk>⟧.clean result.1 → ⟦<Office<R> as Desk>⟧.clean office }
-    ensures announced { IsAnnounced service.port (O.contents out.old) (O.contents out.new) result.0 }
-    ensures served { HasServed (⟦<Office<R> as Desk>⟧.clean result.1) (⟦<Office<R> as Desk>⟧.stands office) (⟦<Office<R> as Desk>⟧.stands result.1) service.count
+    ensures announced { IsAnnounced service.port (O.contents out.old) (O.contents out.new)
+        result.0 }
+    ensures served { HasServed (⟦<Office<R> as Desk>⟧.clean result.1)
+        (⟦<Office<R> as Desk>⟧.stands office) (⟦<Office<R> as Desk>⟧.stands result.1) service.count
         (Appends (O.contents out.old) (O.contents out.new) (listening service.port))
-        (λ visits. AreVisitedAt L.Listener L.Reader.Read L.Writer.Write listener.old service.port visits listener.new) (E.contents err.old.writer.now) (E.contents err.new.writer.now) result.0 }
+        (λ visits. AreVisitedAt L.Listener L.Reader.Read L.Writer.Write listener.old service.port
+        visits listener.new) (E.contents err.old.writer.now) (E.contents err.new.writer.now)
+        result.0 }
     ensures same { err.new.writer.ghost_name ≡ err.old.writer.ghost_name }
 {
     let watch = match Watch::new(rt, db) {
@@ -113,8 +120,9 @@ fn listen<D: Lasting, L: Listener, O: Write, E: Write>(
     ensures announced { IsAnnounced service.port (O.contents out.old) (O.contents out.new) result }
     ensures served { HasServed (D.clean desk.new) (D.stands desk.old) (D.stands desk.new)
         service.count (Appends (O.contents out.old) (O.contents out.new) (listening service.port))
-        (λ visits. AreVisitedAt L.Listener L.Reader.Read L.Writer.Write listener.old service.port visits listener.new)
-        (E.contents err.old.writer.now) (E.contents err.new.writer.now) result }
+        (λ visits. AreVisitedAt L.Listener L.Reader.Read L.Writer.Write listener.old service.port
+        visits listener.new) (E.contents err.old.writer.now) (E.contents err.new.writer.now)
+        result }
     ensures same { err.new.writer.ghost_name ≡ err.old.writer.ghost_name }
 {
     begin(listener, service.port)?;
@@ -125,7 +133,8 @@ fn listen<D: Lasting, L: Listener, O: Write, E: Write>(
 // Begins to listen at the port.
 fn begin<L: Listener>(listener: &mut L, port: u16) -> Result<(), Fault>
     ensures ok { OnOk result (L.listens listener.old port listener.new) }
-    ensures err { IfErr result (λ fault. (fault ≡ Fault.CannotListen) × (listener.new ≡ listener.old)) }
+    ensures err { IfErr result (λ fault. (fault ≡ Fault.CannotListen)
+        × (listener.new ≡ listener.old)) }
 {
     listener.listen(port).map_err(|_| Fault::CannotListen)
 }
@@ -148,10 +157,12 @@ fn answer_all<D: Lasting, L: Listener, E: Write>(
     err: &mut Output<'_, E>,
 ) -> Result<(), Fault>
     ensures falls { D.clean desk.new → D.clean desk.old }
-    ensures served { HasServed (D.clean desk.new) (D.stands desk.old) (D.stands desk.new) service.now.count ⊤
-        (λ visits. AreVisited L.Listener L.Reader.Read L.Writer.Write listener.old visits listener.new)
+    ensures served { HasServed (D.clean desk.new) (D.stands desk.old) (D.stands desk.new)
+        service.now.count ⊤ (λ visits.
+        AreVisited L.Listener L.Reader.Read L.Writer.Write listener.old visits listener.new)
         (E.contents err.old.writer.now) (E.contents err.new.writer.now) result }
-    ensures fault { IfErr result (λ fault. (fault ≡ Fault.CannotListen) ⊎ (fault ≡ Fault.Register StoreFault.Unavailable)) }
+    ensures fault { IfErr result
+        (λ fault. (fault ≡ Fault.CannotListen) ⊎ (fault ≡ Fault.Register StoreFault.Unavailable)) }
     ensures same { err.new.writer.ghost_name ≡ err.old.writer.ghost_name }
 {
     for _ in 0..service.count {
@@ -172,11 +183,13 @@ fn answer_next<D: Lasting, L: Listener, E: Write>(
     err: &mut Output<'_, E>,
 ) -> Result<bool, Fault>
     ensures falls { D.clean desk.new → D.clean desk.old }
-    ensures served { OnOk result ((visit : Visit) × IsVisited L.Listener L.Reader.Read L.Writer.Write listener.old visit listener.new
-        × ServesOne (D.clean desk.new) (D.stands desk.old) (D.stands desk.new) visit
+    ensures served { OnOk result
+        ((visit : Visit) × IsVisited L.Listener L.Reader.Read L.Writer.Write listener.old visit
+        listener.new × ServesOne (D.clean desk.new) (D.stands desk.old) (D.stands desk.new) visit
         × TellsEach (E.contents err.old.writer.now) (E.contents err.new.writer.now) (visit ∷ [])) }
-    ensures fault { IfErr result (λ fault. (fault ≡ Fault.CannotListen) × (listener.new ≡ listener.old) × (desk.new ≡ desk.old)
-        × (E.contents err.new.writer.now ≡ E.contents err.old.writer.now)) }
+    ensures fault { IfErr result
+        (λ fault. (fault ≡ Fault.CannotListen) × (listener.new ≡ listener.old)
+        × (desk.new ≡ desk.old) × (E.contents err.new.writer.now ≡ E.contents err.old.writer.now)) }
     ensures same { err.new.writer.ghost_name ≡ err.old.writer.ghost_name }
 {
     match serve_next(alloc, listener, seconds, desk) {

@@ -99,7 +99,8 @@ pub fn read_words<'a>(alloc: Global, words: &'a [String]) -> Result<Job<'a>, Wor
 fn read<'a>(alloc: Global, words: &'a [String]) -> Result<Job<'a>, Error>
     ensures taken { OnOk result (AreTaken (map string_bytes words.entry.now)) }
     ensures job { IfOk result (AskFor (map string_bytes words.entry.now)) }
-    ensures fault { IfErr result (λ error. MayRefuse (map string_bytes words.entry.now) (kind_of error)) }
+    ensures fault { IfErr result
+        (λ error. MayRefuse (map string_bytes words.entry.now) (kind_of error)) }
 {
     let mut program = program(alloc)?;
     let matches = program.try_get_matches_from_mut(words)?;
@@ -218,7 +219,8 @@ fn diff_job<'a>(found: &ArgMatches<'a>) -> Option<Job<'a>>
 }
 
 fn report_job<'a>(found: &ArgMatches<'a>, report: Report<&'a str>) -> Option<Job<'a>>
-    ensures { HasReport report.entry (rows_of (found_of found.now)) → IsJobIn result (word_of_report report.entry) (rows_of (found_of found.now)) }
+    ensures { HasReport report.entry (rows_of (found_of found.now))
+        → IsJobIn result (word_of_report report.entry) (rows_of (found_of found.now)) }
 {
     let db = word(found, "DB")?;
     let variant = word(found, "VARIANT")?;
@@ -289,7 +291,8 @@ fn try_job<'a>(found: &ArgMatches<'a>) -> Option<Job<'a>>
 }
 
 fn deliver_job<'a>(found: &ArgMatches<'a>, kind: DeliveryKind<'a>) -> Option<Job<'a>>
-    ensures { HasKind kind.entry (rows_of (found_of found.now)) → IsJobIn result (word_of_delivery kind.entry) (rows_of (found_of found.now)) }
+    ensures { HasKind kind.entry (rows_of (found_of found.now))
+        → IsJobIn result (word_of_delivery kind.entry) (rows_of (found_of found.now)) }
 {
     let db = word(found, "DB")?;
     let delivery = Delivery {
@@ -334,7 +337,8 @@ fn explain_job<'a>(found: &ArgMatches<'a>) -> Job<'a>
 
 // The word at this place, if one stands there.
 fn word<'a>(found: &ArgMatches<'a>, name: &str) -> Option<&'a str>
-    ensures { option_map (λ text. text.now) result ≡ first_of name.now (rows_of (found_of found.now)) }
+    ensures { option_map (λ text. text.now) result
+        ≡ first_of name.now (rows_of (found_of found.now)) }
 {
     found.get_str(name)
 }

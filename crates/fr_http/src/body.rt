@@ -17,7 +17,8 @@ pub(crate) fn read_body<R: Read>(
     begun: &[u8],
     length: usize,
 ) -> Result<Vec<u8>, LinkFault>
-    ensures body { HasBody length begun.now (R.remaining input.old.reader.now) (R.remaining input.new.reader.now) result }
+    ensures body { HasBody length begun.now (R.remaining input.old.reader.now)
+        (R.remaining input.new.reader.now) result }
     ensures same { input.new.reader.ghost_name ≡ input.old.reader.ghost_name }
 {
     let mut body = Vec::new(alloc);

@@ -33,10 +33,15 @@ impl<'a, R: Read> Input<'a, R> {
     /// that is interrupted is tried again.
     pub(crate) fn read(&mut self, piece: &mut [u8]) -> Result<usize, LinkFault>
         ensures bound { IfOk result (λ n. n ≤ length piece.new) }
-        ensures bytes { IfOk result (λ n. Consumes (R.remaining self.old.reader.now) (R.remaining self.new.reader.now) (take n piece.new)) }
-        ensures end { IfOk result (λ n. n ≡ 0 → 0 < length piece.new → IsAtEnd (R.remaining self.new.reader.now)) }
-        ensures kept { OnErr result (Keeps (R.remaining self.old.reader.now) (R.remaining self.new.reader.now)) }
-        ensures fault { IfErr result (λ fault. (fault ≡ LinkFault.ReadFailed) ⊎ (fault ≡ LinkFault.TooManyReads)) }
+        ensures bytes { IfOk result
+            (λ n. Consumes (R.remaining self.old.reader.now) (R.remaining self.new.reader.now)
+            (take n piece.new)) }
+        ensures end { IfOk result (λ n. n ≡ 0 → 0 < length piece.new
+            → IsAtEnd (R.remaining self.new.reader.now)) }
+        ensures kept { OnErr result
+            (Keeps (R.remaining self.old.reader.now) (R.remaining self.new.reader.now)) }
+        ensures fault { IfErr result
+            (λ fault. (fault ≡ LinkFault.ReadFailed) ⊎ (fault ≡ LinkFault.TooManyReads)) }
         ensures spent { IsErrOf result LinkFault.TooManyReads → self.new.reads ≡ 0 }
         ensures reads { self.new.reads ≤ self.old.reads }
 

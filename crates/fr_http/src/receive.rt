@@ -13,7 +13,8 @@ use std::io::Read;
 /// Reads until the input begins with a head, or cannot begin with one within the bounds. Each time
 /// that more bytes have come, they are read as a head again.
 pub(crate) fn receive<R: Read>(alloc: Global, input: &mut Input<'_, R>) -> Result<Received, Unasked>
-    ensures received { HasReceived (R.remaining input.old.reader.now) (R.remaining input.new.reader.now) result }
+    ensures received { HasReceived (R.remaining input.old.reader.now)
+        (R.remaining input.new.reader.now) result }
     ensures same { input.new.reader.ghost_name ≡ input.old.reader.ghost_name }
 {
     let mut bytes = Vec::new(alloc);

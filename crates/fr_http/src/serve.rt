@@ -38,8 +38,9 @@ pub fn serve_one<R: Read, W: Write, D: Desk>(
     desk: &mut D,
 ) -> Result<Served, LinkFault>
     ensures falls { D.clean desk.new → D.clean desk.old }
-    ensures served { IsConnection (D.clean desk.new) (D.stands desk.old) (D.stands desk.new) (R.remaining reader.old) (R.remaining reader.new)
-        (W.contents writer.old) (W.contents writer.new) result }
+    ensures served { IsConnection (D.clean desk.new) (D.stands desk.old) (D.stands desk.new)
+        (R.remaining reader.old) (R.remaining reader.new) (W.contents writer.old)
+        (W.contents writer.new) result }
 
     // Where the register was not asked, the desk is as it was.
     ensures stays { was_asked result ≡ false → desk.new ≡ desk.old }
@@ -57,7 +58,8 @@ fn serve<R: Read, W: Write, D: Desk>(
     desk: &mut D,
 ) -> Result<Served, LinkFault>
     ensures falls { D.clean desk.new → D.clean desk.old }
-    ensures served { IsConnection (D.clean desk.new) (D.stands desk.old) (D.stands desk.new) (R.remaining input.old.reader.now) (R.remaining input.new.reader.now)
+    ensures served { IsConnection (D.clean desk.new) (D.stands desk.old) (D.stands desk.new)
+        (R.remaining input.old.reader.now) (R.remaining input.new.reader.now)
         (W.contents output.old.writer.now) (W.contents output.new.writer.now) result }
     ensures stays { was_asked result ≡ false → desk.new ≡ desk.old }
     ensures same_input { input.new.reader.ghost_name ≡ input.old.reader.ghost_name }
@@ -83,8 +85,9 @@ fn take<R: Read, W: Write, D: Desk>(
     output: &mut Output<'_, W>,
     desk: &D,
 ) -> Result<Demand, Unasked>
-    ensures taken { HasTaken (D.stands desk.now) (R.remaining input.old.reader.now) (R.remaining input.new.reader.now)
-        (W.contents output.old.writer.now) (W.contents output.new.writer.now) result }
+    ensures taken { HasTaken (D.stands desk.now) (R.remaining input.old.reader.now)
+        (R.remaining input.new.reader.now) (W.contents output.old.writer.now)
+        (W.contents output.new.writer.now) result }
     ensures same_input { input.new.reader.ghost_name ≡ input.old.reader.ghost_name }
     ensures retries { output.new.retries ≤ output.old.retries }
     ensures same_output { output.new.writer.ghost_name ≡ output.old.writer.ghost_name }
@@ -104,10 +107,12 @@ fn invite<W: Write>(
     plan: &Plan<'_>,
     output: &mut Output<'_, W>,
 ) -> Result<(), LinkFault>
-    ensures ok { OnOk result (Appends
-        (W.contents output.old.writer.now) (W.contents output.new.writer.now) (continue_if (due plan.now.length received.now.0))) }
-    ensures err { IfErr result (λ fault. (fault ≡ LinkFault.WriteFailed false) × (due plan.now.length received.now.0 ≡ true)
-        × AppendsFront (W.contents output.old.writer.now) (W.contents output.new.writer.now) continue_reply) }
+    ensures ok { OnOk result (Appends (W.contents output.old.writer.now)
+        (W.contents output.new.writer.now) (continue_if (due plan.now.length received.now.0))) }
+    ensures err { IfErr result (λ fault. (fault ≡ LinkFault.WriteFailed false)
+        × (due plan.now.length received.now.0 ≡ true)
+        × AppendsFront (W.contents output.old.writer.now) (W.contents output.new.writer.now)
+        continue_reply) }
     ensures retries { output.new.retries ≤ output.old.retries }
     ensures same { output.new.writer.ghost_name ≡ output.old.writer.ghost_name }
 {
@@ -147,8 +152,8 @@ fn answer<W: Write, D: Desk>(
     desk: &mut D,
 ) -> Result<Served, LinkFault>
     ensures falls { D.clean desk.new → D.clean desk.old }
-    ensures answered { HasAnswered (D.clean desk.new) (D.stands desk.old) (D.stands desk.new) demand.now
-        (W.contents output.old.writer.now) (W.contents output.new.writer.now) result }
+    ensures answered { HasAnswered (D.clean desk.new) (D.stands desk.old) (D.stands desk.new)
+        demand.now (W.contents output.old.writer.now) (W.contents output.new.writer.now) result }
     ensures retries { output.new.retries ≤ output.old.retries }
     ensures same { output.new.writer.ghost_name ≡ output.old.writer.ghost_name }
 {
@@ -161,8 +166,11 @@ fn send<W: Write>(
     output: &mut Output<'_, W>,
     asked: bool,
 ) -> Result<Served, LinkFault>
-    ensures sent { IfOk reply (λ r. HasSent r asked (W.contents output.old.writer.now) (W.contents output.new.writer.now) result) }
-    ensures none { OnErr reply ((result ≡ Err (LinkFault.NoMemory asked)) × (W.contents output.new.writer.now ≡ W.contents output.old.writer.now)) }
+    ensures sent { IfOk reply (λ r.
+        HasSent r asked (W.contents output.old.writer.now) (W.contents output.new.writer.now)
+        result) }
+    ensures none { OnErr reply ((result ≡ Err (LinkFault.NoMemory asked))
+        × (W.contents output.new.writer.now ≡ W.contents output.old.writer.now)) }
     ensures retries { output.new.retries ≤ output.old.retries }
     ensures same { output.new.writer.ghost_name ≡ output.old.writer.ghost_name }
 {
@@ -176,9 +184,11 @@ fn send<W: Write>(
 
 // Writes all the bytes and flushes the writer, or gives the fault.
 fn write<W: Write>(bytes: &[u8], output: &mut Output<'_, W>, asked: bool) -> Result<(), LinkFault>
-    ensures ok { OnOk result (Appends (W.contents output.old.writer.now) (W.contents output.new.writer.now) bytes.now) }
+    ensures ok { OnOk result (Appends (W.contents output.old.writer.now)
+        (W.contents output.new.writer.now) bytes.now) }
     ensures err { IfErr result (λ fault. (fault ≡ LinkFault.WriteFailed asked)
-        × AppendsFront (W.contents output.old.writer.now) (W.contents output.new.writer.now) bytes.now) }
+        × AppendsFront (W.contents output.old.writer.now) (W.contents output.new.writer.now)
+        bytes.now) }
     ensures retries { output.new.retries ≤ output.old.retries }
     ensures same { output.new.writer.ghost_name ≡ output.old.writer.ghost_name }
 {
@@ -190,8 +200,10 @@ fn write<W: Write>(bytes: &[u8], output: &mut Output<'_, W>, asked: bool) -> Res
 
 // Writes all the bytes and flushes the writer.
 fn write_out<W: Write>(bytes: &[u8], output: &mut Output<'_, W>) -> Result<(), WriteFailed>
-    ensures ok { OnOk result (Appends (W.contents output.old.writer.now) (W.contents output.new.writer.now) bytes.now) }
-    ensures err { OnErr result (AppendsFront (W.contents output.old.writer.now) (W.contents output.new.writer.now) bytes.now) }
+    ensures ok { OnOk result (Appends (W.contents output.old.writer.now)
+        (W.contents output.new.writer.now) bytes.now) }
+    ensures err { OnErr result (AppendsFront (W.contents output.old.writer.now)
+        (W.contents output.new.writer.now) bytes.now) }
     ensures retries { output.new.retries ≤ output.old.retries }
     ensures same { output.new.writer.ghost_name ≡ output.old.writer.ghost_name }
 {

@@ -19,9 +19,12 @@ use std::alloc::Global;
 /// text refuses; then it is carried out, or `Unavailable`.
 pub fn answer<R: Lender>(alloc: Global, records: &mut R, ask: &Ask) -> Answer
     ensures falls { R.clean records.new → R.clean records.old }
-    ensures open { R.clean records.new → AfterChange (R.stands records.old) ask.now result (R.serves records.new) }
-    ensures leaves { R.clean records.new → LeavesStep (R.stands records.old) (R.leaves records.old) (R.leaves records.new) ask.now }
-    ensures answers { R.clean records.new → Answers (R.stands records.old) (R.stands records.new) ask.now result }
+    ensures open { R.clean records.new
+        → AfterChange (R.stands records.old) ask.now result (R.serves records.new) }
+    ensures leaves { R.clean records.new
+        → LeavesStep (R.stands records.old) (R.leaves records.old) (R.leaves records.new) ask.now }
+    ensures answers { R.clean records.new
+        → Answers (R.stands records.old) (R.stands records.new) ask.now result }
 {
     let config = records.config();
     if !is_known(config, &ask.actor) {
@@ -87,9 +90,13 @@ fn act<R: Lender>(
     requires passed { HasPassed (R.params records.old) actor.now valid.now }
     requires known { (c : _) (b : _) → R.stands records.old c b → IsTrue (knows b actor.now) }
     ensures falls { R.clean records.new → R.clean records.old }
-    ensures open { R.clean records.new → AfterAct (R.stands records.old) valid.now result (R.serves records.new) }
-    ensures leaves { R.clean records.new → LeavesAct (R.stands records.old) (R.leaves records.old) (R.leaves records.new) actor.now valid.now }
-    ensures acts { R.clean records.new → Acts (R.stands records.old) (R.stands records.new) result actor.now valid.now }
+    ensures open { R.clean records.new
+        → AfterAct (R.stands records.old) valid.now result (R.serves records.new) }
+    ensures leaves { R.clean records.new
+        → LeavesAct (R.stands records.old) (R.leaves records.old) (R.leaves records.new) actor.now
+        valid.now }
+    ensures acts { R.clean records.new
+        → Acts (R.stands records.old) (R.stands records.new) result actor.now valid.now }
 {
     match valid {
         Checked::Command(command) => {

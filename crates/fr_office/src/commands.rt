@@ -29,8 +29,12 @@ pub(crate) fn carry_out<R: Lender>(
     requires known { FromKnown (R.stands records.old) command.now }
     ensures falls { R.clean records.new → R.clean records.old }
     ensures open { R.clean records.new → OnOk result (R.serves records.new) }
-    ensures leaves { R.clean records.new → LeavesDone (R.stands records.old) (R.leaves records.old) (R.leaves records.new) (λ c b. perform c b command.now) }
-    ensures does { R.clean records.new → Performs (R.stands records.old) (R.stands records.new) result (λ c b. perform c b command.now) }
+    ensures leaves { R.clean records.new
+        → LeavesDone (R.stands records.old) (R.leaves records.old) (R.leaves records.new)
+        (λ c b. perform c b command.now) }
+    ensures does { R.clean records.new
+        → Performs (R.stands records.old) (R.stands records.new) result
+        (λ c b. perform c b command.now) }
 {
     match command {
         Command::Common(command) => change_common(alloc, records, command),

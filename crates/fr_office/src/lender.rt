@@ -27,7 +27,9 @@ pub trait Lender: Records {
         ensures reads { Reads Self.clean Self.params Self.leaves self.old self.new }
         ensures there { IfOk result (λ there. there ≡ is_some (lent self.new)) }
         ensures params { IfSome (lent self.new) (λ page. page.params ≡ Self.params self.old) }
-        ensures lends { Self.clean self.new → Tells (Self.stands self.old) (Self.stands self.new) result (λ c b _. lent self.new ≡ page_of c.params b supplier variant) };
+        ensures lends { Self.clean self.new
+            → Tells (Self.stands self.old) (Self.stands self.new) result
+            (λ c b _. lent self.new ≡ page_of c.params b supplier variant) };
 
     /// The page that is lent.
     fn lent(&self) -> &Page
@@ -41,8 +43,11 @@ pub trait Lender: Records {
         ensures falls { Self.clean self.new → Self.clean self.old }
         ensures same { Self.params self.new ≡ Self.params self.old }
         ensures open { Self.clean self.new → OnOk result (Self.serves self.new) }
-        ensures leaves { Self.clean self.new → LeavesEdited (Self.stands self.old) (Self.leaves self.old) (Self.leaves self.new) edits.now }
-        ensures applies { Self.clean self.new → Applies (Self.stands self.old) (Self.stands self.new) result edits.now };
+        ensures leaves { Self.clean self.new
+            → LeavesEdited (Self.stands self.old) (Self.leaves self.old) (Self.leaves self.new)
+            edits.now }
+        ensures applies { Self.clean self.new
+            → Applies (Self.stands self.old) (Self.stands self.new) result edits.now };
 
     /// Carries out the edits as `apply` does. They lead from the page that is lent to this one, so that no edit has to be made
     /// in a page once more. Which page is lent then, no clause says.
@@ -52,8 +57,11 @@ pub trait Lender: Records {
         ensures falls { Self.clean self.new → Self.clean self.old }
         ensures same { Self.params self.new ≡ Self.params self.old }
         ensures open { Self.clean self.new → OnOk result (Self.serves self.new) }
-        ensures leaves { Self.clean self.new → LeavesEdited (Self.stands self.old) (Self.leaves self.old) (Self.leaves self.new) edits.now }
-        ensures applies { Self.clean self.new → Applies (Self.stands self.old) (Self.stands self.new) result edits.now };
+        ensures leaves { Self.clean self.new
+            → LeavesEdited (Self.stands self.old) (Self.leaves self.old) (Self.leaves self.new)
+            edits.now }
+        ensures applies { Self.clean self.new
+            → Applies (Self.stands self.old) (Self.stands self.new) result edits.now };
 }
 
 /// Lends the supplier's page of the variant, where the variant is open. Refusals: `NoVariant`,
@@ -68,7 +76,9 @@ pub(crate) fn open_page<R: Lender>(
     ensures lent { OnOk result (IsSome (R.lent records.new)) }
     ensures open { OnOk result (IfSome (R.lent records.new) (λ page. page.released ≡ false)) }
     ensures params { IfSome (R.lent records.new) (λ page. page.params ≡ R.params records.old) }
-    ensures page { R.clean records.new → Opens (R.stands records.old) (R.stands records.new) (R.lent records.new) result supplier variant }
+    ensures page { R.clean records.new
+        → Opens (R.stands records.old) (R.stands records.new) (R.lent records.new) result supplier
+        variant }
 {
     if !records.lend(alloc, supplier, variant)? {
         return Err(Refusal::NoVariant);

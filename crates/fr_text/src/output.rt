@@ -45,11 +45,13 @@ impl<'a, W: Write> Output<'a, W> {
     /// Writes all the bytes; or fails, and a front of them was written, but not all. A write that is interrupted is tried
     /// again, as long as a retry is left; that it is, no clause says.
     pub fn write_all(&mut self, bytes: &[u8]) -> Result<(), WriteFailed>
-        ensures ok { OnOk result (Appends (W.contents self.old.writer.now) (W.contents self.new.writer.now) bytes.now) }
+        ensures ok { OnOk result (Appends (W.contents self.old.writer.now)
+            (W.contents self.new.writer.now) bytes.now) }
 
         // A front of the bytes was written, and not all of them.
         ensures err { OnErr result ((n : ℕ) × (n < length bytes.now)
-            × Appends (W.contents self.old.writer.now) (W.contents self.new.writer.now) (take n bytes.now)) }
+            × Appends (W.contents self.old.writer.now) (W.contents self.new.writer.now)
+            (take n bytes.now)) }
         ensures retries { self.new.retries ≤ self.old.retries }
         ensures same { self.new.writer.ghost_name ≡ self.old.writer.ghost_name }
     {
@@ -68,7 +70,8 @@ impl<'a, W: Write> Output<'a, W> {
     fn try_again(&mut self, error: &Error) -> Result<(), WriteFailed>
         ensures ok { OnOk result (self.new.retries + 1 ≡ self.old.retries) }
         ensures err { OnErr result (self.new.retries ≡ self.old.retries) }
-        ensures again { IsOk result ↔ ((error_kind error.now ≡ ErrorKind.Interrupted) × (0 < self.old.retries)) }
+        ensures again { IsOk result ↔
+            ((error_kind error.now ≡ ErrorKind.Interrupted) × (0 < self.old.retries)) }
         ensures same { self.new.writer ≡ self.old.writer }
     {
         if error.kind() != ErrorKind::Interrupted || self.retries == 0 {

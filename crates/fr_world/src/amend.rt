@@ -35,7 +35,9 @@ impl Page {
     pub fn amend(&mut self, alloc: Global, edit: &Edit) -> Result<(), Refusal>
         requires takes { Takes self.old.variant (own_rows_of self.old) edit.now }
         ensures page { OnOk result (own_rows_of self.new ≡ edited (own_rows_of self.old) edit.now) }
-        ensures rest { OnOk result ((self.new.supplier ≡ self.old.supplier) × (self.new.variant ≡ self.old.variant) × (self.new.released ≡ (releases edit.now || self.old.released))) }
+        ensures rest { OnOk result ((self.new.supplier ≡ self.old.supplier)
+            × (self.new.variant ≡ self.old.variant)
+            × (self.new.released ≡ (releases edit.now || self.old.released))) }
         ensures err { OnErr result ((self.new ≡ self.old) × (result ≡ Err Unavailable)) }
     {
         match edit {
@@ -81,7 +83,8 @@ impl Page {
 // Puts the node among these nodes.
 #[tactic(auto, using(crate::proofs::AmendLaws::insert_node, crate::proofs::KeyLaws::names_rise))]
 fn put_node(nodes: &mut BTreeSet<Name>, node: Name) -> Result<(), Refusal>
-    ensures table { OnOk result ((s : NameText) → nodes_of s nodes.new.keys ≡ insert (nodes_of s nodes.old.keys) (s, node) tt) }
+    ensures table { OnOk result ((s : NameText)
+        → nodes_of s nodes.new.keys ≡ insert (nodes_of s nodes.old.keys) (s, node) tt) }
     ensures order { IsStrictlySortedBy names.compare nodes.new.keys }
     ensures err { OnErr result ((nodes.new.keys ≡ nodes.old.keys) × (result ≡ Err Unavailable)) }
 {
@@ -96,9 +99,12 @@ fn put_grant(
     at: ChannelSlot,
     node: Name,
 ) -> Result<(), Refusal>
-    ensures table { OnOk result ((s : NameText) → grants_of s grants.new.entries ≡ insert (grants_of s grants.old.entries) (at.slot, at.channel) (holder_of s node)) }
+    ensures table { OnOk result ((s : NameText)
+        → grants_of s grants.new.entries
+        ≡ insert (grants_of s grants.old.entries) (at.slot, at.channel) (holder_of s node)) }
     ensures order { IsStrictlySortedBy compare_slots (keys_of grants.new.entries) }
-    ensures err { OnErr result ((grants.new.entries ≡ grants.old.entries) × (result ≡ Err Unavailable)) }
+    ensures err { OnErr result ((grants.new.entries ≡ grants.old.entries)
+        × (result ≡ Err Unavailable)) }
 {
     grants.insert(at, node)?;
     Ok(())
@@ -107,7 +113,9 @@ fn put_grant(
 // Lets no node hold slot and channel.
 #[tactic(auto, using(crate::proofs::AmendLaws::remove_grant, crate::proofs::KeyLaws::slots_rise))]
 fn end_grant(grants: &mut BTreeMap<ChannelSlot, Name>, at: ChannelSlot)
-    ensures table { (s : NameText) → grants_of s grants.new.entries ≡ remove (grants_of s grants.old.entries) (at.slot, at.channel) }
+    ensures table { (s : NameText)
+        → grants_of s grants.new.entries
+        ≡ remove (grants_of s grants.old.entries) (at.slot, at.channel) }
     ensures order { IsStrictlySortedBy compare_slots (keys_of grants.new.entries) }
 {
     // Gives the proof that the keys are in order.
@@ -128,9 +136,11 @@ fn change_frame(
     requires words { words ≤ 127 }
     requires leaves { IfSome (frame_at name frames.old.entries) (LeavesLayout change.now) }
     requires placed { ArePlaced cells.old (frames_data frames.old.entries) }
-    ensures ok { OnOk result (AreChanged words name change.now frames.old.entries frames.new.entries) }
+    ensures ok { OnOk result (AreChanged words name change.now frames.old.entries
+        frames.new.entries) }
     ensures placed { ArePlaced cells.new (frames_data frames.new.entries) }
-    ensures err { OnErr result ((frames_data frames.new.entries ≡ frames_data frames.old.entries) × (result ≡ Err Unavailable)) }
+    ensures err { OnErr result ((frames_data frames.new.entries ≡ frames_data frames.old.entries)
+        × (result ≡ Err Unavailable)) }
 {
     // Gives the proof that the keys are in order.
     let _len = frames.len();
@@ -178,7 +188,10 @@ fn change_frame(
 
 // Clears the cells of the frame that was there.
 fn end_cells(cells: &mut MaskOccupancy, name: Name, former: Option<PageFrame>)
-    ensures { (f : NameText) (q : Cells) → list_any (is_pair f q) cells.new ≡ (list_any (is_pair f q) cells.old && not (is_at (slice_cmp nat_cmp f) name && has_placement q (option_map as_frame former))) }
+    ensures { (f : NameText) (q : Cells)
+        → list_any (is_pair f q) cells.new
+        ≡ (list_any (is_pair f q) cells.old
+        && not (is_at (slice_cmp nat_cmp f) name && has_placement q (option_map as_frame former))) }
 {
     if let Some(frame) = former {
         end_each(cells, name, &frame);
@@ -187,7 +200,10 @@ fn end_cells(cells: &mut MaskOccupancy, name: Name, former: Option<PageFrame>)
 
 // Clears the cells of this frame's placements, where the frame of this name fills them.
 fn end_each(cells: &mut MaskOccupancy, name: Name, frame: &PageFrame)
-    ensures { (f : NameText) (q : Cells) → list_any (is_pair f q) cells.new ≡ (list_any (is_pair f q) cells.old && not (is_at (slice_cmp nat_cmp f) name && contains (as_frame frame.now).placements q)) }
+    ensures { (f : NameText) (q : Cells)
+        → list_any (is_pair f q) cells.new
+        ≡ (list_any (is_pair f q) cells.old
+        && not (is_at (slice_cmp nat_cmp f) name && contains (as_frame frame.now).placements q)) }
 {
     for placement in &frame.placements {
         cells.clear(name, placement);
@@ -202,12 +218,16 @@ fn put_placement(
     name: Name,
     placement: Placement,
 ) -> Result<(), Refusal>
-    requires { list_any (is_pair name placement) cells.old ≡ contains (set_of placement_order (λ q. q) placements.old.keys) placement }
-    ensures table { OnOk result (set_of placement_order (λ q. q) placements.new.keys ≡ insert (set_of placement_order (λ q. q) placements.old.keys) placement tt) }
+    requires { list_any (is_pair name placement) cells.old
+        ≡ contains (set_of placement_order (λ q. q) placements.old.keys) placement }
+    ensures table { OnOk result (set_of placement_order (λ q. q) placements.new.keys
+        ≡ insert (set_of placement_order (λ q. q) placements.old.keys) placement tt) }
     ensures order { IsStrictlySortedBy placement_order.compare placements.new.keys }
-    ensures err { OnErr result ((placements.new.keys ≡ placements.old.keys) × (result ≡ Err Unavailable)) }
+    ensures err { OnErr result ((placements.new.keys ≡ placements.old.keys)
+        × (result ≡ Err Unavailable)) }
     ensures placed { OnOk result (cells.new ≡ cells.old ++ (name, placement) ∷ []) }
-    ensures kept { OnErr result ((f : NameText) (q : Cells) → list_any (is_pair f q) cells.new ≡ list_any (is_pair f q) cells.old) }
+    ensures kept { OnErr result ((f : NameText) (q : Cells)
+        → list_any (is_pair f q) cells.new ≡ list_any (is_pair f q) cells.old) }
 {
     // Gives the proof that the placements are in order.
     let _len = placements.len();
@@ -224,7 +244,8 @@ fn put_placement(
 // Takes the placement out of these.
 #[tactic(auto, using(crate::proofs::AmendLaws::remove_placement, crate::proofs::KeyLaws::placements_rise))]
 fn end_placement(placements: &mut BTreeSet<Placement>, placement: &Placement)
-    ensures table { set_of placement_order (λ q. q) placements.new.keys ≡ remove (set_of placement_order (λ q. q) placements.old.keys) placement.now }
+    ensures table { set_of placement_order (λ q. q) placements.new.keys
+        ≡ remove (set_of placement_order (λ q. q) placements.old.keys) placement.now }
     ensures order { IsStrictlySortedBy placement_order.compare placements.new.keys }
 {
     // Gives the proof that the keys are in order.
@@ -236,7 +257,8 @@ fn end_placement(placements: &mut BTreeSet<Placement>, placement: &Placement)
 #[tactic(auto, using(crate::proofs::AmendSignals::add_takes))]
 fn put_signal(layout: &mut Layout, signal: Signal) -> Result<(), Refusal>
     requires { IsLayout (record layout.old { signals = with_signal signal layout.old.signals }) }
-    ensures ok { OnOk result (layout.new ≡ record layout.old { signals = with_signal signal layout.old.signals }) }
+    ensures ok { OnOk result (layout.new
+        ≡ record layout.old { signals = with_signal signal layout.old.signals }) }
     ensures err { OnErr result ((layout.new ≡ layout.old) × (result ≡ Err Unavailable)) }
 {
     layout.add(signal)

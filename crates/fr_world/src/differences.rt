@@ -59,7 +59,9 @@ fn push_up_to<'a, T: KeyedRow>(
     list: &'a [T],
     rows: &mut Rows<DifferenceRow>,
 ) -> Result<&'a [T], NoMemory>
-    ensures { IfOk result (λ left. (rest : List T → List Told) → rows.new ++ rest left.now ≡ rows.old ++ put_in T.compare T.same T.told row.now rest list.now) }
+    ensures { IfOk result (λ left. (rest : List T → List Told)
+        → rows.new ++ rest left.now ≡ rows.old
+        ++ put_in T.compare T.same T.told row.now rest list.now) }
 {
     let mut left = list;
     while let Some((next, after)) = left.split_first() {

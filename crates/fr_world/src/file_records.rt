@@ -18,7 +18,8 @@ pub trait FileRecord {
 
     /// How many records the frame has.
     fn count(frame: &PageFrame) -> usize
-        ensures { (k : NameText × NameText) → result ≡ length (records (k, frame_of (frame_data frame.now))) };
+        ensures { (k : NameText × NameText)
+            → result ≡ length (records (k, frame_of (frame_data frame.now))) };
 
     /// Appends the records of the supplier's frame of this name. Where memory is refused, no clause
     /// says which of them were.
@@ -28,7 +29,8 @@ pub trait FileRecord {
         frame: &PageFrame,
         rows: &mut Rows<Self>,
     ) -> Result<(), NoMemory>
-        ensures { OnOk result (rows.new ≡ rows.old ++ records ((supplier, name), frame_of (frame_data frame.now))) };
+        ensures { OnOk result (rows.new ≡ rows.old
+            ++ records ((supplier, name), frame_of (frame_data frame.now))) };
 }
 
 // A frame has one record.

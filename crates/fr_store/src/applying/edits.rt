@@ -18,12 +18,15 @@ use sqlite::{Alter, Transaction};
 /// Carries the edit out.
 pub fn carry_out<S: Alter>(tx: &mut Transaction<'_, S>, edit: &Edit) -> Result<(), StoreFault>
     ensures same_reference { tx.new.conn.ghost_name ≡ tx.old.conn.ghost_name }
-    ensures carried { CarriesOut edit.now (state S.Store tx.old.conn.now) (state S.Store tx.new.conn.now) result }
+    ensures carried { CarriesOut edit.now (state S.Store tx.old.conn.now)
+        (state S.Store tx.new.conn.now) result }
     ensures spared { changes_frame edit.now ≡ false
         → SparesFrames (state S.Store tx.old.conn.now) (state S.Store tx.new.conn.now) result }
-    ensures stays { StaysInside (state S.Store tx.old.conn.now) (state S.Store tx.new.conn.now) result }
+    ensures stays { StaysInside (state S.Store tx.old.conn.now) (state S.Store tx.new.conn.now)
+        result }
     ensures refused { IfErr result (λ fault. fault ≡ Unavailable) }
-    ensures survives { Survives (state S.Store tx.old.conn.now) (state S.Store tx.new.conn.now) (λ _. ⊥) }
+    ensures survives { Survives (state S.Store tx.old.conn.now) (state S.Store tx.new.conn.now)
+        (λ _. ⊥) }
 {
     match edit {
         Edit::NewVariant {
@@ -76,10 +79,13 @@ fn open_variant<S: Alter>(
     ensures same_reference { tx.new.conn.ghost_name ≡ tx.old.conn.ghost_name }
     ensures carried { CarriesOut (NewVariant variant.now parent depth)
         (state S.Store tx.old.conn.now) (state S.Store tx.new.conn.now) result }
-    ensures spared { SparesFrames (state S.Store tx.old.conn.now) (state S.Store tx.new.conn.now) result }
-    ensures stays { StaysInside (state S.Store tx.old.conn.now) (state S.Store tx.new.conn.now) result }
+    ensures spared { SparesFrames (state S.Store tx.old.conn.now) (state S.Store tx.new.conn.now)
+        result }
+    ensures stays { StaysInside (state S.Store tx.old.conn.now) (state S.Store tx.new.conn.now)
+        result }
     ensures refused { IfErr result (λ fault. fault ≡ Unavailable) }
-    ensures survives { Survives (state S.Store tx.old.conn.now) (state S.Store tx.new.conn.now) (λ _. ⊥) }
+    ensures survives { Survives (state S.Store tx.old.conn.now) (state S.Store tx.new.conn.now)
+        (λ _. ⊥) }
 {
     match parent {
         None => {
@@ -106,9 +112,11 @@ fn change_rows<S: Alter>(
         (state S.Store tx.old.conn.now) (state S.Store tx.new.conn.now) result }
     ensures spared { changes_frame (Rows supplier.now variant.now change.now) ≡ false
         → SparesFrames (state S.Store tx.old.conn.now) (state S.Store tx.new.conn.now) result }
-    ensures stays { StaysInside (state S.Store tx.old.conn.now) (state S.Store tx.new.conn.now) result }
+    ensures stays { StaysInside (state S.Store tx.old.conn.now) (state S.Store tx.new.conn.now)
+        result }
     ensures refused { IfErr result (λ fault. fault ≡ Unavailable) }
-    ensures survives { Survives (state S.Store tx.old.conn.now) (state S.Store tx.new.conn.now) (λ _. ⊥) }
+    ensures survives { Survives (state S.Store tx.old.conn.now) (state S.Store tx.new.conn.now)
+        (λ _. ⊥) }
 {
     match change {
         Change::Grant {
